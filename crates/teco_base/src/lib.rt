@@ -1,0 +1,6 @@
+//! What every part of the command machine speaks of: codes, register names, 32-bit arithmetic, byte classes and number
+//! texts. Nothing here takes memory.
+#![tactic(auto)]
+
+/// How many characters the buffer, a text, a command string, a library or an input file may have.
+pub const LIMIT: usize = 268_435_456;
