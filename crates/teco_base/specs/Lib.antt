@@ -1,0 +1,2 @@
+-- The words that the contracts of this crate, and the definition of the command machine, are written in.
+pub mod Text
