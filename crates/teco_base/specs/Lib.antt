@@ -1,2 +1,6 @@
 -- The words that the contracts of this crate, and the definition of the command machine, are written in.
+pub mod Arithmetic
+pub mod Bytes
+pub mod Code
+pub mod Register
 pub mod Text

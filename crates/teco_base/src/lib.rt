@@ -2,5 +2,13 @@
 //! texts. Nothing here takes memory.
 #![tactic(auto)]
 
+pub mod arithmetic;
+pub mod bytes;
+mod code;
+mod reg;
+
+pub use code::Code;
+pub use reg::Reg;
+
 /// How many characters the buffer, a text, a command string, a library or an input file may have.
 pub const LIMIT: usize = 268_435_456;
