@@ -4,3 +4,4 @@ pub mod Bytes
 pub mod Code
 pub mod Register
 pub mod Text
+pub mod NumberText

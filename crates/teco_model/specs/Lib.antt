@@ -1,0 +1,21 @@
+-- The definition of the command machine, a file a subject.
+pub use Rattle.teco_base.specs.Arithmetic
+pub use Rattle.teco_base.specs.Bytes
+pub use Rattle.teco_base.specs.Code
+pub use Rattle.teco_base.specs.Register
+pub use Rattle.teco_base.specs.Text
+pub mod Checked
+pub mod Arguments
+pub mod Letters
+pub mod Form
+pub mod Element
+pub mod State
+pub mod Places
+pub mod Effect
+pub mod Motion
+pub mod Deletion
+pub mod Insertion
+pub mod Typing
+pub mod Step
+pub mod Run
+pub mod Rows

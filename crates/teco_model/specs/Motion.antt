@@ -1,0 +1,28 @@
+-- C, R and J move the pointer.
+use Rattle.std.specs.Prelude.{ℕ, zero, suc, ℤ, pos, negsuc, ◌+ℤ◌, ◌-ℤ◌, Option, Some, None, Result, Ok, Err, unwrap_or}
+use Rattle.teco_base.specs.declared.code.Code.{Code}
+use Rattle.teco_base.specs.declared.code.Code.TheVariants as code
+use Rattle.teco_model.specs.declared.arguments.Taken.{Taken}
+use Rattle.teco_model.specs.declared.kind.Motion.{Motion}
+use Rattle.teco_model.specs.declared.kind.Motion.TheVariants.{Forward, Backward, To, Lines}
+use Rattle.teco_model.specs.State.{Kept}
+use Rattle.teco_model.specs.Effect.{Done, silent, answering}
+use Rattle.teco_model.specs.Places.{place_in}
+
+-- the place that the argument names, as a whole number: nC and nR go n on and n back, and J goes to n
+abbrev pub target : Motion → ℕ → Option ℤ → ℤ
+target Forward pointer n = pos pointer +ℤ unwrap_or n (pos 1)
+target Backward pointer n = pos pointer -ℤ unwrap_or n (pos 1)
+target To pointer n = unwrap_or n (pos 0)
+target Lines pointer n = pos pointer
+
+-- Off the buffer it is POP. With a colon it answers -1, or 0 with nothing moved.
+abbrev pub moved : ℕ → Option ℕ → Kept → Result Done Code
+moved zero None kept = Err code.Pop
+moved zero (Some place) kept = Ok (silent (record kept { pointer = place }))
+moved (suc n) None kept = Ok (answering (pos 0) kept)
+moved (suc n) (Some place) kept = Ok (answering (negsuc 0) (record kept { pointer = place }))
+
+abbrev pub motion : Motion → ℕ → Taken → Kept → Result Done Code
+motion Lines colons taken kept = Err code.Ill
+motion m colons taken kept = moved colons (place_in kept.text (target m kept.pointer taken.value)) kept

@@ -1,0 +1,236 @@
+//! The kinds of elements, a group for each part of the language.
+use crate::arguments::Operator;
+
+/// What an element is.
+#[derive(Clone, Copy)]
+pub enum Kind {
+    /// It changes the pending arguments alone.
+    Argument(Argument),
+    /// It gives a value of the machine's.
+    Value(Value),
+    /// `C`, `R`, `J` and `L` move the pointer.
+    Motion(Motion),
+    /// `D` and `K` delete.
+    Deletion(Unit),
+    /// `I` and TAB insert a text.
+    Insertion(Insertion),
+    /// It types.
+    Typing(Typing),
+    /// It names a register.
+    Storage(Storage),
+    /// `\` inserts a number, or reads one.
+    Conversion,
+    /// `^X` is the search mode.
+    Mode,
+    /// It has a search text.
+    Search(Search),
+    /// It decides where execution goes on.
+    Flow(Flow),
+    /// It reads or writes pages.
+    Page(Page),
+    /// It opens, closes or names files.
+    File(File),
+}
+
+/// An element that changes the pending arguments alone.
+#[derive(Clone, Copy)]
+pub enum Argument {
+    /// ESC drops all of them.
+    DropAll,
+    /// A run of digits.
+    Digits,
+    /// `+ - * / & #`
+    Operate(Operator),
+    /// `(`
+    Open,
+    /// `)`
+    Close,
+    /// `,`
+    Comma,
+}
+
+/// A value that the machine has.
+#[derive(Clone, Copy)]
+pub enum Value {
+    /// `B`, the place before the first character.
+    Begin,
+    /// `Z`, the length of the buffer.
+    Size,
+    /// `.`, the pointer.
+    Pointer,
+    /// `H`, both ends of the buffer.
+    Whole,
+    /// `^S`, minus the length of the last text found or inserted.
+    LastLength,
+    /// `^Y`, both ends of that text.
+    LastText,
+}
+
+/// Where the pointer goes.
+#[derive(Clone, Copy)]
+pub enum Motion {
+    /// `C`
+    Forward,
+    /// `R`
+    Backward,
+    /// `J`
+    To,
+    /// `L`
+    Lines,
+}
+
+/// What a count counts.
+#[derive(Clone, Copy)]
+pub enum Unit {
+    /// Characters, as for `D`.
+    Characters,
+    /// Lines, as for `K`.
+    Lines,
+}
+
+/// What is inserted.
+#[derive(Clone, Copy)]
+pub enum Insertion {
+    /// `I`: the text.
+    Text,
+    /// TAB: itself and the text.
+    Tab,
+}
+
+/// What is typed.
+#[derive(Clone, Copy)]
+pub enum Typing {
+    /// `T`: a part of the buffer.
+    Part,
+    /// `V`: the lines round the pointer.
+    View,
+    /// `^A`: its own text.
+    Message,
+    /// `^T`: one byte.
+    Byte,
+    /// `=`, `==` and `===`: a number.
+    Number(Radix),
+}
+
+/// How a number is typed.
+#[derive(Clone, Copy)]
+pub enum Radix {
+    /// `=`
+    Decimal,
+    /// `==`
+    Octal,
+    /// `===`
+    Hexadecimal,
+}
+
+/// What is done with a register.
+#[derive(Clone, Copy)]
+pub enum Storage {
+    /// `U` sets the number.
+    SetNumber,
+    /// `%` adds to the number.
+    Add,
+    /// `Q` gives the number, a character of the text, or with `:` the text's length.
+    Number,
+    /// `X` copies a part of the buffer into the text.
+    Copy,
+    /// `^U` sets the text.
+    SetText,
+    /// `G` inserts the text, or with `:` types it.
+    Get,
+    /// `[` pushes number and text.
+    Push,
+    /// `]` pops number and text.
+    Pop,
+    /// `M` executes the text.
+    Execute,
+}
+
+/// How far a search goes, and whether it replaces.
+#[derive(Clone, Copy)]
+pub enum Search {
+    /// `S`
+    Find,
+    /// `FS`
+    Replace,
+    /// `N`
+    FindInPages,
+    /// `FN`
+    ReplaceInPages,
+}
+
+/// What decides where execution goes on.
+#[derive(Clone, Copy)]
+pub enum Flow {
+    /// `<` begins an iteration.
+    Iterate,
+    /// `>` ends a turn of it.
+    EndTurn,
+    /// `;` leaves it.
+    Leave,
+    /// `"` and a letter begin a conditional.
+    Test(Test),
+    /// The pipe parts a conditional.
+    Otherwise,
+    /// `'` ends it.
+    EndTest,
+    /// `O` goes to a tag.
+    GoTo,
+    /// `!` begins a tag or comment.
+    Comment,
+}
+
+/// What a conditional asks of its argument.
+#[derive(Clone, Copy)]
+pub enum Test {
+    /// `E`, `F`, `U` and `=`: is it zero?
+    Zero,
+    /// `N`: is it another number than zero?
+    NotZero,
+    /// `L`, `S`, `T` and `<`: is it negative?
+    Negative,
+    /// `G` and `>`: is it positive?
+    Positive,
+    /// `A`: is it a letter?
+    Letter,
+    /// `C`: is it a symbol constituent?
+    Symbol,
+    /// `D`: is it a digit?
+    Digit,
+    /// `R`: is it a letter or a digit?
+    LetterOrDigit,
+    /// `V`: is it a lower case letter?
+    Lower,
+    /// `W`: is it an upper case letter?
+    Upper,
+}
+
+/// What is done with pages.
+#[derive(Clone, Copy)]
+pub enum Page {
+    /// `Y` replaces the buffer by the next page.
+    Yank,
+    /// `A` appends the next page; with an argument it is the code of a character.
+    Append,
+    /// `P` writes the buffer and goes on to the next page.
+    Next,
+    /// `PW` writes the buffer.
+    Write,
+}
+
+/// What is done with files.
+#[derive(Clone, Copy)]
+pub enum File {
+    /// `ER` opens the input.
+    Read,
+    /// `EW` opens the output.
+    Write,
+    /// `EF` closes the output.
+    Close,
+    /// `EK` abandons the output.
+    Abandon,
+    /// `EC` writes all that is left and closes both.
+    Copy,
+    /// `EX` does so and ends the session.
+    Exit,
+}

@@ -1,0 +1,12 @@
+//! The definition of the command machine, in `specs/`, and the plain types that it speaks of. It knows nothing of how the
+//! machine is built.
+#![tactic(auto)]
+
+pub mod arguments;
+pub mod kind;
+pub mod rows;
+pub mod stop;
+
+pub use arguments::{Level, Operator, Taken};
+pub use kind::Kind;
+pub use stop::Stop;
