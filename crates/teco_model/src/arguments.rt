@@ -16,7 +16,7 @@ pub enum Operator {
 }
 
 /// What is pending at one depth of parentheses.
-#[derive(Clone, Copy)]
+#[derive(Clone, Copy, Default)]
 pub struct Level {
     /// The value before a comma.
     pub first: Option<i32>,

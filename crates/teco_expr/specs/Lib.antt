@@ -1,0 +1,2 @@
+pub use Rattle.teco_model.specs.Arguments
+pub mod Does

@@ -1,0 +1,120 @@
+ghost use Rattle.std.specs.Prelude.{◌≡◌, ◌≤◌, ◌<◌, length, IsOk};
+ghost use Rattle.teco_model.specs.Arguments as model;
+ghost use Rattle.teco_model.specs.Arguments.{at_level};
+ghost use Rattle.teco_expr.specs.Does.{Does, Takes, Opens};
+
+use crate::level::{self, EMPTY};
+use smallvec::SmallVec;
+use std::alloc::Global;
+use std::marker::Model;
+use teco_base::Code;
+use teco_model::{Level, Operator, Taken};
+
+/// Why arguments refuse a call. They are then as they were.
+#[derive(Clone, Copy)]
+pub enum ArgFault {
+    /// The code of the refusal.
+    Code(Code),
+    /// A growth was refused; only a parenthesis beyond the eighth that is open wants memory.
+    Memory,
+}
+
+/// The arguments that are pending, with one level for each open parenthesis besides the outermost.
+#[derive(Drop)]
+pub struct Args {
+    level: Level,
+    outer: SmallVec<Level, 8>,
+}
+
+impl Model for Args {
+    ghost use Rattle.std.specs.Prelude.{◌≤◌, reverse};
+    ghost use Rattle.teco_model.specs.Arguments.{Arguments};
+
+    ghost Value = { Arguments };
+
+    ghost view = { λ a. record { level = a.level; outer = reverse a.outer.items } };
+
+    ghost invariant = { λ a. 8 ≤ a.outer.capacity };
+}
+
+impl Args {
+    /// No argument is pending.
+    pub fn new(alloc: Global) -> Self
+        ensures { result ≡ model.no_arguments }
+    {
+        Args {
+            level: EMPTY,
+            outer: SmallVec::new(alloc),
+        }
+    }
+
+    /// Gives the number that a run of digits is.
+    pub fn digit_run(&mut self, digits: &[u8]) -> Result<(), ArgFault>
+        ensures { Does self.old self.new (at_level self.old (model.give (model.run_value digits.now) self.old.level)) result }
+    {
+        self.value(level::run_value(digits))
+    }
+
+    /// An operator waits for the next value.
+    pub fn op(&mut self, operator: Operator) -> Result<(), ArgFault>
+        ensures { Does self.old self.new (at_level self.old (model.operate operator self.old.level)) result }
+    {
+        self.level = level::operate(operator, self.level).map_err(ArgFault::Code)?;
+        Ok(())
+    }
+
+    /// Opens a parenthesis.
+    pub fn open(&mut self) -> Result<(), ArgFault>
+        ensures { Opens self.old self.new result }
+    {
+        self.outer.push(self.level).map_err(|_| ArgFault::Memory)?;
+        self.level = EMPTY;
+        Ok(())
+    }
+
+    /// Closes the innermost parenthesis, and gives its value outside.
+    pub fn close(&mut self) -> Result<(), ArgFault>
+        ensures { Does self.old self.new (model.closed self.old) result }
+    {
+        let Some(outside) = self.outer.last().copied() else {
+            return Err(ArgFault::Code(Code::Arg));
+        };
+        let value = level::enclosed(self.level).map_err(ArgFault::Code)?;
+        self.level = level::give(value, outside).map_err(ArgFault::Code)?;
+        self.outer.pop();
+        Ok(())
+    }
+
+    /// Makes the value so far the first of two.
+    pub fn comma(&mut self) -> Result<(), ArgFault>
+        ensures { Does self.old self.new (at_level self.old (model.comma self.old.level)) result }
+    {
+        self.level = level::comma(self.level).map_err(ArgFault::Code)?;
+        Ok(())
+    }
+
+    /// Gives a value.
+    pub fn value(&mut self, value: i32) -> Result<(), ArgFault>
+        ensures { Does self.old self.new (at_level self.old (model.give value self.old.level)) result }
+    {
+        self.level = level::give(value, self.level).map_err(ArgFault::Code)?;
+        Ok(())
+    }
+
+    /// Takes the arguments of the innermost level.
+    pub fn take(&mut self) -> Result<Taken, ArgFault>
+        ensures { Takes self.old self.new result }
+    {
+        let taken = level::taken(self.level).map_err(ArgFault::Code)?;
+        self.level = EMPTY;
+        Ok(taken)
+    }
+
+    /// Drops all arguments, and all open parentheses.
+    pub fn drop_all(&mut self)
+        ensures { self.new ≡ model.no_arguments }
+    {
+        self.level = EMPTY;
+        self.outer.clear();
+    }
+}

@@ -1,0 +1,101 @@
+// Rows of calls on one store, with what each answers and leaves. A call that is refused memory is made once more, so that
+// the rows also hold where one allocation fails.
+use super::*;
+use std::process::Abort;
+use std::test::Fail;
+
+#[derive(Clone, Copy)]
+enum Call {
+    SetDot(usize),
+    Insert(&'static [u8]),
+    Delete(usize, usize),
+    Replace(usize, usize, &'static [u8]),
+    Reserve(usize),
+}
+
+fn answer<T: TextStore>(store: &mut T, call: Call) -> &'static str {
+    let done = match call {
+        Call::SetDot(i) => store.set_dot(i),
+        Call::Insert(bytes) => store.insert(bytes),
+        Call::Delete(a, b) => store.delete(a, b),
+        Call::Replace(a, b, bytes) => store.replace(a, b, bytes),
+        Call::Reserve(n) => store.reserve(n),
+    };
+    match done {
+        Ok(()) => "ok",
+        Err(TextFault::Off) => "off",
+        Err(TextFault::Full) => "full",
+        Err(TextFault::Memory) => "memory",
+    }
+}
+
+// The store has this text, by each method that shows it, and this pointer.
+fn expect_state<T: TextStore>(
+    rt: &impl Abort,
+    store: &T,
+    text: &[u8],
+    dot: usize,
+    out: &mut Vec<u8>,
+) {
+    assert_eq!(rt; store.len(), text.len());
+    assert_eq!(rt; store.dot(), dot);
+    for (i, byte) in text.iter().enumerate() {
+        assert_eq!(rt; store.at(i), Some(*byte));
+    }
+    assert_eq!(rt; store.at(text.len()), None);
+    let (front, back) = store.slices();
+    assert!(rt; front.len() <= text.len());
+    assert_eq!(rt; front, &text[..front.len()]);
+    assert_eq!(rt; back, &text[front.len()..]);
+    out.clear();
+    let mut copied = store.copy_range(0, text.len(), out);
+    if let Err(TextFault::Memory) = copied {
+        assert_eq!(rt; out.len(), 0);
+        copied = store.copy_range(0, text.len(), out);
+    }
+    assert!(rt; copied.is_ok());
+    assert_eq!(rt; out.as_slice(), text);
+}
+
+fn expect_rows<T: TextStore>(
+    rt: &impl Abort,
+    store: &mut T,
+    rows: &[(Call, &'static str, &'static [u8], usize)],
+    out: &mut Vec<u8>,
+) {
+    let mut before: (&[u8], usize) = (&[], 0);
+    for (call, want, text, dot) in rows {
+        let mut got = answer(store, *call);
+        if got == "memory" {
+            expect_state(rt, store, before.0, before.1, out);
+            got = answer(store, *call);
+        }
+        assert_eq!(rt; got, *want);
+        expect_state(rt, store, text, *dot, out);
+        before = (*text, *dot);
+    }
+}
+
+#[test]
+fn calls_in_turn(rt: HostRuntime) -> Result<(), Fail> {
+    let mut store = VecText::new(rt.alloc());
+    let rows: [(Call, &'static str, &'static [u8], usize); 14] = [
+        (Call::Insert(b"ab"), "ok", b"ab", 2),
+        (Call::Delete(1, 3), "off", b"ab", 2),
+        (Call::Delete(2, 1), "off", b"ab", 2),
+        (Call::Replace(1, 3, b"x"), "off", b"ab", 2),
+        (Call::SetDot(3), "off", b"ab", 2),
+        (Call::Reserve(268_435_457), "full", b"ab", 2),
+        (Call::Reserve(64), "ok", b"ab", 2),
+        (Call::SetDot(1), "ok", b"ab", 1),
+        (Call::Insert(b"cdef"), "ok", b"acdefb", 5),
+        (Call::Replace(1, 5, b"--"), "ok", b"a--b", 3),
+        (Call::Replace(1, 2, b"12345"), "ok", b"a12345-b", 6),
+        (Call::Delete(2, 4), "ok", b"a145-b", 4),
+        (Call::Delete(3, 5), "ok", b"a14b", 3),
+        (Call::Delete(3, 4), "ok", b"a14", 3),
+    ];
+    let mut out = Vec::new(rt.alloc());
+    expect_rows(&rt, &mut store, &rows, &mut out);
+    Ok(())
+}
