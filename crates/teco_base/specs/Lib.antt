@@ -2,6 +2,6 @@
 pub mod Arithmetic
 pub mod Bytes
 pub mod Code
+pub mod NumberText
 pub mod Register
 pub mod Text
-pub mod NumberText

@@ -1,15 +1,16 @@
--- How numbers are written: in decimal, or their 32 bits in octal or hexadecimal, without leading zeros.
-use Rattle.std.specs.Prelude.{ℤ, ℕ, List, true, false}
-use Rattle.std.specs.Fmt.{digits, signed_decimal}
+-- Numbers as they are typed: no leading zeros, and one zero for 0.
+use Rattle.std.specs.Prelude.{ℕ, ℤ, List, false, true}
 use Rattle.std.specs.Int.{w32, cast_unsigned}
+use Rattle.std.specs.Fmt.{digits, signed_decimal}
 
--- digits, after a - where the number is negative
+-- in decimal, a negative number after a minus sign
 abbrev pub decimal : ℤ → List ℕ
 decimal n = signed_decimal n
 
+-- the 32 bits, unsigned, in octal
 abbrev pub octal : ℤ → List ℕ
 octal n = digits 8 false (cast_unsigned w32 n)
 
--- with letters in upper case
+-- the 32 bits, unsigned, in hexadecimal with letters in upper case
 abbrev pub hex : ℤ → List ℕ
 hex n = digits 16 true (cast_unsigned w32 n)

@@ -5,10 +5,15 @@
 pub mod arithmetic;
 pub mod bytes;
 mod code;
+mod number_text;
 mod reg;
 
 pub use code::Code;
+pub use number_text::{NumberText, decimal, hex, octal};
 pub use reg::Reg;
 
 /// How many characters the buffer, a text, a command string, a library or an input file may have.
 pub const LIMIT: usize = 268_435_456;
+
+#[cfg(test)]
+mod tests;

@@ -14,8 +14,9 @@ use Rattle.teco_model.specs.Effect.{Done, silent}
 -- The pointer goes behind the new text, whose length is the last length; a buffer longer than LIMIT is FUL.
 abbrev pub insert : List ℕ → Kept → Result Done Code
 insert new kept =
-    if nat_le (length kept.text + length new) LIMIT
-    then Ok (silent (record kept { text = inserted kept.text kept.pointer new; pointer = kept.pointer + length new; last_length = length new }))
+  let text = inserted kept.text kept.pointer new in
+    if nat_le (length text) LIMIT
+    then Ok (silent (record kept { text = text; pointer = kept.pointer + length new; last_length = length new }))
     else Err code.Ful
 
 -- a number as a byte: n mod 256

@@ -1,0 +1,131 @@
+// Worked values, taken from the rules and not from a run.
+use crate::arithmetic::{add, and, div, mul, or, sub};
+use crate::{Code, Reg, bytes, decimal, hex, octal};
+
+#[test]
+fn wraps_results(rt: HostRuntime) {
+    assert_eq!(rt; add(i32::MAX, 1), i32::MIN);
+    assert_eq!(rt; sub(i32::MIN, 1), i32::MAX);
+    assert_eq!(rt; mul(65536, 65536), 0);
+    assert_eq!(rt; and(3, 6), 2);
+    assert_eq!(rt; or(3, 4), 7);
+    for (x, y, want) in [
+        (7, 2, Some(3)),
+        (-7, 2, Some(-3)),
+        (1, 0, None),
+        (i32::MIN, -1, Some(i32::MIN)),
+    ] {
+        assert_eq!(rt; div(x, y), want, "{x}/{y}");
+    }
+}
+
+#[test]
+fn types_numbers(rt: HostRuntime) {
+    for (n, in_decimal, in_octal, in_hex) in [
+        (0, "0", "0", "0"),
+        (255, "255", "377", "FF"),
+        (-1, "-1", "37777777777", "FFFFFFFF"),
+        (i32::MAX, "2147483647", "17777777777", "7FFFFFFF"),
+        (i32::MIN, "-2147483648", "20000000000", "80000000"),
+    ] {
+        assert_eq!(rt; decimal(n).as_bytes(), in_decimal.as_bytes(), "{n}");
+        assert_eq!(rt; octal(n).as_bytes(), in_octal.as_bytes(), "{n}");
+        assert_eq!(rt; hex(n).as_bytes(), in_hex.as_bytes(), "{n}");
+    }
+}
+
+#[test]
+fn names_registers(rt: HostRuntime) {
+    for (name, want) in [
+        (b'A', Some((0, b'A'))),
+        (b'a', Some((0, b'A'))),
+        (b'Z', Some((25, b'Z'))),
+        (b'0', Some((26, b'0'))),
+        (b'9', Some((35, b'9'))),
+        (b'?', None),
+    ] {
+        let named = Reg::of(name).map(|reg| (reg.index(), reg.name()));
+        assert_eq!(rt; named, want, "{name}");
+    }
+}
+
+#[test]
+fn names_codes(rt: HostRuntime) {
+    for (code, want) in [
+        (Code::Arg, "ARG"),
+        (Code::Nac, "NAC"),
+        (Code::Nca, "NCA"),
+        (Code::Div, "DIV"),
+        (Code::Pop, "POP"),
+        (Code::Dtb, "DTB"),
+        (Code::Iia, "IIA"),
+        (Code::Ill, "ILL"),
+        (Code::Iqn, "IQN"),
+        (Code::Ice, "ICE"),
+        (Code::Srh, "SRH"),
+        (Code::Tag, "TAG"),
+        (Code::Sni, "SNI"),
+        (Code::Bni, "BNI"),
+        (Code::Pes, "PES"),
+        (Code::Utc, "UTC"),
+        (Code::Utm, "UTM"),
+        (Code::Nfi, "NFI"),
+        (Code::Nfo, "NFO"),
+        (Code::Yca, "YCA"),
+        (Code::Ofo, "OFO"),
+        (Code::Ful, "FUL"),
+        (Code::Lim, "LIM"),
+        (Code::Mem, "MEM"),
+        (Code::Fnf, "FNF"),
+        (Code::Inp, "INP"),
+        (Code::Out, "OUT"),
+    ] {
+        assert_eq!(rt; &code.name()[..], want.as_bytes(), "{want}");
+    }
+}
+
+#[test]
+fn classes_of_bytes(rt: HostRuntime) {
+    assert!(rt;
+        bytes::is_blank(b' ')
+            && bytes::is_blank(b'\r')
+            && bytes::is_blank(b'\n')
+            && !bytes::is_blank(b'\t')
+    );
+    assert!(rt;
+        bytes::is_line_end(10)
+            && bytes::is_line_end(12)
+            && !bytes::is_line_end(13)
+            && !bytes::is_line_end(9)
+    );
+    assert!(rt; bytes::is_letter(b'q') && bytes::is_letter(b'Q') && !bytes::is_letter(b'['));
+    assert!(rt; bytes::is_digit(b'0') && !bytes::is_digit(b':') && bytes::is_letter_or_digit(b'9'));
+    assert!(rt;
+        bytes::is_lower(b'a')
+            && !bytes::is_lower(b'A')
+            && bytes::is_upper(b'Z')
+            && !bytes::is_upper(b'z')
+    );
+    assert!(rt;
+        bytes::is_symbol(b'.')
+            && bytes::is_symbol(b'_')
+            && bytes::is_symbol(b'$')
+            && !bytes::is_symbol(b'-')
+    );
+    assert_eq!(rt;
+        (bytes::to_upper(b'm'), bytes::to_upper(b'{')),
+        (b'M', b'{')
+    );
+    for (caret, want) in [
+        (b'A', Some(1)),
+        (b'a', Some(1)),
+        (b'@', Some(0)),
+        (b'[', Some(bytes::ESC)),
+        (b'_', Some(31)),
+        (b'`', None),
+        (b'{', None),
+        (b'?', None),
+    ] {
+        assert_eq!(rt; bytes::control(caret), want, "{caret}");
+    }
+}

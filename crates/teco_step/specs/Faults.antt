@@ -1,0 +1,12 @@
+-- What a fault of the text comes to.
+use Rattle.teco_base.specs.declared.code.Code.TheVariants as code
+use Rattle.teco_text.specs.declared.fault.TextFault.{TextFault}
+use Rattle.teco_text.specs.declared.fault.TextFault.TheVariants.{Off, Full, Memory}
+use Rattle.teco_step.specs.declared.stuck.Stuck.{Stuck}
+use Rattle.teco_step.specs.declared.stuck.Stuck.TheVariants as stuck
+
+-- a place off the text is POP, and a text that would be too long FUL
+abbrev pub stuck_by : TextFault → Stuck
+stuck_by Off = stuck.Code code.Pop
+stuck_by Full = stuck.Code code.Ful
+stuck_by Memory = stuck.Memory

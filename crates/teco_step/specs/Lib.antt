@@ -1,0 +1,12 @@
+-- The words that the contracts of this crate are written in.
+pub use Rattle.teco_text.specs.Text
+pub use Rattle.teco_model.specs.State
+pub use Rattle.teco_model.specs.Effect
+pub use Rattle.teco_model.specs.Motion
+pub use Rattle.teco_model.specs.Deletion
+pub use Rattle.teco_model.specs.Insertion
+pub use Rattle.teco_model.specs.Typing
+pub use Rattle.teco_model.specs.Places
+pub mod Faults
+pub mod Ranges
+pub mod Does

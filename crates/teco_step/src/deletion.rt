@@ -1,0 +1,53 @@
+//! Commands that delete.
+ghost use Rattle.std.specs.Prelude.{◌≡◌};
+ghost use Rattle.teco_model.specs.Deletion as model;
+ghost use Rattle.teco_step.specs.Does.{Does};
+
+use crate::editor::Editor;
+use crate::stuck::Stuck;
+use teco_base::Code;
+use teco_model::Taken;
+use teco_model::kind::Unit;
+use teco_text::TextStore;
+
+impl<T: TextStore> Editor<T> {
+    // Deletes characters after the pointer, or before it where the number is negative.
+    fn delete_characters(&mut self, n: i32) -> Result<Option<i32>, Stuck>
+        ensures { Does self.old self.new (model.delete_characters n self.old) result }
+    {
+        let dot = self.dot();
+        let count = n.unsigned_abs() as usize;
+        let (begin, end) = if n >= 0 {
+            (dot, dot + count)
+        } else if count <= dot {
+            (dot - count, dot)
+        } else {
+            return Err(Stuck::Code(Code::Dtb));
+        };
+        match self.store.delete(begin, end) {
+            Ok(()) => Ok(None),
+            Err(_) => Err(Stuck::Code(Code::Dtb)),
+        }
+    }
+
+    // Deletes a range, and puts the pointer where it began.
+    fn delete_range(&mut self, m: i32, n: i32) -> Result<Option<i32>, Stuck>
+        ensures { Does self.old self.new (model.delete_range m n self.old) result }
+    {
+        let (begin, end) = self.range(m, n)?;
+        self.store.delete(begin, end)?;
+        self.store.set_dot(begin)?;
+        Ok(None)
+    }
+
+    /// `D` deletes characters, or a range.
+    pub fn deletion(&mut self, unit: Unit, arguments: Taken) -> Result<Option<i32>, Stuck>
+        ensures { Does self.old self.new (model.deletion unit arguments self.old) result }
+    {
+        match (unit, arguments.first, arguments.value) {
+            (Unit::Characters, Some(m), Some(n)) => self.delete_range(m, n),
+            (Unit::Characters, _, value) => self.delete_characters(value.unwrap_or(1)),
+            (Unit::Lines, _, _) => Err(Stuck::Code(Code::Ill)),
+        }
+    }
+}

@@ -1,0 +1,89 @@
+ghost use Rattle.std.specs.Prelude.{◌≡◌, ◌≤◌, ◌++◌, [], length};
+ghost use Rattle.teco_base.specs.declared.TheConstants.{LIMIT};
+ghost use Rattle.teco_model.specs.State.{fresh};
+
+use std::alloc::Global;
+use std::marker::Model;
+use std::mem;
+use teco_text::TextStore;
+
+/// What stays between two runs: the buffer with its pointer, the length of the last text found or inserted, and the bytes
+/// that are typed.
+#[derive(Drop)]
+pub struct Editor<T: TextStore> {
+    pub(crate) store: T,
+    pub(crate) last_length: usize,
+    pub(crate) typed: Vec<u8>,
+    alloc: Global,
+}
+
+impl<T: TextStore> Model for Editor<T> {
+    ghost use Rattle.std.specs.Prelude.{◌≤◌};
+    ghost use Rattle.teco_base.specs.declared.TheConstants.{LIMIT};
+    ghost use Rattle.teco_model.specs.State.{Kept};
+
+    ghost Value = { Kept };
+
+    ghost view = { λ e. record {
+      text = T.list e.store;
+      pointer = T.pointer e.store;
+      last_length = e.last_length;
+      typed = e.typed.items;
+    } };
+
+    ghost invariant = { λ e. e.last_length ≤ LIMIT };
+}
+
+impl<T: TextStore> Editor<T> {
+    /// The text of the store, and nothing else. Takes no memory.
+    pub fn new(alloc: Global, store: T) -> Self
+        ensures { result ≡ fresh (T.list store) (T.pointer store) }
+    {
+        Editor {
+            store,
+            last_length: 0,
+            typed: Vec::new(alloc),
+            alloc,
+        }
+    }
+
+    /// The text in two pieces, of which either may be empty.
+    pub fn text(&self) -> (&[u8], &[u8])
+        ensures { result.0.now ++ result.1.now ≡ self.now.text }
+    {
+        self.store.slices()
+    }
+
+    /// The length of the text, at most `LIMIT`.
+    pub fn size(&self) -> usize
+        ensures value { result ≡ length self.now.text }
+        ensures within_limit { result ≤ LIMIT }
+    {
+        self.store.len()
+    }
+
+    /// The place of the pointer, at most `LIMIT`.
+    pub fn dot(&self) -> usize
+        ensures value { result ≡ self.now.pointer }
+        ensures within_text { result ≤ length self.now.text }
+        ensures within_limit { result ≤ LIMIT }
+    {
+        self.store.dot()
+    }
+
+    /// The length of the last text found or inserted, at most `LIMIT`.
+    pub fn last_length(&self) -> usize
+        ensures value { result ≡ self.now.last_length }
+        ensures within_limit { result ≤ LIMIT }
+    {
+        self.last_length
+    }
+
+    /// The bytes that were typed, which are then none. Takes no memory.
+    pub fn take_typed(&mut self) -> Vec<u8>
+        ensures typed { result.items ≡ self.old.typed }
+        ensures emptied { self.new ≡ record self.old { typed = [] } }
+    {
+        mem::replace(&mut self.typed, Vec::new(self.alloc))
+    }
+}

@@ -1,0 +1,14 @@
+//! What stays of the command machine between two runs, and what each command does to it that is no flow, file or macro
+//! command.
+#![tactic(auto)]
+
+mod deletion;
+mod editor;
+mod insertion;
+mod motion;
+mod places;
+mod stuck;
+mod typing;
+
+pub use editor::Editor;
+pub use stuck::Stuck;

@@ -1,0 +1,61 @@
+//! Commands that move the pointer.
+ghost use Rattle.std.specs.Prelude.{◌≡◌, ◌≤◌, ◌<◌, ◌^◌, is_some, Some, None, MatchOption};
+ghost use Rattle.teco_base.specs.declared.TheConstants.{LIMIT};
+ghost use Rattle.teco_model.specs.Motion as model;
+ghost use Rattle.teco_model.specs.Places.{place_in};
+ghost use Rattle.teco_step.specs.Does.{Does};
+
+use crate::editor::Editor;
+use crate::stuck::Stuck;
+use teco_base::Code;
+use teco_model::Taken;
+use teco_model::kind::Motion;
+use teco_text::TextStore;
+
+// The place that an argument names, as a whole number.
+fn target(motion: Motion, pointer: usize, n: Option<i32>) -> i64
+    requires { pointer ≤ LIMIT }
+    ensures { result ≡ model.target motion pointer n }
+{
+    let pointer = pointer as i64;
+    match motion {
+        Motion::Forward => pointer + i64::from(n.unwrap_or(1)),
+        Motion::Backward => pointer - i64::from(n.unwrap_or(1)),
+        Motion::To => i64::from(n.unwrap_or(0)),
+        Motion::Lines => pointer,
+    }
+}
+
+impl<T: TextStore> Editor<T> {
+    // Moves the pointer to a place, if the text has it, and says whether it does.
+    fn go_to(&mut self, place: i64) -> bool
+        ensures answer { result ≡ is_some (place_in self.old.text place) }
+        ensures moved { MatchOption (place_in self.old.text place) (self.new ≡ self.old) (λ p. self.new ≡ record self.old { pointer = p }) }
+    {
+        let Ok(place) = usize::try_from(place) else {
+            return false;
+        };
+        self.store.set_dot(place).is_ok()
+    }
+
+    /// `C`, `R` and `J` move the pointer; with a colon they answer whether it was moved.
+    pub fn motion(
+        &mut self,
+        motion: Motion,
+        colons: u8,
+        arguments: Taken,
+    ) -> Result<Option<i32>, Stuck>
+        ensures { Does self.old self.new (model.motion motion colons arguments self.old) result }
+    {
+        if let Motion::Lines = motion {
+            return Err(Stuck::Code(Code::Ill));
+        }
+        let place = target(motion, self.dot(), arguments.value);
+        match (self.go_to(place), colons) {
+            (true, 0) => Ok(None),
+            (false, 0) => Err(Stuck::Code(Code::Pop)),
+            (true, _) => Ok(Some(-1)),
+            (false, _) => Ok(Some(0)),
+        }
+    }
+}

@@ -1,0 +1,44 @@
+ghost use Rattle.std.specs.Prelude.{◌≡◌};
+ghost use Rattle.teco_step.specs.declared.stuck.Stuck.TheVariants as stuck;
+ghost use Rattle.teco_step.specs.Faults.{stuck_by};
+
+use std::alloc::AllocError;
+use teco_base::Code as Reason;
+use teco_text::TextFault;
+
+/// Why a command is not executed. All is then as it was.
+#[derive(Clone, Copy)]
+pub enum Stuck {
+    /// The command's code.
+    Code(Reason),
+    /// A growth was refused.
+    Memory,
+}
+
+impl From<Reason> for Stuck {
+    ghost from_gives = { λ code e. e ≡ stuck.Code code };
+
+    fn from(code: Reason) -> Stuck {
+        Stuck::Code(code)
+    }
+}
+
+impl From<AllocError> for Stuck {
+    ghost from_gives = { λ _ e. e ≡ stuck.Memory };
+
+    fn from(_refused: AllocError) -> Stuck {
+        Stuck::Memory
+    }
+}
+
+impl From<TextFault> for Stuck {
+    ghost from_gives = { λ fault e. e ≡ stuck_by fault };
+
+    fn from(fault: TextFault) -> Stuck {
+        match fault {
+            TextFault::Off => Stuck::Code(Reason::Pop),
+            TextFault::Full => Stuck::Code(Reason::Ful),
+            TextFault::Memory => Stuck::Memory,
+        }
+    }
+}
