@@ -1,21 +1,23 @@
 -- The digits of a number, written from the end of a buffer of 11 bytes.
-use Rattle.std.proofs.Common.{◌≡◌, ℕ, zero, suc, ◌+◌, ◌-◌, ◌*◌, ◌/◌, ◌%◌, ◌^◌, ◌<◌, ◌≤◌, true, false, if◌then◌else◌, ℤ, pos, negsuc, ◌≤ℤ◌, ◌<ℤ◌, unsigned_abs, List, [], ◌∷◌, length, drop, set, ap, sym, refl, ◌∙◌, arith, mul-le-mul_left, mod-lt}
+use Rattle.std.proofs.Common.{◌≡◌, ℕ, zero, suc, ◌+◌, ◌-◌, ◌*◌, ◌/◌, ◌%◌, ◌^◌, ◌<◌, ◌≤◌, true, false, if◌then◌else◌, ℤ, pos, negsuc, ◌≤ℤ◌, ◌<ℤ◌, unsigned_abs, FitsSigned, List, [], ◌∷◌, length, drop, set, ap, sym, refl, ◌∙◌, arith, mul-le-mul_left, mod-lt}
 use Rattle.std.proofs.lemmas.Bool.{eq-eqb, ne_eqb}
 use Rattle.std.proofs.lemmas.Bool.Decides.{nat_tests}
 use Rattle.std.proofs.lemmas.Grind.{drop-set_at}
-use Rattle.std.proofs.lemmas.Int.{ints}
+use Rattle.std.proofs.lemmas.Fmt.{length-decimal-le}
+use Rattle.std.proofs.lemmas.Int.{ints, to_z-of_z}
+use Rattle.std.specs.Int.{w32, cast_signed, cast_unsigned}
 use Rattle.std.proofs.Math.Nat.{div-lt_iff_lt-mul, pow-suc}
 use Rattle.std.specs.Prelude.{◌==◌}
 use Rattle.std.specs.Fmt.{digit_glyph, digits_onto, digits, decimal, signed_decimal}
 
--- the digits of n before others, which stand from a place on
+-- the digits of n before others, which stand from a place on. `digits` takes up to 64, so 53 of them have no place in the buffer
 unfoldable pub digits_before : ℕ → ℕ → ℕ → List ℕ → List ℕ
 digits_before place base n others = digits_onto (place + 53) base true n others
 
--- at the buffer's end there are no others
-pub digits_before-end : (base n : ℕ) → digits_before 11 base n [] ≡ digits base true n
+-- at the buffer's end no digit is written
+pub nothing_written : (base n : ℕ) → digits_before 11 base n [] ≡ digits base true n
 unfolding digits_before digits
-digits_before-end base n = refl
+nothing_written base n = refl
 
 module _ (base n : ℕ) (others : List ℕ) where
   onto_last : (k : ℕ) → 0 < k → n / base ≡ 0 → digits_onto k base true n others ≡ digit_glyph true (n % base) ∷ others
@@ -31,14 +33,14 @@ module _ (buffer : List ℕ) (place base n d : ℕ) (some : 0 < place) (room : p
   written = drop-set_at buffer (place - 1) (place - 1) d refl (omega arith) ∙ ap (λ m. d ∷ drop m buffer) (omega arith) ∙ ap (λ g. g ∷ drop place buffer) is
 
   -- the digit that is written last is the highest
-  pub digits_before-last : n / base ≡ 0 → drop (place - 1) (set buffer (place - 1) d) ≡ digits_before place base n (drop place buffer)
+  pub last_written : n / base ≡ 0 → drop (place - 1) (set buffer (place - 1) d) ≡ digits_before place base n (drop place buffer)
   unfolding digits_before
-  digits_before-last e = written ∙ sym (onto_last base n (drop place buffer) (place + 53) (omega arith) e)
+  last_written e = written ∙ sym (onto_last base n (drop place buffer) (place + 53) (omega arith) e)
 
   -- another digit is written before those that stand
-  pub digits_before-more : (n / base ≡ 0 → ⊥) → digits_before (place - 1) base (n / base) (drop (place - 1) (set buffer (place - 1) d)) ≡ digits_before place base n (drop place buffer)
+  pub more_written : (n / base ≡ 0 → ⊥) → digits_before (place - 1) base (n / base) (drop (place - 1) (set buffer (place - 1) d)) ≡ digits_before place base n (drop place buffer)
   unfolding digits_before
-  digits_before-more e = rw written (sym (onto_more base n (drop place buffer) (place + 53) (place - 1 + 53) (omega arith) e))
+  more_written e = rw written (sym (onto_more base n (drop place buffer) (place + 53) (place - 1 + 53) (omega arith) e))
 
 -- the quotient has a digit less
 pub quotient_fits : (n base k : ℕ) → 8 ≤ base → 0 < k → n < 8 ^ k → n / base < 8 ^ (k - 1)
@@ -67,11 +69,28 @@ pub digits_plain : (base n : ℕ) → 0 < base → base ≤ 10 → digits base t
 unfolding digits
 digits_plain base n = onto_plain 64 base n []
 
+-- how the digits come to stand in the buffer
+pub ruleset digits_from_end = (nothing_written, last_written, more_written, quotient_fits, some_place, digits_plain)
+
 -- a number below zero is its absolute value after a minus sign, and any other is its absolute value
-pub signed_below : (n : ℤ) → n <ℤ pos 0 → signed_decimal n ≡ 45 ∷ decimal (unsigned_abs n)
+signed_below : (n : ℤ) → n <ℤ pos 0 → 45 ∷ decimal (unsigned_abs n) ≡ signed_decimal n
 signed_below (pos n) below = absurd (omega (arith, ints))
 signed_below (negsuc n) below = refl
 
-pub signed_above : (n : ℤ) → pos 0 ≤ℤ n → signed_decimal n ≡ decimal (unsigned_abs n)
+signed_above : (n : ℤ) → pos 0 ≤ℤ n → decimal (unsigned_abs n) ≡ signed_decimal n
 signed_above (pos n) above = refl
 signed_above (negsuc n) above = absurd (omega (arith, ints))
+
+-- the same of a number as the code has it, and of its digits
+pub below_zero : (n : ℤ) (m : ℕ) (ds : List ℕ) → FitsSigned w32 n → n <ℤ pos 0 → m ≡ unsigned_abs (cast_signed w32 (cast_unsigned w32 n)) → ds ≡ decimal m → 45 ∷ ds ≡ signed_decimal n
+below_zero n m ds fits below is e = ap (λ xs. 45 ∷ xs) (e ∙ ap decimal (is ∙ ap unsigned_abs (to_z-of_z w32 n fits))) ∙ signed_below n below
+
+pub from_zero : (n : ℤ) (m : ℕ) (ds : List ℕ) → FitsSigned w32 n → pos 0 ≤ℤ n → m ≡ unsigned_abs (cast_signed w32 (cast_unsigned w32 n)) → ds ≡ decimal m → ds ≡ signed_decimal n
+from_zero n m ds fits above is e = e ∙ ap decimal (is ∙ ap unsigned_abs (to_z-of_z w32 n fits)) ∙ signed_above n above
+
+-- the digits leave room for a minus sign
+pub few_digits : (m : ℕ) (ds : List ℕ) → m ≤ 2 ^ 31 → ds ≡ decimal m → length ds < 11
+few_digits m ds near e = rw e (let few : length (decimal m) ≤ 10 = length-decimal-le 10 m (omega arith) (omega arith) (omega arith) in omega (arith, few))
+
+-- how a sign comes before them
+pub ruleset signed_digits = (below_zero, from_zero, few_digits)

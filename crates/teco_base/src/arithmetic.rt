@@ -41,6 +41,7 @@ pub fn or(x: i32, y: i32) -> i32
 }
 
 /// The quotient, truncated towards zero and then wrapped; `None` for a divisor of zero.
+#[tactic(auto, using(crate::proofs::Quotient::div_code))]
 pub fn div(x: i32, y: i32) -> Option<i32>
     ensures { result ≡ number.div x y }
 {

@@ -35,6 +35,7 @@ impl Model for NumberText {
 
 impl NumberText {
     /// The digits of `n` in the base, with letters in upper case.
+    #[tactic(auto, using(crate::proofs::Digits::digits_from_end))]
     fn digits(n: u32, base: u32) -> NumberText
         requires low { 8 ≤ base }
         requires high { base ≤ 16 }
@@ -88,6 +89,7 @@ fn digit(value: u32) -> u8
 }
 
 /// The number in decimal, after a minus sign where it is negative.
+#[tactic(auto, using(crate::proofs::Digits::signed_digits))]
 pub fn decimal(n: i32) -> NumberText
     ensures { result ≡ text.decimal n }
 {

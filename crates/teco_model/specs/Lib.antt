@@ -19,3 +19,4 @@ pub mod Typing
 pub mod Step
 pub mod Run
 pub mod Rows
+pub mod Session

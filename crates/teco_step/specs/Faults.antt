@@ -1,5 +1,7 @@
--- What a fault of the text comes to.
+-- What a fault of the text, or of the arguments, comes to.
 use Rattle.teco_base.specs.declared.code.Code.TheVariants as code
+use Rattle.teco_expr.specs.declared.args.ArgFault.{ArgFault}
+use Rattle.teco_expr.specs.declared.args.ArgFault.TheVariants as argument_fault
 use Rattle.teco_text.specs.declared.fault.TextFault.{TextFault}
 use Rattle.teco_text.specs.declared.fault.TextFault.TheVariants.{Off, Full, Memory}
 use Rattle.teco_step.specs.declared.stuck.Stuck.{Stuck}
@@ -10,3 +12,7 @@ abbrev pub stuck_by : TextFault → Stuck
 stuck_by Off = stuck.Code code.Pop
 stuck_by Full = stuck.Code code.Ful
 stuck_by Memory = stuck.Memory
+
+abbrev pub stuck_by_arguments : ArgFault → Stuck
+stuck_by_arguments (argument_fault.Code c) = stuck.Code c
+stuck_by_arguments argument_fault.Memory = stuck.Memory

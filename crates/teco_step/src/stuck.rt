@@ -1,9 +1,10 @@
 ghost use Rattle.std.specs.Prelude.{◌≡◌};
 ghost use Rattle.teco_step.specs.declared.stuck.Stuck.TheVariants as stuck;
-ghost use Rattle.teco_step.specs.Faults.{stuck_by};
+ghost use Rattle.teco_step.specs.Faults.{stuck_by, stuck_by_arguments};
 
 use std::alloc::AllocError;
 use teco_base::Code as Reason;
+use teco_expr::ArgFault;
 use teco_text::TextFault;
 
 /// Why a command is not executed. All is then as it was.
@@ -39,6 +40,17 @@ impl From<TextFault> for Stuck {
             TextFault::Off => Stuck::Code(Reason::Pop),
             TextFault::Full => Stuck::Code(Reason::Ful),
             TextFault::Memory => Stuck::Memory,
+        }
+    }
+}
+
+impl From<ArgFault> for Stuck {
+    ghost from_gives = { λ fault e. e ≡ stuck_by_arguments fault };
+
+    fn from(fault: ArgFault) -> Stuck {
+        match fault {
+            ArgFault::Code(code) => Stuck::Code(code),
+            ArgFault::Memory => Stuck::Memory,
         }
     }
 }

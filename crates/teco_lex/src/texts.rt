@@ -1,0 +1,111 @@
+//! What follows an element's letters: a register's name and texts.
+ghost use Rattle.std.specs.Prelude.{◌≡◌, ◌≤◌, ◌==◌, [], drop, length, position, IfOk};
+ghost use Rattle.teco_model.specs.Element as model;
+ghost use Rattle.teco_model.specs.Form as form;
+ghost use Rattle.teco_lex.specs.Form.{form_seen};
+ghost use Rattle.teco_lex.specs.Reading.{Gives};
+ghost use Rattle.teco_lex.specs.Texts.{texts_seen};
+
+use crate::form::Form;
+use teco_base::bytes::ESC;
+use teco_base::{Code, Reg};
+
+/// The texts of an element, and what stands behind them.
+#[derive(Clone, Copy)]
+pub struct TextsRead<'a> {
+    pub text: &'a [u8],
+    pub second: &'a [u8],
+    pub rest: &'a [u8],
+}
+
+/// The register whose name stands at the front, if one is named there, and how many bytes that takes.
+pub fn register_named(is_named: bool, bytes: &[u8]) -> Result<(Option<Reg>, usize), Code>
+    ensures value { Gives (λ x. (x.0, drop x.1 bytes.now)) result (model.register_named is_named bytes.now) }
+    ensures within { IfOk result (λ x. x.1 ≤ length bytes.now) }
+{
+    if !is_named {
+        return Ok((None, 0));
+    }
+    let name = bytes.first().ok_or(Code::Utc)?;
+    let register = Reg::of(*name).ok_or(Code::Iqn)?;
+    Ok((Some(register), 1))
+}
+
+/// The byte that ends the texts: after `@` the byte that comes next.
+fn ending(at: bool, byte: u8, bytes: &[u8]) -> Result<(u8, &[u8]), Code>
+    ensures value { Gives (λ x. (x.0, x.1.now)) result (model.ending at byte bytes.now) }
+    ensures within { IfOk result (λ x. length x.1.now ≤ length bytes.now) }
+{
+    if !at {
+        return Ok((byte, bytes));
+    }
+    let (delimiter, rest) = bytes.split_first().ok_or(Code::Utc)?;
+    Ok((*delimiter, rest))
+}
+
+/// Where a byte stands first.
+fn position_of(byte: u8, bytes: &[u8]) -> Option<usize>
+    ensures { result ≡ position (λ b. b == byte) bytes.now }
+{
+    bytes.iter().position(|b| *b == byte)
+}
+
+/// A text up to the byte that ends it.
+fn text_up_to(byte: u8, bytes: &[u8]) -> Result<(&[u8], &[u8]), Code>
+    ensures value { Gives (λ x. (x.0.now, x.1.now)) result (model.text_up_to byte bytes.now) }
+    ensures within { IfOk result (λ x. length x.1.now ≤ length bytes.now) }
+{
+    let end = position_of(byte, bytes).ok_or(Code::Utc)?;
+    Ok((&bytes[..end], &bytes[end + 1..]))
+}
+
+/// One text.
+fn one_text(at: bool, byte: u8, bytes: &[u8]) -> Result<TextsRead<'_>, Code>
+    ensures value { Gives texts_seen result (model.texts (form.EndedBy byte) at [] bytes.now) }
+    ensures within { IfOk result (λ x. length x.rest.now ≤ length bytes.now) }
+{
+    let (byte, rest) = ending(at, byte, bytes)?;
+    let (text, rest) = text_up_to(byte, rest)?;
+    Ok(TextsRead {
+        text,
+        second: &[],
+        rest,
+    })
+}
+
+/// Two texts.
+fn two_texts(at: bool, bytes: &[u8]) -> Result<TextsRead<'_>, Code>
+    ensures value { Gives texts_seen result (model.texts form.Two at [] bytes.now) }
+    ensures within { IfOk result (λ x. length x.rest.now ≤ length bytes.now) }
+{
+    let (byte, rest) = ending(at, ESC, bytes)?;
+    let (text, rest) = text_up_to(byte, rest)?;
+    let (second, rest) = text_up_to(byte, rest)?;
+    Ok(TextsRead { text, second, rest })
+}
+
+/// The texts of an element whose own bytes are known.
+pub fn texts<'a>(
+    shape: Form,
+    at: bool,
+    own: &'a [u8],
+    bytes: &'a [u8],
+) -> Result<TextsRead<'a>, Code>
+    ensures value { Gives texts_seen result (model.texts (form_seen shape) at own.now bytes.now) }
+    ensures within { IfOk result (λ x. length x.rest.now ≤ length bytes.now) }
+{
+    match shape {
+        Form::Itself => Ok(TextsRead {
+            text: own,
+            second: &[],
+            rest: bytes,
+        }),
+        Form::EndedBy(byte) => one_text(at, byte, bytes),
+        Form::Two => two_texts(at, bytes),
+        Form::NoText => Ok(TextsRead {
+            text: &[],
+            second: &[],
+            rest: bytes,
+        }),
+    }
+}

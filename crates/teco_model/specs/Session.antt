@@ -1,0 +1,66 @@
+-- A session: the input is cut into command strings, each is run, and what it typed is written, with a code line for a stop
+-- that is not the end.
+use Rattle.std.specs.Prelude.{ℕ, suc, ◌+◌, ◌≡◌, ◌≤◌, List, [], ◌∷◌, ◌++◌, length, take, Option, Some, None, Bool, true, false, ◌&&◌, ◌||◌, ◌==◌, nat_le, if◌then◌else◌}
+use Rattle.std.specs.List.{list_all}
+use Rattle.std.specs.Option.{option_map}
+use Rattle.teco_base.specs.Bytes.{is_blank}
+use Rattle.teco_base.specs.Code.{code_name}
+use Rattle.teco_base.specs.declared.TheConstants.{LIMIT}
+use Rattle.teco_base.specs.declared.code.Code.{Code}
+use Rattle.teco_base.specs.declared.code.Code.TheVariants as code
+use Rattle.teco_model.specs.Run.{Stops}
+use Rattle.teco_model.specs.State.{Kept, start}
+use Rattle.teco_model.specs.declared.stop.Stop.{Stop}
+use Rattle.teco_model.specs.declared.stop.Stop.TheVariants as stop
+
+-- A command string ends with the first two successive ESC: the place behind them.
+unfoldable pub string_end : List ℕ → Option ℕ
+string_end [] = None
+string_end (a ∷ []) = None
+string_end (a ∷ b ∷ rest) = elim (a == 27 && b == 27) [ true ↦ Some 2 | false ↦ option_map (λ n. 1 + n) (string_end (b ∷ rest)) ]
+
+-- a command string: it holds no end before its own, and has at most LIMIT bytes
+pub record IsCommandString (string : List ℕ) : Type 0 where
+  pub ends : string_end string ≡ Some (length string)
+  pub within : length string ≤ LIMIT
+
+-- the code that is typed for a stop; none for the end
+abbrev pub code_of : Stop → Option Code
+code_of (stop.Ended steps) = None
+code_of (stop.Error c) = Some c
+code_of stop.Limit = Some code.Lim
+code_of stop.Memory = Some code.Mem
+
+-- a code line: ?, the code, CR LF
+abbrev pub code_line : Option Code → List ℕ
+code_line None = []
+code_line (Some c) = 63 ∷ code_name c ++ 13 ∷ 10 ∷ []
+
+abbrev pub is_code : Option Code → Bool
+is_code None = false
+is_code (Some c) = true
+
+-- The command strings at the front of an input are executed one after another: what is kept then, what is written, and
+-- whether a code line is among it.
+pub data Executes (limit : ℕ) (old : Kept) : List ℕ → Kept → List ℕ → Bool → Type 0 where
+  none : Executes limit old [] old [] false
+  one_more : (input : List ℕ) (kept : Kept) (written : List ℕ) (coded : Bool) (string : List ℕ) (stop : Stop) (new : Kept) →
+    Executes limit old input kept written coded → IsCommandString string → Stops (start string kept) limit stop new →
+    Executes limit old (input ++ string) (record new { typed = [] }) (written ++ new.typed ++ code_line (code_of stop)) (coded || is_code (code_of stop))
+
+-- What follows the last command string: a rest of LIMIT bytes without an end is FUL, blanks are nothing, and any other rest
+-- is UTC. It is not executed.
+abbrev pub rest_code : List ℕ → Option Code
+rest_code rest = if nat_le LIMIT (length rest) then Some code.Ful else if list_all is_blank rest then None else Some code.Utc
+
+-- a whole session
+pub record Session (limit : ℕ) (old : Kept) (input : List ℕ) (new : Kept) (written : List ℕ) (coded : Bool) : Type 0 where
+  pub strings : List ℕ
+  pub rest : List ℕ
+  pub lines : List ℕ
+  pub line : Bool
+  pub whole : input ≡ strings ++ rest
+  pub executed : Executes limit old strings new lines line
+  pub no_string : string_end (take LIMIT rest) ≡ None
+  pub all_written : written ≡ lines ++ code_line (rest_code rest)
+  pub a_line : coded ≡ (line || is_code (rest_code rest))

@@ -1,0 +1,7 @@
+-- The words that the contracts of this crate are written in.
+pub use Rattle.teco_text.specs.Text
+pub use Rattle.teco_model.specs.State
+pub use Rattle.teco_model.specs.Step
+pub use Rattle.teco_model.specs.Run
+pub mod Performs
+pub mod Steps

@@ -1,0 +1,9 @@
+//! The command machine: it runs command strings on the text of a store.
+#![tactic(auto)]
+
+mod arguments;
+mod machine;
+mod perform;
+
+pub use machine::Machine;
+pub use teco_model::Stop;
