@@ -11,3 +11,6 @@ mod texts;
 pub use blanks::blank_end;
 pub use elements::Element;
 pub use reader::element;
+
+#[cfg(test)]
+mod tests;

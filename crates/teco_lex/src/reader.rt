@@ -92,7 +92,8 @@ fn element_from(text: &[u8], place: usize) -> Result<Element<'_>, Code>
     })
 }
 
-/// The element at a place, after the blanks; `None` where only blanks remain.
+/// The element at a place, after the blanks; `None` where only blanks remain. Nothing behind the element is looked at, unless
+/// it is cut off.
 #[tactic(auto, unfolding(teco_model::specs::Element::element_at))]
 pub fn element(text: &[u8], at: usize) -> Result<Option<Element<'_>>, Code>
     requires { at ≤ length text.now }

@@ -20,3 +20,4 @@ pub mod Step
 pub mod Run
 pub mod Rows
 pub mod Session
+pub mod Registers

@@ -40,27 +40,28 @@ abbrev pub is_code : Option Code → Bool
 is_code None = false
 is_code (Some c) = true
 
--- The command strings at the front of an input are executed one after another: what is kept then, what is written, and
+-- So many command strings, joined to one input, are executed one after another: what is kept then, what is written, and
 -- whether a code line is among it.
-pub data Executes (limit : ℕ) (old : Kept) : List ℕ → Kept → List ℕ → Bool → Type 0 where
-  none : Executes limit old [] old [] false
-  one_more : (input : List ℕ) (kept : Kept) (written : List ℕ) (coded : Bool) (string : List ℕ) (stop : Stop) (new : Kept) →
-    Executes limit old input kept written coded → IsCommandString string → Stops (start string kept) limit stop new →
-    Executes limit old (input ++ string) (record new { typed = [] }) (written ++ new.typed ++ code_line (code_of stop)) (coded || is_code (code_of stop))
+pub data Executes (limit : ℕ) (old : Kept) : ℕ → List ℕ → Kept → List ℕ → Bool → Type 0 where
+  none : Executes limit old 0 [] old [] false
+  one_more : (count : ℕ) (input : List ℕ) (kept : Kept) (written : List ℕ) (coded : Bool) (string : List ℕ) (stop : Stop) (new : Kept) →
+    Executes limit old count input kept written coded → IsCommandString string → Stops (start string kept) limit stop new →
+    Executes limit old (count + 1) (input ++ string) (record new { typed = [] }) (written ++ (new.typed ++ code_line (code_of stop))) (coded || is_code (code_of stop))
 
 -- What follows the last command string: a rest of LIMIT bytes without an end is FUL, blanks are nothing, and any other rest
 -- is UTC. It is not executed.
 abbrev pub rest_code : List ℕ → Option Code
 rest_code rest = if nat_le LIMIT (length rest) then Some code.Ful else if list_all is_blank rest then None else Some code.Utc
 
--- a whole session
+-- a whole session of an input: what it leaves, what it writes, and whether a code line is among it
 pub record Session (limit : ℕ) (old : Kept) (input : List ℕ) (new : Kept) (written : List ℕ) (coded : Bool) : Type 0 where
+  pub count : ℕ
   pub strings : List ℕ
   pub rest : List ℕ
   pub lines : List ℕ
   pub line : Bool
   pub whole : input ≡ strings ++ rest
-  pub executed : Executes limit old strings new lines line
+  pub executed : Executes limit old count strings new lines line
   pub no_string : string_end (take LIMIT rest) ≡ None
   pub all_written : written ≡ lines ++ code_line (rest_code rest)
   pub a_line : coded ≡ (line || is_code (rest_code rest))

@@ -1,0 +1,4 @@
+pub mod Known
+pub mod Pairs
+pub mod SessionSteps
+pub mod Stops

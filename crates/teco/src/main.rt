@@ -1,0 +1,65 @@
+//! The program: sessions on standard input.
+#![tactic(auto)]
+
+mod ahead;
+mod fault;
+mod output;
+mod session;
+mod strings;
+mod words;
+
+use crate::fault::SessionFault;
+use crate::session::session;
+use std::alloc::Global;
+use std::process::ExitCode;
+use std::{env, io};
+use teco_run::Machine;
+use teco_text::VecText;
+
+/// A code was typed.
+const CODED: u8 = 1;
+
+/// The words are no command, or standard input, standard output or memory failed.
+const FAILED: u8 = 2;
+
+// Runs a session from standard input to standard output.
+fn run<R: Input + Print>(rt: &R, alloc: Global, limit: u64) -> Result<ExitCode, SessionFault> {
+    let mut machine = Machine::new(alloc, VecText::new(alloc));
+    let mut reader = rt.reader();
+    let mut writer = io::writer(rt);
+    let done = session(alloc, &mut machine, &mut reader, &mut writer, limit)?;
+    Ok(if done.coded {
+        ExitCode::from(CODED)
+    } else {
+        ExitCode::SUCCESS
+    })
+}
+
+// Reads the words, and does what they say.
+fn obey(rt: &HostRuntime) -> anyhow::Result<ExitCode> {
+    let alloc = rt.alloc();
+    let words: Vec<String> = env::args(rt)?.collect(alloc)?;
+    let command = words::command(alloc)?;
+    let matches = match command.try_get_matches_from(words.as_slice()) {
+        Ok(matches) => matches,
+        Err(error) => {
+            error.print(rt)?;
+            return Ok(ExitCode::from(error.exit_code() as u8));
+        }
+    };
+    let limit = matches
+        .subcommand_matches("run")
+        .and_then(|run| run.get_one::<u32>("limit"))
+        .unwrap_or(u32::MAX);
+    Ok(run(rt, alloc, u64::from(limit))?)
+}
+
+fn main(rt: HostRuntime) -> ExitCode {
+    match obey(&rt) {
+        Ok(status) => status,
+        Err(error) => {
+            let _ = eprintln!(rt; "teco: {error}");
+            ExitCode::from(FAILED)
+        }
+    }
+}

@@ -1,0 +1,195 @@
+use super::*;
+use std::test::*;
+use teco_base::{Code, Reg};
+use teco_model::Kind;
+use teco_model::kind::{
+    Argument, File, Flow, Insertion, Motion, Page, Radix, Search, Storage, Test, Typing,
+};
+
+/// What a row writes for a kind.
+fn label(kind: Kind) -> &'static [u8] {
+    match kind {
+        Kind::Argument(Argument::DropAll) => b"ESC",
+        Kind::Argument(Argument::Digits) => b"digits",
+        Kind::Motion(Motion::Forward) => b"C",
+        Kind::Insertion(Insertion::Text) => b"I",
+        Kind::Insertion(Insertion::Tab) => b"TAB",
+        Kind::Typing(Typing::Message) => b"^A",
+        Kind::Typing(Typing::Number(Radix::Decimal)) => b"=",
+        Kind::Typing(Typing::Number(Radix::Octal)) => b"==",
+        Kind::Typing(Typing::Number(Radix::Hexadecimal)) => b"===",
+        Kind::Storage(Storage::SetNumber) => b"U",
+        Kind::Storage(Storage::SetText) => b"^U",
+        Kind::Search(Search::Find) => b"S",
+        Kind::Search(Search::Replace) => b"FS",
+        Kind::Flow(Flow::Comment) => b"!",
+        Kind::Flow(Flow::Test(Test::Positive)) => b"\">",
+        Kind::Page(Page::Next) => b"P",
+        Kind::Page(Page::Write) => b"PW",
+        Kind::File(File::Read) => b"ER",
+        _ => b"another",
+    }
+}
+
+fn name_of(register: Option<Reg>) -> u8 {
+    match register {
+        Some(register) => register.name(),
+        None => b' ',
+    }
+}
+
+/// A command string and a place; then the kind of the element there, its colons and whether it has `@`, its register, its
+/// texts, and its place and the next one.
+type Row = (
+    &'static [u8],
+    usize,
+    &'static [u8],
+    (u8, bool),
+    u8,
+    (&'static [u8], &'static [u8]),
+    (usize, usize),
+);
+
+const FOUND: [Row; 26] = [
+    (b"Iab\x1b", 0, b"I", (0, false), b' ', (b"ab", b""), (0, 4)),
+    (
+        b"\tab\x1b",
+        0,
+        b"TAB",
+        (0, false),
+        b' ',
+        (b"ab", b""),
+        (0, 4),
+    ),
+    (b" \r\n^MC", 0, b"C", (0, false), b' ', (b"", b""), (5, 6)),
+    (b"^j^J c", 2, b"C", (0, false), b' ', (b"", b""), (5, 6)),
+    (b":@:S/x/", 0, b"S", (2, true), b' ', (b"x", b""), (0, 7)),
+    (b"@FS/a/b/", 0, b"FS", (0, true), b' ', (b"a", b"b"), (0, 8)),
+    (
+        b"fsa\x1b\x1b",
+        0,
+        b"FS",
+        (0, false),
+        b' ',
+        (b"a", b""),
+        (0, 5),
+    ),
+    (
+        b"@^A/a\x1bb/",
+        0,
+        b"^A",
+        (0, true),
+        b' ',
+        (b"a\x1bb", b""),
+        (0, 8),
+    ),
+    (
+        b"\x01hi\x01C",
+        0,
+        b"^A",
+        (0, false),
+        b' ',
+        (b"hi", b""),
+        (0, 4),
+    ),
+    (
+        b"@I\x1bx\x1b",
+        0,
+        b"I",
+        (0, true),
+        b' ',
+        (b"x", b""),
+        (0, 5),
+    ),
+    (b"@I x C", 0, b"I", (0, true), b' ', (b"x", b""), (0, 5)),
+    (b"^[C", 0, b"ESC", (0, false), b' ', (b"", b""), (0, 2)),
+    (b"\x1b", 0, b"ESC", (0, false), b' ', (b"", b""), (0, 1)),
+    (b"====", 0, b"===", (0, false), b' ', (b"", b""), (0, 3)),
+    (b"====", 3, b"=", (0, false), b' ', (b"", b""), (3, 4)),
+    (b":==C", 0, b"==", (1, false), b' ', (b"", b""), (0, 3)),
+    (b"P W", 0, b"P", (0, false), b' ', (b"", b""), (0, 1)),
+    (b"PW", 0, b"PW", (0, false), b' ', (b"", b""), (0, 2)),
+    (b"pw", 0, b"PW", (0, false), b' ', (b"", b""), (0, 2)),
+    (b"12C", 0, b"digits", (0, false), b' ', (b"12", b""), (0, 2)),
+    (
+        b"3 12",
+        1,
+        b"digits",
+        (0, false),
+        b' ',
+        (b"12", b""),
+        (2, 4),
+    ),
+    (b"!tag!C", 0, b"!", (0, false), b' ', (b"tag", b""), (0, 5)),
+    (b"uzC", 0, b"U", (0, false), b'Z', (b"", b""), (0, 2)),
+    (b":@^u7/x/C", 0, b"^U", (1, true), b'7', (b"x", b""), (0, 8)),
+    (b"\">C", 0, b"\">", (0, false), b' ', (b"", b""), (0, 2)),
+    (b"erf\x1bC", 0, b"ER", (0, false), b' ', (b"f", b""), (0, 4)),
+];
+
+fn is_found(row: Row) -> bool {
+    let (text, at, kind, modifiers, register, texts, places) = row;
+    if text.len() < at {
+        return false;
+    }
+    let Ok(Some(found)) = element(text, at) else {
+        return false;
+    };
+    label(found.kind) == kind
+        && (found.colons, found.at) == modifiers
+        && name_of(found.register) == register
+        && (found.text, found.second) == texts
+        && (found.place, found.next) == places
+        && blank_end(text, at) == found.place
+}
+
+#[test]
+fn elements_are_found(rt: HostRuntime) {
+    for (i, row) in FOUND.iter().enumerate() {
+        assert!(rt; is_found(*row), "row {i}");
+    }
+}
+
+/// A command string that begins with no element, and its code, if it has one.
+const REFUSED: [(&[u8], Option<Code>); 25] = [
+    (b"", None),
+    (b" \r\n^M^j", None),
+    (b"::=", Some(Code::Ill)),
+    (b":U?", Some(Code::Ill)),
+    (b"U?", Some(Code::Iqn)),
+    (b"U", Some(Code::Utc)),
+    (b":Iabc", Some(Code::Ill)),
+    (b"Iabc", Some(Code::Utc)),
+    (b"@I", Some(Code::Utc)),
+    (b"@FS/a/b", Some(Code::Utc)),
+    (b"^", Some(Code::Utc)),
+    (b"^?", Some(Code::Ill)),
+    (b"^B", Some(Code::Ill)),
+    (b"\"x", Some(Code::Ill)),
+    (b"\"", Some(Code::Utc)),
+    (b"E", Some(Code::Utc)),
+    (b":E", Some(Code::Utc)),
+    (b":", Some(Code::Utc)),
+    (b"EZ", Some(Code::Ill)),
+    (b"FQ", Some(Code::Ill)),
+    (b": C", Some(Code::Ill)),
+    (b":^MC", Some(Code::Ill)),
+    (b"@@Sa\x1b", Some(Code::Ill)),
+    (b":::Sa\x1b", Some(Code::Ill)),
+    (b"@\ta\x1b", Some(Code::Ill)),
+];
+
+fn is_refused(text: &[u8], code: Option<Code>) -> bool {
+    match element(text, 0) {
+        Ok(None) => code.is_none(),
+        Err(refusal) => code == Some(refusal),
+        Ok(Some(_)) => false,
+    }
+}
+
+#[test]
+fn others_are_refused(rt: HostRuntime) {
+    for (i, (text, code)) in REFUSED.iter().enumerate() {
+        assert!(rt; is_refused(text, *code), "row {i}");
+    }
+}
