@@ -5,7 +5,6 @@ use Rattle.teco_base.specs.declared.TheConstants.{LIMIT}
 use Rattle.teco_base.specs.declared.code.Code.{Code}
 use Rattle.teco_base.specs.declared.code.Code.TheVariants as code
 use Rattle.teco_base.specs.Text.{inserted}
-use Rattle.teco_model.specs.declared.arguments.Taken.{Taken}
 use Rattle.teco_model.specs.declared.kind.Insertion.{Insertion}
 use Rattle.teco_model.specs.declared.kind.Insertion.TheVariants.{Text, Tab}
 use Rattle.teco_model.specs.State.{Kept}
@@ -14,7 +13,7 @@ use Rattle.teco_model.specs.Effect.{Done, silent}
 -- The pointer goes behind the new text, whose length is the last length; a buffer longer than LIMIT is FUL.
 abbrev pub insert : List ℕ → Kept → Result Done Code
 insert new kept =
-  let text = inserted kept.text kept.pointer new in
+    let text = inserted kept.text kept.pointer new in
     if nat_le (length text) LIMIT
     then Ok (silent (record kept { text = text; pointer = kept.pointer + length new; last_length = length new }))
     else Err code.Ful

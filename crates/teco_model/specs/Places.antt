@@ -1,5 +1,5 @@
 -- Places and ranges in the buffer, named by numbers.
-use Rattle.std.specs.Prelude.{ℕ, ℤ, pos, negsuc, List, length, min, max, Option, Some, None, Result, Ok, Err, nat_le, if◌then◌else◌}
+use Rattle.std.specs.Prelude.{ℕ, ℤ, pos, negsuc, List, length, min, max, Option, Some, None, Result, Ok, nat_le, if◌then◌else◌}
 use Rattle.std.specs.Option.{ok_or}
 use Rattle.teco_base.specs.declared.code.Code.{Code}
 use Rattle.teco_base.specs.declared.code.Code.TheVariants as code

@@ -1,5 +1,5 @@
 -- The registers: 36 pairs of a number and a text, by their places, and the push-down list of such pairs.
-use Rattle.std.specs.Prelude.{ℕ, ℤ, pos, List, [], ◌∷◌, ◌++◌, length, replicate, slice_set, Option, Some, None}
+use Rattle.std.specs.Prelude.{ℕ, ℤ, pos, List, [], ◌∷◌, replicate, slice_set, Option, Some, None}
 use Rattle.std.specs.List.{slice_index_or}
 use Rattle.teco_base.specs.Register.{REGISTERS}
 

@@ -1,6 +1,6 @@
 -- A session: the input is cut into command strings, each is run, and what it typed is written, with a code line for a stop
 -- that is not the end.
-use Rattle.std.specs.Prelude.{ℕ, suc, ◌+◌, ◌≡◌, ◌≤◌, List, [], ◌∷◌, ◌++◌, length, take, Option, Some, None, Bool, true, false, ◌&&◌, ◌||◌, ◌==◌, nat_le, if◌then◌else◌}
+use Rattle.std.specs.Prelude.{ℕ, ◌+◌, ◌≡◌, ◌≤◌, List, [], ◌∷◌, ◌++◌, length, take, Option, Some, None, Bool, true, false, ◌&&◌, ◌||◌, ◌==◌, nat_le, if◌then◌else◌}
 use Rattle.std.specs.List.{list_all}
 use Rattle.std.specs.Option.{option_map}
 use Rattle.teco_base.specs.Bytes.{is_blank}
@@ -45,8 +45,8 @@ is_code (Some c) = true
 pub data Executes (limit : ℕ) (old : Kept) : ℕ → List ℕ → Kept → List ℕ → Bool → Type 0 where
   none : Executes limit old 0 [] old [] false
   one_more : (count : ℕ) (input : List ℕ) (kept : Kept) (written : List ℕ) (coded : Bool) (string : List ℕ) (stop : Stop) (new : Kept) →
-    Executes limit old count input kept written coded → IsCommandString string → Stops (start string kept) limit stop new →
-    Executes limit old (count + 1) (input ++ string) (record new { typed = [] }) (written ++ (new.typed ++ code_line (code_of stop))) (coded || is_code (code_of stop))
+      Executes limit old count input kept written coded → IsCommandString string → Stops (start string kept) limit stop new →
+      Executes limit old (count + 1) (input ++ string) (record new { typed = [] }) (written ++ (new.typed ++ code_line (code_of stop))) (coded || is_code (code_of stop))
 
 -- What follows the last command string: a rest of LIMIT bytes without an end is FUL, blanks are nothing, and any other rest
 -- is UTC. It is not executed.
