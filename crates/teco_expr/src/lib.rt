@@ -5,3 +5,6 @@ mod args;
 mod level;
 
 pub use args::{ArgFault, Args};
+
+#[cfg(test)]
+mod tests;

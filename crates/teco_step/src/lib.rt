@@ -12,3 +12,6 @@ mod typing;
 
 pub use editor::Editor;
 pub use stuck::Stuck;
+
+#[cfg(test)]
+mod tests;
