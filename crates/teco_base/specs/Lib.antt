@@ -2,6 +2,7 @@
 pub mod Arithmetic
 pub mod Bytes
 pub mod Code
+pub mod Lines
 pub mod NumberText
 pub mod Register
 pub mod Text

@@ -2,6 +2,7 @@
 pub use Rattle.teco_base.specs.Arithmetic
 pub use Rattle.teco_base.specs.Bytes
 pub use Rattle.teco_base.specs.Code
+pub use Rattle.teco_base.specs.Lines
 pub use Rattle.teco_base.specs.Register
 pub use Rattle.teco_base.specs.Text
 pub mod Checked

@@ -1,7 +1,7 @@
 -- The registers: 36 pairs of a number and a text, by their places, and the push-down list of such pairs.
-use Rattle.std.specs.Prelude.{ℕ, ℤ, pos, List, [], ◌∷◌, replicate, slice_set, Option, Some, None}
-use Rattle.std.specs.List.{slice_index_or}
+use Rattle.std.specs.Prelude.{◌≡◌, ℕ, ℤ, ◌+◌, ◌≤◌, pos, List, [], ◌∷◌, length, replicate, sum_by, All, slice_set, slice_index_or, Option, Some, None}
 use Rattle.teco_base.specs.Register.{REGISTERS}
+use Rattle.teco_base.specs.declared.TheConstants.{LIMIT}
 
 -- what a register holds
 pub record Pair : Type 0 where
@@ -18,8 +18,21 @@ pub record Registers : Type 0 where
   pub pushed : List Pair
 
 -- the registers of a new machine
-unfoldable pub empty_registers : Registers
-empty_registers = record { pairs = replicate REGISTERS empty_pair; pushed = [] }
+unfoldable pub empty_pairs : List Pair
+empty_pairs = replicate REGISTERS empty_pair
+
+abbrev pub empty_registers : Registers
+empty_registers = record { pairs = empty_pairs; pushed = [] }
+
+-- a pair whose text is not too long
+abbrev pub IsWithinLimit : Pair → Type 0
+IsWithinLimit pair = length pair.text ≤ LIMIT
+
+-- What always holds of a machine's registers: there are 36 of them, and no text is too long.
+pub record AreWhole (registers : Registers) : Type 0 where
+  pub count : length registers.pairs ≡ REGISTERS
+  pub within : All IsWithinLimit registers.pairs
+  pub pushed_within : All IsWithinLimit registers.pushed
 
 -- what a register holds
 abbrev pub pair_of : ℕ → Registers → Pair
@@ -31,11 +44,11 @@ with_pair r pair registers = record registers { pairs = slice_set registers.pair
 
 -- the number of a register is set
 abbrev pub with_number : ℕ → ℤ → Registers → Registers
-with_number r n registers = with_pair r (record { number = n; text = (pair_of r registers).text }) registers
+with_number r n registers = with_pair r (record (pair_of r registers) { number = n }) registers
 
 -- the text of a register is set
 abbrev pub with_text : ℕ → List ℕ → Registers → Registers
-with_text r text registers = with_pair r (record { number = (pair_of r registers).number; text = text }) registers
+with_text r text registers = with_pair r (record (pair_of r registers) { text = text }) registers
 
 -- Pushing puts a copy of the pair on the list; popping takes the newest off it, or there is none.
 abbrev pub pushed : ℕ → Registers → Registers
@@ -47,3 +60,10 @@ popped_from r (pair ∷ rest) registers = Some (record (with_pair r pair registe
 
 abbrev pub popped : ℕ → Registers → Option Registers
 popped r registers = popped_from r registers.pushed registers
+
+-- how many characters a pair holds, and how many the registers and the push-down list hold together
+abbrev pub held_in_pair : Pair → ℕ
+held_in_pair pair = length pair.text
+
+abbrev pub held_in_registers : Registers → ℕ
+held_in_registers registers = sum_by held_in_pair registers.pairs + sum_by held_in_pair registers.pushed

@@ -1,0 +1,2 @@
+-- When a call on the registers answers what.
+pub mod Answers

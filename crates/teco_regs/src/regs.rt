@@ -1,0 +1,178 @@
+// The registers.
+ghost use Rattle.std.specs.Prelude.{◌≡◌, ◌≤◌, ◌<◌, ◌*◌, ◌^◌, ◌++◌, length, sum_by, All, OnOk, OnErr, Some, vec_len};
+ghost use Rattle.teco_base.specs.declared.TheConstants.{LIMIT};
+ghost use Rattle.teco_model.specs.Registers.{AreWhole, IsWithinLimit, empty_registers, pair_of, with_number, with_text, pushed, popped, held_in_pair, held_in_registers};
+ghost use Rattle.teco_model.specs.Registers as model;
+ghost use Rattle.teco_regs.specs.Answers.{OkWithin, OkWhereNonEmpty, OkUnlessMemory};
+
+use crate::fault::RegFault;
+use crate::pair::{Pair, overwrite};
+use std::alloc::Global;
+use std::array;
+use std::marker::Model;
+use teco_base::{LIMIT, Reg};
+
+/// How many registers there are.
+const REGISTERS: usize = 36;
+
+/// The 36 registers, each with a number and a text, and the push-down list of such pairs.
+///
+/// No text has more than `LIMIT` characters. A call that is refused leaves all as it is.
+#[derive(Drop)]
+pub struct Regs {
+    pairs: [Pair; REGISTERS],
+    // the newest last
+    pushed: Vec<Pair>,
+}
+
+impl Model for Regs {
+    ghost use Rattle.std.specs.Prelude.{reverse};
+    ghost use Rattle.teco_model.specs.Registers.{Registers, AreWhole};
+
+    ghost Value = { Registers };
+
+    ghost view = { λ r. record { pairs = r.pairs; pushed = reverse r.pushed.items } };
+
+    ghost invariant = { λ r. AreWhole (record { pairs = r.pairs; pushed = reverse r.pushed.items }) };
+}
+
+impl Regs {
+    /// The registers of a new machine: every number 0, and every text empty. They have taken no memory yet; it will come
+    /// from `alloc`.
+    #[tactic(auto, using(crate::proofs::Whole::whole_made))]
+    pub fn new(alloc: Global) -> Regs
+        ensures { result ≡ empty_registers }
+    {
+        Regs {
+            pairs: empty_pairs(alloc),
+            pushed: Vec::new(alloc),
+        }
+    }
+
+    // What the register holds.
+    fn pair(&self, reg: Reg) -> &Pair
+        ensures value { result.now ≡ pair_of reg self.now }
+        ensures within_limit { IsWithinLimit result.now }
+        ensures whole { AreWhole self.now }
+    {
+        &self.pairs[reg.index()]
+    }
+
+    /// The number of the register.
+    pub fn number(&self, reg: Reg) -> i32
+        ensures value { result ≡ (pair_of reg self.now).number }
+        ensures whole { AreWhole self.now }
+    {
+        self.pair(reg).number
+    }
+
+    /// Sets the number of the register.
+    pub fn set_number(&mut self, reg: Reg, n: i32)
+        ensures { self.new ≡ with_number reg n self.old }
+    {
+        let pair = &mut self.pairs[reg.index()];
+        pair.number = n;
+    }
+
+    /// The text of the register.
+    pub fn text(&self, reg: Reg) -> &[u8]
+        ensures value { result.now ≡ (pair_of reg self.now).text }
+        ensures within_limit { length result.now ≤ LIMIT }
+        ensures whole { AreWhole self.now }
+    {
+        &self.pair(reg).text
+    }
+
+    /// Sets the text of the register. Memory is wanted only where it is longer than the one before.
+    pub fn set_text(&mut self, reg: Reg, bytes: &[u8]) -> Result<(), RegFault>
+        ensures answer { OkWithin result (length bytes.now) (length (pair_of reg self.old).text) }
+        ensures set { OnOk result (self.new ≡ with_text reg bytes.now self.old) }
+        ensures err { OnErr result (self.new ≡ self.old) }
+    {
+        if bytes.len() > LIMIT {
+            return Err(RegFault::Full);
+        }
+        let pair = &mut self.pairs[reg.index()];
+        overwrite(&mut pair.text, bytes)?;
+        Ok(())
+    }
+
+    /// Adds to the text of the register at its end.
+    pub fn append_text(&mut self, reg: Reg, bytes: &[u8]) -> Result<(), RegFault>
+        ensures answer { let text = (pair_of reg self.old).text in OkWithin result (length (text ++ bytes.now)) (length text) }
+        ensures appended { OnOk result (self.new ≡ with_text reg ((pair_of reg self.old).text ++ bytes.now) self.old) }
+        ensures err { OnErr result (self.new ≡ self.old) }
+    {
+        let pair = &mut self.pairs[reg.index()];
+        if bytes.len() > LIMIT - pair.text.len() {
+            return Err(RegFault::Full);
+        }
+        pair.text.extend_from_slice(bytes)?;
+        Ok(())
+    }
+
+    /// Moves a text into the register.
+    pub fn put_text(&mut self, reg: Reg, text: Vec<u8>)
+        requires { vec_len text ≤ LIMIT }
+        ensures { self.new ≡ with_text reg text.items self.old }
+    {
+        let pair = &mut self.pairs[reg.index()];
+        pair.text = text;
+    }
+
+    /// Puts a copy of the register's number and text on the push-down list.
+    pub fn push(&mut self, reg: Reg) -> Result<(), RegFault>
+        ensures answer { OkUnlessMemory result }
+        ensures put { OnOk result (self.new ≡ pushed reg self.old) }
+        ensures err { OnErr result (self.new ≡ self.old) }
+    {
+        let copy = self.pair(reg).clone()?;
+        self.pushed.push(copy)?;
+        Ok(())
+    }
+
+    /// Takes the newest number and text off the push-down list, and moves them into the register.
+    pub fn pop(&mut self, reg: Reg) -> Result<(), RegFault>
+        ensures answer { OkWhereNonEmpty result self.old.pushed }
+        ensures taken { OnOk result (popped reg self.old ≡ Some self.new) }
+        ensures err { OnErr result (self.new ≡ self.old) }
+    {
+        let Some(pair) = self.pushed.pop() else {
+            return Err(RegFault::Empty);
+        };
+        self.pairs[reg.index()] = pair;
+        Ok(())
+    }
+
+    /// How many characters the texts of all registers and of the push-down list have.
+    #[tactic(auto, using(crate::proofs::Reversed::reversed))]
+    pub fn held(&self) -> u128
+        ensures value { result ≡ held_in_registers self.now }
+        ensures fits { result < 2 ^ 96 }
+    {
+        held_in(&self.pairs) + held_in(&self.pushed)
+    }
+}
+
+// As many empty pairs as there are registers.
+fn empty_pairs(alloc: Global) -> [Pair; REGISTERS]
+    ensures { result ≡ model.empty_pairs }
+{
+    array::from_fn(|_| Pair::new(alloc))
+}
+
+// How many characters the texts of some pairs have.
+fn held_in(pairs: &[Pair]) -> u128
+    requires { All IsWithinLimit pairs.now }
+    ensures value { result ≡ sum_by held_in_pair pairs.now }
+    ensures within_limit { result ≤ LIMIT * length pairs.now }
+{
+    let mut held = 0;
+    for pair in pairs {
+        held += pair.text.len() as u128;
+    }
+    held
+}
+
+#[cfg(test)]
+mod tests;

@@ -1,0 +1,121 @@
+// Line places.
+ghost use Rattle.std.specs.Prelude.{◌≡◌, ℕ, ◌+◌, ◌-◌, ◌<◌, ◌≤◌, ◌^◌, ◌++◌, length, reverse, take, drop, IfOk};
+ghost use Rattle.teco_base.specs.Lines as lines;
+ghost use Rattle.teco_base.specs.Lines.{line_places_from};
+ghost use Rattle.teco_text.specs.Counted.{Counted};
+
+use crate::store::TextStore;
+use teco_base::bytes::is_line_end;
+
+/// The line place of `n`: for `n` at least 1 the place after the `n`th line end at or after the pointer, or the text's length
+/// where there are fewer; for `n` at most 0 the place after the `1 - n`th line end before the pointer, counted backwards, or 0.
+///
+/// It takes no memory, and time by the characters that it passes.
+pub fn line_place<T: TextStore>(store: &T, n: i64) -> usize
+    ensures value { result ≡ lines.line_place (T.list store.now) (T.pointer store.now) n }
+    ensures within_text { result ≤ length (T.list store.now) }
+{
+    let len = store.len();
+    let dot = store.dot();
+    let (front, back) = store.slices();
+    if n > 0 {
+        let (first, second) = pieces_after(front, back, dot);
+        place_ahead(first, second, dot, n.unsigned_abs()).unwrap_or(len)
+    } else {
+        let (first, second) = pieces_before(front, back, dot);
+        place_back(first, second, n.unsigned_abs() + 1).unwrap_or(0)
+    }
+}
+
+// What stands behind a place of a text in two pieces, again in two pieces.
+fn pieces_after<'a>(front: &'a [u8], back: &'a [u8], at: usize) -> (&'a [u8], &'a [u8])
+    requires { at ≤ length (front.now ++ back.now) }
+    ensures { result.0.now ++ result.1.now ≡ drop at (front.now ++ back.now) }
+{
+    if at <= front.len() {
+        (&front[at..], back)
+    } else {
+        (&back[at - front.len()..], &[])
+    }
+}
+
+// What stands before it.
+fn pieces_before<'a>(front: &'a [u8], back: &'a [u8], at: usize) -> (&'a [u8], &'a [u8])
+    requires { at ≤ length (front.now ++ back.now) }
+    ensures { result.0.now ++ result.1.now ≡ take at (front.now ++ back.now) }
+{
+    if at <= front.len() {
+        (&front[..at], &[])
+    } else {
+        (front, &back[..at - front.len()])
+    }
+}
+
+// The place after the `count`th line end of two pieces, the first of which begins at a place; or how many are missing.
+fn place_ahead(first: &[u8], second: &[u8], at: usize, count: u64) -> Result<usize, u64>
+    requires some { 0 < count }
+    requires fits { at + length (first.now ++ second.now) < 2 ^ 63 }
+    ensures counted { Counted (line_places_from at (first.now ++ second.now)) count result }
+    ensures within { IfOk result (λ place. place ≤ at + length (first.now ++ second.now)) }
+{
+    match nth_place(first, at, count) {
+        Ok(place) => Ok(place),
+        Err(left) => nth_place(second, at + first.len(), left),
+    }
+}
+
+// The place after the `count`th line end from the end of two pieces, which are a whole front of a text.
+fn place_back(first: &[u8], second: &[u8], count: u64) -> Result<usize, u64>
+    requires some { 0 < count }
+    requires fits { length (first.now ++ second.now) < 2 ^ 63 }
+    ensures counted { Counted (reverse (line_places_from 0 (first.now ++ second.now))) count result }
+    ensures within { IfOk result (λ place. place ≤ length (first.now ++ second.now)) }
+{
+    match nth_place_from_end(second, first.len(), count) {
+        Ok(place) => Ok(place),
+        Err(left) => nth_place_from_end(first, 0, left),
+    }
+}
+
+// The place after the `count`th line end of a piece that begins at a place; or how many are missing.
+#[tactic(auto, using(crate::proofs::LinePlaces::counting))]
+fn nth_place(piece: &[u8], at: usize, count: u64) -> Result<usize, u64>
+    requires some { 0 < count }
+    requires fits { at + length piece.now < 2 ^ 63 }
+    ensures counted { Counted (line_places_from at piece.now) count result }
+    ensures within { IfOk result (λ place. place ≤ at + length piece.now) }
+{
+    let mut left = count;
+    for (i, b) in piece.iter().enumerate() {
+        if is_line_end(*b) {
+            left -= 1;
+            if left == 0 {
+                return Ok(at + i + 1);
+            }
+        }
+    }
+    Err(left)
+}
+
+// The same from the piece's end.
+#[tactic(auto, using(crate::proofs::LinePlaces::counting))]
+fn nth_place_from_end(piece: &[u8], at: usize, count: u64) -> Result<usize, u64>
+    requires some { 0 < count }
+    requires fits { at + length piece.now < 2 ^ 63 }
+    ensures counted { Counted (reverse (line_places_from at piece.now)) count result }
+    ensures within { IfOk result (λ place. place ≤ at + length piece.now) }
+{
+    let mut left = count;
+    for i in (0..piece.len()).rev() {
+        if is_line_end(piece[i]) {
+            left -= 1;
+            if left == 0 {
+                return Ok(at + i + 1);
+            }
+        }
+    }
+    Err(left)
+}
+
+#[cfg(test)]
+mod tests;
