@@ -6,6 +6,8 @@ mod fault;
 mod output;
 mod session;
 mod strings;
+#[cfg(test)]
+mod tests;
 mod words;
 
 use crate::fault::SessionFault;

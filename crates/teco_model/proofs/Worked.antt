@@ -9,4 +9,38 @@ use Rattle.teco_model.specs.Rows.{WorkedRows}
 
 pub worked_rows : WorkedRows
 unfolding digits int_wrap blank_len element_from element_at letters effect perform step run
-worked_rows = record { left_to_right = refl; wraps = refl }
+worked_rows = record {
+  left_to_right = refl;
+  wraps = refl;
+  encloses = refl;
+  bitwise = refl;
+  lone_minus = refl;
+  absent_value = refl;
+  divides = refl;
+  unfinished = refl;
+  third_argument = refl;
+  unopened = refl;
+  no_value_before_comma = refl;
+  negative_before_comma = refl;
+  dropped = refl;
+  blanks = refl;
+  comment = refl;
+  two_colons = refl;
+  cut_off = refl;
+  moves_off = refl;
+  tries_to_move = refl;
+  deletes = refl;
+  deletes_too_many = refl;
+  exchanged = refl;
+  inserts_byte = refl;
+  byte_and_text = refl;
+  tab = refl;
+  last_text = refl;
+  types_off = refl;
+  octal_and_hex = refl;
+  no_line_end = refl;
+  message = refl;
+  two_steps = refl;
+  five_steps = refl;
+  six_steps = refl;
+}

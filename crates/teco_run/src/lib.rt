@@ -7,3 +7,6 @@ mod perform;
 
 pub use machine::Machine;
 pub use teco_model::Stop;
+
+#[cfg(test)]
+mod tests;

@@ -1,0 +1,80 @@
+// Command strings on new machines: what they answer, type and leave. A machine answers `Memory` only where memory is refused;
+// such a run is made once more, so that the rows also hold where one allocation fails.
+use super::*;
+use std::process::Abort;
+use std::test::Fail;
+use teco_base::Code;
+use teco_text::VecText;
+
+type Row = (
+    &'static [u8],
+    u64,
+    Result<u64, Code>,
+    &'static [u8],
+    &'static [u8],
+    usize,
+);
+
+// The steps of a run that came to its end, or the code that is typed.
+fn answer(stop: Stop) -> Result<u64, Code> {
+    match stop {
+        Stop::Ended { steps } => Ok(steps),
+        Stop::Error(code) => Err(code),
+        Stop::Limit => Err(Code::Lim),
+        Stop::Memory => Err(Code::Mem),
+    }
+}
+
+fn expect_text(rt: &impl Abort, machine: &Machine<VecText>, text: &[u8]) {
+    let (front, back) = machine.text();
+    assert!(rt; front.len() <= text.len());
+    assert_eq!(rt; front, &text[..front.len()]);
+    assert_eq!(rt; back, &text[front.len()..]);
+}
+
+#[test]
+fn rows_of_commands(rt: HostRuntime) -> Result<(), Fail> {
+    let rows: [Row; 6] = [
+        (
+            b"Iabc\x1bJ1D2+3*4=HT\x1b\x1b",
+            100,
+            Ok(14),
+            b"20\r\nbc",
+            b"bc",
+            0,
+        ),
+        (
+            b"\tab\x1b33I\x1b0,1T(((((((((1)))))))))=\x1b\x1b",
+            100,
+            Ok(29),
+            b"\t1\r\n",
+            b"\tab!",
+            4,
+        ),
+        (
+            b"@^A/a\x1bb/33^T255:===\x1b\x1b",
+            100,
+            Ok(7),
+            b"a\x1bb!FF",
+            b"",
+            0,
+        ),
+        (b"Iab\x1b-3D\x1b\x1b", 100, Err(Code::Dtb), b"", b"ab", 2),
+        (b"1=2=\x1b\x1b", 5, Err(Code::Lim), b"1\r\n2\r\n", b"", 0),
+        (b"1=2=\x1b\x1b", 6, Ok(6), b"1\r\n2\r\n", b"", 0),
+    ];
+    for (command, limit, want, typed, text, dot) in rows {
+        let mut machine = Machine::new(rt.alloc(), VecText::new(rt.alloc()));
+        let mut got = answer(machine.run(command, limit));
+        if got == Err(Code::Mem) {
+            machine = Machine::new(rt.alloc(), VecText::new(rt.alloc()));
+            got = answer(machine.run(command, limit));
+        }
+        assert_eq!(rt; got, want);
+        assert_eq!(rt; machine.take_typed().as_slice(), typed);
+        assert_eq!(rt; machine.take_typed().len(), 0);
+        assert_eq!(rt; machine.dot(), dot);
+        expect_text(&rt, &machine, text);
+    }
+    Ok(())
+}
