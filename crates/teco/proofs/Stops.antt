@@ -1,7 +1,7 @@
 -- What is written in two steps, and sessions that go on.
-use Rattle.std.proofs.Common.{◌≡◌, ℕ, ◌+◌, List, [], ◌++◌, length, take, min, Option, Bool, Result, Ok, Err, sym, subst, ◌∙◌, arith}
+use Rattle.std.proofs.Common.{◌≡◌, ℕ, ◌+◌, List, [], ◌++◌, length, take, Option, Bool, Result, Ok, Err, sym, subst, arith, length-append}
 use Rattle.std.proofs.Math.Seq.{take-append-add}
-use Rattle.std.proofs.lemmas.List.{take_min, take-append-le}
+use Rattle.std.proofs.lemmas.List.{take-append-le}
 use Rattle.std.specs.Io.KnownBytes.{Appends}
 use Rattle.teco_base.specs.declared.code.Code.{Code}
 use Rattle.teco_model.specs.Session.{code_line}
@@ -13,14 +13,14 @@ use Rattle.teco.specs.declared.fault.SessionFault.{SessionFault}
 -- a part of the front is a part of all
 pub WritesPart-front : (sink sunk : Option (List ℕ)) (front rest : List ℕ) → WritesPart sink sunk front → WritesPart sink sunk (front ++ rest)
 WritesPart-front sink sunk front rest p =
-    let n = min p.len (length front) in
-    let same : take n (front ++ rest) ≡ take p.len front = take-append-le n front rest (omega arith) ∙ take_min p.len front in
-    record { len = n; part = subst (Appends sink sunk) (sym same) p.part }
+    let same : take p.len (front ++ rest) ≡ take p.len front = take-append-le p.len front rest (omega (arith, p.short)) in
+    record { len = p.len; short = omega (arith, p.short, length-append front rest); part = subst (Appends sink sunk) (sym same) p.part }
 
 -- a part of the rest, behind all of the front
 pub WritesPart-behind : (sink mid sunk : Option (List ℕ)) (front rest : List ℕ) → Appends sink mid front → WritesPart mid sunk rest → WritesPart sink sunk (front ++ rest)
 WritesPart-behind sink mid sunk front rest first p = record {
   len = length front + p.len;
+  short = omega (arith, p.short, length-append front rest);
   part = subst (Appends sink sunk) (sym (take-append-add front rest p.len)) (Appends-trans sink mid sunk front (take p.len rest) first p.part);
 }
 

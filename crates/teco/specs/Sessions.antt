@@ -12,7 +12,7 @@ use Rattle.teco.specs.declared.session.Done.{Done}
 use Rattle.teco.specs.declared.fault.SessionFault.{SessionFault}
 use Rattle.teco.specs.declared.fault.SessionFault.TheVariants.{Read, Write, Memory}
 
--- What the run of a command string typed is written, and its code line; or with a fault a part of that.
+-- What the run of a command string typed is written, and its code line; or with a fault less than all of that.
 abbrev pub WritesStop : Option (List ℕ) → Option (List ℕ) → List ℕ → Option Code → Result Bool SessionFault → Type 0
 WritesStop sink sunk typed code (Ok coded) = (coded ≡ is_code code) × Appends sink sunk (typed ++ code_line code)
 WritesStop sink sunk typed code (Err fault) = (fault ≡ Write) × WritesPart sink sunk (typed ++ code_line code)
@@ -65,7 +65,8 @@ pub record BrokenOff (limit : ℕ) (source unread : Option (List ℕ)) (old new 
   pub appended : Appends sink sunk written
   pub all_used : fault ≡ Read → (unused ≡ []) ⊎ (count ≡ 4294967296)
 
--- The fault came when a string, or the rest, was written: a part was written of what the session of the bytes so far writes.
+-- The fault came when a string, or the rest, was written: a part was written of what the session of the bytes so far writes,
+-- and less than all.
 pub record CutShort (limit : ℕ) (source unread : Option (List ℕ)) (old new : Kept) (sink sunk : Option (List ℕ)) : Type 0 where
   pub input : List ℕ
   pub unused : List ℕ

@@ -26,7 +26,7 @@ fn write_some<W: Write>(writer: &mut W, bytes: &[u8]) -> Result<usize, SessionFa
     Err(SessionFault::Write)
 }
 
-/// Writes all of the bytes, or with a fault a part of them from the front.
+/// Writes all of the bytes, or with a fault a part of them from the front, and less than all.
 pub fn write_bytes<W: Write>(writer: &mut W, bytes: &[u8]) -> Result<(), SessionFault>
     ensures { Writes (W.contents writer.old) (W.contents writer.new) bytes.now result }
 {

@@ -136,7 +136,7 @@ fn converse<T: TextStore, R: Read, W: Write>(
 ///
 /// A string is run as soon as its end is read. After a code the session goes on with the next string. A rest without an end
 /// is not executed. With a fault of reading or of memory, the strings that came before it are executed and written, and
-/// nothing else is; with one of writing, a part of what they write is written.
+/// nothing else is; with one of writing, a part of what they write is written, and less than all.
 pub fn session<T: TextStore, R: Read, W: Write>(
     alloc: Global,
     machine: &mut Machine<T>,

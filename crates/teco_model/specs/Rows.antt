@@ -1,6 +1,8 @@
 -- Sessions worked by hand, as what the definition computes.
 use Rattle.std.specs.Prelude.{ℕ, ◌≡◌, List, [], ◌∷◌, ◌++◌, codes}
-use Rattle.teco_model.specs.State.{Kept, State, Outcome, End, start, fresh}
+use Rattle.teco_base.specs.declared.code.Code.TheVariants as code
+use Rattle.teco_model.specs.Arguments.{no_arguments}
+use Rattle.teco_model.specs.State.{Kept, State, Outcome, Next, End, Fail, start, fresh}
 use Rattle.teco_model.specs.Run.{run, go_on}
 
 -- a command string on an empty buffer, with its two ESC

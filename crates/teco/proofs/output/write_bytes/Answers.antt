@@ -10,5 +10,6 @@ loop-preserved g c =
     let more = rw rest at c.in_ok-more.ensures.ok in
     record {
       within = omega (arith, bound, length-drop c.loop.written c.args.bytes.now);
+      count = omega arith;
       appended = Appends-part _ _ _ _ _ _ c.loop.invariant.appended more;
     }
