@@ -88,8 +88,96 @@ const TYPED: [Row; 29] = [
     (b"", b"", b"", 0),
 ];
 
+/// Sessions with lines: LF, VT and FF end them.
+const LINES: [Row; 7] = [
+    (
+        b"Iab\ncd\x1bJ2L.=0L.=-L.=\x1b\x1b",
+        b"5\r\n3\r\n0\r\n",
+        b"ab\ncd",
+        0,
+    ),
+    (
+        b"Ia\x0bb\x0cc\x1bJL.=L.=L.=\x1b\x1b",
+        b"2\r\n4\r\n5\r\n",
+        b"a\x0bb\x0cc",
+        5,
+    ),
+    (
+        b"Iab\ncd\nef\x1bJ1L2V\x1b\x1b",
+        b"ab\ncd\nef",
+        b"ab\ncd\nef",
+        3,
+    ),
+    (
+        b"Iab\ncd\nef\x1b4J-V\x1b\x1b",
+        b"d\nefab\nc",
+        b"ab\ncd\nef",
+        4,
+    ),
+    (b"Iab\ncd\nef\x1bJK0TT\x1b\x1b", b"cd\n", b"cd\nef", 0),
+    (b"Iab\ncd\nef\x1b4J-KHT\x1b\x1b", b"d\nef", b"d\nef", 0),
+    (b"Iabcdef\x1b5,3KHT\x1b\x1b", b"abcf", b"abcf", 3),
+];
+
+/// Sessions with registers, with numbers in the text, and with the search mode.
+const REGISTERS: [Row; 15] = [
+    (b"5UAQA+QA=\x1b\x1b", b"10\r\n", b"", 0),
+    (b"%A=5%A=-2%a=\x1b\x1b", b"1\r\n6\r\n4\r\n", b"", 0),
+    (
+        b"Iabc\x1bHXA:QA=1QA=HKGAGA:GA.=\x1b\x1b",
+        b"3\r\n98\r\nabc6\r\n",
+        b"abcabc",
+        6,
+    ),
+    (b"Iab\x1bHXAH:XA:GA\x1b\x1b", b"abab", b"ab", 2),
+    (
+        b"5UA@^UA/xy/[A7UA^UAz\x1b]AQA=:GA\x1b\x1b",
+        b"5\r\nxy",
+        b"",
+        0,
+    ),
+    (b"^UAab\x1b:^UAcd\x1b:GA\x1b\x1b", b"abcd", b"", 0),
+    (b"^UAab\x1b5QA=-1QA=\x1b\x1b", b"-1\r\n-1\r\n", b"", 0),
+    (b"1UA2UB[A[B]A]BQA=QB=\x1b\x1b", b"2\r\n1\r\n", b"", 0),
+    (
+        b"Iab\x1bJ0A=1A=2A=.-1A=\x1b\x1b",
+        b"97\r\n98\r\n-1\r\n-1\r\n",
+        b"ab",
+        0,
+    ),
+    (
+        b"I-42x\x1bJ\\=.=5\\HT\x1b\x1b",
+        b"-42\r\n3\r\n-425x",
+        b"-425x",
+        4,
+    ),
+    (b"I+x\x1bJ\\=.=\x1b\x1b", b"0\r\n0\r\n", b"+x", 0),
+    (
+        b"I4294967295\x1bJ\\=.=\x1b\x1b",
+        b"-1\r\n10\r\n",
+        b"4294967295",
+        10,
+    ),
+    (b"I7\x1bJ3+\\=\x1b\x1b", b"10\r\n", b"7", 1),
+    (b"^X=1^X^X=\x1b\x1b", b"0\r\n1\r\n", b"", 0),
+    (b"-1^X\x1b3+^X=\x1b\x1b", b"2\r\n", b"", 0),
+];
+
+/// Sessions with macros: one executes its text as it was when it was called, and its arguments go in and out.
+const MACROS: [Row; 4] = [
+    (b"@^UA/+1/2MA=\x1b\x1b", b"3\r\n", b"", 0),
+    (b"MA1=\x1b\x1b", b"1\r\n", b"", 0),
+    (
+        b"@^UA/1=MB2=/@^UB/3=/MA\x1b\x1b",
+        b"1\r\n3\r\n2\r\n",
+        b"",
+        0,
+    ),
+    (b"@^UA/@^UA|2=|1=/MAMA\x1b\x1b", b"1\r\n2\r\n", b"", 0),
+];
+
 /// Sessions in which one is.
-const CODED: [Row; 18] = [
+const CODED: [Row; 25] = [
     (b"Iab\x1b5C\x1b\x1b", b"?POP\r\n", b"ab", 2),
     (b"Ihello", b"?UTC\r\n", b"", 0),
     (b"7/2=-7/2=1/0=\x1b\x1b", b"3\r\n-3\r\n?DIV\r\n", b"", 0),
@@ -113,6 +201,13 @@ const CODED: [Row; 18] = [
     (b"Iab\x1b5C1=\x1b\x1b1=\x1b\x1b", b"?POP\r\n1\r\n", b"ab", 2),
     (b"1=\x1b\x1b2=\x1b", b"1\r\n?UTC\r\n", b"", 0),
     (b"1=\x1b\x1b^M", b"1\r\n?UTC\r\n", b"", 0),
+    (b"]A\x1b\x1b1=\x1b\x1b", b"?PES\r\n1\r\n", b"", 0),
+    (b"UA\x1b\x1b", b"?ARG\r\n", b"", 0),
+    (b"1^UAa\x1b\x1b", b"?ARG\r\n", b"", 0),
+    (b"Iab\x1b0,5XA\x1b\x1b", b"?POP\r\n", b"ab", 2),
+    (b"I0\x1bJ1/\\\x1b\x1b", b"?DIV\r\n", b"0", 0),
+    (b"@^UA/Ifoo/MA\x1b\x1b", b"?UTM\r\n", b"", 0),
+    (b"@^UA/5C/MA1=\x1b\x1b2=\x1b\x1b", b"?POP\r\n2\r\n", b"", 0),
 ];
 
 fn expect_row(
@@ -135,16 +230,28 @@ fn expect_row(
 
 #[test]
 fn sessions(rt: HostRuntime) {
-    for (i, row) in TYPED.iter().enumerate() {
-        expect_row(&rt, rt.alloc(), LIMIT, *row, "done", i);
+    let tables: [&[Row]; 4] = [&TYPED, &LINES, &REGISTERS, &MACROS];
+    for table in tables {
+        for (i, row) in table.iter().enumerate() {
+            expect_row(&rt, rt.alloc(), LIMIT, *row, "done", i);
+        }
     }
     for (i, row) in CODED.iter().enumerate() {
         expect_row(&rt, rt.alloc(), LIMIT, *row, "coded", i);
     }
 }
 
-/// Sessions with few steps for each string: ESC is a step too.
-const LIMITED: [(u64, &'static str, Row); 5] = [
+/// Sessions with few steps for each string: ESC is a step too, and so is the return of a macro.
+const LIMITED: [(u64, &'static str, Row); 10] = [
+    (2, "coded", (b"@^UA//MA\x1b\x1b", b"?LIM\r\n", b"", 0)),
+    (4, "coded", (b"@^UA//MA\x1b\x1b", b"?LIM\r\n", b"", 0)),
+    (5, "done", (b"@^UA//MA\x1b\x1b", b"", b"", 0)),
+    (5, "coded", (b"@^UA/MA/MA\x1b\x1b", b"?LIM\r\n", b"", 0)),
+    (
+        10_000,
+        "coded",
+        (b"@^UA/MA/MA\x1b\x1b", b"?LIM\r\n", b"", 0),
+    ),
     (0, "coded", (b"1=2=\x1b\x1b", b"?LIM\r\n", b"", 0)),
     (2, "coded", (b"1=2=\x1b\x1b", b"1\r\n?LIM\r\n", b"", 0)),
     (5, "coded", (b"1=2=\x1b\x1b", b"1\r\n2\r\n?LIM\r\n", b"", 0)),

@@ -21,6 +21,15 @@ impl Model for Reg {
     ghost inverse = { λ n. record { index = n } };
 }
 
+impl Default for Reg {
+    ghost is_default = { λ r. r ≡ 0 };
+
+    /// The first register, `A`.
+    fn default() -> Reg {
+        Reg { index: 0 }
+    }
+}
+
 impl Reg {
     /// The register of this name, a letter in either case or a digit; `None` for another byte.
     pub fn of(name: u8) -> Option<Reg>

@@ -101,6 +101,13 @@ impl Args {
         Ok(())
     }
 
+    /// Whether a value stands in the innermost level, with no operator behind it.
+    pub fn stands(&self) -> bool
+        ensures { result ≡ model.stands self.now.level }
+    {
+        self.level.value.is_some() && self.level.operator.is_none()
+    }
+
     /// Takes the arguments of the innermost level.
     pub fn take(&mut self) -> Result<Taken, ArgFault>
         ensures { Takes self.old self.new result }

@@ -73,8 +73,12 @@ fn rows_of_arguments(rt: HostRuntime) -> Result<(), Fail> {
         arguments.drop_all();
         assert_eq!(rt; taken(&rt, &mut arguments, text.as_bytes()), want, "{text}");
     }
+    arguments.drop_all();
+    assert!(rt; !arguments.stands());
     assert!(rt; arguments.digit_run(b"4294967298").is_ok());
-    assert!(rt; arguments.op(Operator::Plus).is_ok() && arguments.value(3).is_ok());
+    assert!(rt; arguments.stands());
+    assert!(rt; arguments.op(Operator::Plus).is_ok() && !arguments.stands());
+    assert!(rt; arguments.value(3).is_ok());
     assert_eq!(rt; taken(&rt, &mut arguments, b""), Ok((None, Some(5))));
     Ok(())
 }

@@ -2,13 +2,14 @@ use Rattle.std.proofs.Common.{refl}
 use Rattle.std.specs.Fmt.{digits}
 use Rattle.std.specs.Int.{int_wrap}
 use Rattle.teco_model.specs.Element.{blank_len, element_from, element_at}
+use Rattle.teco_model.specs.Registers.{empty_pairs}
 use Rattle.teco_model.specs.Letters.{letters}
 use Rattle.teco_model.specs.Step.{effect, perform, step}
 use Rattle.teco_model.specs.Run.{run}
 use Rattle.teco_model.specs.Rows.{WorkedRows}
 
 pub worked_rows : WorkedRows
-unfolding digits int_wrap blank_len element_from element_at letters effect perform step run
+unfolding digits int_wrap empty_pairs blank_len element_from element_at letters effect perform step run
 worked_rows = record {
   left_to_right = refl;
   wraps = refl;
@@ -40,6 +41,19 @@ worked_rows = record {
   octal_and_hex = refl;
   no_line_end = refl;
   message = refl;
+  line_places = refl;
+  views = refl;
+  deletes_range = refl;
+  adds = refl;
+  copies = refl;
+  pushes = refl;
+  appends = refl;
+  empty_list = refl;
+  converts = refl;
+  mode = refl;
+  calls = refl;
+  returns = refl;
+  cut_off_in_macro = refl;
   two_steps = refl;
   five_steps = refl;
   six_steps = refl;

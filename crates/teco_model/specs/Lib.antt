@@ -17,6 +17,9 @@ pub mod Motion
 pub mod Deletion
 pub mod Insertion
 pub mod Typing
+pub mod Storage
+pub mod Conversion
+pub mod Mode
 pub mod Step
 pub mod Run
 pub mod Rows

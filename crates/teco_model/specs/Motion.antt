@@ -1,7 +1,8 @@
--- C, R and J move the pointer.
+-- C, R, J and L move the pointer.
 use Rattle.std.specs.Prelude.{ℕ, zero, suc, ℤ, pos, negsuc, ◌+ℤ◌, ◌-ℤ◌, Option, Some, None, Result, Ok, Err, unwrap_or}
 use Rattle.teco_base.specs.declared.code.Code.{Code}
 use Rattle.teco_base.specs.declared.code.Code.TheVariants as code
+use Rattle.teco_base.specs.Lines.{line_place}
 use Rattle.teco_model.specs.declared.arguments.Taken.{Taken}
 use Rattle.teco_model.specs.declared.kind.Motion.{Motion}
 use Rattle.teco_model.specs.declared.kind.Motion.TheVariants.{Forward, Backward, To, Lines}
@@ -23,6 +24,7 @@ moved zero (Some place) kept = Ok (silent (record kept { pointer = place }))
 moved (suc n) None kept = Ok (answering (pos 0) kept)
 moved (suc n) (Some place) kept = Ok (answering (negsuc 0) (record kept { pointer = place }))
 
+-- nL goes to the line place of n.
 abbrev pub motion : Motion → ℕ → Taken → Kept → Result Done Code
-motion Lines colons taken kept = Err code.Ill
+motion Lines colons taken kept = Ok (silent (record kept { pointer = line_place kept.text kept.pointer (unwrap_or taken.value (pos 1)) }))
 motion m colons taken kept = moved colons (place_in kept.text (target m kept.pointer taken.value)) kept

@@ -1,5 +1,5 @@
 -- The registers: 36 pairs of a number and a text, by their places, and the push-down list of such pairs.
-use Rattle.std.specs.Prelude.{◌≡◌, ℕ, ℤ, ◌+◌, ◌≤◌, pos, List, [], ◌∷◌, length, replicate, sum_by, All, slice_set, slice_index_or, Option, Some, None}
+use Rattle.std.specs.Prelude.{◌≡◌, ℕ, ℤ, ◌+◌, ◌≤◌, pos, List, [], ◌∷◌, length, map, zip, replicate, sum_by, All, slice_set, slice_index_or, Option, Some, None}
 use Rattle.teco_base.specs.Register.{REGISTERS}
 use Rattle.teco_base.specs.declared.TheConstants.{LIMIT}
 
@@ -49,6 +49,14 @@ with_number r n registers = with_pair r (record (pair_of r registers) { number =
 -- the text of a register is set
 abbrev pub with_text : ℕ → List ℕ → Registers → Registers
 with_text r text registers = with_pair r (record (pair_of r registers) { text = text }) registers
+
+-- Some registers get a text of their own, each in its place; the others keep theirs.
+abbrev pub with_own_text : Option (List ℕ) → Pair → Pair
+with_own_text None pair = pair
+with_own_text (Some text) pair = record pair { text = text }
+
+abbrev pub with_texts : List (Option (List ℕ)) → Registers → Registers
+with_texts texts registers = record registers { pairs = map (λ own. with_own_text own.0 own.1) (zip texts registers.pairs) }
 
 -- Pushing puts a copy of the pair on the list; popping takes the newest off it, or there is none.
 abbrev pub pushed : ℕ → Registers → Registers

@@ -1,7 +1,8 @@
 -- Sessions worked by hand, as what the definition computes.
-use Rattle.std.specs.Prelude.{ℕ, ◌≡◌, List, [], ◌∷◌, ◌++◌, codes}
+use Rattle.std.specs.Prelude.{ℕ, ℤ, pos, ◌≡◌, List, [], ◌∷◌, ◌++◌, codes}
 use Rattle.teco_base.specs.declared.code.Code.TheVariants as code
 use Rattle.teco_model.specs.Arguments.{no_arguments}
+use Rattle.teco_model.specs.Registers.{with_number, with_text}
 use Rattle.teco_model.specs.State.{Kept, State, Outcome, Next, End, Fail, start, fresh}
 use Rattle.teco_model.specs.Run.{run, go_on}
 
@@ -18,11 +19,24 @@ abbrev pub line : List ℕ → List ℕ
 line text = text ++ 13 ∷ 10 ∷ []
 
 abbrev pub kept_as : List ℕ → ℕ → ℕ → List ℕ → Kept
-kept_as text pointer last_length typed = record { text = text; pointer = pointer; last_length = last_length; typed = typed }
+kept_as text pointer last_length typed = record (fresh text pointer) { last_length = last_length; typed = typed }
 
 -- two commands with an ESC between them
 abbrev pub then : List ℕ → List ℕ → List ℕ
 then first second = first ++ 27 ∷ second
+
+abbrev pub two_lines : List ℕ
+two_lines = codes "ab" ++ 10 ∷ codes "cd"
+
+abbrev pub three_lines : List ℕ
+three_lines = two_lines ++ 10 ∷ codes "ef"
+
+-- what register A holds, the first of the registers
+abbrev pub text_of_A : List ℕ → Kept → Kept
+text_of_A text kept = record kept { registers = with_text 0 text kept.registers }
+
+abbrev pub number_of_A : ℤ → Kept → Kept
+number_of_A n kept = record kept { registers = with_number 0 n kept.registers }
 
 -- each row's outcome
 pub record WorkedRows : Type 0 where
@@ -62,7 +76,25 @@ pub record WorkedRows : Type 0 where
   pub octal_and_hex : after 7 (codes "255==-1===") ≡ End (kept_as [] 0 0 (line (codes "377") ++ line (codes "FFFFFFFF")))
   pub no_line_end : after 4 (codes "255:=") ≡ End (kept_as [] 0 0 (codes "255"))
   pub message : after 5 (then (codes "@^A/a") (codes "b/33^T")) ≡ End (kept_as [] 0 0 (then (codes "a") (codes "b!")))
+  -- lines
+  pub line_places : after 16 (then (codes "Iab" ++ 10 ∷ codes "cd") (codes "J2L.=0L.=-L.=")) ≡ End (kept_as two_lines 0 5 (line (codes "5") ++ line (codes "3") ++ line (codes "0")))
+  pub views : after 8 (then (codes "I" ++ three_lines) (codes "J1L2V")) ≡ End (kept_as three_lines 3 8 three_lines)
+  pub deletes_range : after 9 (then (codes "Iabcdef") (codes "5,3KHT")) ≡ End (kept_as (codes "abcf") 3 6 (codes "abcf"))
+  -- registers
+  pub adds : after 8 (codes "5UAQA+QA=") ≡ End (number_of_A (pos 5) (kept_as [] 0 0 (line (codes "10"))))
+  pub copies : after 17 (then (codes "Iabc") (codes "HXA:QA=1QA=HKGAGA:GA.=")) ≡ End (text_of_A (codes "abc") (kept_as (codes "abcabc") 6 3 (line (codes "3") ++ line (codes "98") ++ codes "abc" ++ line (codes "6"))))
+  pub pushes : after 13 (then (codes "5UA@^UA/xy/[A7UA^UAz") (codes "]AQA=:GA")) ≡ End (number_of_A (pos 5) (text_of_A (codes "xy") (kept_as [] 0 0 (line (codes "5") ++ codes "xy"))))
+  pub appends : after 5 (then (then (codes "^UAab") (codes ":^UAcd")) (codes ":GA")) ≡ End (text_of_A (codes "abcd") (kept_as [] 0 0 (codes "abcd")))
+  pub empty_list : after 0 (codes "]A") ≡ Fail code.Pes (kept_as [] 0 0 [])
+  -- numbers in the text
+  pub converts : after 12 (then (codes "I-42x") (codes "J\\=.=5\\HT")) ≡ End (kept_as (codes "-425x") 4 1 (line (codes "-42") ++ line (codes "3") ++ codes "-425x"))
+  -- the search mode
+  pub mode : after 6 (codes "1^X^X=") ≡ End (record (kept_as [] 0 0 (line (codes "1"))) { mode = pos 1 })
+  -- macros: arguments pass the call, an empty one takes the step back, and what its end cuts off is UTM
+  pub calls : after 9 (codes "@^UA/+1/2MA=") ≡ End (text_of_A (codes "+1") (kept_as [] 0 0 (line (codes "3"))))
+  pub returns : after 5 (codes "@^UA//MA") ≡ End (text_of_A [] (kept_as [] 0 0 []))
+  pub cut_off_in_macro : after 2 (codes "@^UA/Ifoo/MA") ≡ Fail code.Utm (text_of_A (codes "Ifoo") (kept_as [] 0 0 []))
   -- after two steps and after five the end is not reached, and after six it is
-  pub two_steps : run 2 (begun (codes "1=2=")) ≡ Next (record { kept = kept_as [] 0 0 (line (codes "1")); arguments = no_arguments; frame = record { text = then (codes "1=2=") (27 ∷ []); place = 2 } })
-  pub five_steps : after 5 (codes "1=2=") ≡ Next (record { kept = kept_as [] 0 0 (line (codes "1") ++ line (codes "2")); arguments = no_arguments; frame = record { text = then (codes "1=2=") (27 ∷ []); place = 6 } })
+  pub two_steps : run 2 (begun (codes "1=2=")) ≡ Next (record { kept = kept_as [] 0 0 (line (codes "1")); arguments = no_arguments; frame = record { text = then (codes "1=2=") (27 ∷ []); place = 2 }; callers = [] })
+  pub five_steps : after 5 (codes "1=2=") ≡ Next (record { kept = kept_as [] 0 0 (line (codes "1") ++ line (codes "2")); arguments = no_arguments; frame = record { text = then (codes "1=2=") (27 ∷ []); place = 6 }; callers = [] })
   pub six_steps : after 6 (codes "1=2=") ≡ End (kept_as [] 0 0 (line (codes "1") ++ line (codes "2")))

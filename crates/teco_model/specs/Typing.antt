@@ -1,7 +1,6 @@
 -- What is typed.
-use Rattle.std.specs.Prelude.{ℕ, ℤ, zero, suc, List, [], ◌∷◌, ◌++◌, Option, Some, Result, Ok, Err}
+use Rattle.std.specs.Prelude.{ℕ, ℤ, pos, ◌-ℤ◌, unwrap_or, zero, suc, List, [], ◌∷◌, ◌++◌, Option, Result, Ok}
 use Rattle.teco_base.specs.declared.code.Code.{Code}
-use Rattle.teco_base.specs.declared.code.Code.TheVariants as code
 use Rattle.teco_base.specs.NumberText.{decimal, octal, hex}
 use Rattle.teco_base.specs.Text.{range}
 use Rattle.teco_model.specs.declared.arguments.Taken.{Taken}
@@ -13,7 +12,7 @@ use Rattle.teco_model.specs.Checked.{◌>>=◌}
 use Rattle.teco_model.specs.State.{Kept}
 use Rattle.teco_model.specs.Effect.{Done, silent, needed}
 use Rattle.teco_model.specs.Insertion.{byte_of}
-use Rattle.teco_model.specs.Places.{range_of}
+use Rattle.teco_model.specs.Places.{Range, line_range, part_of}
 
 -- more bytes are typed
 abbrev pub type_bytes : List ℕ → Kept → Done
@@ -30,17 +29,25 @@ abbrev pub line_end : ℕ → List ℕ
 line_end zero = 13 ∷ 10 ∷ []
 line_end (suc colons) = []
 
--- m,nT types the range
+-- the characters of a part of the buffer
+abbrev pub characters : Range → Kept → List ℕ
+characters part kept = range kept.text part.begin part.end
+
+-- nT types n lines, m,nT the range
 abbrev pub type_part : Option ℤ → Option ℤ → Kept → Result Done Code
-type_part (Some m) (Some n) kept = do
-  part ← range_of kept.text m n
-  Ok (type_bytes (range kept.text part.begin part.end) kept)
-type_part first value kept = Err code.Ill
+type_part first value kept = do
+  part ← part_of kept.text kept.pointer first value
+  Ok (type_bytes (characters part kept) kept)
+
+-- nV types the lines of 1 - n, a whole number, and then those of n
+abbrev pub view : ℤ → Kept → Done
+view n kept =
+    type_bytes (characters (line_range kept.text kept.pointer (pos 1 -ℤ n)) kept ++ characters (line_range kept.text kept.pointer n) kept) kept
 
 -- n= types the number, ^T the byte n, and ^A its text
 abbrev pub typing : Typing → ℕ → List ℕ → Taken → Kept → Result Done Code
 typing Part colons text taken kept = type_part taken.first taken.value kept
-typing View colons text taken kept = Err code.Ill
+typing View colons text taken kept = Ok (view (unwrap_or taken.value (pos 1)) kept)
 typing Message colons text taken kept = Ok (type_bytes text kept)
 typing Byte colons text taken kept = do
   n ← needed taken.value

@@ -1,3 +1,4 @@
 pub mod Made
+pub mod OwnTexts
 pub mod Reversed
 pub mod Whole

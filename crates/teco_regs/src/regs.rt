@@ -1,19 +1,20 @@
 // The registers.
-ghost use Rattle.std.specs.Prelude.{◌≡◌, ◌≤◌, ◌<◌, ◌*◌, ◌^◌, ◌++◌, length, sum_by, All, OnOk, OnErr, Some, vec_len};
+ghost use Rattle.std.specs.Prelude.{◌≡◌, ◌≤◌, ◌<◌, ◌*◌, ◌^◌, ◌++◌, length, map, zip, sum_by, All, OnOk, OnErr, IfOk, Some, vec_len};
 ghost use Rattle.teco_base.specs.declared.TheConstants.{LIMIT};
-ghost use Rattle.teco_model.specs.Registers.{AreWhole, IsWithinLimit, empty_registers, pair_of, with_number, with_text, pushed, popped, held_in_pair, held_in_registers};
+ghost use Rattle.teco_model.specs.Registers.{AreWhole, IsWithinLimit, empty_registers, pair_of, with_number, with_text, with_own_text, with_texts, pushed, popped, held_in_pair, held_in_registers};
 ghost use Rattle.teco_model.specs.Registers as model;
 ghost use Rattle.teco_regs.specs.Answers.{OkWithin, OkWhereNonEmpty, OkUnlessMemory};
+ghost use Rattle.teco_regs.specs.Texts.{IsTextWithinLimit, handed, owned};
 
 use crate::fault::RegFault;
 use crate::pair::{Pair, overwrite};
-use std::alloc::Global;
+use std::alloc::{AllocError, Global};
 use std::array;
 use std::marker::Model;
 use teco_base::{LIMIT, Reg};
 
 /// How many registers there are.
-const REGISTERS: usize = 36;
+pub const REGISTERS: usize = 36;
 
 /// The 36 registers, each with a number and a text, and the push-down list of such pairs.
 ///
@@ -120,6 +121,19 @@ impl Regs {
         pair.text = text;
     }
 
+    /// Sets the texts that are handed in, each in its register's place, `A` to `Z` and then `0` to `9`; the others, the
+    /// numbers and the push-down list stay. All of them are set, or none.
+    pub fn load(&mut self, texts: &[Option<&[u8]>; REGISTERS]) -> Result<(), AllocError>
+        requires { All IsTextWithinLimit texts.now }
+        ensures loaded { OnOk result (self.new ≡ with_texts (handed texts.now) self.old) }
+        ensures err { OnErr result (self.new ≡ self.old) }
+    {
+        // every growth comes before the first change
+        let copies = copies_of(*self.pushed.allocator(), texts)?;
+        put_texts(&mut self.pairs, copies);
+        Ok(())
+    }
+
     /// Puts a copy of the register's number and text on the push-down list.
     pub fn push(&mut self, reg: Reg) -> Result<(), RegFault>
         ensures answer { OkUnlessMemory result }
@@ -159,6 +173,34 @@ fn empty_pairs(alloc: Global) -> [Pair; REGISTERS]
     ensures { result ≡ model.empty_pairs }
 {
     array::from_fn(|_| Pair::new(alloc))
+}
+
+// A copy of each text that is handed in.
+fn copies_of(alloc: Global, texts: &[Option<&[u8]>]) -> Result<Vec<Option<Vec<u8>>>, AllocError>
+    ensures { IfOk result (λ copies. owned copies.items ≡ handed texts.now) }
+{
+    let mut copies = Vec::with_capacity(alloc, texts.len())?;
+    for text in texts {
+        let copy = match text {
+            Some(text) => Some(Vec::from_slice(alloc, text)?),
+            None => None,
+        };
+        copies.push(copy)?;
+    }
+    Ok(copies)
+}
+
+// Moves texts into pairs, each in its place. It takes no memory.
+fn put_texts(pairs: &mut [Pair], texts: Vec<Option<Vec<u8>>>)
+    requires { vec_len texts ≡ length pairs.old }
+    ensures { pairs.new ≡ map (λ own. with_own_text own.0 own.1) (zip (owned texts.items) pairs.old) }
+{
+    for (i, text) in texts.into_iter().enumerate() {
+        if let Some(own) = text {
+            let pair = &mut pairs[i];
+            pair.text = own;
+        }
+    }
 }
 
 // How many characters the texts of some pairs have.

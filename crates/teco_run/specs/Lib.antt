@@ -3,5 +3,8 @@ pub use Rattle.teco_text.specs.Text
 pub use Rattle.teco_model.specs.State
 pub use Rattle.teco_model.specs.Step
 pub use Rattle.teco_model.specs.Run
+pub use Rattle.teco_model.specs.Registers
+pub use Rattle.teco_regs.specs.Texts
 pub mod Performs
+pub mod Frames
 pub mod Steps

@@ -26,8 +26,8 @@ pub fn argue(argument: Argument, text: &[u8], arguments: &mut Args) -> Result<()
     Ok(())
 }
 
-// Gives a value.
-fn give(arguments: &mut Args, value: i32) -> Result<(), Stuck>
+/// Gives a value.
+pub fn give(arguments: &mut Args, value: i32) -> Result<(), Stuck>
     ensures { Argues arguments.new (given.at_level arguments.old (given.give value arguments.old.level)) result }
 {
     arguments.value(value)?;
@@ -44,8 +44,8 @@ fn give_both(arguments: &mut Args, first: i32, second: i32) -> Result<(), Stuck>
     Ok(())
 }
 
-// A place or a length as a value.
-fn number(n: usize) -> i32
+/// A place or a length as a value.
+pub fn number(n: usize) -> i32
     requires { n ≤ LIMIT }
     ensures { result ≡ pos n }
 {

@@ -2,6 +2,7 @@
 #![tactic(auto)]
 
 mod arguments;
+mod frames;
 mod machine;
 mod perform;
 

@@ -1,9 +1,13 @@
 // Command strings on new machines: what they answer, type and leave. A machine answers `Memory` only where memory is refused;
 // such a run is made once more, so that the rows also hold where one allocation fails.
+ghost use Rattle.std.specs.Prelude.{IsTrue};
+ghost use Rattle.teco_regs.specs.Texts.{IsTextWithinLimit};
+
 use super::*;
+use std::alloc::AllocError;
 use std::process::Abort;
 use std::test::Fail;
-use teco_base::Code;
+use teco_base::{Code, LIMIT, Reg};
 use teco_text::VecText;
 
 type Row = (
@@ -34,7 +38,7 @@ fn expect_text(rt: &impl Abort, machine: &Machine<VecText>, text: &[u8]) {
 
 #[test]
 fn rows_of_commands(rt: HostRuntime) -> Result<(), Fail> {
-    let rows: [Row; 6] = [
+    let rows: [Row; 8] = [
         (
             b"Iabc\x1bJ1D2+3*4=HT\x1b\x1b",
             100,
@@ -60,6 +64,8 @@ fn rows_of_commands(rt: HostRuntime) -> Result<(), Fail> {
             0,
         ),
         (b"Iab\x1b-3D\x1b\x1b", 100, Err(Code::Dtb), b"", b"ab", 2),
+        (b"@^UA/+1/2MA=Q0-1\x1b\x1b", 100, Ok(12), b"3\r\n", b"", 0),
+        (b"@^UA/MA/MA\x1b\x1b", 50, Err(Code::Lim), b"", b"", 0),
         (b"1=2=\x1b\x1b", 5, Err(Code::Lim), b"1\r\n2\r\n", b"", 0),
         (b"1=2=\x1b\x1b", 6, Ok(6), b"1\r\n2\r\n", b"", 0),
     ];
@@ -77,4 +83,52 @@ fn rows_of_commands(rt: HostRuntime) -> Result<(), Fail> {
         expect_text(&rt, &machine, text);
     }
     Ok(())
+}
+
+// The register of a name, or else the first.
+fn register(name: u8) -> Reg {
+    Reg::of(name).unwrap_or_default()
+}
+
+fn is_short(text: &Option<&[u8]>) -> bool
+    ensures { IsTrue result → IsTextWithinLimit text.now }
+{
+    match text {
+        Some(text) => text.len() <= LIMIT,
+        None => true,
+    }
+}
+
+fn load(machine: &mut Machine<VecText>, texts: &[Option<&[u8]>; 36]) -> Result<(), AllocError> {
+    if texts.iter().all(is_short) {
+        machine.load(texts)?;
+    }
+    Ok(())
+}
+
+#[test]
+fn registers_are_shown_and_loaded(rt: HostRuntime) {
+    let mut machine = Machine::new(rt.alloc(), VecText::new(rt.alloc()));
+    let command = b"Iab\x1b5U9^UBcde\x1b[B\x1b\x1b";
+    if let Stop::Memory = machine.run(command, 100) {
+        machine = Machine::new(rt.alloc(), VecText::new(rt.alloc()));
+        machine.run(command, 100);
+    }
+    assert_eq!(rt; machine.regs().number(register(b'9')), 5);
+    assert_eq!(rt; machine.regs().text(register(b'B')), b"cde".as_slice());
+    assert_eq!(rt; machine.held(), 8);
+    let mut texts: [Option<&[u8]>; 36] = [None; 36];
+    texts[0] = Some(b"%9=");
+    texts[35] = Some(b"ninth");
+    if load(&mut machine, &texts).is_err() {
+        assert_eq!(rt; machine.held(), 8);
+        assert!(rt; load(&mut machine, &texts).is_ok());
+    }
+    assert_eq!(rt; machine.held(), 16);
+    assert_eq!(rt; machine.regs().text(register(b'B')), b"cde".as_slice());
+    assert_eq!(rt; machine.regs().text(register(b'9')), b"ninth".as_slice());
+    if let Stop::Memory = machine.run(b"MA", 100) {
+        machine.run(b"MA", 100);
+    }
+    assert_eq!(rt; machine.take_typed().as_slice(), b"6\r\n".as_slice());
 }

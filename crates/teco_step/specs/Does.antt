@@ -12,3 +12,9 @@ abbrev pub Does : Kept → Kept → Result Done Code → Result (Option ℤ) Stu
 Does old new defined (Ok answer) = defined ≡ Ok (record { kept = new; answer = answer })
 Does old new defined (Err (stuck.Code c)) = (defined ≡ Err c) × (new ≡ old)
 Does old new defined (Err stuck.Memory) = IsOk defined × (new ≡ old)
+
+-- the same of a command that answers nothing
+abbrev pub Keeps : Kept → Kept → Result Kept Code → Result (Unit {0}) Stuck → Type 0
+Keeps old new defined (Ok done) = defined ≡ Ok new
+Keeps old new defined (Err (stuck.Code c)) = (defined ≡ Err c) × (new ≡ old)
+Keeps old new defined (Err stuck.Memory) = IsOk defined × (new ≡ old)

@@ -30,24 +30,24 @@ impl<T: TextStore> Editor<T> {
         }
     }
 
-    // Deletes a range, and puts the pointer where it began.
-    fn delete_range(&mut self, m: i32, n: i32) -> Result<Option<i32>, Stuck>
-        ensures { Does self.old self.new (model.delete_range m n self.old) result }
+    // Deletes lines or a range, and puts the pointer where they began.
+    fn delete_part(&mut self, arguments: Taken) -> Result<Option<i32>, Stuck>
+        ensures { Does self.old self.new (model.delete_part arguments.first arguments.value self.old) result }
     {
-        let (begin, end) = self.range(m, n)?;
+        let (begin, end) = self.part(arguments)?;
         self.store.delete(begin, end)?;
         self.store.set_dot(begin)?;
         Ok(None)
     }
 
-    /// `D` deletes characters, or a range.
+    /// `D` deletes characters, `K` lines, and both a range.
     pub fn deletion(&mut self, unit: Unit, arguments: Taken) -> Result<Option<i32>, Stuck>
-        ensures { Does self.old self.new (model.deletion unit arguments self.old) result }
+        ensures { Does self.old self.new (model.deletion unit arguments.first arguments.value self.old) result }
     {
         match (unit, arguments.first, arguments.value) {
-            (Unit::Characters, Some(m), Some(n)) => self.delete_range(m, n),
-            (Unit::Characters, _, value) => self.delete_characters(value.unwrap_or(1)),
-            (Unit::Lines, _, _) => Err(Stuck::Code(Code::Ill)),
+            (Unit::Characters, None, value) => self.delete_characters(value.unwrap_or(1)),
+            (Unit::Characters, Some(_), None) => self.delete_characters(1),
+            (Unit::Characters, Some(_), Some(_)) | (Unit::Lines, ..) => self.delete_part(arguments),
         }
     }
 }

@@ -1,20 +1,26 @@
-ghost use Rattle.std.specs.Prelude.{◌≡◌, ◌≤◌, ◌++◌, [], length};
+ghost use Rattle.std.specs.Prelude.{◌≡◌, ◌≤◌, ◌++◌, [], length, All, OnOk, OnErr};
 ghost use Rattle.teco_base.specs.declared.TheConstants.{LIMIT};
-ghost use Rattle.teco_model.specs.State.{fresh};
+ghost use Rattle.teco_model.specs.Registers.{with_texts};
+ghost use Rattle.teco_regs.specs.Texts.{handed, IsTextWithinLimit};
+ghost use Rattle.teco_model.specs.Mode.{search_mode};
+ghost use Rattle.teco_model.specs.State.{fresh, held};
 
-use std::alloc::Global;
+use std::alloc::{AllocError, Global};
 use std::marker::Model;
 use std::mem;
+use teco_regs::{REGISTERS, Regs};
 use teco_text::TextStore;
 
-/// What stays between two runs: the buffer with its pointer, the length of the last text found or inserted, and the bytes
-/// that are typed.
+/// What stays between two runs: the buffer with its pointer, the registers, the search mode, the length of the last text found
+/// or inserted, and the bytes that are typed.
 #[derive(Drop)]
 pub struct Editor<T: TextStore> {
     pub(crate) store: T,
+    pub(crate) regs: Regs,
+    pub(crate) mode: i32,
     pub(crate) last_length: usize,
     pub(crate) typed: Vec<u8>,
-    alloc: Global,
+    pub(crate) alloc: Global,
 }
 
 impl<T: TextStore> Model for Editor<T> {
@@ -27,6 +33,8 @@ impl<T: TextStore> Model for Editor<T> {
     ghost view = { λ e. record {
       text = T.list e.store;
       pointer = T.pointer e.store;
+      registers = e.regs;
+      mode = e.mode;
       last_length = e.last_length;
       typed = e.typed.items;
     } };
@@ -41,6 +49,8 @@ impl<T: TextStore> Editor<T> {
     {
         Editor {
             store,
+            regs: Regs::new(alloc),
+            mode: 0,
             last_length: 0,
             typed: Vec::new(alloc),
             alloc,
@@ -69,6 +79,49 @@ impl<T: TextStore> Editor<T> {
         ensures within_limit { result ≤ LIMIT }
     {
         self.store.dot()
+    }
+
+    /// The registers and the push-down list.
+    pub fn regs(&self) -> &Regs
+        ensures { result.now ≡ self.now.registers }
+    {
+        &self.regs
+    }
+
+    /// How many characters the buffer, the texts of the registers and those of the push-down list have.
+    pub fn held(&self) -> u128
+        ensures { result ≡ held self.now }
+    {
+        self.size() as u128 + self.regs.held()
+    }
+
+    /// Sets the texts that are handed in, each in its register's place, `A` to `Z` and then `0` to `9`. All of them or none.
+    pub fn load(&mut self, texts: &[Option<&[u8]>; REGISTERS]) -> Result<(), AllocError>
+        requires { All IsTextWithinLimit texts.now }
+        ensures loaded { OnOk result (self.new ≡ record self.old { registers = with_texts (handed texts.now) self.old.registers }) }
+        ensures err { OnErr result (self.new ≡ self.old) }
+    {
+        self.regs.load(texts)
+    }
+
+    /// The search mode, 0 at first.
+    pub fn mode(&self) -> i32
+        ensures { result ≡ self.now.mode }
+    {
+        self.mode
+    }
+
+    /// `n^X` sets the search mode; `^X` alone answers it.
+    pub fn search_mode(&mut self, n: Option<i32>) -> Option<i32>
+        ensures { record { kept = self.new; answer = result } ≡ search_mode n self.old }
+    {
+        match n {
+            None => Some(self.mode),
+            Some(n) => {
+                self.mode = n;
+                None
+            }
+        }
     }
 
     /// The length of the last text found or inserted, at most `LIMIT`.

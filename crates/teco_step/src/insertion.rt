@@ -18,7 +18,7 @@ pub(crate) fn byte_of(n: i32) -> u8
 
 impl<T: TextStore> Editor<T> {
     // Inserts before the pointer.
-    fn insert(&mut self, new: &[u8]) -> Result<Option<i32>, Stuck>
+    pub(crate) fn insert(&mut self, new: &[u8]) -> Result<Option<i32>, Stuck>
         ensures { Does self.old self.new (model.insert new.now self.old) result }
     {
         self.store.insert(new)?;

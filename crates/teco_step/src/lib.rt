@@ -2,14 +2,17 @@
 //! command.
 #![tactic(auto)]
 
+mod conversion;
 mod deletion;
 mod editor;
 mod insertion;
 mod motion;
 mod places;
+mod storage;
 mod stuck;
 mod typing;
 
+pub use conversion::NumberRead;
 pub use editor::Editor;
 pub use stuck::Stuck;
 

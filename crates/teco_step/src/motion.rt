@@ -1,5 +1,5 @@
 //! Commands that move the pointer.
-ghost use Rattle.std.specs.Prelude.{◌≡◌, ◌≤◌, ◌<◌, ◌^◌, is_some, Some, None, MatchOption};
+ghost use Rattle.std.specs.Prelude.{◌≡◌, ◌≤◌, length, is_some, MatchOption};
 ghost use Rattle.teco_base.specs.declared.TheConstants.{LIMIT};
 ghost use Rattle.teco_model.specs.Motion as model;
 ghost use Rattle.teco_model.specs.Places.{place_in};
@@ -10,7 +10,7 @@ use crate::stuck::Stuck;
 use teco_base::Code;
 use teco_model::Taken;
 use teco_model::kind::Motion;
-use teco_text::TextStore;
+use teco_text::{TextStore, line_place};
 
 // The place that an argument names, as a whole number.
 fn target(motion: Motion, pointer: usize, n: Option<i32>) -> i64
@@ -27,6 +27,15 @@ fn target(motion: Motion, pointer: usize, n: Option<i32>) -> i64
 }
 
 impl<T: TextStore> Editor<T> {
+    /// Moves the pointer to a place of the text.
+    pub fn set_dot(&mut self, place: usize)
+        requires { place ≤ length self.old.text }
+        ensures { self.new ≡ record self.old { pointer = place } }
+    {
+        // the text has the place, so it is not refused
+        let _ = self.store.set_dot(place);
+    }
+
     // Moves the pointer to a place, if the text has it, and says whether it does.
     fn go_to(&mut self, place: i64) -> bool
         ensures answer { result ≡ is_some (place_in self.old.text place) }
@@ -38,7 +47,17 @@ impl<T: TextStore> Editor<T> {
         self.store.set_dot(place).is_ok()
     }
 
-    /// `C`, `R` and `J` move the pointer; with a colon they answer whether it was moved.
+    // Moves the pointer to the line place of a number.
+    fn go_lines(&mut self, arguments: Taken) -> Result<Option<i32>, Stuck>
+        ensures { Does self.old self.new (model.motion Motion.Lines 0 arguments self.old) result }
+    {
+        let n = arguments.value.unwrap_or(1);
+        let place = line_place(&self.store, i64::from(n));
+        self.set_dot(place);
+        Ok(None)
+    }
+
+    /// `C`, `R`, `J` and `L` move the pointer; with a colon the first three answer whether it was moved.
     pub fn motion(
         &mut self,
         motion: Motion,
@@ -48,7 +67,7 @@ impl<T: TextStore> Editor<T> {
         ensures { Does self.old self.new (model.motion motion colons arguments self.old) result }
     {
         if let Motion::Lines = motion {
-            return Err(Stuck::Code(Code::Ill));
+            return self.go_lines(arguments);
         }
         let place = target(motion, self.dot(), arguments.value);
         match (self.go_to(place), colons) {

@@ -1,10 +1,11 @@
 ghost use Rattle.std.specs.Prelude.{◌≡◌};
 ghost use Rattle.teco_step.specs.declared.stuck.Stuck.TheVariants as stuck;
-ghost use Rattle.teco_step.specs.Faults.{stuck_by, stuck_by_arguments};
+ghost use Rattle.teco_step.specs.Faults.{stuck_by, stuck_by_arguments, stuck_by_registers};
 
 use std::alloc::AllocError;
 use teco_base::Code as Reason;
 use teco_expr::ArgFault;
+use teco_regs::RegFault;
 use teco_text::TextFault;
 
 /// Why a command is not executed. All is then as it was.
@@ -51,6 +52,18 @@ impl From<ArgFault> for Stuck {
         match fault {
             ArgFault::Code(code) => Stuck::Code(code),
             ArgFault::Memory => Stuck::Memory,
+        }
+    }
+}
+
+impl From<RegFault> for Stuck {
+    ghost from_gives = { λ fault e. e ≡ stuck_by_registers fault };
+
+    fn from(fault: RegFault) -> Stuck {
+        match fault {
+            RegFault::Empty => Stuck::Code(Reason::Pes),
+            RegFault::Full => Stuck::Code(Reason::Ful),
+            RegFault::Memory => Stuck::Memory,
         }
     }
 }

@@ -1,11 +1,15 @@
 //! Commands that type.
-ghost use Rattle.std.specs.Prelude.{◌≡◌, ◌++◌};
+ghost use Rattle.std.specs.Prelude.{◌≡◌, ◌≤◌, ◌++◌, OnOk, OnErr};
+ghost use Rattle.teco_base.specs.Text.{range};
+ghost use Rattle.teco_base.specs.declared.TheConstants.{LIMIT};
+ghost use Rattle.teco_text.specs.Answers.{IsPart};
 ghost use Rattle.teco_model.specs.Typing as model;
 ghost use Rattle.teco_step.specs.Does.{Does};
 
 use crate::editor::Editor;
 use crate::insertion::byte_of;
 use crate::stuck::Stuck;
+use std::alloc::AllocError;
 use teco_base::{Code, NumberText, decimal, hex, octal};
 use teco_model::Taken;
 use teco_model::kind::{Radix, Typing};
@@ -20,6 +24,27 @@ fn number_text(radix: Radix, n: i32) -> NumberText
         Radix::Octal => octal(n),
         Radix::Hexadecimal => hex(n),
     }
+}
+
+// Appends two parts of a text, both or none.
+fn copy_both<T: TextStore>(
+    store: &T,
+    first: (usize, usize),
+    second: (usize, usize),
+    out: &mut Vec<u8>,
+) -> Result<(), AllocError>
+    requires first { IsPart (T.list store.now) first.0 first.1 }
+    requires second { IsPart (T.list store.now) second.0 second.1 }
+    requires within_limit { (first.1 ≤ LIMIT) × (second.1 ≤ LIMIT) }
+    ensures copied { OnOk result (out.new.items ≡
+        out.old.items ++ (range (T.list store.now) first.0 first.1 ++ range (T.list store.now) second.0 second.1)) }
+    ensures err { OnErr result (out.new.items ≡ out.old.items) }
+{
+    out.reserve((first.1 - first.0) + (second.1 - second.0))?;
+    // there is room for both, so neither is refused
+    let _ = store.copy_range(first.0, first.1, out);
+    let _ = store.copy_range(second.0, second.1, out);
+    Ok(())
 }
 
 impl<T: TextStore> Editor<T> {
@@ -43,16 +68,26 @@ impl<T: TextStore> Editor<T> {
         Ok(None)
     }
 
-    // Types a range of the buffer.
-    fn type_range(&mut self, m: i32, n: i32) -> Result<Option<i32>, Stuck>
-        ensures { Does self.old self.new (model.type_part (Some m) (Some n) self.old) result }
+    // Types lines or a range of the buffer.
+    fn type_part(&mut self, arguments: Taken) -> Result<Option<i32>, Stuck>
+        ensures { Does self.old self.new (model.type_part arguments.first arguments.value self.old) result }
     {
-        let (begin, end) = self.range(m, n)?;
+        let (begin, end) = self.part(arguments)?;
         self.store.copy_range(begin, end, &mut self.typed)?;
         Ok(None)
     }
 
-    /// `T` types a part of the buffer, `^A` its text, `^T` a byte, and `=` a number.
+    // Types the lines round the pointer.
+    fn view(&mut self, n: i32) -> Result<Option<i32>, Stuck>
+        ensures { Does self.old self.new (Ok (model.view n self.old)) result }
+    {
+        let first = self.line_range(1 - i64::from(n));
+        let second = self.line_range(i64::from(n));
+        copy_both(&self.store, first, second, &mut self.typed)?;
+        Ok(None)
+    }
+
+    /// `T` types a part of the buffer, `V` the lines round the pointer, `^A` its text, `^T` a byte, and `=` a number.
     pub fn typing(
         &mut self,
         typing: Typing,
@@ -63,11 +98,8 @@ impl<T: TextStore> Editor<T> {
         ensures { Does self.old self.new (model.typing typing colons text.now arguments self.old) result }
     {
         match typing {
-            Typing::Part => match (arguments.first, arguments.value) {
-                (Some(m), Some(n)) => self.type_range(m, n),
-                _ => Err(Stuck::Code(Code::Ill)),
-            },
-            Typing::View => Err(Stuck::Code(Code::Ill)),
+            Typing::Part => self.type_part(arguments),
+            Typing::View => self.view(arguments.value.unwrap_or(1)),
             Typing::Message => self.type_bytes(text),
             Typing::Byte => self.type_bytes(&[byte_of(arguments.value.ok_or(Code::Arg)?)]),
             Typing::Number(radix) => {

@@ -1,6 +1,7 @@
 // Line places.
 ghost use Rattle.std.specs.Prelude.{◌≡◌, ℕ, ◌+◌, ◌-◌, ◌<◌, ◌≤◌, ◌^◌, ◌++◌, length, reverse, take, drop, IfOk};
 ghost use Rattle.teco_base.specs.Lines as lines;
+ghost use Rattle.teco_base.specs.declared.TheConstants.{LIMIT};
 ghost use Rattle.teco_base.specs.Lines.{line_places_from};
 ghost use Rattle.teco_text.specs.Counted.{Counted};
 
@@ -14,6 +15,7 @@ use teco_base::bytes::is_line_end;
 pub fn line_place<T: TextStore>(store: &T, n: i64) -> usize
     ensures value { result ≡ lines.line_place (T.list store.now) (T.pointer store.now) n }
     ensures within_text { result ≤ length (T.list store.now) }
+    ensures within_limit { result ≤ LIMIT }
 {
     let len = store.len();
     let dot = store.dot();

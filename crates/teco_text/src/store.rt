@@ -69,11 +69,13 @@ pub trait TextStore {
         ensures err { OnErr result ((list self.new ≡ list self.old) × (pointer self.new ≡ pointer self.old)) }
         ensures room { room self.old ≤ room self.new };
 
-    /// Appends the characters from `a` up to `b` to `out`, which grows by its own allocator. A refusal leaves its items.
+    /// Appends the characters from `a` up to `b` to `out`, which grows by its own allocator and gives no capacity back. A
+    /// refusal leaves its items.
     fn copy_range(&self, a: usize, b: usize, out: &mut Vec<u8>) -> Result<(), TextFault>
         ensures answer { OkWhereSpare result (IsPart (list self.now) a b) (b - a) (vec_capacity out.old - vec_len out.old) }
         ensures copied { OnOk result (out.new.items ≡ out.old.items ++ range (list self.now) a b) }
-        ensures err { OnErr result (out.new.items ≡ out.old.items) };
+        ensures err { OnErr result (out.new.items ≡ out.old.items) }
+        ensures capacity { vec_capacity out.old ≤ vec_capacity out.new };
 
     /// Makes room for `n` characters in all: until the text is longer, `insert` and `replace` need no memory.
     fn reserve(&mut self, n: usize) -> Result<(), TextFault>

@@ -1,5 +1,8 @@
 // Rows of calls, with what each answers and leaves. A call that is refused memory is made once more, so that the rows also
 // hold where one allocation fails.
+ghost use Rattle.std.specs.Prelude.{IsTrue};
+ghost use Rattle.teco_regs.specs.Texts.{IsTextWithinLimit};
+
 use super::*;
 use std::process::Abort;
 
@@ -9,6 +12,8 @@ enum Call {
     SetText(Reg, &'static [u8]),
     AppendText(Reg, &'static [u8]),
     PutText(Reg, &'static [u8]),
+    // the texts of the first and of the last register
+    Load(Option<&'static [u8]>, Option<&'static [u8]>),
     Push(Reg),
     Pop(Reg),
 }
@@ -29,6 +34,33 @@ fn put(regs: &mut Regs, alloc: Global, reg: Reg, text: &[u8]) -> Result<(), RegF
     Ok(())
 }
 
+fn is_short(text: &Option<&[u8]>) -> bool
+    ensures { IsTrue result → IsTextWithinLimit text.now }
+{
+    match text {
+        Some(text) => text.len() <= LIMIT,
+        None => true,
+    }
+}
+
+fn load(regs: &mut Regs, texts: &[Option<&[u8]>; REGISTERS]) -> Result<(), RegFault> {
+    if texts.iter().all(is_short) {
+        regs.load(texts)?;
+    }
+    Ok(())
+}
+
+fn load_ends<'a>(
+    regs: &mut Regs,
+    first: Option<&'a [u8]>,
+    last: Option<&'a [u8]>,
+) -> Result<(), RegFault> {
+    let mut texts = [None; REGISTERS];
+    texts[0] = first;
+    texts[REGISTERS - 1] = last;
+    load(regs, &texts)
+}
+
 fn answer(regs: &mut Regs, alloc: Global, call: &Call) -> &'static str {
     let done = match *call {
         Call::SetNumber(reg, n) => {
@@ -38,6 +70,7 @@ fn answer(regs: &mut Regs, alloc: Global, call: &Call) -> &'static str {
         Call::SetText(reg, text) => regs.set_text(reg, text),
         Call::AppendText(reg, text) => regs.append_text(reg, text),
         Call::PutText(reg, text) => put(regs, alloc, reg, text),
+        Call::Load(first, last) => load_ends(regs, first, last),
         Call::Push(reg) => regs.push(reg),
         Call::Pop(reg) => regs.pop(reg),
     };
@@ -62,12 +95,31 @@ fn expect_state(rt: &impl Abort, regs: &Regs, state: State) {
     assert_eq!(rt; regs.held(), state.held);
 }
 
+fn expect_rows(
+    rt: &impl Abort,
+    alloc: Global,
+    regs: &mut Regs,
+    mut before: State,
+    rows: &[(Call, &'static str, State)],
+) {
+    for (call, want, after) in rows {
+        let mut got = answer(regs, alloc, call);
+        if got == "memory" {
+            expect_state(rt, regs, before);
+            got = answer(regs, alloc, call);
+        }
+        assert_eq!(rt; got, *want);
+        expect_state(rt, regs, *after);
+        before = *after;
+    }
+}
+
 #[test]
 fn calls_in_turn(rt: HostRuntime) {
     let mut regs = Regs::new(rt.alloc());
     let a = register(&rt, b'a');
     let nine = register(&rt, b'9');
-    let mut before = State {
+    let before = State {
         a: (0, b""),
         nine: (0, b""),
         held: 0,
@@ -184,14 +236,73 @@ fn calls_in_turn(rt: HostRuntime) {
             },
         ),
     ];
-    for (call, want, after) in &rows {
-        let mut got = answer(&mut regs, rt.alloc(), call);
-        if got == "memory" {
-            expect_state(&rt, &regs, before);
-            got = answer(&mut regs, rt.alloc(), call);
-        }
-        assert_eq!(rt; got, *want);
-        expect_state(&rt, &regs, *after);
-        before = *after;
-    }
+    expect_rows(&rt, rt.alloc(), &mut regs, before, &rows);
+}
+
+#[test]
+fn texts_are_loaded(rt: HostRuntime) {
+    let mut regs = Regs::new(rt.alloc());
+    let a = register(&rt, b'a');
+    let before = State {
+        a: (0, b""),
+        nine: (0, b""),
+        held: 0,
+    };
+    let rows: [(Call, &'static str, State); 6] = [
+        (
+            Call::SetNumber(a, 5),
+            "ok",
+            State {
+                a: (5, b""),
+                nine: (0, b""),
+                held: 0,
+            },
+        ),
+        (
+            Call::Load(Some(b"first"), Some(b"last")),
+            "ok",
+            State {
+                a: (5, b"first"),
+                nine: (0, b"last"),
+                held: 9,
+            },
+        ),
+        (
+            Call::Push(a),
+            "ok",
+            State {
+                a: (5, b"first"),
+                nine: (0, b"last"),
+                held: 14,
+            },
+        ),
+        (
+            Call::Load(Some(b""), None),
+            "ok",
+            State {
+                a: (5, b""),
+                nine: (0, b"last"),
+                held: 9,
+            },
+        ),
+        (
+            Call::Load(None, Some(b"longer")),
+            "ok",
+            State {
+                a: (5, b""),
+                nine: (0, b"longer"),
+                held: 11,
+            },
+        ),
+        (
+            Call::Pop(a),
+            "ok",
+            State {
+                a: (5, b"first"),
+                nine: (0, b"longer"),
+                held: 11,
+            },
+        ),
+    ];
+    expect_rows(&rt, rt.alloc(), &mut regs, before, &rows);
 }

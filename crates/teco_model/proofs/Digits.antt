@@ -4,7 +4,7 @@ use Rattle.std.proofs.lemmas.List.{take_more, map-append}
 use Rattle.std.proofs.lemmas.Int.{int_wrap-add_left, int_wrap-add_same, int_wrap-mul_left}
 use Rattle.std.proofs.lemmas.Int.Digits.{number_push}
 use Rattle.std.specs.Int.{w32, int_wrap}
-use Rattle.teco_model.specs.Arithmetic.{add, mul, wrapped}
+use Rattle.teco_base.specs.Arithmetic.{add, mul, wrapped}
 use Rattle.teco_model.specs.Arguments.{decimal_number, run_value}
 
 -- one more digit at the end
