@@ -99,7 +99,7 @@ fn is_short(text: &Option<&[u8]>) -> bool
     }
 }
 
-fn load(machine: &mut Machine<VecText>, texts: &[Option<&[u8]>; 36]) -> Result<(), AllocError> {
+fn load(machine: &mut Machine<VecText>, texts: [Option<&[u8]>; 36]) -> Result<(), AllocError> {
     if texts.iter().all(is_short) {
         machine.load(texts)?;
     }
@@ -120,9 +120,9 @@ fn registers_are_shown_and_loaded(rt: HostRuntime) {
     let mut texts: [Option<&[u8]>; 36] = [None; 36];
     texts[0] = Some(b"%9=");
     texts[35] = Some(b"ninth");
-    if load(&mut machine, &texts).is_err() {
+    if load(&mut machine, texts).is_err() {
         assert_eq!(rt; machine.held(), 8);
-        assert!(rt; load(&mut machine, &texts).is_ok());
+        assert!(rt; load(&mut machine, texts).is_ok());
     }
     assert_eq!(rt; machine.held(), 16);
     assert_eq!(rt; machine.regs().text(register(b'B')), b"cde".as_slice());
