@@ -25,3 +25,5 @@ pub mod Run
 pub mod Rows
 pub mod Session
 pub mod Registers
+pub mod Pattern
+pub mod Match

@@ -4,9 +4,11 @@
 
 pub mod arguments;
 pub mod kind;
+pub mod pattern;
 pub mod rows;
 pub mod stop;
 
 pub use arguments::{Level, Operator, Taken};
 pub use kind::Kind;
+pub use pattern::Span;
 pub use stop::Stop;

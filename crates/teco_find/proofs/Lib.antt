@@ -1,0 +1,2 @@
+mod Matches
+mod Parts

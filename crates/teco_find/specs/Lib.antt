@@ -1,0 +1,3 @@
+-- What the calls of this crate answer, beside the definition, and the texts that they look at.
+pub mod Pieces
+pub mod Reading

@@ -1,0 +1,76 @@
+// Searches over a text in two pieces.
+ghost use Rattle.std.specs.Prelude.{◌≡◌, ◌≤◌, ◌<◌, length, IfSome};
+ghost use Rattle.teco_model.specs.Match as model;
+ghost use Rattle.teco_find.specs.Pieces.{joined};
+
+use crate::ends::match_end;
+use crate::pattern::Pattern;
+use teco_model::Span;
+
+impl Pattern {
+    /// The match that starts at a place of a text in two pieces.
+    #[tactic(auto, using(crate::proofs::Matches::starts))]
+    pub fn here(&self, text: (&[u8], &[u8]), at: usize) -> Option<Span>
+        requires { at ≤ length (joined text) }
+        ensures value { result ≡ model.here self.now (joined text.entry) at }
+        ensures within { IfSome result (λ span. span.end ≤ length (joined text.entry)) }
+    {
+        if self.items.is_empty() {
+            return None;
+        }
+        let end = match_end(self.exact, text, &self.items, at)?;
+        Some(Span { start: at, end })
+    }
+
+    // The first match that starts at a place or behind it.
+    #[tactic(auto, using(crate::proofs::Matches::firsts))]
+    fn first_from(&self, text: (&[u8], &[u8]), at: usize) -> Option<Span>
+        requires { at ≤ length (joined text) }
+        ensures value { result ≡ model.first_from self.now (joined text.entry) at }
+        ensures within { IfSome result (λ span. span.end ≤ length (joined text.entry)) }
+    {
+        for start in at..text.0.len() + text.1.len() {
+            if let Some(span) = self.here(text, start) {
+                return Some(span);
+            }
+        }
+        None
+    }
+
+    /// The `n`th match from a place on: the first starts at the place or behind it, each next one at the end of the last or
+    /// behind it.
+    #[tactic(auto, using(crate::proofs::Matches::turns))]
+    pub fn forward(&self, text: (&[u8], &[u8]), from: usize, n: u32) -> Option<Span>
+        requires from { from ≤ length (joined text) }
+        requires some { 1 ≤ n }
+        ensures value { result ≡ model.forward self.now (joined text.entry) from n }
+        ensures within { IfSome result (λ span. span.end ≤ length (joined text.entry)) }
+    {
+        let mut at = from;
+        for _turn in 1..n {
+            at = self.first_from(text, at)?.end;
+        }
+        self.first_from(text, at)
+    }
+
+    /// The `n`th match that starts before a place, counted backwards. It may reach past the place, and overlap the others.
+    #[tactic(auto, using(crate::proofs::Matches::counting))]
+    pub fn backward(&self, text: (&[u8], &[u8]), from: usize, n: u32) -> Option<Span>
+        requires from { from ≤ length (joined text) }
+        requires some { 1 ≤ n }
+        ensures value { result ≡ model.backward self.now (joined text.entry) from n }
+        ensures within { IfSome result (λ span. span.end ≤ length (joined text.entry)) }
+    {
+        let mut left = n;
+        for start in (0..from).rev() {
+            let Some(span) = self.here(text, start) else {
+                continue;
+            };
+            left -= 1;
+            if left == 0 {
+                return Some(span);
+            }
+        }
+        None
+    }
+}

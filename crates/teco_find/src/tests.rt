@@ -1,0 +1,187 @@
+// Searches, with what each finds, and texts that are no pattern. A call that is refused memory is made once more, so that the
+// rows also hold where one allocation fails.
+use super::*;
+use std::alloc::Global;
+use std::process::Abort;
+use teco_base::Reg;
+use teco_model::Span;
+use teco_regs::Regs;
+
+#[derive(Clone, Copy)]
+enum Way {
+    Forward(u32),
+    Backward(u32),
+    Here,
+}
+
+// The registers, with a text in `A`.
+fn registers(rt: &impl Abort, alloc: Global) -> Regs {
+    let mut regs = Regs::new(alloc);
+    let a = Reg::of(b'A').expect(rt, "a register");
+    if regs.set_text(a, b"b.").is_err() {
+        regs.set_text(a, b"b.").expect(rt, "memory");
+    }
+    regs
+}
+
+fn read(alloc: Global, search: &[u8], regs: &Regs, exact: bool) -> Result<Pattern, FindFault> {
+    match Pattern::read(alloc, search, regs, exact) {
+        Err(FindFault::Memory) => Pattern::read(alloc, search, regs, exact),
+        answer => answer,
+    }
+}
+
+fn find(pattern: &Pattern, text: (&[u8], &[u8]), from: usize, way: Way) -> Option<Span> {
+    if from > text.0.len() + text.1.len() {
+        return None;
+    }
+    match way {
+        Way::Forward(n) if n > 0 => pattern.forward(text, from, n),
+        Way::Backward(n) if n > 0 => pattern.backward(text, from, n),
+        Way::Here => pattern.here(text, from),
+        _ => None,
+    }
+}
+
+// Looks in a text that is cut at each of its places.
+fn expect_found(
+    rt: &impl Abort,
+    pattern: &Pattern,
+    text: &[u8],
+    from: usize,
+    way: Way,
+    want: Option<(usize, usize)>,
+) {
+    for cut in 0..text.len() + 1 {
+        let found = find(pattern, text.split_at(cut), from, way);
+        assert_eq!(rt; found.map(|span| (span.start, span.end)), want);
+    }
+}
+
+#[test]
+fn searches_in_either_direction(rt: HostRuntime) {
+    let regs = registers(&rt, rt.alloc());
+    let pattern = read(rt.alloc(), b"Xbc", &regs, true).expect(&rt, "a pattern");
+    let text = b"aXbcXbc";
+    for (from, way, want) in [
+        (0, Way::Forward(1), Some((1, 4))),
+        (0, Way::Forward(2), Some((4, 7))),
+        (0, Way::Forward(3), None),
+        (1, Way::Forward(1), Some((1, 4))),
+        (2, Way::Forward(1), Some((4, 7))),
+        (7, Way::Forward(1), None),
+        (7, Way::Backward(1), Some((4, 7))),
+        (7, Way::Backward(2), Some((1, 4))),
+        (7, Way::Backward(3), None),
+        (5, Way::Backward(1), Some((4, 7))),
+        (4, Way::Backward(1), Some((1, 4))),
+        (1, Way::Backward(1), None),
+        (1, Way::Here, Some((1, 4))),
+        (0, Way::Here, None),
+        (7, Way::Here, None),
+    ] {
+        expect_found(&rt, &pattern, text, from, way, want);
+    }
+}
+
+#[test]
+fn matches_overlap_backward_alone(rt: HostRuntime) {
+    let regs = registers(&rt, rt.alloc());
+    let pattern = read(rt.alloc(), b"aa", &regs, true).expect(&rt, "a pattern");
+    for (from, way, want) in [
+        (0, Way::Forward(2), Some((2, 4))),
+        (0, Way::Forward(3), None),
+        (3, Way::Backward(2), Some((1, 3))),
+        (3, Way::Backward(3), Some((0, 2))),
+    ] {
+        expect_found(&rt, &pattern, b"aaaa", from, way, want);
+    }
+}
+
+#[test]
+fn elements(rt: HostRuntime) {
+    let regs = registers(&rt, rt.alloc());
+    let rows: [(&[u8], bool, &[u8], Option<(usize, usize)>); 25] = [
+        (b"^EA^ED^ESb", false, b"ax1  b", Some((1, 6))),
+        (b"\x05A\x05D\x05Sb", false, b"ax1  b", Some((1, 6))),
+        (b"^ES ", false, b"  b", None),
+        (b"^ESb", false, b"a\t b", Some((1, 4))),
+        (b"abc", false, b"xABC", Some((1, 4))),
+        (b"abc", true, b"xABC", None),
+        (b"aBc", true, b"xaBc", Some((1, 4))),
+        (b"[", false, b"{", None),
+        (b"b^N^ED", false, b"b1bx", Some((2, 4))),
+        (b"^Na", false, b"Aab", Some((2, 3))),
+        (b"^Na", true, b"Aab", Some((0, 1))),
+        (b"^N^Q^", false, b"^a", Some((1, 2))),
+        (b"^N^X", false, b"abc", None),
+        (b"^N^S", false, b".a", Some((1, 2))),
+        (b"a^Xb", false, b"a\nb", Some((0, 3))),
+        (b"a^Sb", false, b"a1ba.b", Some((3, 6))),
+        (b"^ER", false, b".7", Some((1, 2))),
+        (b"^ev", false, b"Xx", Some((1, 2))),
+        (b"^ew", false, b"xX", Some((1, 2))),
+        (b"^EL", false, b"\r\x0c", Some((1, 2))),
+        (b"^Q^Q^Q^", false, b"^Q^", Some((0, 3))),
+        (b"^A", false, b"a\x01", Some((1, 2))),
+        (b"^EQa", false, b"ab.", Some((1, 3))),
+        (b"^EQ0", false, b"ab.", None),
+        (b"", false, b"ab.", None),
+    ];
+    for (search, exact, text, want) in rows {
+        let pattern = read(rt.alloc(), search, &regs, exact).expect(&rt, "a pattern");
+        expect_found(&rt, &pattern, text, 0, Way::Forward(1), want);
+    }
+}
+
+fn told(fault: FindFault) -> &'static str {
+    match fault {
+        FindFault::Ice => "ICE",
+        FindFault::Iqn => "IQN",
+        FindFault::Memory => "memory",
+    }
+}
+
+#[test]
+fn ill_formed_texts(rt: HostRuntime) {
+    let regs = registers(&rt, rt.alloc());
+    let rows: [(&[u8], &'static str); 17] = [
+        (b"^N", "ICE"),
+        (b"^", "ICE"),
+        (b"^E?", "ICE"),
+        (b"^N^N", "ICE"),
+        (b"^Q", "ICE"),
+        (b"^E", "ICE"),
+        (b"^EQ", "ICE"),
+        (b"^`", "ICE"),
+        (b"^ ", "ICE"),
+        (b"^N^EQA", "ICE"),
+        (b"^N^ES", "ICE"),
+        (b"^N^Q", "ICE"),
+        (b"^N^", "ICE"),
+        (b"^EQ?", "IQN"),
+        (b"^EQ^", "IQN"),
+        (b"ab^EQ?^", "IQN"),
+        (b"ab^^N^EQ?", "IQN"),
+    ];
+    for (search, want) in rows {
+        assert_eq!(rt;
+            read(rt.alloc(), search, &regs, false).map_err(told).err(),
+            Some(want)
+        );
+        assert_eq!(rt; minimum(search).map_err(told).err(), Some(want));
+    }
+}
+
+#[test]
+fn least_lengths(rt: HostRuntime) {
+    let rows: [(&[u8], Option<usize>); 4] = [
+        (b"", Some(0)),
+        (b"^Naa^Q^^ES", Some(4)),
+        (b"a^EQAb", None),
+        (b"^EQA", None),
+    ];
+    for (search, want) in rows {
+        assert_eq!(rt; minimum(search).map_err(told), Ok(want));
+    }
+}
