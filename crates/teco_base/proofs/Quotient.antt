@@ -1,4 +1,4 @@
--- A quotient of 32-bit numbers, wrapped by way of its bits.
+-- A quotient of 32-bit numbers, in_32_bits by way of its bits.
 use Rattle.std.proofs.Common.{◌≡◌, ◌≢◌, ℕ, zero, suc, ◌-◌, ◌%◌, ◌^◌, ◌≤◌, ℤ, pos, negsuc, neg_ℤ, Some, FitsSigned, int_div, unsigned_abs, ap, refl, ◌∙◌, arith}
 use Rattle.std.proofs.Math.Nat.{div-le_self}
 use Rattle.std.proofs.lemmas.Int.{to_z-of_z}

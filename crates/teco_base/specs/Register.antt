@@ -2,10 +2,6 @@
 use Rattle.std.specs.Prelude.{ℕ, ◌+◌, ◌-◌, Option, Some, None, if◌then◌else◌, nat_lt}
 use Rattle.std.specs.Char.{is_ascii_uppercase, is_ascii_lowercase, is_ascii_digit}
 
--- how many registers there are
-abbrev pub REGISTERS : ℕ
-REGISTERS = 36
-
 -- the place of the register of this name, if it is the name of one
 abbrev pub register_of : ℕ → Option ℕ
 register_of name =

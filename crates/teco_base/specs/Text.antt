@@ -6,18 +6,19 @@ abbrev pub range : List ℕ → ℕ → ℕ → List ℕ
 range text a b = take (b - a) (drop a text)
 
 -- the text with other characters in the stead of those from a up to b
-abbrev pub replaced : List ℕ → ℕ → ℕ → List ℕ → List ℕ
-replaced text a b new = take a text ++ new ++ drop b text
+abbrev pub text_after_replacement : List ℕ → ℕ → ℕ → List ℕ → List ℕ
+text_after_replacement text a b new = take a text ++ new ++ drop b text
 
 -- the text without the characters from a up to b
-abbrev pub deleted : List ℕ → ℕ → ℕ → List ℕ
-deleted text a b = take a text ++ drop b text
+abbrev pub text_after_deletion : List ℕ → ℕ → ℕ → List ℕ
+text_after_deletion text a b = take a text ++ drop b text
 
 -- the text with new characters at a place
-abbrev pub inserted : List ℕ → ℕ → List ℕ → List ℕ
-inserted text at new = replaced text at at new
+abbrev pub text_after_insertion : List ℕ → ℕ → List ℕ → List ℕ
+text_after_insertion text at new = text_after_replacement text at at new
 
--- where a pointer goes when the characters from a up to b are deleted: from inside them to a, from behind them back with the text
+-- Where a pointer goes when the characters from a up to b are deleted: from inside them to a, and from behind them back
+-- with the text.
 abbrev pub pointer_after_deletion : ℕ → ℕ → ℕ → ℕ
 pointer_after_deletion a b pointer =
     if nat_le pointer a then pointer else if nat_le pointer b then a else pointer - (b - a)

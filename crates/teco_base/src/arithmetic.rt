@@ -51,3 +51,10 @@ pub fn div(x: i32, y: i32) -> Option<i32>
         Some(x.wrapping_div(y))
     }
 }
+
+/// The number as a byte, modulo 256.
+pub fn byte_of(n: i32) -> u8
+    ensures { result ≡ number.byte_of n }
+{
+    n.rem_euclid(256) as u8
+}

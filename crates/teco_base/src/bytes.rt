@@ -2,21 +2,42 @@
 ghost use Rattle.std.specs.Prelude.{◌≡◌};
 ghost use Rattle.teco_base.specs.Bytes as byte;
 
+/// Horizontal tab.
+pub const TAB: u8 = 9;
+
+/// Line feed.
+pub const LF: u8 = 10;
+
+/// Vertical tab.
+pub const VT: u8 = 11;
+
+/// Form feed, which ends a page.
+pub const FF: u8 = 12;
+
+/// Carriage return.
+pub const CR: u8 = 13;
+
 /// The byte that commands and texts end with.
 pub const ESC: u8 = 27;
+
+/// A space.
+pub const SPACE: u8 = 32;
+
+/// A quotation mark, which begins a conditional.
+pub const QUOTE: u8 = b'"';
 
 /// A byte that is skipped between elements: a space, CR or LF.
 pub fn is_blank(b: u8) -> bool
     ensures { result ≡ byte.is_blank b }
 {
-    matches!(b, b' ' | b'\r' | b'\n')
+    matches!(b, SPACE | CR | LF)
 }
 
 /// A line end: LF, VT or FF.
 pub fn is_line_end(b: u8) -> bool
     ensures { result ≡ byte.is_line_end b }
 {
-    matches!(b, 10..=12)
+    matches!(b, LF | VT | FF)
 }
 
 /// A letter in either case.

@@ -15,5 +15,8 @@ pub use reg::Reg;
 /// How many characters the buffer, a text, a command string, a library or an input file may have.
 pub const LIMIT: usize = 268_435_456;
 
+/// How many registers there are.
+pub const REGISTERS: usize = 36;
+
 #[cfg(test)]
 mod tests;

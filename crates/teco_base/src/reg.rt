@@ -1,5 +1,6 @@
 ghost use Rattle.std.specs.Prelude.{◌≡◌, ◌<◌};
-ghost use Rattle.teco_base.specs.Register.{register_of, register_name, REGISTERS};
+ghost use Rattle.teco_base.specs.Register.{register_of, register_name};
+ghost use Rattle.teco_base.specs.declared.TheConstants.{REGISTERS};
 
 use std::marker::Model;
 
@@ -11,12 +12,13 @@ pub struct Reg {
 
 impl Model for Reg {
     ghost use Rattle.std.specs.Prelude.{ℕ, ◌<◌};
+    ghost use Rattle.teco_base.specs.declared.TheConstants.{REGISTERS};
 
     ghost Value = { ℕ };
 
     ghost view = { λ r. r.index };
 
-    ghost invariant = { λ r. r.index < 36 };
+    ghost invariant = { λ r. r.index < REGISTERS };
 
     ghost inverse = { λ n. record { index = n } };
 }

@@ -2,7 +2,7 @@
 use Rattle.std.specs.Prelude.{◌≡◌, ◌≤◌, length, Result, Ok, Err}
 use Rattle.teco_base.specs.declared.code.Code.{Code}
 use Rattle.teco_model.specs.declared.arguments.Taken.{Taken}
-use Rattle.teco_model.specs.Arguments.{Arguments, opened, taken, emptied}
+use Rattle.teco_model.specs.Arguments.{Arguments, levels_after_open, arguments_of, levels_after_taking}
 use Rattle.teco_expr.specs.declared.args.ArgFault.{ArgFault}
 use Rattle.teco_expr.specs.declared.args.ArgFault.TheVariants as fault
 
@@ -14,12 +14,12 @@ Does old new defined (Err fault.Memory) = ⊥
 
 -- the same of a call that opens a parenthesis: it is no code, and wants memory only where eight are open
 abbrev pub Opens : Arguments → Arguments → Result (Unit {0}) ArgFault → Type 0
-Opens old new (Ok done) = new ≡ opened old
+Opens old new (Ok done) = new ≡ levels_after_open old
 Opens old new (Err (fault.Code c)) = ⊥
 Opens old new (Err fault.Memory) = (8 ≤ length old.outer) × (new ≡ old)
 
 -- the same of a call that takes arguments
 abbrev pub Takes : Arguments → Arguments → Result Taken ArgFault → Type 0
-Takes old new (Ok own) = (taken old.level ≡ Ok own) × (new ≡ emptied old)
-Takes old new (Err (fault.Code c)) = (taken old.level ≡ Err c) × (new ≡ old)
+Takes old new (Ok own) = (arguments_of old.level ≡ Ok own) × (new ≡ levels_after_taking old)
+Takes old new (Err (fault.Code c)) = (arguments_of old.level ≡ Err c) × (new ≡ old)
 Takes old new (Err fault.Memory) = ⊥

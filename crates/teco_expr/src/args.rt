@@ -1,6 +1,6 @@
-ghost use Rattle.std.specs.Prelude.{◌≡◌, ◌≤◌, ◌<◌, length, IsOk};
+ghost use Rattle.std.specs.Prelude.{◌≡◌, ◌≤◌, ◌<◌, length, IsOk, OnSome, IfNone};
 ghost use Rattle.teco_model.specs.Arguments as model;
-ghost use Rattle.teco_model.specs.Arguments.{at_level};
+ghost use Rattle.teco_model.specs.Arguments.{with_level};
 ghost use Rattle.teco_expr.specs.Does.{Does, Takes, Opens};
 
 use crate::level::{self, EMPTY};
@@ -50,14 +50,16 @@ impl Args {
 
     /// Gives the number that a run of digits is.
     pub fn digit_run(&mut self, digits: &[u8]) -> Result<(), ArgFault>
-        ensures { Does self.old self.new (at_level self.old (model.give (model.run_value digits.now) self.old.level)) result }
+        ensures { Does self.old self.new
+            (with_level self.old (model.level_with (model.run_value digits.now) self.old.level)) result }
     {
         self.value(level::run_value(digits))
     }
 
     /// An operator waits for the next value.
     pub fn op(&mut self, operator: Operator) -> Result<(), ArgFault>
-        ensures { Does self.old self.new (at_level self.old (model.operate operator self.old.level)) result }
+        ensures { Does self.old self.new
+            (with_level self.old (model.level_with_operator operator self.old.level)) result }
     {
         self.level = level::operate(operator, self.level).map_err(ArgFault::Code)?;
         Ok(())
@@ -74,7 +76,7 @@ impl Args {
 
     /// Closes the innermost parenthesis, and gives its value outside.
     pub fn close(&mut self) -> Result<(), ArgFault>
-        ensures { Does self.old self.new (model.closed self.old) result }
+        ensures { Does self.old self.new (model.levels_after_close self.old) result }
     {
         let Some(outside) = self.outer.last().copied() else {
             return Err(ArgFault::Code(Code::Arg));
@@ -87,7 +89,8 @@ impl Args {
 
     /// Makes the value so far the first of two.
     pub fn comma(&mut self) -> Result<(), ArgFault>
-        ensures { Does self.old self.new (at_level self.old (model.comma self.old.level)) result }
+        ensures { Does self.old self.new
+            (with_level self.old (model.level_after_comma self.old.level)) result }
     {
         self.level = level::comma(self.level).map_err(ArgFault::Code)?;
         Ok(())
@@ -95,17 +98,26 @@ impl Args {
 
     /// Gives a value.
     pub fn value(&mut self, value: i32) -> Result<(), ArgFault>
-        ensures { Does self.old self.new (at_level self.old (model.give value self.old.level)) result }
+        ensures { Does self.old self.new
+            (with_level self.old (model.level_with value self.old.level)) result }
     {
         self.level = level::give(value, self.level).map_err(ArgFault::Code)?;
         Ok(())
     }
 
-    /// Whether a value stands in the innermost level, with no operator behind it.
-    pub fn stands(&self) -> bool
-        ensures { result ≡ model.stands self.now.level }
+    /// Takes the value that stands in the innermost level, with no operator behind it, and what else is pending there; `None`
+    /// where none stands, and then nothing changes.
+    pub fn take_standing(&mut self) -> Option<i32>
+        ensures value { result ≡ model.standing_value self.old.level }
+        ensures taken { OnSome result (self.new ≡ model.levels_after_taking self.old) }
+        ensures none { IfNone result (self.new ≡ self.old) }
     {
-        self.level.value.is_some() && self.level.operator.is_none()
+        if self.level.operator.is_some() {
+            return None;
+        }
+        let value = self.level.value?;
+        self.level = EMPTY;
+        Some(value)
     }
 
     /// Takes the arguments of the innermost level.

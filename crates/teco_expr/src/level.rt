@@ -28,7 +28,7 @@ pub fn run_value(digits: &[u8]) -> i32
 
 /// What an operator makes of two numbers.
 pub fn applied(operator: Operator, x: i32, y: i32) -> Result<i32, Code>
-    ensures { result ≡ model.applied operator x y }
+    ensures { result ≡ model.result_of operator x y }
 {
     match operator {
         Operator::Plus => Ok(arithmetic::add(x, y)),
@@ -42,7 +42,7 @@ pub fn applied(operator: Operator, x: i32, y: i32) -> Result<i32, Code>
 
 /// The level with a value given to it.
 pub fn give(value: i32, level: Level) -> Result<Level, Code>
-    ensures { result ≡ model.give value level }
+    ensures { result ≡ model.level_with value level }
 {
     let given = match level.operator {
         None => value,
@@ -57,7 +57,7 @@ pub fn give(value: i32, level: Level) -> Result<Level, Code>
 
 /// The level with an operator that waits for a value.
 pub fn operate(operator: Operator, level: Level) -> Result<Level, Code>
-    ensures { result ≡ model.operate operator level }
+    ensures { result ≡ model.level_with_operator operator level }
 {
     match level.operator {
         None => Ok(Level {
@@ -71,7 +71,7 @@ pub fn operate(operator: Operator, level: Level) -> Result<Level, Code>
 
 /// The value of a level at its end, where a lone sign stands for one.
 pub fn finished(level: Level) -> Result<Option<i32>, Code>
-    ensures { result ≡ model.finished level }
+    ensures { result ≡ model.final_value level }
 {
     match (level.value, level.operator) {
         (value, None) => Ok(value),
@@ -83,7 +83,7 @@ pub fn finished(level: Level) -> Result<Option<i32>, Code>
 
 /// The level behind a comma.
 pub fn comma(level: Level) -> Result<Level, Code>
-    ensures { result ≡ model.comma level }
+    ensures { result ≡ model.level_after_comma level }
 {
     if level.first.is_some() {
         return Err(Code::Arg);
@@ -101,7 +101,7 @@ pub fn comma(level: Level) -> Result<Level, Code>
 
 /// The value of a level in parentheses.
 pub fn enclosed(level: Level) -> Result<i32, Code>
-    ensures { result ≡ model.enclosed level }
+    ensures { result ≡ model.inner_value level }
 {
     if level.first.is_some() {
         return Err(Code::Arg);
@@ -111,7 +111,7 @@ pub fn enclosed(level: Level) -> Result<i32, Code>
 
 /// The arguments that a level has for a command.
 pub fn taken(level: Level) -> Result<Taken, Code>
-    ensures { result ≡ model.taken level }
+    ensures { result ≡ model.arguments_of level }
 {
     let value = finished(level)?;
     if level.first.is_some() && value.is_none() {

@@ -74,10 +74,13 @@ fn rows_of_arguments(rt: HostRuntime) -> Result<(), Fail> {
         assert_eq!(rt; taken(&rt, &mut arguments, text.as_bytes()), want, "{text}");
     }
     arguments.drop_all();
-    assert!(rt; !arguments.stands());
+    assert_eq!(rt; arguments.take_standing(), None);
     assert!(rt; arguments.digit_run(b"4294967298").is_ok());
-    assert!(rt; arguments.stands());
-    assert!(rt; arguments.op(Operator::Plus).is_ok() && !arguments.stands());
+    assert_eq!(rt; arguments.take_standing(), Some(2));
+    assert_eq!(rt; arguments.take_standing(), None);
+    assert!(rt; arguments.value(2).is_ok());
+    assert!(rt; arguments.op(Operator::Plus).is_ok());
+    assert_eq!(rt; arguments.take_standing(), None);
     assert!(rt; arguments.value(3).is_ok());
     assert_eq!(rt; taken(&rt, &mut arguments, b""), Ok((None, Some(5))));
     Ok(())

@@ -1,7 +1,5 @@
 -- How the values of this crate are seen as those of the definition.
 pub mod Blanks
-pub mod Element
-pub mod Form
 pub mod Reader
 pub mod Reading
 pub mod Texts

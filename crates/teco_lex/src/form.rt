@@ -1,84 +1,110 @@
-//! How an element of a kind is written.
+//! How an element is written.
 ghost use Rattle.std.specs.Prelude.{◌≡◌, ◌≤◌};
 ghost use Rattle.teco_model.specs.Form as form;
-ghost use Rattle.teco_lex.specs.Form.{form_seen};
 
+use teco_base::Reg;
 use teco_base::bytes::ESC;
-use teco_model::Kind;
-use teco_model::kind::{Argument, File, Flow, Insertion, Motion, Search, Storage, Typing};
+use teco_model::kind::{
+    Argument, Call, Command, File, Flow, Insertion, Motion, Query, Search, Stack, Storage, Typing,
+};
+use teco_model::{Head, Kind, OnRegister, Texts};
 
 /// The byte that ends the text of `^A`.
 const CONTROL_A: u8 = 1;
 
-/// Which texts an element has.
-#[derive(Clone, Copy)]
-pub enum Form {
-    /// Its own bytes.
-    Itself,
-    /// One that ends at this byte.
-    EndedBy(u8),
-    /// Two that each end at ESC.
-    Two,
-    /// It has none.
-    NoText,
-}
-
-/// How many colons may stand before it?
-pub fn colons_allowed(kind: Kind) -> usize
-    ensures value { result ≡ form.colons_allowed kind }
+/// How many colons may stand before a command?
+fn colons_of_command(command: Command) -> usize
+    ensures value { result ≡ form.colons_of_command command }
     ensures few { result ≤ 2 }
 {
-    match kind {
-        Kind::Motion(motion) => match motion {
-            Motion::Forward | Motion::Backward | Motion::To => 1,
-            Motion::Lines => 0,
-        },
-        Kind::Storage(storage) => match storage {
-            Storage::Number | Storage::Copy | Storage::SetText | Storage::Get => 1,
-            _ => 0,
-        },
-        Kind::Search(Search::Find) => 2,
-        Kind::Search(_) | Kind::Typing(Typing::Number(_)) | Kind::Flow(Flow::Leave) => 1,
+    match command {
+        Command::Motion(Motion::Lines) => 0,
+        Command::Motion(_) | Command::Typing(Typing::Number(_)) => 1,
         _ => 0,
     }
 }
 
-/// May `@` stand before it?
-pub fn at_allowed(kind: Kind) -> bool
-    ensures { result ≡ form.at_allowed kind }
+/// How many colons may stand before these letters?
+pub fn colons_allowed(head: &Head) -> usize
+    ensures value { result ≡ form.colons_allowed head.now }
+    ensures few { result ≤ 2 }
+{
+    match *head {
+        Head::Kind(Kind::Command(command)) => colons_of_command(command),
+        Head::Kind(Kind::Search(Search::Find)) => 2,
+        Head::Kind(Kind::Search(_) | Kind::Flow(Flow::Leave)) => 1,
+        Head::Kind(_) => 0,
+        Head::OnRegister(on) => match on {
+            OnRegister::Number | OnRegister::Copy | OnRegister::SetText | OnRegister::Get => 1,
+            _ => 0,
+        },
+    }
+}
+
+/// May `@` stand before a command?
+fn at_of_command(command: Command) -> bool
+    ensures { result ≡ form.at_of_command command }
 {
     matches!(
-        kind,
-        Kind::Insertion(Insertion::Text)
-            | Kind::Search(_)
-            | Kind::Storage(Storage::SetText)
-            | Kind::Typing(Typing::Message)
-            | Kind::Flow(Flow::GoTo)
-            | Kind::File(File::Read | File::Write)
+        command,
+        Command::Insertion(Insertion::Text) | Command::Typing(Typing::Message)
     )
 }
 
-/// Does a register's name follow its letters?
-pub fn names_register(kind: Kind) -> bool
-    ensures { result ≡ form.names_register kind }
+/// May `@` stand before these letters?
+pub fn at_allowed(head: &Head) -> bool
+    ensures { result ≡ form.at_allowed head.now }
 {
-    matches!(kind, Kind::Storage(_))
+    match *head {
+        Head::Kind(Kind::Command(command)) => at_of_command(command),
+        Head::Kind(
+            Kind::Search(_) | Kind::Flow(Flow::GoTo) | Kind::File(File::Read | File::Write),
+        )
+        | Head::OnRegister(OnRegister::SetText) => true,
+        _ => false,
+    }
+}
+
+/// What an element is, with its register.
+pub fn kind_on(on: OnRegister, reg: Reg) -> Kind
+    ensures { result ≡ form.kind_on on reg }
+{
+    match on {
+        OnRegister::SetNumber => Kind::Command(Command::Storage(Storage::SetNumber(reg))),
+        OnRegister::Add => Kind::Command(Command::Storage(Storage::Add(reg))),
+        OnRegister::Number => Kind::Query(Query::Number(reg)),
+        OnRegister::Copy => Kind::Command(Command::Storage(Storage::Copy(reg))),
+        OnRegister::SetText => Kind::Command(Command::Storage(Storage::SetText(reg))),
+        OnRegister::Get => Kind::Command(Command::Storage(Storage::Get(reg))),
+        OnRegister::Push => Kind::Stack(Stack::Push(reg)),
+        OnRegister::Pop => Kind::Stack(Stack::Pop(reg)),
+        OnRegister::Call => Kind::Call(Call { register: reg }),
+    }
+}
+
+/// Which texts has a command?
+fn texts_of_command(command: Command) -> Texts
+    ensures { result ≡ form.texts_of_command command }
+{
+    match command {
+        Command::Typing(Typing::Message) => Texts::EndedBy(CONTROL_A),
+        Command::Insertion(_) | Command::Storage(Storage::SetText(_)) => Texts::EndedBy(ESC),
+        _ => Texts::NoText,
+    }
 }
 
 /// Which texts follow?
-pub fn texts_of(kind: Kind) -> Form
-    ensures { form_seen result ≡ form.texts_of kind }
+pub fn texts_of(kind: &Kind) -> Texts
+    ensures { result ≡ form.texts_of kind.now }
 {
-    match kind {
-        Kind::Argument(Argument::Digits) => Form::Itself,
-        Kind::Typing(Typing::Message) => Form::EndedBy(CONTROL_A),
-        Kind::Flow(Flow::Comment) => Form::EndedBy(b'!'),
-        Kind::Search(Search::Replace | Search::ReplaceInPages) => Form::Two,
-        Kind::Insertion(_)
-        | Kind::Storage(Storage::SetText)
-        | Kind::Search(_)
-        | Kind::Flow(Flow::GoTo)
-        | Kind::File(File::Read | File::Write) => Form::EndedBy(ESC),
-        _ => Form::NoText,
+    match *kind {
+        Kind::Argument(Argument::Digits) => Texts::Itself,
+        Kind::Command(command) => texts_of_command(command),
+        Kind::Search(Search::Replace | Search::ReplaceInPages) => Texts::Two,
+        Kind::Search(_) | Kind::Flow(Flow::GoTo) | Kind::File(File::Read | File::Write) => {
+            Texts::EndedBy(ESC)
+        }
+        Kind::Flow(Flow::Comment) => Texts::EndedBy(b'!'),
+        _ => Texts::NoText,
     }
 }

@@ -7,11 +7,12 @@ ghost use Rattle.teco_lex.specs.Reading.{SecondByte};
 
 use teco_base::Code;
 use teco_base::bytes::{control, is_digit, to_upper};
-use teco_model::Operator;
+use teco_base::bytes::{ESC, QUOTE, TAB};
 use teco_model::kind::{
-    Argument, File, Flow, Insertion, Kind, Motion, Page, Radix, Search, Storage, Test, Typing,
-    Unit, Value,
+    Argument, Command, File, Flow, Insertion, Kind, Motion, Page, Query, Radix, Search, Test,
+    Typing, Unit, Value,
 };
+use teco_model::{Head, OnRegister, Operator};
 
 /// What a sign for arguments names.
 fn argument_sign(b: u8) -> Option<Kind>
@@ -34,87 +35,87 @@ fn argument_sign(b: u8) -> Option<Kind>
 }
 
 /// What any other sign names.
-fn command_sign(b: u8) -> Option<Kind>
+fn command_sign(b: u8) -> Option<Head>
     ensures { result ≡ table.command_sign b }
 {
-    let kind = match b {
-        b'!' => Kind::Flow(Flow::Comment),
-        b'%' => Kind::Storage(Storage::Add),
-        b'\'' => Kind::Flow(Flow::EndTest),
-        b';' => Kind::Flow(Flow::Leave),
-        b'<' => Kind::Flow(Flow::Iterate),
-        b'>' => Kind::Flow(Flow::EndTurn),
-        b'[' => Kind::Storage(Storage::Push),
-        b'\\' => Kind::Conversion,
-        b']' => Kind::Storage(Storage::Pop),
-        b'|' => Kind::Flow(Flow::Otherwise),
+    let head = match b {
+        b'!' => Head::Kind(Kind::Flow(Flow::Comment)),
+        b'%' => Head::OnRegister(OnRegister::Add),
+        b'\'' => Head::Kind(Kind::Flow(Flow::EndTest)),
+        b';' => Head::Kind(Kind::Flow(Flow::Leave)),
+        b'<' => Head::Kind(Kind::Flow(Flow::Iterate)),
+        b'>' => Head::Kind(Kind::Flow(Flow::EndTurn)),
+        b'[' => Head::OnRegister(OnRegister::Push),
+        b'\\' => Head::Kind(Kind::Query(Query::Conversion)),
+        b']' => Head::OnRegister(OnRegister::Pop),
+        b'|' => Head::Kind(Kind::Flow(Flow::Otherwise)),
         _ => return None,
     };
-    Some(kind)
+    Some(head)
 }
 
 /// What a letter from `A` to `M` names.
-fn letter_to_m(letter: u8) -> Option<Kind>
+fn letter_to_m(letter: u8) -> Option<Head>
     ensures { result ≡ table.letter_to_m letter }
 {
-    let kind = match letter {
-        b'A' => Kind::Page(Page::Append),
-        b'B' => Kind::Value(Value::Begin),
-        b'C' => Kind::Motion(Motion::Forward),
-        b'D' => Kind::Deletion(Unit::Characters),
-        b'G' => Kind::Storage(Storage::Get),
-        b'H' => Kind::Value(Value::Whole),
-        b'I' => Kind::Insertion(Insertion::Text),
-        b'J' => Kind::Motion(Motion::To),
-        b'K' => Kind::Deletion(Unit::Lines),
-        b'L' => Kind::Motion(Motion::Lines),
-        b'M' => Kind::Storage(Storage::Execute),
+    let head = match letter {
+        b'A' => Head::Kind(Kind::Page(Page::Append)),
+        b'B' => Head::Kind(Kind::Value(Value::Begin)),
+        b'C' => Head::Kind(Kind::Command(Command::Motion(Motion::Forward))),
+        b'D' => Head::Kind(Kind::Command(Command::Deletion(Unit::Characters))),
+        b'G' => Head::OnRegister(OnRegister::Get),
+        b'H' => Head::Kind(Kind::Value(Value::Whole)),
+        b'I' => Head::Kind(Kind::Command(Command::Insertion(Insertion::Text))),
+        b'J' => Head::Kind(Kind::Command(Command::Motion(Motion::To))),
+        b'K' => Head::Kind(Kind::Command(Command::Deletion(Unit::Lines))),
+        b'L' => Head::Kind(Kind::Command(Command::Motion(Motion::Lines))),
+        b'M' => Head::OnRegister(OnRegister::Call),
         _ => return None,
     };
-    Some(kind)
+    Some(head)
 }
 
 /// What a letter from `N` to `Z` names.
-fn letter_from_n(letter: u8) -> Option<Kind>
+fn letter_from_n(letter: u8) -> Option<Head>
     ensures { result ≡ table.letter_from_n letter }
 {
-    let kind = match letter {
-        b'N' => Kind::Search(Search::FindInPages),
-        b'O' => Kind::Flow(Flow::GoTo),
-        b'Q' => Kind::Storage(Storage::Number),
-        b'R' => Kind::Motion(Motion::Backward),
-        b'S' => Kind::Search(Search::Find),
-        b'T' => Kind::Typing(Typing::Part),
-        b'U' => Kind::Storage(Storage::SetNumber),
-        b'V' => Kind::Typing(Typing::View),
-        b'X' => Kind::Storage(Storage::Copy),
-        b'Y' => Kind::Page(Page::Yank),
-        b'Z' => Kind::Value(Value::Size),
+    let head = match letter {
+        b'N' => Head::Kind(Kind::Search(Search::FindInPages)),
+        b'O' => Head::Kind(Kind::Flow(Flow::GoTo)),
+        b'Q' => Head::OnRegister(OnRegister::Number),
+        b'R' => Head::Kind(Kind::Command(Command::Motion(Motion::Backward))),
+        b'S' => Head::Kind(Kind::Search(Search::Find)),
+        b'T' => Head::Kind(Kind::Command(Command::Typing(Typing::Part))),
+        b'U' => Head::OnRegister(OnRegister::SetNumber),
+        b'V' => Head::Kind(Kind::Command(Command::Typing(Typing::View))),
+        b'X' => Head::OnRegister(OnRegister::Copy),
+        b'Y' => Head::Kind(Kind::Page(Page::Yank)),
+        b'Z' => Head::Kind(Kind::Value(Value::Size)),
         _ => return None,
     };
-    Some(kind)
+    Some(head)
 }
 
 /// What a control byte names.
-fn control_command(b: u8) -> Option<Kind>
+fn control_command(b: u8) -> Option<Head>
     ensures { result ≡ table.control_command b }
 {
-    let kind = match b {
-        0x01 => Kind::Typing(Typing::Message),
-        b'\t' => Kind::Insertion(Insertion::Tab),
-        0x13 => Kind::Value(Value::LastLength),
-        0x14 => Kind::Typing(Typing::Byte),
-        0x15 => Kind::Storage(Storage::SetText),
-        0x18 => Kind::Mode,
-        0x19 => Kind::Value(Value::LastText),
-        0x1b => Kind::Argument(Argument::DropAll),
+    let head = match b {
+        0x01 => Head::Kind(Kind::Command(Command::Typing(Typing::Message))),
+        TAB => Head::Kind(Kind::Command(Command::Insertion(Insertion::Tab))),
+        0x13 => Head::Kind(Kind::Value(Value::LastLength)),
+        0x14 => Head::Kind(Kind::Command(Command::Typing(Typing::Byte))),
+        0x15 => Head::OnRegister(OnRegister::SetText),
+        0x18 => Head::Kind(Kind::Query(Query::Mode)),
+        0x19 => Head::Kind(Kind::Value(Value::LastText)),
+        ESC => Head::Kind(Kind::Argument(Argument::DropAll)),
         _ => return None,
     };
-    Some(kind)
+    Some(head)
 }
 
 /// What the letter after `E` names.
-fn file_letter(letter: u8) -> Option<Kind>
+fn file_letter(letter: u8) -> Option<Head>
     ensures { result ≡ table.file_letter letter }
 {
     let file = match letter {
@@ -126,22 +127,22 @@ fn file_letter(letter: u8) -> Option<Kind>
         b'X' => File::Exit,
         _ => return None,
     };
-    Some(Kind::File(file))
+    Some(Head::Kind(Kind::File(file)))
 }
 
 /// What the letter after `F` names.
-fn replace_letter(letter: u8) -> Option<Kind>
+fn replace_letter(letter: u8) -> Option<Head>
     ensures { result ≡ table.replace_letter letter }
 {
     match letter {
-        b'N' => Some(Kind::Search(Search::ReplaceInPages)),
-        b'S' => Some(Kind::Search(Search::Replace)),
+        b'N' => Some(Head::Kind(Kind::Search(Search::ReplaceInPages))),
+        b'S' => Some(Head::Kind(Kind::Search(Search::Replace))),
         _ => None,
     }
 }
 
 /// What the letter after `"` asks.
-fn test_letter(letter: u8) -> Option<Kind>
+fn test_letter(letter: u8) -> Option<Head>
     ensures { result ≡ table.test_letter letter }
 {
     let test = match letter {
@@ -157,55 +158,67 @@ fn test_letter(letter: u8) -> Option<Kind>
         b'W' => Test::Upper,
         _ => return None,
     };
-    Some(Kind::Flow(Flow::Test(test)))
+    Some(Head::Kind(Kind::Flow(Flow::Test(test))))
 }
 
 /// What a byte names that stands alone.
-fn one_byte(b: u8) -> Option<Kind>
+fn one_byte(b: u8) -> Option<Head>
     ensures { result ≡ table.one_byte b }
 {
-    argument_sign(b)
-        .or_else(|| command_sign(b))
-        .or_else(|| letter_to_m(to_upper(b)))
-        .or_else(|| letter_from_n(to_upper(b)))
-        .or_else(|| control_command(b))
+    if let Some(kind) = argument_sign(b) {
+        return Some(Head::Kind(kind));
+    }
+    let letter = to_upper(b);
+    let named = command_sign(b);
+    if named.is_some() {
+        return named;
+    }
+    let named = letter_to_m(letter);
+    if named.is_some() {
+        return named;
+    }
+    let named = letter_from_n(letter);
+    if named.is_some() {
+        return named;
+    }
+    control_command(b)
 }
 
-/// A kind that some bytes name, or ILL.
-fn named(kind: Option<Kind>, bytes: usize) -> Result<(Kind, usize), Code>
-    ensures value { result ≡ table.named kind bytes }
+/// What some bytes name, or ILL.
+fn head_of(named: Option<Head>, bytes: usize) -> Result<(Head, usize), Code>
+    ensures value { result ≡ table.head_of named bytes }
     ensures len { IfOk result (λ x. x.1 ≡ bytes) }
 {
-    Ok((kind.ok_or(Code::Ill)?, bytes))
+    Ok((named.ok_or(Code::Ill)?, bytes))
 }
 
-/// The kind that the second of two bytes names.
-fn second_byte<F: Fn(u8) -> Option<Kind>>(names: F, rest: &[u8]) -> Result<(Kind, usize), Code>
+/// What the second of two bytes names.
+fn second_byte<F: Fn(u8) -> Option<Head>>(names: F, rest: &[u8]) -> Result<(Head, usize), Code>
     requires { F.IsAlwaysCallable names }
     ensures value { SecondByte (F.post names) rest.now result }
     ensures within { IfOk result (λ x. (0 < x.1) × (x.1 ≤ length rest.now + 1)) }
 {
     let letter = rest.first().ok_or(Code::Utc)?;
-    named(names(to_upper(*letter)), 2)
+    head_of(names(to_upper(*letter)), 2)
 }
 
 /// What a caret and the byte behind it name.
-fn caret(rest: &[u8]) -> Result<(Kind, usize), Code>
+fn caret(rest: &[u8]) -> Result<(Head, usize), Code>
     ensures value { result ≡ table.caret rest.now }
     ensures within { IfOk result (λ x. (0 < x.1) × (x.1 ≤ length rest.now + 1)) }
 {
     let c = rest.first().ok_or(Code::Utc)?;
-    named(control(*c).and_then(control_command), 2)
+    head_of(control(*c).and_then(control_command), 2)
 }
 
 /// `P`, or `PW`.
-fn page_letters(rest: &[u8]) -> (Kind, usize)
+fn page_letters(rest: &[u8]) -> (Head, usize)
     ensures value { result ≡ table.page_letters rest.now }
     ensures within { (0 < result.1) × (result.1 ≤ length rest.now + 1) }
 {
     match rest {
-        [b'W' | b'w', ..] => (Kind::Page(Page::Write), 2),
-        _ => (Kind::Page(Page::Next), 1),
+        [b'W' | b'w', ..] => (Head::Kind(Kind::Page(Page::Write)), 2),
+        _ => (Head::Kind(Kind::Page(Page::Next)), 1),
     }
 }
 
@@ -218,7 +231,7 @@ fn digit_len(text: &[u8]) -> usize
 }
 
 /// `=` and the signs of its kind behind it.
-fn equal_signs(rest: &[u8]) -> (Kind, usize)
+fn equal_signs(rest: &[u8]) -> (Head, usize)
     ensures value { result ≡ table.equal_signs (61 ∷ rest.now) }
     ensures within { (0 < result.1) × (result.1 ≤ length rest.now + 1) }
 {
@@ -227,28 +240,28 @@ fn equal_signs(rest: &[u8]) -> (Kind, usize)
         [b'=', ..] => (Radix::Octal, 2),
         _ => (Radix::Decimal, 1),
     };
-    (Kind::Typing(Typing::Number(radix)), len)
+    (Head::Kind(Kind::Command(Command::Typing(Typing::Number(radix)))), len)
 }
 
-/// The kind that the bytes at the front name, and how many bytes that takes.
+/// What the bytes at the front name, and how many bytes that takes.
 #[tactic(auto, unfolding(teco_model::specs::Letters::letters))]
-pub fn letters(text: &[u8]) -> Result<(Kind, usize), Code>
+pub fn letters(text: &[u8]) -> Result<(Head, usize), Code>
     ensures value { result ≡ table.letters text.now }
     ensures within { IfOk result (λ x. (0 < x.1) × (x.1 ≤ length text.now)) }
 {
     let (b, rest) = text.split_first().ok_or(Code::Utc)?;
     if is_digit(*b) {
-        return Ok((Kind::Argument(Argument::Digits), digit_len(text)));
+        return Ok((Head::Kind(Kind::Argument(Argument::Digits)), digit_len(text)));
     }
     match *b {
         b'=' => Ok(equal_signs(rest)),
-        b'"' => second_byte(test_letter, rest),
+        QUOTE => second_byte(test_letter, rest),
         b'^' => caret(rest),
         b => match to_upper(b) {
             b'E' => second_byte(file_letter, rest),
             b'F' => second_byte(replace_letter, rest),
             b'P' => Ok(page_letters(rest)),
-            _ => named(one_byte(b), 1),
+            _ => head_of(one_byte(b), 1),
         },
     }
 }

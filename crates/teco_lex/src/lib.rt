@@ -2,15 +2,14 @@
 #![tactic(auto)]
 
 mod blanks;
-mod elements;
 mod form;
 mod letters;
 mod reader;
 mod texts;
 
 pub use blanks::blank_end;
-pub use elements::Element;
 pub use reader::element;
+pub use teco_model::Element;
 
 #[cfg(test)]
 mod tests;

@@ -2,17 +2,16 @@
 ghost use Rattle.std.specs.Prelude.{◌≡◌, ◌<◌, ◌≤◌, Ok, take, drop, length, nat_le, option_map, MatchResult, MatchOption, IfOk, IfSome, ◌+◌};
 ghost use Rattle.std.specs.List.{prefix_len};
 ghost use Rattle.teco_model.specs.Element as model;
-ghost use Rattle.teco_lex.specs.Element.{seen};
+ghost use Rattle.teco_model.specs.Element.{seen};
 ghost use Rattle.teco_lex.specs.Reader.{Judges};
 ghost use Rattle.teco_lex.specs.Reading.{Gives};
 
 use crate::blanks::blank_end;
-use crate::elements::Element;
-use crate::form::{at_allowed, colons_allowed, names_register, texts_of};
+use crate::form::{at_allowed, colons_allowed, texts_of};
 use crate::letters::letters;
-use crate::texts::{register_named, texts};
+use crate::texts::{kind_read, texts};
 use teco_base::Code;
-use teco_model::Kind;
+use teco_model::{Element, Head};
 
 /// The modifiers of an element.
 #[derive(Clone, Copy)]
@@ -52,13 +51,13 @@ fn ats_in(modifiers: &[u8]) -> usize
     modifiers.iter().filter(|b| **b == b'@').count()
 }
 
-/// A modifier that the kind does not allow, or not so often, is ILL.
-fn judged(kind: Kind, modifiers: &[u8]) -> Result<Modifiers, Code>
-    ensures { Judges kind modifiers.now result }
+/// A modifier that the letters do not allow, or not so often, is ILL.
+fn judge(head: &Head, modifiers: &[u8]) -> Result<Modifiers, Code>
+    ensures { Judges head.now modifiers.now result }
 {
     let colons = colons_in(modifiers);
     let ats = ats_in(modifiers);
-    if colons > colons_allowed(kind) || ats > usize::from(at_allowed(kind)) {
+    if colons > colons_allowed(head) || ats > usize::from(at_allowed(head)) {
         return Err(Code::Ill);
     }
     Ok(Modifiers {
@@ -75,16 +74,15 @@ fn element_from(text: &[u8], place: usize) -> Result<Element<'_>, Code>
     ensures within { IfOk result (λ e. (e.place ≡ place) × (place < e.next) × (e.next ≤ length text.now)) }
 {
     let (modifiers, behind) = split_modifiers(&text[place..]);
-    let (kind, len) = letters(behind)?;
-    let Modifiers { colons, at } = judged(kind, modifiers)?;
+    let (head, len) = letters(behind)?;
+    let Modifiers { colons, at } = judge(&head, modifiers)?;
     let (own, rest) = behind.split_at(len);
-    let (register, len) = register_named(names_register(kind), rest)?;
-    let read = texts(texts_of(kind), at, own, &rest[len..])?;
+    let (kind, len) = kind_read(head, rest)?;
+    let read = texts(texts_of(&kind), at, own, &rest[len..])?;
     Ok(Element {
         kind,
         colons,
         at,
-        register,
         text: read.text,
         second: read.second,
         place,

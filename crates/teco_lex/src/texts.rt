@@ -1,14 +1,14 @@
 //! What follows an element's letters: a register's name and texts.
 ghost use Rattle.std.specs.Prelude.{◌≡◌, ◌≤◌, ◌==◌, [], drop, length, position, IfOk};
 ghost use Rattle.teco_model.specs.Element as model;
-ghost use Rattle.teco_model.specs.Form as form;
-ghost use Rattle.teco_lex.specs.Form.{form_seen};
+ghost use Rattle.teco_model.specs.declared.head.Texts.TheVariants as texts;
 ghost use Rattle.teco_lex.specs.Reading.{Gives};
 ghost use Rattle.teco_lex.specs.Texts.{texts_seen};
 
-use crate::form::Form;
+use crate::form::kind_on;
 use teco_base::bytes::ESC;
 use teco_base::{Code, Reg};
+use teco_model::{Head, Kind, Texts};
 
 /// The texts of an element, and what stands behind them.
 #[derive(Clone, Copy)]
@@ -18,17 +18,19 @@ pub struct TextsRead<'a> {
     pub rest: &'a [u8],
 }
 
-/// The register whose name stands at the front, if one is named there, and how many bytes that takes.
-pub fn register_named(is_named: bool, bytes: &[u8]) -> Result<(Option<Reg>, usize), Code>
-    ensures value { Gives (λ x. (x.0, drop x.1 bytes.now)) result (model.register_named is_named bytes.now) }
+/// What the element is, with the register whose name stands at the front if it needs one, and how many bytes that takes.
+pub fn kind_read(head: Head, bytes: &[u8]) -> Result<(Kind, usize), Code>
+    ensures value { Gives (λ x. (x.0, drop x.1 bytes.now)) result (model.kind_read head bytes.now) }
     ensures within { IfOk result (λ x. x.1 ≤ length bytes.now) }
 {
-    if !is_named {
-        return Ok((None, 0));
+    match head {
+        Head::Kind(kind) => Ok((kind, 0)),
+        Head::OnRegister(on) => {
+            let name = bytes.first().ok_or(Code::Utc)?;
+            let reg = Reg::of(*name).ok_or(Code::Iqn)?;
+            Ok((kind_on(on, reg), 1))
+        }
     }
-    let name = bytes.first().ok_or(Code::Utc)?;
-    let register = Reg::of(*name).ok_or(Code::Iqn)?;
-    Ok((Some(register), 1))
 }
 
 /// The byte that ends the texts: after `@` the byte that comes next.
@@ -61,7 +63,7 @@ fn text_up_to(byte: u8, bytes: &[u8]) -> Result<(&[u8], &[u8]), Code>
 
 /// One text.
 fn one_text(at: bool, byte: u8, bytes: &[u8]) -> Result<TextsRead<'_>, Code>
-    ensures value { Gives texts_seen result (model.texts (form.EndedBy byte) at [] bytes.now) }
+    ensures value { Gives texts_seen result (model.texts (texts.EndedBy byte) at [] bytes.now) }
     ensures within { IfOk result (λ x. length x.rest.now ≤ length bytes.now) }
 {
     let (byte, rest) = ending(at, byte, bytes)?;
@@ -75,7 +77,7 @@ fn one_text(at: bool, byte: u8, bytes: &[u8]) -> Result<TextsRead<'_>, Code>
 
 /// Two texts.
 fn two_texts(at: bool, bytes: &[u8]) -> Result<TextsRead<'_>, Code>
-    ensures value { Gives texts_seen result (model.texts form.Two at [] bytes.now) }
+    ensures value { Gives texts_seen result (model.texts texts.Two at [] bytes.now) }
     ensures within { IfOk result (λ x. length x.rest.now ≤ length bytes.now) }
 {
     let (byte, rest) = ending(at, ESC, bytes)?;
@@ -86,23 +88,23 @@ fn two_texts(at: bool, bytes: &[u8]) -> Result<TextsRead<'_>, Code>
 
 /// The texts of an element whose own bytes are known.
 pub fn texts<'a>(
-    shape: Form,
+    shape: Texts,
     at: bool,
     own: &'a [u8],
     bytes: &'a [u8],
 ) -> Result<TextsRead<'a>, Code>
-    ensures value { Gives texts_seen result (model.texts (form_seen shape) at own.now bytes.now) }
+    ensures value { Gives texts_seen result (model.texts shape at own.now bytes.now) }
     ensures within { IfOk result (λ x. length x.rest.now ≤ length bytes.now) }
 {
     match shape {
-        Form::Itself => Ok(TextsRead {
+        Texts::Itself => Ok(TextsRead {
             text: own,
             second: &[],
             rest: bytes,
         }),
-        Form::EndedBy(byte) => one_text(at, byte, bytes),
-        Form::Two => two_texts(at, bytes),
-        Form::NoText => Ok(TextsRead {
+        Texts::EndedBy(byte) => one_text(at, byte, bytes),
+        Texts::Two => two_texts(at, bytes),
+        Texts::NoText => Ok(TextsRead {
             text: &[],
             second: &[],
             rest: bytes,

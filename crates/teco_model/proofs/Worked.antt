@@ -4,12 +4,12 @@ use Rattle.std.specs.Int.{int_wrap}
 use Rattle.teco_model.specs.Element.{blank_len, element_from, element_at}
 use Rattle.teco_model.specs.Registers.{empty_pairs}
 use Rattle.teco_model.specs.Letters.{letters}
-use Rattle.teco_model.specs.Step.{effect, perform, step}
+use Rattle.teco_model.specs.Step.{outcome_of, step}
 use Rattle.teco_model.specs.Run.{run}
 use Rattle.teco_model.specs.Rows.{WorkedRows}
 
 pub worked_rows : WorkedRows
-unfolding digits int_wrap empty_pairs blank_len element_from element_at letters effect perform step run
+unfolding digits int_wrap empty_pairs blank_len element_from element_at letters outcome_of step run
 worked_rows = record {
   left_to_right = refl;
   wraps = refl;

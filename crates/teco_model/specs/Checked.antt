@@ -2,10 +2,6 @@
 use Rattle.std.specs.Prelude.{Result, Ok, Err}
 use Rattle.teco_base.specs.declared.code.Code.{Code}
 
--- what may be a code
-abbrev pub Checked : Type 0 → Type 0
-Checked X = Result X Code
-
 infixl 10 ◌>>=◌
 abbrev pub ◌>>=◌ : {X Y : Type 0} → Result X Code → (X → Result Y Code) → Result Y Code
 (Ok x) >>= f = f x

@@ -13,14 +13,16 @@ pub mod Element
 pub mod State
 pub mod Places
 pub mod Effect
+pub mod Character
 pub mod Motion
 pub mod Deletion
 pub mod Insertion
 pub mod Typing
 pub mod Storage
 pub mod Conversion
-pub mod Mode
+pub mod Query
 pub mod Step
+pub mod Memory
 pub mod Run
 pub mod Rows
 pub mod Session

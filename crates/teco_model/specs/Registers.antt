@@ -1,7 +1,6 @@
 -- The registers: 36 pairs of a number and a text, by their places, and the push-down list of such pairs.
 use Rattle.std.specs.Prelude.{◌≡◌, ℕ, ℤ, ◌+◌, ◌≤◌, pos, List, [], ◌∷◌, length, map, zip, replicate, sum_by, All, slice_set, slice_index_or, Option, Some, None}
-use Rattle.teco_base.specs.Register.{REGISTERS}
-use Rattle.teco_base.specs.declared.TheConstants.{LIMIT}
+use Rattle.teco_base.specs.declared.TheConstants.{LIMIT, REGISTERS}
 
 -- what a register holds
 pub record Pair : Type 0 where
@@ -12,17 +11,17 @@ pub record Pair : Type 0 where
 abbrev pub empty_pair : Pair
 empty_pair = record { number = pos 0; text = [] }
 
--- the pairs by the places of their registers, and the pushed pairs, the newest first
+-- the pairs by the places of their registers, and those of the push-down list, the newest first
 pub record Registers : Type 0 where
   pub pairs : List Pair
-  pub pushed : List Pair
+  pub stack : List Pair
 
 -- the registers of a new machine
 unfoldable pub empty_pairs : List Pair
 empty_pairs = replicate REGISTERS empty_pair
 
 abbrev pub empty_registers : Registers
-empty_registers = record { pairs = empty_pairs; pushed = [] }
+empty_registers = record { pairs = empty_pairs; stack = [] }
 
 -- a pair whose text is not too long
 abbrev pub IsWithinLimit : Pair → Type 0
@@ -32,7 +31,7 @@ IsWithinLimit pair = length pair.text ≤ LIMIT
 pub record AreWhole (registers : Registers) : Type 0 where
   pub count : length registers.pairs ≡ REGISTERS
   pub within : All IsWithinLimit registers.pairs
-  pub pushed_within : All IsWithinLimit registers.pushed
+  pub stack_within : All IsWithinLimit registers.stack
 
 -- what a register holds
 abbrev pub pair_of : ℕ → Registers → Pair
@@ -56,22 +55,25 @@ with_own_text None pair = pair
 with_own_text (Some text) pair = record pair { text = text }
 
 abbrev pub with_texts : List (Option (List ℕ)) → Registers → Registers
-with_texts texts registers = record registers { pairs = map (λ own. with_own_text own.0 own.1) (zip texts registers.pairs) }
+with_texts texts registers =
+    record registers { pairs = map (λ own. with_own_text own.0 own.1) (zip texts registers.pairs) }
 
 -- Pushing puts a copy of the pair on the list; popping takes the newest off it, or there is none.
-abbrev pub pushed : ℕ → Registers → Registers
-pushed r registers = record registers { pushed = pair_of r registers ∷ registers.pushed }
+abbrev pub registers_after_push : ℕ → Registers → Registers
+registers_after_push r registers = record registers { stack = pair_of r registers ∷ registers.stack }
 
-abbrev pub popped_from : ℕ → List Pair → Registers → Option Registers
-popped_from r [] registers = None
-popped_from r (pair ∷ rest) registers = Some (record (with_pair r pair registers) { pushed = rest })
+abbrev pub registers_without_top : ℕ → List Pair → Registers → Option Registers
+registers_without_top r [] registers = None
+registers_without_top r (pair ∷ rest) registers =
+    Some (record (with_pair r pair registers) { stack = rest })
 
-abbrev pub popped : ℕ → Registers → Option Registers
-popped r registers = popped_from r registers.pushed registers
+abbrev pub registers_after_pop : ℕ → Registers → Option Registers
+registers_after_pop r registers = registers_without_top r registers.stack registers
 
 -- how many characters a pair holds, and how many the registers and the push-down list hold together
-abbrev pub held_in_pair : Pair → ℕ
-held_in_pair pair = length pair.text
+abbrev pub held_length_of_pair : Pair → ℕ
+held_length_of_pair pair = length pair.text
 
-abbrev pub held_in_registers : Registers → ℕ
-held_in_registers registers = sum_by held_in_pair registers.pairs + sum_by held_in_pair registers.pushed
+abbrev pub held_length_of_registers : Registers → ℕ
+held_length_of_registers registers =
+    sum_by held_length_of_pair registers.pairs + sum_by held_length_of_pair registers.stack

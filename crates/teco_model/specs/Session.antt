@@ -1,15 +1,16 @@
 -- A session: the input is cut into command strings, each is run, and what it typed is written, with a code line for a stop
 -- that is not the end.
-use Rattle.std.specs.Prelude.{ℕ, ◌+◌, ◌≡◌, ◌≤◌, List, [], ◌∷◌, ◌++◌, length, take, Option, Some, None, Bool, true, false, ◌&&◌, ◌||◌, ◌==◌, nat_le, if◌then◌else◌}
+use Rattle.std.specs.Prelude.{ℕ, ◌+◌, ◌≡◌, ◌≤◌, List, [], ◌∷◌, ◌++◌, codes, length, take, Option, Some, None, Bool, true, false, ◌&&◌, ◌||◌, ◌==◌, nat_le, if◌then◌else◌}
 use Rattle.std.specs.List.{list_all}
 use Rattle.std.specs.Option.{option_map}
 use Rattle.teco_base.specs.Bytes.{is_blank}
 use Rattle.teco_base.specs.Code.{code_name}
+use Rattle.teco_base.specs.declared.bytes.TheConstants.{CR, LF, ESC}
 use Rattle.teco_base.specs.declared.TheConstants.{LIMIT}
 use Rattle.teco_base.specs.declared.code.Code.{Code}
 use Rattle.teco_base.specs.declared.code.Code.TheVariants as code
 use Rattle.teco_model.specs.Run.{Stops}
-use Rattle.teco_model.specs.State.{Kept, start}
+use Rattle.teco_model.specs.State.{World, start}
 use Rattle.teco_model.specs.declared.stop.Stop.{Stop}
 use Rattle.teco_model.specs.declared.stop.Stop.TheVariants as stop
 
@@ -17,7 +18,10 @@ use Rattle.teco_model.specs.declared.stop.Stop.TheVariants as stop
 unfoldable pub string_end : List ℕ → Option ℕ
 string_end [] = None
 string_end (a ∷ []) = None
-string_end (a ∷ b ∷ rest) = elim (a == 27 && b == 27) [ true ↦ Some 2 | false ↦ option_map (λ n. 1 + n) (string_end (b ∷ rest)) ]
+string_end (a ∷ b ∷ rest) = elim (a == ESC && b == ESC) [
+  | true ↦ Some 2
+  | false ↦ option_map (λ n. 1 + n) (string_end (b ∷ rest))
+]
 
 -- a command string: it holds no end before its own, and has at most LIMIT bytes
 pub record IsCommandString (string : List ℕ) : Type 0 where
@@ -34,27 +38,42 @@ code_of stop.Memory = Some code.Mem
 -- a code line: ?, the code, CR LF
 abbrev pub code_line : Option Code → List ℕ
 code_line None = []
-code_line (Some c) = 63 ∷ code_name c ++ 13 ∷ 10 ∷ []
+code_line (Some c) = codes "?" ++ code_name c ++ CR ∷ LF ∷ []
 
 abbrev pub is_code : Option Code → Bool
 is_code None = false
 is_code (Some c) = true
 
--- So many command strings, joined to one input, are executed one after another: what is kept then, what is written, and
+-- what stays when the typed bytes are taken
+abbrev pub without_typed : World → World
+without_typed world = record world { kept = record world.kept { typed = [] } }
+
+-- what is written for a stop: the typed bytes, and then the code line
+abbrev pub lines_of : Stop → World → List ℕ
+lines_of stop world = world.kept.typed ++ code_line (code_of stop)
+
+-- So many command strings, joined to one input, are executed one after another: what stays then, what is written, and
 -- whether a code line is among it.
-pub data Executes (limit : ℕ) (old : Kept) : ℕ → List ℕ → Kept → List ℕ → Bool → Type 0 where
+pub data Executes (limit : ℕ) (old : World) : ℕ → List ℕ → World → List ℕ → Bool → Type 0 where
   none : Executes limit old 0 [] old [] false
-  one_more : (count : ℕ) (input : List ℕ) (kept : Kept) (written : List ℕ) (coded : Bool) (string : List ℕ) (stop : Stop) (new : Kept) →
-      Executes limit old count input kept written coded → IsCommandString string → Stops (start string kept) limit stop new →
-      Executes limit old (count + 1) (input ++ string) (record new { typed = [] }) (written ++ (new.typed ++ code_line (code_of stop))) (coded || is_code (code_of stop))
+  one_more :
+      (count : ℕ) (input : List ℕ) (mid : World) (written : List ℕ) (coded : Bool) →
+      (string : List ℕ) (stop : Stop) (new : World) →
+      Executes limit old count input mid written coded →
+      IsCommandString string → Stops (start string mid) limit stop new →
+      Executes limit old (count + 1) (input ++ string) (without_typed new)
+        (written ++ lines_of stop new) (coded || is_code (code_of stop))
 
 -- What follows the last command string: a rest of LIMIT bytes without an end is FUL, blanks are nothing, and any other rest
 -- is UTC. It is not executed.
 abbrev pub rest_code : List ℕ → Option Code
-rest_code rest = if nat_le LIMIT (length rest) then Some code.Ful else if list_all is_blank rest then None else Some code.Utc
+rest_code rest =
+    if nat_le LIMIT (length rest) then Some code.Ful
+    else if list_all is_blank rest then None else Some code.Utc
 
 -- a whole session of an input: what it leaves, what it writes, and whether a code line is among it
-pub record Session (limit : ℕ) (old : Kept) (input : List ℕ) (new : Kept) (written : List ℕ) (coded : Bool) : Type 0 where
+pub record Session (limit : ℕ) (old : World) (input : List ℕ) (new : World) (written : List ℕ) (coded : Bool) :
+  Type 0 where
   pub count : ℕ
   pub strings : List ℕ
   pub rest : List ℕ

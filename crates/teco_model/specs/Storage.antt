@@ -1,20 +1,23 @@
 -- Registers: numbers, texts and the push-down list.
-use Rattle.std.specs.Prelude.{ℕ, ℤ, zero, suc, pos, negsuc, List, ◌++◌, length, slice_get, Option, Some, None, Result, Ok, Err, unwrap_or, nat_le, if◌then◌else◌}
-use Rattle.std.specs.Option.{option_map, ok_or}
+use Rattle.std.specs.Prelude.{ℕ, ℤ, zero, suc, pos, List, ◌++◌, length, Option, Some, None, Result, Ok, Err, unwrap_or, nat_le, if◌then◌else◌}
+use Rattle.std.specs.Option.{ok_or}
 use Rattle.teco_base.specs.declared.TheConstants.{LIMIT}
 use Rattle.teco_base.specs.declared.code.Code.{Code}
 use Rattle.teco_base.specs.declared.code.Code.TheVariants as code
 use Rattle.teco_base.specs.Arithmetic.{add}
 use Rattle.teco_model.specs.declared.arguments.Taken.{Taken}
+use Rattle.teco_model.specs.declared.kind.Stack.{Stack}
+use Rattle.teco_model.specs.declared.kind.Stack.TheVariants.{Push, Pop}
 use Rattle.teco_model.specs.declared.kind.Storage.{Storage}
-use Rattle.teco_model.specs.declared.kind.Storage.TheVariants.{SetNumber, Add, Number, Copy, SetText, Get}
+use Rattle.teco_model.specs.declared.kind.Storage.TheVariants.{SetNumber, Add, Copy, SetText, Get}
 use Rattle.teco_model.specs.Checked.{◌>>=◌}
-use Rattle.teco_model.specs.Effect.{Done, silent, answering, needed}
-use Rattle.teco_model.specs.Insertion.{insert}
-use Rattle.teco_model.specs.Places.{part_of}
-use Rattle.teco_model.specs.Registers.{pair_of, with_number, with_text, pushed, popped}
+use Rattle.teco_model.specs.Effect.{Effect, no_answer, with_answer, needed_value}
+use Rattle.teco_model.specs.Element.{Element}
+use Rattle.teco_model.specs.Insertion.{insertion_of}
+use Rattle.teco_model.specs.Places.{part_of, characters_of}
+use Rattle.teco_model.specs.Registers.{pair_of, with_number, with_text, registers_after_push, registers_after_pop}
 use Rattle.teco_model.specs.State.{Kept}
-use Rattle.teco_model.specs.Typing.{characters, type_bytes}
+use Rattle.teco_model.specs.Typing.{typing_of}
 
 -- the number and the text of a register
 abbrev pub number_in : ℕ → Kept → ℤ
@@ -24,59 +27,57 @@ abbrev pub text_in : ℕ → Kept → List ℕ
 text_in r kept = (pair_of r kept.registers).text
 
 -- nUq stores the number; n%q adds n and answers the sum
-abbrev pub set_number : ℕ → ℤ → Kept → Kept
-set_number r n kept = record kept { registers = with_number r n kept.registers }
+abbrev pub kept_with_number : ℕ → ℤ → Kept → Kept
+kept_with_number r n kept = record kept { registers = with_number r n kept.registers }
 
-abbrev pub add_number : ℕ → ℤ → Kept → Done
-add_number r n kept = let sum = add (number_in r kept) n in answering sum (set_number r sum kept)
+abbrev pub addition : ℕ → ℤ → Kept → Effect
+addition r n kept = let sum = add (number_in r kept) n in with_answer sum (kept_with_number r sum kept)
 
 -- a text is stored, or with a colon appended; one longer than LIMIT is FUL
-abbrev pub stored : ℕ → List ℕ → Kept → Result Done Code
-stored r text kept =
-    if nat_le (length text) LIMIT then Ok (silent (record kept { registers = with_text r text kept.registers })) else Err code.Ful
+abbrev pub text_setting : ℕ → List ℕ → Kept → Result Effect Code
+text_setting r text kept =
+    if nat_le (length text) LIMIT
+    then Ok (no_answer (record kept { registers = with_text r text kept.registers })) else Err code.Ful
 
-abbrev pub store : ℕ → ℕ → List ℕ → Kept → Result Done Code
-store zero r text kept = stored r text kept
-store (suc colons) r text kept = stored r (text_in r kept ++ text) kept
+abbrev pub text_storage : ℕ → ℕ → List ℕ → Kept → Result Effect Code
+text_storage zero r text kept = text_setting r text kept
+text_storage (suc colons) r text kept = text_setting r (text_in r kept ++ text) kept
 
 -- nXq copies lines or a range of the buffer into the text
-abbrev pub copy : ℕ → ℕ → Taken → Kept → Result Done Code
+abbrev pub copy : ℕ → ℕ → Taken → Kept → Result Effect Code
 copy colons r taken kept = do
-  part ← part_of kept.text kept.pointer taken.first taken.value
-  store colons r (characters part kept) kept
+  part ← part_of taken kept
+  text_storage colons r (characters_of part kept) kept
 
 -- ^Uq stores its text; an argument is ARG
-abbrev pub set_text : ℕ → ℕ → List ℕ → Option ℤ → Kept → Result Done Code
-set_text colons r text None kept = store colons r text kept
-set_text colons r text (Some n) kept = Err code.Arg
+abbrev pub own_text_storage : ℕ → ℕ → List ℕ → Option ℤ → Kept → Result Effect Code
+own_text_storage colons r text None kept = text_storage colons r text kept
+own_text_storage colons r text (Some n) kept = Err code.Arg
 
 -- Gq inserts the text, or with a colon types it
-abbrev pub get : ℕ → ℕ → Kept → Result Done Code
-get zero r kept = insert (text_in r kept) kept
-get (suc colons) r kept = Ok (type_bytes (text_in r kept) kept)
+abbrev pub retrieval : ℕ → ℕ → Kept → Result Effect Code
+retrieval zero r kept = insertion_of (text_in r kept) kept
+retrieval (suc colons) r kept = Ok (typing_of (text_in r kept) kept)
 
--- the code of the character at a place of a text, -1 outside
-abbrev pub code_at : List ℕ → ℤ → ℤ
-code_at text (pos n) = unwrap_or (option_map pos (slice_get text n)) (negsuc 0)
-code_at text (negsuc n) = negsuc 0
+abbrev pub storage : Storage → Element → Taken → Kept → Result Effect Code
+storage (SetNumber r) e taken kept = do
+  n ← needed_value taken.value
+  Ok (no_answer (kept_with_number r n kept))
+storage (Add r) e taken kept = Ok (addition r (unwrap_or taken.value (pos 1)) kept)
+storage (Copy r) e taken kept = copy e.colons r taken kept
+storage (SetText r) e taken kept = own_text_storage e.colons r e.text taken.value kept
+storage (Get r) e taken kept = retrieval e.colons r kept
+
+-- [q puts a copy of the pair on the list
+abbrev pub push : ℕ → Kept → Kept
+push r kept = record kept { registers = registers_after_push r kept.registers }
 
 -- ]q takes the newest pair off the list into q; on an empty list it is PES
 abbrev pub pop : ℕ → Kept → Result Kept Code
 pop r kept = do
-  registers ← ok_or (popped r kept.registers) code.Pes
+  registers ← ok_or (registers_after_pop r kept.registers) code.Pes
   Ok (record kept { registers = registers })
 
-abbrev pub push : ℕ → Kept → Kept
-push r kept = record kept { registers = pushed r kept.registers }
-
--- the commands that take their arguments; nQq answers a character's code
-abbrev pub storage : Storage → ℕ → ℕ → List ℕ → Taken → Kept → Result Done Code
-storage SetNumber colons r text taken kept = do
-  n ← needed taken.value
-  Ok (silent (set_number r n kept))
-storage Add colons r text taken kept = Ok (add_number r (unwrap_or taken.value (pos 1)) kept)
-storage Number colons r text taken kept = Ok (answering (code_at (text_in r kept) (unwrap_or taken.value (pos 0))) kept)
-storage Copy colons r text taken kept = copy colons r taken kept
-storage SetText colons r text taken kept = set_text colons r text taken.value kept
-storage Get colons r text taken kept = get colons r kept
-storage s colons r text taken kept = Err code.Ill
+abbrev pub stack : Stack → Kept → Result Kept Code
+stack (Push r) kept = Ok (push r kept)
+stack (Pop r) kept = pop r kept

@@ -1,13 +1,62 @@
-//! The kinds of elements, a group for each part of the language.
+//! The kinds of elements, grouped by what they do with the pending arguments.
 use crate::arguments::Operator;
+use teco_base::Reg;
 
 /// What an element is.
 #[derive(Clone, Copy)]
 pub enum Kind {
-    /// It changes the pending arguments alone.
+    /// It changes the pending arguments, and nothing else.
     Argument(Argument),
     /// It gives a value of the machine's.
     Value(Value),
+    /// It gives a value; where one stands, it takes that instead.
+    Query(Query),
+    /// `[` and `]`: it leaves the arguments.
+    Stack(Stack),
+    /// `M` executes the text of a register, and leaves the arguments.
+    Call(Call),
+    /// It decides where execution goes on.
+    Flow(Flow),
+    /// It takes its arguments, and may answer a value.
+    Command(Command),
+    /// It takes its arguments, and looks for a text.
+    Search(Search),
+    /// It takes its arguments, and reads or writes pages.
+    Page(Page),
+    /// It opens, closes or names files.
+    File(File),
+}
+
+/// What asks for a value.
+#[derive(Clone, Copy)]
+pub enum Query {
+    /// `Q`: the number of a register; `nQ` a character of its text, `:Q` the text's length.
+    Number(Reg),
+    /// `^X`: the search mode.
+    Mode,
+    /// `\`: the number at the pointer; `n\` inserts one.
+    Conversion,
+}
+
+/// What is done with the push-down list.
+#[derive(Clone, Copy)]
+pub enum Stack {
+    /// `[` pushes number and text of a register.
+    Push(Reg),
+    /// `]` pops number and text into a register.
+    Pop(Reg),
+}
+
+/// What `M` executes.
+#[derive(Clone, Copy)]
+pub struct Call {
+    /// The register whose text it is.
+    pub register: Reg,
+}
+
+/// A command on what the editor keeps, which takes its arguments.
+#[derive(Clone, Copy)]
+pub enum Command {
     /// `C`, `R`, `J` and `L` move the pointer.
     Motion(Motion),
     /// `D` and `K` delete.
@@ -16,20 +65,23 @@ pub enum Kind {
     Insertion(Insertion),
     /// It types.
     Typing(Typing),
-    /// It names a register.
+    /// It works on a register.
     Storage(Storage),
-    /// `\` inserts a number, or reads one.
-    Conversion,
-    /// `^X` is the search mode.
-    Mode,
-    /// It has a search text.
-    Search(Search),
-    /// It decides where execution goes on.
-    Flow(Flow),
-    /// It reads or writes pages.
-    Page(Page),
-    /// It opens, closes or names files.
-    File(File),
+}
+
+/// What is done with a register.
+#[derive(Clone, Copy)]
+pub enum Storage {
+    /// `U` sets the number.
+    SetNumber(Reg),
+    /// `%` adds to the number.
+    Add(Reg),
+    /// `X` copies a part of the buffer into the text.
+    Copy(Reg),
+    /// `^U` sets the text.
+    SetText(Reg),
+    /// `G` inserts the text, or with `:` types it.
+    Get(Reg),
 }
 
 /// An element that changes the pending arguments alone.
@@ -123,29 +175,6 @@ pub enum Radix {
     Hexadecimal,
 }
 
-/// What is done with a register.
-#[derive(Clone, Copy)]
-pub enum Storage {
-    /// `U` sets the number.
-    SetNumber,
-    /// `%` adds to the number.
-    Add,
-    /// `Q` gives the number, a character of the text, or with `:` the text's length.
-    Number,
-    /// `X` copies a part of the buffer into the text.
-    Copy,
-    /// `^U` sets the text.
-    SetText,
-    /// `G` inserts the text, or with `:` types it.
-    Get,
-    /// `[` pushes number and text.
-    Push,
-    /// `]` pops number and text.
-    Pop,
-    /// `M` executes the text.
-    Execute,
-}
-
 /// How far a search goes, and whether it replaces.
 #[derive(Clone, Copy)]
 pub enum Search {
@@ -210,7 +239,7 @@ pub enum Test {
 pub enum Page {
     /// `Y` replaces the buffer by the next page.
     Yank,
-    /// `A` appends the next page; with an argument it is the code of a character.
+    /// `A` appends the next page; `nA` is the code of a character.
     Append,
     /// `P` writes the buffer and goes on to the next page.
     Next,

@@ -3,12 +3,16 @@
 #![tactic(auto)]
 
 pub mod arguments;
+pub mod element;
+pub mod head;
 pub mod kind;
 pub mod pattern;
 pub mod rows;
 pub mod stop;
 
 pub use arguments::{Level, Operator, Taken};
+pub use element::Element;
+pub use head::{Head, OnRegister, Texts};
 pub use kind::Kind;
 pub use pattern::Span;
 pub use stop::Stop;

@@ -9,23 +9,23 @@ use Rattle.teco_model.specs.Registers.{Pair, AreWhole, IsWithinLimit, empty_pair
 use Rattle.teco_regs.specs.Texts.{IsTextWithinLimit, handed}
 
 -- new ones are
-pub whole_made : (pairs pushed : List Pair) → pairs ≡ empty_pairs → pushed ≡ [] → AreWhole (record { pairs = pairs; pushed = reverse pushed })
+pub whole_made : (pairs stack : List Pair) → pairs ≡ empty_pairs → stack ≡ [] → AreWhole (record { pairs = pairs; stack = reverse stack })
 unfolding empty_pairs
-whole_made pairs pushed e none = rw (e, none) (record {
+whole_made pairs stack e none = rw (e, none) (record {
   count = length-replicate 36 empty_pair;
   within = All-replicate IsWithinLimit 36 empty_pair (omega arith);
-  pushed_within = λ k d below. absurd (omega arith);
+  stack_within = λ k d below. absurd (omega arith);
 })
 
 -- and so are those into which the newest pair of the list, which stands last in the code's, has moved
-pub whole_popped : (pairs all rest : List Pair) (r : ℕ) (pair : Pair) → AreWhole (record { pairs = pairs; pushed = reverse all }) → all ≡ rest ++ pair ∷ [] → AreWhole (record { pairs = set pairs r pair; pushed = reverse rest })
+pub whole_popped : (pairs all rest : List Pair) (r : ℕ) (pair : Pair) → AreWhole (record { pairs = pairs; stack = reverse all }) → all ≡ rest ++ pair ∷ [] → AreWhole (record { pairs = set pairs r pair; stack = reverse rest })
 whole_popped pairs all rest r pair whole e =
     let newest_first : reverse all ≡ pair ∷ reverse rest = ap reverse e ∙ reverse-append rest (pair ∷ []) in
-    let pushed_within : All IsWithinLimit (pair ∷ reverse rest) = rw newest_first at whole.pushed_within in
+    let stack_within : All IsWithinLimit (pair ∷ reverse rest) = rw newest_first at whole.stack_within in
     record {
       count = length-set pairs r pair ∙ whole.count;
-      within = All-set IsWithinLimit pairs r pair (pushed_within 0 pair (omega arith)) whole.within;
-      pushed_within = λ k d below. pushed_within (suc k) d (omega arith);
+      within = All-set IsWithinLimit pairs r pair (stack_within 0 pair (omega arith)) whole.within;
+      stack_within = λ k d below. stack_within (suc k) d (omega arith);
     }
 
 -- a text of its own keeps a pair within the limit, and texts of their own do so for pairs
@@ -42,9 +42,9 @@ loaded-within (text ∷ texts) (pair ∷ pairs) short within =
     All-cons IsWithinLimit _ _ first rest
 
 -- registers that get texts of their own stay whole, too
-pub whole_loaded : (texts : List (Option (Bor (List ℕ)))) (pairs loaded pushed : List Pair) → loaded ≡ map (λ own. with_own_text own.0 own.1) (zip (handed texts) pairs) → length texts ≡ length pairs → All IsTextWithinLimit texts → AreWhole (record { pairs = pairs; pushed = pushed }) → AreWhole (record { pairs = loaded; pushed = pushed })
-whole_loaded texts pairs loaded pushed e same short whole = rw e (record {
+pub whole_loaded : (texts : List (Option (Bor (List ℕ)))) (pairs loaded stack : List Pair) → loaded ≡ map (λ own. with_own_text own.0 own.1) (zip (handed texts) pairs) → length texts ≡ length pairs → All IsTextWithinLimit texts → AreWhole (record { pairs = pairs; stack = stack }) → AreWhole (record { pairs = loaded; stack = stack })
+whole_loaded texts pairs loaded stack e same short whole = rw e (record {
   count = length-map (zip (handed texts) pairs) (λ own. with_own_text own.0 own.1) ∙ omega (arith, length-zip (handed texts) pairs, length-map texts option_copied, whole.count);
   within = loaded-within texts pairs short whole.within;
-  pushed_within = whole.pushed_within;
+  stack_within = whole.stack_within;
 })

@@ -6,4 +6,4 @@ mod pair;
 mod regs;
 
 pub use fault::RegFault;
-pub use regs::{REGISTERS, Regs};
+pub use regs::Regs;

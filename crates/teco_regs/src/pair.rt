@@ -1,5 +1,5 @@
 // What a register holds.
-ghost use Rattle.std.specs.Prelude.{◌≡◌, ◌+◌, ◌<◌, ◌++◌, length, OnOk, OnErr, vec_len, vec_capacity};
+ghost use Rattle.std.specs.Prelude.{◌≡◌, ◌+◌, ◌<◌, ◌^◌, ◌++◌, length, OnOk, OnErr, vec_len};
 ghost use Rattle.teco_model.specs.Registers.{empty_pair};
 
 use std::alloc::{AllocError, Global};
@@ -43,13 +43,27 @@ impl Clone for Pair {
     }
 }
 
-// Puts another text in the place of one. It takes memory only where the new text is longer.
-pub fn overwrite(text: &mut Vec<u8>, new: &[u8]) -> Result<(), AllocError>
-    ensures ok { OnOk result (text.new.items ≡ new.now) }
+// Appends two pieces to a text, both or none.
+pub fn append_both(text: &mut Vec<u8>, first: &[u8], second: &[u8]) -> Result<(), AllocError>
+    requires fits { length first.now + length second.now < 2 ^ 64 }
+    ensures ok { OnOk result (text.new.items ≡ text.old.items ++ (first.now ++ second.now)) }
     ensures err { OnErr result (text.new.items ≡ text.old.items) }
-    ensures memory { OnErr result (vec_len text.old < length new.now) }
+    ensures memory { OnErr result (0 < length (first.now ++ second.now)) }
 {
-    text.reserve(new.len().saturating_sub(text.len()))?;
+    text.reserve(first.len() + second.len())?;
+    text.extend_from_slice(first)?;
+    text.extend_from_slice(second)
+}
+
+// Puts two pieces in the place of a text. It takes memory only where they are longer together.
+pub fn overwrite(text: &mut Vec<u8>, first: &[u8], second: &[u8]) -> Result<(), AllocError>
+    requires fits { length first.now + length second.now < 2 ^ 64 }
+    ensures ok { OnOk result (text.new.items ≡ first.now ++ second.now) }
+    ensures err { OnErr result (text.new.items ≡ text.old.items) }
+    ensures memory { OnErr result (vec_len text.old < length (first.now ++ second.now)) }
+{
+    text.reserve((first.len() + second.len()).saturating_sub(text.len()))?;
     text.clear();
-    text.extend_from_slice(new)
+    text.extend_from_slice(first)?;
+    text.extend_from_slice(second)
 }

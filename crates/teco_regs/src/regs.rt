@@ -1,20 +1,17 @@
 // The registers.
 ghost use Rattle.std.specs.Prelude.{◌≡◌, ◌≤◌, ◌<◌, ◌*◌, ◌^◌, ◌++◌, length, map, zip, sum_by, All, OnOk, OnErr, IfOk, Some, vec_len};
 ghost use Rattle.teco_base.specs.declared.TheConstants.{LIMIT};
-ghost use Rattle.teco_model.specs.Registers.{AreWhole, IsWithinLimit, empty_registers, pair_of, with_number, with_text, with_own_text, with_texts, pushed, popped, held_in_pair, held_in_registers};
+ghost use Rattle.teco_model.specs.Registers.{AreWhole, IsWithinLimit, empty_registers, pair_of, with_number, with_text, with_own_text, with_texts, registers_after_push, registers_after_pop, held_length_of_pair, held_length_of_registers};
 ghost use Rattle.teco_model.specs.Registers as model;
 ghost use Rattle.teco_regs.specs.Answers.{OkWithin, OkWhereNonEmpty, OkUnlessMemory};
 ghost use Rattle.teco_regs.specs.Texts.{IsTextWithinLimit, handed, owned};
 
 use crate::fault::RegFault;
-use crate::pair::{Pair, overwrite};
+use crate::pair::{Pair, append_both, overwrite};
 use std::alloc::{AllocError, Global};
 use std::array;
 use std::marker::Model;
-use teco_base::{LIMIT, Reg};
-
-/// How many registers there are.
-pub const REGISTERS: usize = 36;
+use teco_base::{LIMIT, REGISTERS, Reg};
 
 /// The 36 registers, each with a number and a text, and the push-down list of such pairs.
 ///
@@ -23,7 +20,7 @@ pub const REGISTERS: usize = 36;
 pub struct Regs {
     pairs: [Pair; REGISTERS],
     // the newest last
-    pushed: Vec<Pair>,
+    stack: Vec<Pair>,
 }
 
 impl Model for Regs {
@@ -32,9 +29,9 @@ impl Model for Regs {
 
     ghost Value = { Registers };
 
-    ghost view = { λ r. record { pairs = r.pairs; pushed = reverse r.pushed.items } };
+    ghost view = { λ r. record { pairs = r.pairs; stack = reverse r.stack.items } };
 
-    ghost invariant = { λ r. AreWhole (record { pairs = r.pairs; pushed = reverse r.pushed.items }) };
+    ghost invariant = { λ r. AreWhole (record { pairs = r.pairs; stack = reverse r.stack.items }) };
 }
 
 impl Regs {
@@ -46,7 +43,7 @@ impl Regs {
     {
         Regs {
             pairs: empty_pairs(alloc),
-            pushed: Vec::new(alloc),
+            stack: Vec::new(alloc),
         }
     }
 
@@ -94,14 +91,16 @@ impl Regs {
             return Err(RegFault::Full);
         }
         let pair = &mut self.pairs[reg.index()];
-        overwrite(&mut pair.text, bytes)?;
+        overwrite(&mut pair.text, bytes, &[])?;
         Ok(())
     }
 
     /// Adds to the text of the register at its end.
     pub fn append_text(&mut self, reg: Reg, bytes: &[u8]) -> Result<(), RegFault>
-        ensures answer { let text = (pair_of reg self.old).text in OkWithin result (length (text ++ bytes.now)) (length text) }
-        ensures appended { OnOk result (self.new ≡ with_text reg ((pair_of reg self.old).text ++ bytes.now) self.old) }
+        ensures answer { let text = (pair_of reg self.old).text in
+            OkWithin result (length (text ++ bytes.now)) (length text) }
+        ensures appended { OnOk result (self.new ≡
+            with_text reg ((pair_of reg self.old).text ++ bytes.now) self.old) }
         ensures err { OnErr result (self.new ≡ self.old) }
     {
         let pair = &mut self.pairs[reg.index()];
@@ -109,6 +108,39 @@ impl Regs {
             return Err(RegFault::Full);
         }
         pair.text.extend_from_slice(bytes)?;
+        Ok(())
+    }
+
+    /// Sets the text of the register to two pieces, one after the other. Memory is wanted only where they are longer together
+    /// than the text before.
+    pub fn set_pieces(&mut self, reg: Reg, first: &[u8], second: &[u8]) -> Result<(), RegFault>
+        ensures answer { OkWithin result
+            (length (first.now ++ second.now)) (length (pair_of reg self.old).text) }
+        ensures set { OnOk result (self.new ≡ with_text reg (first.now ++ second.now) self.old) }
+        ensures err { OnErr result (self.new ≡ self.old) }
+    {
+        if first.len() > LIMIT || second.len() > LIMIT - first.len() {
+            return Err(RegFault::Full);
+        }
+        let pair = &mut self.pairs[reg.index()];
+        overwrite(&mut pair.text, first, second)?;
+        Ok(())
+    }
+
+    /// Adds two pieces to the text of the register at its end, one after the other: both or none.
+    pub fn append_pieces(&mut self, reg: Reg, first: &[u8], second: &[u8]) -> Result<(), RegFault>
+        ensures answer { let text = (pair_of reg self.old).text in
+            OkWithin result (length (text ++ (first.now ++ second.now))) (length text) }
+        ensures appended { OnOk result (self.new ≡
+            with_text reg ((pair_of reg self.old).text ++ (first.now ++ second.now)) self.old) }
+        ensures err { OnErr result (self.new ≡ self.old) }
+    {
+        let pair = &mut self.pairs[reg.index()];
+        let room = LIMIT - pair.text.len();
+        if first.len() > room || second.len() > room - first.len() {
+            return Err(RegFault::Full);
+        }
+        append_both(&mut pair.text, first, second)?;
         Ok(())
     }
 
@@ -129,7 +161,7 @@ impl Regs {
         ensures err { OnErr result (self.new ≡ self.old) }
     {
         // every growth comes before the first change
-        let copies = copies_of(*self.pushed.allocator(), texts)?;
+        let copies = copies_of(*self.stack.allocator(), texts)?;
         put_texts(&mut self.pairs, copies);
         Ok(())
     }
@@ -137,21 +169,21 @@ impl Regs {
     /// Puts a copy of the register's number and text on the push-down list.
     pub fn push(&mut self, reg: Reg) -> Result<(), RegFault>
         ensures answer { OkUnlessMemory result }
-        ensures put { OnOk result (self.new ≡ pushed reg self.old) }
+        ensures put { OnOk result (self.new ≡ registers_after_push reg self.old) }
         ensures err { OnErr result (self.new ≡ self.old) }
     {
         let copy = self.pair(reg).clone()?;
-        self.pushed.push(copy)?;
+        self.stack.push(copy)?;
         Ok(())
     }
 
     /// Takes the newest number and text off the push-down list, and moves them into the register.
     pub fn pop(&mut self, reg: Reg) -> Result<(), RegFault>
-        ensures answer { OkWhereNonEmpty result self.old.pushed }
-        ensures taken { OnOk result (popped reg self.old ≡ Some self.new) }
+        ensures answer { OkWhereNonEmpty result self.old.stack }
+        ensures taken { OnOk result (registers_after_pop reg self.old ≡ Some self.new) }
         ensures err { OnErr result (self.new ≡ self.old) }
     {
-        let Some(pair) = self.pushed.pop() else {
+        let Some(pair) = self.stack.pop() else {
             return Err(RegFault::Empty);
         };
         self.pairs[reg.index()] = pair;
@@ -161,10 +193,10 @@ impl Regs {
     /// How many characters the texts of all registers and of the push-down list have.
     #[tactic(auto, using(crate::proofs::Reversed::reversed))]
     pub fn held(&self) -> u128
-        ensures value { result ≡ held_in_registers self.now }
+        ensures value { result ≡ held_length_of_registers self.now }
         ensures fits { result < 2 ^ 96 }
     {
-        held_in(&self.pairs) + held_in(&self.pushed)
+        held_in(&self.pairs) + held_in(&self.stack)
     }
 }
 
@@ -206,7 +238,7 @@ fn put_texts(pairs: &mut [Pair], texts: Vec<Option<Vec<u8>>>)
 // How many characters the texts of some pairs have.
 fn held_in(pairs: &[Pair]) -> u128
     requires { All IsWithinLimit pairs.now }
-    ensures value { result ≡ sum_by held_in_pair pairs.now }
+    ensures value { result ≡ sum_by held_length_of_pair pairs.now }
     ensures within_limit { result ≤ LIMIT * length pairs.now }
 {
     let mut held = 0;

@@ -2,6 +2,7 @@
 pub use Rattle.teco_text.specs.Text
 pub use Rattle.teco_model.specs.State
 pub use Rattle.teco_model.specs.Step
+pub use Rattle.teco_model.specs.Memory
 pub use Rattle.teco_model.specs.Run
 pub use Rattle.teco_model.specs.Registers
 pub use Rattle.teco_regs.specs.Texts

@@ -1,8 +1,10 @@
 //! Elements that change the pending arguments alone, or give a value of the machine's.
-ghost use Rattle.std.specs.Prelude.{◌≡◌, ◌≤◌, pos, neg_ℤ};
+ghost use Rattle.std.specs.Prelude.{◌≡◌, ◌≤◌, pos, neg_ℤ, false};
 ghost use Rattle.teco_base.specs.declared.TheConstants.{LIMIT};
 ghost use Rattle.teco_model.specs.Step as model;
-ghost use Rattle.teco_model.specs.Arguments as given;
+ghost use Rattle.teco_model.specs.Arguments.{with_level, level_with, level_with_pair};
+ghost use Rattle.teco_model.specs.Memory.{grows};
+ghost use Rattle.teco_model.specs.declared.kind.Kind.TheVariants as kind;
 ghost use Rattle.teco_run.specs.Performs.{Argues};
 
 use teco_base::arithmetic;
@@ -13,7 +15,8 @@ use teco_text::TextStore;
 
 /// Changes the arguments as an element of this kind does.
 pub fn argue(argument: Argument, text: &[u8], arguments: &mut Args) -> Result<(), Stuck>
-    ensures { Argues arguments.new (model.argued argument text.now arguments.old) result }
+    ensures { Argues (grows (kind.Argument argument)) arguments.new
+        (model.levels_after argument text.now arguments.old) result }
 {
     match argument {
         Argument::DropAll => arguments.drop_all(),
@@ -27,8 +30,9 @@ pub fn argue(argument: Argument, text: &[u8], arguments: &mut Args) -> Result<()
 }
 
 /// Gives a value.
-pub fn give(arguments: &mut Args, value: i32) -> Result<(), Stuck>
-    ensures { Argues arguments.new (given.at_level arguments.old (given.give value arguments.old.level)) result }
+fn give(arguments: &mut Args, value: i32) -> Result<(), Stuck>
+    ensures { Argues false arguments.new
+        (with_level arguments.old (level_with value arguments.old.level)) result }
 {
     arguments.value(value)?;
     Ok(())
@@ -36,7 +40,8 @@ pub fn give(arguments: &mut Args, value: i32) -> Result<(), Stuck>
 
 // Gives two values with a comma between them.
 fn give_both(arguments: &mut Args, first: i32, second: i32) -> Result<(), Stuck>
-    ensures { Argues arguments.new (given.at_level arguments.old (given.give_both first second arguments.old.level)) result }
+    ensures { Argues false arguments.new
+        (with_level arguments.old (level_with_pair first second arguments.old.level)) result }
 {
     arguments.value(first)?;
     arguments.comma()?;
@@ -45,7 +50,7 @@ fn give_both(arguments: &mut Args, first: i32, second: i32) -> Result<(), Stuck>
 }
 
 /// A place or a length as a value.
-pub fn number(n: usize) -> i32
+fn number(n: usize) -> i32
     requires { n ≤ LIMIT }
     ensures { result ≡ pos n }
 {
@@ -66,7 +71,8 @@ pub fn give_value<T: TextStore>(
     value: Value,
     arguments: &mut Args,
 ) -> Result<(), Stuck>
-    ensures { Argues arguments.new (given.at_level arguments.old (model.valued value editor.now arguments.old.level)) result }
+    ensures { Argues false arguments.new
+        (with_level arguments.old (model.level_with_value value editor.now arguments.old.level)) result }
 {
     let size = number(editor.size());
     let dot = number(editor.dot());

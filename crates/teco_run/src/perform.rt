@@ -1,154 +1,105 @@
-//! What an element does to the machine and its arguments.
-ghost use Rattle.std.specs.Prelude.{◌≡◌};
-ghost use Rattle.teco_lex.specs.Element.{seen};
-ghost use Rattle.teco_model.specs.Arguments.{stands};
+//! What the elements do that go on behind themselves.
+ghost use Rattle.std.specs.Prelude.{◌≡◌, false};
+ghost use Rattle.teco_model.specs.Element.{seen};
+ghost use Rattle.teco_model.specs.Memory.{grows, command_grows};
 ghost use Rattle.teco_model.specs.Step as model;
+ghost use Rattle.teco_model.specs.declared.kind.Kind.TheVariants as kind;
 ghost use Rattle.teco_run.specs.Performs.{Performs};
-ghost use Rattle.teco_step.specs.Does.{Does};
+ghost use Rattle.teco_step.specs.Does.{DoesIfMemory};
 
-use crate::arguments::{argue, give, give_value, number};
-use teco_base::{Code, Reg};
+use teco_base::Code;
 use teco_expr::Args;
-use teco_lex::Element;
-use teco_model::Taken;
-use teco_model::kind::{Flow, Kind, Page, Storage};
+use teco_model::kind::{Command, Page, Query};
+use teco_model::{Element, Taken};
 use teco_step::{Editor, Stuck};
 use teco_text::TextStore;
 
-/// The register that an element names. Each element of a command on a register names one.
-pub fn register(element: &Element<'_>) -> Reg
-    ensures { result ≡ model.register (seen element.now) }
+// May it take a value that stands? `:Q` takes none.
+fn takes(query: &Query, colons: u8) -> bool
+    ensures { result ≡ model.takes query.now colons }
 {
-    element.register.unwrap_or_default()
+    !matches!(query, Query::Number(_)) || colons == 0
 }
 
-// Executes a command that takes its arguments. One that is not there yet is ILL.
-#[tactic(auto, unfolding(teco_model::specs::Step::effect))]
-fn execute<T: TextStore>(
+/// Takes the value that stands, or gives one.
+pub fn ask<T: TextStore>(
     editor: &mut Editor<T>,
-    element: &Element<'_>,
-    taken: Taken,
-) -> Result<Option<i32>, Stuck>
-    ensures { Does editor.old editor.new (model.effect element.now.kind (seen element.now) taken editor.old) result }
-{
-    match element.kind {
-        Kind::Motion(motion) => editor.motion(motion, element.colons, taken),
-        Kind::Deletion(unit) => editor.deletion(unit, taken),
-        Kind::Insertion(insertion) => editor.insertion(insertion, element.text, taken.value),
-        Kind::Typing(typing) => editor.typing(typing, element.colons, element.text, taken),
-        Kind::Storage(storage) => editor.storage(
-            storage,
-            element.colons,
-            register(element),
-            element.text,
-            taken,
-        ),
-        Kind::Conversion => editor.conversion(taken.value),
-        Kind::Mode => Ok(editor.search_mode(taken.value)),
-        Kind::Page(Page::Append) => append(editor, taken.value),
-        _ => Err(Stuck::Code(Code::Ill)),
-    }
-}
-
-// `nA` answers a character's code; `A` alone is not there yet.
-fn append<T: TextStore>(editor: &mut Editor<T>, n: Option<i32>) -> Result<Option<i32>, Stuck>
-    ensures { Does editor.old editor.new (model.appended n editor.old) result }
-{
-    match n {
-        Some(n) => Ok(Some(editor.character(n))),
-        None => Err(Stuck::Code(Code::Ill)),
-    }
-}
-
-// Takes the arguments, executes the command, and gives what it answers.
-fn command<T: TextStore>(
-    editor: &mut Editor<T>,
+    query: Query,
     element: &Element<'_>,
     arguments: &mut Args,
 ) -> Result<(), Stuck>
-    ensures { Performs editor.old editor.new arguments.new (model.commanded (seen element.now) editor.old arguments.old) result }
+    ensures { Performs (grows (kind.Query query)) editor.old editor.new arguments.new
+        (model.after_query query (seen element.now) editor.old arguments.old) result }
+{
+    let standing = if takes(&query, element.colons) {
+        arguments.take_standing()
+    } else {
+        None
+    };
+    match standing {
+        Some(n) => {
+            if let Some(answer) = editor.query_with(query, n)? {
+                arguments.value(answer)?;
+            }
+        }
+        None => {
+            let reply = editor.query(query, element.colons);
+            arguments.value(reply.value)?;
+            editor.set_dot(reply.dot);
+        }
+    }
+    Ok(())
+}
+
+// Executes a command with the arguments that it took.
+fn execute<T: TextStore>(
+    editor: &mut Editor<T>,
+    command: Command,
+    element: &Element<'_>,
+    taken: Taken,
+) -> Result<Option<i32>, Stuck>
+    ensures { DoesIfMemory (command_grows command) editor.old editor.new
+        (model.execution command (seen element.now) taken editor.old) result }
+{
+    match command {
+        Command::Motion(motion) => Ok(editor.motion(motion, element, taken)?),
+        Command::Deletion(unit) => Ok(editor.deletion(unit, taken)?),
+        Command::Insertion(insertion) => editor.insertion(insertion, element, taken),
+        Command::Typing(typing) => editor.typing(typing, element, taken),
+        Command::Storage(storage) => editor.storage(storage, element, taken),
+    }
+}
+
+/// Takes the arguments, executes the command, and gives what it answers.
+pub fn obey<T: TextStore>(
+    editor: &mut Editor<T>,
+    command: Command,
+    element: &Element<'_>,
+    arguments: &mut Args,
+) -> Result<(), Stuck>
+    ensures { Performs (command_grows command) editor.old editor.new arguments.new
+        (model.after_command command (seen element.now) editor.old arguments.old) result }
 {
     let taken = arguments.take()?;
-    if let Some(answer) = execute(editor, element, taken)? {
+    if let Some(answer) = execute(editor, command, element, taken)? {
         arguments.value(answer)?;
     }
     Ok(())
 }
 
-// Gives a value, unless one stands: then the command takes it.
-fn ask<T: TextStore>(
-    editor: &mut Editor<T>,
-    element: &Element<'_>,
-    value: i32,
+/// `nA` gives a character's code; the other page commands are not there yet.
+pub fn turn_pages<T: TextStore>(
+    editor: &Editor<T>,
+    page: Page,
     arguments: &mut Args,
 ) -> Result<(), Stuck>
-    ensures { Performs editor.old editor.new arguments.new
-        (model.asked (seen element.now) (stands arguments.old.level) value editor.old arguments.old) result }
+    ensures { Performs false editor.now editor.now arguments.new
+        (model.after_page page editor.now arguments.old) result }
 {
-    if arguments.stands() {
-        command(editor, element, arguments)
-    } else {
-        give(arguments, value)
-    }
-}
-
-// Gives the number of a register, unless a value stands, or with a colon the length of its text.
-fn query<T: TextStore>(
-    editor: &mut Editor<T>,
-    element: &Element<'_>,
-    arguments: &mut Args,
-) -> Result<(), Stuck>
-    ensures { Performs editor.old editor.new arguments.new
-        (model.queried (seen element.now) element.now.colons (stands arguments.old.level) editor.old arguments.old) result }
-{
-    let reg = register(element);
-    if element.colons > 0 {
-        return give(arguments, number(editor.regs().text(reg).len()));
-    }
-    let value = editor.regs().number(reg);
-    ask(editor, element, value, arguments)
-}
-
-// Gives the number at the pointer, which goes past it, unless a value stands: then that is inserted.
-fn convert<T: TextStore>(
-    editor: &mut Editor<T>,
-    element: &Element<'_>,
-    arguments: &mut Args,
-) -> Result<(), Stuck>
-    ensures { Performs editor.old editor.new arguments.new
-        (model.converting (seen element.now) (stands arguments.old.level) editor.old arguments.old) result }
-{
-    if arguments.stands() {
-        return command(editor, element, arguments);
-    }
-    let read = editor.number_here();
-    give(arguments, read.number)?;
-    editor.set_dot(read.end);
+    let Page::Append = page else {
+        return Err(Stuck::Code(Code::Ill));
+    };
+    let n = arguments.take()?.value.ok_or(Code::Ill)?;
+    arguments.value(editor.character(n))?;
     Ok(())
-}
-
-/// Executes an element.
-#[tactic(auto, unfolding(teco_model::specs::Step::perform))]
-pub fn perform<T: TextStore>(
-    editor: &mut Editor<T>,
-    element: &Element<'_>,
-    arguments: &mut Args,
-) -> Result<(), Stuck>
-    ensures { Performs editor.old editor.new arguments.new
-        (model.perform element.now.kind (seen element.now) editor.old arguments.old) result }
-{
-    match element.kind {
-        Kind::Argument(argument) => argue(argument, element.text, arguments),
-        Kind::Value(value) => give_value(editor, value, arguments),
-        Kind::Flow(Flow::Comment) => Ok(()),
-        Kind::Storage(Storage::Push) => editor.push(register(element)),
-        Kind::Storage(Storage::Pop) => editor.pop(register(element)),
-        Kind::Storage(Storage::Number) => query(editor, element, arguments),
-        Kind::Mode => {
-            let mode = editor.mode();
-            ask(editor, element, mode, arguments)
-        }
-        Kind::Conversion => convert(editor, element, arguments),
-        _ => command(editor, element, arguments),
-    }
 }

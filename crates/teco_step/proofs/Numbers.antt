@@ -12,7 +12,7 @@ use Rattle.teco_base.specs.Bytes.{is_digit}
 use Rattle.teco_base.specs.Text.{range}
 use Rattle.teco_model.proofs.Digits.{run_value-more}
 use Rattle.teco_model.specs.Arguments.{run_value}
-use Rattle.teco_model.specs.Conversion.{sign_len, is_minus, signed, reading, number_at}
+use Rattle.teco_model.specs.Conversion.{sign_len, is_minus, signed_value, reading, number_at}
 
 -- what is left of a text, where it has a character and where it ends
 left_at : (text : List ℕ) (place b : ℕ) → slice_get text place ≡ Some b → drop place text ≡ b ∷ drop (place + 1) text
@@ -82,7 +82,7 @@ value_code text begin place next so_far product digit sum at b d ordered within 
     let more = value_more text begin place next ordered within e in
     to_z-of_z w32 sum fits_sum ∙ cc
 
-reading_some : (minus : Bool) (sign : ℕ) (digits : List ℕ) → 0 < length digits → reading minus sign digits ≡ record { number = signed minus digits; len = sign + length digits }
+reading_some : (minus : Bool) (sign : ℕ) (digits : List ℕ) → 0 < length digits → reading minus sign digits ≡ record { number = signed_value minus digits; len = sign + length digits }
 reading_some minus sign [] some = absurd (omega arith)
 reading_some minus sign (digit ∷ digits) some = refl
 
@@ -105,12 +105,12 @@ module _ (text : List ℕ) (place begin end : ℕ) (from : begin ≡ place + sig
   pub read_none : begin ≡ end → number_at (drop place text) ≡ record { number = pos 0; len = 0 }
   read_none none = read_digits ∙ reading_none (is_minus (drop place text)) (sign_len (drop place text)) (range text begin end) (omega (arith, digit_count))
 
-  pub read_some : (begin ≡ end → ⊥) → number_at (drop place text) ≡ record { number = signed (is_minus (drop place text)) (range text begin end); len = end - place }
+  pub read_some : (begin ≡ end → ⊥) → number_at (drop place text) ≡ record { number = signed_value (is_minus (drop place text)) (range text begin end); len = end - place }
   read_some some =
       let len : sign_len (drop place text) + length (range text begin end) ≡ end - place = omega (arith, digit_count) in
       read_digits
       ∙ reading_some (is_minus (drop place text)) (sign_len (drop place text)) (range text begin end) (omega (arith, digit_count))
-      ∙ ap (λ n. record { number = signed (is_minus (drop place text)) (range text begin end); len = n }) len
+      ∙ ap (λ n. record { number = signed_value (is_minus (drop place text)) (range text begin end); len = n }) len
 
 -- how a number is read
 pub ruleset reads = (read_none, read_some)

@@ -1,20 +1,24 @@
 -- What a command did to what is kept, beside its definition.
-use Rattle.std.specs.Prelude.{ℤ, ◌≡◌, Option, Result, Ok, Err, IsOk}
+use Rattle.std.specs.Prelude.{ℤ, ◌≡◌, Bool, IsTrue, Option, Result, Ok, Err, IsOk}
 use Rattle.teco_base.specs.declared.code.Code.{Code}
-use Rattle.teco_model.specs.Effect.{Done}
+use Rattle.teco_model.specs.Effect.{Effect}
 use Rattle.teco_model.specs.State.{Kept}
 use Rattle.teco_step.specs.declared.stuck.Stuck.{Stuck}
 use Rattle.teco_step.specs.declared.stuck.Stuck.TheVariants as stuck
 
--- It left and answered what the definition says. A code, and want of memory, leave all as it was; want of memory comes only
--- where there is no code.
-abbrev pub Does : Kept → Kept → Result Done Code → Result (Option ℤ) Stuck → Type 0
+-- It left and answered what the definition says, or it is the definition's code, and left all as it was.
+abbrev pub Does : Kept → Kept → Result Effect Code → Result (Option ℤ) Code → Type 0
 Does old new defined (Ok answer) = defined ≡ Ok (record { kept = new; answer = answer })
-Does old new defined (Err (stuck.Code c)) = (defined ≡ Err c) × (new ≡ old)
-Does old new defined (Err stuck.Memory) = IsOk defined × (new ≡ old)
+Does old new defined (Err c) = (defined ≡ Err c) × (new ≡ old)
+
+-- The same of a command that may want memory, if it grows: that leaves all as it was, and comes only where there is no code.
+abbrev pub DoesIfMemory : Bool → Kept → Kept → Result Effect Code → Result (Option ℤ) Stuck → Type 0
+DoesIfMemory grows old new defined (Ok answer) = defined ≡ Ok (record { kept = new; answer = answer })
+DoesIfMemory grows old new defined (Err (stuck.Code c)) = (defined ≡ Err c) × (new ≡ old)
+DoesIfMemory grows old new defined (Err stuck.Memory) = IsTrue grows × IsOk defined × (new ≡ old)
 
 -- the same of a command that answers nothing
-abbrev pub Keeps : Kept → Kept → Result Kept Code → Result (Unit {0}) Stuck → Type 0
-Keeps old new defined (Ok done) = defined ≡ Ok new
-Keeps old new defined (Err (stuck.Code c)) = (defined ≡ Err c) × (new ≡ old)
-Keeps old new defined (Err stuck.Memory) = IsOk defined × (new ≡ old)
+abbrev pub KeepsIfMemory : Bool → Kept → Kept → Result Kept Code → Result (Unit {0}) Stuck → Type 0
+KeepsIfMemory grows old new defined (Ok done) = defined ≡ Ok new
+KeepsIfMemory grows old new defined (Err (stuck.Code c)) = (defined ≡ Err c) × (new ≡ old)
+KeepsIfMemory grows old new defined (Err stuck.Memory) = IsTrue grows × IsOk defined × (new ≡ old)

@@ -8,10 +8,11 @@ pub use Rattle.teco_model.specs.Insertion
 pub use Rattle.teco_model.specs.Typing
 pub use Rattle.teco_model.specs.Storage
 pub use Rattle.teco_model.specs.Conversion
-pub use Rattle.teco_model.specs.Mode
+pub use Rattle.teco_model.specs.Query
+pub use Rattle.teco_model.specs.Memory
+pub use Rattle.teco_model.specs.Character
 pub use Rattle.teco_model.specs.Registers
 pub use Rattle.teco_regs.specs.Texts
 pub use Rattle.teco_model.specs.Places
 pub mod Faults
-pub mod Ranges
 pub mod Does

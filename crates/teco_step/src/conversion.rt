@@ -1,21 +1,19 @@
 //! Numbers in the text of the buffer.
-ghost use Rattle.std.specs.Prelude.{◌≡◌, ◌+◌, ◌≤◌, drop, length, Some};
+ghost use Rattle.std.specs.Prelude.{◌≡◌, ◌+◌, ◌≤◌, drop, length};
 ghost use Rattle.std.specs.List.{prefix_len};
 ghost use Rattle.teco_base.specs.Bytes as byte;
 ghost use Rattle.teco_base.specs.Text.{range};
 ghost use Rattle.teco_model.specs.Arguments.{run_value};
 ghost use Rattle.teco_model.specs.Conversion as model;
-ghost use Rattle.teco_step.specs.Does.{Does};
 
 use crate::editor::Editor;
-use crate::stuck::Stuck;
+use teco_base::arithmetic;
 use teco_base::bytes::is_digit;
-use teco_base::{arithmetic, decimal};
 use teco_text::TextStore;
 
 /// A number in the text, and the place behind it.
 #[derive(Clone, Copy)]
-pub struct NumberRead {
+pub(crate) struct NumberRead {
     /// The number, modulo 2^32.
     pub number: i32,
     /// The place behind its last digit; where no digit is there, the place where it was looked for.
@@ -80,9 +78,9 @@ impl<T: TextStore> Editor<T> {
     /// The number at the pointer: an optional sign and digits in decimal, modulo 2^32. Where no digit is there, it is 0, and
     /// ends at the pointer.
     #[tactic(auto, using(crate::proofs::Numbers::reads))]
-    pub fn number_here(&self) -> NumberRead
-        ensures number { (model.read_number self.now).answer ≡ Some result.number }
-        ensures end { (model.read_number self.now).kept ≡ record self.now { pointer = result.end } }
+    pub(crate) fn number_here(&self) -> NumberRead
+        ensures number { result.number ≡ (model.number_here self.now).number }
+        ensures end { result.end ≡ self.now.pointer + (model.number_here self.now).len }
         ensures within_text { result.end ≤ length self.now.text }
     {
         let begin = self.digits_begin();
@@ -100,38 +98,5 @@ impl<T: TextStore> Editor<T> {
             digits
         };
         NumberRead { number, end }
-    }
-
-    // Inserts a number in decimal.
-    fn insert_number(&mut self, n: i32) -> Result<Option<i32>, Stuck>
-        ensures { Does self.old self.new (model.insert_number n self.old) result }
-    {
-        let text = decimal(n);
-        self.insert(text.as_bytes())
-    }
-
-    /// `n\\` inserts a number in decimal; `\\` alone answers the number at the pointer, and moves past it.
-    pub fn conversion(&mut self, n: Option<i32>) -> Result<Option<i32>, Stuck>
-        ensures { Does self.old self.new (model.conversion n self.old) result }
-    {
-        match n {
-            Some(n) => self.insert_number(n),
-            None => {
-                let read = self.number_here();
-                self.set_dot(read.end);
-                Ok(Some(read.number))
-            }
-        }
-    }
-
-    /// `nA` answers the code of the character n places behind the pointer, -1 outside the text.
-    pub fn character(&self, n: i32) -> i32
-        ensures { model.character n self.now ≡ record { kept = self.now; answer = Some result } }
-    {
-        let place = self.store.dot() as i64 + i64::from(n);
-        let Ok(place) = usize::try_from(place) else {
-            return -1;
-        };
-        self.store.at(place).map_or(-1, i32::from)
     }
 }

@@ -2,13 +2,13 @@ ghost use Rattle.std.specs.Prelude.{◌≡◌, ◌≤◌, ◌++◌, [], length, 
 ghost use Rattle.teco_base.specs.declared.TheConstants.{LIMIT};
 ghost use Rattle.teco_model.specs.Registers.{with_texts};
 ghost use Rattle.teco_regs.specs.Texts.{handed, IsTextWithinLimit};
-ghost use Rattle.teco_model.specs.Mode.{search_mode};
-ghost use Rattle.teco_model.specs.State.{fresh, held};
+ghost use Rattle.teco_model.specs.State.{kept_of_store, held_length};
 
 use std::alloc::{AllocError, Global};
 use std::marker::Model;
 use std::mem;
-use teco_regs::{REGISTERS, Regs};
+use teco_base::REGISTERS;
+use teco_regs::Regs;
 use teco_text::TextStore;
 
 /// What stays between two runs: the buffer with its pointer, the registers, the search mode, the length of the last text found
@@ -45,7 +45,7 @@ impl<T: TextStore> Model for Editor<T> {
 impl<T: TextStore> Editor<T> {
     /// The text of the store, and nothing else. Takes no memory.
     pub fn new(alloc: Global, store: T) -> Self
-        ensures { result ≡ fresh (T.list store) (T.pointer store) }
+        ensures { result ≡ kept_of_store (T.list store) (T.pointer store) }
     {
         Editor {
             store,
@@ -90,7 +90,7 @@ impl<T: TextStore> Editor<T> {
 
     /// How many characters the buffer, the texts of the registers and those of the push-down list have.
     pub fn held(&self) -> u128
-        ensures { result ≡ held self.now }
+        ensures { result ≡ held_length self.now }
     {
         self.size() as u128 + self.regs.held()
     }
@@ -98,30 +98,11 @@ impl<T: TextStore> Editor<T> {
     /// Sets the texts that are handed in, each in its register's place, `A` to `Z` and then `0` to `9`. All of them or none.
     pub fn load(&mut self, texts: &[Option<&[u8]>; REGISTERS]) -> Result<(), AllocError>
         requires { All IsTextWithinLimit texts.now }
-        ensures loaded { OnOk result (self.new ≡ record self.old { registers = with_texts (handed texts.now) self.old.registers }) }
+        ensures loaded { OnOk result (self.new ≡
+            record self.old { registers = with_texts (handed texts.now) self.old.registers }) }
         ensures err { OnErr result (self.new ≡ self.old) }
     {
         self.regs.load(texts)
-    }
-
-    /// The search mode, 0 at first.
-    pub fn mode(&self) -> i32
-        ensures { result ≡ self.now.mode }
-    {
-        self.mode
-    }
-
-    /// `n^X` sets the search mode; `^X` alone answers it.
-    pub fn search_mode(&mut self, n: Option<i32>) -> Option<i32>
-        ensures { record { kept = self.new; answer = result } ≡ search_mode n self.old }
-    {
-        match n {
-            None => Some(self.mode),
-            Some(n) => {
-                self.mode = n;
-                None
-            }
-        }
     }
 
     /// The length of the last text found or inserted, at most `LIMIT`.

@@ -8,12 +8,13 @@ mod editor;
 mod insertion;
 mod motion;
 mod places;
+mod query;
 mod storage;
 mod stuck;
 mod typing;
 
-pub use conversion::NumberRead;
 pub use editor::Editor;
+pub use query::Reply;
 pub use stuck::Stuck;
 
 #[cfg(test)]

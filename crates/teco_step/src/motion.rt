@@ -1,15 +1,16 @@
 //! Commands that move the pointer.
 ghost use Rattle.std.specs.Prelude.{◌≡◌, ◌≤◌, length, is_some, MatchOption};
 ghost use Rattle.teco_base.specs.declared.TheConstants.{LIMIT};
+ghost use Rattle.teco_model.specs.Element.{seen};
 ghost use Rattle.teco_model.specs.Motion as model;
+ghost use Rattle.teco_model.specs.Effect.{no_answer};
 ghost use Rattle.teco_model.specs.Places.{place_in};
 ghost use Rattle.teco_step.specs.Does.{Does};
 
 use crate::editor::Editor;
-use crate::stuck::Stuck;
 use teco_base::Code;
-use teco_model::Taken;
 use teco_model::kind::Motion;
+use teco_model::{Element, Taken};
 use teco_text::{TextStore, line_place};
 
 // The place that an argument names, as a whole number.
@@ -39,7 +40,8 @@ impl<T: TextStore> Editor<T> {
     // Moves the pointer to a place, if the text has it, and says whether it does.
     fn go_to(&mut self, place: i64) -> bool
         ensures answer { result ≡ is_some (place_in self.old.text place) }
-        ensures moved { MatchOption (place_in self.old.text place) (self.new ≡ self.old) (λ p. self.new ≡ record self.old { pointer = p }) }
+        ensures moved { MatchOption (place_in self.old.text place)
+            (self.new ≡ self.old) (λ p. self.new ≡ record self.old { pointer = p }) }
     {
         let Ok(place) = usize::try_from(place) else {
             return false;
@@ -48,31 +50,30 @@ impl<T: TextStore> Editor<T> {
     }
 
     // Moves the pointer to the line place of a number.
-    fn go_lines(&mut self, arguments: Taken) -> Result<Option<i32>, Stuck>
-        ensures { Does self.old self.new (model.motion Motion.Lines 0 arguments self.old) result }
+    fn go_lines(&mut self, n: i32)
+        ensures { model.line_motion n self.old ≡ no_answer self.new }
     {
-        let n = arguments.value.unwrap_or(1);
         let place = line_place(&self.store, i64::from(n));
         self.set_dot(place);
-        Ok(None)
     }
 
     /// `C`, `R`, `J` and `L` move the pointer; with a colon the first three answer whether it was moved.
     pub fn motion(
         &mut self,
         motion: Motion,
-        colons: u8,
-        arguments: Taken,
-    ) -> Result<Option<i32>, Stuck>
-        ensures { Does self.old self.new (model.motion motion colons arguments self.old) result }
+        element: &Element<'_>,
+        taken: Taken,
+    ) -> Result<Option<i32>, Code>
+        ensures { Does self.old self.new (model.motion motion (seen element.now) taken self.old) result }
     {
         if let Motion::Lines = motion {
-            return self.go_lines(arguments);
+            self.go_lines(taken.value.unwrap_or(1));
+            return Ok(None);
         }
-        let place = target(motion, self.dot(), arguments.value);
-        match (self.go_to(place), colons) {
+        let place = target(motion, self.dot(), taken.value);
+        match (self.go_to(place), element.colons) {
             (true, 0) => Ok(None),
-            (false, 0) => Err(Stuck::Code(Code::Pop)),
+            (false, 0) => Err(Code::Pop),
             (true, _) => Ok(Some(-1)),
             (false, _) => Ok(Some(0)),
         }

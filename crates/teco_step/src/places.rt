@@ -1,13 +1,23 @@
-//! Places and ranges that numbers name.
-ghost use Rattle.std.specs.Prelude.{◌≡◌, ◌≤◌, length, IfOk};
+//! Places and parts that numbers name.
+ghost use Rattle.std.specs.Prelude.{◌≡◌, ◌≤◌, length, min, max, IfOk};
 ghost use Rattle.teco_base.specs.declared.TheConstants.{LIMIT};
-ghost use Rattle.teco_model.specs.Places.{place_in, range_of, line_range, part_of};
-ghost use Rattle.teco_step.specs.Ranges.{ranged, ranges};
+ghost use Rattle.teco_model.specs.Places.{place_in, range_span, line_span, part_of};
 
 use crate::editor::Editor;
 use teco_base::Code;
-use teco_model::Taken;
+use teco_model::{Span, Taken};
 use teco_text::{TextStore, line_place};
+
+// The part between two places, in either order.
+fn span_between(a: usize, b: usize) -> Span
+    ensures start { result.start ≡ min a b }
+    ensures end { result.end ≡ max a b }
+{
+    Span {
+        start: a.min(b),
+        end: a.max(b),
+    }
+}
 
 impl<T: TextStore> Editor<T> {
     /// The place that a number names, if it is in the text.
@@ -19,35 +29,36 @@ impl<T: TextStore> Editor<T> {
             .filter(|place| *place <= self.size())
     }
 
-    /// The range between the places that two numbers name, its begin and its end.
-    pub(crate) fn range(&self, m: i32, n: i32) -> Result<(usize, usize), Code>
-        ensures value { ranged result ≡ range_of self.now.text m n }
-        ensures ordered { IfOk result (λ r. (r.0 ≤ r.1) × (r.1 ≤ length self.now.text)) }
+    /// The part between the places that two numbers name.
+    pub(crate) fn range(&self, m: i32, n: i32) -> Result<Span, Code>
+        ensures value { result ≡ range_span self.now.text m n }
+        ensures ordered { IfOk result (λ part. part.start ≤ part.end) }
+        ensures within_text { IfOk result (λ part. part.end ≤ length self.now.text) }
     {
         let from = self.place(m).ok_or(Code::Pop)?;
         let to = self.place(n).ok_or(Code::Pop)?;
-        Ok((from.min(to), from.max(to)))
+        Ok(span_between(from, to))
     }
 
-    /// The range between the pointer and the line place of a number, its begin and its end.
-    pub(crate) fn line_range(&self, n: i64) -> (usize, usize)
-        ensures value { ranges result ≡ line_range self.now.text self.now.pointer n }
-        ensures ordered { (result.0 ≤ result.1) × (result.1 ≤ length self.now.text) }
-        ensures within_limit { result.1 ≤ LIMIT }
+    /// The part between the pointer and the line place of a number.
+    pub(crate) fn lines(&self, n: i64) -> Span
+        ensures value { result ≡ line_span self.now.text self.now.pointer n }
+        ensures ordered { result.start ≤ result.end }
+        ensures within_text { result.end ≤ length self.now.text }
+        ensures within_limit { result.end ≤ LIMIT }
     {
-        let dot = self.store.dot();
-        let place = line_place(&self.store, n);
-        (dot.min(place), dot.max(place))
+        span_between(self.store.dot(), line_place(&self.store, n))
     }
 
-    /// The range that two numbers name, or the lines that one does.
-    pub(crate) fn part(&self, arguments: Taken) -> Result<(usize, usize), Code>
-        ensures value { ranged result ≡ part_of self.now.text self.now.pointer arguments.first arguments.value }
-        ensures ordered { IfOk result (λ r. (r.0 ≤ r.1) × (r.1 ≤ length self.now.text)) }
+    /// The part that two numbers name, or the lines that one does.
+    pub(crate) fn part(&self, taken: Taken) -> Result<Span, Code>
+        ensures value { result ≡ part_of taken self.now }
+        ensures ordered { IfOk result (λ part. part.start ≤ part.end) }
+        ensures within_text { IfOk result (λ part. part.end ≤ length self.now.text) }
     {
-        match (arguments.first, arguments.value) {
+        match (taken.first, taken.value) {
             (Some(m), Some(n)) => self.range(m, n),
-            (_, value) => Ok(self.line_range(i64::from(value.unwrap_or(1)))),
+            (_, value) => Ok(self.lines(i64::from(value.unwrap_or(1)))),
         }
     }
 }

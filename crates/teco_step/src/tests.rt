@@ -4,8 +4,8 @@ use super::*;
 use std::process::Abort;
 use std::test::Fail;
 use teco_base::Reg;
-use teco_model::kind::{Insertion, Motion, Radix, Storage, Typing, Unit};
-use teco_model::{Kind, Taken};
+use teco_model::kind::{Command, Insertion, Motion, Query, Radix, Stack, Storage, Typing, Unit};
+use teco_model::{Element, Kind, Taken};
 use teco_text::VecText;
 
 // A command with its colons, its text and its arguments, and what it answers.
@@ -18,38 +18,71 @@ type Row = (
     Option<i32>,
 );
 
-// Executes a command once, on a register where it names one.
-fn execute_once(
+// A command with these colons and this text.
+fn element(kind: Kind, colons: u8, text: &[u8]) -> Element<'_> {
+    Element {
+        kind,
+        colons,
+        at: false,
+        text,
+        second: &[],
+        place: 0,
+        next: 1,
+    }
+}
+
+// Executes a command once.
+fn execute_command(
     editor: &mut Editor<VecText>,
-    reg: Reg,
-    kind: Kind,
-    colons: u8,
-    text: &[u8],
-    own: Taken,
+    command: Command,
+    element: &Element<'_>,
+    taken: Taken,
 ) -> Result<Option<i32>, Stuck> {
-    match kind {
-        Kind::Motion(motion) => editor.motion(motion, colons, own),
-        Kind::Deletion(unit) => editor.deletion(unit, own),
-        Kind::Insertion(insertion) => editor.insertion(insertion, text, own.value),
-        Kind::Typing(typing) => editor.typing(typing, colons, text, own),
-        Kind::Storage(Storage::Push) => editor.push(reg).map(|_| None),
-        Kind::Storage(Storage::Pop) => editor.pop(reg).map(|_| None),
-        Kind::Storage(storage) => editor.storage(storage, colons, reg, text, own),
-        Kind::Conversion => editor.conversion(own.value),
+    match command {
+        Command::Motion(motion) => editor.motion(motion, element, taken).map_err(Stuck::Code),
+        Command::Deletion(unit) => editor.deletion(unit, taken).map_err(Stuck::Code),
+        Command::Insertion(insertion) => editor.insertion(insertion, element, taken),
+        Command::Typing(typing) => editor.typing(typing, element, taken),
+        Command::Storage(storage) => editor.storage(storage, element, taken),
         _ => Ok(None),
     }
 }
 
-// Executes commands in turn.
-fn execute(rt: &impl Abort, editor: &mut Editor<VecText>, reg: Reg, rows: &[Row]) {
+// Executes an element once, which takes a value where there is one.
+fn execute_once(
+    editor: &mut Editor<VecText>,
+    kind: Kind,
+    element: &Element<'_>,
+    taken: Taken,
+) -> Result<Option<i32>, Stuck> {
+    match kind {
+        Kind::Command(command) => execute_command(editor, command, element, taken),
+        Kind::Stack(stack) => editor.stack(stack).map(|_| None),
+        Kind::Query(query) => match taken.value {
+            Some(n) => editor.query_with(query, n),
+            None => {
+                let reply = editor.query(query, element.colons);
+                if reply.dot <= editor.size() {
+                    editor.set_dot(reply.dot);
+                }
+                Ok(Some(reply.value))
+            }
+        },
+        _ => Ok(None),
+    }
+}
+
+// Executes elements in turn.
+fn execute(rt: &impl Abort, editor: &mut Editor<VecText>, rows: &[Row]) {
     for (i, (kind, colons, text, first, value, want)) in rows.iter().enumerate() {
-        let own = Taken {
+        let taken = Taken {
             first: *first,
             value: *value,
         };
-        let mut done = execute_once(editor, reg, *kind, *colons, text, own);
+        let element = element(*kind, *colons, text);
+        let mut done = execute_once(editor, *kind, &element, taken);
         if let Err(Stuck::Memory) = done {
-            done = execute_once(editor, reg, *kind, *colons, text, own);
+            done = execute_once(editor, *kind, &element, taken);
         }
         assert!(rt; matches!(done, Ok(answer) if answer == *want), "row {i}");
     }
@@ -67,31 +100,65 @@ fn expect_text(rt: &impl Abort, editor: &Editor<VecText>, text: &[u8], dot: usiz
 #[test]
 fn commands_in_turn(rt: HostRuntime) -> Result<(), Fail> {
     let mut editor = Editor::new(rt.alloc(), VecText::new(rt.alloc()));
-    let reg = Reg::of(b'A').expect(&rt, "a register");
     let rows: [Row; 8] = [
         (
-            Kind::Insertion(Insertion::Text),
+            Kind::Command(Command::Insertion(Insertion::Text)),
             0,
             b"abc",
             None,
             None,
             None,
         ),
-        (Kind::Insertion(Insertion::Tab), 0, b"d", None, None, None),
         (
-            Kind::Motion(Motion::Backward),
+            Kind::Command(Command::Insertion(Insertion::Tab)),
+            0,
+            b"d",
+            None,
+            None,
+            None,
+        ),
+        (
+            Kind::Command(Command::Motion(Motion::Backward)),
             1,
             b"",
             None,
             Some(5),
             Some(-1),
         ),
-        (Kind::Deletion(Unit::Characters), 0, b"", None, None, None),
-        (Kind::Typing(Typing::Part), 0, b"", Some(3), Some(1), None),
-        (Kind::Typing(Typing::Message), 0, b"x", None, None, None),
-        (Kind::Typing(Typing::Byte), 0, b"", None, Some(321), None),
         (
-            Kind::Typing(Typing::Number(Radix::Octal)),
+            Kind::Command(Command::Deletion(Unit::Characters)),
+            0,
+            b"",
+            None,
+            None,
+            None,
+        ),
+        (
+            Kind::Command(Command::Typing(Typing::Part)),
+            0,
+            b"",
+            Some(3),
+            Some(1),
+            None,
+        ),
+        (
+            Kind::Command(Command::Typing(Typing::Message)),
+            0,
+            b"x",
+            None,
+            None,
+            None,
+        ),
+        (
+            Kind::Command(Command::Typing(Typing::Byte)),
+            0,
+            b"",
+            None,
+            Some(321),
+            None,
+        ),
+        (
+            Kind::Command(Command::Typing(Typing::Number(Radix::Octal))),
             1,
             b"",
             None,
@@ -99,7 +166,7 @@ fn commands_in_turn(rt: HostRuntime) -> Result<(), Fail> {
             None,
         ),
     ];
-    execute(&rt, &mut editor, reg, &rows);
+    execute(&rt, &mut editor, &rows);
     expect_text(&rt, &editor, b"bc\td", 0);
     assert_eq!(rt; editor.last_length(), 2);
     assert_eq!(rt; editor.take_typed().as_slice(), &b"c\txA377"[..]);
@@ -111,30 +178,78 @@ fn commands_in_turn(rt: HostRuntime) -> Result<(), Fail> {
 #[test]
 fn lines(rt: HostRuntime) -> Result<(), Fail> {
     let mut editor = Editor::new(rt.alloc(), VecText::new(rt.alloc()));
-    let reg = Reg::of(b'A').expect(&rt, "a register");
     let rows: [Row; 6] = [
         (
-            Kind::Insertion(Insertion::Text),
+            Kind::Command(Command::Insertion(Insertion::Text)),
             0,
             b"ab\ncd\nef",
             None,
             None,
             None,
         ),
-        (Kind::Motion(Motion::Lines), 0, b"", None, Some(-1), None),
-        (Kind::Motion(Motion::Forward), 0, b"", None, None, None),
-        (Kind::Typing(Typing::View), 0, b"", None, None, None),
-        (Kind::Typing(Typing::View), 0, b"", None, Some(2), None),
-        (Kind::Typing(Typing::Part), 0, b"", None, Some(0), None),
+        (
+            Kind::Command(Command::Motion(Motion::Lines)),
+            0,
+            b"",
+            None,
+            Some(-1),
+            None,
+        ),
+        (
+            Kind::Command(Command::Motion(Motion::Forward)),
+            0,
+            b"",
+            None,
+            None,
+            None,
+        ),
+        (
+            Kind::Command(Command::Typing(Typing::View)),
+            0,
+            b"",
+            None,
+            None,
+            None,
+        ),
+        (
+            Kind::Command(Command::Typing(Typing::View)),
+            0,
+            b"",
+            None,
+            Some(2),
+            None,
+        ),
+        (
+            Kind::Command(Command::Typing(Typing::Part)),
+            0,
+            b"",
+            None,
+            Some(0),
+            None,
+        ),
     ];
-    execute(&rt, &mut editor, reg, &rows);
+    execute(&rt, &mut editor, &rows);
     expect_text(&rt, &editor, b"ab\ncd\nef", 4);
     assert_eq!(rt; editor.take_typed().as_slice(), &b"cd\nab\ncd\nefc"[..]);
     let deletions: [Row; 2] = [
-        (Kind::Deletion(Unit::Lines), 0, b"", None, None, None),
-        (Kind::Deletion(Unit::Lines), 0, b"", None, Some(-1), None),
+        (
+            Kind::Command(Command::Deletion(Unit::Lines)),
+            0,
+            b"",
+            None,
+            None,
+            None,
+        ),
+        (
+            Kind::Command(Command::Deletion(Unit::Lines)),
+            0,
+            b"",
+            None,
+            Some(-1),
+            None,
+        ),
     ];
-    execute(&rt, &mut editor, reg, &deletions);
+    execute(&rt, &mut editor, &deletions);
     expect_text(&rt, &editor, b"ef", 0);
     Ok(())
 }
@@ -145,18 +260,39 @@ fn registers(rt: HostRuntime) -> Result<(), Fail> {
     let reg = Reg::of(b'q').expect(&rt, "a register");
     let rows: [Row; 18] = [
         (
-            Kind::Insertion(Insertion::Text),
+            Kind::Command(Command::Insertion(Insertion::Text)),
             0,
             b"ab\ncd",
             None,
             None,
             None,
         ),
-        (Kind::Motion(Motion::To), 0, b"", None, None, None),
-        (Kind::Storage(Storage::Copy), 0, b"", None, None, None),
-        (Kind::Storage(Storage::Copy), 1, b"", Some(3), Some(5), None),
         (
-            Kind::Storage(Storage::Number),
+            Kind::Command(Command::Motion(Motion::To)),
+            0,
+            b"",
+            None,
+            None,
+            None,
+        ),
+        (
+            Kind::Command(Command::Storage(Storage::Copy(reg))),
+            0,
+            b"",
+            None,
+            None,
+            None,
+        ),
+        (
+            Kind::Command(Command::Storage(Storage::Copy(reg))),
+            1,
+            b"",
+            Some(3),
+            Some(5),
+            None,
+        ),
+        (
+            Kind::Query(Query::Number(reg)),
             0,
             b"",
             None,
@@ -164,41 +300,90 @@ fn registers(rt: HostRuntime) -> Result<(), Fail> {
             Some(99),
         ),
         (
-            Kind::Storage(Storage::Number),
+            Kind::Query(Query::Number(reg)),
             0,
             b"",
             None,
             Some(5),
             Some(-1),
         ),
-        (Kind::Storage(Storage::Copy), 0, b"", Some(1), Some(0), None),
-        (Kind::Storage(Storage::Get), 1, b"", None, None, None),
-        (Kind::Storage(Storage::SetText), 0, b"x", None, None, None),
-        (Kind::Storage(Storage::SetText), 1, b"yz", None, None, None),
         (
-            Kind::Storage(Storage::SetNumber),
+            Kind::Command(Command::Storage(Storage::Copy(reg))),
+            0,
+            b"",
+            Some(1),
+            Some(0),
+            None,
+        ),
+        (
+            Kind::Command(Command::Storage(Storage::Get(reg))),
+            1,
+            b"",
+            None,
+            None,
+            None,
+        ),
+        (
+            Kind::Command(Command::Storage(Storage::SetText(reg))),
+            0,
+            b"x",
+            None,
+            None,
+            None,
+        ),
+        (
+            Kind::Command(Command::Storage(Storage::SetText(reg))),
+            1,
+            b"yz",
+            None,
+            None,
+            None,
+        ),
+        (
+            Kind::Command(Command::Storage(Storage::SetNumber(reg))),
             0,
             b"",
             None,
             Some(5),
             None,
         ),
-        (Kind::Storage(Storage::Add), 0, b"", None, None, Some(6)),
-        (Kind::Storage(Storage::Push), 0, b"", None, None, None),
         (
-            Kind::Storage(Storage::Add),
+            Kind::Command(Command::Storage(Storage::Add(reg))),
+            0,
+            b"",
+            None,
+            None,
+            Some(6),
+        ),
+        (Kind::Stack(Stack::Push(reg)), 0, b"", None, None, None),
+        (
+            Kind::Command(Command::Storage(Storage::Add(reg))),
             0,
             b"",
             None,
             Some(-8),
             Some(-2),
         ),
-        (Kind::Storage(Storage::SetText), 0, b"", None, None, None),
-        (Kind::Storage(Storage::Pop), 0, b"", None, None, None),
-        (Kind::Storage(Storage::Get), 0, b"", None, None, None),
-        (Kind::Storage(Storage::Push), 0, b"", None, None, None),
+        (
+            Kind::Command(Command::Storage(Storage::SetText(reg))),
+            0,
+            b"",
+            None,
+            None,
+            None,
+        ),
+        (Kind::Stack(Stack::Pop(reg)), 0, b"", None, None, None),
+        (
+            Kind::Command(Command::Storage(Storage::Get(reg))),
+            0,
+            b"",
+            None,
+            None,
+            None,
+        ),
+        (Kind::Stack(Stack::Push(reg)), 0, b"", None, None, None),
     ];
-    execute(&rt, &mut editor, reg, &rows);
+    execute(&rt, &mut editor, &rows);
     expect_text(&rt, &editor, b"xyzab\ncd", 3);
     assert_eq!(rt; editor.last_length(), 3);
     assert_eq!(rt; editor.regs().number(reg), 6);
@@ -211,13 +396,33 @@ fn registers(rt: HostRuntime) -> Result<(), Fail> {
 #[test]
 fn numbers_in_the_text(rt: HostRuntime) -> Result<(), Fail> {
     let mut editor = Editor::new(rt.alloc(), VecText::new(rt.alloc()));
-    let reg = Reg::of(b'A').expect(&rt, "a register");
     let rows: [Row; 4] = [
-        (Kind::Conversion, 0, b"", None, Some(-12), None),
-        (Kind::Motion(Motion::To), 0, b"", None, None, None),
-        (Kind::Conversion, 0, b"", None, None, Some(-12)),
         (
-            Kind::Insertion(Insertion::Text),
+            Kind::Query(Query::Conversion),
+            0,
+            b"",
+            None,
+            Some(-12),
+            None,
+        ),
+        (
+            Kind::Command(Command::Motion(Motion::To)),
+            0,
+            b"",
+            None,
+            None,
+            None,
+        ),
+        (
+            Kind::Query(Query::Conversion),
+            0,
+            b"",
+            None,
+            None,
+            Some(-12),
+        ),
+        (
+            Kind::Command(Command::Insertion(Insertion::Text)),
             0,
             b"+7-x4294967297",
             None,
@@ -225,7 +430,7 @@ fn numbers_in_the_text(rt: HostRuntime) -> Result<(), Fail> {
             None,
         ),
     ];
-    execute(&rt, &mut editor, reg, &rows);
+    execute(&rt, &mut editor, &rows);
     expect_text(&rt, &editor, b"-12+7-x4294967297", 17);
     let places: [(usize, i32, usize, i32); 7] = [
         (0, -12, 3, 45),
@@ -239,8 +444,8 @@ fn numbers_in_the_text(rt: HostRuntime) -> Result<(), Fail> {
     for (place, number, end, character) in places {
         assert!(rt; place <= editor.size());
         editor.set_dot(place);
-        let read = editor.number_here();
-        assert_eq!(rt; (read.number, read.end), (number, end), "at {place}");
+        let reply = editor.query(Query::Conversion, 0);
+        assert_eq!(rt; (reply.value, reply.dot), (number, end), "at {place}");
         assert_eq!(rt; editor.character(0), character, "at {place}");
     }
     assert_eq!(rt; editor.character(-17), 45);

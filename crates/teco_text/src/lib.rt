@@ -3,10 +3,12 @@
 
 mod fault;
 mod lines;
+mod parts;
 mod store;
 mod vec_text;
 
 pub use fault::TextFault;
 pub use lines::line_place;
+pub use parts::pieces;
 pub use store::TextStore;
 pub use vec_text::VecText;

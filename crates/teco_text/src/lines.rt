@@ -5,6 +5,7 @@ ghost use Rattle.teco_base.specs.declared.TheConstants.{LIMIT};
 ghost use Rattle.teco_base.specs.Lines.{line_places_from};
 ghost use Rattle.teco_text.specs.Counted.{Counted};
 
+use crate::parts::{pieces_after, pieces_before};
 use crate::store::TextStore;
 use teco_base::bytes::is_line_end;
 
@@ -26,30 +27,6 @@ pub fn line_place<T: TextStore>(store: &T, n: i64) -> usize
     } else {
         let (first, second) = pieces_before(front, back, dot);
         place_back(first, second, n.unsigned_abs() + 1).unwrap_or(0)
-    }
-}
-
-// What stands behind a place of a text in two pieces, again in two pieces.
-fn pieces_after<'a>(front: &'a [u8], back: &'a [u8], at: usize) -> (&'a [u8], &'a [u8])
-    requires { at ≤ length (front.now ++ back.now) }
-    ensures { result.0.now ++ result.1.now ≡ drop at (front.now ++ back.now) }
-{
-    if at <= front.len() {
-        (&front[at..], back)
-    } else {
-        (&back[at - front.len()..], &[])
-    }
-}
-
-// What stands before it.
-fn pieces_before<'a>(front: &'a [u8], back: &'a [u8], at: usize) -> (&'a [u8], &'a [u8])
-    requires { at ≤ length (front.now ++ back.now) }
-    ensures { result.0.now ++ result.1.now ≡ take at (front.now ++ back.now) }
-{
-    if at <= front.len() {
-        (&front[..at], &[])
-    } else {
-        (front, &back[..at - front.len()])
     }
 }
 

@@ -1,6 +1,6 @@
 // What every store of a text promises.
 ghost use Rattle.std.specs.Prelude.{◌≡◌, ℕ, ◌+◌, ◌-◌, ◌≤◌, List, ◌++◌, length, slice_get, OnOk, OnErr, vec_len, vec_capacity};
-ghost use Rattle.teco_base.specs.Text.{range, replaced, deleted, inserted, pointer_after_deletion};
+ghost use Rattle.teco_base.specs.Text.{range, text_after_replacement, text_after_deletion, text_after_insertion, pointer_after_deletion};
 ghost use Rattle.teco_base.specs.declared.TheConstants.{LIMIT};
 ghost use Rattle.teco_text.specs.Answers.{IsPart, OkWhere, OkWithin, OkWhereWithin, OkWhereSpare};
 
@@ -46,8 +46,10 @@ pub trait TextStore {
 
     /// Puts `bytes` in before the pointer, which moves past them.
     fn insert(&mut self, bytes: &[u8]) -> Result<(), TextFault>
-        ensures answer { OkWithin result (length (inserted (list self.old) (pointer self.old) bytes.now)) (room self.old) }
-        ensures list { OnOk result (list self.new ≡ inserted (list self.old) (pointer self.old) bytes.now) }
+        ensures answer { OkWithin result
+            (length (text_after_insertion (list self.old) (pointer self.old) bytes.now)) (room self.old) }
+        ensures list { OnOk result (list self.new ≡
+            text_after_insertion (list self.old) (pointer self.old) bytes.now) }
         ensures pointer { OnOk result (pointer self.new ≡ pointer self.old + length bytes.now) }
         ensures err { OnErr result ((list self.new ≡ list self.old) × (pointer self.new ≡ pointer self.old)) }
         ensures room { room self.old ≤ room self.new };
@@ -55,7 +57,7 @@ pub trait TextStore {
     /// Takes out the characters from `a` up to `b`. A pointer inside them goes to `a`, one behind them back with the text.
     fn delete(&mut self, a: usize, b: usize) -> Result<(), TextFault>
         ensures answer { OkWhere result (IsPart (list self.old) a b) }
-        ensures list { OnOk result (list self.new ≡ deleted (list self.old) a b) }
+        ensures list { OnOk result (list self.new ≡ text_after_deletion (list self.old) a b) }
         ensures pointer { OnOk result (pointer self.new ≡ pointer_after_deletion a b (pointer self.old)) }
         ensures err { OnErr result ((list self.new ≡ list self.old) × (pointer self.new ≡ pointer self.old)) }
         ensures room { room self.old ≤ room self.new };
@@ -63,8 +65,9 @@ pub trait TextStore {
     /// Puts `bytes` in the stead of the characters from `a` up to `b`. The pointer goes behind them, wherever it was.
     fn replace(&mut self, a: usize, b: usize, bytes: &[u8]) -> Result<(), TextFault>
         ensures answer { OkWhereWithin result (IsPart (list self.old) a b)
-            (length (replaced (list self.old) a b bytes.now)) (room self.old) }
-        ensures list { OnOk result (list self.new ≡ replaced (list self.old) a b bytes.now) }
+            (length (text_after_replacement (list self.old) a b bytes.now)) (room self.old) }
+        ensures list { OnOk result (list self.new ≡
+            text_after_replacement (list self.old) a b bytes.now) }
         ensures pointer { OnOk result (pointer self.new ≡ a + length bytes.now) }
         ensures err { OnErr result ((list self.new ≡ list self.old) × (pointer self.new ≡ pointer self.old)) }
         ensures room { room self.old ≤ room self.new };

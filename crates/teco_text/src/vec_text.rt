@@ -1,6 +1,6 @@
 // A store in one vector.
 ghost use Rattle.std.specs.Prelude.{◌≡◌, ◌+◌, ◌≤◌, [], length, IsOk, OnOk, OnErr, vec_len, vec_capacity};
-ghost use Rattle.teco_base.specs.Text.{replaced, deleted, inserted};
+ghost use Rattle.teco_base.specs.Text.{text_after_replacement, text_after_deletion, text_after_insertion};
 ghost use Rattle.teco_text.specs.Answers.{IsPart};
 
 use crate::fault::TextFault;
@@ -126,7 +126,7 @@ impl TextStore for VecText {
 // Puts `new` in at a place, in time by `new` and the tail. Where memory is refused, nothing has moved.
 fn insert_at(text: &mut Vec<u8>, at: usize, new: &[u8]) -> Result<(), AllocError>
     requires { at ≤ length text.old.items }
-    ensures ok { OnOk result (text.new.items ≡ inserted text.old.items at new.now) }
+    ensures ok { OnOk result (text.new.items ≡ text_after_insertion text.old.items at new.now) }
     ensures err { OnErr result (text.new.items ≡ text.old.items) }
     ensures capacity { vec_capacity text.old ≤ vec_capacity text.new }
     ensures succeeds { vec_len text.old + length new.now ≤ vec_capacity text.old → IsOk result }
@@ -139,7 +139,7 @@ fn insert_at(text: &mut Vec<u8>, at: usize, new: &[u8]) -> Result<(), AllocError
 // Takes out a part, in time by the tail behind it.
 fn remove_part(text: &mut Vec<u8>, a: usize, b: usize)
     requires { IsPart text.old.items a b }
-    ensures items { text.new.items ≡ deleted text.old.items a b }
+    ensures items { text.new.items ≡ text_after_deletion text.old.items a b }
     ensures capacity { vec_capacity text.new ≡ vec_capacity text.old }
 {
     text.copy_within(b.., a);
@@ -149,10 +149,11 @@ fn remove_part(text: &mut Vec<u8>, a: usize, b: usize)
 // Writes `new` over the part's characters as far as both go, and moves the tail once.
 fn replace_part(text: &mut Vec<u8>, a: usize, b: usize, new: &[u8]) -> Result<(), AllocError>
     requires { IsPart text.old.items a b }
-    ensures ok { OnOk result (text.new.items ≡ replaced text.old.items a b new.now) }
+    ensures ok { OnOk result (text.new.items ≡ text_after_replacement text.old.items a b new.now) }
     ensures err { OnErr result (text.new.items ≡ text.old.items) }
     ensures capacity { vec_capacity text.old ≤ vec_capacity text.new }
-    ensures succeeds { length (replaced text.old.items a b new.now) ≤ vec_capacity text.old → IsOk result }
+    ensures succeeds { length (text_after_replacement text.old.items a b new.now) ≤ vec_capacity text.old
+        → IsOk result }
 {
     if new.len() < b - a {
         overwrite(text, a, new);
@@ -168,7 +169,8 @@ fn replace_part(text: &mut Vec<u8>, a: usize, b: usize, new: &[u8]) -> Result<()
 // Writes `new` over the characters from a place on.
 fn overwrite(text: &mut Vec<u8>, at: usize, new: &[u8])
     requires { at + length new.now ≤ length text.old.items }
-    ensures items { text.new.items ≡ replaced text.old.items at (at + length new.now) new.now }
+    ensures items { text.new.items ≡
+        text_after_replacement text.old.items at (at + length new.now) new.now }
     ensures capacity { vec_capacity text.new ≡ vec_capacity text.old }
 {
     text[at..at + new.len()].copy_from_slice(new);

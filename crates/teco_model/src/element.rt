@@ -1,5 +1,5 @@
-use teco_base::Reg;
-use teco_model::Kind;
+//! Elements, as they are read from a text.
+use crate::kind::Kind;
 
 /// An element of a text. What it says of the text is borrowed from there.
 #[derive(Clone, Copy)]
@@ -10,8 +10,6 @@ pub struct Element<'a> {
     pub colons: u8,
     /// Does `@` stand before it?
     pub at: bool,
-    /// The register that it names.
-    pub register: Option<Reg>,
     /// Its text, or the digits of a number.
     pub text: &'a [u8],
     /// The second text of a replacement.
