@@ -1,5 +1,5 @@
-// Searches, with what each finds, and texts that are no pattern. A call that is refused memory is made once more, so that the
-// rows also hold where one allocation fails.
+// Searches, with what each finds, and texts that are no pattern. A call that is refused memory is
+// made once more, so that the rows also hold where one allocation fails.
 use super::*;
 use std::alloc::Global;
 use std::process::Abort;

@@ -27,3 +27,5 @@ pub mod Session
 pub mod Registers
 pub mod Pattern
 pub mod Match
+pub mod Matching
+pub mod MatchRows

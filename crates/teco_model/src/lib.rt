@@ -4,6 +4,7 @@
 
 pub mod arguments;
 pub mod kind;
+pub mod matching;
 pub mod pattern;
 pub mod rows;
 pub mod stop;
