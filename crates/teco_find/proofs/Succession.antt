@@ -1,6 +1,6 @@
 -- The parts of a search text, one after another.
 use Rattle.std.proofs.Common.{◌≡◌, ℕ, zero, suc, ◌+◌, ◌<◌, ◌≤◌, Bool, true, false, cond, List, [], ◌∷◌, length, Option, Some, None, Result, Ok, Err, ap, refl, arith}
-use Rattle.std.specs.Prelude.{IfOk, ok_or, unwrap_or, ◌==◌, fold}
+use Rattle.std.specs.Prelude.{IfOk, ok_or, ◌==◌, fold}
 use Rattle.teco_base.specs.Bytes.{to_upper, control}
 use Rattle.teco_base.specs.Register.{register_of}
 use Rattle.teco_base.specs.declared.code.Code.{Code}
@@ -12,9 +12,6 @@ use Rattle.teco_model.specs.declared.pattern.Class.TheVariants as class
 use Rattle.teco_model.specs.declared.pattern.Item.TheVariants as item
 use Rattle.teco_model.specs.declared.pattern.Part.{Part}
 use Rattle.teco_model.specs.declared.pattern.Part.TheVariants as part
-use Rattle.teco_find.specs.Reading.{Judges}
-use Rattle.teco_find.specs.declared.fault.FindFault.{FindFault}
-use Rattle.teco_find.specs.declared.fault.FindFault.TheVariants as fault
 
 -- at least k of n bytes are read
 abbrev Takes : {X : Type 0} → ℕ → ℕ → Result (X × List ℕ) Code → Type 0
@@ -153,16 +150,8 @@ parts_more (b ∷ text) rest p some e =
     rw e (ap (λ r. r >>= (λ ps. Ok (p ∷ ps))) (enough (length text) (length rest) rest (omega arith) (omega arith)))
 
 -- an empty text has a least length, 0
-minimum_none : (text : List ℕ) → length text ≡ 0 → model.minimum text ≡ Ok (Some 0)
+pub minimum_none : (text : List ℕ) → length text ≡ 0 → model.minimum text ≡ Ok (Some 0)
 minimum_none text none = ap (λ r. r >>= (λ ps. Ok (fold model.with_part (Some 0) ps))) (no_parts text none)
-
-pub no_flaw : (text : List ℕ) (told : FindFault) → Judges {X = Option ℕ} (Err told) (model.minimum text) → length text ≡ 0 → ⊥
-no_flaw text fault.Ice h none = let e = minimum_none text none in cc
-no_flaw text fault.Iqn h none = let e = minimum_none text none in cc
-no_flaw text fault.Memory h none = h
-
-pub least_none : (text : List ℕ) (least : Option ℕ) → model.minimum text ≡ Ok least → length text ≡ 0 → unwrap_or least 0 ≡ 0
-least_none text least e none = let f = minimum_none text none in let same : least ≡ Some 0 = cc in ap (λ o. unwrap_or o 0) same
 
 -- what reading a part needs
 pub ruleset reading = (no_parts, parts_fault, parts_more, shorter)

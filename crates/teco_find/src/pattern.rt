@@ -29,6 +29,7 @@ impl Pattern {
     /// The pattern that a search text says, with the texts that the registers have now. Letters
     /// are matched in either case unless it is `exact`. A fault of the text is told before any
     /// memory is wanted, and an empty text takes none.
+    #[tactic(auto, using(crate::proofs::Succession::minimum_none))]
     pub fn read(alloc: Global, text: &[u8], regs: &Regs, exact: bool) -> Result<Pattern, FindFault>
         ensures pattern { Reads result (model.pattern regs.now exact text.now) }
         ensures empty { length text.now ≡ 0 → IsOk result }
