@@ -9,6 +9,7 @@ unfolding here part_at parts_within parts empty_pairs
 match_rows = record {
   letter_digit_blanks = refl;
   nothing_tried_again = refl;
+  some_blank = refl;
   any = refl;
   separator = refl;
   no_digit = refl;

@@ -5,10 +5,15 @@ use Rattle.std.proofs.lemmas.Bool.{cases_order}
 use Rattle.std.proofs.lemmas.List.{length-drop}
 use Rattle.std.proofs.lemmas.Option.{slice_get_within}
 use Rattle.std.specs.Option.{option_or}
-use Rattle.std.specs.Prelude.{not, slice_get, option_map, option_and_then}
+use Rattle.std.specs.Prelude.{not, slice_get, option_map, option_and_then, fold, flat_map, Result, Ok, Err}
 use Rattle.teco_model.specs.Match as model
-use Rattle.teco_model.specs.Matching.{HasAt, IsOne, IsRun, Matches, InTurn, IsMatch, IsMatchAt, IsFirstFrom, IsLastBefore, HasNoneFrom, HasNoneBefore, IsNth, Finds, OneEnd, HereFinds, FirstFinds, LastFinds, ForwardFinds, BackwardFinds}
-use Rattle.teco_model.specs.Pattern.{Pattern}
+use Rattle.teco_model.specs.Matching.{HasAt, IsOne, IsRun, Matches, InTurn, IsMatch, IsMatchAt, IsFirstFrom, IsLastBefore, HasNoneFrom, HasNoneBefore, IsNth, Finds, OneEnd, HereFinds, FirstFinds, LastFinds, ForwardFinds, BackwardFinds, NoneIsShorter}
+use Rattle.teco_base.specs.declared.code.Code.{Code}
+use Rattle.teco_model.specs.Checked.{◌>>=◌}
+use Rattle.teco_model.specs.Pattern.{Pattern, parts, with_part, items_of}
+use Rattle.teco_model.specs.Registers.{Registers}
+use Rattle.teco_model.specs.declared.pattern.Part.{Part}
+use Rattle.teco_model.specs.declared.pattern.Part.TheVariants as part
 use Rattle.teco_model.specs.declared.pattern.Item.{Item}
 use Rattle.teco_model.specs.declared.pattern.Item.TheVariants as item
 use Rattle.teco_model.specs.declared.pattern.Span.{Span}
@@ -257,3 +262,41 @@ forward_finds pattern text at n = nth_is (model.first_from pattern text) (λ las
 
 pub backward_finds : BackwardFinds
 backward_finds pattern text at n = nth_is (model.last_before pattern text) (λ last. last.start) (IsLastBefore pattern text) (last_answer pattern text) (one_last pattern text) n at
+
+-- a match has a character for each element
+turn_long : (items : List Item) (text : List ℕ) (at end : ℕ) → InTurn items text at end → at + length items ≤ end
+turn_long [] text at end m = omega arith
+turn_long (i ∷ items) text at end m =
+    let first = item_within i text at m.0 m.1 in
+    let later = turn_long items text m.0 end m.2 in
+    omega arith
+
+match_long : (pattern : Pattern) (text : List ℕ) (span : Span) → IsMatch pattern text span → span.start + length pattern ≤ span.end
+match_long [] text span m = absurd m
+match_long (i ∷ items) text span m = turn_long (i ∷ items) text span.start span.end m
+
+-- a search text that has a least length has as many elements
+no_least : (ps : List Part) → fold with_part None ps ≡ None
+no_least [] = refl
+no_least (part.Item i ∷ ps) = no_least ps
+no_least (part.Register r ∷ ps) = no_least ps
+
+module _ (registers : Registers) (exact : Bool) where
+  item_count : (ps : List Part) (k n : ℕ) → fold with_part (Some k) ps ≡ Some n → length (flat_map (items_of registers exact) ps) + k ≡ n
+  item_count [] k n e = let same : k ≡ n = cc in omega arith
+  item_count (part.Item i ∷ ps) k n e = let more = item_count ps (k + 1) n e in omega arith
+  item_count (part.Register r ∷ ps) k n e = let none = no_least ps in cc
+
+  pattern_count : (r : Result (List Part) Code) (n : ℕ) (p : Pattern) → (r >>= (λ ps. Ok (fold with_part (Some 0) ps))) ≡ Ok (Some n) → (r >>= (λ ps. Ok (flat_map (items_of registers exact) ps))) ≡ Ok p → length p ≡ n
+  pattern_count (Err c) n p e f = cc
+  pattern_count (Ok ps) n p e f =
+      let least : fold with_part (Some 0) ps ≡ Some n = cc in
+      let items : flat_map (items_of registers exact) ps ≡ p = cc in
+      let count = item_count ps 0 n least in
+      omega (arith, ap length items)
+
+pub none_is_shorter : NoneIsShorter
+none_is_shorter registers exact search least p e f text span m =
+    let count = pattern_count registers exact (parts search) least p e f in
+    let long = match_long p text span m in
+    omega arith

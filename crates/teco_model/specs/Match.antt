@@ -9,7 +9,7 @@ use Rattle.teco_model.specs.declared.pattern.Item.{Item}
 use Rattle.teco_model.specs.declared.pattern.Item.TheVariants as item
 use Rattle.teco_model.specs.declared.pattern.Span.{Span}
 
--- is a character of the class?
+-- is a character of the class
 abbrev pub is_in : Class → ℕ → Bool
 is_in (class.Literal b) c = c == b
 is_in (class.EitherCase b) c = to_upper c == b
@@ -22,6 +22,7 @@ is_in class.Lower c = is_lower c
 is_in class.Upper c = is_upper c
 is_in class.LineEnd c = is_line_end c
 
+-- what a run of blanks is of
 abbrev pub is_space_or_tab : ℕ → Bool
 is_space_or_tab c = c == 32 || c == 9
 

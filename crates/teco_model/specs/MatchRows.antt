@@ -36,6 +36,7 @@ pub record MatchRows : Type 0 where
   -- the elements, one after another
   pub letter_digit_blanks : first_match (codes "^EA^ED^ESb") (codes "ax1  b") ≡ span 1 6
   pub nothing_tried_again : first_match (codes "^ES ") (codes "  b") ≡ no_match
+  pub some_blank : first_match (codes "^ESb") (codes "ab") ≡ no_match
   pub any : first_match (codes "a^Xb") (codes "a" ++ 10 ∷ codes "b") ≡ span 0 3
   pub separator : first_match (codes "a^Sb") (codes "a1ba.b") ≡ span 3 6
   pub no_digit : first_match (codes "^N^ED") (codes "ab1") ≡ span 0 1

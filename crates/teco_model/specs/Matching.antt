@@ -1,7 +1,8 @@
 -- What a match is and which match a search finds, as relations; and that the definition finds it.
-use Rattle.std.specs.Prelude.{◌≡◌, ℕ, zero, suc, ◌+◌, ◌<◌, ◌≤◌, List, [], ◌∷◌, slice_get, Option, Some, MatchOption, Bool, not, IsTrue}
+use Rattle.std.specs.Prelude.{◌≡◌, ℕ, zero, suc, ◌+◌, ◌<◌, ◌≤◌, List, [], ◌∷◌, slice_get, Option, Some, MatchOption, Ok, not, Bool, IsTrue}
 use Rattle.teco_model.specs.Match.{is_in, is_space_or_tab, here, first_from, last_before, forward, backward}
-use Rattle.teco_model.specs.Pattern.{Pattern}
+use Rattle.teco_model.specs.Pattern.{Pattern, pattern, minimum}
+use Rattle.teco_model.specs.Registers.{Registers}
 use Rattle.teco_model.specs.declared.pattern.Item.{Item}
 use Rattle.teco_model.specs.declared.pattern.Item.TheVariants as item
 use Rattle.teco_model.specs.declared.pattern.Span.{Span}
@@ -43,23 +44,25 @@ pub record IsMatchAt (pattern : Pattern) (text : List ℕ) (at : ℕ) (span : Sp
   pub starts : span.start ≡ at
   pub matches : IsMatch pattern text span
 
--- the match of the least start at a place or behind it, and that no start there has a match
+-- the match of the least start at a place or behind it
 pub record IsFirstFrom (pattern : Pattern) (text : List ℕ) (at : ℕ) (span : Span) : Type 0 where
   pub from : at ≤ span.start
   pub matches : IsMatch pattern text span
   pub least :
       (other : Span) → IsMatch pattern text other → at ≤ other.start → span.start ≤ other.start
 
+-- no start at a place or behind it has a match
 abbrev pub HasNoneFrom : Pattern → List ℕ → ℕ → Type 0
 HasNoneFrom pattern text at = (span : Span) → IsMatch pattern text span → at ≤ span.start → ⊥
 
--- the match of the greatest start before a place, and that no start there has a match
+-- the match of the greatest start before a place
 pub record IsLastBefore (pattern : Pattern) (text : List ℕ) (at : ℕ) (span : Span) : Type 0 where
   pub before : span.start < at
   pub matches : IsMatch pattern text span
   pub greatest :
       (other : Span) → IsMatch pattern text other → other.start < at → other.start ≤ span.start
 
+-- no start before a place has a match
 abbrev pub HasNoneBefore : Pattern → List ℕ → ℕ → Type 0
 HasNoneBefore pattern text at = (span : Span) → IsMatch pattern text span → span.start < at → ⊥
 
@@ -117,3 +120,10 @@ abbrev pub BackwardFinds : Type 0
 BackwardFinds =
     (pattern : Pattern) (text : List ℕ) (at n : ℕ) →
     Finds (IsBackward pattern text at n) (backward pattern text at n)
+
+-- where a search text has a least length, no match of what it says is shorter
+abbrev pub NoneIsShorter : Type 0
+NoneIsShorter =
+    (registers : Registers) (exact : Bool) (search : List ℕ) (least : ℕ) (p : Pattern) →
+    minimum search ≡ Ok (Some least) → pattern registers exact search ≡ Ok p →
+    (text : List ℕ) (span : Span) → IsMatch p text span → span.start + least ≤ span.end

@@ -131,6 +131,7 @@ abbrev pub literal : Bool → ℕ → Class
 literal exact b =
     if is_letter b && not exact then class.EitherCase (to_upper b) else class.Literal b
 
+-- a class, and an element, as the mode has them
 abbrev pub class_of : Bool → Class → Class
 class_of exact (class.Literal b) = literal exact b
 class_of exact c = c

@@ -1,6 +1,6 @@
 //! Laws of matches and searches.
 ghost use Rattle.teco_model.specs.MatchRows.{MatchRows};
-ghost use Rattle.teco_model.specs.Matching.{OneEnd, HereFinds, FirstFinds, LastFinds, ForwardFinds, BackwardFinds};
+ghost use Rattle.teco_model.specs.Matching.{OneEnd, HereFinds, FirstFinds, LastFinds, ForwardFinds, BackwardFinds, NoneIsShorter};
 
 /// A start has at most one end.
 pub fn one_end()
@@ -31,6 +31,11 @@ pub fn forward_finds()
 /// Backward the nth match is found, with descending starts, and nothing only where there are fewer.
 pub fn backward_finds()
     ensures { BackwardFinds }
+{}
+
+/// No match is shorter than the least length of its search text.
+pub fn none_is_shorter()
+    ensures { NoneIsShorter }
 {}
 
 /// The definition gives what search texts and searches worked by hand give.
