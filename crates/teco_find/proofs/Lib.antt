@@ -1,2 +1,2 @@
 mod Matches
-mod Parts
+mod Succession

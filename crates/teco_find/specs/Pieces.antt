@@ -1,3 +1,4 @@
+-- Texts that are held in two pieces, as the two sides of a gap.
 use Rattle.std.specs.Borrow.{Bor}
 use Rattle.std.specs.Prelude.{ℕ, List, ◌++◌}
 

@@ -1,6 +1,10 @@
-use Rattle.std.specs.Prelude.{◌≡◌, Result, Ok, Err, IsOk}
+-- What the calls that read a search text answer, beside the definition.
+use Rattle.std.specs.Prelude.{◌≡◌, ℕ, ◌<◌, List, [], ◌∷◌, length, Option, Some, None, Result, Ok, Err, IsOk}
 use Rattle.teco_base.specs.declared.code.Code.{Code}
 use Rattle.teco_base.specs.declared.code.Code.TheVariants as code
+use Rattle.teco_model.specs.Checked.{◌>>=◌}
+use Rattle.teco_model.specs.Pattern.{parts}
+use Rattle.teco_model.specs.declared.pattern.Part.{Part}
 use Rattle.teco_find.specs.declared.fault.FindFault.{FindFault}
 use Rattle.teco_find.specs.declared.fault.FindFault.TheVariants as fault
 use Rattle.teco_find.specs.declared.fault.Flaw.{Flaw}
@@ -20,7 +24,7 @@ abbrev pub Gives : {X Y : Type 0} → (X → Y) → Result X Flaw → Result Y C
 Gives view (Ok x) defined = defined ≡ Ok (view x)
 Gives view (Err f) defined = defined ≡ Err (code_of f)
 
--- the same of a call that may also be refused memory, where the text has no flaw
+-- the same of a public call, which may be refused memory where the text has no flaw
 abbrev pub Reads : {X : Type 0} → Result X FindFault → Result X Code → Type 0
 Reads (Ok x) defined = defined ≡ Ok x
 Reads (Err fault.Ice) defined = defined ≡ Err code.Ice
@@ -33,3 +37,10 @@ Judges (Ok x) defined = defined ≡ Ok x
 Judges (Err fault.Ice) defined = defined ≡ Err code.Ice
 Judges (Err fault.Iqn) defined = defined ≡ Err code.Iqn
 Judges (Err fault.Memory) defined = ⊥
+
+-- a part was read off a text: the parts of what there was are this one and those of what is left
+abbrev pub NextPart : List ℕ → List ℕ → Result (Option Part) Flaw → Type 0
+NextPart old new (Ok None) = parts old ≡ Ok []
+NextPart old new (Ok (Some p)) =
+    (parts old ≡ (parts new >>= (λ ps. Ok (p ∷ ps)))) × (length new < length old)
+NextPart old new (Err f) = parts old ≡ Err (code_of f)

@@ -7,23 +7,13 @@ use teco_base::bytes::{
 };
 use teco_model::pattern::Class;
 
-// Is it the same byte, or where case is ignored the same letter?
-fn is_literal(exact: bool, b: u8, c: u8) -> bool
-    ensures { result ≡ model.is_literal exact b c }
-{
-    if exact {
-        b == c
-    } else {
-        to_upper(b) == to_upper(c)
-    }
-}
-
 // Is the character of the class?
-pub(crate) fn is_in(exact: bool, class: Class, c: u8) -> bool
-    ensures { result ≡ model.is_in exact class c }
+pub(crate) fn is_in(class: Class, c: u8) -> bool
+    ensures { result ≡ model.is_in class c }
 {
     match class {
-        Class::Literal(b) => is_literal(exact, b, c),
+        Class::Literal(b) => c == b,
+        Class::EitherCase(b) => to_upper(c) == b,
         Class::Any => true,
         Class::Separator => !is_letter_or_digit(c),
         Class::Letter => is_letter(c),

@@ -3,8 +3,9 @@ ghost use Rattle.std.specs.Prelude.{◌≡◌, ◌≤◌, ◌<◌, length, IfSom
 ghost use Rattle.teco_model.specs.Match as model;
 ghost use Rattle.teco_find.specs.Pieces.{joined};
 
-use crate::ends::match_end;
 use crate::pattern::Pattern;
+use crate::pieces::text_from;
+use crate::rests::match_rest;
 use teco_model::Span;
 
 impl Pattern {
@@ -13,13 +14,17 @@ impl Pattern {
     pub fn here(&self, text: (&[u8], &[u8]), at: usize) -> Option<Span>
         requires { at ≤ length (joined text) }
         ensures value { result ≡ model.here self.now (joined text.entry) at }
+        ensures starts { IfSome result (λ span. span.start ≡ at) }
         ensures within { IfSome result (λ span. span.end ≤ length (joined text.entry)) }
     {
         if self.items.is_empty() {
             return None;
         }
-        let end = match_end(self.exact, text, &self.items, at)?;
-        Some(Span { start: at, end })
+        let (front, back) = match_rest(&self.items, text_from(text, at))?;
+        Some(Span {
+            start: at,
+            end: text.0.len() + text.1.len() - (front.len() + back.len()),
+        })
     }
 
     // The first match that starts at a place or behind it.
@@ -37,8 +42,24 @@ impl Pattern {
         None
     }
 
-    /// The `n`th match from a place on: the first starts at the place or behind it, each next one at the end of the last or
-    /// behind it.
+    // The last match that starts before a place.
+    #[tactic(auto, using(crate::proofs::Matches::lasts))]
+    fn last_before(&self, text: (&[u8], &[u8]), at: usize) -> Option<Span>
+        requires { at ≤ length (joined text) }
+        ensures value { result ≡ model.last_before self.now (joined text.entry) at }
+        ensures before { IfSome result (λ span. span.start < at) }
+        ensures within { IfSome result (λ span. span.end ≤ length (joined text.entry)) }
+    {
+        for start in (0..at).rev() {
+            if let Some(span) = self.here(text, start) {
+                return Some(span);
+            }
+        }
+        None
+    }
+
+    /// The `n`th match from a place on: the first starts at the place or behind it, each next one
+    /// at the end of the last or behind it.
     #[tactic(auto, using(crate::proofs::Matches::turns))]
     pub fn forward(&self, text: (&[u8], &[u8]), from: usize, n: u32) -> Option<Span>
         requires from { from ≤ length (joined text) }
@@ -53,24 +74,19 @@ impl Pattern {
         self.first_from(text, at)
     }
 
-    /// The `n`th match that starts before a place, counted backwards. It may reach past the place, and overlap the others.
-    #[tactic(auto, using(crate::proofs::Matches::counting))]
+    /// The `n`th match that starts before a place, counted backwards. It may reach past the place,
+    /// and overlap the others.
+    #[tactic(auto, using(crate::proofs::Matches::turns))]
     pub fn backward(&self, text: (&[u8], &[u8]), from: usize, n: u32) -> Option<Span>
         requires from { from ≤ length (joined text) }
         requires some { 1 ≤ n }
         ensures value { result ≡ model.backward self.now (joined text.entry) from n }
         ensures within { IfSome result (λ span. span.end ≤ length (joined text.entry)) }
     {
-        let mut left = n;
-        for start in (0..from).rev() {
-            let Some(span) = self.here(text, start) else {
-                continue;
-            };
-            left -= 1;
-            if left == 0 {
-                return Some(span);
-            }
+        let mut at = from;
+        for _turn in 1..n {
+            at = self.last_before(text, at)?.start;
         }
-        None
+        self.last_before(text, at)
     }
 }

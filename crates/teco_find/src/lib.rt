@@ -2,11 +2,14 @@
 #![tactic(auto)]
 
 mod classes;
-mod ends;
 mod fault;
 mod find;
+mod items;
+mod parts;
 mod pattern;
+mod pieces;
 mod read;
+mod rests;
 
 pub use fault::FindFault;
 pub use pattern::{Pattern, minimum};

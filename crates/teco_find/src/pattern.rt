@@ -1,20 +1,20 @@
 // Patterns, and how they are read.
-ghost use Rattle.std.specs.Prelude.{◌≡◌, ◌++◌, ◌+◌, ◌^◌, ◌<◌, OnOk, IfSome};
+ghost use Rattle.std.specs.Prelude.{◌≡◌, ◌+◌, ◌^◌, ◌<◌, length, IsOk, IfSome};
 ghost use Rattle.teco_model.specs.Pattern as model;
 ghost use Rattle.teco_find.specs.Reading.{Judges, Reads};
 
 use crate::fault::FindFault;
-use crate::read::part_at;
-use std::alloc::{AllocError, Global};
+use crate::items::put_part;
+use crate::parts::Parts;
+use std::alloc::Global;
 use std::marker::Model;
-use teco_model::pattern::{Class, Item, Part};
+use teco_model::pattern::{Item, Part};
 use teco_regs::Regs;
 
 /// What a search looks for.
 #[derive(Drop)]
 pub struct Pattern {
     pub(crate) items: Vec<Item>,
-    pub(crate) exact: bool,
 }
 
 impl Model for Pattern {
@@ -22,66 +22,39 @@ impl Model for Pattern {
 
     ghost Value = { model.Pattern };
 
-    ghost view = { λ p. record { items = p.items.items; exact = p.exact } };
+    ghost view = { λ p. p.items.items };
 }
 
 impl Pattern {
-    /// The pattern that a search text says, with the texts that the registers have now. Letters are matched in either case
-    /// unless it is `exact`. A fault of the text is told before any memory is wanted.
+    /// The pattern that a search text says, with the texts that the registers have now. Letters
+    /// are matched in either case unless it is `exact`. A fault of the text is told before any
+    /// memory is wanted, and an empty text takes none.
+    #[tactic(auto, using(crate::proofs::Succession::minimum_none))]
     pub fn read(alloc: Global, text: &[u8], regs: &Regs, exact: bool) -> Result<Pattern, FindFault>
-        ensures { Reads result (model.pattern regs.now exact text.now) }
+        ensures pattern { Reads result (model.pattern regs.now exact text.now) }
+        ensures empty { length text.now ≡ 0 → IsOk result }
     {
-        let _ = minimum(text)?;
-        let mut items = Vec::new(alloc);
-        let mut rest = text;
-        while !rest.is_empty() {
-            let (part, behind) = match part_at(rest) {
-                Ok(read) => read,
-                Err(flaw) => return Err(FindFault::from(flaw)),
-            };
-            put_part(&mut items, part, regs)?;
-            rest = behind;
+        let least = minimum(text)?;
+        let mut items = Vec::with_capacity(alloc, least.unwrap_or(0))?;
+        let mut parts = Parts::of(text);
+        while let Some(part) = parts.next()? {
+            put_part(&mut items, part, regs, exact)?;
         }
-        Ok(Pattern { items, exact })
+        Ok(Pattern { items })
     }
 }
 
-// Appends what a part stands for.
-fn put_part(items: &mut Vec<Item>, part: Part, regs: &Regs) -> Result<(), AllocError>
-    ensures { OnOk result (items.new.items ≡ items.old.items ++ model.items_of regs.now part) }
-{
-    match part {
-        Part::Item(item) => items.push(item)?,
-        Part::Register(reg) => put_literals(items, regs.text(reg))?,
-    }
-    Ok(())
-}
-
-// Appends the bytes of a text, each a literal.
-fn put_literals(items: &mut Vec<Item>, text: &[u8]) -> Result<(), AllocError>
-    ensures { OnOk result (items.new.items ≡ items.old.items ++ model.literals text.now) }
-{
-    for b in text {
-        items.push(Item::Is(Class::Literal(*b)))?;
-    }
-    Ok(())
-}
-
-/// How many characters a match of a search text has at the least; `None` where the text of a register is part of it.
+/// How many characters a match of a search text has at the least; `None` where the text of a
+/// register is part of it.
 ///
 /// It takes no memory.
 pub fn minimum(text: &[u8]) -> Result<Option<usize>, FindFault>
     ensures { Judges result (model.minimum text.now) }
 {
     let mut least = Some(0);
-    let mut rest = text;
-    while !rest.is_empty() {
-        let (part, behind) = match part_at(rest) {
-            Ok(read) => read,
-            Err(flaw) => return Err(FindFault::from(flaw)),
-        };
+    let mut parts = Parts::of(text);
+    while let Some(part) = parts.next()? {
         least = with_part(least, part);
-        rest = behind;
     }
     Ok(least)
 }

@@ -1,5 +1,5 @@
-// Searches, with what each finds, and texts that are no pattern. A call that is refused memory is made once more, so that the
-// rows also hold where one allocation fails.
+// Searches, with what each finds, and texts that are no pattern. A call that is refused memory is
+// made once more, so that the rows also hold where one allocation fails.
 use super::*;
 use std::alloc::Global;
 use std::process::Abort;
@@ -85,23 +85,30 @@ fn searches_in_either_direction(rt: HostRuntime) {
 }
 
 #[test]
-fn matches_overlap_backward_alone(rt: HostRuntime) {
+fn matches_from_a_place(rt: HostRuntime) {
     let regs = registers(&rt, rt.alloc());
-    let pattern = read(rt.alloc(), b"aa", &regs, true).expect(&rt, "a pattern");
-    for (from, way, want) in [
-        (0, Way::Forward(2), Some((2, 4))),
-        (0, Way::Forward(3), None),
-        (3, Way::Backward(2), Some((1, 3))),
-        (3, Way::Backward(3), Some((0, 2))),
-    ] {
-        expect_found(&rt, &pattern, b"aaaa", from, way, want);
+    let rows: [(&[u8], &[u8], usize, Way, Option<(usize, usize)>); 10] = [
+        (b"aa", b"aaaa", 0, Way::Forward(2), Some((2, 4))),
+        (b"aa", b"aaaa", 0, Way::Forward(3), None),
+        (b"aa", b"aaaa", 3, Way::Backward(2), Some((1, 3))),
+        (b"aa", b"aaaa", 3, Way::Backward(3), Some((0, 2))),
+        (b"aa", b"aaaa", 3, Way::Backward(4), None),
+        (b"ab", b"abcab", 0, Way::Forward(2), Some((3, 5))),
+        (b"ab", b"abcab", 0, Way::Forward(3), None),
+        (b"ab", b"abab", 4, Way::Backward(2), Some((0, 2))),
+        (b"ab", b"abab", 2, Way::Here, Some((2, 4))),
+        (b"b", b"abab", 0, Way::Here, None),
+    ];
+    for (search, text, from, way, want) in rows {
+        let pattern = read(rt.alloc(), search, &regs, true).expect(&rt, "a pattern");
+        expect_found(&rt, &pattern, text, from, way, want);
     }
 }
 
 #[test]
 fn elements(rt: HostRuntime) {
     let regs = registers(&rt, rt.alloc());
-    let rows: [(&[u8], bool, &[u8], Option<(usize, usize)>); 25] = [
+    let rows: [(&[u8], bool, &[u8], Option<(usize, usize)>); 28] = [
         (b"^EA^ED^ESb", false, b"ax1  b", Some((1, 6))),
         (b"\x05A\x05D\x05Sb", false, b"ax1  b", Some((1, 6))),
         (b"^ES ", false, b"  b", None),
@@ -114,6 +121,7 @@ fn elements(rt: HostRuntime) {
         (b"^Na", false, b"Aab", Some((2, 3))),
         (b"^Na", true, b"Aab", Some((0, 1))),
         (b"^N^Q^", false, b"^a", Some((1, 2))),
+        (b"^N^ED", false, b"ab1", Some((0, 1))),
         (b"^N^X", false, b"abc", None),
         (b"^N^S", false, b".a", Some((1, 2))),
         (b"a^Xb", false, b"a\nb", Some((0, 3))),
@@ -125,6 +133,8 @@ fn elements(rt: HostRuntime) {
         (b"^Q^Q^Q^", false, b"^Q^", Some((0, 3))),
         (b"^A", false, b"a\x01", Some((1, 2))),
         (b"^EQa", false, b"ab.", Some((1, 3))),
+        (b"^EQA", false, b"aB.", Some((1, 3))),
+        (b"^EQA", true, b"aB.", None),
         (b"^EQ0", false, b"ab.", None),
         (b"", false, b"ab.", None),
     ];

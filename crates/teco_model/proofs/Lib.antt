@@ -1,2 +1,4 @@
 pub mod Worked
 pub mod Digits
+pub mod MatchWorked
+pub mod Searches

@@ -29,3 +29,5 @@ pub mod Session
 pub mod Registers
 pub mod Pattern
 pub mod Match
+pub mod Matching
+pub mod MatchRows

@@ -1,6 +1,6 @@
 -- Where a pattern is found.
-use Rattle.std.specs.Prelude.{ℕ, zero, suc, ◌+◌, ◌-◌, List, [], ◌∷◌, length, drop, reverse, filter_map, slice_get, Option, Some, None, option_map, option_and_then, Bool, true, false, not, ◌==◌, ◌||◌, if◌then◌else◌}
-use Rattle.std.specs.List.{prefix_len, range_with_len}
+use Rattle.std.specs.Prelude.{ℕ, zero, suc, ◌+◌, ◌-◌, List, [], ◌∷◌, length, drop, Option, Some, None, option_map, option_and_then, Bool, true, not, ◌==◌, ◌||◌, if◌then◌else◌}
+use Rattle.std.specs.Option.{option_or}
 use Rattle.teco_base.specs.Bytes.{to_upper, is_letter, is_digit, is_letter_or_digit, is_lower, is_upper, is_line_end}
 use Rattle.teco_model.specs.Pattern.{Pattern}
 use Rattle.teco_model.specs.declared.pattern.Class.{Class}
@@ -9,69 +9,79 @@ use Rattle.teco_model.specs.declared.pattern.Item.{Item}
 use Rattle.teco_model.specs.declared.pattern.Item.TheVariants as item
 use Rattle.teco_model.specs.declared.pattern.Span.{Span}
 
--- a literal is matched by the same byte, or unless it is exact by the same letter in the other case
-abbrev pub is_literal : Bool → ℕ → ℕ → Bool
-is_literal true b c = b == c
-is_literal false b c = to_upper b == to_upper c
+-- is a character of the class
+abbrev pub is_in : Class → ℕ → Bool
+is_in (class.Literal b) c = c == b
+is_in (class.EitherCase b) c = to_upper c == b
+is_in class.Any c = true
+is_in class.Separator c = not (is_letter_or_digit c)
+is_in class.Letter c = is_letter c
+is_in class.Digit c = is_digit c
+is_in class.LetterOrDigit c = is_letter_or_digit c
+is_in class.Lower c = is_lower c
+is_in class.Upper c = is_upper c
+is_in class.LineEnd c = is_line_end c
 
--- is a character of the class?
-abbrev pub is_in : Bool → Class → ℕ → Bool
-is_in exact (class.Literal b) c = is_literal exact b c
-is_in exact class.Any c = true
-is_in exact class.Separator c = not (is_letter_or_digit c)
-is_in exact class.Letter c = is_letter c
-is_in exact class.Digit c = is_digit c
-is_in exact class.LetterOrDigit c = is_letter_or_digit c
-is_in exact class.Lower c = is_lower c
-is_in exact class.Upper c = is_upper c
-is_in exact class.LineEnd c = is_line_end c
-
+-- what a run of blanks is of
 abbrev pub is_space_or_tab : ℕ → Bool
 is_space_or_tab c = c == 32 || c == 9
 
--- the place behind a character, if it is there and passes
-abbrev pub one_end : (ℕ → Bool) → Option ℕ → ℕ → Option ℕ
-one_end passes None at = None
-one_end passes (Some c) at = if passes c then Some (at + 1) else None
+-- Each of what follows is matched at the front of a text, and gives the text behind it.
 
--- the place behind a run, if it has a character
-abbrev pub run_end : ℕ → ℕ → Option ℕ
-run_end zero at = None
-run_end (suc n) at = Some (at + suc n)
+-- a character that passes
+abbrev pub one_rest : (ℕ → Bool) → List ℕ → Option (List ℕ)
+one_rest passes [] = None
+one_rest passes (c ∷ rest) = if passes c then Some rest else None
 
--- the place behind an element that is matched at a place
-abbrev pub item_end : Bool → List ℕ → Item → ℕ → Option ℕ
-item_end exact text (item.Is c) at = one_end (is_in exact c) (slice_get text at) at
-item_end exact text (item.IsNot c) at = one_end (λ b. not (is_in exact c b)) (slice_get text at) at
-item_end exact text item.Blanks at = run_end (prefix_len is_space_or_tab (drop at text)) at
+-- all characters that pass, up to the first that does not
+abbrev pub run_rest : (ℕ → Bool) → List ℕ → List ℕ
+run_rest passes [] = []
+run_rest passes (c ∷ rest) = if passes c then run_rest passes rest else c ∷ rest
 
--- the place behind elements, each of which is matched where the one before it ended
-abbrev pub match_end : Bool → List ℕ → List Item → ℕ → Option ℕ
-match_end exact text [] at = Some at
-match_end exact text (i ∷ items) at = option_and_then (match_end exact text items) (item_end exact text i at)
+-- an element; a run of blanks has one at least
+abbrev pub item_rest : Item → List ℕ → Option (List ℕ)
+item_rest (item.Is c) text = one_rest (is_in c) text
+item_rest (item.IsNot c) text = one_rest (λ b. not (is_in c b)) text
+item_rest item.Blanks text = option_map (run_rest is_space_or_tab) (one_rest is_space_or_tab text)
+
+-- elements, each where the one before it ended
+abbrev pub match_rest : List Item → List ℕ → Option (List ℕ)
+match_rest [] text = Some text
+match_rest (i ∷ items) text = option_and_then (match_rest items) (item_rest i text)
 
 -- the match that starts at a place, if there is one; a pattern of no elements is never found
-abbrev pub span_of : Bool → List ℕ → List Item → ℕ → Option Span
-span_of exact text [] at = None
-span_of exact text (i ∷ items) at = option_map (λ end. record { start = at; end = end }) (match_end exact text (i ∷ items) at)
-
 unfoldable pub here : Pattern → List ℕ → ℕ → Option Span
-here pattern text at = span_of pattern.exact text pattern.items at
+here [] text at = None
+here (i ∷ items) text at =
+    option_map (λ rest. record { start = at; end = length text - length rest })
+    (match_rest (i ∷ items) (drop at text))
 
--- the matches that start at so many places from one on, by their starts
-unfoldable pub matches : Pattern → List ℕ → ℕ → ℕ → List Span
-matches pattern text at places = filter_map (here pattern text) (range_with_len at places)
+-- the first match that starts at one of so many places, from a place on
+abbrev pub first_among : Pattern → List ℕ → ℕ → ℕ → Option Span
+first_among pattern text at zero = None
+first_among pattern text at (suc places) =
+    option_or (here pattern text at) (first_among pattern text (at + 1) places)
 
 -- the first match that starts at a place or behind it
 abbrev pub first_from : Pattern → List ℕ → ℕ → Option Span
-first_from pattern text at = slice_get (matches pattern text at (length text + 1 - at)) 0
+first_from pattern text at = first_among pattern text at (length text - at)
 
--- the nth match from a place on: the first starts at the place or behind it, each next one at the end of the last or behind it
+-- the last match that starts before a place; it may reach past the place
+abbrev pub last_before : Pattern → List ℕ → ℕ → Option Span
+last_before pattern text zero = None
+last_before pattern text (suc at) = option_or (here pattern text at) (last_before pattern text at)
+
+-- the nth that a search finds from a place on: each next one is sought from where the last leads to
+abbrev pub nth_match : (ℕ → Option Span) → (Span → ℕ) → ℕ → ℕ → Option Span
+nth_match search onward at zero = None
+nth_match search onward at (suc zero) = search at
+nth_match search onward at (suc (suc n)) =
+    option_and_then (λ last. nth_match search onward (onward last) (suc n)) (search at)
+
+-- the nth match from a place on: each next one starts at the end of the last or behind it
 abbrev pub forward : Pattern → List ℕ → ℕ → ℕ → Option Span
-forward pattern text at zero = None
-forward pattern text at (suc zero) = first_from pattern text at
-forward pattern text at (suc (suc n)) = option_and_then (λ found. forward pattern text found.end (suc n)) (first_from pattern text at)
+forward pattern text at n = nth_match (first_from pattern text) (λ last. last.end) at n
 
--- the nth match before a place, whose starts descend from the greatest below it; a match may reach past the place
+-- the nth match back from a place: each next one starts before the start of the last
 abbrev pub backward : Pattern → List ℕ → ℕ → ℕ → Option Span
-backward pattern text at n = slice_get (reverse (matches pattern text 0 at)) (n - 1)
+backward pattern text at n = nth_match (last_before pattern text) (λ last. last.start) at n

@@ -1,8 +1,8 @@
 -- What a search text says. It is read from the left, and the fault that is met first is the code.
-use Rattle.std.specs.Prelude.{ℕ, zero, suc, ◌+◌, List, [], ◌∷◌, length, map, flat_map, fold, Option, Some, None, Result, Ok, Err, ok_or, option_map, Bool, ◌==◌, if◌then◌else◌}
+use Rattle.std.specs.Prelude.{ℕ, zero, suc, ◌+◌, List, [], ◌∷◌, length, map, flat_map, fold, Option, Some, None, Result, Ok, Err, ok_or, option_map, Bool, not, ◌==◌, ◌&&◌, if◌then◌else◌}
 use Rattle.teco_base.specs.declared.code.Code.{Code}
 use Rattle.teco_base.specs.declared.code.Code.TheVariants as code
-use Rattle.teco_base.specs.Bytes.{to_upper, control}
+use Rattle.teco_base.specs.Bytes.{to_upper, is_letter, control}
 use Rattle.teco_base.specs.Register.{register_of}
 use Rattle.teco_model.specs.Checked.{◌>>=◌}
 use Rattle.teco_model.specs.Registers.{Registers, pair_of}
@@ -13,10 +13,9 @@ use Rattle.teco_model.specs.declared.pattern.Item.TheVariants as item
 use Rattle.teco_model.specs.declared.pattern.Part.{Part}
 use Rattle.teco_model.specs.declared.pattern.Part.TheVariants as part
 
--- what is looked for: elements in succession, whose literal letters are matched in either case unless it is exact
-pub record Pattern : Type 0 where
-  pub items : List Item
-  pub exact : Bool
+-- what is looked for: elements in succession
+abbrev pub Pattern : Type 0
+Pattern = List Item
 
 -- Each of what follows reads the front of a text, and gives what it read with the text behind it.
 
@@ -125,19 +124,37 @@ parts_within (suc most) (b ∷ text) = do
 unfoldable pub parts : List ℕ → Result (List Part) Code
 parts text = parts_within (length text) text
 
--- the elements that a part stands for: each byte of a register's text is a literal
-abbrev pub literals : List ℕ → List Item
-literals text = map (λ b. item.Is (class.Literal b)) text
+-- What is read is the same in each search mode; what it stands for is not.
 
-abbrev pub items_of : Registers → Part → List Item
-items_of registers (part.Item i) = i ∷ []
-items_of registers (part.Register r) = literals (pair_of r registers).text
+-- a literal byte: unless the search is exact, a letter stands for both its cases
+abbrev pub literal : Bool → ℕ → Class
+literal exact b =
+    if is_letter b && not exact then class.EitherCase (to_upper b) else class.Literal b
+
+-- a class, and an element, as the mode has them
+abbrev pub class_of : Bool → Class → Class
+class_of exact (class.Literal b) = literal exact b
+class_of exact c = c
+
+abbrev pub item_of : Bool → Item → Item
+item_of exact (item.Is c) = item.Is (class_of exact c)
+item_of exact (item.IsNot c) = item.IsNot (class_of exact c)
+item_of exact item.Blanks = item.Blanks
+
+-- each byte of a register's text is a literal
+abbrev pub literals : Bool → List ℕ → List Item
+literals exact text = map (λ b. item.Is (literal exact b)) text
+
+-- the elements that a part stands for
+abbrev pub items_of : Registers → Bool → Part → List Item
+items_of registers exact (part.Item i) = item_of exact i ∷ []
+items_of registers exact (part.Register r) = literals exact (pair_of r registers).text
 
 -- the pattern that a text says
 abbrev pub pattern : Registers → Bool → List ℕ → Result Pattern Code
 pattern registers exact text = do
   ps ← parts text
-  Ok (record { items = flat_map (items_of registers) ps; exact = exact })
+  Ok (flat_map (items_of registers exact) ps)
 
 -- The least length of a match: 1 for each element. With the text of a register there is none.
 abbrev pub with_part : Option ℕ → Part → Option ℕ

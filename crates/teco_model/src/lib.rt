@@ -6,6 +6,7 @@ pub mod arguments;
 pub mod element;
 pub mod head;
 pub mod kind;
+pub mod matching;
 pub mod pattern;
 pub mod rows;
 pub mod stop;

@@ -4,8 +4,10 @@ use teco_base::Reg;
 /// What one character may be.
 #[derive(Clone, Copy)]
 pub enum Class {
-    /// This byte; a letter in either case where case is ignored.
+    /// This byte.
     Literal(u8),
+    /// This upper case letter, or the same in lower case: a literal letter where case is ignored.
+    EitherCase(u8),
     /// `^X`: any character.
     Any,
     /// `^S`: no letter or digit.

@@ -5,11 +5,11 @@ use Rattle.teco_model.specs.Pattern as model
 use Rattle.teco_find.proofs.pattern.minimum.Given as goal
 
 -- with the parts that are left, what is known so far is the least length
-abbrev pub invariant-loop-rest : goal.invariant-loop-rest
-invariant-loop-rest l = record {
-  fits : IfSome l.least (λ n. n + length l.rest ≤ length l.text);
-  whole : (model.parts l.rest >>= (λ ps. Ok (fold model.with_part l.least ps))) ≡ model.minimum l.text;
+abbrev pub invariant-loop-part : goal.invariant-loop-part
+invariant-loop-part l = record {
+  fits : IfSome l.least (λ n. n + length l.parts.rest.now ≤ length l.text);
+  whole : (model.parts l.parts.rest.now >>= (λ ps. Ok (fold model.with_part l.least ps))) ≡ model.minimum l.text;
 }
 
-abbrev pub decreases-loop-rest : goal.decreases-loop-rest
-decreases-loop-rest l = length l.rest
+abbrev pub decreases-loop-part : goal.decreases-loop-part
+decreases-loop-part l = length l.parts.rest.now

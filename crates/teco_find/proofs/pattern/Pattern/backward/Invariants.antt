@@ -1,11 +1,11 @@
-use Rattle.std.proofs.Common.{◌≡◌, ◌+◌, ◌-◌, ◌<◌, length}
-use Rattle.teco_model.specs.Match.{matches}
+use Rattle.std.proofs.Common.{◌≡◌, ◌≤◌, ◌-◌, suc, length}
+use Rattle.teco_model.specs.Match.{backward}
 use Rattle.teco_find.specs.Pieces.{joined}
 use Rattle.teco_find.proofs.pattern.Pattern.backward.Given as goal
 
--- the matches that are passed, and those that are missing, are all that are counted
-abbrev pub invariant-loop-start : goal.invariant-loop-start
-invariant-loop-start l = record {
-  some : 0 < l.left;
-  counted : length (matches l.self (joined l.text) l.start (l.from - l.start)) + l.left ≡ l.n;
+-- the matches that are left, from the last on, are those of all
+abbrev pub invariant-loop-turn : goal.invariant-loop-turn
+invariant-loop-turn l = record {
+  within : l.at ≤ length (joined l.text);
+  left : backward l.self (joined l.text) l.at (suc (l.n - l._turn)) ≡ backward l.self (joined l.text) l.from l.n;
 }

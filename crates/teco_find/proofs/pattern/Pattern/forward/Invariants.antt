@@ -3,7 +3,7 @@ use Rattle.teco_model.specs.Match.{forward}
 use Rattle.teco_find.specs.Pieces.{joined}
 use Rattle.teco_find.proofs.pattern.Pattern.forward.Given as goal
 
--- the matches that are left, from the end of the last, are those of all
+-- the matches that are left, from the last on, are those of all
 abbrev pub invariant-loop-turn : goal.invariant-loop-turn
 invariant-loop-turn l = record {
   within : l.at ≤ length (joined l.text);

@@ -1,12 +1,15 @@
-use Rattle.std.proofs.Common.{◌≡◌, ◌++◌, Ok, length}
+use Rattle.std.proofs.Common.{◌≡◌, ◌++◌, ◌≤◌, Ok, length}
 use Rattle.std.specs.Prelude.{flat_map}
 use Rattle.teco_model.specs.Checked.{◌>>=◌}
 use Rattle.teco_model.specs.Pattern as model
 use Rattle.teco_find.proofs.pattern.Pattern.read.Given as goal
 
 -- what is read so far, and what the parts that are left stand for, are the pattern
-abbrev pub invariant-loop-rest : goal.invariant-loop-rest
-invariant-loop-rest l = (model.parts l.rest >>= (λ ps. Ok (record { items = l.items.items ++ flat_map (model.items_of l.regs) ps; exact = l.exact }))) ≡ model.pattern l.regs l.exact l.text
+abbrev pub invariant-loop-items : goal.invariant-loop-items
+invariant-loop-items l = record {
+  within : length l.parts.rest.now ≤ length l.text;
+  whole : (model.parts l.parts.rest.now >>= (λ ps. Ok (l.items.items ++ flat_map (model.items_of l.regs l.exact) ps))) ≡ model.pattern l.regs l.exact l.text;
+}
 
-abbrev pub decreases-loop-rest : goal.decreases-loop-rest
-decreases-loop-rest l = length l.rest
+abbrev pub decreases-loop-items : goal.decreases-loop-items
+decreases-loop-items l = length l.parts.rest.now

@@ -1,25 +1,17 @@
 -- The parts of a search text, one after another.
-use Rattle.std.proofs.Common.{◌≡◌, ℕ, zero, suc, ◌+◌, ◌<◌, ◌≤◌, Bool, true, false, cond, List, [], ◌∷◌, ◌++◌, length, Option, Some, None, Result, Ok, Err, ap, sym, refl, ◌∙◌, arith, append_assoc}
-use Rattle.std.proofs.lemmas.List.{append-nil}
-use Rattle.std.specs.Prelude.{IfOk, IfSome, IsOk, ok_or, ◌==◌, fold, flat_map}
+use Rattle.std.proofs.Common.{◌≡◌, ℕ, zero, suc, ◌+◌, ◌<◌, ◌≤◌, Bool, true, false, cond, List, [], ◌∷◌, length, Option, Some, None, Result, Ok, Err, ap, refl, arith}
+use Rattle.std.specs.Prelude.{IfOk, ok_or, ◌==◌, fold}
 use Rattle.teco_base.specs.Bytes.{to_upper, control}
 use Rattle.teco_base.specs.Register.{register_of}
 use Rattle.teco_base.specs.declared.code.Code.{Code}
 use Rattle.teco_base.specs.declared.code.Code.TheVariants as code
 use Rattle.teco_model.specs.Checked.{◌>>=◌}
 use Rattle.teco_model.specs.Pattern as model
-use Rattle.teco_model.specs.Registers.{Registers}
 use Rattle.teco_model.specs.declared.pattern.Class.{Class}
 use Rattle.teco_model.specs.declared.pattern.Class.TheVariants as class
-use Rattle.teco_model.specs.declared.pattern.Item.{Item}
 use Rattle.teco_model.specs.declared.pattern.Item.TheVariants as item
 use Rattle.teco_model.specs.declared.pattern.Part.{Part}
 use Rattle.teco_model.specs.declared.pattern.Part.TheVariants as part
-use Rattle.teco_find.specs.Reading.{code_of, fault_of, Judges, Reads}
-use Rattle.teco_find.specs.declared.fault.FindFault.{FindFault}
-use Rattle.teco_find.specs.declared.fault.FindFault.TheVariants as fault
-use Rattle.teco_find.specs.declared.fault.Flaw.{Flaw}
-use Rattle.teco_find.specs.declared.fault.Flaw.TheVariants as flaw
 
 -- at least k of n bytes are read
 abbrev Takes : {X : Type 0} → ℕ → ℕ → Result (X × List ℕ) Code → Type 0
@@ -157,89 +149,9 @@ parts_more (b ∷ text) rest p some e =
     let less = shorter (b ∷ text) rest p e in
     rw e (ap (λ r. r >>= (λ ps. Ok (p ∷ ps))) (enough (length text) (length rest) rest (omega arith) (omega arith)))
 
--- What is made of the parts that are left: f is what they come to, with what is known of those before.
-module _ {X : Type 0} (f : List Part → X) (text : List ℕ) (whole : Result X Code) (e : (model.parts text >>= (λ ps. Ok (f ps))) ≡ whole) where
-  made_of_none : length text ≡ 0 → whole ≡ Ok (f [])
-  made_of_none none = sym e ∙ ap (λ r. r >>= (λ ps. Ok (f ps))) (no_parts text none)
+-- an empty text has a least length, 0
+pub minimum_none : (text : List ℕ) → length text ≡ 0 → model.minimum text ≡ Ok (Some 0)
+minimum_none text none = ap (λ r. r >>= (λ ps. Ok (fold model.with_part (Some 0) ps))) (no_parts text none)
 
-  made_at_fault : (c : Code) → 0 < length text → model.part_at text ≡ Err c → whole ≡ Err c
-  made_at_fault c some h = sym e ∙ ap (λ r. r >>= (λ ps. Ok (f ps))) (parts_fault text c some h)
-
-  made_of_more : (rest : List ℕ) (p : Part) → 0 < length text → model.part_at text ≡ Ok (p, rest) → (model.parts rest >>= (λ ps. Ok (f (p ∷ ps)))) ≡ whole
-  made_of_more rest p some h =
-      sym (turned (model.parts rest) p) ∙ ap (λ r. r >>= (λ ps. Ok (f ps))) (sym (parts_more text rest p some h)) ∙ e
-    where
-      turned : (r : Result (List Part) Code) (p : Part) → ((r >>= (λ ps. Ok (p ∷ ps))) >>= (λ ps. Ok (f ps))) ≡ (r >>= (λ ps. Ok (f (p ∷ ps))))
-      turned (Ok ps) p = refl
-      turned (Err c) p = refl
-
-onto : {X Y : Type 0} (r : Result X Code) {f g : X → Result Y Code} → ((x : X) → f x ≡ g x) → (r >>= f) ≡ (r >>= g)
-onto (Ok x) h = h x
-onto (Err c) h = refl
-
-judged_fault : {X : Type 0} (f : Flaw) (told : FindFault) (defined : Result X Code) → told ≡ fault_of f → defined ≡ Err (code_of f) → Judges {X = X} (Err told) defined
-judged_fault flaw.Ice told defined e h = rw e h
-judged_fault flaw.Iqn told defined e h = rw e h
-
-read_fault : {X : Type 0} (f : Flaw) (told : FindFault) (defined : Result X Code) → told ≡ fault_of f → defined ≡ Err (code_of f) → Reads {X = X} (Err told) defined
-read_fault flaw.Ice told defined e h = rw e h
-read_fault flaw.Iqn told defined e h = rw e h
-
--- the least length, as far as it is known
-module _ (text rest : List ℕ) (least : Option ℕ) (whole : (model.parts rest >>= (λ ps. Ok (fold model.with_part least ps))) ≡ model.minimum text) where
-  pub least_is : length rest ≡ 0 → model.minimum text ≡ Ok least
-  least_is none = made_of_none (fold model.with_part least) rest (model.minimum text) whole none
-
-  pub least_fails : (f : Flaw) (told : FindFault) → 0 < length rest → model.part_at rest ≡ Err (code_of f) → told ≡ fault_of f → Judges {X = Option ℕ} (Err told) (model.minimum text)
-  least_fails f told some h e = judged_fault f told (model.minimum text) e (made_at_fault (fold model.with_part least) rest (model.minimum text) whole (code_of f) some h)
-
-  pub least_more : (behind : List ℕ) (p : Part) (next : Option ℕ) → 0 < length rest → model.part_at rest ≡ Ok (p, behind) → next ≡ model.with_part least p → (model.parts behind >>= (λ ps. Ok (fold model.with_part next ps))) ≡ model.minimum text
-  least_more behind p next some h e = rw e (made_of_more (fold model.with_part least) rest (model.minimum text) whole behind p some h)
-
-pub least_fits : (least next : Option ℕ) (p : Part) (m n k : ℕ) → next ≡ model.with_part least p → n < m → IfSome least (λ l. l + m ≤ k) → IfSome next (λ l. l + n ≤ k)
-least_fits None next (part.Item i) m n k e less h = rw e tt
-least_fits None next (part.Register r) m n k e less h = rw e tt
-least_fits (Some l) next (part.Item i) m n k e less h = rw e (omega arith)
-least_fits (Some l) next (part.Register r) m n k e less h = rw e tt
-
--- the items, as far as they are read
-module _ (registers : Registers) (exact : Bool) (text rest : List ℕ) (items : List Item) (whole : (model.parts rest >>= (λ ps. Ok (record { items = items ++ flat_map (model.items_of registers) ps; exact = exact }))) ≡ model.pattern registers exact text) where
-  with_rest : List Part → model.Pattern
-  with_rest ps = record { items = items ++ flat_map (model.items_of registers) ps; exact = exact }
-
-  pub pattern_is : length rest ≡ 0 → model.pattern registers exact text ≡ Ok (record { items = items; exact = exact })
-  unfolding with_rest
-  pattern_is none =
-      made_of_none with_rest rest (model.pattern registers exact text) whole none
-      ∙ ap (λ is. Ok (record { items = is; exact = exact })) (append-nil items)
-
-  pub pattern_fails : (f : Flaw) (told : FindFault) → 0 < length rest → model.part_at rest ≡ Err (code_of f) → told ≡ fault_of f → Reads {X = model.Pattern} (Err told) (model.pattern registers exact text)
-  unfolding with_rest
-  pattern_fails f told some h e = read_fault f told (model.pattern registers exact text) e (made_at_fault with_rest rest (model.pattern registers exact text) whole (code_of f) some h)
-
-  pub pattern_more : (behind : List ℕ) (p : Part) (next : List Item) → 0 < length rest → model.part_at rest ≡ Ok (p, behind) → next ≡ items ++ model.items_of registers p → (model.parts behind >>= (λ ps. Ok (record { items = next ++ flat_map (model.items_of registers) ps; exact = exact }))) ≡ model.pattern registers exact text
-  unfolding with_rest
-  pattern_more behind p next some h e =
-      onto (model.parts behind) (λ ps. ap (λ is. Ok (record { items = is; exact = exact })) (ap (λ is. is ++ flat_map (model.items_of registers) ps) e ∙ append_assoc items (model.items_of registers p) (flat_map (model.items_of registers) ps)))
-      ∙ made_of_more with_rest rest (model.pattern registers exact text) whole behind p some h
-
--- a text that has a least length says a pattern, and one that has none does not
-says : {X Y : Type 0} (r : Result (List Part) Code) (f : List Part → X) (g : List Part → Y) (x : X) → (r >>= (λ ps. Ok (f ps))) ≡ Ok x → IsOk (r >>= (λ ps. Ok (g ps)))
-says (Ok ps) f g x e = refl
-says (Err c) f g x e = cc
-
-fails : {X Y : Type 0} (r : Result (List Part) Code) (f : List Part → X) (g : List Part → Y) (c : Code) → (r >>= (λ ps. Ok (f ps))) ≡ Err c → (r >>= (λ ps. Ok (g ps))) ≡ Err c
-fails (Ok ps) f g c e = cc
-fails (Err d) f g c e = cc
-
-module _ (registers : Registers) (exact : Bool) (text : List ℕ) where
-  pub is_pattern : (least : Option ℕ) → model.minimum text ≡ Ok least → IsOk (model.pattern registers exact text)
-  is_pattern least e = says (model.parts text) (fold model.with_part (Some 0)) (λ ps. record { items = flat_map (model.items_of registers) ps; exact = exact }) least e
-
-  none_said : (c : Code) → model.minimum text ≡ Err c → model.pattern registers exact text ≡ Err c
-  none_said c e = fails (model.parts text) (fold model.with_part (Some 0)) (λ ps. record { items = flat_map (model.items_of registers) ps; exact = exact }) c e
-
-  pub no_pattern : (told : FindFault) → Judges {X = Option ℕ} (Err told) (model.minimum text) → Reads {X = model.Pattern} (Err told) (model.pattern registers exact text)
-  no_pattern fault.Ice e = none_said code.Ice e
-  no_pattern fault.Iqn e = none_said code.Iqn e
-  no_pattern fault.Memory e = absurd e
+-- what reading a part needs
+pub ruleset reading = (no_parts, parts_fault, parts_more, shorter)

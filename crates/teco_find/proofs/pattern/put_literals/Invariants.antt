@@ -1,6 +1,0 @@
-use Rattle.std.proofs.Common.{◌≡◌, ◌++◌, take}
-use Rattle.teco_model.specs.Pattern.{literals}
-use Rattle.teco_find.proofs.pattern.put_literals.Given as goal
-
-abbrev pub invariant-loop-b : goal.invariant-loop-b
-invariant-loop-b l = l.items.items ≡ l.initial.items.items ++ literals (take l.b-index l.text)
