@@ -10,6 +10,9 @@ pub mod Arguments
 pub mod Letters
 pub mod Form
 pub mod Element
+pub mod Ahead
+pub mod Skip
+pub mod SkipRows
 pub mod State
 pub mod Places
 pub mod Effect
@@ -21,6 +24,9 @@ pub mod Typing
 pub mod Storage
 pub mod Conversion
 pub mod Query
+pub mod Condition
+pub mod Flow
+pub mod Search
 pub mod Step
 pub mod Memory
 pub mod Run

@@ -4,16 +4,20 @@
 
 pub mod arguments;
 pub mod element;
+pub mod flow;
 pub mod head;
 pub mod kind;
 pub mod matching;
 pub mod pattern;
 pub mod rows;
+pub mod skip;
 pub mod stop;
 
 pub use arguments::{Level, Operator, Taken};
 pub use element::Element;
+pub use flow::Loop;
 pub use head::{Head, OnRegister, Texts};
 pub use kind::Kind;
 pub use pattern::Span;
+pub use skip::{Bracket, Pairs, Route, Skip};
 pub use stop::Stop;

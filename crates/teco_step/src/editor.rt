@@ -11,12 +11,13 @@ use teco_base::REGISTERS;
 use teco_regs::Regs;
 use teco_text::TextStore;
 
-/// What stays between two runs: the buffer with its pointer, the registers, the search mode, the length of the last text found
-/// or inserted, and the bytes that are typed.
+/// What stays between two runs: the buffer with its pointer, the registers, the last search text and the search mode, the
+/// length of the last text found or inserted, and the bytes that are typed.
 #[derive(Drop)]
 pub struct Editor<T: TextStore> {
     pub(crate) store: T,
     pub(crate) regs: Regs,
+    pub(crate) search_text: Vec<u8>,
     pub(crate) mode: i32,
     pub(crate) last_length: usize,
     pub(crate) typed: Vec<u8>,
@@ -34,6 +35,7 @@ impl<T: TextStore> Model for Editor<T> {
       text = T.list e.store;
       pointer = T.pointer e.store;
       registers = e.regs;
+      search_text = e.search_text.items;
       mode = e.mode;
       last_length = e.last_length;
       typed = e.typed.items;
@@ -50,6 +52,7 @@ impl<T: TextStore> Editor<T> {
         Editor {
             store,
             regs: Regs::new(alloc),
+            search_text: Vec::new(alloc),
             mode: 0,
             last_length: 0,
             typed: Vec::new(alloc),

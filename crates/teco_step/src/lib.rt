@@ -5,6 +5,7 @@
 mod conversion;
 mod deletion;
 mod editor;
+mod finding;
 mod insertion;
 mod motion;
 mod places;
