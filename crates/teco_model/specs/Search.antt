@@ -45,9 +45,9 @@ abbrev pub match_in_direction : Pattern → List ℕ → ℕ → ℤ → Option 
 match_in_direction pattern text pointer (pos n) = forward pattern text pointer n
 match_in_direction pattern text pointer (negsuc n) = backward pattern text pointer (suc n)
 
-abbrev pub match_of : Pattern → ℕ → ℤ → Kept → Option Span
-match_of pattern (suc (suc colons)) n kept = here pattern kept.text kept.pointer
-match_of pattern colons n kept = match_in_direction pattern kept.text kept.pointer n
+abbrev pub match_of : Pattern → ℕ → ℤ → List ℕ → ℕ → Option Span
+match_of pattern (suc (suc colons)) n text pointer = here pattern text pointer
+match_of pattern colons n text pointer = match_in_direction pattern text pointer n
 
 -- S goes to the end of the match, whose length is the last length.
 abbrev pub kept_at : Span → Kept → Kept
@@ -82,5 +82,5 @@ abbrev pub search : Search → Element → Taken → Kept → Result Finding Cod
 search s e taken kept = do
   n ← count_of taken.first taken.value
   pattern ← pattern_of (search_text_of e.text kept) kept
-  finding_of s e (match_of pattern e.colons n kept)
+  finding_of s e (match_of pattern e.colons n kept.text kept.pointer)
     (record kept { search_text = search_text_of e.text kept })

@@ -1,0 +1,26 @@
+-- What a search did, beside its definition.
+use Rattle.std.specs.Prelude.{◌≡◌, ◌⊎◌, Result, Ok, Err, IsOk}
+use Rattle.teco_base.specs.declared.code.Code.{Code}
+use Rattle.teco_base.specs.declared.code.Code.TheVariants as code
+use Rattle.teco_find.specs.declared.fault.FindFault.{FindFault}
+use Rattle.teco_find.specs.declared.fault.FindFault.TheVariants as fault
+use Rattle.teco_model.specs.Search as model
+use Rattle.teco_model.specs.State.{Kept}
+use Rattle.teco_search.specs.declared.finding.Finding.{Finding}
+use Rattle.teco_search.specs.declared.finding.Finding.TheVariants.{Found, Missed}
+use Rattle.teco_step.specs.declared.stuck.Stuck.{Stuck}
+use Rattle.teco_step.specs.declared.stuck.Stuck.TheVariants as stuck
+
+-- what a fault of a search text comes to
+abbrev pub stuck_by_pattern : FindFault → Stuck
+stuck_by_pattern fault.Ice = stuck.Code code.Ice
+stuck_by_pattern fault.Iqn = stuck.Code code.Iqn
+stuck_by_pattern fault.Memory = stuck.Memory
+
+-- It found what the definition finds, or missed it as the definition does, and left what that says; or it is the definition's
+-- code, and left all as it was. Want of memory leaves all as it was, and comes before no code but FUL.
+abbrev pub Searches : Kept → Kept → Result model.Finding Code → Result Finding Stuck → Type 0
+Searches old new defined (Ok Found) = defined ≡ Ok (model.Found new)
+Searches old new defined (Ok Missed) = defined ≡ Ok (model.Missed new)
+Searches old new defined (Err (stuck.Code c)) = (defined ≡ Err c) × (new ≡ old)
+Searches old new defined (Err stuck.Memory) = (IsOk defined ⊎ (defined ≡ Err code.Ful)) × (new ≡ old)

@@ -1,0 +1,116 @@
+// What S and FS do.
+ghost use Rattle.std.specs.Prelude.{◌≡◌, ◌≤◌, ◌≢◌, length, pos, IfSome, IfOk};
+ghost use Rattle.teco_find.specs.Pieces.{joined};
+ghost use Rattle.teco_find.specs.Reading.{Reads};
+ghost use Rattle.teco_model.specs.Element.{seen};
+ghost use Rattle.teco_model.specs.Search as model;
+ghost use Rattle.teco_search.specs.Searches.{Searches, stuck_by_pattern};
+ghost use Rattle.teco_text.specs.Answers.{IsPart};
+
+use std::alloc::Global;
+use teco_base::Code;
+use teco_find::{FindFault, Pattern};
+use teco_model::kind::Search;
+use teco_model::{Element, Span, Taken};
+use teco_step::{Editor, Stuck};
+use teco_text::TextStore;
+
+/// What a search comes to.
+#[derive(Clone, Copy, Debug, PartialEq, Eq)]
+pub enum Finding {
+    /// It found what it looks for.
+    Found,
+    /// It did not.
+    Missed,
+}
+
+// How many matches are sought, and in which direction; never 0.
+fn count(taken: Taken) -> Result<i32, Code>
+    ensures value { result ≡ model.count_of taken.first taken.value }
+    ensures nonzero { IfOk result (λ n. n ≢ pos 0) }
+{
+    let n = taken.value.unwrap_or(1);
+    if taken.first.is_some() || n == 0 {
+        return Err(Code::Arg);
+    }
+    Ok(n)
+}
+
+fn stuck(fault: FindFault) -> Stuck
+    ensures { result ≡ stuck_by_pattern fault }
+{
+    match fault {
+        FindFault::Ice => Stuck::Code(Code::Ice),
+        FindFault::Iqn => Stuck::Code(Code::Iqn),
+        FindFault::Memory => Stuck::Memory,
+    }
+}
+
+// The match that is sought in a text of two pieces.
+fn find(
+    pattern: &Pattern,
+    text: (&[u8], &[u8]),
+    dot: usize,
+    colons: u8,
+    n: i32,
+) -> Option<Span>
+    requires nonzero { n ≢ pos 0 }
+    requires dot { dot ≤ length (joined text) }
+    ensures value { result ≡ model.match_of pattern.now colons n (joined text.entry) dot }
+    ensures part { IfSome result (λ span. IsPart (joined text.entry) span.start span.end) }
+{
+    if colons > 1 {
+        pattern.here(text, dot)
+    } else if n > 0 {
+        pattern.forward(text, dot, n.unsigned_abs())
+    } else {
+        pattern.backward(text, dot, n.unsigned_abs())
+    }
+}
+
+// The pattern that a search looks for: an empty text means the last one.
+fn pattern<T: TextStore>(
+    alloc: Global,
+    editor: &Editor<T>,
+    text: &[u8],
+) -> Result<Pattern, FindFault>
+    ensures { Reads result (model.pattern_of (model.search_text_of text.now editor.now) editor.now) }
+{
+    let text = if text.is_empty() {
+        editor.search_text()
+    } else {
+        text
+    };
+    Pattern::read(alloc, text, editor.regs(), editor.mode() != 0)
+}
+
+/// `S` goes behind the match that it finds, and `FS` puts its second text in the place of the match. A search text that is not
+/// empty becomes the last one, whether it is found or missed. It takes time by the text that it passes for each character of
+/// it, and memory for the pattern.
+pub fn search<T: TextStore>(
+    alloc: Global,
+    editor: &mut Editor<T>,
+    search: Search,
+    element: &Element<'_>,
+    taken: Taken,
+) -> Result<Finding, Stuck>
+    ensures { Searches editor.old editor.new
+        (model.search search (seen element.now) taken editor.old) result }
+{
+    let n = count(taken)?;
+    let pattern = pattern(alloc, editor, element.text).map_err(stuck)?;
+    let Some(found) = find(&pattern, editor.text(), editor.dot(), element.colons, n) else {
+        editor.keep_search_text(element.text)?;
+        return Ok(Finding::Missed);
+    };
+    match search {
+        Search::Find | Search::FindInPages => {
+            editor.keep_search_text(element.text)?;
+            editor.go_behind(found);
+        }
+        Search::Replace | Search::ReplaceInPages => {
+            editor.replace(found, element.second, element.text)?;
+        }
+    }
+    Ok(Finding::Found)
+}

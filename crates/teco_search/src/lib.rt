@@ -1,0 +1,6 @@
+//! Searches: S and FS look for a text in the buffer, and find it or miss it.
+#![tactic(auto)]
+
+mod finding;
+
+pub use finding::{Finding, search};
