@@ -15,6 +15,7 @@ impl Pattern {
         requires { at ≤ length (joined text) }
         ensures value { result ≡ model.here self.now (joined text.entry) at }
         ensures starts { IfSome result (λ span. span.start ≡ at) }
+        ensures ordered { IfSome result (λ span. span.start ≤ span.end) }
         ensures within { IfSome result (λ span. span.end ≤ length (joined text.entry)) }
     {
         if self.items.is_empty() {
@@ -32,6 +33,7 @@ impl Pattern {
     fn first_from(&self, text: (&[u8], &[u8]), at: usize) -> Option<Span>
         requires { at ≤ length (joined text) }
         ensures value { result ≡ model.first_from self.now (joined text.entry) at }
+        ensures ordered { IfSome result (λ span. span.start ≤ span.end) }
         ensures within { IfSome result (λ span. span.end ≤ length (joined text.entry)) }
     {
         for start in at..text_len(text) {
@@ -48,6 +50,7 @@ impl Pattern {
         requires { at ≤ length (joined text) }
         ensures value { result ≡ model.last_before self.now (joined text.entry) at }
         ensures before { IfSome result (λ span. span.start < at) }
+        ensures ordered { IfSome result (λ span. span.start ≤ span.end) }
         ensures within { IfSome result (λ span. span.end ≤ length (joined text.entry)) }
     {
         for start in (0..at).rev() {
@@ -65,6 +68,7 @@ impl Pattern {
         requires from { from ≤ length (joined text) }
         requires some { 1 ≤ n }
         ensures value { result ≡ model.forward self.now (joined text.entry) from n }
+        ensures ordered { IfSome result (λ span. span.start ≤ span.end) }
         ensures within { IfSome result (λ span. span.end ≤ length (joined text.entry)) }
     {
         let mut at = from;
@@ -81,6 +85,7 @@ impl Pattern {
         requires from { from ≤ length (joined text) }
         requires some { 1 ≤ n }
         ensures value { result ≡ model.backward self.now (joined text.entry) from n }
+        ensures ordered { IfSome result (λ span. span.start ≤ span.end) }
         ensures within { IfSome result (λ span. span.end ≤ length (joined text.entry)) }
     {
         let mut at = from;

@@ -78,7 +78,8 @@ fn inner_behind(bracket: Bracket, inner: usize) -> Option<usize>
 /// The place behind the end of the pair that a place stands in, or behind a stop in it.
 fn pair_end(pairs: Pairs, text: &[u8], at: usize) -> Option<usize>
     requires { at ≤ length text.now }
-    ensures { result ≡ model.pair_end pairs 0 (readings text.now at) }
+    ensures value { result ≡ model.pair_end pairs 0 (readings text.now at) }
+    ensures within { IfSome result (λ to. to ≤ length text.now) }
 {
     let mut place = at;
     let mut inner = 0;
@@ -98,7 +99,8 @@ fn pair_end(pairs: Pairs, text: &[u8], at: usize) -> Option<usize>
 fn tag_skip(tag: &[u8], text: &[u8], at: usize) -> Skip
     requires short { length text.now ≤ LIMIT }
     requires inside { at ≤ length text.now }
-    ensures { result ≡ model.tag_skip tag.now 0 0 (readings text.now at) }
+    ensures value { result ≡ model.tag_skip tag.now 0 0 (readings text.now at) }
+    ensures within { IfSome result.to (λ to. to ≤ length text.now) }
 {
     let mut place = at;
     let mut inner = 0;
@@ -125,7 +127,8 @@ fn tag_skip(tag: &[u8], text: &[u8], at: usize) -> Skip
 pub fn skip(text: &[u8], at: usize) -> Skip
     requires short { length text.now ≤ LIMIT }
     requires inside { at ≤ length text.now }
-    ensures { result ≡ model.skip_at text.now at }
+    ensures value { result ≡ model.skip_at text.now at }
+    ensures within { IfSome result.to (λ to. to ≤ length text.now) }
 {
     let Some(Reading::Whole(element)) = read_ahead(text, at) else {
         return Skip {

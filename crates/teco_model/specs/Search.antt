@@ -15,7 +15,7 @@ use Rattle.teco_model.specs.Match.{here, forward, backward}
 use Rattle.teco_model.specs.Pattern.{Pattern, pattern}
 use Rattle.teco_model.specs.State.{Kept}
 
--- what a search comes to: it found what it looks for, or missed it; and what is kept then
+-- What a search comes to: it found what it looks for, or missed it; and what is kept then. A miss leaves the pointer.
 pub data Finding : Type 0 where
   Found : Kept → Finding
   Missed : Kept → Finding

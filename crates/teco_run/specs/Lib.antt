@@ -8,4 +8,6 @@ pub use Rattle.teco_model.specs.Registers
 pub use Rattle.teco_regs.specs.Texts
 pub mod Performs
 pub mod Frames
+pub mod Ways
+pub mod Seeks
 pub mod Steps

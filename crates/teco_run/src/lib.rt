@@ -2,9 +2,12 @@
 #![tactic(auto)]
 
 mod arguments;
+mod flow;
 mod frames;
 mod machine;
 mod perform;
+mod seek;
+mod way;
 
 pub use machine::Machine;
 pub use teco_model::Stop;

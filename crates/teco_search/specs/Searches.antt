@@ -1,5 +1,5 @@
 -- What a search did, beside its definition.
-use Rattle.std.specs.Prelude.{◌≡◌, ◌⊎◌, Result, Ok, Err, IsOk}
+use Rattle.std.specs.Prelude.{ℕ, ◌≡◌, ◌⊎◌, List, Result, Ok, Err, IsOk}
 use Rattle.teco_base.specs.declared.code.Code.{Code}
 use Rattle.teco_base.specs.declared.code.Code.TheVariants as code
 use Rattle.teco_find.specs.declared.fault.FindFault.{FindFault}
@@ -17,10 +17,11 @@ stuck_by_pattern fault.Ice = stuck.Code code.Ice
 stuck_by_pattern fault.Iqn = stuck.Code code.Iqn
 stuck_by_pattern fault.Memory = stuck.Memory
 
--- It found what the definition finds, or missed it as the definition does, and left what that says; or it is the definition's
--- code, and left all as it was. Want of memory leaves all as it was, and comes before no code but FUL.
-abbrev pub Searches : Kept → Kept → Result model.Finding Code → Result Finding Stuck → Type 0
-Searches old new defined (Ok Found) = defined ≡ Ok (model.Found new)
-Searches old new defined (Ok Missed) = defined ≡ Ok (model.Missed new)
-Searches old new defined (Err (stuck.Code c)) = (defined ≡ Err c) × (new ≡ old)
-Searches old new defined (Err stuck.Memory) = (IsOk defined ⊎ (defined ≡ Err code.Ful)) × (new ≡ old)
+-- It found what the definition finds, and left what that says; or it missed it as the definition does, or is the definition's
+-- code, or wants memory, and left all as it was. Want of memory comes before no code but FUL.
+abbrev pub Searches : List ℕ → Kept → Kept → Result model.Finding Code → Result Finding Stuck → Type 0
+Searches text old new defined (Ok Found) = defined ≡ Ok (model.Found new)
+Searches text old new defined (Ok Missed) =
+    (defined ≡ Ok (model.Missed (record old { search_text = model.search_text_of text old }))) × (new ≡ old)
+Searches text old new defined (Err (stuck.Code c)) = (defined ≡ Err c) × (new ≡ old)
+Searches text old new defined (Err stuck.Memory) = (IsOk defined ⊎ (defined ≡ Err code.Ful)) × (new ≡ old)

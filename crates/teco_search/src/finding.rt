@@ -1,5 +1,5 @@
 // What S and FS do.
-ghost use Rattle.std.specs.Prelude.{◌≡◌, ◌≤◌, ◌≢◌, length, pos, IfSome, IfOk};
+ghost use Rattle.std.specs.Prelude.{◌≡◌, Some, ◌≤◌, ◌≢◌, length, pos, IfSome, IfOk};
 ghost use Rattle.teco_find.specs.Pieces.{joined};
 ghost use Rattle.teco_find.specs.Reading.{Reads};
 ghost use Rattle.teco_model.specs.Element.{seen};
@@ -84,25 +84,19 @@ fn pattern<T: TextStore>(
     Pattern::read(alloc, text, editor.regs(), editor.mode() != 0)
 }
 
-/// `S` goes behind the match that it finds, and `FS` puts its second text in the place of the match. A search text that is not
-/// empty becomes the last one, whether it is found or missed. It takes time by the text that it passes for each character of
-/// it, and memory for the pattern.
-pub fn search<T: TextStore>(
-    alloc: Global,
+// Goes behind the match that was found, or replaces it.
+#[tactic(auto, using(crate::proofs::Late::late))]
+fn settle<T: TextStore>(
     editor: &mut Editor<T>,
     search: Search,
     element: &Element<'_>,
-    taken: Taken,
+    found: Span,
 ) -> Result<Finding, Stuck>
-    ensures { Searches editor.old editor.new
-        (model.search search (seen element.now) taken editor.old) result }
+    requires { IsPart editor.old.text found.start found.end }
+    ensures { Searches element.now.text.now editor.old editor.new
+        (model.finding_of search (seen element.now) (Some found)
+            (record editor.old { search_text = model.search_text_of element.now.text.now editor.old })) result }
 {
-    let n = count(taken)?;
-    let pattern = pattern(alloc, editor, element.text).map_err(stuck)?;
-    let Some(found) = find(&pattern, editor.text(), editor.dot(), element.colons, n) else {
-        editor.keep_search_text(element.text)?;
-        return Ok(Finding::Missed);
-    };
     match search {
         Search::Find | Search::FindInPages => {
             editor.keep_search_text(element.text)?;
@@ -113,4 +107,27 @@ pub fn search<T: TextStore>(
         }
     }
     Ok(Finding::Found)
+}
+
+/// `S` goes behind the match that it finds, and `FS` puts its second text in the place of the match; the search text is then
+/// the last one. A miss leaves all to the caller. It takes time by the text that it passes, and memory for the pattern.
+pub fn search<T: TextStore>(
+    alloc: Global,
+    editor: &mut Editor<T>,
+    search: Search,
+    element: &Element<'_>,
+    taken: Taken,
+) -> Result<Finding, Stuck>
+    ensures { Searches element.now.text.now editor.old editor.new
+        (model.search search (seen element.now) taken editor.old) result }
+{
+    let n = count(taken)?;
+    let pattern = match pattern(alloc, editor, element.text) {
+        Ok(pattern) => pattern,
+        Err(fault) => return Err(stuck(fault)),
+    };
+    match find(&pattern, editor.text(), editor.dot(), element.colons, n) {
+        Some(found) => settle(editor, search, element, found),
+        None => Ok(Finding::Missed),
+    }
 }

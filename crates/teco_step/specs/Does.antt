@@ -24,7 +24,8 @@ DoesIfMemory grows old new defined (Err stuck.Memory) = IsTrue grows × IsOk def
 abbrev pub Replaces : Kept → Kept → Span → List ℕ → List ℕ → Result (Unit {0}) Stuck → Type 0
 Replaces old new found by text (Ok done) =
     replacement found by (record old { search_text = search_text_of text old }) ≡ Ok new
-Replaces old new found by text (Err (stuck.Code c)) = (replacement found by old ≡ Err c) × (new ≡ old)
+Replaces old new found by text (Err (stuck.Code c)) =
+    (replacement found by (record old { search_text = search_text_of text old }) ≡ Err c) × (new ≡ old)
 Replaces old new found by text (Err stuck.Memory) = new ≡ old
 
 -- the same of a command that answers nothing

@@ -1,5 +1,5 @@
 //! What searches leave.
-ghost use Rattle.std.specs.Prelude.{◌≡◌, ◌≤◌, length, OnOk, OnErr, vec_capacity};
+ghost use Rattle.std.specs.Prelude.{◌≡◌, ◌≤◌, ◌++◌, length, OnOk, OnErr, vec_capacity};
 ghost use Rattle.teco_model.specs.Search as model;
 ghost use Rattle.teco_step.specs.Does.{Replaces};
 ghost use Rattle.teco_text.specs.Answers.{IsPart};
@@ -54,6 +54,23 @@ impl<T: TextStore> Editor<T> {
     {
         make_room(&mut self.search_text, text.len())?;
         put_text(&mut self.search_text, text);
+        Ok(())
+    }
+
+    /// A search that missed goes to the start of the buffer, and its search text is kept; a message of it is typed. All of that
+    /// or nothing.
+    pub fn miss(&mut self, text: &[u8], message: &[u8]) -> Result<(), AllocError>
+        ensures missed { OnOk result (self.new ≡ record self.old {
+            pointer = 0;
+            search_text = model.search_text_of text.now self.old;
+            typed = self.old.typed ++ message.now;
+        }) }
+        ensures err { OnErr result (self.new ≡ self.old) }
+    {
+        make_room(&mut self.search_text, text.len())?;
+        self.typed.extend_from_slice(message)?;
+        put_text(&mut self.search_text, text);
+        self.set_dot(0);
         Ok(())
     }
 

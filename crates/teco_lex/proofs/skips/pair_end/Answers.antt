@@ -13,8 +13,8 @@ loop-reading-preserved-in-Some-inner_behind c =
       same = rw (rw c.in-Whole.is at c.next-place.ensures) (step ∙ c.loop-reading.invariant.same);
     }
 
-pub returns-in-None : goal.returns-in-None
-returns-in-None c =
+pub returns-in-None-clause-value : goal.returns-in-None-clause-value
+returns-in-None-clause-value c =
     let read = sym (rw c.in-Whole.is at c.in-Some.ensures.value) in
     let ends = sym (rw c.bracket.ensures at c.in-None.ensures.value) in
     rw (rw c.in-Whole.is at c.next-place.ensures) (sym (pair_end-ends _ _ _ _ _ read ends) ∙ c.loop-reading.invariant.same)
@@ -29,5 +29,5 @@ loop-reading-preserved c =
       same = rw (rw c.in_default-reading.is at c.next-place.ensures) (step ∙ c.loop-reading.invariant.same);
     }
 
-pub returns : goal.returns
-returns c = sym (pair_end-none c.args.pairs c.loop-reading.inner c.args.text.now c.loop-reading.place (sym c.in_default.ensures.value)) ∙ c.loop-reading.invariant.same
+pub returns-clause-value : goal.returns-clause-value
+returns-clause-value c = sym (pair_end-none c.args.pairs c.loop-reading.inner c.args.text.now c.loop-reading.place (sym c.in_default.ensures.value)) ∙ c.loop-reading.invariant.same

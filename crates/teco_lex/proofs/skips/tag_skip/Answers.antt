@@ -32,8 +32,8 @@ loop-reading-preserved-then-matches c =
       same = rw (rw c.in-Whole.is at c.next-place.ensures) (step ∙ c.loop-reading.invariant.same);
     }
 
-pub returns-in-None-2 : goal.returns-in-None-2
-returns-in-None-2 c =
+pub returns-in-None-2-clause-value : goal.returns-in-None-2-clause-value
+returns-in-None-2-clause-value c =
     let read = sym (rw c.in-Whole.is at c.in-Some.ensures.value) in
     let ends = sym (rw c.tag_bracket-bracket.ensures at c.in-None.ensures.value) in
     let stops : c.tag_bracket-bracket.result ≢ Closes = elim c.match-matches.branch [
@@ -54,6 +54,6 @@ loop-reading-preserved c =
       same = rw (rw c.in_default-reading.is at c.next-place.ensures) (step ∙ c.loop-reading.invariant.same);
     }
 
-pub returns : goal.returns
-returns c =
+pub returns-clause-value : goal.returns-clause-value
+returns-clause-value c =
     sym (tag_skip-none c.args.tag.now c.loop-reading.inner c.loop-reading.leaves c.args.text.now c.loop-reading.place (sym c.in_default.ensures.value)) ∙ c.loop-reading.invariant.same

@@ -1,0 +1,123 @@
+//! Searches, and what becomes of those that miss.
+ghost use Rattle.std.specs.Prelude.{◌≡◌, ◌≤◌, true, false, length, IfOk};
+ghost use Rattle.teco_model.specs.Arguments.{empty_level};
+ghost use Rattle.teco_model.specs.Element.{element_at, seen};
+ghost use Rattle.teco_model.specs.Step as model;
+ghost use Rattle.teco_run.specs.Frames.{state_of};
+ghost use Rattle.teco_run.specs.Seeks.{Seeks, kept_by_miss, search_outcome};
+ghost use Rattle.teco_run.specs.Ways.{IsRead, FitsIn, is_into};
+
+use crate::flow::jump;
+use crate::frames::Frames;
+use crate::way::{self, Way};
+use std::alloc::Global;
+use teco_base::Code;
+use teco_expr::Args;
+use teco_lex::element;
+use teco_model::kind::{Flow, Search};
+use teco_model::{Element, Kind};
+use teco_search::{Finding, search};
+use teco_step::{Editor, Stuck};
+use teco_text::TextStore;
+
+/// What a search types that misses and leaves its iteration.
+const MESSAGE: &[u8] = b"%SRH\r\n";
+
+// Whether `;` or `:;` stands at a place.
+fn leaves_at(text: &[u8], place: usize) -> bool
+    requires { place ≤ length text.now }
+    ensures { result ≡ model.is_leave (element_at text.now place) }
+{
+    match element(text, place) {
+        Ok(Some(next)) => matches!(next.kind, Kind::Flow(Flow::Leave)),
+        _ => false,
+    }
+}
+
+// A miss that answers 0: the pointer goes to the start, but stays where the search looked at the pointer alone.
+fn answer_miss<T: TextStore>(
+    editor: &mut Editor<T>,
+    element: &Element<'_>,
+    frames: &Frames<'_>,
+    arguments: &mut Args,
+) -> Result<Way, Stuck>
+    requires read { IsRead element.now frames.now }
+    requires taken { arguments.old.level ≡ empty_level }
+    ensures outcome { Seeks frames.now editor.old editor.new arguments.new
+        (model.miss_outcome true (seen element.now) (kept_by_miss (seen element.now) editor.old)
+            (state_of frames.now editor.old arguments.old)) result }
+    ensures fits { IfOk result (FitsIn frames.now.running) }
+    ensures out { IfOk result (λ way. is_into way ≡ false) }
+{
+    if element.colons > 1 {
+        editor.keep_search_text(element.text)?;
+    } else {
+        editor.miss(element.text, &[])?;
+    }
+    arguments.value(0)?;
+    Ok(way::to(element.next))
+}
+
+// A miss without an answer leaves its iteration with a message. Where its end is missing that is a code, and outside an
+// iteration the miss is one.
+fn leave_by_miss<T: TextStore>(
+    editor: &mut Editor<T>,
+    element: &Element<'_>,
+    frames: &Frames<'_>,
+    arguments: &mut Args,
+) -> Result<Way, Stuck>
+    requires { IsRead element.now frames.now }
+    ensures outcome { Seeks frames.now editor.old editor.new arguments.new
+        (model.miss_outcome false (seen element.now) (kept_by_miss (seen element.now) editor.old)
+            (state_of frames.now editor.old arguments.old)) result }
+    ensures fits { IfOk result (FitsIn frames.now.running) }
+    ensures out { IfOk result (λ way. is_into way ≡ false) }
+{
+    if frames.innermost().is_none() {
+        editor.miss(element.text, &[])?;
+        return Err(Stuck::Code(Code::Srh));
+    }
+    match jump(element, frames, Code::Utc) {
+        Ok(way) => {
+            editor.miss(element.text, MESSAGE)?;
+            arguments.drop_all();
+            Ok(way)
+        }
+        Err(code) => {
+            editor.keep_search_text(element.text)?;
+            Err(Stuck::Code(code))
+        }
+    }
+}
+
+/// Looks for the text of a search, and says how the running text goes on. `N` and `FN` are not there yet.
+pub fn seek<T: TextStore>(
+    alloc: Global,
+    editor: &mut Editor<T>,
+    kind: Search,
+    element: &Element<'_>,
+    frames: &Frames<'_>,
+    arguments: &mut Args,
+) -> Result<Way, Stuck>
+    requires { IsRead element.now frames.now }
+    ensures outcome { Seeks frames.now editor.old editor.new arguments.new
+        (search_outcome kind (seen element.now)
+            (state_of frames.now editor.old arguments.old)) result }
+    ensures fits { IfOk result (FitsIn frames.now.running) }
+    ensures out { IfOk result (λ way. is_into way ≡ false) }
+{
+    if let Search::FindInPages | Search::ReplaceInPages = kind {
+        return Err(Stuck::Code(Code::Ill));
+    }
+    let colon = element.colons > 0 || leaves_at(frames.text(), element.next);
+    let taken = arguments.take()?;
+    match (search(alloc, editor, kind, element, taken)?, colon) {
+        (Finding::Found, true) => {
+            arguments.value(-1)?;
+            Ok(way::to(element.next))
+        }
+        (Finding::Found, false) => Ok(way::to(element.next)),
+        (Finding::Missed, true) => answer_miss(editor, element, frames, arguments),
+        (Finding::Missed, false) => leave_by_miss(editor, element, frames, arguments),
+    }
+}

@@ -1,0 +1,61 @@
+-- The codes that a search can tell only when it has its pattern.
+use Rattle.std.proofs.Common.{◌≡◌, ◌⊎◌, inl, inr, ℕ, ℤ, List, Bool, true, false, Result, Ok, Err, Option, Some, None, length, nat_le, refl, sym, ◌∙◌}
+use Rattle.std.specs.Prelude.{IsOk, if◌then◌else◌}
+use Rattle.teco_base.specs.Text.{text_after_replacement}
+use Rattle.teco_base.specs.declared.TheConstants.{LIMIT}
+use Rattle.teco_base.specs.declared.code.Code.{Code}
+use Rattle.teco_base.specs.declared.code.Code.TheVariants as code
+use Rattle.teco_find.specs.Reading.{Reads}
+use Rattle.teco_find.specs.declared.fault.FindFault.{FindFault}
+use Rattle.teco_find.specs.declared.fault.FindFault.TheVariants as fault
+use Rattle.teco_model.specs.Checked.{◌>>=◌}
+use Rattle.teco_model.specs.Element.{Element}
+use Rattle.teco_model.specs.Pattern.{Pattern}
+use Rattle.teco_model.specs.Search as model
+use Rattle.teco_model.specs.State.{Kept}
+use Rattle.teco_model.specs.declared.arguments.Taken.{Taken}
+use Rattle.teco_model.specs.declared.kind.Search.{Search}
+use Rattle.teco_model.specs.declared.kind.Search.TheVariants as search_kind
+use Rattle.teco_model.specs.declared.pattern.Span.{Span}
+use Rattle.teco_search.specs.Searches.{Searches, stuck_by_pattern}
+
+-- what is done, or FUL
+abbrev IsDoneOrFull : {X : Type 0} → Result X Code → Type 0
+IsDoneOrFull r = IsOk r ⊎ (r ≡ Err code.Ful)
+
+either-late : {X : Type 0} (fits : Bool) (x : X) → IsDoneOrFull (if fits then Ok x else Err code.Ful)
+either-late true x = inl refl
+either-late false x = inr refl
+
+kept_after-late : (s : Search) (e : Element) (span : Span) (kept : Kept) → IsDoneOrFull (model.kept_after s e span kept)
+kept_after-late search_kind.Find e span kept = inl refl
+kept_after-late search_kind.FindInPages e span kept = inl refl
+kept_after-late search_kind.Replace e span kept = either-late (nat_le (length (text_after_replacement kept.text span.start span.end e.second)) LIMIT) _
+kept_after-late search_kind.ReplaceInPages e span kept = either-late (nat_le (length (text_after_replacement kept.text span.start span.end e.second)) LIMIT) _
+
+found-late : (r : Result Kept Code) → IsDoneOrFull r → IsDoneOrFull (r >>= (λ found. Ok (model.Found found)))
+found-late (Ok kept) h = inl refl
+found-late (Err c) (inl h) = cc
+found-late (Err c) (inr h) = inr (cc)
+
+pub finding-late : (s : Search) (e : Element) (span : Option Span) (kept : Kept) → IsDoneOrFull (model.finding_of s e span kept)
+finding-late s e None kept = inl refl
+finding-late s e (Some span) kept = found-late (model.kept_after s e span kept) (kept_after-late s e span kept)
+
+module _ (s : Search) (e : Element) (taken : Taken) (kept : Kept) (n : ℤ) (counted : model.count_of taken.first taken.value ≡ Ok n) where
+  -- with its pattern a search is done, or FUL
+  late_by : (read : Result Pattern Code) → model.pattern_of (model.search_text_of e.text kept) kept ≡ read → IsOk read → IsDoneOrFull (model.search s e taken kept)
+  late_by (Ok pattern) said h = rw (counted, said) (finding-late s e _ _)
+  late_by (Err c) said h = cc
+
+  pub search-late : IsOk (model.pattern_of (model.search_text_of e.text kept) kept) → IsDoneOrFull (model.search s e taken kept)
+  search-late h = late_by (model.pattern_of (model.search_text_of e.text kept) kept) refl h
+
+  -- a search text that is refused
+  pub search-refused : (fault : FindFault) → Reads {X = Pattern} (Err fault) (model.pattern_of (model.search_text_of e.text kept) kept) → Searches e.text kept kept (model.search s e taken kept) (Err (stuck_by_pattern fault))
+  search-refused fault.Ice h = (rw (counted, h) refl, refl)
+  search-refused fault.Iqn h = (rw (counted, h) refl, refl)
+  search-refused fault.Memory h = (search-late h, refl)
+
+-- what a refusal leaves open
+pub ruleset late = (finding-late)
