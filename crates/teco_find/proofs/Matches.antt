@@ -51,9 +51,9 @@ module _ (search : ℕ → Option Span) (onward : Span → ℕ) where
   nth_more at turn n less = let e : n - turn ≡ suc (n - (turn + 1)) = omega arith in ap (λ k. model.nth_match search onward at (suc k)) e
 
 -- what the functions need
-pub ruleset starts = (here_none, here_some, length-append, length-drop)
+pub ruleset starts = (here_none, here_some, length-drop)
 
-pub ruleset firsts = (first_more, first_none, length-append)
+pub ruleset firsts = (first_more, first_none)
 
 pub ruleset lasts = (last_more, last_none)
 

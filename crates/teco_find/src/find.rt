@@ -4,7 +4,7 @@ ghost use Rattle.teco_model.specs.Match as model;
 ghost use Rattle.teco_find.specs.Pieces.{joined};
 
 use crate::pattern::Pattern;
-use crate::pieces::text_from;
+use crate::pieces::{text_from, text_len};
 use crate::rests::match_rest;
 use teco_model::Span;
 
@@ -20,10 +20,10 @@ impl Pattern {
         if self.items.is_empty() {
             return None;
         }
-        let (front, back) = match_rest(&self.items, text_from(text, at))?;
+        let rest = match_rest(&self.items, text_from(text, at))?;
         Some(Span {
             start: at,
-            end: text.0.len() + text.1.len() - (front.len() + back.len()),
+            end: text_len(text) - text_len(rest),
         })
     }
 
@@ -34,7 +34,7 @@ impl Pattern {
         ensures value { result ≡ model.first_from self.now (joined text.entry) at }
         ensures within { IfSome result (λ span. span.end ≤ length (joined text.entry)) }
     {
-        for start in at..text.0.len() + text.1.len() {
+        for start in at..text_len(text) {
             if let Some(span) = self.here(text, start) {
                 return Some(span);
             }

@@ -5,6 +5,13 @@ ghost use Rattle.teco_find.specs.Pieces.{joined};
 // The pieces of a text, one behind the other.
 pub(crate) type Pieces<'a> = (&'a [u8], &'a [u8]);
 
+// How many characters a text has.
+pub(crate) fn text_len(text: Pieces<'_>) -> usize
+    ensures { result ≡ length (joined text.entry) }
+{
+    text.0.len() + text.1.len()
+}
+
 // The text from a place on.
 pub(crate) fn text_from(text: Pieces<'_>, place: usize) -> Pieces<'_>
     requires { place ≤ length (joined text) }

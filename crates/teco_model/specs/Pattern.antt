@@ -61,7 +61,7 @@ lettered text = do
   c ← ok_or (letter_class (to_upper b.0)) code.Ice
   Ok (c, b.1)
 
--- behind a sign: the class that begins with it. ^X ^S ^Q ^E begin one, ^N begins none, and any other sign is a literal
+-- behind a sign: the class that it begins. ^X ^S ^Q ^E begin one, ^N none; any other is a literal
 abbrev pub class_from : ℕ → List ℕ → Result (Class × List ℕ) Code
 class_from b rest =
     if b == 24 then Ok (class.Any, rest)
@@ -112,7 +112,7 @@ part_at text = do
   b ← sign text
   part_from b.0 b.1
 
--- the parts of a text, from the left. Each takes a byte at least, so a text has no more of them than bytes
+-- the parts of a text, from the left; each takes a byte at least, so there are no more than bytes
 unfoldable pub parts_within : ℕ → List ℕ → Result (List Part) Code
 parts_within zero text = Ok []
 parts_within (suc most) [] = Ok []
