@@ -40,13 +40,21 @@ abbrev pub is_code : Option Code → Bool
 is_code None = false
 is_code (Some c) = true
 
+-- what is kept once the typed bytes are taken
+abbrev pub without_typed : Kept → Kept
+without_typed kept = record kept { typed = [] }
+
+-- what is written for a stop: the typed bytes, and then the code line
+abbrev pub lines_of : Stop → Kept → List ℕ
+lines_of stop new = new.typed ++ code_line (code_of stop)
+
 -- So many command strings, joined to one input, are executed one after another: what is kept then, what is written, and
 -- whether a code line is among it.
 pub data Executes (limit : ℕ) (old : Kept) : ℕ → List ℕ → Kept → List ℕ → Bool → Type 0 where
   none : Executes limit old 0 [] old [] false
   one_more : (count : ℕ) (input : List ℕ) (kept : Kept) (written : List ℕ) (coded : Bool) (string : List ℕ) (stop : Stop) (new : Kept) →
       Executes limit old count input kept written coded → IsCommandString string → Stops (start string kept) limit stop new →
-      Executes limit old (count + 1) (input ++ string) (record new { typed = [] }) (written ++ (new.typed ++ code_line (code_of stop))) (coded || is_code (code_of stop))
+      Executes limit old (count + 1) (input ++ string) (without_typed new) (written ++ lines_of stop new) (coded || is_code (code_of stop))
 
 -- What follows the last command string: a rest of LIMIT bytes without an end is FUL, blanks are nothing, and any other rest
 -- is UTC. It is not executed.
