@@ -9,7 +9,7 @@ use Rattle.teco_model.specs.Session.{Executes, none, one_more, Session, IsComman
 use Rattle.teco_session.proofs.Known.{Consumes-ahead}
 use Rattle.teco_session.proofs.Pairs.{string_end-nil}
 use Rattle.teco_session.specs.Answers.{Runs, RunsNot, MayRun, Answers}
-use Rattle.teco_session.specs.Sessions.{Setting, Serves, Finishes, BreaksOff, Converses, IsOnePiece}
+use Rattle.teco_session.specs.Sessions.{Setting, Serves, Finishes, BreaksOff, Converses}
 use Rattle.teco_session.specs.Strings.{IsPiece, IsRest, IsUnended}
 use Rattle.teco_session.specs.declared.ahead.TheConstants.{CHUNK}
 use Rattle.teco_session.specs.declared.fault.SessionFault.{SessionFault}
@@ -100,9 +100,9 @@ Converses-write limit count old mid new coded ahead bytes piece fault served cam
   session = session piece is answers.ran;
   part = answers.writes.1;
 }) where
-  one : (p : Piece) → IsPiece (prepend_known ahead new.unread) bytes p → IsOnePiece bytes
+  one : (p : Piece) → IsPiece (prepend_known ahead new.unread) bytes p → IsCommandString bytes ⊎ IsRest (prepend_known ahead new.unread) bytes
   one Command is = inl is
-  one Rest is = inr is.endless
+  one Rest is = inr is
 
   session : (p : Piece) → IsPiece (prepend_known ahead new.unread) bytes p → MayRun limit p bytes mid.world new.world answers.lines answers.coded → Session limit mid.world bytes new.world answers.lines answers.coded
   session Command is ran = string_session limit mid new bytes answers.lines answers.coded is ran

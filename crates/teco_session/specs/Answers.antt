@@ -10,7 +10,8 @@ use Rattle.teco_session.specs.declared.strings.Piece.{Piece}
 use Rattle.teco_session.specs.declared.strings.Piece.TheVariants.{Command, Rest}
 
 -- a command string was run: what it has to write, and whether a code line is among it
-pub record Runs (limit : ℕ) (string : List ℕ) (old new : Kept) (lines : List ℕ) (coded : Bool) : Type 0 where
+pub record Runs (limit : ℕ) (string : List ℕ) (old new : Kept) (lines : List ℕ) (coded : Bool)
+    : Type 0 where
   pub stop : Stop
   pub after : Kept
   pub stops : Stops (start string old) limit stop after
@@ -19,7 +20,8 @@ pub record Runs (limit : ℕ) (string : List ℕ) (old new : Kept) (lines : List
   pub a_line : coded ≡ is_code (code_of stop)
 
 -- a rest was not run
-pub record RunsNot (rest : List ℕ) (old new : Kept) (lines : List ℕ) (coded : Bool) : Type 0 where
+pub record RunsNot (rest : List ℕ) (old new : Kept) (lines : List ℕ) (coded : Bool)
+    : Type 0 where
   pub kept : new ≡ old
   pub all_lines : lines ≡ code_line (rest_code rest)
   pub a_line : coded ≡ is_code (rest_code rest)

@@ -11,6 +11,7 @@ pub record WritesPart (old new : Option (List ℕ)) (bytes : List ℕ) : Type 0 
   pub part : Appends old new (take len bytes)
 
 -- all of the bytes were written, or with the fault of writing less than all
-abbrev pub Writes : {X : Type 0} → Option (List ℕ) → Option (List ℕ) → List ℕ → Result X SessionFault → Type 0
+abbrev pub Writes : {X : Type 0} → Option (List ℕ) → Option (List ℕ) → List ℕ
+    → Result X SessionFault → Type 0
 Writes old new bytes (Ok done) = Appends old new bytes
 Writes old new bytes (Err fault) = (fault ≡ Write) × WritesPart old new bytes

@@ -1,10 +1,10 @@
 -- What comes of a session, beside the definition.
-use Rattle.std.specs.Prelude.{ℕ, ◌≡◌, ◌⊎◌, ◌≤◌, List, [], ◌++◌, length, Option, None, Bool, Result, Ok, Err, IfSome}
-use Rattle.std.specs.Io.KnownBytes.{Consumes, Appends}
-use Rattle.teco_model.specs.Session.{Executes, Session, IsCommandString, string_end}
+use Rattle.std.specs.Prelude.{ℕ, ◌≡◌, ◌⊎◌, ◌≤◌, List, [], ◌++◌, length, Option, Bool, Result, Ok, Err, IfSome}
+use Rattle.std.specs.Io.KnownBytes.{Consumes, Appends, prepend_known}
+use Rattle.teco_model.specs.Session.{Executes, Session, IsCommandString}
 use Rattle.teco_model.specs.State.{Kept}
 use Rattle.teco_session.specs.Output.{WritesPart}
-use Rattle.teco_session.specs.Strings.{IsUnended}
+use Rattle.teco_session.specs.Strings.{IsRest, IsUnended}
 use Rattle.teco_session.specs.declared.ahead.TheConstants.{CHUNK}
 use Rattle.teco_session.specs.declared.fault.SessionFault.{SessionFault}
 use Rattle.teco_session.specs.declared.fault.SessionFault.TheVariants.{Read, Write, Memory}
@@ -52,13 +52,9 @@ pub record BreaksOff (limit : ℕ) (old new : Setting) (fault : SessionFault) : 
   pub one_read : length unused ≤ CHUNK
   pub all_used : fault ≡ Read → (unused ≡ []) ⊎ (count ≡ STRINGS)
 
--- a command string, or bytes that hold no end of one
-abbrev pub IsOnePiece : List ℕ → Type 0
-IsOnePiece bytes = IsCommandString bytes ⊎ (string_end bytes ≡ None)
-
--- Some command strings were served, and then the next, or the rest, was being written: of what the
+-- Some command strings were served, and then writing failed in the next, or in the rest: of what the
 -- session of this piece writes there is a part, from the front and less than all. The world is as
--- this session leaves it, and bytes of one read were not used.
+-- that session leaves it, and bytes of one read were not used.
 pub record CutsShort (limit : ℕ) (old new : Setting) : Type 0 where
   pub count : ℕ
   pub coded : Bool
@@ -69,7 +65,7 @@ pub record CutsShort (limit : ℕ) (old new : Setting) : Type 0 where
   pub line : Bool
   pub served : Serves limit count old last coded
   pub came : Consumes last.unread new.unread (piece ++ unused)
-  pub one_piece : IsOnePiece piece
+  pub one_piece : IsCommandString piece ⊎ IsRest (prepend_known unused new.unread) piece
   pub one_read : length unused ≤ CHUNK
   pub session : Session limit last.world piece new.world lines line
   pub part : WritesPart last.written new.written lines

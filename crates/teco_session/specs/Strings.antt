@@ -19,7 +19,7 @@ pub record IsUnended (bytes : List ℕ) : Type 0 where
   pub endless : string_end bytes ≡ None
   pub short : length bytes < LIMIT
 
--- what is left of an input where no command string stands: LIMIT bytes, or fewer at the end of the input
+-- what is left of an input where no command string stands: LIMIT bytes, or fewer at its end
 pub record IsRest (unread : Option (List ℕ)) (bytes : List ℕ) : Type 0 where
   pub endless : string_end bytes ≡ None
   pub within : length bytes ≤ LIMIT

@@ -87,7 +87,8 @@ fn write_lines<W: Write>(
     write_code(writer, code)
 }
 
-// Runs a piece of the input, if it is a command string, and writes what it types and its code line; says whether there is one.
+// Runs a piece of the input, if it is a command string, and writes what it types and its code line. Says whether there is
+// such a line.
 fn answer<T: TextStore, W: Write>(
     machine: &mut Machine<T>,
     piece: Piece,

@@ -1,7 +1,7 @@
 //! Command strings, cut from what a reader gives.
-ghost use Rattle.std.specs.Prelude.{◌≡◌, ◌≢◌, ◌≤◌, ◌<◌, ◌+◌, ◌++◌, [], length, take, vec_len, IfOk, IfErr, IfSome, IfNone, OnOk, OnErr, Some, None, Ok, Err, true};
+ghost use Rattle.std.specs.Prelude.{◌≡◌, ◌≢◌, ◌≤◌, ◌<◌, ◌++◌, [], length, take, vec_len, IfOk, IfErr, IfSome, IfNone, OnOk, OnErr, true};
 ghost use Rattle.std.specs.Io.KnownBytes.{Consumes, prepend_known};
-ghost use Rattle.teco_model.specs.Session.{string_end, IsCommandString};
+ghost use Rattle.teco_model.specs.Session.{string_end};
 ghost use Rattle.teco_session.specs.Strings.{last_is_esc, IsEnded, IsPiece, IsUnended};
 ghost use Rattle.teco_session.specs.declared.fault.SessionFault.TheVariants as fault;
 
@@ -45,7 +45,7 @@ fn end_behind(string: &[u8], bytes: &[u8]) -> Option<usize>
     None
 }
 
-// Moves the bytes ahead to a string that goes on with them, up to its end or to `LIMIT` bytes of it, and says whether it ended.
+// Moves bytes from those ahead to a string that goes on with them, up to its end or to `LIMIT` bytes. Says whether it ended.
 fn extend(string: &mut Vec<u8>, ahead: &mut Ahead) -> Result<bool, SessionFault>
     requires { IsUnended string.old.items }
     ensures moved { string.new.items ++ ahead.new ≡ string.old.items ++ ahead.old }
