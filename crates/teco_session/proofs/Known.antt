@@ -1,5 +1,5 @@
 -- Known bytes that are consumed and appended in turn.
-use Rattle.std.proofs.Common.{◌≡◌, ℕ, ◌+◌, List, ◌++◌, length, take, drop, Option, Some, None, Result, Ok, Err, sym, ap, subst, ◌∙◌, append_assoc, arith, length-append}
+use Rattle.std.proofs.Common.{◌≡◌, ℕ, ◌+◌, List, ◌++◌, length, take, drop, Option, Some, None, Result, Ok, Err, sym, subst, ◌∙◌, append_assoc, arith, length-append}
 use Rattle.std.proofs.KnownBytes.{Appends-trans}
 use Rattle.std.proofs.Math.Seq.{take-add, take-append-add}
 use Rattle.std.proofs.lemmas.List.{take-append-le}
@@ -11,14 +11,7 @@ use Rattle.teco_session.specs.declared.fault.SessionFault.{SessionFault}
 pub Appends-part : (a b c : Option (List ℕ)) (bs : List ℕ) (n m : ℕ) → Appends a b (take n bs) → Appends b c (take m (drop n bs)) → Appends a c (take (n + m) bs)
 Appends-part a b c bs n m first second = subst (Appends a c) (sym (take-add n m bs)) (Appends-trans a b c _ _ first second)
 
--- bytes that were taken, and some of those ahead moved behind them
-pub Consumes-moved : (a b : Option (List ℕ)) (taken ahead more left : List ℕ) → Consumes a (prepend_known ahead b) taken → more ++ left ≡ taken ++ ahead → Consumes a (prepend_known left b) more
-Consumes-moved None b taken ahead more left came e = tt
-Consumes-moved (Some x) None taken ahead more left came e = absurd came
-Consumes-moved (Some x) (Some y) taken ahead more left came e =
-    came ∙ sym (append_assoc taken ahead y) ∙ ap (λ l. l ++ y) (sym e) ∙ append_assoc more left y
-
--- and all of those ahead
+-- bytes that were taken, and then those ahead
 pub Consumes-ahead : (a b : Option (List ℕ)) (taken ahead : List ℕ) → Consumes a (prepend_known ahead b) taken → Consumes a b (taken ++ ahead)
 Consumes-ahead None b taken ahead came = tt
 Consumes-ahead (Some x) None taken ahead came = absurd came

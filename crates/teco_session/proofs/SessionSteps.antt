@@ -1,7 +1,9 @@
 -- How a session goes on, ends and breaks off.
-use Rattle.std.proofs.Common.{◌≡◌, ◌≢◌, ℕ, ◌+◌, ◌<◌, ◌≤◌, ◌⊎◌, inl, inr, List, [], ◌++◌, length, take, Option, Some, None, Bool, true, false, ◌||◌, nat_le, nat_lt, Ok, Err, IfSome, refl, sym, ap, subst, ◌∙◌, append_assoc, append-nil, arith, length-append}
+use Rattle.std.proofs.Common.{◌≡◌, ◌≢◌, ℕ, ◌+◌, ◌≤◌, ◌⊎◌, inl, inr, List, [], ◌++◌, length, take, Option, Some, None, Bool, true, false, ◌||◌, nat_le, Ok, Err, IfSome, refl, sym, ap, subst, ◌∙◌, append_assoc, append-nil, arith, length-append}
 use Rattle.std.proofs.KnownBytes.{Appends-nil, Appends-trans, Consumes-nil, Consumes-trans, prepend_known-nil}
-use Rattle.std.proofs.lemmas.Bool.{le-leb, ltb-true, ltb-false}
+use Rattle.std.proofs.Math.Bool.{or-false}
+use Rattle.std.proofs.Math.Nat.{eq-or-lt_of_le}
+use Rattle.std.proofs.lemmas.Bool.{le-leb}
 use Rattle.std.proofs.lemmas.List.{take_all, take_at}
 use Rattle.std.specs.Io.KnownBytes.{Consumes, IsAtEnd, prepend_known}
 use Rattle.teco_base.specs.declared.TheConstants.{LIMIT}
@@ -40,10 +42,6 @@ Serves-more limit count old mid new coded line string served came is answers =
       appended = Appends-trans old.written mid.written new.written served.lines answers.lines served.appended answers.writes;
     }
 
-or-false : (b : Bool) → b ≡ (b || false)
-or-false true = refl
-or-false false = refl
-
 -- the session of some strings and a rest that is no string
 session_of : (limit count : ℕ) (old : Setting) (new : Setting) (strings lines rest : List ℕ) (line : Bool) → Executes limit old.world count strings new.world lines line → string_end (take LIMIT rest) ≡ None → Session limit old.world (strings ++ rest) new.world (lines ++ code_line (rest_code rest)) (line || is_code (rest_code rest))
 session_of limit count old new strings lines rest line executed no_string = record {
@@ -75,7 +73,7 @@ string_session limit old new string lines coded is runs = record {
   executed = rw (runs.kept, runs.all_lines, runs.a_line) (one_more 0 [] old.world [] false string runs.stop runs.after none is runs.stops);
   no_string = string_end-nil;
   all_written = sym (append-nil lines);
-  a_line = or-false coded;
+  a_line = sym (or-false coded);
 }
 
 -- the session of a rest
@@ -135,12 +133,6 @@ Converses-full limit count old new coded ahead served one_read full =
     let left = prepend_known ahead new.unread in
     BreaksOff-behind limit count old new left coded ahead [] Read served (Consumes-nil left) (record { endless = string_end-nil; short = omega arith }) one_read (λ _. inr full)
 
-lt_or_eq : (m n : ℕ) → m ≤ n → (m < n) ⊎ (m ≡ n)
-lt_or_eq m n le = by_test (nat_lt m n) refl where
-  by_test : (b : Bool) → nat_lt m n ≡ b → (m < n) ⊎ (m ≡ n)
-  by_test true e = inl (ltb-true m n e)
-  by_test false e = inr (omega (arith, ltb-false m n e))
-
 -- a rest of LIMIT bytes or more is FUL, whatever follows
 full_code : (rest more : List ℕ) → length rest ≡ LIMIT → rest_code (rest ++ more) ≡ rest_code rest
 full_code rest more full =
@@ -170,14 +162,14 @@ pub record Stays (rest more : List ℕ) : Type 0 where
   pub code : rest_code (rest ++ more) ≡ rest_code rest
 
 stays : (rest : List ℕ) (left : Option (List ℕ)) → IsRest left rest → Stays rest (known_rest left)
-stays rest left is = elim (lt_or_eq (length rest) LIMIT is.within) [
-  | inl short ↦
-      let same : rest ++ known_rest left ≡ rest = ap (λ l. rest ++ l) (none_left left (is.last short)) ∙ append-nil rest in
-      record { endless = ap (λ l. string_end (take LIMIT l)) same ∙ short_rest rest is.within is.endless; code = ap rest_code same }
-  | inr full ↦ record {
+stays rest left is = elim (eq-or-lt_of_le is.within) [
+  | inl full ↦ record {
     endless = ap string_end (take_at rest (known_rest left) LIMIT full) ∙ is.endless;
     code = full_code rest (known_rest left) full;
   }
+  | inr short ↦
+      let same : rest ++ known_rest left ≡ rest = ap (λ l. rest ++ l) (none_left left (is.last short)) ∙ append-nil rest in
+      record { endless = ap (λ l. string_end (take LIMIT l)) same ∙ short_rest rest is.within is.endless; code = ap rest_code same }
 ]
 
 -- a session is finished at a rest

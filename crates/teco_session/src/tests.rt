@@ -1,9 +1,10 @@
 //! Sessions over memory. Expected bytes are worked by hand from the rules.
-use crate::{Done, SessionFault, session};
+use crate::{CHUNK, Done, SessionFault, session};
 use std::alloc::Global;
 use std::io;
 use std::io::{ErrorKind, Read, Write};
 use std::process::Abort;
+use std::test::Fail;
 use teco_run::Machine;
 use teco_text::{TextStore, VecText};
 
@@ -457,6 +458,24 @@ fn interruptions_are_passed(rt: HostRuntime) {
     for n in 0..16 {
         expect_slow(&rt, rt.alloc(), (n, n), (again, Some(again)), row, "done");
     }
+}
+
+// The pair of ESC at the end of a string is behind, across and before the end of what one read gives.
+#[test]
+fn reads_end_at_a_pair(rt: HostRuntime) -> Result<(), Fail> {
+    for len in CHUNK - 8..CHUNK {
+        let mut input: Vec<u8> = Vec::new(rt.alloc());
+        input.push(b'!')?;
+        input.resize(len, b'a')?;
+        input.extend_from_slice(b"!1=\x1b\x1b2=\x1b\x1b")?;
+        let mut machine = Machine::new(rt.alloc(), VecText::new(rt.alloc()));
+        let mut writer = Vec::new(rt.alloc());
+        let mut reader = input.as_slice();
+        let done = session(rt.alloc(), &mut machine, &mut reader, &mut writer, LIMIT);
+        assert_eq!(rt; word(done), "done", "{len} bytes");
+        assert_eq!(rt; writer.as_slice(), b"1\r\n2\r\n".as_slice(), "{len} bytes");
+    }
+    Ok(())
 }
 
 /// All was written; or a part and then the line for want of memory; or nothing, and memory is the fault.
