@@ -1,4 +1,5 @@
 -- How the values of this crate are seen as those of the definition.
+pub mod Ahead
 pub mod Blanks
 pub mod Reader
 pub mod Reading

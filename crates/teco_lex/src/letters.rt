@@ -6,8 +6,7 @@ ghost use Rattle.teco_model.specs.Letters as table;
 ghost use Rattle.teco_lex.specs.Reading.{SecondByte};
 
 use teco_base::Code;
-use teco_base::bytes::{control, is_digit, to_upper};
-use teco_base::bytes::{ESC, QUOTE, TAB};
+use teco_base::bytes::{ESC, QUOTE, TAB, control, is_digit, to_upper};
 use teco_model::kind::{
     Argument, Command, File, Flow, Insertion, Kind, Motion, Page, Query, Radix, Search, Test,
     Typing, Unit, Value,
@@ -240,7 +239,10 @@ fn equal_signs(rest: &[u8]) -> (Head, usize)
         [b'=', ..] => (Radix::Octal, 2),
         _ => (Radix::Decimal, 1),
     };
-    (Head::Kind(Kind::Command(Command::Typing(Typing::Number(radix)))), len)
+    (
+        Head::Kind(Kind::Command(Command::Typing(Typing::Number(radix)))),
+        len,
+    )
 }
 
 /// What the bytes at the front name, and how many bytes that takes.
@@ -251,7 +253,10 @@ pub fn letters(text: &[u8]) -> Result<(Head, usize), Code>
 {
     let (b, rest) = text.split_first().ok_or(Code::Utc)?;
     if is_digit(*b) {
-        return Ok((Head::Kind(Kind::Argument(Argument::Digits)), digit_len(text)));
+        return Ok((
+            Head::Kind(Kind::Argument(Argument::Digits)),
+            digit_len(text),
+        ));
     }
     match *b {
         b'=' => Ok(equal_signs(rest)),

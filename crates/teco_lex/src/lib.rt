@@ -1,15 +1,19 @@
 //! The elements of a command string or macro, read from its bytes.
 #![tactic(auto)]
 
+mod ahead;
 mod blanks;
 mod form;
 mod letters;
 mod reader;
+mod skips;
 mod texts;
 
+pub use ahead::{Reading, read_ahead};
 pub use blanks::blank_end;
 pub use reader::element;
-pub use teco_model::Element;
+pub use skips::{bracket, route_of, skip, tag_bracket};
+pub use teco_model::{Element, Skip};
 
 #[cfg(test)]
 mod tests;

@@ -1,40 +1,59 @@
 use super::*;
 use std::test::*;
-use teco_base::{Code, Reg};
+use teco_base::{Code, LIMIT};
 use teco_model::Kind;
 use teco_model::kind::{
-    Argument, File, Flow, Insertion, Motion, Page, Radix, Search, Storage, Test, Typing,
+    Argument, Command, File, Flow, Insertion, Motion, Page, Query, Radix, Search, Stack, Storage,
+    Test, Typing,
 };
 
-/// What a row writes for a kind.
-fn label(kind: Kind) -> &'static [u8] {
-    match kind {
-        Kind::Argument(Argument::DropAll) => b"ESC",
-        Kind::Argument(Argument::Digits) => b"digits",
-        Kind::Motion(Motion::Forward) => b"C",
-        Kind::Insertion(Insertion::Text) => b"I",
-        Kind::Insertion(Insertion::Tab) => b"TAB",
-        Kind::Typing(Typing::Message) => b"^A",
-        Kind::Typing(Typing::Number(Radix::Decimal)) => b"=",
-        Kind::Typing(Typing::Number(Radix::Octal)) => b"==",
-        Kind::Typing(Typing::Number(Radix::Hexadecimal)) => b"===",
-        Kind::Storage(Storage::SetNumber) => b"U",
-        Kind::Storage(Storage::SetText) => b"^U",
-        Kind::Search(Search::Find) => b"S",
-        Kind::Search(Search::Replace) => b"FS",
-        Kind::Flow(Flow::Comment) => b"!",
-        Kind::Flow(Flow::Test(Test::Positive)) => b"\">",
-        Kind::Page(Page::Next) => b"P",
-        Kind::Page(Page::Write) => b"PW",
-        Kind::File(File::Read) => b"ER",
+/// What a row writes for a command.
+fn label_of_command(command: &Command) -> &'static [u8] {
+    match *command {
+        Command::Motion(Motion::Forward) => b"C",
+        Command::Insertion(Insertion::Text) => b"I",
+        Command::Insertion(Insertion::Tab) => b"TAB",
+        Command::Typing(Typing::Message) => b"^A",
+        Command::Typing(Typing::Number(Radix::Decimal)) => b"=",
+        Command::Typing(Typing::Number(Radix::Octal)) => b"==",
+        Command::Typing(Typing::Number(Radix::Hexadecimal)) => b"===",
+        Command::Storage(Storage::SetNumber(_)) => b"U",
+        Command::Storage(Storage::SetText(_)) => b"^U",
         _ => b"another",
     }
 }
 
-fn name_of(register: Option<Reg>) -> u8 {
-    match register {
-        Some(register) => register.name(),
-        None => b' ',
+/// What a row writes for a kind.
+fn label(kind: &Kind) -> &'static [u8] {
+    match kind {
+        Kind::Search(Search::Find) => b"S",
+        Kind::Search(Search::Replace) => b"FS",
+        Kind::Page(Page::Next) => b"P",
+        Kind::Page(Page::Write) => b"PW",
+        Kind::File(File::Read) => b"ER",
+        Kind::Argument(Argument::DropAll) => b"ESC",
+        Kind::Argument(Argument::Digits) => b"digits",
+        Kind::Command(command) => label_of_command(command),
+        Kind::Flow(Flow::Comment) => b"!",
+        Kind::Flow(Flow::Test(Test::Positive)) => b"\">",
+        _ => b"another",
+    }
+}
+
+/// The name of its register, or a blank.
+fn register_name(kind: &Kind) -> u8 {
+    match *kind {
+        Kind::Command(Command::Storage(storage)) => match storage {
+            Storage::SetNumber(reg)
+            | Storage::Add(reg)
+            | Storage::Copy(reg)
+            | Storage::SetText(reg)
+            | Storage::Get(reg) => reg.name(),
+        },
+        Kind::Query(Query::Number(reg)) => reg.name(),
+        Kind::Stack(Stack::Push(reg) | Stack::Pop(reg)) => reg.name(),
+        Kind::Call(call) => call.register.name(),
+        _ => b' ',
     }
 }
 
@@ -135,9 +154,9 @@ fn is_found(row: Row) -> bool {
     let Ok(Some(found)) = element(text, at) else {
         return false;
     };
-    label(found.kind) == kind
+    label(&found.kind) == kind
         && (found.colons, found.at) == modifiers
-        && name_of(found.register) == register
+        && register_name(&found.kind) == register
         && (found.text, found.second) == texts
         && (found.place, found.next) == places
         && blank_end(text, at) == found.place
@@ -191,5 +210,54 @@ fn is_refused(text: &[u8], code: Option<Code>) -> bool {
 fn others_are_refused(rt: HostRuntime) {
     for (i, (text, code)) in REFUSED.iter().enumerate() {
         assert!(rt; is_refused(text, *code), "row {i}");
+    }
+}
+
+/// A text and the place of an element; then where that jumps ahead, and how many iterations it leaves.
+const SKIPS: [(&[u8], usize, Option<usize>, u32); 30] = [
+    (b"1\"G2=|3='", 1, Some(6), 0),
+    (b"1\"G2=|3='", 5, Some(9), 0),
+    (b"0\"N(?@I/'/'3=", 1, Some(11), 0),
+    (b"0\"NF?'3=", 1, Some(6), 0),
+    (b"3<1:;2=>4=", 1, Some(8), 0),
+    (b"3<1:;2=>4=", 3, Some(8), 1),
+    (b"3<1:;2=>4=", 7, None, 0),
+    (b"3<%A=Oout\x1b>!out!QA=", 5, Some(16), 1),
+    (b"!a!Oa\x1b", 3, None, 0),
+    (b"2<0\"N>'", 1, Some(6), 0),
+    (b"2<0\"N>'", 3, Some(7), 0),
+    (b"<Sa\x1b;>", 1, Some(6), 1),
+    (b"<@FS/a/b/>", 1, Some(10), 1),
+    (b"<@N/a/>", 1, Some(7), 1),
+    (b"<@FN/a/>/>", 1, Some(10), 1),
+    (b"<Sa\x1b", 1, None, 1),
+    (b"<<>1;>2=", 4, Some(6), 1),
+    (b"0\"E1\"N|'|2'", 1, Some(9), 0),
+    (b"0\"E1\"N|'|2'", 4, Some(7), 0),
+    (b"0\"E1\"N|'|2'", 6, Some(8), 0),
+    (b"|1|2'", 0, Some(5), 0),
+    (b"@O/a/<!a!>!a!", 0, Some(13), 0),
+    (b"@O/a/>>!a!", 0, Some(10), 2),
+    (b"@O/b/>!a!", 0, None, 1),
+    (b"0<1=", 1, None, 0),
+    (b"<Ia>", 0, None, 0),
+    (b"F?>", 0, None, 0),
+    (b" \r<1>", 0, Some(5), 0),
+    (b"  ", 0, None, 0),
+    (b"'", 0, None, 0),
+];
+
+fn is_skip(text: &[u8], at: usize, to: Option<usize>, leaves: u32) -> bool {
+    if text.len() > LIMIT || text.len() < at {
+        return false;
+    }
+    let found = skip(text, at);
+    found.to == to && found.leaves == leaves
+}
+
+#[test]
+fn skips_go_past_their_own_brackets(rt: HostRuntime) {
+    for (i, (text, at, to, leaves)) in SKIPS.iter().enumerate() {
+        assert!(rt; is_skip(text, *at, *to, *leaves), "row {i}");
     }
 }

@@ -1,4 +1,8 @@
 pub mod Worked
+pub mod WorkedSkips
+pub mod Progress
+pub mod Ahead
+pub mod SkipSteps
 pub mod Digits
 pub mod MatchWorked
 pub mod Searches

@@ -10,6 +10,9 @@ pub mod Arguments
 pub mod Letters
 pub mod Form
 pub mod Element
+pub mod Ahead
+pub mod Skip
+pub mod SkipRows
 pub mod State
 pub mod Places
 pub mod Effect

@@ -9,6 +9,7 @@ pub mod kind;
 pub mod matching;
 pub mod pattern;
 pub mod rows;
+pub mod skip;
 pub mod stop;
 
 pub use arguments::{Level, Operator, Taken};
@@ -16,4 +17,5 @@ pub use element::Element;
 pub use head::{Head, OnRegister, Texts};
 pub use kind::Kind;
 pub use pattern::Span;
+pub use skip::{Bracket, Pairs, Route, Skip};
 pub use stop::Stop;

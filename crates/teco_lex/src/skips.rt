@@ -1,0 +1,150 @@
+//! Skips over a text.
+ghost use Rattle.std.specs.Prelude.{◌≡◌, ◌+◌, ◌<◌, ◌≤◌, length, IfSome};
+ghost use Rattle.teco_base.specs.declared.TheConstants.{LIMIT};
+ghost use Rattle.teco_model.specs.Ahead.{readings};
+ghost use Rattle.teco_model.specs.Skip as model;
+
+use crate::ahead::{Reading, read_ahead};
+use teco_model::kind::Flow;
+use teco_model::{Bracket, Element, Kind, Pairs, Route, Skip};
+
+/// What an element is to a skip.
+pub fn bracket(pairs: Pairs, kind: &Kind) -> Bracket
+    ensures { result ≡ model.bracket pairs kind.now }
+{
+    let Kind::Flow(flow) = *kind else {
+        return Bracket::Passes;
+    };
+    match (pairs, flow) {
+        (Pairs::Iterations, Flow::Iterate) => Bracket::Opens,
+        (Pairs::Iterations, Flow::EndTurn) => Bracket::Closes,
+        (Pairs::Branches | Pairs::Tests, Flow::Test(_)) => Bracket::Opens,
+        (Pairs::Branches | Pairs::Tests, Flow::EndTest) => Bracket::Closes,
+        (Pairs::Branches, Flow::Otherwise) => Bracket::Stops,
+        _ => Bracket::Passes,
+    }
+}
+
+/// What an element is to a skip to a tag.
+pub fn tag_bracket(tag: &[u8], element: &Element) -> Bracket
+    ensures { result ≡ model.tag_bracket tag.now element.now.kind element.now.text.now }
+{
+    match &element.kind {
+        Kind::Flow(Flow::Comment) if element.text == tag => Bracket::Stops,
+        kind => bracket(Pairs::Iterations, kind),
+    }
+}
+
+/// How an element may jump ahead.
+pub fn route_of(kind: &Kind) -> Route
+    ensures { result ≡ model.route_of kind.now }
+{
+    match *kind {
+        Kind::Flow(Flow::Iterate) => Route::Past {
+            pairs: Pairs::Iterations,
+            leaves: 0,
+        },
+        Kind::Flow(Flow::Leave) | Kind::Search(_) => Route::Past {
+            pairs: Pairs::Iterations,
+            leaves: 1,
+        },
+        Kind::Flow(Flow::Test(_)) => Route::Past {
+            pairs: Pairs::Branches,
+            leaves: 0,
+        },
+        Kind::Flow(Flow::Otherwise) => Route::Past {
+            pairs: Pairs::Tests,
+            leaves: 0,
+        },
+        Kind::Flow(Flow::GoTo) => Route::ToTag,
+        _ => Route::Nowhere,
+    }
+}
+
+/// How many inner pairs are open behind a bracket; `None` where a skip from inside so many ends there.
+fn inner_behind(bracket: Bracket, inner: usize) -> Option<usize>
+    requires { inner < usize.MAX }
+    ensures value { result ≡ model.inner_behind bracket inner }
+    ensures few { IfSome result (λ behind. behind ≤ inner + 1) }
+{
+    match bracket {
+        Bracket::Opens => Some(inner + 1),
+        Bracket::Closes => inner.checked_sub(1),
+        Bracket::Stops if inner == 0 => None,
+        Bracket::Stops | Bracket::Passes => Some(inner),
+    }
+}
+
+/// The place behind the end of the pair that a place stands in, or behind a stop in it.
+fn pair_end(pairs: Pairs, text: &[u8], at: usize) -> Option<usize>
+    requires { at ≤ length text.now }
+    ensures value { result ≡ model.pair_end pairs 0 (readings text.now at) }
+    ensures within { IfSome result (λ to. to ≤ length text.now) }
+{
+    let mut place = at;
+    let mut inner = 0;
+    while let Some(reading) = read_ahead(text, place) {
+        place = reading.next();
+        if let Reading::Whole(element) = reading {
+            match inner_behind(bracket(pairs, &element.kind), inner) {
+                Some(behind) => inner = behind,
+                None => return Some(place),
+            }
+        }
+    }
+    None
+}
+
+/// Past the next tag that stands in no iteration opened on the way.
+fn tag_skip(tag: &[u8], text: &[u8], at: usize) -> Skip
+    requires short { length text.now ≤ LIMIT }
+    requires inside { at ≤ length text.now }
+    ensures value { result ≡ model.tag_skip tag.now 0 0 (readings text.now at) }
+    ensures within { IfSome result.to (λ to. to ≤ length text.now) }
+{
+    let mut place = at;
+    let mut inner = 0;
+    let mut leaves = 0;
+    while let Some(reading) = read_ahead(text, place) {
+        place = reading.next();
+        if let Reading::Whole(element) = reading {
+            let bracket = tag_bracket(tag, &element);
+            match inner_behind(bracket, inner) {
+                Some(behind) => inner = behind,
+                None if matches!(bracket, Bracket::Closes) => leaves += 1,
+                None => return Skip {
+                    to: Some(place),
+                    leaves,
+                },
+            }
+        }
+    }
+    Skip { to: None, leaves }
+}
+
+/// Where the element at a place jumps ahead. It reads on once, as far as it skips; but where a fault stands in a run of
+/// modifiers, the rest of that run is read again from each of its bytes.
+pub fn skip(text: &[u8], at: usize) -> Skip
+    requires short { length text.now ≤ LIMIT }
+    requires inside { at ≤ length text.now }
+    ensures value { result ≡ model.skip_at text.now at }
+    ensures within { IfSome result.to (λ to. to ≤ length text.now) }
+{
+    let Some(Reading::Whole(element)) = read_ahead(text, at) else {
+        return Skip {
+            to: None,
+            leaves: 0,
+        };
+    };
+    match route_of(&element.kind) {
+        Route::Nowhere => Skip {
+            to: None,
+            leaves: 0,
+        },
+        Route::Past { pairs, leaves } => Skip {
+            to: pair_end(pairs, text, element.next),
+            leaves,
+        },
+        Route::ToTag => tag_skip(element.text, text, element.next),
+    }
+}

@@ -1,0 +1,45 @@
+//! Where skips lead.
+
+/// The brackets that a skip counts.
+#[derive(Clone, Copy)]
+pub enum Pairs {
+    /// `<` and `>`.
+    Iterations,
+    /// `"` and `'`, with the pipe between them.
+    Branches,
+    /// `"` and `'` alone.
+    Tests,
+}
+
+/// What an element is to a skip.
+#[derive(Clone, Copy)]
+pub enum Bracket {
+    /// It opens an inner pair.
+    Opens,
+    /// It closes the pair that it stands in.
+    Closes,
+    /// It is a place to stop in the pair that it stands in.
+    Stops,
+    /// It is passed.
+    Passes,
+}
+
+/// How an element may jump ahead.
+#[derive(Clone, Copy)]
+pub enum Route {
+    /// It does not.
+    Nowhere,
+    /// Past the end of the pair that it stands in, which may leave that iteration.
+    Past { pairs: Pairs, leaves: u32 },
+    /// Past a tag.
+    ToTag,
+}
+
+/// Where an element jumps ahead, and how many iterations that leaves.
+#[derive(Clone, Copy)]
+pub struct Skip {
+    /// The place where execution goes on; `None` where the text ends first, and for what never jumps ahead.
+    pub to: Option<usize>,
+    /// How many open iterations are left.
+    pub leaves: u32,
+}
