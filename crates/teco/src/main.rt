@@ -1,21 +1,15 @@
 //! The program: sessions on standard input.
 #![tactic(auto)]
 
-mod ahead;
-mod fault;
-mod output;
-mod session;
-mod strings;
 #[cfg(test)]
 mod tests;
 mod words;
 
-use crate::fault::SessionFault;
-use crate::session::session;
 use std::alloc::Global;
 use std::process::ExitCode;
 use std::{env, io};
 use teco_run::Machine;
+use teco_session::{SessionFault, session};
 use teco_text::VecText;
 
 /// A code was typed.

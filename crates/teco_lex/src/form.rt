@@ -57,9 +57,7 @@ pub fn at_allowed(head: &Head) -> bool
 {
     match *head {
         Head::Kind(Kind::Command(command)) => at_of_command(command),
-        Head::Kind(
-            Kind::Search(_) | Kind::Flow(Flow::GoTo) | Kind::File(File::Read | File::Write),
-        )
+        Head::Kind(Kind::Search(_) | Kind::Flow(Flow::GoTo) | Kind::File(File::Read | File::Write))
         | Head::OnRegister(OnRegister::SetText) => true,
         _ => false,
     }

@@ -4,7 +4,7 @@ use Rattle.teco_base.specs.declared.bytes.TheConstants.{TAB, LF, CR, ESC}
 use Rattle.teco_base.specs.declared.code.Code.TheVariants as code
 use Rattle.teco_model.specs.Arguments.{no_arguments}
 use Rattle.teco_model.specs.Registers.{with_number, with_text}
-use Rattle.teco_model.specs.State.{Kept, World, State, Outcome, Next, End, Fail, start, world_of, kept_of_store}
+use Rattle.teco_model.specs.State.{World, State, Outcome, Next, End, Fail, start, world_of, kept_of_store}
 use Rattle.teco_model.specs.Run.{run, go_on}
 
 -- a machine with an empty buffer

@@ -62,7 +62,7 @@ pub data Executes (limit : ℕ) (old : World) : ℕ → List ℕ → World → L
       Executes limit old count input mid written coded →
       IsCommandString string → Stops (start string mid) limit stop new →
       Executes limit old (count + 1) (input ++ string) (without_typed new)
-        (written ++ lines_of stop new) (coded || is_code (code_of stop))
+      (written ++ lines_of stop new) (coded || is_code (code_of stop))
 
 -- What follows the last command string: a rest of LIMIT bytes without an end is FUL, blanks are nothing, and any other rest
 -- is UTC. It is not executed.
@@ -73,7 +73,7 @@ rest_code rest =
 
 -- a whole session of an input: what it leaves, what it writes, and whether a code line is among it
 pub record Session (limit : ℕ) (old : World) (input : List ℕ) (new : World) (written : List ℕ) (coded : Bool) :
-  Type 0 where
+    Type 0 where
   pub count : ℕ
   pub strings : List ℕ
   pub rest : List ℕ

@@ -44,7 +44,6 @@ fn execute_command(
         Command::Insertion(insertion) => editor.insertion(insertion, element, taken),
         Command::Typing(typing) => editor.typing(typing, element, taken),
         Command::Storage(storage) => editor.storage(storage, element, taken),
-        _ => Ok(None),
     }
 }
 

@@ -1,4 +1,0 @@
-pub mod Known
-pub mod Pairs
-pub mod SessionSteps
-pub mod Stops

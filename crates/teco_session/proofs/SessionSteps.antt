@@ -1,0 +1,188 @@
+-- How a session goes on, ends and breaks off.
+use Rattle.std.proofs.Common.{◌≡◌, ◌≢◌, ℕ, ◌+◌, ◌≤◌, ◌⊎◌, inl, inr, List, [], ◌++◌, length, take, Option, Some, None, Bool, true, false, ◌||◌, nat_le, Ok, Err, IfSome, refl, sym, ap, subst, ◌∙◌, append_assoc, append-nil, arith, length-append}
+use Rattle.std.proofs.KnownBytes.{Appends-nil, Appends-trans, Consumes-nil, Consumes-trans, prepend_known-nil}
+use Rattle.std.proofs.Math.Bool.{or-false}
+use Rattle.std.proofs.Math.Nat.{eq-or-lt_of_le}
+use Rattle.std.proofs.lemmas.Bool.{le-leb}
+use Rattle.std.proofs.lemmas.List.{take_all, take_at}
+use Rattle.std.specs.Io.KnownBytes.{Consumes, IsAtEnd, prepend_known}
+use Rattle.teco_base.specs.declared.TheConstants.{LIMIT}
+use Rattle.teco_model.specs.Session.{Executes, none, one_more, Session, IsCommandString, string_end, code_line, is_code, rest_code}
+use Rattle.teco_session.proofs.Known.{Consumes-ahead}
+use Rattle.teco_session.proofs.Pairs.{string_end-nil}
+use Rattle.teco_session.specs.Answers.{Runs, RunsNot, MayRun, Answers}
+use Rattle.teco_session.specs.Sessions.{Setting, Serves, Finishes, BreaksOff, Converses}
+use Rattle.teco_session.specs.Strings.{IsPiece, IsRest, IsUnended}
+use Rattle.teco_session.specs.declared.ahead.TheConstants.{CHUNK}
+use Rattle.teco_session.specs.declared.fault.SessionFault.{SessionFault}
+use Rattle.teco_session.specs.declared.fault.SessionFault.TheVariants.{Read, Write, Memory}
+use Rattle.teco_session.specs.declared.sessions.TheConstants.{STRINGS}
+use Rattle.teco_session.specs.declared.strings.Piece.{Piece}
+use Rattle.teco_session.specs.declared.strings.Piece.TheVariants.{Command, Rest}
+
+-- before the first string
+pub Serves-start : (limit : ℕ) (s : Setting) (ahead : List ℕ) → ahead ≡ [] → Serves limit 0 s (record s { unread = prepend_known ahead s.unread }) false
+Serves-start limit s ahead e = record {
+  strings = [];
+  lines = [];
+  came = rw (e, prepend_known-nil) (Consumes-nil s.unread);
+  executed = none;
+  appended = Appends-nil s.written;
+}
+
+-- one more string
+pub Serves-more : (limit count : ℕ) (old mid new : Setting) (coded line : Bool) (string : List ℕ) → Serves limit count old mid coded → Consumes mid.unread new.unread string → IsCommandString string → Answers limit Command string mid.world new.world mid.written new.written (Ok line) → Serves limit (count + 1) old new (coded || line)
+Serves-more limit count old mid new coded line string served came is answers =
+    let runs = answers.ran in
+    record {
+      strings = served.strings ++ string;
+      lines = served.lines ++ answers.lines;
+      came = Consumes-trans old.unread mid.unread new.unread served.strings string served.came came;
+      executed = rw (runs.stays, runs.all_lines, answers.told, runs.a_line) (one_more count served.strings mid.world served.lines coded string runs.stop runs.after served.executed is runs.stops);
+      appended = Appends-trans old.written mid.written new.written served.lines answers.lines served.appended answers.writes;
+    }
+
+-- the session of some strings and a rest that is no string
+session_of : (limit count : ℕ) (old : Setting) (new : Setting) (strings lines rest : List ℕ) (line : Bool) → Executes limit old.world count strings new.world lines line → string_end (take LIMIT rest) ≡ None → Session limit old.world (strings ++ rest) new.world (lines ++ code_line (rest_code rest)) (line || is_code (rest_code rest))
+session_of limit count old new strings lines rest line executed no_string = record {
+  count = count;
+  strings = strings;
+  rest = rest;
+  lines = lines;
+  line = line;
+  whole = refl;
+  executed = executed;
+  no_string = no_string;
+  all_written = refl;
+  a_line = refl;
+}
+
+-- a rest that is no longer than a string may be
+short_rest : (rest : List ℕ) → length rest ≤ LIMIT → string_end rest ≡ None → string_end (take LIMIT rest) ≡ None
+short_rest rest short endless = ap string_end (take_all LIMIT rest short) ∙ endless
+
+-- the session of a command string
+string_session : (limit : ℕ) (old new : Setting) (string lines : List ℕ) (coded : Bool) → IsCommandString string → Runs limit string old.world new.world lines coded → Session limit old.world string new.world lines coded
+string_session limit old new string lines coded is runs = record {
+  count = 1;
+  strings = string;
+  rest = [];
+  lines = lines;
+  line = coded;
+  whole = sym (append-nil string);
+  executed = rw (runs.stays, runs.all_lines, runs.a_line) (one_more 0 [] old.world [] false string runs.stop runs.after none is runs.stops);
+  no_string = string_end-nil;
+  all_written = sym (append-nil lines);
+  a_line = sym (or-false coded);
+}
+
+-- the session of a rest
+rest_session : (limit : ℕ) (old new : Setting) (rest lines : List ℕ) (coded : Bool) → length rest ≤ LIMIT → string_end rest ≡ None → RunsNot rest old.world new.world lines coded → Session limit old.world rest new.world lines coded
+rest_session limit old new rest lines coded short endless runs_not =
+    rw (runs_not.stays, runs_not.all_lines, runs_not.a_line) (session_of limit 0 old old [] [] rest false none (short_rest rest short endless))
+
+-- the output of a piece was cut short
+pub Converses-write : (limit count : ℕ) (old mid new : Setting) (coded : Bool) (ahead bytes : List ℕ) (piece : Piece) (fault : SessionFault) → Serves limit count old mid coded → Consumes mid.unread (prepend_known ahead new.unread) bytes → IsPiece (prepend_known ahead new.unread) bytes piece → length ahead ≤ CHUNK → Answers limit piece bytes mid.world new.world mid.written new.written (Err fault) → Converses limit old new (Err fault)
+Converses-write limit count old mid new coded ahead bytes piece fault served came is one_read answers = rw answers.writes.0 (record {
+  count = count;
+  coded = coded;
+  last = mid;
+  piece = bytes;
+  unused = ahead;
+  lines = answers.lines;
+  line = answers.coded;
+  served = served;
+  came = Consumes-ahead mid.unread new.unread bytes ahead came;
+  one_piece = one piece is;
+  one_read = one_read;
+  session = session piece is answers.ran;
+  part = answers.writes.1;
+}) where
+  one : (p : Piece) → IsPiece (prepend_known ahead new.unread) bytes p → IsCommandString bytes ⊎ IsRest (prepend_known ahead new.unread) bytes
+  one Command is = inl is
+  one Rest is = inr is
+
+  session : (p : Piece) → IsPiece (prepend_known ahead new.unread) bytes p → MayRun limit p bytes mid.world new.world answers.lines answers.coded → Session limit mid.world bytes new.world answers.lines answers.coded
+  session Command is ran = string_session limit mid new bytes answers.lines answers.coded is ran
+  session Rest is ran = rest_session limit mid new bytes answers.lines answers.coded is.within is.endless ran
+
+-- such a fault came behind the strings
+BreaksOff-behind : (limit count : ℕ) (old new : Setting) (left : Option (List ℕ)) (coded : Bool) (ahead part : List ℕ) (fault : SessionFault) → Serves limit count old (record new { unread = left }) coded → Consumes left (prepend_known ahead new.unread) part → IsUnended part → length ahead ≤ CHUNK → (fault ≡ Read → (ahead ≡ []) ⊎ (count ≡ STRINGS)) → BreaksOff limit old new fault
+BreaksOff-behind limit count old new left coded ahead part fault served came unended one_read all_used = record {
+  count = count;
+  coded = coded;
+  left = left;
+  part = part;
+  unused = ahead;
+  served = served;
+  came = Consumes-ahead left new.unread part ahead came;
+  unended = unended;
+  one_read = one_read;
+  all_used = all_used;
+}
+
+-- no piece came
+pub Converses-break : (limit count : ℕ) (old new : Setting) (left : Option (List ℕ)) (coded : Bool) (ahead part : List ℕ) (fault : SessionFault) → Serves limit count old (record new { unread = left }) coded → Consumes left (prepend_known ahead new.unread) part → IsUnended part → length ahead ≤ CHUNK → (fault ≡ Read → ahead ≡ []) → fault ≢ Write → Converses limit old new (Err fault)
+Converses-break limit count old new left coded ahead part Read served came unended one_read all other = BreaksOff-behind limit count old new left coded ahead part Read served came unended one_read (λ e. inl (all e))
+Converses-break limit count old new left coded ahead part Memory served came unended one_read all other = BreaksOff-behind limit count old new left coded ahead part Memory served came unended one_read (λ e. inl (all e))
+Converses-break limit count old new left coded ahead part Write served came unended one_read all other = absurd (other refl)
+
+-- a session takes no more strings
+pub Converses-full : (limit count : ℕ) (old new : Setting) (coded : Bool) (ahead : List ℕ) → Serves limit count old (record new { unread = prepend_known ahead new.unread }) coded → length ahead ≤ CHUNK → count ≡ STRINGS → Converses limit old new (Err Read)
+Converses-full limit count old new coded ahead served one_read full =
+    let left = prepend_known ahead new.unread in
+    BreaksOff-behind limit count old new left coded ahead [] Read served (Consumes-nil left) (record { endless = string_end-nil; short = omega arith }) one_read (λ _. inr full)
+
+-- a rest of LIMIT bytes or more is FUL, whatever follows
+full_code : (rest more : List ℕ) → length rest ≡ LIMIT → rest_code (rest ++ more) ≡ rest_code rest
+full_code rest more full =
+    let long : nat_le LIMIT (length (rest ++ more)) ≡ true = le-leb _ _ (omega (arith, length-append rest more)) in
+    let same : nat_le LIMIT (length rest) ≡ true = le-leb _ _ (omega arith) in
+    rw (long, same) refl
+
+-- the bytes that are left, where they are known
+known_rest : Option (List ℕ) → List ℕ
+known_rest None = []
+known_rest (Some bytes) = bytes
+
+told_input : (source left : Option (List ℕ)) (read : List ℕ) → Consumes source left read → IfSome source (λ bytes. bytes ≡ read ++ known_rest left)
+unfolding known_rest
+told_input None left read came = tt
+told_input (Some bytes) None read came = absurd came
+told_input (Some bytes) (Some more) read came = came
+
+none_left : (left : Option (List ℕ)) → IsAtEnd left → known_rest left ≡ []
+unfolding known_rest
+none_left None end = refl
+none_left (Some bytes) end = end
+
+-- what comes behind a rest changes neither its end nor its code
+pub record Stays (rest more : List ℕ) : Type 0 where
+  pub endless : string_end (take LIMIT (rest ++ more)) ≡ None
+  pub code : rest_code (rest ++ more) ≡ rest_code rest
+
+stays : (rest : List ℕ) (left : Option (List ℕ)) → IsRest left rest → Stays rest (known_rest left)
+stays rest left is = elim (eq-or-lt_of_le is.within) [
+  | inl full ↦ record {
+    endless = ap string_end (take_at rest (known_rest left) LIMIT full) ∙ is.endless;
+    code = full_code rest (known_rest left) full;
+  }
+  | inr short ↦
+      let same : rest ++ known_rest left ≡ rest = ap (λ l. rest ++ l) (none_left left (is.last short)) ∙ append-nil rest in
+      record { endless = ap (λ l. string_end (take LIMIT l)) same ∙ short_rest rest is.within is.endless; code = ap rest_code same }
+]
+
+-- a session is finished at a rest
+pub Finishes-rest : (limit count : ℕ) (old mid new : Setting) (coded line : Bool) (left : Option (List ℕ)) (rest : List ℕ) → Serves limit count old mid coded → Consumes mid.unread left rest → IsRest left rest → Answers limit Rest rest mid.world new.world mid.written new.written (Ok line) → Finishes limit old new (coded || line)
+Finishes-rest limit count old mid new coded line left rest served came is answers =
+    let more = known_rest left in
+    let behind = stays rest left is in
+    let read = served.strings ++ rest in
+    let runs_not = answers.ran in
+    record {
+      input = served.strings ++ (rest ++ more);
+      lines = served.lines ++ answers.lines;
+      told = subst (λ l. IfSome old.unread (λ bytes. bytes ≡ l)) (append_assoc served.strings rest more) (told_input old.unread left read (Consumes-trans old.unread mid.unread left served.strings rest served.came came));
+      session = rw (runs_not.stays, runs_not.all_lines, answers.told, runs_not.a_line, ← behind.code) (session_of limit count old mid served.strings served.lines (rest ++ more) coded served.executed behind.endless);
+      appended = Appends-trans old.written mid.written new.written served.lines answers.lines served.appended answers.writes;
+    }

@@ -1,0 +1,12 @@
+use Rattle.std.proofs.Common.{length, ap, arith}
+use Rattle.std.proofs.KnownBytes.{Consumes-nil}
+use Rattle.teco_session.proofs.Pairs.{string_end-nil}
+use Rattle.teco_session.proofs.strings.next_piece.Goals as goal
+
+pub loop-ahead-init : goal.loop-ahead-init
+loop-ahead-init g c = record {
+  came = rw c.clear.ensures.items (Consumes-nil _);
+  endless = rw c.clear.ensures.items string_end-nil;
+  within = omega (arith, ap length c.clear.ensures.items);
+  one_read = λ h. h;
+}

@@ -1,0 +1,41 @@
+-- What a session did with one piece of its input, beside the definition.
+use Rattle.std.specs.Prelude.{ℕ, ◌≡◌, List, Option, Bool, Result, IfOk}
+use Rattle.teco_model.specs.Run.{Stops}
+use Rattle.teco_model.specs.Session.{code_of, code_line, is_code, lines_of, rest_code, without_typed}
+use Rattle.teco_model.specs.State.{World, start}
+use Rattle.teco_model.specs.declared.stop.Stop.{Stop}
+use Rattle.teco_session.specs.Output.{Writes}
+use Rattle.teco_session.specs.declared.fault.SessionFault.{SessionFault}
+use Rattle.teco_session.specs.declared.strings.Piece.{Piece}
+use Rattle.teco_session.specs.declared.strings.Piece.TheVariants.{Command, Rest}
+
+-- a command string was run: what it has to write, and whether a code line is among it
+pub record Runs (limit : ℕ) (string : List ℕ) (old new : World) (lines : List ℕ) (coded : Bool)
+    : Type 0 where
+  pub stop : Stop
+  pub after : World
+  pub stops : Stops (start string old) limit stop after
+  pub stays : new ≡ without_typed after
+  pub all_lines : lines ≡ lines_of stop after
+  pub a_line : coded ≡ is_code (code_of stop)
+
+-- a rest was not run
+pub record RunsNot (rest : List ℕ) (old new : World) (lines : List ℕ) (coded : Bool)
+    : Type 0 where
+  pub stays : new ≡ old
+  pub all_lines : lines ≡ code_line (rest_code rest)
+  pub a_line : coded ≡ is_code (rest_code rest)
+
+-- a piece was run, if it is a command string
+abbrev pub MayRun : ℕ → Piece → List ℕ → World → World → List ℕ → Bool → Type 0
+MayRun limit Command bytes old new lines coded = Runs limit bytes old new lines coded
+MayRun limit Rest bytes old new lines coded = RunsNot bytes old new lines coded
+
+-- and what it has to write was written, or with a fault a part of that
+pub record Answers (limit : ℕ) (piece : Piece) (bytes : List ℕ) (old new : World)
+    (sink sunk : Option (List ℕ)) (result : Result Bool SessionFault) : Type 0 where
+  pub lines : List ℕ
+  pub coded : Bool
+  pub ran : MayRun limit piece bytes old new lines coded
+  pub writes : Writes sink sunk lines result
+  pub told : IfOk result (λ line. line ≡ coded)

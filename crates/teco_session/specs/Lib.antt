@@ -1,0 +1,5 @@
+-- The words that the contracts of this crate are written in.
+pub mod Answers
+pub mod Output
+pub mod Sessions
+pub mod Strings

@@ -1,0 +1,79 @@
+-- What comes of a session, beside the definition.
+use Rattle.std.specs.Prelude.{ℕ, ◌≡◌, ◌⊎◌, ◌≤◌, List, [], ◌++◌, length, Option, Bool, Result, Ok, Err, IfSome}
+use Rattle.std.specs.Io.KnownBytes.{Consumes, Appends, prepend_known}
+use Rattle.teco_model.specs.Session.{Executes, Session, IsCommandString}
+use Rattle.teco_model.specs.State.{Kept, World, world_of}
+use Rattle.teco_session.specs.Output.{WritesPart}
+use Rattle.teco_session.specs.Strings.{IsRest, IsUnended}
+use Rattle.teco_session.specs.declared.ahead.TheConstants.{CHUNK}
+use Rattle.teco_session.specs.declared.fault.SessionFault.{SessionFault}
+use Rattle.teco_session.specs.declared.fault.SessionFault.TheVariants.{Read, Write, Memory}
+use Rattle.teco_session.specs.declared.sessions.Done.{Done}
+use Rattle.teco_session.specs.declared.sessions.TheConstants.{STRINGS}
+
+-- what a session works on: what stays of the machine, and the bytes that the reader has left and that
+-- the writer holds, where their types tell them
+pub record Setting : Type 0 where
+  pub world : World
+  pub unread : Option (List ℕ)
+  pub written : Option (List ℕ)
+
+abbrev pub setting : Kept → Option (List ℕ) → Option (List ℕ) → Setting
+setting kept unread written =
+    record { world = world_of kept; unread = unread; written = written }
+
+-- so many command strings came, were executed, and what they write was written
+pub record Serves (limit count : ℕ) (old new : Setting) (coded : Bool) : Type 0 where
+  pub strings : List ℕ
+  pub lines : List ℕ
+  pub came : Consumes old.unread new.unread strings
+  pub executed : Executes limit old.world count strings new.world lines coded
+  pub appended : Appends old.written new.written lines
+
+-- The session of the input was written. The input is the reader's, where that tells it.
+pub record Finishes (limit : ℕ) (old new : Setting) (coded : Bool) : Type 0 where
+  pub input : List ℕ
+  pub lines : List ℕ
+  pub told : IfSome old.unread (λ bytes. bytes ≡ input)
+  pub session : Session limit old.world input new.world lines coded
+  pub appended : Appends old.written new.written lines
+
+-- Some command strings were served, and then the fault came: nothing else was executed or written.
+-- Behind them were read the front of a string, and bytes of one read, which were not used: none
+-- where the input cannot be read, but where as many strings were served as a session takes.
+pub record BreaksOff (limit : ℕ) (old new : Setting) (fault : SessionFault) : Type 0 where
+  pub count : ℕ
+  pub coded : Bool
+  pub left : Option (List ℕ)
+  pub part : List ℕ
+  pub unused : List ℕ
+  pub served : Serves limit count old (record new { unread = left }) coded
+  pub came : Consumes left new.unread (part ++ unused)
+  pub unended : IsUnended part
+  pub one_read : length unused ≤ CHUNK
+  pub all_used : fault ≡ Read → (unused ≡ []) ⊎ (count ≡ STRINGS)
+
+-- Some command strings were served, and then writing failed in the next, or in the rest: of what the
+-- session of this piece writes there is a part, from the front and less than all. The world is as
+-- that session leaves it, and bytes of one read were not used.
+pub record CutsShort (limit : ℕ) (old new : Setting) : Type 0 where
+  pub count : ℕ
+  pub coded : Bool
+  pub last : Setting
+  pub piece : List ℕ
+  pub unused : List ℕ
+  pub lines : List ℕ
+  pub line : Bool
+  pub served : Serves limit count old last coded
+  pub came : Consumes last.unread new.unread (piece ++ unused)
+  pub one_piece : IsCommandString piece ⊎ IsRest (prepend_known unused new.unread) piece
+  pub one_read : length unused ≤ CHUNK
+  pub session : Session limit last.world piece new.world lines line
+  pub part : WritesPart last.written new.written lines
+
+-- what comes of a session
+abbrev pub Converses : ℕ → Setting → Setting → Result Done SessionFault → Type 0
+Converses limit old new (Ok done) = Finishes limit old new done.coded
+Converses limit old new (Err Read) = BreaksOff limit old new Read
+Converses limit old new (Err Memory) = BreaksOff limit old new Memory
+Converses limit old new (Err Write) = CutsShort limit old new

@@ -1,0 +1,144 @@
+//! Sessions: command strings from a reader, and what they type to a writer.
+ghost use Rattle.std.specs.Prelude.{◌≡◌, ◌++◌, [], IfOk};
+ghost use Rattle.std.specs.List.{list_all};
+ghost use Rattle.teco_base.specs.Bytes as byte;
+ghost use Rattle.teco_model.specs.Session.{rest_code, code_of, code_line, is_code};
+ghost use Rattle.teco_model.specs.State.{world_of};
+ghost use Rattle.teco_session.specs.Answers.{Answers};
+ghost use Rattle.teco_session.specs.Output.{Writes};
+ghost use Rattle.teco_session.specs.Sessions.{Converses, setting};
+
+use crate::ahead::Ahead;
+use crate::fault::SessionFault;
+use crate::output::write_bytes;
+use crate::strings::{Piece, next_piece};
+use std::alloc::Global;
+use std::io::{Read, Write};
+use teco_base::bytes::is_blank;
+use teco_base::{Code, LIMIT};
+use teco_run::{Machine, Stop};
+use teco_text::TextStore;
+
+/// How many command strings a session takes; it then answers `Read`.
+pub const STRINGS: u64 = 4_294_967_296;
+
+/// What came of a session.
+#[derive(Clone, Copy)]
+pub struct Done {
+    /// Was a code line written?
+    pub coded: bool,
+}
+
+// The code that is typed for a stop.
+fn code_of_stop(stop: Stop) -> Option<Code>
+    ensures { result ≡ code_of stop }
+{
+    match stop {
+        Stop::Ended { .. } => None,
+        Stop::Error(code) => Some(code),
+        Stop::Limit => Some(Code::Lim),
+        Stop::Memory => Some(Code::Mem),
+    }
+}
+
+// Are there only blanks?
+fn is_all_blank(bytes: &[u8]) -> bool
+    ensures { result ≡ list_all byte.is_blank bytes.now }
+{
+    bytes.iter().all(|b| is_blank(*b))
+}
+
+// The code that is typed for what follows the last command string.
+fn code_of_rest(rest: &[u8]) -> Option<Code>
+    ensures { result ≡ rest_code rest.now }
+{
+    if rest.len() >= LIMIT {
+        Some(Code::Ful)
+    } else if is_all_blank(rest) {
+        None
+    } else {
+        Some(Code::Utc)
+    }
+}
+
+// Writes the line of a code, if there is one, and says whether there is.
+fn write_code<W: Write>(writer: &mut W, code: Option<Code>) -> Result<bool, SessionFault>
+    ensures line { Writes (W.contents writer.old) (W.contents writer.new) (code_line code) result }
+    ensures told { IfOk result (λ line. line ≡ is_code code) }
+{
+    let Some(code) = code else {
+        return Ok(false);
+    };
+    let [a, b, c] = *code.name();
+    write_bytes(writer, &[b'?', a, b, c, b'\r', b'\n'])?;
+    Ok(true)
+}
+
+// Writes what was typed and then the line of a code, if there is one, and says whether there is.
+fn write_lines<W: Write>(
+    writer: &mut W,
+    typed: &[u8],
+    code: Option<Code>,
+) -> Result<bool, SessionFault>
+    ensures lines { Writes (W.contents writer.old) (W.contents writer.new)
+        (typed.now ++ code_line code) result }
+    ensures told { IfOk result (λ line. line ≡ is_code code) }
+{
+    write_bytes(writer, typed)?;
+    write_code(writer, code)
+}
+
+// Runs a piece of the input, if it is a command string, and writes what it types and its code line. Says whether there is
+// such a line.
+fn answer<T: TextStore, W: Write>(
+    machine: &mut Machine<T>,
+    piece: Piece,
+    bytes: &[u8],
+    writer: &mut W,
+    limit: u64,
+) -> Result<bool, SessionFault>
+    ensures { Answers limit piece bytes.now (world_of machine.old) (world_of machine.new)
+        (W.contents writer.old) (W.contents writer.new) result }
+{
+    match piece {
+        Piece::Command => {
+            let stop = machine.run(bytes, limit);
+            let typed = machine.take_typed();
+            write_lines(writer, typed.as_slice(), code_of_stop(stop))
+        }
+        Piece::Rest => write_lines(writer, &[], code_of_rest(bytes)),
+    }
+}
+
+/// Runs the command strings that a reader gives, each for at most `limit` steps. What a string types is written when it has
+/// stopped, and then a code line for a stop that is not the end.
+///
+/// A string is run as soon as its end is read. After a code the session goes on with the next string. A rest without an end
+/// is not executed. With a fault of reading or of memory, the strings that came before it are executed and written, and
+/// nothing else is. With one of writing, the string whose bytes were being written is the last that was executed: a part of
+/// what it writes is written, from the front and less than all.
+pub fn session<T: TextStore, R: Read, W: Write>(
+    alloc: Global,
+    machine: &mut Machine<T>,
+    reader: &mut R,
+    writer: &mut W,
+    limit: u64,
+) -> Result<Done, SessionFault>
+    ensures { Converses limit
+        (setting machine.old (R.remaining reader.old) (W.contents writer.old))
+        (setting machine.new (R.remaining reader.new) (W.contents writer.new))
+        result }
+{
+    let mut string = Vec::new(alloc);
+    let mut ahead = Ahead::new();
+    let mut coded = false;
+    for _ in 0..STRINGS {
+        let piece = next_piece(&mut string, &mut ahead, reader)?;
+        let line = answer(machine, piece, string.as_slice(), writer, limit)?;
+        coded |= line;
+        if let Piece::Rest = piece {
+            return Ok(Done { coded });
+        }
+    }
+    Err(SessionFault::Read)
+}
