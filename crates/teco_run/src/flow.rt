@@ -20,7 +20,6 @@ use teco_model::{Element, Loop};
 use teco_step::Stuck;
 
 /// The way that the skip of an element leads; `code` where it leads nowhere.
-#[tactic(auto, using(crate::proofs::Turns::skip_read))]
 pub fn jump(element: &Element<'_>, frames: &Frames<'_>, code: Code) -> Result<Way, Code>
     requires { IsRead element.now frames.now }
     ensures way { GoesAlways frames.now.running (λ arguments.
@@ -29,10 +28,13 @@ pub fn jump(element: &Element<'_>, frames: &Frames<'_>, code: Code) -> Result<Wa
     ensures out { IfOk result (λ way. is_into way ≡ false) }
 {
     let skip = skip(frames.text(), frames.place());
-    Ok(Way::To {
-        place: skip.to.ok_or(code)?,
-        leaves: skip.leaves,
-    })
+    match skip.to {
+        Some(place) => Ok(Way::To {
+            place,
+            leaves: skip.leaves,
+        }),
+        None => Err(code),
+    }
 }
 
 // Whether the test holds of a number.
@@ -61,6 +63,13 @@ fn leaves(colons: u8, n: i32) -> bool
     (colons == 0) == (n >= 0)
 }
 
+// How many turns come after the first of `n`, if there is one.
+fn later_turns(n: i32) -> Option<u32>
+    ensures { result ≡ model.later_turns n }
+{
+    u32::try_from(n).ok()?.checked_sub(1)
+}
+
 // `<` begins an iteration, or skips it.
 fn iterate(element: &Element<'_>, frames: &Frames<'_>, n: Option<i32>) -> Result<Way, Code>
     requires { IsRead element.now frames.now }
@@ -68,16 +77,13 @@ fn iterate(element: &Element<'_>, frames: &Frames<'_>, n: Option<i32>) -> Result
         model.iteration (seen element.now) n arguments frames.now.running) result }
     ensures fits { IfOk result (FitsIn frames.now.running) }
 {
-    match n {
-        None => Ok(Way::Into(Loop {
-            start: element.next,
-            turns: None,
-        })),
-        Some(n) if n > 0 => Ok(Way::Into(Loop {
-            start: element.next,
-            turns: Some(n.unsigned_abs() - 1),
-        })),
-        Some(_) => jump(element, frames, Code::Utc),
+    let start = element.next;
+    let Some(n) = n else {
+        return Ok(Way::Into(Loop { start, turns: None }));
+    };
+    match later_turns(n) {
+        None => jump(element, frames, Code::Utc),
+        turns => Ok(Way::Into(Loop { start, turns })),
     }
 }
 

@@ -111,7 +111,11 @@ pub fn seek<T: TextStore>(
     }
     let colon = element.colons > 0 || leaves_at(frames.text(), element.next);
     let taken = arguments.take()?;
-    match (search(alloc, editor, kind, element, taken)?, colon) {
+    let finding = match search(alloc, editor, kind, element, taken) {
+        Ok(finding) => finding,
+        Err(stuck) => return Err(stuck),
+    };
+    match (finding, colon) {
         (Finding::Found, true) => {
             arguments.value(-1)?;
             Ok(way::to(element.next))
