@@ -1,7 +1,8 @@
 //! Sessions: command strings from a reader, and what they type to a writer.
-ghost use Rattle.std.specs.Prelude.{◌≡◌, ◌++◌, [], IfOk};
+ghost use Rattle.std.specs.Prelude.{◌≡◌, ◌≤◌, ◌++◌, [], length, IfOk};
 ghost use Rattle.std.specs.List.{list_all};
 ghost use Rattle.teco_base.specs.Bytes as byte;
+ghost use Rattle.teco_base.specs.declared.TheConstants.{LIMIT};
 ghost use Rattle.teco_model.specs.Session.{rest_code, code_of, code_line, is_code};
 ghost use Rattle.teco_model.specs.State.{world_of};
 ghost use Rattle.teco_session.specs.Answers.{Answers};
@@ -97,6 +98,7 @@ fn answer<T: TextStore, W: Write>(
     writer: &mut W,
     limit: u64,
 ) -> Result<bool, SessionFault>
+    requires { length bytes.now ≤ LIMIT }
     ensures { Answers limit piece bytes.now (world_of machine.old) (world_of machine.new)
         (W.contents writer.old) (W.contents writer.new) result }
 {
