@@ -43,7 +43,7 @@ impl Reading<'_> {
     }
 }
 
-/// The place where reading goes on behind a fault: one byte is passed, but what is cut off is the end of the text.
+/// Behind a fault one byte is passed; an element that is cut off is the end of the text.
 fn place_behind(code: Code, place: usize, text: &[u8]) -> usize
     requires { place < length text.now }
     ensures value { result ≡ model.place_behind code place text.now }

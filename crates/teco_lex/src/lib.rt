@@ -12,7 +12,7 @@ mod texts;
 pub use ahead::{Reading, read_ahead};
 pub use blanks::blank_end;
 pub use reader::element;
-pub use skips::{bracket, route_of, skip, tag_bracket};
+pub use skips::{bracket, route_of, skip, tag_skip};
 pub use teco_model::{Element, Skip};
 
 #[cfg(test)]

@@ -26,7 +26,7 @@ pub fn bracket(pairs: Pairs, kind: &Kind) -> Bracket
 }
 
 /// What an element is to a skip to a tag.
-pub fn tag_bracket(tag: &[u8], element: &Element) -> Bracket
+fn tag_bracket(tag: &[u8], element: &Element) -> Bracket
     ensures { result ≡ model.tag_bracket tag.now element.now.kind element.now.text.now }
 {
     match &element.kind {
@@ -61,7 +61,7 @@ pub fn route_of(kind: &Kind) -> Route
     }
 }
 
-/// How many inner pairs are open behind a bracket; `None` where a skip from inside so many ends there.
+/// How many inner pairs are open behind a bracket; `None` where the skip ends there.
 fn inner_behind(bracket: Bracket, inner: usize) -> Option<usize>
     requires { inner < usize.MAX }
     ensures value { result ≡ model.inner_behind bracket inner }
@@ -96,7 +96,7 @@ fn pair_end(pairs: Pairs, text: &[u8], at: usize) -> Option<usize>
 }
 
 /// Past the next tag that stands in no iteration opened on the way.
-fn tag_skip(tag: &[u8], text: &[u8], at: usize) -> Skip
+pub fn tag_skip(tag: &[u8], text: &[u8], at: usize) -> Skip
     requires short { length text.now ≤ LIMIT }
     requires inside { at ≤ length text.now }
     ensures value { result ≡ model.tag_skip tag.now 0 0 (readings text.now at) }
@@ -122,8 +122,10 @@ fn tag_skip(tag: &[u8], text: &[u8], at: usize) -> Skip
     Skip { to: None, leaves }
 }
 
-/// Where the element at a place jumps ahead. It reads on once, as far as it skips; but where a fault stands in a run of
-/// modifiers, the rest of that run is read again from each of its bytes.
+/// Where the element at a place jumps ahead.
+///
+/// It reads on once, as far as it skips. But where a fault stands in a run of modifiers, the rest of that run is read again
+/// from each of its bytes: a run of n, which has no use beyond three, costs as n * n.
 pub fn skip(text: &[u8], at: usize) -> Skip
     requires short { length text.now ≤ LIMIT }
     requires inside { at ≤ length text.now }

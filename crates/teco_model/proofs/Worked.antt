@@ -1,6 +1,9 @@
 use Rattle.std.proofs.Common.{refl}
 use Rattle.std.specs.Fmt.{digits}
 use Rattle.std.specs.Int.{int_wrap}
+use Rattle.teco_model.specs.Ahead.{reading_at, first_readings, readings}
+use Rattle.teco_model.specs.Match.{here}
+use Rattle.teco_model.specs.Pattern.{part_at, parts_within, parts}
 use Rattle.teco_model.specs.Element.{blank_len, element_from, element_at}
 use Rattle.teco_model.specs.Registers.{empty_pairs}
 use Rattle.teco_model.specs.Letters.{letters}
@@ -9,7 +12,7 @@ use Rattle.teco_model.specs.Run.{run}
 use Rattle.teco_model.specs.Rows.{WorkedRows}
 
 pub worked_rows : WorkedRows
-unfolding digits int_wrap empty_pairs blank_len element_from element_at letters outcome_of step run
+unfolding digits int_wrap empty_pairs blank_len element_from element_at letters reading_at first_readings readings here part_at parts_within parts outcome_of step run
 worked_rows = record {
   left_to_right = refl;
   wraps = refl;
@@ -54,6 +57,15 @@ worked_rows = record {
   calls = refl;
   returns = refl;
   cut_off_in_macro = refl;
+  replaces_all = refl;
+  misses = refl;
+  leaves_by_a_miss = refl;
+  other_branch = refl;
+  fault_is_passed = refl;
+  leaves_by_a_tag = refl;
+  outside_an_iteration = refl;
+  no_tag_ahead = refl;
+  open_at_the_end = refl;
   two_steps = refl;
   five_steps = refl;
   six_steps = refl;

@@ -51,6 +51,10 @@ with_number_of_A n world =
 abbrev pub with_mode : ℤ → World → World
 with_mode n world = world_of (record world.kept { mode = n })
 
+-- another last search text
+abbrev pub with_search_text : List ℕ → World → World
+with_search_text text world = world_of (record world.kept { search_text = text })
+
 -- each row's outcome
 pub record WorkedRows : Type 0 where
   -- arithmetic and parentheses
@@ -107,6 +111,24 @@ pub record WorkedRows : Type 0 where
   pub calls : after 9 (codes "@^UA/+1/2MA=") ≡ End (with_text_of_A (codes "+1") (world_with [] 0 0 (line (codes "3"))))
   pub returns : after 5 (codes "@^UA//MA") ≡ End (with_text_of_A [] (world_with [] 0 0 []))
   pub cut_off_in_macro : after 2 (codes "@^UA/Ifoo/MA") ≡ Fail code.Utm (with_text_of_A (codes "Ifoo") (world_with [] 0 0 []))
+  -- searches: all matches are replaced, a miss outside an iteration, and one that leaves it
+  pub replaces_all :
+      after 15 (then (then (then (codes "Iabcabc") (codes "J<FSb")) (codes "XX")) (codes ";>HT"))
+      ≡ End (with_search_text (codes "b") (world_with (codes "aXXcaXXc") 0 2 (codes "aXXcaXXc")))
+  pub misses : after 0 (codes "Sfoo") ≡ Fail code.Srh (with_search_text (codes "foo") (world_with [] 0 0 []))
+  pub leaves_by_a_miss :
+      after 12 (then (then (codes "Ixa") (codes "J<Sa")) (codes "1=>2="))
+      ≡ End (with_search_text (codes "a")
+      (world_with (codes "xa") 0 1 (line (codes "1") ++ line (codes "%SRH") ++ line (codes "2"))))
+  -- iterations, conditionals and tags
+  pub other_branch : after 7 (codes "0\"G2=|3='") ≡ End (world_with [] 0 0 (line (codes "3")))
+  pub fault_is_passed : after 6 (codes "0\"N(?@I/'/'3=") ≡ End (world_with [] 0 0 (line (codes "3")))
+  pub leaves_by_a_tag :
+      after 9 (then (codes "3<%A=Oout") (codes ">!out!QA="))
+      ≡ End (with_number_of_A (pos 1) (world_with [] 0 0 (line (codes "1") ++ line (codes "1"))))
+  pub outside_an_iteration : after 0 (codes ">") ≡ Fail code.Bni (world_with [] 0 0 [])
+  pub no_tag_ahead : after 1 (codes "!a!Oa") ≡ Fail code.Tag (world_with [] 0 0 [])
+  pub open_at_the_end : after 5 (codes "<1=") ≡ Fail code.Utc (world_with [] 0 0 (line (codes "1")))
   -- after two steps and after five the end is not reached, and after six it is
   pub two_steps : run 2 (start_of (codes "1=2=")) ≡ Next (record { world = world_with [] 0 0 (line (codes "1")); arguments = no_arguments; frames = record { running = record { text = then (codes "1=2=") (ESC ∷ []); place = 2; loops = [] }; callers = [] }; left = None })
   pub five_steps : after 5 (codes "1=2=") ≡ Next (record { world = world_with [] 0 0 (line (codes "1") ++ line (codes "2")); arguments = no_arguments; frames = record { running = record { text = then (codes "1=2=") (ESC ∷ []); place = 6; loops = [] }; callers = [] }; left = None })

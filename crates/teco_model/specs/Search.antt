@@ -1,5 +1,5 @@
 -- S and FS look for a text in the buffer.
-use Rattle.std.specs.Prelude.{ℕ, ℤ, zero, suc, pos, negsuc, ◌+◌, ◌-◌, List, [], ◌∷◌, length, Bool, not, Option, Some, None, Result, Ok, Err, nat_le, if◌then◌else◌, unwrap_or}
+use Rattle.std.specs.Prelude.{ℕ, ℤ, suc, pos, negsuc, ◌+◌, ◌-◌, List, [], ◌∷◌, length, not, Option, Some, None, Result, Ok, Err, nat_le, if◌then◌else◌, unwrap_or}
 use Rattle.teco_base.specs.declared.TheConstants.{LIMIT}
 use Rattle.teco_base.specs.declared.code.Code.{Code}
 use Rattle.teco_base.specs.declared.code.Code.TheVariants as code
@@ -83,4 +83,4 @@ search s e taken kept = do
   n ← count_of taken.first taken.value
   pattern ← pattern_of (search_text_of e.text kept) kept
   finding_of s e (match_of pattern e.colons n kept.text kept.pointer)
-    (record kept { search_text = search_text_of e.text kept })
+      (record kept { search_text = search_text_of e.text kept })

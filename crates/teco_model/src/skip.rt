@@ -38,7 +38,7 @@ pub enum Route {
 /// Where an element jumps ahead, and how many iterations that leaves.
 #[derive(Clone, Copy)]
 pub struct Skip {
-    /// The place where execution goes on; `None` where the text ends first, and for what never jumps ahead.
+    /// The place where execution goes on; `None` where the text ends first, and for what never jumps.
     pub to: Option<usize>,
     /// How many open iterations are left.
     pub leaves: u32,

@@ -1,18 +1,18 @@
 -- Searches that are refused, and where want of memory may come in the place of one.
-use Rattle.std.proofs.Common.{◌≡◌, ◌≢◌, ◌⊎◌, inl, inr, ℕ, List, [], ◌∷◌, Bool, true, false, Result, Ok, Err, Option, Some, None, refl, sym, ap, ◌∙◌}
+use Rattle.std.proofs.Common.{◌≡◌, ◌≢◌, ◌⊎◌, inl, inr, ℕ, List, [], ◌∷◌, Bool, true, false, Result, Ok, Err, Option, Some, None, refl}
 use Rattle.std.specs.Option.{ok_or}
 use Rattle.std.specs.Prelude.{IsOk}
 use Rattle.teco_base.specs.declared.code.Code.{Code}
 use Rattle.teco_base.specs.declared.code.Code.TheVariants as code
-use Rattle.teco_model.specs.Arguments.{Arguments, no_arguments, arguments_of}
+use Rattle.teco_model.specs.Arguments.{Arguments, arguments_of}
 use Rattle.teco_model.specs.Checked.{◌>>=◌}
 use Rattle.teco_model.specs.Ahead.{Whole}
 use Rattle.teco_model.specs.Element.{Element}
-use Rattle.teco_model.specs.Flow.{Turn, turn_to, turn_along}
+use Rattle.teco_model.specs.Flow.{Turn}
 use Rattle.teco_model.specs.Memory.{MayGiveWay}
 use Rattle.teco_model.specs.Search.{Finding, Found, Missed, search}
 use Rattle.teco_model.specs.Skip.{skip_of}
-use Rattle.teco_model.specs.State.{Kept, Frame, Frames, State, Fail, world_of}
+use Rattle.teco_model.specs.State.{Kept, Frame, Frames, Fail, world_of}
 use Rattle.teco_model.specs.Step as model
 use Rattle.teco_model.specs.declared.arguments.Taken.{Taken}
 use Rattle.teco_model.specs.declared.flow.Loop.{Loop}
@@ -21,7 +21,6 @@ use Rattle.teco_model.specs.declared.kind.Search.{Search}
 use Rattle.teco_model.specs.declared.kind.Search.TheVariants as search_kind
 use Rattle.teco_run.specs.Frames.{state_of}
 use Rattle.teco_run.specs.Seeks.{Seeks, search_outcome}
-use Rattle.teco_run.specs.declared.way.Way.{Way}
 use Rattle.teco_search.specs.Searches.{Searches}
 use Rattle.teco_step.specs.declared.stuck.Stuck.{Stuck}
 use Rattle.teco_step.specs.declared.stuck.Stuck.TheVariants as stuck

@@ -110,11 +110,7 @@ fn end_turn(element: &Element<'_>, frames: &Frames<'_>) -> Result<Way, Code>
 }
 
 // `;` leaves the iteration, or goes on.
-fn leave(
-    element: &Element<'_>,
-    frames: &Frames<'_>,
-    arguments: &mut Args,
-) -> Result<Way, Stuck>
+fn leave(element: &Element<'_>, frames: &Frames<'_>, arguments: &mut Args) -> Result<Way, Stuck>
     requires { IsRead element.now frames.now }
     ensures way { Turns frames.now.running arguments.new
         (model.leaving (seen element.now) frames.now.running.loops arguments.old frames.now.running) result }
@@ -155,11 +151,7 @@ fn decide(
 }
 
 // `O` goes to a tag.
-fn go_to(
-    element: &Element<'_>,
-    frames: &Frames<'_>,
-    arguments: &mut Args,
-) -> Result<Way, Stuck>
+fn go_to(element: &Element<'_>, frames: &Frames<'_>, arguments: &mut Args) -> Result<Way, Stuck>
     requires { IsRead element.now frames.now }
     ensures way { Turns frames.now.running arguments.new
         (model.turn_of flow_kind.GoTo (seen element.now) arguments.old frames.now.running) result }

@@ -45,7 +45,7 @@ fn answer_miss<T: TextStore>(
     requires taken { arguments.old.level ≡ empty_level }
     ensures outcome { Seeks frames.now editor.old editor.new arguments.new
         (model.miss_outcome true (seen element.now) (kept_by_miss (seen element.now) editor.old)
-            (state_of frames.now editor.old arguments.old)) result }
+        (state_of frames.now editor.old arguments.old)) result }
     ensures fits { IfOk result (FitsIn frames.now.running) }
     ensures out { IfOk result (λ way. is_into way ≡ false) }
 {
@@ -69,7 +69,7 @@ fn leave_by_miss<T: TextStore>(
     requires { IsRead element.now frames.now }
     ensures outcome { Seeks frames.now editor.old editor.new arguments.new
         (model.miss_outcome false (seen element.now) (kept_by_miss (seen element.now) editor.old)
-            (state_of frames.now editor.old arguments.old)) result }
+        (state_of frames.now editor.old arguments.old)) result }
     ensures fits { IfOk result (FitsIn frames.now.running) }
     ensures out { IfOk result (λ way. is_into way ≡ false) }
 {
@@ -102,7 +102,7 @@ pub fn seek<T: TextStore>(
     requires { IsRead element.now frames.now }
     ensures outcome { Seeks frames.now editor.old editor.new arguments.new
         (search_outcome kind (seen element.now)
-            (state_of frames.now editor.old arguments.old)) result }
+        (state_of frames.now editor.old arguments.old)) result }
     ensures fits { IfOk result (FitsIn frames.now.running) }
     ensures out { IfOk result (λ way. is_into way ≡ false) }
 {

@@ -19,6 +19,14 @@ type Row = (
     usize,
 );
 
+// Runs a command string, which is no longer than one may be.
+fn run(machine: &mut Machine<VecText>, command: &[u8], limit: u64) -> Stop {
+    if command.len() > LIMIT {
+        return Stop::Limit;
+    }
+    machine.run(command, limit)
+}
+
 // The steps of a run that came to its end, or the code that is typed.
 fn answer(stop: Stop) -> Result<u64, Code> {
     match stop {
@@ -38,7 +46,7 @@ fn expect_text(rt: &impl Abort, machine: &Machine<VecText>, text: &[u8]) {
 
 #[test]
 fn rows_of_commands(rt: HostRuntime) -> Result<(), Fail> {
-    let rows: [Row; 8] = [
+    let rows: [Row; 11] = [
         (
             b"Iabc\x1bJ1D2+3*4=HT\x1b\x1b",
             100,
@@ -66,15 +74,32 @@ fn rows_of_commands(rt: HostRuntime) -> Result<(), Fail> {
         (b"Iab\x1b-3D\x1b\x1b", 100, Err(Code::Dtb), b"", b"ab", 2),
         (b"@^UA/+1/2MA=Q0-1\x1b\x1b", 100, Ok(12), b"3\r\n", b"", 0),
         (b"@^UA/MA/MA\x1b\x1b", 50, Err(Code::Lim), b"", b"", 0),
+        (
+            b"Iabcabc\x1bJ<FSb\x1bXX\x1b;>HT\x1b\x1b",
+            100,
+            Ok(15),
+            b"aXXcaXXc",
+            b"aXXcaXXc",
+            0,
+        ),
+        (
+            b"Iab\x1bSb\x1bSa\x1b\x1b",
+            100,
+            Err(Code::Srh),
+            b"",
+            b"ab",
+            0,
+        ),
+        (b"<1=\x1b\x1b", 10, Err(Code::Utc), b"1\r\n", b"", 0),
         (b"1=2=\x1b\x1b", 5, Err(Code::Lim), b"1\r\n2\r\n", b"", 0),
         (b"1=2=\x1b\x1b", 6, Ok(6), b"1\r\n2\r\n", b"", 0),
     ];
     for (command, limit, want, typed, text, dot) in rows {
         let mut machine = Machine::new(rt.alloc(), VecText::new(rt.alloc()));
-        let mut got = answer(machine.run(command, limit));
+        let mut got = answer(run(&mut machine, command, limit));
         if got == Err(Code::Mem) {
             machine = Machine::new(rt.alloc(), VecText::new(rt.alloc()));
-            got = answer(machine.run(command, limit));
+            got = answer(run(&mut machine, command, limit));
         }
         assert_eq!(rt; got, want);
         assert_eq!(rt; machine.take_typed().as_slice(), typed);
@@ -110,9 +135,9 @@ fn load(machine: &mut Machine<VecText>, texts: [Option<&[u8]>; 36]) -> Result<()
 fn registers_are_shown_and_loaded(rt: HostRuntime) {
     let mut machine = Machine::new(rt.alloc(), VecText::new(rt.alloc()));
     let command = b"Iab\x1b5U9^UBcde\x1b[B\x1b\x1b";
-    if let Stop::Memory = machine.run(command, 100) {
+    if let Stop::Memory = run(&mut machine, command, 100) {
         machine = Machine::new(rt.alloc(), VecText::new(rt.alloc()));
-        machine.run(command, 100);
+        run(&mut machine, command, 100);
     }
     assert_eq!(rt; machine.regs().number(register(b'9')), 5);
     assert_eq!(rt; machine.regs().text(register(b'B')), b"cde".as_slice());
@@ -127,8 +152,8 @@ fn registers_are_shown_and_loaded(rt: HostRuntime) {
     assert_eq!(rt; machine.held(), 16);
     assert_eq!(rt; machine.regs().text(register(b'B')), b"cde".as_slice());
     assert_eq!(rt; machine.regs().text(register(b'9')), b"ninth".as_slice());
-    if let Stop::Memory = machine.run(b"MA", 100) {
-        machine.run(b"MA", 100);
+    if let Stop::Memory = run(&mut machine, b"MA", 100) {
+        run(&mut machine, b"MA", 100);
     }
     assert_eq!(rt; machine.take_typed().as_slice(), b"6\r\n".as_slice());
 }

@@ -47,13 +47,7 @@ fn stuck(fault: FindFault) -> Stuck
 }
 
 // The match that is sought in a text of two pieces.
-fn find(
-    pattern: &Pattern,
-    text: (&[u8], &[u8]),
-    dot: usize,
-    colons: u8,
-    n: i32,
-) -> Option<Span>
+fn find(pattern: &Pattern, text: (&[u8], &[u8]), dot: usize, colons: u8, n: i32) -> Option<Span>
     requires nonzero { n ≢ pos 0 }
     requires dot { dot ≤ length (joined text) }
     ensures value { result ≡ model.match_of pattern.now colons n (joined text.entry) dot }
@@ -95,7 +89,7 @@ fn settle<T: TextStore>(
     requires { IsPart editor.old.text found.start found.end }
     ensures { Searches element.now.text.now editor.old editor.new
         (model.finding_of search (seen element.now) (Some found)
-            (record editor.old { search_text = model.search_text_of element.now.text.now editor.old })) result }
+        (record editor.old { search_text = model.search_text_of element.now.text.now editor.old })) result }
 {
     match search {
         Search::Find | Search::FindInPages => {

@@ -4,3 +4,6 @@
 mod finding;
 
 pub use finding::{Finding, search};
+
+#[cfg(test)]
+mod tests;

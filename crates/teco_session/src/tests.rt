@@ -1,4 +1,8 @@
 //! Sessions over memory. Expected bytes are worked by hand from the rules.
+mod flow;
+mod malformed;
+mod searches;
+
 use crate::{CHUNK, Done, SessionFault, session};
 use std::alloc::Global;
 use std::io;

@@ -61,9 +61,9 @@ impl<T: TextStore> Editor<T> {
     /// or nothing.
     pub fn miss(&mut self, text: &[u8], message: &[u8]) -> Result<(), AllocError>
         ensures missed { OnOk result (self.new ≡ record self.old {
-            pointer = 0;
-            search_text = model.search_text_of text.now self.old;
-            typed = self.old.typed ++ message.now;
+          pointer = 0;
+          search_text = model.search_text_of text.now self.old;
+          typed = self.old.typed ++ message.now;
         }) }
         ensures err { OnErr result (self.new ≡ self.old) }
     {

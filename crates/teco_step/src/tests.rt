@@ -5,8 +5,8 @@ use std::process::Abort;
 use std::test::Fail;
 use teco_base::Reg;
 use teco_model::kind::{Command, Insertion, Motion, Query, Radix, Stack, Storage, Typing, Unit};
-use teco_model::{Element, Kind, Taken};
-use teco_text::VecText;
+use teco_model::{Element, Kind, Span, Taken};
+use teco_text::{TextStore, VecText};
 
 // A command with its colons, its text and its arguments, and what it answers.
 type Row = (
@@ -449,5 +449,42 @@ fn numbers_in_the_text(rt: HostRuntime) -> Result<(), Fail> {
     }
     assert_eq!(rt; editor.character(-17), 45);
     assert_eq!(rt; editor.character(-18), -1);
+    Ok(())
+}
+
+// What searches leave; a call that is refused memory is made once more.
+#[test]
+fn searches_leave_their_text(rt: HostRuntime) -> Result<(), Fail> {
+    let mut store = VecText::new(rt.alloc());
+    if store.insert(b"abcab").is_err() {
+        store.insert(b"abcab").expect(&rt, "memory");
+    }
+    let mut editor = Editor::new(rt.alloc(), store);
+    if editor.keep_search_text(b"bc").is_err() {
+        editor.keep_search_text(b"bc").expect(&rt, "memory");
+    }
+    assert!(rt; editor.keep_search_text(b"").is_ok());
+    assert_eq!(rt; editor.search_text(), &b"bc"[..]);
+    assert_eq!(rt; editor.mode(), 0);
+    if editor.size() < 3 {
+        return Ok(());
+    }
+    editor.go_behind(Span { start: 1, end: 3 });
+    expect_text(&rt, &editor, b"abcab", 3);
+    assert_eq!(rt; editor.last_length(), 2);
+    let found = Span { start: 0, end: 2 };
+    if editor.replace(found, b"XYZ", b"ab").is_err() && editor.size() >= 2 {
+        editor
+            .replace(found, b"XYZ", b"ab")
+            .map_err(|_| ())
+            .expect(&rt, "memory");
+    }
+    expect_text(&rt, &editor, b"XYZcab", 3);
+    assert_eq!(rt; editor.search_text(), &b"ab"[..]);
+    if editor.miss(b"q", b"no").is_err() {
+        editor.miss(b"q", b"no").expect(&rt, "memory");
+    }
+    expect_text(&rt, &editor, b"XYZcab", 0);
+    assert_eq!(rt; editor.take_typed().as_slice(), &b"no"[..]);
     Ok(())
 }

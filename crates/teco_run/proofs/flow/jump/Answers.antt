@@ -1,6 +1,4 @@
-use Rattle.std.proofs.Common.{◌∙◌, sym}
 use Rattle.teco_model.specs.Element.{seen}
-use Rattle.teco_model.specs.Skip.{skip_at}
 use Rattle.teco_run.proofs.Turns.{jump_some, jump_none}
 use Rattle.teco_run.proofs.flow.jump.Goals as goal
 
