@@ -1,6 +1,7 @@
 //! Sessions over memory. Expected bytes are worked by hand from the rules.
 mod flow;
 mod malformed;
+mod manual;
 mod searches;
 
 use crate::{CHUNK, Done, SessionFault, session};
