@@ -14,7 +14,6 @@ use crate::way::{self, Way};
 use teco_base::Code;
 use teco_base::bytes::{is_digit, is_letter, is_letter_or_digit, is_lower, is_symbol, is_upper};
 use teco_expr::Args;
-use teco_lex::skip;
 use teco_model::kind::{Flow, Test};
 use teco_model::{Element, Loop};
 use teco_step::Stuck;
@@ -27,7 +26,7 @@ pub fn jump(element: &Element<'_>, frames: &Frames<'_>, code: Code) -> Result<Wa
     ensures fits { IfOk result (FitsIn frames.now.running) }
     ensures out { IfOk result (λ way. is_into way ≡ false) }
 {
-    let skip = skip(frames.text(), frames.place());
+    let skip = frames.skip();
     match skip.to {
         Some(place) => Ok(Way::To {
             place,

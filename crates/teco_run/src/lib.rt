@@ -2,9 +2,11 @@
 #![tactic(auto)]
 
 mod arguments;
+mod body;
 mod flow;
 mod frames;
 mod machine;
+mod macros;
 mod perform;
 mod seek;
 mod way;

@@ -4,10 +4,8 @@ use Rattle.teco_run.proofs.flow.jump.Goals as goal
 
 pub returns-in-Some-clause-way : goal.returns-in-Some-clause-way
 returns-in-Some-clause-way c =
-    let skipped = rw (c.text.ensures.value, c.place.ensures.value) at c.skip-skip.ensures.value in
-    jump_some c.args.frames.now.running (seen c.args.element.now) c.requires.read c.skip-skip.result skipped c.args.code c.in-Some.place c.in-Some.is
+    jump_some c.args.frames.now.running (seen c.args.element.now) c.requires.read c.skip-skip.result c.skip-skip.ensures.value c.args.code c.in-Some.place c.in-Some.is
 
 pub returns-in-None-clause-way : goal.returns-in-None-clause-way
 returns-in-None-clause-way c =
-    let skipped = rw (c.text.ensures.value, c.place.ensures.value) at c.skip-skip.ensures.value in
-    jump_none c.args.frames.now.running (seen c.args.element.now) c.requires.read c.skip-skip.result skipped c.args.code c.in-None.is
+    jump_none c.args.frames.now.running (seen c.args.element.now) c.requires.read c.skip-skip.result c.skip-skip.ensures.value c.args.code c.in-None.is
