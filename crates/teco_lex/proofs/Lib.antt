@@ -1,1 +1,3 @@
 pub mod BlankLen
+pub mod FirstByte
+pub mod Modifiers

@@ -3,4 +3,5 @@ pub mod Ahead
 pub mod Blanks
 pub mod Reader
 pub mod Reading
+pub mod Readings
 pub mod Texts

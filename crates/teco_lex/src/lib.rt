@@ -6,12 +6,14 @@ mod blanks;
 mod form;
 mod letters;
 mod reader;
+mod readings;
 mod skips;
 mod texts;
 
 pub use ahead::{Reading, read_ahead};
 pub use blanks::blank_end;
 pub use reader::element;
+pub use readings::Readings;
 pub use skips::{bracket, route_of, skip, tag_skip};
 pub use teco_model::{Element, Skip};
 

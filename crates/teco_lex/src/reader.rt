@@ -29,7 +29,8 @@ fn split_modifiers(bytes: &[u8]) -> (&[u8], &[u8])
     bytes.split_at(len)
 }
 
-fn modifier_len(bytes: &[u8]) -> usize
+/// How many bytes at the front are modifiers.
+pub fn modifier_len(bytes: &[u8]) -> usize
     ensures value { result ≡ prefix_len model.is_modifier bytes.now }
     ensures within { result ≤ length bytes.now }
 {

@@ -5,6 +5,7 @@ ghost use Rattle.teco_model.specs.Ahead.{readings};
 ghost use Rattle.teco_model.specs.Skip as model;
 
 use crate::ahead::{Reading, read_ahead};
+use crate::readings::Readings;
 use teco_model::kind::Flow;
 use teco_model::{Bracket, Element, Kind, Pairs, Route, Skip};
 
@@ -81,14 +82,13 @@ fn pair_end(pairs: Pairs, text: &[u8], at: usize) -> Option<usize>
     ensures value { result ≡ model.pair_end pairs 0 (readings text.now at) }
     ensures within { IfSome result (λ to. to ≤ length text.now) }
 {
-    let mut place = at;
+    let mut ahead = Readings::from(text, at);
     let mut inner = 0;
-    while let Some(reading) = read_ahead(text, place) {
-        place = reading.next();
+    while let Some(reading) = ahead.next() {
         if let Reading::Whole(element) = reading {
             match inner_behind(bracket(pairs, &element.kind), inner) {
                 Some(behind) => inner = behind,
-                None => return Some(place),
+                None => return Some(element.next),
             }
         }
     }
@@ -102,18 +102,17 @@ pub fn tag_skip(tag: &[u8], text: &[u8], at: usize) -> Skip
     ensures value { result ≡ model.tag_skip tag.now 0 0 (readings text.now at) }
     ensures within { IfSome result.to (λ to. to ≤ length text.now) }
 {
-    let mut place = at;
+    let mut ahead = Readings::from(text, at);
     let mut inner = 0;
     let mut leaves = 0;
-    while let Some(reading) = read_ahead(text, place) {
-        place = reading.next();
+    while let Some(reading) = ahead.next() {
         if let Reading::Whole(element) = reading {
             let bracket = tag_bracket(tag, &element);
             match inner_behind(bracket, inner) {
                 Some(behind) => inner = behind,
                 None if matches!(bracket, Bracket::Closes) => leaves += 1,
                 None => return Skip {
-                    to: Some(place),
+                    to: Some(element.next),
                     leaves,
                 },
             }
@@ -124,8 +123,7 @@ pub fn tag_skip(tag: &[u8], text: &[u8], at: usize) -> Skip
 
 /// Where the element at a place jumps ahead.
 ///
-/// It reads on once, as far as it skips. But where a fault stands in a run of modifiers, the rest of that run is read again
-/// from each of its bytes: a run of n, which has no use beyond three, costs as n * n.
+/// It reads on once, as far as it skips.
 pub fn skip(text: &[u8], at: usize) -> Skip
     requires short { length text.now ≤ LIMIT }
     requires inside { at ≤ length text.now }

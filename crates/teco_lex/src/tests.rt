@@ -261,3 +261,44 @@ fn skips_go_past_their_own_brackets(rt: HostRuntime) {
         assert!(rt; is_skip(text, *at, *to, *leaves), "row {i}");
     }
 }
+
+/// A run of modifiers is read in time that grows as its length does.
+#[test]
+fn long_runs_of_modifiers_are_passed(rt: HostRuntime) {
+    let mut text = [b':'; 200_000];
+    for i in (0..200_000).step_by(7) {
+        text[i] = b'@';
+    }
+    text[0] = b'<';
+    text[199_998] = b'=';
+    text[199_999] = b'>';
+    let skip = skip(&text, 0);
+    assert!(rt; skip.to == Some(200_000) && skip.leaves == 0);
+}
+
+/// Where the next reading stands and where it ends, and whether it is ILL.
+fn next_reading(ahead: &mut Readings<'_>) -> Option<(usize, usize, bool)> {
+    let Some(reading) = ahead.next() else {
+        return None;
+    };
+    let ill = matches!(
+        reading,
+        Reading::Faulty {
+            code: Code::Ill,
+            ..
+        }
+    );
+    Some((reading.place(), reading.next(), ill))
+}
+
+/// Each byte of a run is a fault of its own, as long as the modifiers are too many.
+#[test]
+fn faults_in_runs_of_modifiers(rt: HostRuntime) {
+    let mut ahead = Readings::from(b"::@::::@::S/a/=", 0);
+    for place in 0..7 {
+        assert!(rt; next_reading(&mut ahead) == Some((place, place + 1, true)), "at {place}");
+    }
+    assert!(rt; next_reading(&mut ahead) == Some((7, 14, false)));
+    assert!(rt; next_reading(&mut ahead) == Some((14, 15, false)));
+    assert!(rt; next_reading(&mut ahead).is_none());
+}

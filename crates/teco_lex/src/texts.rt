@@ -6,6 +6,7 @@ ghost use Rattle.teco_lex.specs.Reading.{Gives};
 ghost use Rattle.teco_lex.specs.Texts.{texts_seen};
 
 use crate::form::kind_on;
+use memchr::memchr;
 use teco_base::bytes::ESC;
 use teco_base::{Code, Reg};
 use teco_model::{Head, Kind, Texts};
@@ -49,7 +50,7 @@ fn ending(at: bool, byte: u8, bytes: &[u8]) -> Result<(u8, &[u8]), Code>
 fn position_of(byte: u8, bytes: &[u8]) -> Option<usize>
     ensures { result ≡ position (λ b. b == byte) bytes.now }
 {
-    bytes.iter().position(|b| *b == byte)
+    memchr(byte, bytes)
 }
 
 /// A text up to the byte that ends it.

@@ -22,6 +22,14 @@ const ITERATIONS: [Row; 13] = [
     (b"@^UA/3<%B=0;>/2<MA>\x1b\x1b", b"1\r\n2\r\n", b"", 0),
 ];
 
+/// Sessions in which the text of a macro changes between its calls, or while it is executed.
+const CHANGED: [Row; 4] = [
+    (b"@^UA/1=@^UA|2=|/MAMA\x1b\x1b", b"1\r\n2\r\n", b"", 0),
+    (b"@^UA/1=/MA@^UA/2=/MA@^UB/3=/[B]AMA\x1b\x1b", b"1\r\n2\r\n3\r\n", b"", 0),
+    (b"@^UA/1=/MA:@^UA/2=/MA\x1b\x1b", b"1\r\n1\r\n2\r\n", b"", 0),
+    (b"@^UA/1=/MA\x1b\x1bMA@^UA/2=/MA\x1b\x1b", b"1\r\n1\r\n2\r\n", b"", 0),
+];
+
 /// Sessions in which an iteration and a conditional overlap: a skip reads the text, a leave takes what is open.
 const OVERLAPPING: [Row; 7] = [
     (b"2<1=1\"N>'3=\x1b\x1b", b"1\r\n1\r\n3\r\n", b"", 0),
@@ -153,7 +161,7 @@ const REFUSED: [Row; 32] = [
 
 #[test]
 fn flow(rt: HostRuntime) {
-    let tables: [&[Row]; 4] = [&ITERATIONS, &OVERLAPPING, &CONDITIONALS, &TAGS];
+    let tables: [&[Row]; 5] = [&ITERATIONS, &CHANGED, &OVERLAPPING, &CONDITIONALS, &TAGS];
     for table in tables {
         for (i, row) in table.iter().enumerate() {
             expect_row(&rt, rt.alloc(), LIMIT, *row, "done", i);

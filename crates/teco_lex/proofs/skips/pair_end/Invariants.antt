@@ -5,10 +5,11 @@ use Rattle.teco_lex.proofs.skips.pair_end.Given as goal
 
 abbrev pub invariant-loop-reading : goal.invariant-loop-reading
 invariant-loop-reading l = record {
-  within : l.place ≤ length l.text;
-  fits : l.inner ≤ l.place;
-  same : model.pair_end l.pairs l.inner (readings l.text l.place) ≡ model.pair_end l.pairs 0 (readings l.text l.at);
+  text : l.ahead.text ≡ l.text;
+  within : l.ahead.place ≤ length l.text;
+  fits : l.inner ≤ l.ahead.place;
+  same : model.pair_end l.pairs l.inner (readings l.text l.ahead.place) ≡ model.pair_end l.pairs 0 (readings l.text l.at);
 }
 
 abbrev pub decreases-loop-reading : goal.decreases-loop-reading
-decreases-loop-reading l = length l.text - l.place
+decreases-loop-reading l = length l.text - l.ahead.place
