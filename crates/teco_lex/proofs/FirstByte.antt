@@ -1,5 +1,5 @@
 -- The first place of a byte, as memchr tells it.
-use Rattle.std.proofs.Common.{◌≡◌, ℕ, zero, suc, ◌+◌, ◌<◌, ◌≤◌, List, [], ◌∷◌, length, Bool, true, false, cond, not, nat_lt, position, slice_index, Option, Some, None, refl, ap, sym, arith}
+use Rattle.std.proofs.Common.{◌≡◌, ℕ, zero, suc, ◌+◌, ◌<◌, List, [], ◌∷◌, length, Bool, true, false, cond, not, nat_lt, position, Option, Some, None, refl, ap, sym, arith}
 use Rattle.std.specs.List.{position_or_len}
 use Rattle.std.proofs.lemmas.Bool.{le-leb, lt-leb}
 use Rattle.memchr.specs.Find.{IsFirstByte, Passes}

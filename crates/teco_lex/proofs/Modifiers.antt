@@ -9,7 +9,7 @@ use Rattle.teco_base.specs.Bytes.{is_blank, is_among}
 use Rattle.teco_lex.specs.Readings.{IsBehindIll, is_ill}
 use Rattle.teco_model.specs.Checked.{◌>>=◌}
 use Rattle.teco_model.proofs.Ahead.{reading_at-place}
-use Rattle.teco_model.specs.Ahead.{Reading, Whole, Faulty, next_of, place_behind, reading_of, reading_at}
+use Rattle.teco_model.specs.Ahead.{Reading, Faulty, next_of, place_behind, reading_of, reading_at}
 use Rattle.teco_model.specs.Element.{Element, element_at, element_from, blank_end, blank_len, is_blank_pair, is_modifier, colons_in, ats_in, modifiers_refused}
 use Rattle.teco_model.specs.Form.{colons_allowed, colons_of_command, at_allowed}
 use Rattle.teco_model.specs.Letters.{letters}

@@ -296,7 +296,10 @@ fn next_reading(ahead: &mut Readings<'_>) -> Option<(usize, usize, bool)> {
 fn faults_in_runs_of_modifiers(rt: HostRuntime) {
     let mut ahead = Readings::from(b"::@::::@::S/a/=", 0);
     for place in 0..7 {
-        assert!(rt; next_reading(&mut ahead) == Some((place, place + 1, true)), "at {place}");
+        assert!(rt;
+            next_reading(&mut ahead) == Some((place, place + 1, true)),
+            "at {place}"
+        );
     }
     assert!(rt; next_reading(&mut ahead) == Some((7, 14, false)));
     assert!(rt; next_reading(&mut ahead) == Some((14, 15, false)));

@@ -1,4 +1,4 @@
-use Rattle.std.proofs.Common.{◌≡◌, sym, arith}
+use Rattle.std.proofs.Common.{sym, arith}
 use Rattle.teco_lex.proofs.Modifiers.{again, run_inside}
 use Rattle.teco_lex.proofs.readings.Readings.read.Goals as goal
 
