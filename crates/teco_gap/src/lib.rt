@@ -6,3 +6,6 @@ mod gap_text;
 mod moves;
 
 pub use gap_text::GapText;
+
+#[cfg(test)]
+mod tests;
