@@ -65,8 +65,8 @@ impl Block {
         (&self.bytes[..self.gap_start], &self.bytes[self.gap_end..])
     }
 
-    // Makes room for a text of `n` characters. Where there is less, it is doubled, up to `LIMIT`; where so much is
-    // refused, it becomes `n`.
+    // Makes room for a text of `n` characters. Where there is less, it is doubled, up to `LIMIT`, or becomes `n` where that
+    // is more or the double is refused.
     pub(crate) fn reserve(&mut self, n: usize) -> Result<(), AllocError>
         ensures before { self.new.before ≡ self.old.before }
         ensures behind { self.new.behind ≡ self.old.behind }
@@ -75,8 +75,11 @@ impl Block {
         ensures grows { self.old.room ≤ self.new.room }
     {
         let room = self.bytes.capacity();
+        if n <= room {
+            return Ok(());
+        }
         let doubled = room.saturating_mul(2).min(LIMIT);
-        if self.grow_to(n.max(doubled)).is_ok() {
+        if n < doubled && self.grow_to(doubled).is_ok() {
             return Ok(());
         }
         self.grow_to(n)

@@ -40,6 +40,16 @@ impl Pair {
         assert_eq!(rt; self.front_len(), cut);
     }
 
+    // The text has this part at a place.
+    fn expect_part(&mut self, rt: &impl Abort, part: &[u8], at: usize) {
+        let end = at.saturating_add(part.len());
+        self.out.clear();
+        if self.gap.copy_range(at, end, &mut self.out).is_err() {
+            assert!(rt; self.gap.copy_range(at, end, &mut self.out).is_ok());
+        }
+        assert_eq!(rt; self.out.as_slice(), part);
+    }
+
     fn len(&self) -> usize {
         self.plain.len()
     }
@@ -86,9 +96,7 @@ fn parts_and_lines_at_each_cut(rt: HostRuntime) -> Result<(), Fail> {
         let n = b as i64 - 4;
         assert_eq!(rt; line_place(&pair.gap, n), line_place(&pair.plain, n));
         if a <= b {
-            pair.out.clear();
-            pair.gap.copy_range(a, b, &mut pair.out)?;
-            assert_eq!(rt; pair.out.as_slice(), &text[a..b]);
+            pair.expect_part(&rt, &text[a..b], a);
         }
     }
     Ok(())
