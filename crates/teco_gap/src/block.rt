@@ -65,8 +65,8 @@ impl Block {
         (&self.bytes[..self.gap_start], &self.bytes[self.gap_end..])
     }
 
-    // Makes room for a text of `n` characters. Where there is less, it is doubled, up to `LIMIT`, or becomes `n` where that
-    // is more or the double is refused.
+    // Makes room for a text of `n` characters. Where there is less, it is doubled, up to `LIMIT`, or becomes `n` where
+    // that is more or the double is refused.
     pub(crate) fn reserve(&mut self, n: usize) -> Result<(), AllocError>
         ensures before { self.new.before ≡ self.old.before }
         ensures behind { self.new.behind ≡ self.old.behind }

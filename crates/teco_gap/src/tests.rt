@@ -1,5 +1,5 @@
-// Rows of calls on either store, with what each answers and leaves. A call that is refused memory is made once more, so that
-// the rows also hold where one allocation fails.
+// Rows of calls on either store, with what each answers and leaves. A call that is refused memory is made once more, so
+// that the rows also hold where one allocation fails.
 mod alike;
 
 use crate::GapText;
