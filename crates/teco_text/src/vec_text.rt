@@ -175,6 +175,3 @@ fn overwrite(text: &mut Vec<u8>, at: usize, new: &[u8])
 {
     text[at..at + new.len()].copy_from_slice(new);
 }
-
-#[cfg(test)]
-mod tests;

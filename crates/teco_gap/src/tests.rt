@@ -1,8 +1,11 @@
-// Rows of calls on one store, with what each answers and leaves. A call that is refused memory is made once more, so that
-// the rows also hold where one allocation fails.
-use super::*;
+// Rows of calls on either store, with what each answers and leaves. A call that is refused memory is made once more, so
+// that the rows also hold where one allocation fails.
+mod alike;
+
+use crate::GapText;
 use std::process::Abort;
 use std::test::Fail;
+use teco_text::{TextFault, TextStore, VecText};
 
 #[derive(Clone, Copy)]
 enum Call {
@@ -78,7 +81,6 @@ fn expect_rows<T: TextStore>(
 
 #[test]
 fn calls_in_turn(rt: HostRuntime) -> Result<(), Fail> {
-    let mut store = VecText::new(rt.alloc());
     let rows: [(Call, &'static str, &'static [u8], usize); 14] = [
         (Call::Insert(b"ab"), "ok", b"ab", 2),
         (Call::Delete(1, 3), "off", b"ab", 2),
@@ -96,6 +98,7 @@ fn calls_in_turn(rt: HostRuntime) -> Result<(), Fail> {
         (Call::Delete(3, 4), "ok", b"a14", 3),
     ];
     let mut out = Vec::new(rt.alloc());
-    expect_rows(&rt, &mut store, &rows, &mut out);
+    expect_rows(&rt, &mut VecText::new(rt.alloc()), &rows, &mut out);
+    expect_rows(&rt, &mut GapText::new(rt.alloc()), &rows, &mut out);
     Ok(())
 }

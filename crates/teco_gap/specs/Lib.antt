@@ -1,0 +1,2 @@
+-- What a block with a gap shows.
+pub mod Gapped
