@@ -10,7 +10,7 @@ use std::process::ExitCode;
 use std::{env, io};
 use teco_run::Machine;
 use teco_session::{SessionFault, session};
-use teco_text::VecText;
+use teco_gap::GapText;
 
 /// A code was typed.
 const CODED: u8 = 1;
@@ -20,7 +20,7 @@ const FAILED: u8 = 2;
 
 // Runs a session from standard input to standard output.
 fn run<R: Input + Print>(rt: &R, alloc: Global, limit: u64) -> Result<ExitCode, SessionFault> {
-    let mut machine = Machine::new(alloc, VecText::new(alloc));
+    let mut machine = Machine::new(alloc, GapText::new(alloc));
     let mut reader = rt.reader();
     let mut writer = io::writer(rt);
     let done = session(alloc, &mut machine, &mut reader, &mut writer, limit)?;

@@ -14,7 +14,7 @@ pub use ahead::{Reading, read_ahead};
 pub use blanks::blank_end;
 pub use reader::element;
 pub use readings::Readings;
-pub use skips::{bracket, route_of, skip, tag_skip};
+pub use skips::{bracket, route_of, skip};
 pub use teco_model::{Element, Skip};
 
 #[cfg(test)]
