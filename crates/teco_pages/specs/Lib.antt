@@ -1,0 +1,3 @@
+-- The words that the contracts of this crate are written in.
+pub mod HostFiles
+pub mod HostCalls
