@@ -1,3 +1,7 @@
 -- The words that the contracts of this crate are written in.
-pub mod HostFiles
+pub mod Copying
+pub mod Held
 pub mod HostCalls
+pub mod HostFiles
+pub mod PageCalls
+pub mod Reading

@@ -1,0 +1,7 @@
+pub mod Copied
+pub mod Cuts
+pub mod Reading
+pub mod Ready
+pub mod Rest
+pub mod Shifted
+pub mod Written
