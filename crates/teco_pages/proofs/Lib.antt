@@ -1,5 +1,6 @@
 pub mod Copied
 pub mod Cuts
+pub mod Named
 pub mod Reading
 pub mod Ready
 pub mod Rest

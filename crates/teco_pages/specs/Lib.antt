@@ -3,5 +3,6 @@ pub mod Copying
 pub mod Held
 pub mod HostCalls
 pub mod HostFiles
+pub mod MemFiles
 pub mod PageCalls
 pub mod Reading

@@ -1,7 +1,8 @@
 // A number that only contracts see.
-ghost use Rattle.std.specs.Prelude.{◌≡◌, ℕ, suc};
+ghost use Rattle.std.specs.Prelude.{◌≡◌, ℕ, suc, IsErr};
 ghost use Rattle.std.specs.Borrow.{ftrue};
 
+use crate::fault::Failed;
 use std::marker::{Model, PhantomData};
 
 // How often something has happened. It takes no memory, does nothing when it runs, and has no last value.
@@ -29,4 +30,13 @@ impl Count {
     pub fn rise(&mut self)
         ensures { self.new.value ≡ suc self.old.value }
     {}
+
+    // Counts a failure, and answers it.
+    pub fn failed<T>(&mut self) -> Result<T, Failed>
+        ensures failed { IsErr result }
+        ensures counted { self.new.value ≡ suc self.old.value }
+    {
+        self.rise();
+        Err(Failed)
+    }
 }

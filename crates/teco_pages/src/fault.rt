@@ -2,13 +2,25 @@
 ghost use Rattle.std.specs.Prelude.{◌≡◌};
 ghost use Rattle.teco_pages.specs.declared.fault.Fault.TheVariants.{Memory};
 
-use std::alloc::AllocError;
+use std::alloc::{AllocError, AllocFailed};
 use thiserror::Error;
 
 /// A host's call failed. Its want of memory is such a failure.
 #[derive(Clone, Copy, Debug, Error)]
 #[error("a file could not be used")]
 pub struct Failed;
+
+impl From<AllocError> for Failed {
+    fn from(_refused: AllocError) -> Failed {
+        Failed
+    }
+}
+
+impl<T: Drop> From<AllocFailed<T>> for Failed {
+    fn from(_refused: AllocFailed<T>) -> Failed {
+        Failed
+    }
+}
 
 /// Why a call on pages is refused.
 #[derive(Clone, Copy, Debug, Error)]

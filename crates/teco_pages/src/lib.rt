@@ -5,9 +5,11 @@ mod ahead;
 mod count;
 mod fault;
 mod host;
+mod mem_host;
 mod pages;
 mod write;
 
 pub use fault::{Failed, Fault};
 pub use host::Host;
+pub use mem_host::MemHost;
 pub use pages::Pages;
