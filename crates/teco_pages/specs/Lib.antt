@@ -6,3 +6,4 @@ pub mod HostFiles
 pub mod MemFiles
 pub mod PageCalls
 pub mod Reading
+pub mod TestFiles

@@ -7,9 +7,11 @@ mod fault;
 mod host;
 mod mem_host;
 mod pages;
+mod test_host;
 mod write;
 
 pub use fault::{Failed, Fault};
 pub use host::Host;
 pub use mem_host::MemHost;
 pub use pages::Pages;
+pub use test_host::{HostCall, TestHost};
