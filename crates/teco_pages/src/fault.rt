@@ -3,6 +3,8 @@ ghost use Rattle.std.specs.Prelude.{◌≡◌};
 ghost use Rattle.teco_pages.specs.declared.fault.Fault.TheVariants.{Memory};
 
 use std::alloc::{AllocError, AllocFailed};
+use std::io;
+use std::str::Utf8Error;
 use thiserror::Error;
 
 /// A host's call failed. Its want of memory is such a failure.
@@ -18,6 +20,18 @@ impl From<AllocError> for Failed {
 
 impl<T: Drop> From<AllocFailed<T>> for Failed {
     fn from(_refused: AllocFailed<T>) -> Failed {
+        Failed
+    }
+}
+
+impl From<io::Error> for Failed {
+    fn from(_error: io::Error) -> Failed {
+        Failed
+    }
+}
+
+impl From<Utf8Error> for Failed {
+    fn from(_error: Utf8Error) -> Failed {
         Failed
     }
 }

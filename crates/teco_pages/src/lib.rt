@@ -4,6 +4,7 @@
 mod ahead;
 mod count;
 mod fault;
+mod file_host;
 mod host;
 mod mem_host;
 mod pages;
@@ -11,6 +12,7 @@ mod test_host;
 mod write;
 
 pub use fault::{Failed, Fault};
+pub use file_host::FileHost;
 pub use host::Host;
 pub use mem_host::MemHost;
 pub use pages::Pages;
