@@ -291,3 +291,6 @@ fn finish<R: Files>(rt: &R, output: Option<Unfinished<R::File>>) -> Result<(), F
 fn abandon<R: Files>(rt: &R, output: Unfinished<R::File>) -> io::Result<()> {
     fs::remove_file(rt, &output.beside)
 }
+
+#[cfg(test)]
+mod tests;

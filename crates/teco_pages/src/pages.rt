@@ -263,3 +263,6 @@ fn ending(ff: bool) -> &'static [u8]
 {
     if ff { &[FF] } else { &[] }
 }
+
+#[cfg(test)]
+mod tests;
