@@ -4,20 +4,34 @@ use super::*;
 use std::os::unix::fs::{PermissionsExt, symlink};
 use std::test::Fail;
 
-// An empty folder.
-fn scratch(rt: &HostRuntime, folder: &str) -> Result<(), Fail> {
-    let _gone = fs::remove_dir_all(rt, folder);
-    Ok(fs::create_dir(rt, folder)?)
+fn remove(rt: &HostRuntime, folder: &str) -> io::Result<()> {
+    if fs::remove_dir_all(rt, folder).is_err() {
+        fs::remove_dir_all(rt, folder)?;
+    }
+    Ok(())
 }
 
-// How many names a folder has.
-fn names(rt: &HostRuntime, folder: &str) -> Result<usize, Fail> {
+// An empty folder.
+fn scratch(rt: &HostRuntime, folder: &str) -> io::Result<()> {
+    let _gone = remove(rt, folder);
+    fs::create_dir(rt, folder)
+}
+
+fn count_names(rt: &HostRuntime, folder: &str) -> io::Result<usize> {
     let mut count = 0usize;
     for entry in fs::read_dir(rt, folder)? {
         let _entry = entry?;
         count = count.saturating_add(1);
     }
     Ok(count)
+}
+
+// How many names a folder has.
+fn names(rt: &HostRuntime, folder: &str) -> io::Result<usize> {
+    match count_names(rt, folder) {
+        Ok(count) => Ok(count),
+        Err(_) => count_names(rt, folder),
+    }
 }
 
 fn mode(rt: &HostRuntime, path: &str) -> Result<u32, Fail> {
@@ -68,7 +82,7 @@ fn an_output_takes_its_name_when_it_is_closed(rt: HostRuntime) -> Result<(), Fai
     assert!(rt; is_file(&rt, path, b"newer")?);
     assert_eq!(rt; mode(&rt, path)?, 0o640);
     assert_eq!(rt; names(&rt, "somleut_test_closed")?, 1);
-    Ok(fs::remove_dir_all(&rt, "somleut_test_closed")?)
+    Ok(remove(&rt, "somleut_test_closed")?)
 }
 
 #[test]
@@ -87,7 +101,7 @@ fn a_dropped_output_leaves_no_trace(rt: HostRuntime) -> Result<(), Fail> {
     drop(host);
     assert_eq!(rt; names(&rt, "somleut_test_dropped")?, 1);
     assert!(rt; is_file(&rt, path, b"old")?);
-    Ok(fs::remove_dir_all(&rt, "somleut_test_dropped")?)
+    Ok(remove(&rt, "somleut_test_dropped")?)
 }
 
 #[test]
@@ -118,7 +132,7 @@ fn targets_that_are_refused(rt: HostRuntime) -> Result<(), Fail> {
         assert!(rt; host.open_in(name).is_err(), "{name:?}");
     }
     assert_eq!(rt; names(&rt, "somleut_test_refused")?, 2);
-    Ok(fs::remove_dir_all(&rt, "somleut_test_refused")?)
+    Ok(remove(&rt, "somleut_test_refused")?)
 }
 
 #[test]
@@ -135,7 +149,7 @@ fn an_output_that_fails_to_close_is_gone(rt: HostRuntime) -> Result<(), Fail> {
     begin_out(&mut host, path, b"new")?;
     host.close_out()?;
     assert!(rt; is_file(&rt, path, b"new")?);
-    Ok(fs::remove_dir_all(&rt, "somleut_test_failed")?)
+    Ok(remove(&rt, "somleut_test_failed")?)
 }
 
 #[test]
@@ -148,7 +162,7 @@ fn a_link_is_followed(rt: HostRuntime) -> Result<(), Fail> {
     host.close_out()?;
     assert!(rt; fs::symlink_metadata(&rt, "somleut_test_link/link")?.is_symlink());
     assert!(rt; is_file(&rt, "somleut_test_link/file", b"new")?);
-    Ok(fs::remove_dir_all(&rt, "somleut_test_link")?)
+    Ok(remove(&rt, "somleut_test_link")?)
 }
 
 #[test]
@@ -176,5 +190,5 @@ fn no_more_than_the_limit_is_read(rt: HostRuntime) -> Result<(), Fail> {
             }
         }
     }
-    Ok(fs::remove_dir_all(&rt, "somleut_test_limit")?)
+    Ok(remove(&rt, "somleut_test_limit")?)
 }
