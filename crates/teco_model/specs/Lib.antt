@@ -33,6 +33,8 @@ pub mod Run
 pub mod Rows
 pub mod Session
 pub mod Registers
+pub mod Pages
+pub mod Files
 pub mod Pattern
 pub mod Match
 pub mod Matching

@@ -1,0 +1,35 @@
+use Rattle.std.proofs.Common.{◌≡◌, true, false, ◌∙◌, arith}
+use Rattle.teco_pages.proofs.Reading.{page-ended, page-on, topped}
+use Rattle.teco_pages.proofs.pages.read_page.Goals as goal
+
+pub returns-then-branch-clause-ends : goal.returns-then-branch-clause-ends
+returns-then-branch-clause-ends g c =
+    let more : c.in_ok-top_up.field-0 ≡ true = cc in
+    let t = topped _ _ _ _ _ _ _ more c.in_ok-top_up.ensures in
+    let e = c.in_ok-give.ensures in
+    let ended : c.in_ok-give.field-0 ≡ true = cc in
+    let p = page-ended _ c.loop.into.items c.loop.ahead c.top_up.new.self c.give.new.self c.give.new.into.items _ _ _ c.in_ok-give.field-0 c.loop.invariant.shifts t.0 c.loop.invariant.plain ended e.0 e.1 e.2 in
+    (p.0, t.1 ∙ c.loop.invariant.same)
+
+pub returns-then-branch-clause-plain : goal.returns-then-branch-clause-plain
+returns-then-branch-clause-plain g c =
+    let more : c.in_ok-top_up.field-0 ≡ true = cc in
+    let t = topped _ _ _ _ _ _ _ more c.in_ok-top_up.ensures in
+    let e = c.in_ok-give.ensures in
+    let ended : c.in_ok-give.field-0 ≡ true = cc in
+    (page-ended _ c.loop.into.items c.loop.ahead c.top_up.new.self c.give.new.self c.give.new.into.items _ _ _ c.in_ok-give.field-0 c.loop.invariant.shifts t.0 c.loop.invariant.plain ended e.0 e.1 e.2).1
+
+pub loop-preserved : goal.loop-preserved
+loop-preserved g c =
+    let more : c.in_ok-top_up.field-0 ≡ true = cc in
+    let t = topped _ _ _ _ _ _ _ more c.in_ok-top_up.ensures in
+    let e = c.in_ok-give.ensures in
+    let on : c.in_ok-give.field-0 ≡ false = cc in
+    let p = page-on _ c.loop.into.items c.loop.ahead c.top_up.new.self c.give.new.self c.give.new.into.items _ _ _ c.in_ok-give.field-0 c.loop.invariant.shifts t.0 c.loop.invariant.plain on e.0 e.1 e.2 in
+    record {
+      plain = p.1;
+      short = e.3;
+      count = omega (arith, p.2, t.2, c.loop.invariant.count);
+      shifts = p.0;
+      same = t.1 ∙ c.loop.invariant.same;
+    }

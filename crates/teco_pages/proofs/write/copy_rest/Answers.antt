@@ -1,0 +1,25 @@
+use Rattle.std.proofs.Common.{◌∙◌, arith}
+use Rattle.std.proofs.lemmas.Result.{err_from_is_err_and}
+use Rattle.teco_pages.proofs.Copied.{copies-written, copies-read, copies-cut, copies-stopped, some-read}
+use Rattle.teco_pages.proofs.write.copy_rest.Goals as goal
+
+pub returns-in_err-write_all-clause-copied : goal.returns-in_err-write_all-clause-copied
+returns-in_err-write_all-clause-copied g c =
+    let p = err_from_is_err_and c.from_residual.result c.from_residual.ensures.1 in
+    rw p.1 (copies-cut c.args.ahead.now c.loop.ahead c.bytes.result.now p.0 _ _ _ c.loop.invariant.copied c.bytes.ensures c.in_err-write_all.ensures.written)
+
+pub returns-in_err-fill-clause-copied : goal.returns-in_err-fill-clause-copied
+returns-in_err-fill-clause-copied g c =
+    let p = err_from_is_err_and c.from_residual-in_err-fill.result c.from_residual-in_err-fill.ensures.1 in
+    let err = c.in_err-fill.ensures.err in
+    rw p.1 (copies-stopped c.args.ahead.now c.fill.new.self p.0 _ _ _ (copies-written c.args.ahead.now c.loop.ahead c.bytes.result.now _ _ _ c.loop.invariant.copied c.bytes.ensures c.in_ok-write_all.ensures.written) err.0 err.1)
+
+pub loop-preserved : goal.loop-preserved
+loop-preserved g c =
+    let some = some-read c.fill.new.self c.is_empty.result c.if-is_empty.false c.is_empty.ensures.1 in
+    record {
+      copied = copies-read c.args.ahead.now c.fill.new.self _ _ _ (copies-written c.args.ahead.now c.loop.ahead c.bytes.result.now _ _ _ c.loop.invariant.copied c.bytes.ensures c.in_ok-write_all.ensures.written) c.in_ok-fill.ensures.ok;
+      same = c.in_ok-fill.ensures.counted ∙ c.in_ok-write_all.ensures.answer ∙ c.loop.invariant.same;
+      count = omega (arith, some, c.in_ok-fill.ensures.given, c.in_ok-write_all.ensures.given, c.loop.invariant.count);
+      limit = λ _. c.in_ok-fill.ensures.limit;
+    }

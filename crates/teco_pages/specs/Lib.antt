@@ -1,0 +1,9 @@
+-- The words that the contracts of this crate are written in.
+pub mod Copying
+pub mod Held
+pub mod HostCalls
+pub mod HostFiles
+pub mod MemFiles
+pub mod PageCalls
+pub mod Reading
+pub mod TestFiles

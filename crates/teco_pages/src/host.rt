@@ -1,0 +1,65 @@
+// What every host of files promises.
+ghost use Rattle.std.specs.Prelude.{◌≡◌, ◌≤◌, ◌<◌, ◌+◌, ℕ, Option, length, IfOk, OnOk, OnErr};
+ghost use Rattle.teco_base.specs.declared.TheConstants.{LIMIT};
+ghost use Rattle.teco_pages.specs.HostFiles.{HostFiles, Becomes, after_dropping};
+ghost use Rattle.teco_pages.specs.HostCalls.{Counts, OpensIn, ReadsSome, OpensOut, WritesSome, Closes};
+
+use crate::fault::Failed;
+
+/// Files outside: those that have names, one input and one output at a time. A name is any bytes.
+///
+/// An output takes its name when it is closed, whole and in one move; until then a file of that name is as it was. A call
+/// that fails changes no file, but after a failed `close_out` or `drop_out` the output is dropped. A host that can tell its
+/// files does so to contracts; another, as one of real files, tells how many of its calls have failed and no more.
+pub trait Host {
+    // its files, if it tells them
+    ghost files: { Self → Option HostFiles };
+
+    // how many of its calls have failed
+    ghost failures: { Self → ℕ };
+
+    // how many bytes it has given of the input that was opened last
+    ghost given: { Self → ℕ };
+
+    /// Opens the file of a name as the input, in the place of the one before.
+    fn open_in(&mut self, name: &[u8]) -> Result<(), Failed>
+        ensures files { OpensIn name.now result (files self.old) (files self.new) }
+        ensures counted { Counts result (failures self.old) (failures self.new) }
+        ensures given { OnOk result (given self.new ≡ 0) }
+        ensures err { OnErr result (given self.new ≡ given self.old) };
+
+    /// Reads the next bytes of the input, one at least unless it is at its end; of one input at most `LIMIT`.
+    fn read(&mut self, buf: &mut [u8]) -> Result<usize, Failed>
+        ensures files { ReadsSome buf.new result (files self.old) (files self.new) }
+        ensures counted { Counts result (failures self.old) (failures self.new) }
+        ensures bound { IfOk result (λ n. n ≤ length buf.new) }
+        ensures given { IfOk result (λ n. given self.new ≡ given self.old + n) }
+        ensures limit { OnOk result (given self.new ≤ LIMIT) }
+        ensures err { OnErr result (given self.new ≡ given self.old) };
+
+    /// Opens an output that will have this name.
+    fn open_out(&mut self, name: &[u8]) -> Result<(), Failed>
+        ensures files { OpensOut name.now result (files self.old) (files self.new) }
+        ensures counted { Counts result (failures self.old) (failures self.new) }
+        ensures given { given self.new ≡ given self.old };
+
+    /// Writes the first of some bytes to the output, one of them at least.
+    fn write(&mut self, bytes: &[u8]) -> Result<usize, Failed>
+        ensures files { WritesSome bytes.now result (files self.old) (files self.new) }
+        ensures counted { Counts result (failures self.old) (failures self.new) }
+        ensures bound { IfOk result (λ n. n ≤ length bytes.now) }
+        ensures some { IfOk result (λ n. 0 < length bytes.now → 0 < n) }
+        ensures given { given self.new ≡ given self.old };
+
+    /// Gives the output its name, in the place of a file that has it. A failure drops the output.
+    fn close_out(&mut self) -> Result<(), Failed>
+        ensures files { Closes result (files self.old) (files self.new) }
+        ensures counted { Counts result (failures self.old) (failures self.new) }
+        ensures given { given self.new ≡ given self.old };
+
+    /// Drops the output, which leaves no trace. A failure drops it too.
+    fn drop_out(&mut self) -> Result<(), Failed>
+        ensures files { Becomes after_dropping (files self.old) (files self.new) }
+        ensures counted { Counts result (failures self.old) (failures self.new) }
+        ensures given { given self.new ≡ given self.old };
+}
