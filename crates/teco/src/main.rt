@@ -8,9 +8,9 @@ mod words;
 use std::alloc::Global;
 use std::process::ExitCode;
 use std::{env, io};
+use teco_gap::GapText;
 use teco_run::Machine;
 use teco_session::{SessionFault, session};
-use teco_gap::GapText;
 
 /// A code was typed.
 const CODED: u8 = 1;

@@ -22,6 +22,10 @@ pub record Files : Type 0 where
   pub input : Option Input
   pub output : Option Output
 
+-- there is no file
+abbrev pub no_files : Files
+no_files = record { named = []; input = None; output = None }
+
 -- the bytes of the file of a name, if there is one
 abbrev pub file_named : List ℕ → List File → Option (List ℕ)
 file_named name [] = None

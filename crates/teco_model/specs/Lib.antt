@@ -13,6 +13,7 @@ pub mod Element
 pub mod Ahead
 pub mod Skip
 pub mod SkipRows
+pub mod Files
 pub mod State
 pub mod Places
 pub mod Effect
@@ -34,7 +35,9 @@ pub mod Rows
 pub mod Session
 pub mod Registers
 pub mod Pages
-pub mod Files
+pub mod Paging
+pub mod Filing
+pub mod FileRows
 pub mod Pattern
 pub mod Match
 pub mod Matching

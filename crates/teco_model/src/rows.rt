@@ -1,3 +1,4 @@
+ghost use Rattle.teco_model.specs.FileRows.{FileRows};
 ghost use Rattle.teco_model.specs.Rows.{WorkedRows};
 ghost use Rattle.teco_model.specs.SkipRows.{SkipRows};
 
@@ -9,4 +10,9 @@ pub fn worked_rows()
 /// The definition gives what skips worked by hand give.
 pub fn skip_rows()
     ensures { SkipRows }
+{}
+
+/// The rules of pages and files give what commands worked by hand give.
+pub fn file_rows()
+    ensures { FileRows }
 {}

@@ -16,6 +16,8 @@ use teco_text::TextStore;
 #[derive(Drop)]
 pub struct Editor<T: TextStore> {
     pub(crate) store: T,
+    // a form feed ended the last page in the buffer
+    pub(crate) form_feed: bool,
     pub(crate) regs: Regs,
     pub(crate) search_text: Vec<u8>,
     pub(crate) mode: i32,
@@ -34,6 +36,7 @@ impl<T: TextStore> Model for Editor<T> {
     ghost view = { λ e. record {
       text = T.list e.store;
       pointer = T.pointer e.store;
+      form_feed = e.form_feed;
       registers = e.regs;
       search_text = e.search_text.items;
       mode = e.mode;
@@ -51,6 +54,7 @@ impl<T: TextStore> Editor<T> {
     {
         Editor {
             store,
+            form_feed: false,
             regs: Regs::new(alloc),
             search_text: Vec::new(alloc),
             mode: 0,

@@ -25,9 +25,19 @@ const ITERATIONS: [Row; 13] = [
 /// Sessions in which the text of a macro changes between its calls, or while it is executed.
 const CHANGED: [Row; 4] = [
     (b"@^UA/1=@^UA|2=|/MAMA\x1b\x1b", b"1\r\n2\r\n", b"", 0),
-    (b"@^UA/1=/MA@^UA/2=/MA@^UB/3=/[B]AMA\x1b\x1b", b"1\r\n2\r\n3\r\n", b"", 0),
+    (
+        b"@^UA/1=/MA@^UA/2=/MA@^UB/3=/[B]AMA\x1b\x1b",
+        b"1\r\n2\r\n3\r\n",
+        b"",
+        0,
+    ),
     (b"@^UA/1=/MA:@^UA/2=/MA\x1b\x1b", b"1\r\n1\r\n2\r\n", b"", 0),
-    (b"@^UA/1=/MA\x1b\x1bMA@^UA/2=/MA\x1b\x1b", b"1\r\n1\r\n2\r\n", b"", 0),
+    (
+        b"@^UA/1=/MA\x1b\x1bMA@^UA/2=/MA\x1b\x1b",
+        b"1\r\n1\r\n2\r\n",
+        b"",
+        0,
+    ),
 ];
 
 /// Sessions in which an iteration and a conditional overlap: a skip reads the text, a leave takes what is open.
