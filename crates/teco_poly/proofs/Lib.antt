@@ -1,0 +1,4 @@
+pub mod Fitting
+pub mod Arrays
+pub mod Values
+pub mod Products

@@ -1,0 +1,2 @@
+-- What polynomials in N are: their coefficients and values, the operations on them, and their texts.
+pub mod Polynomial

@@ -1,0 +1,7 @@
+//! Polynomials in N of degree at most 8, with coefficients of 64 bits: by them the verifier bounds sizes and steps.
+#![tactic(auto)]
+
+mod coefficients;
+mod poly;
+
+pub use poly::Poly;
