@@ -3,5 +3,6 @@
 
 mod coefficients;
 mod poly;
+mod text;
 
 pub use poly::Poly;
