@@ -28,6 +28,11 @@ abbrev pub joined : List ℕ → List (List ℕ) → List ℕ
 joined lead [] = []
 joined lead (t ∷ ts) = lead ++ (t ++ joined (codes " + ") ts)
 
+-- what leads the next term behind a text: nothing at its start
+abbrev pub lead_behind : List ℕ → List ℕ
+lead_behind [] = []
+lead_behind (c ∷ text) = codes " + "
+
 -- the terms joined; the polynomial that has none is `0`
 abbrev pub joined_or_zero : List (List ℕ) → List ℕ
 joined_or_zero [] = codes "0"

@@ -1,8 +1,13 @@
 //! Polynomials and their arithmetic.
-ghost use Rattle.std.specs.Prelude.{◌≡◌, IsSome};
+ghost use Rattle.std.specs.Prelude.{◌≡◌, ℕ, List, IsSome, IfSome, IfOk};
+ghost use Rattle.std.specs.String.{string_bytes};
 ghost use Rattle.teco_poly.specs.Polynomial as poly;
+ghost use Rattle.teco_poly.specs.Reading.{IsPoly};
+ghost use Rattle.teco_poly.specs.Text.{text as poly_text};
 
 use crate::coefficients::{self, COEFFICIENTS, Coefficients};
+use crate::text;
+use std::alloc::{AllocError, Global};
 use std::marker::Model;
 
 /// A polynomial in N of degree at most 8, with whole coefficients from 0 on that 64 bits hold.
@@ -94,5 +99,23 @@ impl Poly {
         ensures { result ≡ poly.is_at_most self.now other.now }
     {
         coefficients::is_at_most(&self.coefficients, &other.coefficients)
+    }
+
+    /// Its text: the terms by ascending powers, as in `8 + 4*N + N^2`.
+    pub fn print(&self, alloc: Global) -> Result<String, AllocError>
+        ensures { IfOk result (λ t. string_bytes t ≡ poly_text self.now) }
+    {
+        text::print(alloc, &self.coefficients)
+    }
+
+    /// The polynomial whose text this is; `None` for any other text. Each has one text.
+    pub fn read(bytes: &[u8]) -> Option<Poly>
+        // What is read prints as the same bytes.
+        ensures found { IfSome result (λ p. IsPoly p × (bytes.now ≡ poly_text p)) }
+        // The text of each polynomial is read, and as that polynomial.
+        ensures read { (p : List ℕ) → IsPoly p → bytes.now ≡ poly_text p → result ≡ Some p }
+    {
+        let coefficients = text::read(bytes)?;
+        Some(Poly { coefficients })
     }
 }

@@ -1,5 +1,5 @@
 // Texts of polynomials.
-ghost use Rattle.std.specs.Prelude.{◌≡◌, ℕ, List, ◌+◌, ◌-◌, ◌<◌, ◌≤◌, ◌^◌, [], ◌++◌, length, drop, true, IfOk, OnOk, IfSome, IfNone, IsTrue, ◌↔◌, slice_index};
+ghost use Rattle.std.specs.Prelude.{◌≡◌, ℕ, List, ◌+◌, ◌-◌, ◌<◌, ◌≤◌, ◌^◌, [], ◌∷◌, ◌++◌, length, drop, true, IfOk, OnOk, IfSome, IfNone, IsTrue, ◌↔◌, slice_index};
 ghost use Rattle.std.specs.Option.{SomeIff};
 ghost use Rattle.std.specs.Char.{is_ascii_digit};
 ghost use Rattle.std.specs.Fmt.{decimal};
@@ -8,7 +8,7 @@ ghost use Rattle.std.specs.String.{string_bytes};
 ghost use Rattle.std.specs.Str.{all_ascii_digits};
 ghost use Rattle.std.specs.Str.Parse.{digits_value as value_of_digits};
 ghost use Rattle.teco_poly.specs.Reading.{EndsTerm, IsNumberAt, IsCoefficientAt, IsTermAt, IsLedTermAt, IsNextAt, AreSmall, IsPoly};
-ghost use Rattle.teco_poly.specs.Text.{power_text as power_spelled, term_text, terms_from, joined, text as spelled};
+ghost use Rattle.teco_poly.specs.Text.{power_text as power_spelled, term_text, terms_from, joined, lead_behind, text as spelled};
 
 use crate::coefficients::{COEFFICIENTS, Coefficients};
 use std::alloc::{AllocError, Global};
@@ -16,6 +16,9 @@ use std::fmt::Write;
 
 // What stands between two terms.
 const PLUS: &str = " + ";
+
+// The text of the polynomial that has no terms.
+const ZERO: &str = "0";
 
 // A power of N, as it is written.
 fn power_text(power: usize) -> &'static str
@@ -180,7 +183,7 @@ fn next_at<'a>(text: &'a [u8], power: usize, lead: &'a [u8]) -> (u64, &'a [u8], 
 // The coefficients from a power on whose terms, the first behind `lead`, are the text.
 fn read_from(text: &[u8], power: usize, lead: &[u8]) -> Option<Coefficients>
     requires { power ≤ COEFFICIENTS }
-    ensures found { IfSome result (λ p. text.now ≡ joined lead.now (terms_from power (drop power p))) }
+    ensures found { IfSome result (λ p. IsPoly p × (text.now ≡ joined lead.now (terms_from power (drop power p)))) }
     ensures none { IfNone result ((p : List ℕ) → power + length p ≡ COEFFICIENTS → AreSmall p
         → text.now ≡ joined lead.now (terms_from power p) → ⊥) }
 {
@@ -195,4 +198,47 @@ fn read_from(text: &[u8], power: usize, lead: &[u8]) -> Option<Coefficients>
     let mut coefficients = read_from(rest, power + 1, next)?;
     coefficients[power] = coefficient;
     Some(coefficients)
+}
+
+// The coefficients of the polynomial whose text this is.
+pub fn read(text: &[u8]) -> Option<Coefficients>
+    ensures found { IfSome result (λ p. IsPoly p × (text.now ≡ spelled p)) }
+    ensures none { IfNone result ((p : List ℕ) → IsPoly p → text.now ≡ spelled p → ⊥) }
+{
+    if text == ZERO.as_bytes() {
+        return Some([0; COEFFICIENTS]);
+    }
+    if text.is_empty() {
+        return None;
+    }
+    read_from(text, 0, &[])
+}
+
+// Adds the term of a power to the terms before it, if it has one.
+fn push_next(text: &mut String, coefficient: u64, power: usize) -> Result<(), AllocError>
+    requires { power < COEFFICIENTS }
+    ensures { let before = string_bytes text.old in
+        OnOk result (string_bytes text.new ≡ before ++ joined (lead_behind before) (terms_from power (coefficient ∷ []))) }
+{
+    if coefficient == 0 {
+        return Ok(());
+    }
+    if !text.is_empty() {
+        text.push_str(PLUS)?;
+    }
+    push_term(text, coefficient, power)
+}
+
+// The text of the polynomial with these coefficients.
+pub fn print(alloc: Global, coefficients: &Coefficients) -> Result<String, AllocError>
+    ensures { IfOk result (λ t. string_bytes t ≡ spelled coefficients.now) }
+{
+    let mut text = String::new(alloc);
+    for power in 0..COEFFICIENTS {
+        push_next(&mut text, coefficients[power], power)?;
+    }
+    if text.is_empty() {
+        text.push_str(ZERO)?;
+    }
+    Ok(text)
 }
