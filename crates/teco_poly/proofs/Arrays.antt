@@ -1,5 +1,5 @@
 -- What arrays of nine coefficients come to be, place by place.
-use Rattle.std.proofs.Common.{◌≡◌, ℕ, ◌+◌, ◌-◌, ◌*◌, ◌^◌, ◌<◌, ◌≤◌, max, List, length, get_or, Option, Some, None, Bool, true, false, sym, ap, ◌∙◌, refl, arith, ltb, mul_comm}
+use Rattle.std.proofs.Common.{◌≡◌, ℕ, ◌+◌, ◌-◌, ◌*◌, ◌^◌, ◌<◌, ◌≤◌, max, List, length, get_or, Some, None, Bool, true, false, sym, ap, ◌∙◌, refl, arith, ltb, mul_comm}
 use Rattle.std.proofs.lemmas.List.{get_or_past, ext_get_or}
 use Rattle.std.proofs.lemmas.Bool.{ltb-true, ltb-false}
 use Rattle.teco_poly.specs.Polynomial.{Polynomial, sum, scaled, greater, differences, is_at_most, sub, fitted}

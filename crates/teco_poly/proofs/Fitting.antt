@@ -1,12 +1,11 @@
 -- The coefficients of sums, products and the like, power by power; and what it is to fit.
-use Rattle.std.proofs.Common.{◌≡◌, ℕ, zero, suc, ◌+◌, ◌-◌, ◌*◌, ◌^◌, ◌<◌, ◌≤◌, max, Bool, true, false, IsTrue, List, [], ◌∷◌, length, drop, get_or, Option, Some, None, sym, ap, ◌∙◌, refl, arith, ltb}
+use Rattle.std.proofs.Common.{◌≡◌, ℕ, zero, suc, ◌+◌, ◌-◌, ◌*◌, ◌^◌, ◌<◌, ◌≤◌, max, Bool, true, false, [], ◌∷◌, length, drop, get_or, Some, None, sym, ap, ◌∙◌, refl, arith, ltb}
 use Rattle.std.proofs.lemmas.List.{ext_get_or, get_or-drop, get_or_past}
 use Rattle.std.proofs.lemmas.Bool.{ltb-true, ltb-false, lt-ltb, eq-eqb, leb-true, le-leb}
 use Rattle.std.proofs.lemmas.Bool.Decides.{Decides-eqb}
-use Rattle.std.proofs.lemmas.Grind.{common_steps}
 use Rattle.std.specs.List.{list_all}
-use Rattle.std.specs.Prelude.{◌&&◌, ◌==◌, nat_lt, nat_le}
-use Rattle.teco_poly.specs.Polynomial.{Polynomial, sum, scaled, raised, product, greater, differences, is_at_most, first, in_64_bits, fits, fitted}
+use Rattle.std.specs.Prelude.{◌&&◌, ◌==◌, nat_le}
+use Rattle.teco_poly.specs.Polynomial.{Polynomial, sum, scaled, greater, differences, is_at_most, first, in_64_bits, fits, fitted}
 
 -- 64 bits hold each coefficient, and the degree is at most 8
 pub record Fits (p : Polynomial) : Type 0 where

@@ -7,3 +7,4 @@ pub mod Digits
 pub mod Front
 pub mod Terms
 pub mod Spelling
+pub mod Lawful

@@ -1,8 +1,8 @@
 -- The values of polynomials: of sums, products and the like, and of those that are at most others.
-use Rattle.std.proofs.Common.{◌≡◌, ℕ, zero, suc, ◌+◌, ◌-◌, ◌*◌, ◌^◌, ◌<◌, ◌≤◌, max, Bool, true, false, List, [], ◌∷◌, length, get_or, drop, Option, Some, None, sym, ap, ◌∙◌, refl, arith}
+use Rattle.std.proofs.Common.{◌≡◌, ℕ, zero, suc, ◌+◌, ◌-◌, ◌*◌, ◌≤◌, [], ◌∷◌, get_or, drop, Some, sym, ap, ◌∙◌, refl, arith}
 use Rattle.std.proofs.Math.Nat.{pow-suc, pow-zero, mul-le-mul, mul-le-mul_left}
-use Rattle.teco_poly.specs.Polynomial.{Polynomial, value_from, value, sum, scaled, raised, product, greater, differences, one_less, is_at_most, fitted}
-use Rattle.teco_poly.proofs.Fitting.{fitted_like, at_most_means}
+use Rattle.teco_poly.specs.Polynomial.{Polynomial, value_from, value, sum, scaled, raised, product, differences, one_less, fitted}
+use Rattle.teco_poly.proofs.Fitting.{fitted_like}
 
 -- with one power more each term is n times as large
 value_from-suc : (k : ℕ) (p : Polynomial) (n : ℕ) → value_from (suc k) p n ≡ n * value_from k p n

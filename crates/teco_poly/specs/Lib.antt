@@ -2,3 +2,4 @@
 pub mod Polynomial
 pub mod Text
 pub mod Reading
+pub mod Laws

@@ -2,7 +2,11 @@
 #![tactic(auto)]
 
 mod coefficients;
+pub mod laws;
 mod poly;
 mod text;
 
 pub use poly::Poly;
+
+#[cfg(test)]
+mod tests;

@@ -1,4 +1,3 @@
-use Rattle.std.proofs.Common.{arith}
 use Rattle.teco_poly.proofs.Front.{refused_one, refused_bare}
 use Rattle.teco_poly.proofs.text.factor_at.Goals as goal
 

@@ -1,4 +1,4 @@
-use Rattle.teco_poly.proofs.Terms.{led_found, led_refused, lead_missing}
+use Rattle.teco_poly.proofs.Terms.{led_found, lead_missing}
 use Rattle.teco_poly.proofs.text.led_term_at.Goals as goal
 
 pub returns-in_err-led-clause-none : goal.returns-in_err-led-clause-none

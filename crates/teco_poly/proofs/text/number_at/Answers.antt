@@ -1,4 +1,3 @@
-use Rattle.std.proofs.Common.{arith}
 use Rattle.teco_poly.proofs.Front.{number_digits, number_refused, number_read}
 use Rattle.teco_poly.proofs.text.number_at.Goals as goal
 
