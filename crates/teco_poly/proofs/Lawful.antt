@@ -1,9 +1,11 @@
 -- The laws of polynomials.
-use Rattle.std.proofs.Common.{◌≡◌, ℕ, ◌+◌, ◌-◌, ◌*◌, ◌≤◌, max, Bool, true, false, [], ◌∷◌, get_or, Some, None, sym, ap, ◌∙◌, refl, arith}
+use Rattle.std.proofs.Common.{◌≡◌, ℕ, zero, suc, ◌+◌, ◌-◌, ◌*◌, ◌^◌, ◌<◌, ◌≤◌, max, Bool, true, false, [], ◌∷◌, length, get_or, Some, None, sym, ap, ◌∙◌, refl, arith}
 use Rattle.std.proofs.Math.Nat.{pow-zero, pow-suc}
-use Rattle.teco_poly.specs.Laws.{ValuesOfConstants, ValueOfSum, ValueOfDifference, ValueOfProduct, ValueOfJoin, ValueOfOneLess, ValueAt, ValuesCompare, ValuesGrow, ComparisonOrders, JoinIsLeast, OneText}
-use Rattle.teco_poly.specs.Polynomial.{Polynomial, value, sum, product, greater, differences, sub, join, at, in_64_bits, is_at_most}
-use Rattle.teco_poly.proofs.Fitting.{at_most_means, at_most_by, fitted_like, get_or-greater}
+use Rattle.std.proofs.lemmas.List.{ext_get_or}
+use Rattle.teco_poly.specs.Reading.{IsPoly}
+use Rattle.teco_poly.specs.Laws.{AnswersArePolys, ValuesOfConstants, ValueOfSum, ValueOfDifference, ValueOfProduct, ValueOfJoin, ValueOfOneLess, ValueAt, ValuesCompare, ValuesGrow, ComparisonOrders, JoinIsLeast, OneText}
+use Rattle.teco_poly.specs.Polynomial.{Polynomial, value, sum, product, greater, differences, first, fitted, number, variable, one_less, sub, join, at, in_64_bits, is_at_most}
+use Rattle.teco_poly.proofs.Fitting.{at_most_means, at_most_by, fitted_like, get_or-greater, get_or-differences, length-differences}
 use Rattle.teco_poly.proofs.Values.{value-cons, value-sum, value-product, value-differences, value-one_less, value-fitted, value_at_most, value_grows}
 use Rattle.teco_poly.proofs.Spelling as spelling
 
@@ -57,10 +59,61 @@ values_compare p q n below = value_at_most p q n (λ k. at_most_means p q k belo
 pub values_grow : ValuesGrow
 values_grow p m n more = value_grows p m n more
 
+-- what is fitted has nine small coefficients
+fitted_poly : (p r : Polynomial) → fitted p ≡ Some r → IsPoly r
+fitted_poly p r e =
+    let like = fitted_like p r (sym e) in
+    spelling.is_poly r like.0 (λ k. rw (like.2 k) (like.1.small k))
+
+-- coefficients that are no greater are as small
+below_poly : (p r : Polynomial) → IsPoly p → length r ≡ length p → ((k : ℕ) → get_or r k 0 ≤ get_or p k 0) → IsPoly r
+below_poly p r is same below = spelling.is_poly r (same ∙ is.nine) (λ k. omega (arith, below k, spelling.small_at p k is.small))
+
+zeros : (count k : ℕ) → get_or (first count []) k 0 ≡ 0
+zeros zero k = refl
+zeros (suc count) zero = refl
+zeros (suc count) (suc k) = zeros count k
+
+number_coefficient : (n k : ℕ) → n < 2 ^ 64 → get_or (number n) k 0 < 2 ^ 64
+number_coefficient n zero small = small
+number_coefficient n (suc k) small = omega (arith, zeros 8 k)
+
+variable_coefficient : (k : ℕ) → get_or variable k 0 < 2 ^ 64
+variable_coefficient zero = omega arith
+variable_coefficient (suc zero) = omega arith
+variable_coefficient (suc (suc k)) = omega (arith, zeros 7 k)
+
+sub_poly : (p q r : Polynomial) → IsPoly p → sub p q ≡ Some r → IsPoly r
+sub_poly p q r is e = by_test (is_at_most q p) refl
+  where
+    by_test : (b : Bool) → is_at_most q p ≡ b → IsPoly r
+    by_test true h =
+        let some : sub p q ≡ Some (differences p q) = (rw h refl) in
+        let same : r ≡ differences p q = (cc) in
+        rw same (below_poly p (differences p q) is (length-differences p q) (λ k. omega (arith, get_or-differences p q k)))
+    by_test false h = let none : sub p q ≡ None = (rw h refl) in absurd (cc)
+
+one_less_poly : (p : Polynomial) → IsPoly p → IsPoly (one_less p)
+one_less_poly [] is = is
+one_less_poly (c ∷ p) is = record { nine = is.nine; small = (omega (arith, is.small.0), is.small.1) }
+
+pub answers_are_polys : AnswersArePolys
+answers_are_polys = record {
+  number = λ n small. spelling.is_poly (number n) refl (λ k. number_coefficient n k small);
+  variable = spelling.is_poly variable refl variable_coefficient;
+  add = λ p q r e. fitted_poly (sum p q) r e;
+  sub = sub_poly;
+  mul = λ p q r e. fitted_poly (product p q) r e;
+  join = λ p q r e. fitted_poly (greater p q) r e;
+  one_less = one_less_poly;
+}
+
 pub comparison_orders : ComparisonOrders
 comparison_orders = record {
   reflexive = λ p. at_most_by p p (λ k. omega arith);
   transitive = λ p q r below above. at_most_by p r (λ k. omega (arith, at_most_means p q k below, at_most_means q r k above));
+  antisymmetric = λ p q is_p is_q below above.
+      ext_get_or 0 p q (is_p.nine ∙ sym is_q.nine) (λ k within. omega (arith, at_most_means p q k below, at_most_means q p k above));
 }
 
 pub join_is_least : JoinIsLeast

@@ -274,3 +274,12 @@ pub all_written : (written : List ℕ) (power : ℕ) (p all : List ℕ) → leng
 all_written written power p all done e =
     let none : joined (lead_behind written) (terms_from power (drop power p)) ≡ [] = ap (λ q. joined (lead_behind written) (terms_from power q)) (no_length (drop power p) (omega (arith, length-drop power p))) in
     sym (append-nil written) ∙ ap (λ r. written ++ r) (sym none) ∙ e
+
+-- nine coefficients of 64 bits are those of a polynomial that a `Poly` may be
+pub is_poly : (p : Polynomial) → length p ≡ 9 → ((k : ℕ) → get_or p k 0 < 2 ^ 64) → IsPoly p
+is_poly p nine each = record { nine = nine; small = small_by p each }
+
+pub small_at : (p : Polynomial) (k : ℕ) → AreSmall p → get_or p k 0 < 2 ^ 64
+small_at [] k small = omega arith
+small_at (c ∷ p) zero small = small.0
+small_at (c ∷ p) (suc k) small = small_at p k small.1

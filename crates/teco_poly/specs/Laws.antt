@@ -1,6 +1,6 @@
 -- What the operations on polynomials do to their values, and what the comparison is. Each is said of all polynomials, of any
 -- length and with coefficients of any size.
-use Rattle.std.specs.Prelude.{◌≡◌, ℕ, ◌+◌, ◌*◌, ◌≤◌, IsTrue, Some}
+use Rattle.std.specs.Prelude.{◌≡◌, ℕ, ◌+◌, ◌*◌, ◌^◌, ◌<◌, ◌≤◌, IsTrue, Some}
 use Rattle.teco_poly.specs.Polynomial.{Polynomial, value, number, variable, add, sub, mul, join, one_less, at, is_at_most}
 use Rattle.teco_poly.specs.Reading.{IsPoly}
 use Rattle.teco_poly.specs.Text.{text}
@@ -43,11 +43,23 @@ ValuesCompare = (p q : Polynomial) (n : ℕ) → IsTrue (is_at_most p q) → val
 abbrev pub ValuesGrow : Type 0
 ValuesGrow = (p : Polynomial) (m n : ℕ) → m ≤ n → value p m ≤ value p n
 
--- each polynomial is at most itself, and at most what one above it is at most
+-- What is answered is a polynomial that a `Poly` may be: nine coefficients, each below 2^64.
+pub record AnswersArePolys : Type 0 where
+  pub number : (n : ℕ) → n < 2 ^ 64 → IsPoly (number n)
+  pub variable : IsPoly variable
+  pub add : (p q r : Polynomial) → add p q ≡ Some r → IsPoly r
+  pub sub : (p q r : Polynomial) → IsPoly p → sub p q ≡ Some r → IsPoly r
+  pub mul : (p q r : Polynomial) → mul p q ≡ Some r → IsPoly r
+  pub join : (p q r : Polynomial) → join p q ≡ Some r → IsPoly r
+  pub one_less : (p : Polynomial) → IsPoly p → IsPoly (one_less p)
+
+-- each polynomial is at most itself, and at most what one above it is at most; two that are at most each other are one
 pub record ComparisonOrders : Type 0 where
   pub reflexive : (p : Polynomial) → IsTrue (is_at_most p p)
   pub transitive :
       (p q r : Polynomial) → IsTrue (is_at_most p q) → IsTrue (is_at_most q r) → IsTrue (is_at_most p r)
+  pub antisymmetric :
+      (p q : Polynomial) → IsPoly p → IsPoly q → IsTrue (is_at_most p q) → IsTrue (is_at_most q p) → p ≡ q
 
 -- both are at most their join, which is at most what both are at most
 pub record JoinIsLeast : Type 0 where

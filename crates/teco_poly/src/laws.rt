@@ -1,5 +1,5 @@
 //! Laws of polynomials and their values.
-ghost use Rattle.teco_poly.specs.Laws.{ValuesOfConstants, ValueOfSum, ValueOfDifference, ValueOfProduct, ValueOfJoin, ValueOfOneLess, ValueAt, ValuesCompare, ValuesGrow, ComparisonOrders, JoinIsLeast, OneText};
+ghost use Rattle.teco_poly.specs.Laws.{ValuesOfConstants, ValueOfSum, ValueOfDifference, ValueOfProduct, ValueOfJoin, ValueOfOneLess, ValueAt, AnswersArePolys, ValuesCompare, ValuesGrow, ComparisonOrders, JoinIsLeast, OneText};
 
 /// A number has itself as its value, and N the number that it stands for.
 pub fn values_of_constants()
@@ -44,6 +44,11 @@ pub fn values_compare()
 /// Values grow with N.
 pub fn values_grow()
     ensures { ValuesGrow }
+{}
+
+/// What is answered has nine coefficients, each below 2^64.
+pub fn answers_are_polys()
+    ensures { AnswersArePolys }
 {}
 
 /// The comparison is an order.

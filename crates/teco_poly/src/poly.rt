@@ -103,7 +103,9 @@ impl Poly {
 
     /// Its text: the terms by ascending powers, as in `8 + 4*N + N^2`.
     pub fn print(&self, alloc: Global) -> Result<String, AllocError>
-        ensures { IfOk result (λ t. string_bytes t ≡ poly_text self.now) }
+        ensures text { IfOk result (λ t. string_bytes t ≡ poly_text self.now) }
+        // so the text is read again as the same polynomial
+        ensures poly { IsPoly self.now }
     {
         text::print(alloc, &self.coefficients)
     }

@@ -230,8 +230,10 @@ fn push_next(text: &mut String, coefficient: u64, power: usize) -> Result<(), Al
 }
 
 // The text of the polynomial with these coefficients.
+#[tactic(auto, using(crate::proofs::Spelling::is_poly))]
 pub fn print(alloc: Global, coefficients: &Coefficients) -> Result<String, AllocError>
-    ensures { IfOk result (λ t. string_bytes t ≡ spelled coefficients.now) }
+    ensures text { IfOk result (λ t. string_bytes t ≡ spelled coefficients.now) }
+    ensures poly { IsPoly coefficients.now }
 {
     let mut text = String::new(alloc);
     for power in 0..COEFFICIENTS {

@@ -17,8 +17,8 @@ loop-power-preserved c =
     ∙ ap (λ p. written ++ joined (lead_behind written) (terms_from i p)) (sym (drop_more c.args.coefficients.now i 0 (omega arith)))
     ∙ c.loop-power.invariant
 
-pub returns : goal.returns
-returns c =
+pub returns-clause-text : goal.returns-clause-text
+returns-clause-text c =
     let p = c.args.coefficients.now in
     let written = string_bytes c.loop-power.text in
     let small = small_by p c.fits-coefficients in
