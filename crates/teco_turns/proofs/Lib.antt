@@ -2,6 +2,7 @@ mod Sums
 mod Left
 mod Standing
 mod Runs
+mod Turning
 mod Forward
 mod Passed
 mod Sum

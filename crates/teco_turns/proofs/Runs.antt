@@ -1,9 +1,9 @@
 -- A run takes at most the printed number of steps.
-use Rattle.std.proofs.Common.{◌≡◌, ℕ, zero, suc, ◌+◌, ◌-◌, ◌<◌, ◌≤◌, ⊎_elim, Bool, true, false, cond, ltb, List, [], ◌∷◌, map, length, Option, Some, None, MatchOption, sym, ap, refl, ◌∙◌, subst, arith}
+use Rattle.std.proofs.Common.{◌≡◌, ℕ, zero, suc, ◌+◌, ◌-◌, ◌<◌, ◌≤◌, ⊎_elim, Bool, true, false, cond, ltb, List, [], ◌∷◌, ◌++◌, map, length, Option, Some, None, MatchOption, sym, ap, refl, ◌∙◌, subst, arith}
 use Rattle.std.proofs.lemmas.Bool.{ltb-false}
 use Rattle.std.proofs.lemmas.List.{length-map}
 use Rattle.teco_turns.specs.Table.{Table, IsClosed, behind, commands}
-use Rattle.teco_turns.specs.Moves.{OpenLoop, State, Move, Goes, Enters, Returns, RunTakes, IsStart, CountsDown, still_open, RunsAreBounded}
+use Rattle.teco_turns.specs.Moves.{OpenLoop, State, Move, Forward, Into, Back, Goes, Enters, Returns, RunTakes, IsStart, CountsDown, still_open, RunsAreBounded}
 use Rattle.teco_turns.specs.Machines.{after_steps, Covers, Follows, MachinesEnd}
 use Rattle.std.specs.Option.{option_and_then}
 use Rattle.teco_turns.proofs.Left.{Turn, begin_of, begins_of, end_of, left, Chain, all_left, past_own, further, enter, return}
@@ -13,6 +13,13 @@ map-still_open : {X Y : Type 0} (f : X → Y) (end : Y → ℕ) (j : ℕ) (xs : 
 map-still_open f end j [] = refl
 map-still_open {X} {Y} f end j (x ∷ xs) =
     elim (ltb (end (f x)) j) as (λ b. map f (cond b (still_open (λ x. end (f x)) j xs) (x ∷ xs)) ≡ cond b (still_open end j (map f xs)) (f x ∷ map f xs)) [ true ↦ map-still_open f end j xs | false ↦ refl ]
+
+-- those that are left stand before those that are still open
+gone : {X : Type 0} (end : X → ℕ) (j : ℕ) (xs : List X) → (left : List X) × (xs ≡ left ++ still_open end j xs)
+gone end j [] = ([], refl)
+gone {X} end j (x ∷ xs) =
+    let deeper = gone end j xs in
+    elim (ltb (end x) j) as (λ b. (left : List X) × (x ∷ xs ≡ left ++ cond b (still_open end j xs) (x ∷ xs))) [ true ↦ (x ∷ deeper.0, ap (λ ys. x ∷ ys) deeper.1) | false ↦ ([], refl) ]
 
 module _ (t : Table) where
   -- what is left of a chain is a chain, and holds the node
@@ -31,22 +38,29 @@ module _ (t : Table) where
       by_end false e deeper = omega (arith, ltb-false (t.end l) j e)
 
   -- a state with the turns that have begun
-  record Good (s : State) (us : List Turn) : Type 0 where
-    opened : map (λ u. u.loop) us ≡ s.opened
-    loops : begins_of us ≡ t.loops s.node
-    within : s.node < behind t (begins_of us)
-    chain : Chain t (begins_of us)
-    stand : Stand t s.node s.held s.ahead us
-    reached : t.reached s.node ≡ true
+  pub record Good (s : State) (us : List Turn) : Type 0 where
+    pub opened : map (λ u. u.loop) us ≡ s.opened
+    pub loops : begins_of us ≡ t.loops s.node
+    pub within : s.node < behind t (begins_of us)
+    pub chain : Chain t (begins_of us)
+    pub stand : Stand t s.node s.held s.ahead us
+    pub reached : t.reached s.node ≡ true
+
+  -- what a move does to the open turns: it leaves some, or begins one of a loop that it enters, or a further one of the
+  -- innermost loop
+  abbrev pub Changes : (s new : State) → Move t s new → List Turn → List Turn → Type 0
+  Changes s new (Forward go) us vs = (gone : List Turn) × (us ≡ gone ++ vs)
+  Changes s new (Into enter) us vs = (u : Turn) × (vs ≡ u ∷ us) × (suc u.rest ≡ t.turns s.node)
+  Changes s new (Back return) us vs = (u v : Turn) × (outer : List Turn) × (us ≡ u ∷ outer) × (vs ≡ v ∷ outer) × (u.rest ≡ suc v.rest)
 
   -- a state that a move leads to
-  abbrev Onward : State → List Turn → State → Type 0
-  Onward s us new = (vs : List Turn) × Good new vs × (t.own s.node + left t new.node vs ≤ left t s.node us)
+  abbrev pub Onward : (s : State) → List Turn → (new : State) → Move t s new → Type 0
+  Onward s us new move = (vs : List Turn) × Good new vs × (t.own s.node + left t new.node vs ≤ left t s.node us) × Changes s new move us vs
 
   deep : (s : State) (us : List Turn) → Good s us → length (t.loops s.node) ≡ length us
   deep s us good = ap length (sym good.loops) ∙ length-map us begin_of
 
-  goes : (s new : State) (us : List Turn) → Goes t s new → Good s us → Onward s us new
+  goes : (s new : State) (us : List Turn) (move : Goes t s new) → Good s us → Onward s us new (Forward move)
   goes s new us move good =
       let vs = still_open (end_of t) new.node us in
       let begins : begins_of vs ≡ still_open t.end new.node (begins_of us) = map-still_open begin_of t.end new.node us in
@@ -61,6 +75,7 @@ module _ (t : Table) where
           stand = carry t s.node new.node s.held s.ahead new.held new.ahead vs move.held move.ahead (rw loops move.falls) (unwind t s.node s.held s.ahead new.node us good.stand);
         },
         omega (arith, past_own t s.node us (deep s us good) good.within, further t (suc s.node) new.node us move.later (omega (arith, move.inside)) good.chain),
+        gone (end_of t) new.node us,
       )
 
   -- the turns after the first are so many
@@ -68,7 +83,7 @@ module _ (t : Table) where
   turns_after None new most turns low h = (omega arith, omega arith)
   turns_after (Some c) new most turns low h = (omega arith, omega arith)
 
-  enters : IsClosed t → (s new : State) (us : List Turn) → Enters t s new → Good s us → Onward s us new
+  enters : IsClosed t → (s new : State) (us : List Turn) (move : Enters t s new) → Good s us → Onward s us new (Into move)
   enters closed s new us move good =
       let loop = closed.loop s.node move.is_loop in
       let opened : OpenLoop = record { begin = s.node; more = move.more } in
@@ -87,9 +102,10 @@ module _ (t : Table) where
           stand = subst (λ i. Stand t i new.held new.ahead (u ∷ us)) (sym move.node) (first t s.held s.ahead u us loop good.loops move.begins.held move.begins.ahead move.begins.within turns.1 refl good.stand);
         },
         rw move.node (omega (arith, past_own t s.node us (deep s us good) good.within, enter t s.node us (deep s us good) (t.turns s.node - 1) opened new.held new.ahead refl turns.0 move.is_loop low_end loop.nested.body)),
+        (u, refl, turns.0),
       )
 
-  returns : IsClosed t → (s new : State) (us : List Turn) → Returns t s new → Good s us → Onward s us new
+  returns : IsClosed t → (s new : State) (us : List Turn) (move : Returns t s new) → Good s us → Onward s us new (Back move)
   returns closed s new [] move good = absurd (no_turn (good.opened ∙ move.old_opened))
     where
       no_turn : ◌≡◌ {A = List OpenLoop} [] (record { begin = move.begin; more = move.more } ∷ move.outer) → ⊥
@@ -107,7 +123,7 @@ module _ (t : Table) where
       let stood : Stand t (t.end move.begin) s.held s.ahead (u ∷ us) = subst (λ i. Stand t i s.held s.ahead (u ∷ us)) move.at_end good.stand in
       let counts : CountsDown u.loop.more move.left (t.fall (t.end move.begin) move.begin) = subst (λ o. CountsDown o move.left (t.fall (t.end move.begin) move.begin)) (sym (ap (λ o. o.more) top)) move.counts in
       let further_turn = again t s.held s.ahead u v us loop outer same move.begins.held move.begins.ahead move.begins.within refl counts stood in
-      let after_steps : left t new.node (v ∷ us) ≡ left t (suc s.node) (u ∷ us) = ap (λ i. left t i (v ∷ us)) move.node ∙ return t u v us same further_turn.0 ∙ ap (λ i. left t (suc i) (u ∷ us)) (ap t.end same ∙ sym move.at_end) in (
+      let on : left t new.node (v ∷ us) ≡ left t (suc s.node) (u ∷ us) = ap (λ i. left t i (v ∷ us)) move.node ∙ return t u v us same further_turn.0 ∙ ap (λ i. left t (suc i) (u ∷ us)) (ap t.end same ∙ sym move.at_end) in (
         v ∷ us,
         record {
           reached = move.reached;
@@ -117,12 +133,24 @@ module _ (t : Table) where
           chain = (is_loop, rw same at good.chain.1, sym outer, good.chain.3);
           stand = subst (λ i. Stand t i new.held new.ahead (v ∷ us)) (sym move.node) further_turn.1;
         },
-        omega (arith, after_steps, past_own t s.node (u ∷ us) (deep s (u ∷ us) good) good.within),
+        omega (arith, on, past_own t s.node (u ∷ us) (deep s (u ∷ us) good) good.within),
+        (u, v, us, refl, refl, further_turn.0),
       )
 
-  moves : IsClosed t → (s new : State) (us : List Turn) → Move t s new → Good s us → Onward s us new
-  moves closed s new us move good =
-      ⊎_elim (λ go. goes s new us go good) (λ other. ⊎_elim (λ en. enters closed s new us en good) (λ re. returns closed s new us re good) other) move
+  pub moves : IsClosed t → (s new : State) (us : List Turn) (move : Move t s new) → Good s us → Onward s us new move
+  moves closed s new us (Forward go) good = goes s new us go good
+  moves closed s new us (Into en) good = enters closed s new us en good
+  moves closed s new us (Back re) good = returns closed s new us re good
+
+  -- the table covers such a state
+  pub covers : (s : State) (us : List Turn) → Good s us → Covers t s
+  covers s us good =
+      let most = most_of t s.node s.held s.ahead us good.stand in
+      record { reached = good.reached; loops = ap (map (λ o. o.begin)) (sym good.opened) ∙ map-map us ∙ good.loops; held = most.0; ahead = most.1 }
+    where
+      map-map : (us : List Turn) → map (λ o. o.begin) (map (λ u. u.loop) us) ≡ begins_of us
+      map-map [] = refl
+      map-map (u ∷ us) = ap (λ ls. u.loop.begin ∷ ls) (map-map us)
 
   -- what a run takes is no more than what is left
   runs : IsClosed t → (m : ℕ) (s : State) (us : List Turn) (n : ℕ) → Good s us → RunTakes t m s n → n ≤ left t s.node us
@@ -133,7 +161,7 @@ module _ (t : Table) where
       omega (arith, onward.2, rest, takes.4, takes.6)
 
 module _ (t : Table) (s : State) (start : IsStart t s) where
-  good_start : Good t s []
+  pub good_start : Good t s []
   good_start = record {
     reached = rw start.node start.reached;
     opened = sym start.opened;
@@ -174,21 +202,12 @@ after_from step k n x o le e =
     ap (λ m. after_steps step m x) split ∙ after-add step k (n - k) x ∙ ap (option_and_then (after_steps step (n - k))) e
 
 module _ {M : Type 0} (step : M → Option M) (shown : M → Option State) (t : Table) (closed : IsClosed t) (follows : Follows step shown t) where
-  covers : (s : State) (us : List Turn) → Good t s us → Covers t s
-  covers s us good =
-      let most = most_of t s.node s.held s.ahead us good.stand in
-      record { reached = good.reached; loops = ap (map (λ o. o.begin)) (sym good.opened) ∙ map-map us ∙ good.loops; held = most.0; ahead = most.1 }
-    where
-      map-map : (us : List Turn) → map (λ o. o.begin) (map (λ u. u.loop) us) ≡ begins_of us
-      map-map [] = refl
-      map-map (u ∷ us) = ap (λ ls. u.loop.begin ∷ ls) (map-map us)
-
   ends : (b : ℕ) (x : M) (s : State) (us : List Turn) → shown x ≡ Some s → Good t s us → left t s.node us ≤ b → (n : ℕ) → left t s.node us ≤ n → after_steps step n x ≡ None
   ends zero x s us shows good low n enough =
-      let element = follows x s shows (covers s us good) in
+      let element = follows x s shows (covers t s us good) in
       absurd (omega (arith, element.1, element.2, past_own t s.node us (deep t s us good) good.within))
   ends (suc b) x s us shows good low n enough =
-      let element = follows x s shows (covers s us good) in
+      let element = follows x s shows (covers t s us good) in
       let within = past_own t s.node us (deep t s us good) good.within in
       ⊎_elim
       (λ (over : after_steps step element.0 x ≡ None). after_from step element.0 n x None (omega (arith, element.2, within)) over)

@@ -1,7 +1,7 @@
-use Rattle.std.proofs.Common.{◌≡◌, ℕ, zero, suc, ◌<◌, ◌≤◌, inl, inr, List, [], ◌∷◌, ◌++◌, Some, refl, arith}
+use Rattle.std.proofs.Common.{◌≡◌, ℕ, zero, suc, ◌<◌, ◌≤◌, inl, List, [], ◌∷◌, ◌++◌, Some, refl, arith}
 use Rattle.std.proofs.lemmas.Int.{ints}
 use Rattle.teco_turns.specs.Table.{IsClosedLoop}
-use Rattle.teco_turns.specs.Moves.{State, OpenLoop, BeginsTurn, Move}
+use Rattle.teco_turns.specs.Moves.{State, OpenLoop, BeginsTurn, Move, Forward, Into, Back}
 use Rattle.teco_turns.specs.Worked.{worked, worked_loops, worked_end, worked_start, WorkedIsTight}
 
 body : (j : ℕ) → 0 < j → j ≤ 2 → (inner : List ℕ) × (worked_loops j ≡ inner ++ 0 ∷ [])
@@ -30,10 +30,10 @@ still : (i j : ℕ) (o p : List OpenLoop) → BeginsTurn (at_node i o) (at_node 
 still i j o p = record { held = omega arith; ahead = omega arith; within = omega arith }
 
 enters : Move worked worked_start (at_node 1 (open_with 2))
-enters = inr (inl (record { is_loop = omega arith; node = refl; reached = refl; more = Some 2; opened = refl; begins = still 0 1 [] (open_with 2); turns = omega arith }))
+enters = Into (record { is_loop = omega arith; node = refl; reached = refl; more = Some 2; opened = refl; begins = still 0 1 [] (open_with 2); turns = omega arith })
 
 goes : (n : ℕ) → Move worked (at_node 1 (open_with n)) (at_node 2 (open_with n))
-goes n = inl (record {
+goes n = Forward (record {
   later = omega arith;
   inside = omega arith;
   reached = refl;
@@ -45,7 +45,7 @@ goes n = inl (record {
 })
 
 again : (n : ℕ) → Move worked (at_node 2 (open_with (suc n))) (at_node 1 (open_with n))
-again n = inr (inr (record {
+again n = Back (record {
   begin = 0;
   more = Some (suc n);
   left = Some n;
@@ -57,10 +57,10 @@ again n = inr (inr (record {
   new_opened = refl;
   begins = still 2 1 (open_with (suc n)) (open_with n);
   counts = (n, refl, refl);
-}))
+})
 
 leaves : Move worked (at_node 2 (open_with 0)) (at_node 3 [])
-leaves = inl (record {
+leaves = Forward (record {
   later = omega arith;
   inside = omega arith;
   reached = refl;

@@ -3,6 +3,7 @@
 pub mod Table
 pub mod Moves
 pub mod Machines
+pub mod Turns
 pub mod Nests
 pub mod Edges
 pub mod Listed

@@ -1,5 +1,5 @@
 -- States at the nodes of a table, the three moves between them, and the steps that a run takes.
-use Rattle.std.specs.Prelude.{true, ◌≡◌, ℕ, zero, suc, ◌+◌, ◌<◌, ◌≤◌, nat_lt, if◌then◌else◌, ℤ, pos, ◌+ℤ◌, ◌≤ℤ◌, List, [], ◌∷◌, Option, Some, None, MatchOption, ◌⊎◌, ⊤}
+use Rattle.std.specs.Prelude.{true, ◌≡◌, ℕ, zero, suc, ◌+◌, ◌<◌, ◌≤◌, nat_lt, if◌then◌else◌, ℤ, pos, ◌+ℤ◌, ◌≤ℤ◌, List, [], ◌∷◌, Option, Some, None, MatchOption, ⊤}
 use Rattle.std.specs.List.{AllByRecursion}
 use Rattle.teco_turns.specs.Table.{Table, IsAtLeast, IsClosed, commands}
 
@@ -73,8 +73,11 @@ pub record Returns (t : Table) (s new : State) : Type 0 where
   pub begins : BeginsTurn s new
   pub counts : CountsDown more left (t.fall (t.end begin) begin)
 
-abbrev pub Move : Table → State → State → Type 0
-Move t s new = Goes t s new ⊎ (Enters t s new ⊎ Returns t s new)
+-- a move is one of these three
+pub data Move (t : Table) (s new : State) : Type 0 where
+  Forward : Goes t s new → Move t s new
+  Into : Enters t s new → Move t s new
+  Back : Returns t s new → Move t s new
 
 -- a run of some moves from a state takes n steps; it may stop within its last element
 abbrev pub RunTakes : Table → ℕ → State → ℕ → Type 0

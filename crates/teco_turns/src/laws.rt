@@ -4,6 +4,7 @@ ghost use Rattle.teco_turns.specs.Listed.{CommandsAreSum};
 ghost use Rattle.teco_turns.specs.Machines.{MachinesEnd};
 ghost use Rattle.teco_turns.specs.Moves.{RunsAreBounded};
 ghost use Rattle.teco_turns.specs.Nests.{NodesNest};
+ghost use Rattle.teco_turns.specs.Turns.{RunsAreCovered, TurnsAreBounded};
 ghost use Rattle.teco_turns.specs.Worked.{WorkedIsTight};
 
 /// In a closed table every run takes at most the printed number of steps.
@@ -14,6 +15,16 @@ pub fn runs_are_bounded()
 /// A machine that follows a closed table has ended after the printed number of steps.
 pub fn machines_end<M>()
     ensures { MachinesEnd M }
+{}
+
+/// In a closed table every state that a run comes to is covered.
+pub fn runs_are_covered()
+    ensures { RunsAreCovered }
+{}
+
+/// In a closed table a loop takes, each time that it is entered, at most the turns that the table has.
+pub fn turns_are_bounded()
+    ensures { TurnsAreBounded }
 {}
 
 /// An element that does no more than its edge says goes on.
