@@ -1,7 +1,7 @@
 use Rattle.std.proofs.Common.{◌≡◌, ℕ, zero, suc, ◌<◌, ◌≤◌, inl, List, [], ◌∷◌, ◌++◌, Some, refl, arith}
 use Rattle.std.proofs.lemmas.Int.{ints}
 use Rattle.teco_turns.specs.Table.{IsClosedLoop}
-use Rattle.teco_turns.specs.Moves.{State, OpenLoop, BeginsTurn, Move, Forward, Into, Back}
+use Rattle.teco_turns.specs.Moves.{State, OpenLoop, BeginsTurn, Goes, Enters, Returns, Forward, Into, Back}
 use Rattle.teco_turns.specs.Worked.{worked, worked_loops, worked_end, worked_start, WorkedIsTight}
 
 body : (j : ℕ) → 0 < j → j ≤ 2 → (inner : List ℕ) × (worked_loops j ≡ inner ++ 0 ∷ [])
@@ -29,11 +29,11 @@ at_node i opened = record { node = i; held = 2; ahead = 1; opened = opened }
 still : (i j : ℕ) (o p : List OpenLoop) → BeginsTurn (at_node i o) (at_node j p)
 still i j o p = record { held = omega arith; ahead = omega arith; within = omega arith }
 
-enters : Move worked worked_start (at_node 1 (open_with 2))
-enters = Into (record { is_loop = omega arith; node = refl; reached = refl; more = Some 2; opened = refl; begins = still 0 1 [] (open_with 2); turns = omega arith })
+enters : Enters worked worked_start (at_node 1 (open_with 2))
+enters = record { is_loop = omega arith; node = refl; reached = refl; more = Some 2; opened = refl; begins = still 0 1 [] (open_with 2); turns = omega arith }
 
-goes : (n : ℕ) → Move worked (at_node 1 (open_with n)) (at_node 2 (open_with n))
-goes n = Forward (record {
+goes : (n : ℕ) → Goes worked (at_node 1 (open_with n)) (at_node 2 (open_with n))
+goes n = record {
   later = omega arith;
   inside = omega arith;
   reached = refl;
@@ -42,10 +42,10 @@ goes n = Forward (record {
   held = omega arith;
   ahead = omega arith;
   falls = (omega (arith, ints), tt);
-})
+}
 
-again : (n : ℕ) → Move worked (at_node 2 (open_with (suc n))) (at_node 1 (open_with n))
-again n = Back (record {
+again : (n : ℕ) → Returns worked (at_node 2 (open_with (suc n))) (at_node 1 (open_with n))
+again n = record {
   begin = 0;
   more = Some (suc n);
   left = Some n;
@@ -57,10 +57,10 @@ again n = Back (record {
   new_opened = refl;
   begins = still 2 1 (open_with (suc n)) (open_with n);
   counts = (n, refl, refl);
-})
+}
 
-leaves : Move worked (at_node 2 (open_with 0)) (at_node 3 [])
-leaves = Forward (record {
+leaves : Goes worked (at_node 2 (open_with 0)) (at_node 3 [])
+leaves = record {
   later = omega arith;
   inside = omega arith;
   reached = refl;
@@ -69,7 +69,7 @@ leaves = Forward (record {
   held = omega arith;
   ahead = omega arith;
   falls = tt;
-})
+}
 
 one : 1 ≤ 1
 one = omega arith
@@ -83,43 +83,73 @@ worked_is_tight = record {
     at_node 1 (open_with 2),
     1,
     7,
-    enters,
+    Into enters,
     one,
     (
       at_node 2 (open_with 2),
       1,
       6,
-      goes 2,
+      Forward (goes 2),
       one,
       (
         at_node 1 (open_with 1),
         1,
         5,
-        again 1,
+        Back (again 1),
         one,
         (
           at_node 2 (open_with 1),
           1,
           4,
-          goes 1,
+          Forward (goes 1),
           one,
           (
             at_node 1 (open_with 0),
             1,
             3,
-            again 0,
+            Back (again 0),
             one,
             (
               at_node 2 (open_with 0),
               1,
               2,
-              goes 0,
+              Forward (goes 0),
               one,
-              (at_node 3 [], 1, 1, leaves, one, one, refl),
+              (at_node 3 [], 1, 1, Forward leaves, one, one, refl),
               refl,
             ),
             refl,
           ),
+          refl,
+        ),
+        refl,
+      ),
+      refl,
+    ),
+    refl,
+  );
+  enters = enters;
+  repeats = (
+    at_node 2 (open_with 2),
+    Forward (goes 2),
+    2,
+    one,
+    (
+      at_node 1 (open_with 1),
+      Back (again 1),
+      1,
+      one,
+      (
+        at_node 2 (open_with 1),
+        Forward (goes 1),
+        1,
+        one,
+        (
+          at_node 1 (open_with 0),
+          Back (again 0),
+          0,
+          one,
+          (at_node 2 (open_with 0), Forward (goes 0), 0, one, refl, refl),
           refl,
         ),
         refl,
