@@ -1,5 +1,5 @@
--- What the operations on polynomials do to their values, and what the comparison is. Each is said of all polynomials, of any
--- length and with coefficients of any size.
+-- What the operations on polynomials do to their values, and what the comparison is. Each is said of all polynomials,
+-- of any length and with coefficients of any size.
 use Rattle.std.specs.Prelude.{◌≡◌, ℕ, ◌+◌, ◌*◌, ◌^◌, ◌<◌, ◌≤◌, IsTrue, Some}
 use Rattle.teco_poly.specs.Polynomial.{Polynomial, value, number, variable, add, sub, mul, join, one_less, at, is_at_most}
 use Rattle.teco_poly.specs.Reading.{IsPoly}
@@ -66,7 +66,8 @@ pub record JoinIsLeast : Type 0 where
   pub left : (p q r : Polynomial) → join p q ≡ Some r → IsTrue (is_at_most p r)
   pub right : (p q r : Polynomial) → join p q ≡ Some r → IsTrue (is_at_most q r)
   pub least :
-      (p q r s : Polynomial) → join p q ≡ Some r → IsTrue (is_at_most p s) → IsTrue (is_at_most q s) → IsTrue (is_at_most r s)
+      (p q r s : Polynomial)
+      → join p q ≡ Some r → IsTrue (is_at_most p s) → IsTrue (is_at_most q s) → IsTrue (is_at_most r s)
 
 -- a text is that of one polynomial
 abbrev pub OneText : Type 0

@@ -41,8 +41,8 @@ pub record IsTermAt (text : List ℕ) (power c : ℕ) (rest : List ℕ) : Type 0
 abbrev pub IsLedTermAt : List ℕ → List ℕ → ℕ → ℕ → List ℕ → Type 0
 IsLedTermAt text lead power c rest = (led : List ℕ) × (text ≡ lead ++ led) × IsTermAt led power c rest
 
--- The coefficient of a power at the front of a text, the rest, and what leads the next term. It is 0 where there is no term
--- of that power.
+-- The coefficient of a power at the front of a text, the rest, and what leads the next term. It is 0 where there is no
+-- term of that power.
 abbrev pub IsNextAt : List ℕ → List ℕ → ℕ → ℕ → List ℕ → List ℕ → Type 0
 IsNextAt text lead power zero rest next =
     (rest ≡ text) × (next ≡ lead) × ((c : ℕ) (x : List ℕ) → IsLedTermAt text lead power c x → ⊥)

@@ -1,5 +1,5 @@
-// Worked polynomials, taken from the grammar and from sums and products by hand. A call that is refused memory is made once
-// more, so that the rows also hold where one allocation fails.
+// Worked polynomials, taken from the grammar and from sums and products by hand. A call that is refused memory is made
+// once more, so that the rows also hold where one allocation fails.
 use crate::Poly;
 use std::alloc::Global;
 use std::process::Abort;

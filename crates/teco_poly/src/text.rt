@@ -168,8 +168,8 @@ fn led_term_at<'a>(text: &'a [u8], power: usize, lead: &[u8]) -> Option<(u64, &'
     Some((coefficient, rest))
 }
 
-// The coefficient of a power, 0 where its term does not stand at the front of a text; what comes behind; and what leads the
-// next term.
+// The coefficient of a power, 0 where its term does not stand at the front of a text; what comes behind; and what leads
+// the next term.
 fn next_at<'a>(text: &'a [u8], power: usize, lead: &'a [u8]) -> (u64, &'a [u8], &'a [u8])
     requires { power < COEFFICIENTS }
     ensures { IsNextAt text.now lead.now power result.0 result.1.now result.2.now }
@@ -218,7 +218,8 @@ pub fn read(text: &[u8]) -> Option<Coefficients>
 fn push_next(text: &mut String, coefficient: u64, power: usize) -> Result<(), AllocError>
     requires { power < COEFFICIENTS }
     ensures { let before = string_bytes text.old in
-        OnOk result (string_bytes text.new ≡ before ++ joined (lead_behind before) (terms_from power (coefficient ∷ []))) }
+        OnOk result (string_bytes text.new
+        ≡ before ++ joined (lead_behind before) (terms_from power (coefficient ∷ []))) }
 {
     if coefficient == 0 {
         return Ok(());

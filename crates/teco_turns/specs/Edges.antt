@@ -14,7 +14,8 @@ abbrev pub IsCarried : Option ℤ → Option ℤ → Option ℤ → Type 0
 IsCarried drop before after =
     MatchOption after ⊤ (λ w. MatchOption before ⊥ (λ v. MatchOption drop ⊥ (λ d. w ≤ℤ (v +ℤ d))))
 
--- What is ahead behind an edge is at most what the table has there: it has fallen so far, or all that is held may be ahead.
+-- What is ahead behind an edge is at most what the table has there: it has fallen so far, or all that is held may be
+-- ahead.
 abbrev pub IsAheadBounded : Table → ℕ → ℕ → Option ℤ → Type 0
 IsAheadBounded t i j drop =
     MatchOption drop ⊥ (λ d. pos (t.ahead_most i) ≤ℤ (pos (t.ahead_most j) +ℤ d)) ⊎ (t.held_most j ≤ t.ahead_most j)

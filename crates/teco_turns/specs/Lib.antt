@@ -1,5 +1,5 @@
--- Tables of what an expanded program holds and repeats at most, runs over them, and the number of steps that is printed of a
--- table.
+-- Tables of what an expanded program holds and repeats at most, runs over them, and the number of steps that is printed
+-- of a table.
 pub mod Table
 pub mod Moves
 pub mod Machines

@@ -20,7 +20,16 @@ pub record Node : Type 0 where
   pub ahead_most : ℕ
 
 abbrev pub no_node : Node
-no_node = record { reached = false; own = 0; rounds = []; end = 0; turns = 0; growth = 0; held_most = 0; ahead_most = 0 }
+no_node = record {
+  reached = false;
+  own = 0;
+  rounds = [];
+  end = 0;
+  turns = 0;
+  growth = 0;
+  held_most = 0;
+  ahead_most = 0;
+}
 
 -- the fall for a loop
 abbrev pub fall_in : List Round → ℕ → Option ℤ
@@ -48,8 +57,10 @@ table_of nodes = record {
   fall = λ i l. fall_in (node_at nodes i).rounds l;
 }
 
--- what is printed of it is the sum over its nodes
+-- what a node counts for: its own steps, once for each turn of each loop round it
+abbrev pub node_weight : List Node → Node → ℕ
+node_weight nodes node = node.own * product_by (λ l. (node_at nodes l).turns) (loops_of node)
+
+-- what is printed of the list is the sum over its nodes
 abbrev pub CommandsAreSum : Type 0
-CommandsAreSum =
-    (nodes : List Node)
-    → commands (table_of nodes) ≡ sum_by (λ node. node.own * product_by (λ l. (node_at nodes l).turns) (loops_of node)) nodes
+CommandsAreSum = (nodes : List Node) → commands (table_of nodes) ≡ sum_by (node_weight nodes) nodes

@@ -9,7 +9,8 @@ abbrev pub after_steps : {M : Type 0} → (M → Option M) → ℕ → M → Opt
 after_steps step zero x = Some x
 after_steps step (suc n) x = option_and_then step (after_steps step n x)
 
--- the table covers a state: its node may be reached, with these open loops, and no more is held and ahead than the table has
+-- the table covers a state: its node may be reached, with these open loops, and no more is held and ahead than the
+-- table has
 pub record Covers (t : Table) (s : State) : Type 0 where
   pub reached : t.reached s.node ≡ true
   pub loops : map (λ o. o.begin) s.opened ≡ t.loops s.node
@@ -22,8 +23,8 @@ EndsOrMoves {M} step shown t x s k =
     (after_steps step k x ≡ None)
     ⊎ ((y : M) × (new : State) × (after_steps step k x ≡ Some y) × (shown y ≡ Some new) × Move t s new)
 
--- A machine shows a state where an element begins. It follows a table where each element that begins in a state that the table
--- covers takes at least one step and at most the node's own, and then the machine has ended or has moved.
+-- A machine shows a state where an element begins. It follows a table where each element that begins in a state that
+-- the table covers takes at least one step and at most the node's own, and then the machine has ended or has moved.
 abbrev pub Follows : {M : Type 0} → (M → Option M) → (M → Option State) → Table → Type 0
 Follows {M} step shown t =
     (x : M) (s : State) → shown x ≡ Some s → Covers t s

@@ -25,8 +25,8 @@ abbrev pub FallFollows : Option ℤ → Option ℤ → ℕ → ℕ → Type 0
 FallFollows before after ahead new =
     MatchOption after ⊤ (λ w. MatchOption before ⊥ (λ v. (pos new +ℤ w) ≤ℤ (pos ahead +ℤ v)))
 
--- A run goes on to a later node. It may leave loops, and it may skip some; no turn begins. What is held grows by no more than
--- the most that the table has.
+-- A run goes on to a later node. It may leave loops, and it may skip some; no turn begins. What is held grows by no
+-- more than the most that the table has.
 pub record Goes (t : Table) (s new : State) : Type 0 where
   pub later : s.node < new.node
   pub inside : new.node < t.size
@@ -35,7 +35,8 @@ pub record Goes (t : Table) (s new : State) : Type 0 where
   pub opened : new.opened ≡ still_open (λ o. t.end o.begin) new.node s.opened
   pub held : new.held + t.held_most s.node ≤ s.held + t.held_most new.node
   pub ahead : new.ahead ≤ t.ahead_most new.node
-  pub falls : AllByRecursion (λ o. FallFollows (t.fall s.node o) (t.fall new.node o) s.ahead new.ahead) (t.loops new.node)
+  pub falls :
+      AllByRecursion (λ l. FallFollows (t.fall s.node l) (t.fall new.node l) s.ahead new.ahead) (t.loops new.node)
 
 -- where a turn begins, no more is held or ahead than before, and what is ahead is held
 pub record BeginsTurn (s new : State) : Type 0 where
@@ -43,8 +44,8 @@ pub record BeginsTurn (s new : State) : Type 0 where
   pub ahead : new.ahead ≤ s.ahead
   pub within : new.ahead ≤ new.held
 
--- A run enters a loop: its first turn begins. A count is at most the turns that the table has; without one these are more than
--- what is ahead.
+-- A run enters a loop: its first turn begins. A count is at most the turns that the table has; without one these are
+-- more than what is ahead.
 pub record Enters (t : Table) (s new : State) : Type 0 where
   pub is_loop : s.node < t.end s.node
   pub node : new.node ≡ suc s.node

@@ -2,8 +2,8 @@
 use Rattle.std.specs.Prelude.{◌≡◌, ℕ, zero, suc, ◌+◌, ◌-◌, ◌*◌, ◌<◌, ◌≤◌, Bool, ℤ, pos, ◌+ℤ◌, ◌≤ℤ◌, List, [], ◌∷◌, ◌++◌, Option, Some, None, MatchOption, ◌⊎◌, ⊤}
 use Rattle.std.specs.List.{AllByRecursion}
 
--- The nodes are 0, 1 and so on, below the size; a loop goes by the number of its begin node. What is held is the buffer and
--- the unread input; what is ahead is the part of it behind the pointer.
+-- The nodes are 0, 1 and so on, below the size; a loop goes by the number of its begin node. What is held is the buffer
+-- and the unread input; what is ahead is the part of it behind the pointer.
 pub record Table : Type 0 where
   pub size : ℕ
   -- whether a run may come to the node: moves lead to such nodes alone
@@ -54,8 +54,8 @@ HasFallen fall ahead start = MatchOption fall ⊤ (λ v. (pos ahead +ℤ v) ≤�
 abbrev pub IsAtLeast : ℕ → Option ℤ → Type 0
 IsAtLeast n fall = MatchOption fall ⊥ (λ v. pos n ≤ℤ v)
 
--- A loop is kept: its body begins with what is known at the loop, of what is ahead and of the falls outside, and what is
--- ahead does not rise in a turn.
+-- A loop is kept: its body begins with what is known at the loop, of what is ahead and of the falls outside, and what
+-- is ahead does not rise in a turn.
 pub record IsKept (t : Table) (l : ℕ) : Type 0 where
   pub ahead : t.ahead_most l ≤ t.ahead_most (suc l)
   pub falls : AllByRecursion (λ o. t.fall (suc l) o ≡ t.fall l o) (t.loops l)
@@ -66,7 +66,8 @@ pub record IsLost (t : Table) (l : ℕ) : Type 0 where
   pub ahead : t.held_most (suc l) ≤ t.ahead_most (suc l)
   pub falls : AllByRecursion (λ o. t.fall (suc l) o ≡ None) (t.loops l)
 
--- how a loop lies among the nodes: it ends inside of those round it, and they are round each node of its body, behind it
+-- how a loop lies among the nodes: it ends inside of those round it, and they are round each node of its body, behind
+-- it
 pub record IsNested (t : Table) (l : ℕ) : Type 0 where
   pub inside : t.end l < behind t (t.loops l)
   pub first : t.loops (suc l) ≡ l ∷ t.loops l

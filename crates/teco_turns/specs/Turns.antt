@@ -14,8 +14,8 @@ abbrev pub RunsAreCovered : Type 0
 RunsAreCovered =
     (t : Table) (s last : State) (moves : ℕ) → IsClosed t → IsStart t s → Lead t moves s last → Covers t last
 
--- The turns that a move begins of the loop that is the innermost where so many are open: one where it returns to the start of
--- its body, and none otherwise.
+-- The turns that a move begins of the loop that is the innermost where so many are open: one where it returns to the
+-- start of its body, and none otherwise.
 abbrev pub turns_begun : ℕ → (t : Table) (s new : State) → Move t s new → ℕ
 turns_begun depth t s new (Forward goes) = 0
 turns_begun depth t s new (Into enters) = 0
@@ -28,8 +28,8 @@ Repeats t depth (suc moves) s n =
     (new : State) × (move : Move t s new) × (rest : ℕ)
     × (depth ≤ length new.opened) × Repeats t depth moves new rest × (n ≡ turns_begun depth t s new move + rest)
 
--- In a closed table a loop that a run enters takes, until it is left, at most the turns that the table has: the first, and
--- those that begin later.
+-- In a closed table a loop that a run enters takes, until it is left, at most the turns that the table has: the first,
+-- and those that begin later.
 abbrev pub TurnsAreBounded : Type 0
 TurnsAreBounded =
     (t : Table) (start s new : State) (before moves n : ℕ)
