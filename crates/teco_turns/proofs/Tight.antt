@@ -1,3 +1,4 @@
+-- The worked table is closed, and its run takes all the steps and all the turns.
 use Rattle.std.proofs.Common.{◌≡◌, ℕ, zero, suc, ◌<◌, ◌≤◌, inl, List, [], ◌∷◌, ◌++◌, Some, refl, arith}
 use Rattle.std.proofs.lemmas.Int.{ints}
 use Rattle.teco_turns.specs.Table.{IsClosedLoop}
