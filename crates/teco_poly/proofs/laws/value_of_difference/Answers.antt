@@ -1,0 +1,5 @@
+use Rattle.teco_poly.proofs.Lawful.{value_of_difference}
+use Rattle.teco_poly.proofs.laws.value_of_difference.Goals as goal
+
+pub returns : goal.returns
+returns c = value_of_difference

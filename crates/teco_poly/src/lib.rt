@@ -1,0 +1,12 @@
+//! Polynomials in N of degree at most 8, with coefficients of 64 bits: by them the verifier bounds sizes and steps.
+#![tactic(auto)]
+
+mod coefficients;
+pub mod laws;
+mod poly;
+mod text;
+
+pub use poly::Poly;
+
+#[cfg(test)]
+mod tests;

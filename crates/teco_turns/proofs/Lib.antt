@@ -1,0 +1,9 @@
+mod Sums
+mod Left
+mod Standing
+mod Runs
+mod Turning
+mod Forward
+mod Passed
+mod Sum
+mod Tight
