@@ -31,8 +31,8 @@ fn frequency(byte: u8) -> u8 {
     match byte {
         b' ' | b'e' | b't' => 5,
         b'a' | b'i' | b'n' | b'o' | b'r' | b's' => 4,
-        b'a'..=b'z' | b'\n' => 3,
-        b'0'..=b'9' | b',' | b'.' | b'\t' | b'\r' => 2,
+        b'c' | b'd' | b'h' | b'l' | b'm' | b'p' | b'u' | b'\n' => 3,
+        b'a'..=b'z' | b'0'..=b'9' | b',' | b'.' | b'\t' | b'\r' => 2,
         b'A'..=b'Z' => 1,
         _ => 0,
     }
