@@ -1,2 +1,5 @@
+mod Anchored
+mod Marks
 mod Matches
+mod Starts
 mod Succession

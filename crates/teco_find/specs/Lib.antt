@@ -1,3 +1,4 @@
 -- What the calls of this crate answer, beside the definition, and the texts that they look at.
+pub mod Anchors
 pub mod Pieces
 pub mod Reading

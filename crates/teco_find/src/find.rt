@@ -1,8 +1,10 @@
 // Searches over a text in two pieces.
 ghost use Rattle.std.specs.Prelude.{◌≡◌, ◌≤◌, ◌<◌, length, IfSome};
 ghost use Rattle.teco_model.specs.Match as model;
+ghost use Rattle.teco_find.specs.Anchors.{Anchors};
 ghost use Rattle.teco_find.specs.Pieces.{joined};
 
+use crate::anchor::Anchor;
 use crate::pattern::Pattern;
 use crate::pieces::{text_from, text_len};
 use crate::rests::match_rest;
@@ -29,8 +31,39 @@ impl Pattern {
     }
 
     // The first match that starts at a place or behind it.
-    #[tactic(auto, using(crate::proofs::Matches::firsts))]
     fn first_from(&self, text: (&[u8], &[u8]), at: usize) -> Option<Span>
+        requires { at ≤ length (joined text) }
+        ensures value { result ≡ model.first_from self.now (joined text.entry) at }
+        ensures ordered { IfSome result (λ span. span.start ≤ span.end) }
+        ensures within { IfSome result (λ span. span.end ≤ length (joined text.entry)) }
+    {
+        match self.anchor {
+            Some(anchor) => self.first_anchored(anchor, text, at),
+            None => self.first_tried(text, at),
+        }
+    }
+
+    // The same, tried only where the pattern's anchor stands.
+    fn first_anchored(&self, anchor: Anchor, text: (&[u8], &[u8]), at: usize) -> Option<Span>
+        requires at { at ≤ length (joined text) }
+        requires anchors { Anchors self.now anchor }
+        ensures value { result ≡ model.first_from self.now (joined text.entry) at }
+        ensures ordered { IfSome result (λ span. span.start ≤ span.end) }
+        ensures within { IfSome result (λ span. span.end ≤ length (joined text.entry)) }
+    {
+        let mut from = at;
+        while let Some(start) = anchor.first_start(text, from) {
+            if let Some(span) = self.here(text, start) {
+                return Some(span);
+            }
+            from = start + 1;
+        }
+        None
+    }
+
+    // The same, tried at each place.
+    #[tactic(auto, using(crate::proofs::Matches::firsts))]
+    fn first_tried(&self, text: (&[u8], &[u8]), at: usize) -> Option<Span>
         requires { at ≤ length (joined text) }
         ensures value { result ≡ model.first_from self.now (joined text.entry) at }
         ensures ordered { IfSome result (λ span. span.start ≤ span.end) }
@@ -45,8 +78,41 @@ impl Pattern {
     }
 
     // The last match that starts before a place.
-    #[tactic(auto, using(crate::proofs::Matches::lasts))]
     fn last_before(&self, text: (&[u8], &[u8]), at: usize) -> Option<Span>
+        requires { at ≤ length (joined text) }
+        ensures value { result ≡ model.last_before self.now (joined text.entry) at }
+        ensures before { IfSome result (λ span. span.start < at) }
+        ensures ordered { IfSome result (λ span. span.start ≤ span.end) }
+        ensures within { IfSome result (λ span. span.end ≤ length (joined text.entry)) }
+    {
+        match self.anchor {
+            Some(anchor) => self.last_anchored(anchor, text, at),
+            None => self.last_tried(text, at),
+        }
+    }
+
+    // The same, tried only where the pattern's anchor stands.
+    fn last_anchored(&self, anchor: Anchor, text: (&[u8], &[u8]), at: usize) -> Option<Span>
+        requires at { at ≤ length (joined text) }
+        requires anchors { Anchors self.now anchor }
+        ensures value { result ≡ model.last_before self.now (joined text.entry) at }
+        ensures before { IfSome result (λ span. span.start < at) }
+        ensures ordered { IfSome result (λ span. span.start ≤ span.end) }
+        ensures within { IfSome result (λ span. span.end ≤ length (joined text.entry)) }
+    {
+        let mut before = at;
+        while let Some(start) = anchor.last_start(text, before) {
+            if let Some(span) = self.here(text, start) {
+                return Some(span);
+            }
+            before = start;
+        }
+        None
+    }
+
+    // The same, tried at each place.
+    #[tactic(auto, using(crate::proofs::Matches::lasts))]
+    fn last_tried(&self, text: (&[u8], &[u8]), at: usize) -> Option<Span>
         requires { at ≤ length (joined text) }
         ensures value { result ≡ model.last_before self.now (joined text.entry) at }
         ensures before { IfSome result (λ span. span.start < at) }

@@ -1,10 +1,12 @@
 //! Search texts, and where they are found.
 #![tactic(auto)]
 
+mod anchor;
 mod classes;
 mod fault;
 mod find;
 mod items;
+mod mark;
 mod parts;
 mod pattern;
 mod pieces;

@@ -3,6 +3,7 @@ ghost use Rattle.std.specs.Prelude.{◌≡◌, ◌+◌, ◌^◌, ◌<◌, length
 ghost use Rattle.teco_model.specs.Pattern as model;
 ghost use Rattle.teco_find.specs.Reading.{Judges, Reads};
 
+use crate::anchor::{Anchor, anchor_of};
 use crate::fault::FindFault;
 use crate::items::put_part;
 use crate::parts::Parts;
@@ -15,14 +16,19 @@ use teco_regs::Regs;
 #[derive(Drop)]
 pub struct Pattern {
     pub(crate) items: Vec<Item>,
+    pub(crate) anchor: Option<Anchor>,
 }
 
 impl Model for Pattern {
+    ghost use Rattle.std.specs.Option.{ForSome};
     ghost use Rattle.teco_model.specs.Pattern as model;
+    ghost use Rattle.teco_find.specs.Anchors.{Anchors};
 
     ghost Value = { model.Pattern };
 
     ghost view = { λ p. p.items.items };
+
+    ghost invariant = { λ p. ForSome p.anchor (Anchors p.items.items) };
 }
 
 impl Pattern {
@@ -40,7 +46,8 @@ impl Pattern {
         while let Some(part) = parts.next()? {
             put_part(&mut items, part, regs, exact)?;
         }
-        Ok(Pattern { items })
+        let anchor = anchor_of(&items);
+        Ok(Pattern { items, anchor })
     }
 }
 

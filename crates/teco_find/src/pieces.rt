@@ -1,5 +1,5 @@
 // A text in two pieces, read from its front.
-ghost use Rattle.std.specs.Prelude.{◌≡◌, ◌≤◌, [], ◌∷◌, length, drop, MatchOption};
+ghost use Rattle.std.specs.Prelude.{◌≡◌, ◌≤◌, [], ◌∷◌, length, drop, take, MatchOption};
 ghost use Rattle.teco_find.specs.Pieces.{joined};
 
 // The pieces of a text, one behind the other.
@@ -22,6 +22,18 @@ pub(crate) fn text_from(text: Pieces<'_>, place: usize) -> Pieces<'_>
         (&front[place..], back)
     } else {
         (&back[place - front.len()..], &[])
+    }
+}
+
+// The text up to a place, or all of it.
+pub(crate) fn text_up_to(text: Pieces<'_>, place: usize) -> Pieces<'_>
+    ensures { joined result ≡ take place (joined text.entry) }
+{
+    let (front, back) = text;
+    if place < front.len() {
+        (&front[..place], &[])
+    } else {
+        (front, &back[..back.len().min(place - front.len())])
     }
 }
 

@@ -144,6 +144,97 @@ fn elements(rt: HostRuntime) {
     }
 }
 
+#[test]
+fn literals_behind_other_elements(rt: HostRuntime) {
+    let regs = registers(&rt, rt.alloc());
+    let rows: [(&[u8], bool, &[u8], usize, Way, Option<(usize, usize)>); 24] = [
+        (b"^X^Xz", false, b"az.zz", 0, Way::Forward(1), Some((1, 4))),
+        (b"^X^Xz", false, b"az.zz", 5, Way::Backward(1), Some((2, 5))),
+        (b"^X^Xz", false, b"az.zz", 5, Way::Backward(3), None),
+        (b"^X^X^Xd", false, b"abcd", 0, Way::Forward(1), Some((0, 4))),
+        (b"^X^X^Xd", false, b"abcd", 1, Way::Forward(1), None),
+        (b"^X^X^Xd", false, b"dd", 0, Way::Forward(1), None),
+        (b"^X^X^Xd", false, b"dd", 2, Way::Backward(1), None),
+        (
+            b"^S^EAq",
+            false,
+            b"aq.bQ,cq",
+            0,
+            Way::Forward(1),
+            Some((2, 5)),
+        ),
+        (
+            b"^S^EAq",
+            false,
+            b"aq.bQ,cq",
+            8,
+            Way::Backward(2),
+            Some((2, 5)),
+        ),
+        (
+            b"^S^EAq",
+            true,
+            b"aq.bQ,cq",
+            0,
+            Way::Forward(1),
+            Some((5, 8)),
+        ),
+        (b"^S^EAq", true, b"aq.bQ,cq", 8, Way::Backward(2), None),
+        (
+            b"^N^EDx",
+            false,
+            b"1x2xax",
+            0,
+            Way::Forward(1),
+            Some((4, 6)),
+        ),
+        (
+            b"a^ESb",
+            false,
+            b"ab a  b",
+            0,
+            Way::Forward(1),
+            Some((3, 7)),
+        ),
+        (
+            b"a^ESb",
+            false,
+            b"ab a  b",
+            4,
+            Way::Backward(1),
+            Some((3, 7)),
+        ),
+        (b"^ESb", false, b"b \tb", 4, Way::Backward(1), Some((2, 4))),
+        (b"^ED^EA", false, b"12b", 0, Way::Forward(1), Some((1, 3))),
+        (b"^X^EQA", false, b"bb.b.", 0, Way::Forward(1), Some((0, 3))),
+        (
+            b"^X^EQA",
+            false,
+            b"bb.b.",
+            5,
+            Way::Backward(1),
+            Some((2, 5)),
+        ),
+        (b"^Xk", false, b"KkK", 0, Way::Forward(1), Some((0, 2))),
+        (b"^Xk", false, b"KkK", 3, Way::Backward(1), Some((1, 3))),
+        (b"^X[", false, b"a{[[", 0, Way::Forward(1), Some((1, 3))),
+        (b"eeeQ", true, b"eeeeQeeQ", 0, Way::Forward(1), Some((1, 5))),
+        (
+            b"eeeQ",
+            true,
+            b"eeeeQeeQ",
+            8,
+            Way::Backward(1),
+            Some((1, 5)),
+        ),
+        (b"eeeQ", true, b"eeeeQeeQ", 5, Way::Forward(1), None),
+    ];
+    for (search, exact, text, from, way, want) in rows {
+        let pattern = read(rt.alloc(), search, &regs, exact).expect(&rt, "a pattern");
+        expect_found(&rt, &pattern, text, from, way, want);
+    }
+}
+
 fn told(fault: FindFault) -> &'static str {
     match fault {
         FindFault::Ice => "ICE",

@@ -1,0 +1,29 @@
+-- Bytes that stand at a known distance from the start of each match of a pattern.
+use Rattle.std.specs.Prelude.{ℕ, ◌+◌, ◌<◌, List, length, Bool, IsTrue, IsSome}
+use Rattle.memchr.specs.Find.{Passes, is_byte, is_byte2}
+use Rattle.teco_model.specs.Match.{here, is_in}
+use Rattle.teco_model.specs.declared.pattern.Item.{Item}
+use Rattle.teco_model.specs.declared.pattern.Item.TheVariants as item
+use Rattle.teco_find.specs.declared.anchor.Anchor.{Anchor}
+use Rattle.teco_find.specs.declared.mark.Mark.{Mark}
+use Rattle.teco_find.specs.declared.mark.Mark.TheVariants as mark
+
+-- is a byte one of a mark's
+abbrev pub is_marked : Mark → ℕ → Bool
+is_marked (mark.One a) = is_byte a
+is_marked (mark.Two a b) = is_byte2 a b
+
+-- each character that an element matches is a byte of a mark
+abbrev pub IsMarkedBy : Item → Mark → Type 0
+IsMarkedBy (item.Is c) m = (b : ℕ) → IsTrue (is_in c b) → IsTrue (is_marked m b)
+IsMarkedBy (item.IsNot c) m = ⊥
+IsMarkedBy item.Blanks m = ⊥
+
+-- an anchor's mark stands at its distance from a place
+pub record Stands (anchor : Anchor) (text : List ℕ) (at : ℕ) : Type 0 where
+  pub within : at + anchor.distance < length text
+  pub marked : Passes (is_marked anchor.mark) text (at + anchor.distance)
+
+-- it does from the start of each match
+abbrev pub Anchors : List Item → Anchor → Type 0
+Anchors items anchor = (text : List ℕ) (at : ℕ) → IsSome (here items text at) → Stands anchor text at
