@@ -7,3 +7,4 @@ mod Forward
 mod Passed
 mod Sum
 mod Tight
+mod Endless

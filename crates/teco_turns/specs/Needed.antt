@@ -1,0 +1,69 @@
+-- Why a kept loop wants an own fall of at least 0. A loop without a count goes 2 ahead, and in it another one goes back by
+-- 1, two times: all else that a closed table says holds there, and runs go on without end.
+use Rattle.std.specs.Prelude.{true, ◌≡◌, ℕ, zero, suc, ◌+◌, ◌-◌, ◌*◌, ◌<◌, ◌≤◌, ℤ, pos, negsuc, List, [], ◌∷◌, Option, Some, None}
+use Rattle.std.specs.List.{AllByRecursion}
+use Rattle.teco_turns.specs.Table.{Table, IsNested}
+use Rattle.teco_turns.specs.Moves.{State, IsStart, RunTakes}
+
+-- nodes 0 and 5 are the outer loop, 2 and 4 the inner one; node 1 goes 2 ahead, node 3 goes back by 1
+abbrev pub needed_loops : ℕ → List ℕ
+needed_loops zero = []
+needed_loops (suc zero) = 0 ∷ []
+needed_loops (suc (suc zero)) = 0 ∷ []
+needed_loops (suc (suc (suc zero))) = 2 ∷ 0 ∷ []
+needed_loops (suc (suc (suc (suc zero)))) = 2 ∷ 0 ∷ []
+needed_loops (suc (suc (suc (suc (suc zero))))) = 0 ∷ []
+needed_loops (suc (suc (suc (suc (suc (suc n)))))) = []
+
+abbrev pub needed_end : ℕ → ℕ
+needed_end zero = 5
+needed_end (suc zero) = 1
+needed_end (suc (suc zero)) = 4
+needed_end (suc (suc (suc n))) = suc (suc (suc n))
+
+-- what is ahead can be 2 at most, so the outer loop takes 3 turns; the inner one takes 2
+abbrev pub needed_turns : ℕ → ℕ
+needed_turns zero = 3
+needed_turns (suc l) = 2
+
+-- the falls for the outer loop, and for the inner one
+abbrev pub needed_fall : ℕ → ℕ → Option ℤ
+needed_fall (suc (suc zero)) l = Some (pos 2)
+needed_fall (suc (suc (suc zero))) zero = Some (pos 2)
+needed_fall (suc (suc (suc zero))) (suc l) = Some (pos 0)
+needed_fall (suc (suc (suc (suc zero)))) zero = Some (pos 1)
+needed_fall (suc (suc (suc (suc zero)))) (suc l) = Some (negsuc 0)
+needed_fall (suc (suc (suc (suc (suc zero))))) l = Some (pos 1)
+needed_fall i l = Some (pos 0)
+
+abbrev pub needed : Table
+needed = record {
+  size = 7;
+  reached = λ i. true;
+  own = λ i. 1;
+  loops = needed_loops;
+  end = needed_end;
+  turns = needed_turns;
+  growth = λ l. 0;
+  held_most = λ i. 2;
+  ahead_most = λ i. 2;
+  fall = needed_fall;
+}
+
+abbrev pub needed_start : State
+needed_start = record { node = 0; held = 2; ahead = 2; opened = [] }
+
+-- what a closed table says of a kept loop, but for the own fall
+pub record IsClosedButForFall (t : Table) (l : ℕ) : Type 0 where
+  pub nested : IsNested t l
+  pub room : t.held_most l + (t.turns l - 1) * t.growth l ≤ t.held_most (suc l)
+  pub grows : t.held_most (t.end l) ≤ t.held_most (suc l) + t.growth l
+  pub fresh : t.fall (suc l) l ≡ Some (pos 0)
+  pub ahead : t.ahead_most l ≤ t.ahead_most (suc l)
+  pub falls : AllByRecursion (λ o. t.fall (suc l) o ≡ t.fall l o) (t.loops l)
+
+-- runs take any number of steps
+pub record OwnFallIsNeeded : Type 0 where
+  pub closed : (l : ℕ) → l < needed_end l → IsClosedButForFall needed l
+  pub start : IsStart needed needed_start
+  pub endless : (n : ℕ) → (moves : ℕ) × (steps : ℕ) × RunTakes needed moves needed_start steps × (n ≤ steps)
