@@ -1,7 +1,7 @@
 -- A table that lacks only the own fall of a kept loop, and its runs without end.
-use Rattle.std.proofs.Common.{◌≡◌, ℕ, zero, suc, ◌+◌, ◌<◌, ◌≤◌, List, [], ◌∷◌, ◌++◌, Option, Some, None, refl, arith}
+use Rattle.std.proofs.Common.{◌≡◌, ℕ, zero, suc, ◌+◌, ◌<◌, ◌≤◌, List, [], ◌∷◌, ◌++◌, Some, None, refl, arith}
 use Rattle.std.proofs.lemmas.Int.{ints}
-use Rattle.teco_turns.specs.Moves.{State, OpenLoop, BeginsTurn, Goes, Enters, Returns, Forward, Into, Back, RunTakes}
+use Rattle.teco_turns.specs.Moves.{State, OpenLoop, Goes, Enters, Returns, Forward, Into, Back, RunTakes}
 use Rattle.teco_turns.specs.Needed.{needed, needed_loops, needed_end, needed_start, IsClosedButForFall, OwnFallIsNeeded}
 
 outer_body : (j : ℕ) → 0 < j → j ≤ 5 → (inner : List ℕ) × (needed_loops j ≡ inner ++ 0 ∷ [])
@@ -148,15 +148,55 @@ next n = omega arith
 
 -- a turn of the outer loop comes back to where it began
 lap : (moves n : ℕ) → RunTakes needed moves (at_node 1 2 outside) n → RunTakes needed (suc (suc (suc (suc (suc (suc (suc moves))))))) (at_node 1 2 outside) (suc (suc (suc (suc (suc (suc (suc n)))))))
-lap moves n run =
-    (at_node 2 0 outside, 1, _, Forward two_ahead, one,
-    (at_node 3 0 (inside 1), 1, _, Into enters_inner, one,
-    (at_node 4 1 (inside 1), 1, _, Forward (one_back 0 1 (omega arith)), one,
-    (at_node 3 1 (inside 0), 1, _, Back returns_inner, one,
-    (at_node 4 2 (inside 0), 1, _, Forward (one_back 1 0 (omega arith)), one,
-    (at_node 5 2 outside, 1, _, Forward leaves_inner, one,
-    (at_node 1 2 outside, 1, n, Back returns_outer, one, run, next n),
-    next _), next _), next _), next _), next _), next _)
+lap moves n run = (
+  at_node 2 0 outside,
+  1,
+  _,
+  Forward two_ahead,
+  one,
+  (
+    at_node 3 0 (inside 1),
+    1,
+    _,
+    Into enters_inner,
+    one,
+    (
+      at_node 4 1 (inside 1),
+      1,
+      _,
+      Forward (one_back 0 1 (omega arith)),
+      one,
+      (
+        at_node 3 1 (inside 0),
+        1,
+        _,
+        Back returns_inner,
+        one,
+        (
+          at_node 4 2 (inside 0),
+          1,
+          _,
+          Forward (one_back 1 0 (omega arith)),
+          one,
+          (
+            at_node 5 2 outside,
+            1,
+            _,
+            Forward leaves_inner,
+            one,
+            (at_node 1 2 outside, 1, n, Back returns_outer, one, run, next n),
+            next _,
+          ),
+          next _,
+        ),
+        next _,
+      ),
+      next _,
+    ),
+    next _,
+  ),
+  next _,
+)
 
 laps : (n : ℕ) → (moves : ℕ) × (steps : ℕ) × RunTakes needed moves (at_node 1 2 outside) steps × (n ≤ steps)
 laps zero = (0, 0, omega arith, omega arith)
@@ -169,5 +209,5 @@ own_fall_is_needed = record {
   closed = almost_closed;
   start = record { node = refl; some = omega arith; reached = refl; loops = refl; opened = refl; held = omega arith; ahead = omega arith };
   endless = λ n. let run = laps n in
-  (suc run.0, suc run.1, (at_node 1 2 outside, 1, run.1, Into enters_outer, one, run.2, next run.1), omega (arith, run.3));
+      (suc run.0, suc run.1, (at_node 1 2 outside, 1, run.1, Into enters_outer, one, run.2, next run.1), omega (arith, run.3));
 }

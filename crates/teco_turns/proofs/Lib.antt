@@ -8,3 +8,4 @@ mod Passed
 mod Sum
 mod Tight
 mod Endless
+mod Outgrown
