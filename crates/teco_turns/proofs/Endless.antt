@@ -2,9 +2,9 @@
 use Rattle.std.proofs.Common.{◌≡◌, ℕ, zero, suc, ◌+◌, ◌<◌, ◌≤◌, List, [], ◌∷◌, ◌++◌, Some, None, refl, arith}
 use Rattle.std.proofs.lemmas.Int.{ints}
 use Rattle.teco_turns.specs.Moves.{State, OpenLoop, Goes, Enters, Returns, Forward, Into, Back, RunTakes}
-use Rattle.teco_turns.specs.Needed.{needed, needed_loops, needed_end, needed_start, IsClosedButForFall, OwnFallIsNeeded}
+use Rattle.teco_turns.specs.Needed.{rising, rising_loops, rising_end, rising_start, IsClosedButForFall, OwnFallIsNeeded}
 
-outer_body : (j : ℕ) → 0 < j → j ≤ 5 → (inner : List ℕ) × (needed_loops j ≡ inner ++ 0 ∷ [])
+outer_body : (j : ℕ) → 0 < j → j ≤ 5 → (inner : List ℕ) × (rising_loops j ≡ inner ++ 0 ∷ [])
 outer_body zero from to = absurd (omega arith)
 outer_body (suc zero) from to = ([], refl)
 outer_body (suc (suc zero)) from to = ([], refl)
@@ -13,7 +13,7 @@ outer_body (suc (suc (suc (suc zero)))) from to = (2 ∷ [], refl)
 outer_body (suc (suc (suc (suc (suc zero))))) from to = ([], refl)
 outer_body (suc (suc (suc (suc (suc (suc n)))))) from to = absurd (omega arith)
 
-inner_body : (j : ℕ) → 2 < j → j ≤ 4 → (inner : List ℕ) × (needed_loops j ≡ inner ++ 2 ∷ 0 ∷ [])
+inner_body : (j : ℕ) → 2 < j → j ≤ 4 → (inner : List ℕ) × (rising_loops j ≡ inner ++ 2 ∷ 0 ∷ [])
 inner_body zero from to = absurd (omega arith)
 inner_body (suc zero) from to = absurd (omega arith)
 inner_body (suc (suc zero)) from to = absurd (omega arith)
@@ -21,7 +21,7 @@ inner_body (suc (suc (suc zero))) from to = ([], refl)
 inner_body (suc (suc (suc (suc zero)))) from to = ([], refl)
 inner_body (suc (suc (suc (suc (suc n))))) from to = absurd (omega arith)
 
-almost_closed : (l : ℕ) → l < needed_end l → IsClosedButForFall needed l
+almost_closed : (l : ℕ) → l < rising_end l → IsClosedButForFall rising l
 almost_closed zero some = record {
   nested = record { inside = omega arith; first = refl; body = outer_body };
   room = omega arith;
@@ -51,7 +51,7 @@ inside n = record { begin = 2; more = Some n } ∷ outside
 abbrev at_node : ℕ → ℕ → List OpenLoop → State
 at_node i ahead opened = record { node = i; held = 2; ahead = ahead; opened = opened }
 
-enters_outer : Enters needed needed_start (at_node 1 2 outside)
+enters_outer : Enters rising rising_start (at_node 1 2 outside)
 enters_outer = record {
   is_loop = omega arith;
   node = refl;
@@ -62,7 +62,7 @@ enters_outer = record {
   turns = omega arith;
 }
 
-two_ahead : Goes needed (at_node 1 2 outside) (at_node 2 0 outside)
+two_ahead : Goes rising (at_node 1 2 outside) (at_node 2 0 outside)
 two_ahead = record {
   later = omega arith;
   inside = omega arith;
@@ -74,7 +74,7 @@ two_ahead = record {
   falls = (omega (arith, ints), tt);
 }
 
-enters_inner : Enters needed (at_node 2 0 outside) (at_node 3 0 (inside 1))
+enters_inner : Enters rising (at_node 2 0 outside) (at_node 3 0 (inside 1))
 enters_inner = record {
   is_loop = omega arith;
   node = refl;
@@ -85,7 +85,7 @@ enters_inner = record {
   turns = omega arith;
 }
 
-one_back : (ahead n : ℕ) → ahead ≤ 1 → Goes needed (at_node 3 ahead (inside n)) (at_node 4 (suc ahead) (inside n))
+one_back : (ahead n : ℕ) → ahead ≤ 1 → Goes rising (at_node 3 ahead (inside n)) (at_node 4 (suc ahead) (inside n))
 one_back ahead n low = record {
   later = omega arith;
   inside = omega arith;
@@ -97,7 +97,7 @@ one_back ahead n low = record {
   falls = (omega (arith, ints), (omega (arith, ints), tt));
 }
 
-returns_inner : Returns needed (at_node 4 1 (inside 1)) (at_node 3 1 (inside 0))
+returns_inner : Returns rising (at_node 4 1 (inside 1)) (at_node 3 1 (inside 0))
 returns_inner = record {
   begin = 2;
   more = Some 1;
@@ -112,7 +112,7 @@ returns_inner = record {
   counts = (0, refl, refl);
 }
 
-leaves_inner : Goes needed (at_node 4 2 (inside 0)) (at_node 5 2 outside)
+leaves_inner : Goes rising (at_node 4 2 (inside 0)) (at_node 5 2 outside)
 leaves_inner = record {
   later = omega arith;
   inside = omega arith;
@@ -124,7 +124,7 @@ leaves_inner = record {
   falls = (omega (arith, ints), tt);
 }
 
-returns_outer : Returns needed (at_node 5 2 outside) (at_node 1 2 outside)
+returns_outer : Returns rising (at_node 5 2 outside) (at_node 1 2 outside)
 returns_outer = record {
   begin = 0;
   more = None;
@@ -147,7 +147,7 @@ next : (n : ℕ) → suc n ≡ 1 + n
 next n = omega arith
 
 -- a turn of the outer loop comes back to where it began
-lap : (moves n : ℕ) → RunTakes needed moves (at_node 1 2 outside) n → RunTakes needed (suc (suc (suc (suc (suc (suc (suc moves))))))) (at_node 1 2 outside) (suc (suc (suc (suc (suc (suc (suc n)))))))
+lap : (moves n : ℕ) → RunTakes rising moves (at_node 1 2 outside) n → RunTakes rising (suc (suc (suc (suc (suc (suc (suc moves))))))) (at_node 1 2 outside) (suc (suc (suc (suc (suc (suc (suc n)))))))
 lap moves n run = (
   at_node 2 0 outside,
   1,
@@ -198,7 +198,7 @@ lap moves n run = (
   next _,
 )
 
-laps : (n : ℕ) → (moves : ℕ) × (steps : ℕ) × RunTakes needed moves (at_node 1 2 outside) steps × (n ≤ steps)
+laps : (n : ℕ) → (moves : ℕ) × (steps : ℕ) × RunTakes rising moves (at_node 1 2 outside) steps × (n ≤ steps)
 laps zero = (0, 0, omega arith, omega arith)
 laps (suc n) =
     let before = laps n in

@@ -4,56 +4,56 @@ use Rattle.std.specs.List.{AllByRecursion}
 use Rattle.teco_turns.specs.Table.{Table, IsNested, IsKept, IsLost, commands}
 use Rattle.teco_turns.specs.Moves.{State, IsStart, RunTakes}
 
--- A kept loop wants an own fall of at least 0. A loop without a count goes 2 ahead, and in it another one goes back by 1,
--- two times: all else that a closed table says holds there, and runs go on without end.
+-- A kept loop wants an own fall of at least 0. A loop without a count goes 2 ahead, and in it another one goes back by
+-- 1, two times: all else that a closed table says holds there, and runs go on without end.
 
 -- nodes 0 and 5 are the outer loop, 2 and 4 the inner one; node 1 goes 2 ahead, node 3 goes back by 1
-abbrev pub needed_loops : ℕ → List ℕ
-needed_loops zero = []
-needed_loops (suc zero) = 0 ∷ []
-needed_loops (suc (suc zero)) = 0 ∷ []
-needed_loops (suc (suc (suc zero))) = 2 ∷ 0 ∷ []
-needed_loops (suc (suc (suc (suc zero)))) = 2 ∷ 0 ∷ []
-needed_loops (suc (suc (suc (suc (suc zero))))) = 0 ∷ []
-needed_loops (suc (suc (suc (suc (suc (suc n)))))) = []
+abbrev pub rising_loops : ℕ → List ℕ
+rising_loops zero = []
+rising_loops (suc zero) = 0 ∷ []
+rising_loops (suc (suc zero)) = 0 ∷ []
+rising_loops (suc (suc (suc zero))) = 2 ∷ 0 ∷ []
+rising_loops (suc (suc (suc (suc zero)))) = 2 ∷ 0 ∷ []
+rising_loops (suc (suc (suc (suc (suc zero))))) = 0 ∷ []
+rising_loops (suc (suc (suc (suc (suc (suc n)))))) = []
 
-abbrev pub needed_end : ℕ → ℕ
-needed_end zero = 5
-needed_end (suc zero) = 1
-needed_end (suc (suc zero)) = 4
-needed_end (suc (suc (suc n))) = suc (suc (suc n))
+abbrev pub rising_end : ℕ → ℕ
+rising_end zero = 5
+rising_end (suc zero) = 1
+rising_end (suc (suc zero)) = 4
+rising_end (suc (suc (suc n))) = suc (suc (suc n))
 
 -- what is ahead can be 2 at most, so the outer loop takes 3 turns; the inner one takes 2
-abbrev pub needed_turns : ℕ → ℕ
-needed_turns zero = 3
-needed_turns (suc l) = 2
+abbrev pub rising_turns : ℕ → ℕ
+rising_turns zero = 3
+rising_turns (suc l) = 2
 
 -- the falls for the outer loop, and for the inner one
-abbrev pub needed_fall : ℕ → ℕ → Option ℤ
-needed_fall (suc (suc zero)) l = Some (pos 2)
-needed_fall (suc (suc (suc zero))) zero = Some (pos 2)
-needed_fall (suc (suc (suc zero))) (suc l) = Some (pos 0)
-needed_fall (suc (suc (suc (suc zero)))) zero = Some (pos 1)
-needed_fall (suc (suc (suc (suc zero)))) (suc l) = Some (negsuc 0)
-needed_fall (suc (suc (suc (suc (suc zero))))) l = Some (pos 1)
-needed_fall i l = Some (pos 0)
+abbrev pub rising_fall : ℕ → ℕ → Option ℤ
+rising_fall (suc (suc zero)) l = Some (pos 2)
+rising_fall (suc (suc (suc zero))) zero = Some (pos 2)
+rising_fall (suc (suc (suc zero))) (suc l) = Some (pos 0)
+rising_fall (suc (suc (suc (suc zero)))) zero = Some (pos 1)
+rising_fall (suc (suc (suc (suc zero)))) (suc l) = Some (negsuc 0)
+rising_fall (suc (suc (suc (suc (suc zero))))) l = Some (pos 1)
+rising_fall i l = Some (pos 0)
 
-abbrev pub needed : Table
-needed = record {
+abbrev pub rising : Table
+rising = record {
   size = 7;
   reached = λ i. true;
   own = λ i. 1;
-  loops = needed_loops;
-  end = needed_end;
-  turns = needed_turns;
+  loops = rising_loops;
+  end = rising_end;
+  turns = rising_turns;
   growth = λ l. 0;
   held_most = λ i. 2;
   ahead_most = λ i. 2;
-  fall = needed_fall;
+  fall = rising_fall;
 }
 
-abbrev pub needed_start : State
-needed_start = record { node = 0; held = 2; ahead = 2; opened = [] }
+abbrev pub rising_start : State
+rising_start = record { node = 0; held = 2; ahead = 2; opened = [] }
 
 -- what a closed table says of a kept loop, but for the own fall
 pub record IsClosedButForFall (t : Table) (l : ℕ) : Type 0 where
@@ -66,12 +66,12 @@ pub record IsClosedButForFall (t : Table) (l : ℕ) : Type 0 where
 
 -- runs take any number of steps
 pub record OwnFallIsNeeded : Type 0 where
-  pub closed : (l : ℕ) → l < needed_end l → IsClosedButForFall needed l
-  pub start : IsStart needed needed_start
-  pub endless : (n : ℕ) → (moves : ℕ) × (steps : ℕ) × RunTakes needed moves needed_start steps × (n ≤ steps)
+  pub closed : (l : ℕ) → l < rising_end l → IsClosedButForFall rising l
+  pub start : IsStart rising rising_start
+  pub endless : (n : ℕ) → (moves : ℕ) × (steps : ℕ) × RunTakes rising moves rising_start steps × (n ≤ steps)
 
--- A loop wants that what is held grows by no more than its growth. A loop takes two turns; in it another one takes no more
--- than there is ahead, and one, and then 5 are put in. The growth is said to be 0.
+-- A loop wants that what is held grows by no more than its growth. A loop takes two turns; in it another one takes no
+-- more turns than there is ahead, and one, and then 5 are put in. The growth is said to be 0.
 
 -- nodes 0 and 5 are the outer loop, 1 and 3 the inner one; node 2 goes 1 ahead, node 4 puts in
 abbrev pub grown_loops : ℕ → List ℕ

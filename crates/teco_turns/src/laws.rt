@@ -53,8 +53,8 @@ pub fn own_fall_is_needed()
     ensures { OwnFallIsNeeded }
 {}
 
-/// Where a loop grows more in a turn than its growth, a run may take more steps than are printed, whatever else a closed
-/// table says.
+/// Where a loop grows more in a turn than its growth, a run may take more steps than are printed, whatever else a
+/// closed table says.
 pub fn growth_is_needed()
     ensures { GrowthIsNeeded }
 {}
