@@ -7,3 +7,5 @@ mod Forward
 mod Passed
 mod Sum
 mod Tight
+mod Endless
+mod Outgrown

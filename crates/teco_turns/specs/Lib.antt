@@ -8,3 +8,4 @@ pub mod Nests
 pub mod Edges
 pub mod Listed
 pub mod Worked
+pub mod Needed

@@ -3,6 +3,7 @@ ghost use Rattle.teco_turns.specs.Edges.{EdgesGo};
 ghost use Rattle.teco_turns.specs.Listed.{CommandsAreSum};
 ghost use Rattle.teco_turns.specs.Machines.{MachinesEnd};
 ghost use Rattle.teco_turns.specs.Moves.{RunsAreBounded};
+ghost use Rattle.teco_turns.specs.Needed.{GrowthIsNeeded, OwnFallIsNeeded};
 ghost use Rattle.teco_turns.specs.Nests.{NodesNest};
 ghost use Rattle.teco_turns.specs.Turns.{RunsAreCovered, TurnsAreBounded};
 ghost use Rattle.teco_turns.specs.Worked.{WorkedIsTight};
@@ -45,4 +46,15 @@ pub fn commands_are_sum()
 /// There is a table and a run that takes all the steps that are printed.
 pub fn worked_is_tight()
     ensures { WorkedIsTight }
+{}
+
+/// Without an own fall of at least 0 a kept loop may go on without end, whatever else a closed table says.
+pub fn own_fall_is_needed()
+    ensures { OwnFallIsNeeded }
+{}
+
+/// Where a loop grows more in a turn than its growth, a run may take more steps than are printed, whatever else a
+/// closed table says.
+pub fn growth_is_needed()
+    ensures { GrowthIsNeeded }
 {}
