@@ -1,5 +1,5 @@
 -- What a host for tests shows, and where it fails.
-use Rattle.std.specs.Prelude.{ℕ, ◌≡◌, ◌-◌, ◌<◌, Bool, true, false, ◌&&◌, ◌==◌, if◌then◌else◌, Result, Ok, Err}
+use Rattle.std.specs.Prelude.{ℕ, ◌≡◌, ◌+◌, ◌-◌, ◌<◌, Bool, true, false, ◌&&◌, ◌==◌, if◌then◌else◌, Result, Ok, Err}
 use Rattle.teco_pages.specs.MemFiles.{MemFiles}
 use Rattle.teco_pages.specs.declared.test_host.HostCall.{HostCall}
 use Rattle.teco_pages.specs.declared.test_host.HostCall.TheVariants.{OpenIn, Read, OpenOut, Write, CloseOut, DropOut}
@@ -12,6 +12,10 @@ pub record TestFiles : Type 0 where
   pub call : HostCall
   pub left : ℕ
   pub failed : ℕ
+
+-- how many calls have failed, its own and those of the host that has the files
+abbrev pub failures_of : TestFiles → ℕ
+failures_of files = files.mem.failures + files.failed
 
 -- are two calls of one kind?
 abbrev pub same_call : HostCall → HostCall → Bool

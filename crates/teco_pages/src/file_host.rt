@@ -1,5 +1,5 @@
 // A host of the files of the system.
-ghost use Rattle.std.specs.Prelude.{◌≡◌, ◌≤◌, ◌<◌, ◌+◌, ℕ, None, length, IfOk, OnOk, OnErr, IfSome};
+ghost use Rattle.std.specs.Prelude.{◌≤◌, ◌<◌, None, length, IfOk};
 ghost use Rattle.teco_base.specs.declared.TheConstants.{LIMIT};
 
 use crate::count::Count;
@@ -20,11 +20,11 @@ const PRIVATE: u32 = 0o600;
 
 /// The files of the system, by the runtime `R`. It tells how many of its calls have failed, and nothing of the files.
 ///
-/// An output is a new file in its target's folder, under a name that no file has, until `close_out` moves it over its target:
-/// whole, and in one move. It has the permissions of a file that it will replace, where the system lets it. A target that leads
-/// by links to a regular file is that file; any other that exists and is no regular file is refused when the output is opened,
-/// as is one in a folder that cannot be written. Where an output is dropped, and where the host is dropped with one open, the
-/// new file is removed. A name that is no UTF-8 opens nothing.
+/// An output is a new file in its target's folder, under a name that no file has, until `close_out` moves it over its
+/// target: whole, and in one move. It has the permissions of a file that it will replace, where the system lets it. A
+/// target that leads by links to a regular file is that file; any other that exists and is no regular file is refused
+/// when the output is opened, as is one in a folder that cannot be written. Where an output is dropped, and where the
+/// host is dropped with one open, the new file is removed. A name that is no UTF-8 opens nothing.
 pub struct FileHost<R: Files + Drop> {
     rt: R,
     alloc: Global,

@@ -8,9 +8,10 @@ use crate::fault::Failed;
 
 /// Files outside: those that have names, one input and one output at a time. A name is any bytes.
 ///
-/// An output takes its name when it is closed, whole and in one move; until then a file of that name is as it was. A call
-/// that fails changes no file, but after a failed `close_out` or `drop_out` the output is dropped. A host that can tell its
-/// files does so to contracts; another, as one of real files, tells how many of its calls have failed and no more.
+/// An output takes its name when it is closed, whole and in one move; until then a file of that name is as it was. A
+/// call that fails changes no file, but after a failed `close_out` or `drop_out` the output is dropped. A host that can
+/// tell its files does so to contracts; another, as one of real files, tells how many of its calls have failed and no
+/// more.
 pub trait Host {
     // its files, if it tells them
     ghost files: { Self → Option HostFiles };

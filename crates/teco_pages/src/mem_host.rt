@@ -28,8 +28,8 @@ impl Model for MemFile {
 
 /// A host of files in memory, which tells them.
 ///
-/// Its calls fail where a name has no file, where an input is read on past `LIMIT` bytes, where no output is open for a call
-/// that needs one, and where memory is refused.
+/// Its calls fail where a name has no file, where an input is read on past `LIMIT` bytes, where no output is open for a
+/// call that needs one, and where memory is refused.
 #[derive(Drop)]
 pub struct MemHost {
     files: Vec<MemFile>,

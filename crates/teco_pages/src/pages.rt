@@ -2,7 +2,7 @@
 ghost use Rattle.std.specs.Prelude.{◌≡◌, ◌≤◌, ◌++◌, [], ◌∷◌, if◌then◌else◌, Some, None, false, length, option_map, option_copied, IsSome, IfSome, OnOk, OnErr};
 ghost use Rattle.teco_base.specs.declared.TheConstants.{LIMIT};
 ghost use Rattle.teco_base.specs.declared.bytes.TheConstants.{FF};
-ghost use Rattle.teco_model.specs.Pages.{Page, first_page, behind_first_page, has_form_feed, written_page};
+ghost use Rattle.teco_model.specs.Pages.{first_page, behind_first_page, has_form_feed, written_page};
 ghost use Rattle.teco_pages.specs.Held.{nothing_held, with_input, without_input, without_page, with_all_read, unread_bytes};
 ghost use Rattle.teco_pages.specs.HostCalls.{OpensIn, OpensOut, Closes};
 ghost use Rattle.teco_pages.specs.HostFiles.{HostFiles, Told, Becomes, after_dropping};
@@ -20,8 +20,9 @@ use teco_base::bytes::FF;
 
 /// What an editor has open: an input that is read page by page, and an output.
 ///
-/// Of the input's bytes it keeps the page that is read and at most 4,096 bytes behind it. Bytes that were read and not accepted
-/// stay unread input, whatever is refused. A fault of the host comes only where the host's count of failures rose.
+/// Of the input's bytes it keeps the page that is read and at most 4,096 bytes behind it. Bytes that were read and not
+/// accepted stay unread input, whatever is refused. A fault of the host comes only where the host's count of failures
+/// rose.
 #[derive(Drop)]
 pub struct Pages {
     input: Option<Vec<u8>>,
@@ -151,8 +152,8 @@ impl Pages {
         self.output.as_deref()
     }
 
-    /// Makes the first page of the unread input ready, unless it is: an empty page at the end of the input, and without one.
-    /// It stays unread input.
+    /// Makes the first page of the unread input ready, unless it is: an empty page at the end of the input, and without
+    /// one. It stays unread input.
     pub fn next_page<H: Host>(&mut self, host: &mut H) -> Result<(), Fault>
         ensures answer { OkOrCannotRead result (H.failures host.old) (H.failures host.new) }
         ensures page { Told (MakesReady result self.old self.new) (H.files host.old) (H.files host.new) }
@@ -201,8 +202,8 @@ impl Pages {
         }
     }
 
-    /// Writes a page in two parts to the output, and a form feed behind it if `ff` says so; with a fault some of that from its
-    /// front.
+    /// Writes a page in two parts to the output, and a form feed behind it if `ff` says so; with a fault some of that
+    /// from its front.
     pub fn write_page<H: Host>(
         &self,
         first: &[u8],

@@ -3,7 +3,7 @@ ghost use Rattle.std.specs.Prelude.{◌≡◌, ◌≤◌, ◌<◌, ◌+◌, leng
 ghost use Rattle.teco_base.specs.declared.TheConstants.{LIMIT};
 ghost use Rattle.teco_pages.specs.HostCalls.{Counts, OpensIn, ReadsSome, OpensOut, WritesSome, Closes};
 ghost use Rattle.teco_pages.specs.HostFiles.{Becomes, after_dropping};
-ghost use Rattle.teco_pages.specs.TestFiles.{FailsAsNamed, after_call, is_due, same_call};
+ghost use Rattle.teco_pages.specs.TestFiles.{FailsAsNamed, after_call, failures_of, is_due, same_call};
 
 use crate::count::Count;
 use crate::fault::Failed;
@@ -41,14 +41,20 @@ impl Model for TestHost {
 
     ghost Value = { TestFiles };
 
-    ghost view = { λ t. record { mem = t.mem; piece = t.piece; call = t.call; left = t.left; failed = t.failures.value } };
+    ghost view = { λ t. record {
+      mem = t.mem;
+      piece = t.piece;
+      call = t.call;
+      left = t.left;
+      failed = t.failures.value;
+    } };
 
     ghost invariant = { λ t. 0 < t.piece };
 }
 
 impl TestHost {
-    /// A host over the files of `mem` that moves at most `piece` bytes a call, and fails at the `nth` call of the kind `call`;
-    /// never where that is 0.
+    /// A host over the files of `mem` that moves at most `piece` bytes a call, and fails at the `nth` call of the kind
+    /// `call`; never where that is 0.
     pub fn new(mem: MemHost, piece: usize, call: HostCall, nth: u64) -> TestHost
         requires { 0 < piece }
         ensures { result ≡ record { mem = mem; piece = piece; call = call; left = nth; failed = 0 } }
@@ -99,13 +105,13 @@ fn is_same(a: HostCall, b: HostCall) -> bool
 impl Host for TestHost {
     ghost files = { λ t. Some t.mem.told };
 
-    ghost failures = { λ t. t.mem.failures + t.failed };
+    ghost failures = { failures_of };
 
     ghost given = { λ t. t.mem.given };
 
     fn open_in(&mut self, name: &[u8]) -> Result<(), Failed>
         ensures files { OpensIn name.now result (Some self.old.mem.told) (Some self.new.mem.told) }
-        ensures counted { Counts result (self.old.mem.failures + self.old.failed) (self.new.mem.failures + self.new.failed) }
+        ensures counted { Counts result (failures_of self.old) (failures_of self.new) }
         ensures given { OnOk result (self.new.mem.given ≡ 0) }
         ensures err { OnErr result (self.new.mem.given ≡ self.old.mem.given) }
         ensures named { FailsAsNamed HostCall.OpenIn self.old self.new result }
@@ -118,7 +124,7 @@ impl Host for TestHost {
 
     fn read(&mut self, buf: &mut [u8]) -> Result<usize, Failed>
         ensures files { ReadsSome buf.new result (Some self.old.mem.told) (Some self.new.mem.told) }
-        ensures counted { Counts result (self.old.mem.failures + self.old.failed) (self.new.mem.failures + self.new.failed) }
+        ensures counted { Counts result (failures_of self.old) (failures_of self.new) }
         ensures bound { IfOk result (λ n. n ≤ length buf.new) }
         ensures given { IfOk result (λ n. self.new.mem.given ≡ self.old.mem.given + n) }
         ensures limit { OnOk result (self.new.mem.given ≤ LIMIT) }
@@ -135,7 +141,7 @@ impl Host for TestHost {
 
     fn open_out(&mut self, name: &[u8]) -> Result<(), Failed>
         ensures files { OpensOut name.now result (Some self.old.mem.told) (Some self.new.mem.told) }
-        ensures counted { Counts result (self.old.mem.failures + self.old.failed) (self.new.mem.failures + self.new.failed) }
+        ensures counted { Counts result (failures_of self.old) (failures_of self.new) }
         ensures given { self.new.mem.given ≡ self.old.mem.given }
         ensures named { FailsAsNamed HostCall.OpenOut self.old self.new result }
     {
@@ -147,7 +153,7 @@ impl Host for TestHost {
 
     fn write(&mut self, bytes: &[u8]) -> Result<usize, Failed>
         ensures files { WritesSome bytes.now result (Some self.old.mem.told) (Some self.new.mem.told) }
-        ensures counted { Counts result (self.old.mem.failures + self.old.failed) (self.new.mem.failures + self.new.failed) }
+        ensures counted { Counts result (failures_of self.old) (failures_of self.new) }
         ensures bound { IfOk result (λ n. n ≤ length bytes.now) }
         ensures some { IfOk result (λ n. 0 < length bytes.now → 0 < n) }
         ensures given { self.new.mem.given ≡ self.old.mem.given }
@@ -163,7 +169,7 @@ impl Host for TestHost {
 
     fn close_out(&mut self) -> Result<(), Failed>
         ensures files { Closes result (Some self.old.mem.told) (Some self.new.mem.told) }
-        ensures counted { Counts result (self.old.mem.failures + self.old.failed) (self.new.mem.failures + self.new.failed) }
+        ensures counted { Counts result (failures_of self.old) (failures_of self.new) }
         ensures given { self.new.mem.given ≡ self.old.mem.given }
         ensures named { FailsAsNamed HostCall.CloseOut self.old self.new result }
     {
@@ -177,7 +183,7 @@ impl Host for TestHost {
 
     fn drop_out(&mut self) -> Result<(), Failed>
         ensures files { Becomes after_dropping (Some self.old.mem.told) (Some self.new.mem.told) }
-        ensures counted { Counts result (self.old.mem.failures + self.old.failed) (self.new.mem.failures + self.new.failed) }
+        ensures counted { Counts result (failures_of self.old) (failures_of self.new) }
         ensures given { self.new.mem.given ≡ self.old.mem.given }
         ensures named { FailsAsNamed HostCall.DropOut self.old self.new result }
     {

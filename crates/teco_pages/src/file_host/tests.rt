@@ -1,5 +1,5 @@
-// Real files, in a scratch folder. A call that is refused memory is made once more, so that each test also holds where one
-// allocation fails.
+// Real files, in a scratch folder. A call that is refused memory is made once more, so that each test also holds where
+// one allocation fails.
 use super::*;
 use std::os::unix::fs::{PermissionsExt, symlink};
 use std::test::Fail;
