@@ -5,4 +5,5 @@ pub mod Reading
 pub mod Ready
 pub mod Rest
 pub mod Shifted
+pub mod Told
 pub mod Written

@@ -11,6 +11,7 @@ use Rattle.teco_pages.specs.PageCalls.{MakesReady, IsFirstPage}
 use Rattle.teco_pages.specs.Reading.{EndsPage, Shifts}
 use Rattle.teco_pages.specs.declared.fault.Fault.{Fault}
 use Rattle.teco_pages.specs.declared.fault.Fault.TheVariants.{NoFile, In, Out, Full, Memory}
+use Rattle.teco_pages.proofs.Told.{told-same}
 use Rattle.teco_pages.proofs.Cuts.{onward, whole-none}
 
 -- what is held, by its parts
@@ -22,11 +23,6 @@ held input text ready ahead end output = record {
   end = end;
   output = output;
 }
-
--- of a host that was not called
-pub told-same : (R : HostFiles → HostFiles → Type 0) → ((f : HostFiles) → R f f) → (x : Option HostFiles) → Told R x x
-told-same R r None = tt
-told-same R r (Some f) = r f
 
 -- the first page, where it is known
 first-ff : (p l : List ℕ) → has_form_feed p ≡ false → ◌≡◌ {A = Page} (record { text = p; ff = true }) (first_page (p ++ FF ∷ l))

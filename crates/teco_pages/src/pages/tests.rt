@@ -248,3 +248,19 @@ fn what_is_open(rt: HostRuntime) -> Result<(), Fail> {
     assert!(rt; host.file(b"no").is_none());
     Ok(())
 }
+
+#[test]
+fn an_output_is_dropped_where_dropping_fails(rt: HostRuntime) -> Result<(), Fail> {
+    let mut host = TestHost::new(files(rt.alloc(), b"")?, 1, HostCall::DropOut, 1);
+    let mut pages = Pages::new(rt.alloc());
+    if pages.open_out(b"out", &mut host).is_err() {
+        pages.open_out(b"out", &mut host)?;
+    }
+    if pages.write_page(b"a", b"b", true, &mut host).is_err() {
+        pages.write_page(b"a", b"b", true, &mut host)?;
+    }
+    assert!(rt; pages.drop_out(&mut host).is_err());
+    assert!(rt; pages.output_name().is_none());
+    assert_eq!(rt; host.mem().file(b"out"), Some(b"old".as_slice()));
+    Ok(())
+}
