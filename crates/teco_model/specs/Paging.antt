@@ -46,15 +46,23 @@ page_of_buffer kept = record { text = kept.text; ff = kept.form_feed }
 abbrev pub kept_with_page : Page → Kept → Kept
 kept_with_page page kept = record kept { text = page.text; pointer = 0; form_feed = page.ff }
 
--- The next page of the input in the place of the buffer: an empty one at its end, or where none is open.
+-- a page becomes the buffer
+abbrev pub page_taken : Page → Kept → Result Kept Code
+page_taken page kept = do
+  text ← fitting page.text
+  Ok (kept_with_page page kept)
+
+-- a page comes behind the buffer, whose pointer stays
+abbrev pub page_added : Page → Kept → Result Kept Code
+page_added page kept = do
+  text ← fitting (kept.text ++ page.text)
+  Ok (record kept { text = kept.text ++ page.text; form_feed = page.ff })
+
+-- The next page of the input becomes the buffer: an empty one at its end, or where none is open.
 abbrev pub world_with_next_page : World → Result World Code
-world_with_next_page world =
-    let page = first_page (unread world.files) in do
-      text ← fitting page.text
-      Ok (record {
-        kept = kept_with_page (record page { text = text }) world.kept;
-        files = files_behind_page world.files;
-      })
+world_with_next_page world = do
+  kept ← page_taken (first_page (unread world.files)) world.kept
+  Ok (record { kept = kept; files = files_behind_page world.files })
 
 -- a buffer that is not empty is not lost while an output is open: YCA
 abbrev pub nothing_lost : List ℕ → Option Output → Result (Unit {0}) Code
@@ -71,13 +79,9 @@ yank world = do
 -- A adds the next page at the end of the buffer, and leaves the pointer; at the end of the input it changes nothing.
 abbrev pub appended : List ℕ → World → Result World Code
 appended [] world = Ok world
-appended (c ∷ bytes) world =
-    let page = first_page (c ∷ bytes) in do
-      text ← fitting (world.kept.text ++ page.text)
-      Ok (record {
-        kept = record world.kept { text = text; form_feed = page.ff };
-        files = files_behind_page world.files;
-      })
+appended (c ∷ bytes) world = do
+  kept ← page_added (first_page (c ∷ bytes)) world.kept
+  Ok (record { kept = kept; files = files_behind_page world.files })
 
 abbrev pub append : World → Result World Code
 append world = do

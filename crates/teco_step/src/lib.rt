@@ -8,6 +8,7 @@ mod editor;
 mod finding;
 mod insertion;
 mod motion;
+mod pages;
 mod places;
 mod query;
 mod storage;

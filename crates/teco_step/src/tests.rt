@@ -488,3 +488,28 @@ fn searches_leave_their_text(rt: HostRuntime) -> Result<(), Fail> {
     assert_eq!(rt; editor.take_typed().as_slice(), &b"no"[..]);
     Ok(())
 }
+
+#[test]
+fn pages_come_into_the_buffer(rt: HostRuntime) {
+    let mut editor = Editor::new(rt.alloc(), VecText::new(rt.alloc()));
+    assert!(rt; !editor.form_feed());
+    if editor.take_page(b"ab", true).is_err() {
+        editor
+            .take_page(b"ab", true)
+            .map_err(|_| ())
+            .expect(&rt, "memory");
+    }
+    expect_text(&rt, &editor, b"ab", 0);
+    assert!(rt; editor.form_feed());
+    editor.set_dot(1);
+    if editor.add_page(b"cd", false).is_err() {
+        editor
+            .add_page(b"cd", false)
+            .map_err(|_| ())
+            .expect(&rt, "memory");
+    }
+    expect_text(&rt, &editor, b"abcd", 1);
+    assert!(rt; !editor.form_feed());
+    assert!(rt; editor.take_page(b"", false).is_ok());
+    expect_text(&rt, &editor, b"", 0);
+}
