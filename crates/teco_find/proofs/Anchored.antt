@@ -39,7 +39,7 @@ one_more items n d within singles some =
     subst (λ k. AreSingle k items) (sym next) (next_single items n d within singles (is_single (get_or items n d) some))
 
 -- the character at the front of a match
-marked_front : (i : Item) (items : List Item) (m : Mark) (text : List ℕ) → IsMarkedBy i m → IsSome (model.match_rest (i ∷ items) text) → (0 < length text) × Passes (is_marked m) text 0
+pub marked_front : (i : Item) (items : List Item) (m : Mark) (text : List ℕ) → IsMarkedBy i m → IsSome (model.match_rest (i ∷ items) text) → (0 < length text) × Passes (is_marked m) text 0
 marked_front (item.Is c) items m [] marked some = absurd (false≢true some)
 marked_front (item.Is c) items m (b ∷ text) marked some = by_test (model.is_in c b) (cc) some
   where
@@ -50,11 +50,11 @@ marked_front (item.IsNot c) items m text marked some = absurd marked
 marked_front item.Blanks items m text marked some = absurd marked
 
 -- a match goes on behind it
-record GoesOn (items : List Item) (text : List ℕ) : Type 0 where
-  first : ℕ
-  rest : List ℕ
-  is : text ≡ first ∷ rest
-  some : IsSome (model.match_rest items rest)
+pub record GoesOn (items : List Item) (text : List ℕ) : Type 0 where
+  pub first : ℕ
+  pub rest : List ℕ
+  pub is : text ≡ first ∷ rest
+  pub some : IsSome (model.match_rest items rest)
 
 one_front : (passes : ℕ → Bool) (items : List Item) (text : List ℕ) → IsSome (option_and_then (model.match_rest items) (model.one_rest passes text)) → GoesOn items text
 one_front passes items [] some = absurd (false≢true some)
@@ -64,7 +64,7 @@ one_front passes items (b ∷ text) some = by_test (passes b) some
     by_test true some = record { first = b; rest = text; is = cc; some = some }
     by_test false some = absurd (false≢true some)
 
-goes_on : (i : Item) (items : List Item) (text : List ℕ) → IsSingle i → IsSome (model.match_rest (i ∷ items) text) → GoesOn items text
+pub goes_on : (i : Item) (items : List Item) (text : List ℕ) → IsSingle i → IsSome (model.match_rest (i ∷ items) text) → GoesOn items text
 goes_on (item.Is c) items text single some = one_front (model.is_in c) items text some
 goes_on (item.IsNot c) items text single some = one_front (λ b. not (model.is_in c b)) items text some
 goes_on item.Blanks items text single some = absurd single
@@ -81,7 +81,7 @@ mapped : (o : Option (List ℕ)) (f : List ℕ → Span) → IsSome (option_map 
 mapped None f some = absurd (false≢true some)
 mapped (Some rest) f some = some
 
-matched : (items : List Item) (text : List ℕ) (at : ℕ) → IsSome (model.here items text at) → IsSome (model.match_rest items (drop at text))
+pub matched : (items : List Item) (text : List ℕ) (at : ℕ) → IsSome (model.here items text at) → IsSome (model.match_rest items (drop at text))
 unfolding model.here
 matched [] text at some = absurd (false≢true some)
 matched (i ∷ items) text at some = mapped (model.match_rest (i ∷ items) (drop at text)) _ some

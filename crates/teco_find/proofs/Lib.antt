@@ -1,5 +1,6 @@
 mod Anchored
 mod Marks
 mod Matches
+mod Needled
 mod Starts
 mod Succession

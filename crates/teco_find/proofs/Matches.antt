@@ -3,12 +3,13 @@ use Rattle.std.proofs.Common.{◌≡◌, ℕ, zero, suc, ◌+◌, ◌-◌, ◌<�
 use Rattle.std.proofs.lemmas.List.{at_drop_more, length-drop}
 use Rattle.std.specs.Option.{option_or}
 use Rattle.std.specs.Prelude.{IsSome, option_map, option_and_then}
-use Rattle.memchr.specs.Find.{IsFirst, IsLast, Nowhere}
+use Rattle.memchr.specs.Find.{IsFirst, IsLast, Nowhere, NoneBefore, NoneAfter}
 use Rattle.teco_model.specs.Match as model
 use Rattle.teco_model.specs.Pattern.{Pattern}
 use Rattle.teco_model.specs.declared.pattern.Item.{Item}
 use Rattle.teco_model.specs.declared.pattern.Span.{Span}
-use Rattle.teco_find.specs.Anchors.{Anchors, Stands}
+use Rattle.teco_find.specs.Anchors.{Anchors, IsLastTried, IsNextTried, Stands, StartsAt}
+use Rattle.teco_find.specs.Needles.{Begins, NoneUpTo}
 use Rattle.teco_find.specs.declared.anchor.Anchor.{Anchor}
 
 -- what elements leave, from the next on
@@ -45,16 +46,16 @@ module _ (pattern : Pattern) (text : List ℕ) where
   pub last_none : (n : ℕ) → n ≡ 0 → model.last_before pattern text n ≡ None
   last_none n e = ap (model.last_before pattern text) e
 
--- the same where an anchor's mark stands at no place that is passed
+-- what is passed, where no match starts there
 none_found : (o : Option Span) → (IsSome o → ⊥) → o ≡ None
 none_found None none = refl
 none_found (Some span) none = absurd (none refl)
 
-module _ (pattern : Pattern) (anchor : Anchor) (text : List ℕ) (anchors : Anchors pattern anchor) where
-  not_here : (at : ℕ) → (Stands anchor text at → ⊥) → model.here pattern text at ≡ None
-  not_here at none = none_found (model.here pattern text at) (λ some. none (anchors text at some))
+module _ (pattern : Pattern) (text : List ℕ) where
+  not_here : (at : ℕ) → (StartsAt pattern text at → ⊥) → model.here pattern text at ≡ None
+  not_here at none = none_found (model.here pattern text at) none
 
-  first_past : (n at : ℕ) → at + n ≤ length text → Nowhere (Stands anchor text) at (at + n) → model.first_from pattern text at ≡ model.first_from pattern text (at + n)
+  first_past : (n at : ℕ) → at + n ≤ length text → Nowhere (StartsAt pattern text) at (at + n) → model.first_from pattern text at ≡ model.first_from pattern text (at + n)
   first_past zero at within none = let same : at ≡ at + zero = omega arith in ap (model.first_from pattern text) same
   first_past (suc n) at within none =
       let next : at + 1 + n ≡ at + suc n = omega arith in
@@ -64,61 +65,66 @@ module _ (pattern : Pattern) (anchor : Anchor) (text : List ℕ) (anchors : Anch
       ∙ later
       ∙ ap (model.first_from pattern text) next
 
-  first_jump : (at start : ℕ) → IsFirst (Stands anchor text) at (length text) (Some start) → model.first_from pattern text at ≡ model.first_from pattern text start
+  first_jump : (at start : ℕ) → NoneBefore (StartsAt pattern text) at (length text) start → model.first_from pattern text at ≡ option_or (model.here pattern text start) (model.first_from pattern text (start + 1))
   first_jump at start h =
-      let low = h.0.low in
-      let high = h.0.high in
+      let low = h.low in
+      let high = h.high in
       let there : at + (start - at) ≡ start = omega arith in
-      first_past (start - at) at (omega arith) (λ k from below. h.0.before k from (omega arith)) ∙ ap (model.first_from pattern text) there
+      first_past (start - at) at (omega arith) (λ k from below. h.before k from (omega arith))
+      ∙ ap (model.first_from pattern text) there
+      ∙ first_more pattern text start high
 
-  pub first_found : (at start : ℕ) (span : Span) → IsFirst (Stands anchor text) at (length text) (Some start) → Some span ≡ model.here pattern text start → Some span ≡ model.first_from pattern text at
-  first_found at start span h found =
-      ap (λ o. option_or o (model.first_from pattern text (start + 1))) found
-      ∙ sym (first_more pattern text start (let high = h.0.high in omega arith))
-      ∙ sym (first_jump at start h)
+  pub first_found : (at start : ℕ) (span : Span) → NoneBefore (StartsAt pattern text) at (length text) start → Some span ≡ model.here pattern text start → Some span ≡ model.first_from pattern text at
+  first_found at start span h found = ap (λ o. option_or o (model.first_from pattern text (start + 1))) found ∙ sym (first_jump at start h)
 
-  pub first_missed : (at start : ℕ) → IsFirst (Stands anchor text) at (length text) (Some start) → None ≡ model.here pattern text start → model.first_from pattern text (start + 1) ≡ model.first_from pattern text at
-  first_missed at start h missed =
-      ap (λ o. option_or o (model.first_from pattern text (start + 1))) missed
-      ∙ sym (first_more pattern text start (let high = h.0.high in omega arith))
-      ∙ sym (first_jump at start h)
+  pub first_missed : (at start : ℕ) → NoneBefore (StartsAt pattern text) at (length text) start → None ≡ model.here pattern text start → model.first_from pattern text (start + 1) ≡ model.first_from pattern text at
+  first_missed at start h missed = ap (λ o. option_or o (model.first_from pattern text (start + 1))) missed ∙ sym (first_jump at start h)
 
-  pub first_nowhere : (at : ℕ) → at ≤ length text → IsFirst (Stands anchor text) at (length text) None → model.first_from pattern text at ≡ None
+  pub first_nowhere : (at : ℕ) → at ≤ length text → Nowhere (StartsAt pattern text) at (length text) → model.first_from pattern text at ≡ None
   first_nowhere at within h =
       let there : at + (length text - at) ≡ length text = omega arith in
       first_past (length text - at) at (omega arith) (λ k from below. h k from (omega arith))
       ∙ ap (model.first_from pattern text) there
       ∙ first_none pattern text (length text) (omega arith)
 
-  last_past : (n at : ℕ) → Nowhere (Stands anchor text) at (at + n) → model.last_before pattern text (at + n) ≡ model.last_before pattern text at
+  last_past : (n at : ℕ) → Nowhere (StartsAt pattern text) at (at + n) → model.last_before pattern text (at + n) ≡ model.last_before pattern text at
   last_past zero at none = let same : at + zero ≡ at = omega arith in ap (model.last_before pattern text) same
   last_past (suc n) at none =
       last_more pattern text (at + n) (at + suc n) (omega arith)
       ∙ ap (λ o. option_or o (model.last_before pattern text (at + n))) (not_here (at + n) (none (at + n) (omega arith) (omega arith)))
       ∙ last_past n at (λ k from below. none k from (omega arith))
 
-  last_jump : (before start : ℕ) → IsLast (Stands anchor text) 0 before (Some start) → model.last_before pattern text before ≡ model.last_before pattern text (start + 1)
+  last_jump : (before start : ℕ) → NoneAfter (StartsAt pattern text) 0 before start → model.last_before pattern text before ≡ option_or (model.here pattern text start) (model.last_before pattern text start)
   last_jump before start h =
-      let high = h.0.high in
+      let high = h.high in
       let there : before ≡ start + 1 + (before - (start + 1)) = omega arith in
-      ap (model.last_before pattern text) there ∙ last_past (before - (start + 1)) (start + 1) (λ k from below. h.0.after k from (omega arith))
+      ap (model.last_before pattern text) there
+      ∙ last_past (before - (start + 1)) (start + 1) (λ k from below. h.after k from (omega arith))
+      ∙ last_more pattern text start (start + 1) (omega arith)
 
-  pub last_found : (before start : ℕ) (span : Span) → IsLast (Stands anchor text) 0 before (Some start) → Some span ≡ model.here pattern text start → Some span ≡ model.last_before pattern text before
-  last_found before start span h found =
-      ap (λ o. option_or o (model.last_before pattern text start)) found
-      ∙ sym (last_more pattern text start (start + 1) (omega arith))
-      ∙ sym (last_jump before start h)
+  pub last_found : (before start : ℕ) (span : Span) → NoneAfter (StartsAt pattern text) 0 before start → Some span ≡ model.here pattern text start → Some span ≡ model.last_before pattern text before
+  last_found before start span h found = ap (λ o. option_or o (model.last_before pattern text start)) found ∙ sym (last_jump before start h)
 
-  pub last_missed : (before start : ℕ) → IsLast (Stands anchor text) 0 before (Some start) → None ≡ model.here pattern text start → model.last_before pattern text start ≡ model.last_before pattern text before
-  last_missed before start h missed =
-      ap (λ o. option_or o (model.last_before pattern text start)) missed
-      ∙ sym (last_more pattern text start (start + 1) (omega arith))
-      ∙ sym (last_jump before start h)
+  pub last_missed : (before start : ℕ) → NoneAfter (StartsAt pattern text) 0 before start → None ≡ model.here pattern text start → model.last_before pattern text start ≡ model.last_before pattern text before
+  last_missed before start h missed = ap (λ o. option_or o (model.last_before pattern text start)) missed ∙ sym (last_jump before start h)
 
-  pub last_nowhere : (before : ℕ) → IsLast (Stands anchor text) 0 before None → model.last_before pattern text before ≡ None
+  pub last_nowhere : (before : ℕ) → Nowhere (StartsAt pattern text) 0 before → model.last_before pattern text before ≡ None
   last_nowhere before h =
       let there : before ≡ 0 + before = omega arith in
       ap (model.last_before pattern text) there ∙ last_past before 0 (λ k from below. h k from (omega arith))
+
+  -- what is passed on the way to where an anchor stands, or a needle
+  pub next_standing : (anchor : Anchor) → Anchors pattern anchor → (at : ℕ) (r : Option ℕ) → IsFirst (Stands anchor text) at (length text) r → IsNextTried pattern text at r
+  next_standing anchor anchors at None h = λ k from below starts. h k from below (anchors text k starts)
+  next_standing anchor anchors at (Some start) h = record { low = h.0.low; high = h.0.high; before = λ k from below starts. h.0.before k from below (anchors text k starts) }
+
+  pub last_standing : (anchor : Anchor) → Anchors pattern anchor → (before : ℕ) (r : Option ℕ) → IsLast (Stands anchor text) 0 before r → IsLastTried pattern text before r
+  last_standing anchor anchors before None h = λ k from below starts. h k from below (anchors text k starts)
+  last_standing anchor anchors before (Some start) h = record { low = h.0.low; high = h.0.high; after = λ k from below starts. h.0.after k from below (anchors text k starts) }
+
+  pub next_needle : (needle : List ℕ) → Begins pattern needle → 0 < length needle → (at : ℕ) (r : Option ℕ) → NoneUpTo needle text at r → IsNextTried pattern text at r
+  next_needle needle begins filled at None h = λ k from below starts. h k from below (begins filled text k starts)
+  next_needle needle begins filled at (Some start) h = record { low = h.low; high = h.high; before = λ k from below starts. h.before k from below (begins filled text k starts) }
 
 -- so many turns ahead
 module _ (search : ℕ → Option Span) (onward : Span → ℕ) where
@@ -130,9 +136,5 @@ module _ (search : ℕ → Option Span) (onward : Span → ℕ) where
 
 -- what the functions need
 pub ruleset starts = (here_none, here_some, length-drop)
-
-pub ruleset firsts = (first_more, first_none)
-
-pub ruleset lasts = (last_more, last_none)
 
 pub ruleset turns = (nth_all, nth_more)

@@ -1,6 +1,6 @@
 -- Bytes that stand at a known distance from the start of each match of a pattern.
-use Rattle.std.specs.Prelude.{ℕ, ◌+◌, ◌<◌, List, length, Bool, IsTrue, IsSome}
-use Rattle.memchr.specs.Find.{Passes, is_byte, is_byte2}
+use Rattle.std.specs.Prelude.{ℕ, ◌+◌, ◌<◌, List, length, Bool, IsTrue, Option, IsSome, MatchOption}
+use Rattle.memchr.specs.Find.{Nowhere, NoneBefore, NoneAfter, Passes, is_byte, is_byte2}
 use Rattle.teco_model.specs.Match.{here, is_in}
 use Rattle.teco_model.specs.declared.pattern.Item.{Item}
 use Rattle.teco_model.specs.declared.pattern.Item.TheVariants as item
@@ -27,3 +27,18 @@ pub record Stands (anchor : Anchor) (text : List ℕ) (at : ℕ) : Type 0 where
 -- it does from the start of each match
 abbrev pub Anchors : List Item → Anchor → Type 0
 Anchors items anchor = (text : List ℕ) (at : ℕ) → IsSome (here items text at) → Stands anchor text at
+
+-- a match starts at a place
+abbrev pub StartsAt : List Item → List ℕ → ℕ → Type 0
+StartsAt items text at = IsSome (here items text at)
+
+-- none starts from a place up to the next that is tried, or up to the end
+abbrev pub IsNextTried : List Item → List ℕ → ℕ → Option ℕ → Type 0
+IsNextTried items text at next =
+    MatchOption next (Nowhere (StartsAt items text) at (length text))
+    (NoneBefore (StartsAt items text) at (length text))
+
+-- none starts before a place and behind the one that is tried, or before it at all
+abbrev pub IsLastTried : List Item → List ℕ → ℕ → Option ℕ → Type 0
+IsLastTried items text before last =
+    MatchOption last (Nowhere (StartsAt items text) 0 before) (NoneAfter (StartsAt items text) 0 before)

@@ -1,4 +1,5 @@
 -- What the calls of this crate answer, beside the definition, and the texts that they look at.
 pub mod Anchors
+pub mod Needles
 pub mod Pieces
 pub mod Reading

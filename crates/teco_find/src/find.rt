@@ -1,10 +1,10 @@
 // Searches over a text in two pieces.
 ghost use Rattle.std.specs.Prelude.{◌≡◌, ◌≤◌, ◌<◌, length, IfSome};
 ghost use Rattle.teco_model.specs.Match as model;
-ghost use Rattle.teco_find.specs.Anchors.{Anchors};
+ghost use Rattle.teco_find.specs.Anchors.{IsLastTried, IsNextTried};
 ghost use Rattle.teco_find.specs.Pieces.{joined};
 
-use crate::anchor::Anchor;
+use crate::needle::next_start;
 use crate::pattern::Pattern;
 use crate::pieces::{text_from, text_len};
 use crate::rests::match_rest;
@@ -37,22 +37,8 @@ impl Pattern {
         ensures ordered { IfSome result (λ span. span.start ≤ span.end) }
         ensures within { IfSome result (λ span. span.end ≤ length (joined text.entry)) }
     {
-        match self.anchor {
-            Some(anchor) => self.first_anchored(anchor, text, at),
-            None => self.first_tried(text, at),
-        }
-    }
-
-    // The same, tried only where the pattern's anchor stands.
-    fn first_anchored(&self, anchor: Anchor, text: (&[u8], &[u8]), at: usize) -> Option<Span>
-        requires at { at ≤ length (joined text) }
-        requires anchors { Anchors self.now anchor }
-        ensures value { result ≡ model.first_from self.now (joined text.entry) at }
-        ensures ordered { IfSome result (λ span. span.start ≤ span.end) }
-        ensures within { IfSome result (λ span. span.end ≤ length (joined text.entry)) }
-    {
         let mut from = at;
-        while let Some(start) = anchor.first_start(text, from) {
+        while let Some(start) = self.next_tried(text, from) {
             if let Some(span) = self.here(text, start) {
                 return Some(span);
             }
@@ -61,20 +47,20 @@ impl Pattern {
         None
     }
 
-    // The same, tried at each place.
-    #[tactic(auto, using(crate::proofs::Matches::firsts))]
-    fn first_tried(&self, text: (&[u8], &[u8]), at: usize) -> Option<Span>
-        requires { at ≤ length (joined text) }
-        ensures value { result ≡ model.first_from self.now (joined text.entry) at }
-        ensures ordered { IfSome result (λ span. span.start ≤ span.end) }
-        ensures within { IfSome result (λ span. span.end ≤ length (joined text.entry)) }
+    // The next place to try, from one on: no match starts before it.
+    fn next_tried(&self, text: (&[u8], &[u8]), from: usize) -> Option<usize>
+        requires { from ≤ length (joined text) }
+        ensures { IsNextTried self.now (joined text.entry) from result }
     {
-        for start in at..text_len(text) {
-            if let Some(span) = self.here(text, start) {
-                return Some(span);
-            }
+        let needle = self.needle.as_slice();
+        if needle.len() > 1 {
+            return next_start(needle, text, from);
         }
-        None
+        match self.anchor {
+            Some(anchor) => anchor.first_start(text, from),
+            None if from < text_len(text) => Some(from),
+            None => None,
+        }
     }
 
     // The last match that starts before a place.
@@ -85,23 +71,8 @@ impl Pattern {
         ensures ordered { IfSome result (λ span. span.start ≤ span.end) }
         ensures within { IfSome result (λ span. span.end ≤ length (joined text.entry)) }
     {
-        match self.anchor {
-            Some(anchor) => self.last_anchored(anchor, text, at),
-            None => self.last_tried(text, at),
-        }
-    }
-
-    // The same, tried only where the pattern's anchor stands.
-    fn last_anchored(&self, anchor: Anchor, text: (&[u8], &[u8]), at: usize) -> Option<Span>
-        requires at { at ≤ length (joined text) }
-        requires anchors { Anchors self.now anchor }
-        ensures value { result ≡ model.last_before self.now (joined text.entry) at }
-        ensures before { IfSome result (λ span. span.start < at) }
-        ensures ordered { IfSome result (λ span. span.start ≤ span.end) }
-        ensures within { IfSome result (λ span. span.end ≤ length (joined text.entry)) }
-    {
         let mut before = at;
-        while let Some(start) = anchor.last_start(text, before) {
+        while let Some(start) = self.last_tried(text, before) {
             if let Some(span) = self.here(text, start) {
                 return Some(span);
             }
@@ -110,21 +81,14 @@ impl Pattern {
         None
     }
 
-    // The same, tried at each place.
-    #[tactic(auto, using(crate::proofs::Matches::lasts))]
-    fn last_tried(&self, text: (&[u8], &[u8]), at: usize) -> Option<Span>
-        requires { at ≤ length (joined text) }
-        ensures value { result ≡ model.last_before self.now (joined text.entry) at }
-        ensures before { IfSome result (λ span. span.start < at) }
-        ensures ordered { IfSome result (λ span. span.start ≤ span.end) }
-        ensures within { IfSome result (λ span. span.end ≤ length (joined text.entry)) }
+    // The last place to try before one: no match starts between them.
+    fn last_tried(&self, text: (&[u8], &[u8]), before: usize) -> Option<usize>
+        ensures { IsLastTried self.now (joined text.entry) before result }
     {
-        for start in (0..at).rev() {
-            if let Some(span) = self.here(text, start) {
-                return Some(span);
-            }
+        match self.anchor {
+            Some(anchor) => anchor.last_start(text, before),
+            None => before.checked_sub(1),
         }
-        None
     }
 
     /// The `n`th match from a place on: the first starts at the place or behind it, each next one

@@ -7,6 +7,7 @@ mod fault;
 mod find;
 mod items;
 mod mark;
+mod needle;
 mod parts;
 mod pattern;
 mod pieces;

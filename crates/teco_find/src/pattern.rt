@@ -6,6 +6,7 @@ ghost use Rattle.teco_find.specs.Reading.{Judges, Reads};
 use crate::anchor::{Anchor, anchor_of};
 use crate::fault::FindFault;
 use crate::items::put_part;
+use crate::needle::{Needle, needle_of};
 use crate::parts::Parts;
 use std::alloc::Global;
 use std::marker::Model;
@@ -17,18 +18,21 @@ use teco_regs::Regs;
 pub struct Pattern {
     pub(crate) items: Vec<Item>,
     pub(crate) anchor: Option<Anchor>,
+    pub(crate) needle: Needle,
 }
 
 impl Model for Pattern {
     ghost use Rattle.std.specs.Option.{ForSome};
     ghost use Rattle.teco_model.specs.Pattern as model;
     ghost use Rattle.teco_find.specs.Anchors.{Anchors};
+    ghost use Rattle.teco_find.specs.Needles.{Begins};
 
     ghost Value = { model.Pattern };
 
     ghost view = { λ p. p.items.items };
 
-    ghost invariant = { λ p. ForSome p.anchor (Anchors p.items.items) };
+    ghost invariant = { λ p.
+        ForSome p.anchor (Anchors p.items.items) × Begins p.items.items p.needle.items };
 }
 
 impl Pattern {
@@ -47,7 +51,12 @@ impl Pattern {
             put_part(&mut items, part, regs, exact)?;
         }
         let anchor = anchor_of(&items);
-        Ok(Pattern { items, anchor })
+        let needle = needle_of(&items);
+        Ok(Pattern {
+            items,
+            anchor,
+            needle,
+        })
     }
 }
 

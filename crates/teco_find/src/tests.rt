@@ -235,6 +235,42 @@ fn literals_behind_other_elements(rt: HostRuntime) {
     }
 }
 
+#[test]
+fn literals_at_the_start(rt: HostRuntime) {
+    let regs = registers(&rt, rt.alloc());
+    let long = b"abcdefghijklmnopqrstuv";
+    let rows: [(&[u8], &[u8], usize, Way, Option<(usize, usize)>); 12] = [
+        (
+            long,
+            b"abcdefghijklmnopX abcdefghijklmnopqrstuv",
+            0,
+            Way::Forward(1),
+            Some((18, 40)),
+        ),
+        (
+            long,
+            b"abcdefghijklmnopX abcdefghijklmnopqrstuv",
+            40,
+            Way::Backward(1),
+            Some((18, 40)),
+        ),
+        (long, b"abcdefghijklmnopqrstu", 0, Way::Forward(1), None),
+        (b"aab", b"aaab", 0, Way::Forward(1), Some((1, 4))),
+        (b"aba", b"ababa", 0, Way::Forward(1), Some((0, 3))),
+        (b"aba", b"ababa", 0, Way::Forward(2), None),
+        (b"aba", b"ababa", 1, Way::Forward(1), Some((2, 5))),
+        (b"ab^EDc", b"abcab1cab", 0, Way::Forward(1), Some((3, 7))),
+        (b"ab^EDc", b"abcab1cab", 4, Way::Forward(1), None),
+        (b"ab^ESb", b"abb ab  b", 0, Way::Forward(1), Some((4, 9))),
+        (b"a^EQA", b"ab ab.", 0, Way::Forward(1), Some((3, 6))),
+        (b"..", b"...", 3, Way::Backward(2), Some((0, 2))),
+    ];
+    for (search, text, from, way, want) in rows {
+        let pattern = read(rt.alloc(), search, &regs, true).expect(&rt, "a pattern");
+        expect_found(&rt, &pattern, text, from, way, want);
+    }
+}
+
 fn told(fault: FindFault) -> &'static str {
     match fault {
         FindFault::Ice => "ICE",

@@ -1,6 +1,16 @@
-use Rattle.std.proofs.Common.{subst}
-use Rattle.teco_find.specs.Anchors.{Anchors}
+use Rattle.std.proofs.Common.{sym, ◌∙◌, arith}
+use Rattle.teco_find.specs.Pieces.{joined}
+use Rattle.teco_find.proofs.Matches.{last_found, last_missed, last_nowhere}
 use Rattle.teco_find.proofs.pattern.Pattern.last_before.Goals as goal
 
-pub last_anchored-requires-clause-anchors : goal.last_anchored-requires-clause-anchors
-last_anchored-requires-clause-anchors c = subst (λ items. Anchors items c.in-Some.anchor) c.self.view_is (c.self.invariant c.in-Some.anchor c.in-Some.is)
+pub returns-in-Some-here-clause-value : goal.returns-in-Some-here-clause-value
+returns-in-Some-here-clause-value c = last_found c.args.self.now (joined c.args.text) c.loop-start.before c.in-Some.start c.in-Some-here.span c.in-Some.ensures c.in-Some-here.ensures.value ∙ c.loop-start.invariant.same
+
+pub loop-start-preserved : goal.loop-start-preserved
+loop-start-preserved c = record {
+  within = let found = c.in-Some.ensures in omega (arith, found.high);
+  same = last_missed c.args.self.now (joined c.args.text) c.loop-start.before c.in-Some.start c.in-Some.ensures c.in_default-here.ensures.value ∙ c.loop-start.invariant.same;
+}
+
+pub returns-clause-value : goal.returns-clause-value
+returns-clause-value c = sym (last_nowhere c.args.self.now (joined c.args.text) c.loop-start.before c.in_default.ensures) ∙ c.loop-start.invariant.same

@@ -1,7 +1,7 @@
 use Rattle.std.proofs.Common.{◌≡◌, ◌≤◌}
 use Rattle.teco_model.specs.Match.{last_before}
 use Rattle.teco_find.specs.Pieces.{joined}
-use Rattle.teco_find.proofs.pattern.Pattern.last_anchored.Given as goal
+use Rattle.teco_find.proofs.pattern.Pattern.last_before.Given as goal
 
 -- no match starts at a place that is passed
 abbrev pub invariant-loop-start : goal.invariant-loop-start

@@ -1,0 +1,136 @@
+-- The literals that a pattern begins with stand at the start of each match; and where they are found in two pieces.
+use Rattle.std.proofs.Common.{◌≡◌, ℕ, zero, suc, ◌+◌, ◌-◌, ◌<◌, ◌≤◌, List, [], ◌∷◌, ◌++◌, length, drop, take, get_or, Option, Some, None, ⊎_elim, ap, sym, subst, ◌∙◌, arith, length-append}
+use Rattle.std.proofs.Math.ListN.{get_or-append}
+use Rattle.std.proofs.Math.Seq.{get_or-append_right}
+use Rattle.std.proofs.lemmas.Bool.{cases_lt, eqb-true}
+use Rattle.std.proofs.lemmas.List.{get_or-drop, length-drop, take_rest}
+use Rattle.std.specs.Prelude.{IsSome, map}
+use Rattle.memchr.specs.Find.{FindsNeedle, Nowhere, NoneBefore, OccursAt}
+use Rattle.teco_model.specs.Match as model
+use Rattle.teco_model.specs.declared.pattern.Class.TheVariants as class
+use Rattle.teco_model.specs.declared.pattern.Item.{Item}
+use Rattle.teco_model.specs.declared.pattern.Item.TheVariants as item
+use Rattle.teco_find.specs.Needles.{Begins, NoneUpTo}
+use Rattle.teco_find.specs.declared.mark.Mark.TheVariants as mark
+use Rattle.teco_find.proofs.Anchored.{GoesOn, goes_on, marked_front, matched}
+
+-- a literal
+abbrev pub literal : ℕ → Item
+literal b = item.Is (class.Literal b)
+
+-- bytes stand at the front of a text
+record Leads (bytes text : List ℕ) : Type 0 where
+  fits : length bytes ≤ length text
+  reads : (j : ℕ) → j < length bytes → get_or text j 0 ≡ get_or bytes j 0
+
+lead_more : (b : ℕ) (bytes : List ℕ) (c : ℕ) (rest : List ℕ) → c ≡ b → Leads bytes rest → Leads (b ∷ bytes) (c ∷ rest)
+lead_more b bytes c rest same later = record { fits = omega (arith, later.fits); reads = reads }
+  where
+    reads : (j : ℕ) → j < length (b ∷ bytes) → get_or (c ∷ rest) j 0 ≡ get_or (b ∷ bytes) j 0
+    reads zero within = same
+    reads (suc j) within = later.reads j (omega arith)
+
+lead_on : (b : ℕ) (bytes : List ℕ) (items : List Item) (text : List ℕ) (front : GoesOn items text) → get_or text 0 0 ≡ b → Leads bytes front.rest → Leads (b ∷ bytes) text
+lead_on b bytes items text front first later =
+    let same : front.first ≡ b = subst (λ t. get_or t 0 0 ≡ b) front.is first in
+    subst (λ t. Leads (b ∷ bytes) t) (sym front.is) (lead_more b bytes front.first front.rest same later)
+
+leads : (bytes : List ℕ) (items : List Item) (text : List ℕ) → map literal bytes ≡ take (length bytes) items → IsSome (model.match_rest items text) → Leads bytes text
+leads [] items text e some = record { fits = omega arith; reads = λ j within. absurd (omega arith) }
+leads (b ∷ bytes) [] text e some = cc
+leads (b ∷ bytes) (i ∷ items) text e some =
+    let same : literal b ≡ i = cc in
+    let others : map literal bytes ≡ take (length bytes) items = cc in
+    let found = subst (λ x. IsSome (model.match_rest (x ∷ items) text)) (sym same) some in
+    let front = goes_on (literal b) items text tt found in
+    let first = marked_front (literal b) items (mark.One b) text (λ c is. is) found in
+    lead_on b bytes items text front (eqb-true (get_or text 0 0) b first.1) (leads bytes items front.rest others front.some)
+
+pub begins : (bytes : List ℕ) (n : ℕ) (items : List Item) → length bytes ≡ n → map literal bytes ≡ take n items → Begins items bytes
+begins bytes n items count e filled text at some =
+    let taken = e ∙ ap (λ k. take k items) (sym count) in
+    let found = leads bytes items (drop at text) taken (matched items text at some) in
+    let long = length-drop at text in
+    record {
+      fits = let fits = found.fits in omega arith;
+      reads = λ j within. sym (get_or-drop at text j 0) ∙ found.reads j within;
+    }
+
+-- what a slice from a place on is
+abbrev pub slice_from : ℕ → List ℕ → List ℕ
+slice_from at bytes = take (length bytes - at) (drop at bytes)
+
+module _ (front back needle : List ℕ) (filled : 0 < length needle) where
+  -- a needle that lies in one piece
+  in_front : (at j : ℕ) → at ≤ j → j + length needle ≤ length front → OccursAt (front ++ back) needle j → OccursAt (drop at front) needle (j - at)
+  in_front at j from within h = record {
+    fits = omega (arith, length-drop at front);
+    reads = λ i below.
+        let place : at + (j - at + i) ≡ j + i = omega arith in
+        get_or-drop at front (j - at + i) 0 ∙ ap (λ n. get_or front n 0) place ∙ sym (get_or-append front back 0 (j + i) (omega arith)) ∙ h.reads i below;
+  }
+
+  in_back : (at j : ℕ) → length front ≤ at → at ≤ j → OccursAt (front ++ back) needle j → OccursAt (drop (at - length front) back) needle (j - at)
+  in_back at j behind from h = record {
+    fits = omega (arith, length-drop (at - length front) back, length-append front back, h.fits);
+    reads = λ i below.
+        let place : at - length front + (j - at + i) ≡ j + i - length front = omega arith in
+        get_or-drop (at - length front) back (j - at + i) 0 ∙ ap (λ n. get_or back n 0) place ∙ sym (get_or-append_right front back (j + i) 0 (omega arith)) ∙ h.reads i below;
+  }
+
+  -- the first in the front, and none there
+  pub found_front : (at k : ℕ) → at ≤ length front → FindsNeedle (slice_from at front) needle 0 (Some k) → NoneBefore (OccursAt (front ++ back) needle) at (length (front ++ back)) (at + k)
+  found_front at k within found =
+      let h = subst (λ l. FindsNeedle l needle 0 (Some k)) (take_rest front at) found in
+      let fits = h.1.fits in
+      let long = length-drop at front in
+      let whole = length-append front back in
+      record {
+        low = omega arith;
+        high = omega arith;
+        before = λ j from below occurs. h.0.before (j - at) (omega arith) (omega arith) (in_front at j from (omega arith) occurs);
+      }
+
+  pub none_front : (at across : ℕ) → across + length needle ≤ length front + 1 → FindsNeedle (slice_from at front) needle 0 None → Nowhere (OccursAt (front ++ back) needle) at across
+  none_front at across within none =
+      λ j from below occurs.
+      let h = subst (λ l. FindsNeedle l needle 0 None) (take_rest front at) none in
+      let there = in_front at j from (omega arith) occurs in
+      let fits = there.fits in
+      h (j - at) (omega arith) (omega arith) there
+
+  -- the first in the back, and none there
+  pub found_back : (at k : ℕ) → length front ≤ at → at ≤ length (front ++ back) → FindsNeedle (slice_from (at - length front) back) needle 0 (Some k) → NoneBefore (OccursAt (front ++ back) needle) at (length (front ++ back)) (at + k)
+  found_back at k behind within found =
+      let h = subst (λ l. FindsNeedle l needle 0 (Some k)) (take_rest back (at - length front)) found in
+      let fits = h.1.fits in
+      let long = length-drop (at - length front) back in
+      let whole = length-append front back in
+      record {
+        low = omega arith;
+        high = omega arith;
+        before = λ j from below occurs. h.0.before (j - at) (omega arith) (omega arith) (in_back at j behind from occurs);
+      }
+
+  pub none_back : (at : ℕ) → length front ≤ at → FindsNeedle (slice_from (at - length front) back) needle 0 None → Nowhere (OccursAt (front ++ back) needle) at (length (front ++ back))
+  none_back at behind none =
+      λ j from below occurs.
+      let h = subst (λ l. FindsNeedle l needle 0 None) (take_rest back (at - length front)) none in
+      let there = in_back at j behind from occurs in
+      let fits = there.fits in
+      h (j - at) (omega arith) (omega arith) there
+
+Nowhere-then : (P : ℕ → Type 0) (i j l : ℕ) → Nowhere P i j → Nowhere P j l → Nowhere P i l
+Nowhere-then P i j l front back k low high = ⊎_elim (λ (below : k < j). front k low below) (λ (from : j ≤ k). back k from high) (cases_lt k j)
+
+NoneBefore-then : (P : ℕ → Type 0) (i j l k : ℕ) → i ≤ j → Nowhere P i j → NoneBefore P j l k → NoneBefore P i l k
+NoneBefore-then P i j l k le front back = record {
+  low = let low = back.low in omega arith;
+  high = back.high;
+  before = Nowhere-then P i j k front back.before;
+}
+
+-- no needle up to a later place, and on from there
+pub then_up_to : (needle text : List ℕ) (at later : ℕ) (next : Option ℕ) → at ≤ later → Nowhere (OccursAt text needle) at later → NoneUpTo needle text later next → NoneUpTo needle text at next
+then_up_to needle text at later None le front back = Nowhere-then (OccursAt text needle) at later (length text) front back
+then_up_to needle text at later (Some k) le front back = NoneBefore-then (OccursAt text needle) at later (length text) k le front back

@@ -1,8 +1,0 @@
-use Rattle.std.proofs.Common.{◌≡◌}
-use Rattle.teco_model.specs.Match.{first_from}
-use Rattle.teco_find.specs.Pieces.{joined}
-use Rattle.teco_find.proofs.pattern.Pattern.first_tried.Given as goal
-
--- no match starts at a place that is passed
-abbrev pub invariant-loop-start : goal.invariant-loop-start
-invariant-loop-start l = first_from l.self (joined l.text) l.start ≡ first_from l.self (joined l.text) l.at
