@@ -1,4 +1,5 @@
 pub mod Worked
+pub mod WorkedPages
 pub mod WorkedSkips
 pub mod Progress
 pub mod Ahead

@@ -1,5 +1,6 @@
 -- Commands of pages and files worked by hand, as what their rules compute.
 use Rattle.std.specs.Prelude.{ℕ, ◌≡◌, List, [], ◌∷◌, ◌++◌, codes, None, Result, Ok, Err}
+use Rattle.std.specs.Option.{ok_or}
 use Rattle.teco_base.specs.declared.bytes.TheConstants.{FF}
 use Rattle.teco_base.specs.declared.code.Code.{Code}
 use Rattle.teco_base.specs.declared.code.Code.TheVariants as code
@@ -25,7 +26,9 @@ before = record {
 
 -- an input alone, or with an output
 abbrev pub reading : Result World Code
-reading = open_input (codes "in") before
+reading = do
+  opened ← open_input (codes "in") before
+  ok_or opened code.Fnf
 
 abbrev pub both_open : Result World Code
 both_open = do
@@ -65,6 +68,7 @@ pub record FileRows : Type 0 where
   pub one_output : (both_open >>= open_output (codes "b")) ≡ Err code.Ofo
   pub not_the_input : (reading >>= open_output (codes "in")) ≡ Err code.Arg
   pub not_the_output : (open_output (codes "a") before >>= open_input (codes "a")) ≡ Err code.Arg
+  pub no_such_file : open_input (codes "no") before ≡ Ok None
   pub nothing_to_close : close_output (abandon_output before) ≡ Err code.Nfo
   pub nothing_to_read : yank before ≡ Err code.Nfi
   pub nothing_to_write : one_page before ≡ Err code.Nfo

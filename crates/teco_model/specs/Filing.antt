@@ -1,5 +1,5 @@
--- The commands of files: ER, EW, EF, EK, EC, EX. These are the rules alone: a step does not follow them yet.
-use Rattle.std.specs.Prelude.{ℕ, List, [], ◌∷◌, ◌++◌, bytes_eq, Option, Some, None, Result, Ok, Err, option_map, if◌then◌else◌, unwrap_or}
+-- The commands of files: ER, EW, EF, EK, EC, EX.
+use Rattle.std.specs.Prelude.{ℕ, List, [], ◌∷◌, ◌++◌, bytes_eq, Option, Some, None, Result, Ok, Err, option_map, if◌then◌else◌}
 use Rattle.teco_base.specs.declared.code.Code.{Code}
 use Rattle.teco_base.specs.declared.code.Code.TheVariants as code
 use Rattle.teco_model.specs.Checked.{◌>>=◌}
@@ -14,15 +14,15 @@ name_apart_from other [] = Err code.Arg
 name_apart_from None (c ∷ name) = Ok tt
 name_apart_from (Some other) (c ∷ name) = if bytes_eq (c ∷ name) other then Err code.Arg else Ok tt
 
--- ER opens the input, from its start, in the place of an open one. That no file has the name is a host's fault, and no code.
-abbrev pub open_input : List ℕ → World → Result World Code
+-- ER opens the input, from its start, in the place of an open one, if a file has the name.
+abbrev pub with_input : List ℕ → World → List ℕ → World
+with_input name world bytes =
+    record world { files = record world.files { input = Some (record { name = name; unread = bytes }) } }
+
+abbrev pub open_input : List ℕ → World → Result (Option World) Code
 open_input name world = do
   apart ← name_apart_from (option_map (λ (output : Output). output.name) world.files.output) name
-  Ok (record world {
-    files = record world.files {
-      input = Some (record { name = name; unread = unwrap_or (file_named name world.files.named) [] });
-    };
-  })
+  Ok (option_map (with_input name world) (file_named name world.files.named))
 
 -- one output at a time, else it is OFO
 abbrev pub no_output : Option Output → Result (Unit {0}) Code

@@ -28,8 +28,12 @@ pub mod Query
 pub mod Condition
 pub mod Flow
 pub mod Search
+pub mod Going
+pub mod Searching
+pub mod Outside
 pub mod Step
 pub mod Memory
+pub mod Faults
 pub mod Run
 pub mod Rows
 pub mod Session
@@ -38,6 +42,7 @@ pub mod Pages
 pub mod Paging
 pub mod Filing
 pub mod FileRows
+pub mod PageRows
 pub mod Pattern
 pub mod Match
 pub mod Matching

@@ -1,5 +1,4 @@
--- Pages: Y and A read them into the buffer, P and PW write it, and N and FN look on from page to page. These are the rules alone:
--- a step does not follow them yet.
+-- Pages: Y and A read them into the buffer, P and PW write it, and N and FN look on from page to page.
 use Rattle.std.specs.Prelude.{ℕ, zero, suc, ℤ, pos, ◌-◌, List, [], ◌∷◌, ◌++◌, length, Option, Some, None, Result, Ok, Err, option_map, nat_le, if◌then◌else◌, unwrap_or}
 use Rattle.std.specs.Option.{ok_or, option_map_or}
 use Rattle.teco_base.specs.declared.TheConstants.{LIMIT}
@@ -149,7 +148,8 @@ sought pattern text at (suc (suc n)) = elim (first_from pattern text at) [
   | Some span ↦ sought pattern text span.end (suc n)
 ]
 
--- What a step of N and FN comes to: it found the last match, or turned a page and wants so many more, or there is no page left.
+-- What a step of N and FN comes to: it found the last match, or turned a page and wants so many more; or there is no page left,
+-- and nothing is done yet but that the search text is kept.
 pub data Looked : Type 0 where
   Met : World → Looked
   Turned : ℕ → World → Looked
@@ -162,7 +162,7 @@ looked_through world =
     record written { kept = kept_with_page (first_page []) written.kept }
 
 abbrev pub page_looked_for : List ℕ → ℕ → World → Result Looked Code
-page_looked_for [] wanted world = Ok (Through (looked_through world))
+page_looked_for [] wanted world = Ok (Through world)
 page_looked_for (c ∷ bytes) wanted world = do
   turned ← page_turned world
   Ok (Turned wanted turned)

@@ -11,6 +11,8 @@ use Rattle.teco_base.specs.declared.code.Code.{Code}
 use Rattle.teco_base.specs.declared.code.Code.TheVariants as code
 use Rattle.teco_model.specs.Run.{Stops}
 use Rattle.teco_model.specs.State.{World, start}
+use Rattle.teco_model.specs.declared.stop.HostFault.{HostFault}
+use Rattle.teco_model.specs.declared.stop.HostFault.TheVariants as host_fault
 use Rattle.teco_model.specs.declared.stop.Stop.{Stop}
 use Rattle.teco_model.specs.declared.stop.Stop.TheVariants as stop
 
@@ -28,12 +30,25 @@ pub record IsCommandString (string : List ℕ) : Type 0 where
   pub ends : string_end string ≡ Some (length string)
   pub within : length string ≤ LIMIT
 
--- the code that is typed for a stop; none for the end
+-- the code that is typed for what the host could not do
+abbrev pub code_of_fault : HostFault → Code
+code_of_fault host_fault.NoFile = code.Fnf
+code_of_fault host_fault.In = code.Inp
+code_of_fault host_fault.Out = code.Out
+
+-- the code that is typed for a stop; none for the end, and for that of the session
 abbrev pub code_of : Stop → Option Code
 code_of (stop.Ended steps) = None
+code_of (stop.Exit steps) = None
 code_of (stop.Error c) = Some c
 code_of stop.Limit = Some code.Lim
 code_of stop.Memory = Some code.Mem
+code_of (stop.HostFault fault) = Some (code_of_fault fault)
+
+-- does a stop end the session?
+abbrev pub is_exit : Stop → Bool
+is_exit (stop.Exit steps) = true
+is_exit s = false
 
 -- a code line: ?, the code, CR LF
 abbrev pub code_line : Option Code → List ℕ
@@ -52,15 +67,15 @@ without_typed world = record world { kept = record world.kept { typed = [] } }
 abbrev pub lines_of : Stop → World → List ℕ
 lines_of stop world = world.kept.typed ++ code_line (code_of stop)
 
--- So many command strings, joined to one input, are executed one after another: what stays then, what is written, and
--- whether a code line is among it.
+-- So many command strings, joined to one input, are executed one after another, and none ends the session: what stays then,
+-- what is written, and whether a code line is among it.
 pub data Executes (limit : ℕ) (old : World) : ℕ → List ℕ → World → List ℕ → Bool → Type 0 where
   none : Executes limit old 0 [] old [] false
   one_more :
       (count : ℕ) (input : List ℕ) (mid : World) (written : List ℕ) (coded : Bool) →
       (string : List ℕ) (stop : Stop) (new : World) →
       Executes limit old count input mid written coded →
-      IsCommandString string → Stops (start string mid) limit stop new →
+      IsCommandString string → Stops (start string mid) limit stop new → is_exit stop ≡ false →
       Executes limit old (count + 1) (input ++ string) (without_typed new)
       (written ++ lines_of stop new) (coded || is_code (code_of stop))
 
@@ -71,8 +86,8 @@ rest_code rest =
     if nat_le LIMIT (length rest) then Some code.Ful
     else if list_all is_blank rest then None else Some code.Utc
 
--- a whole session of an input: what it leaves, what it writes, and whether a code line is among it
-pub record Session (limit : ℕ) (old : World) (input : List ℕ) (new : World) (written : List ℕ) (coded : Bool) :
+-- a session that goes on to the end of its input
+pub record SessionToEnd (limit : ℕ) (old : World) (input : List ℕ) (new : World) (written : List ℕ) (coded : Bool) :
     Type 0 where
   pub count : ℕ
   pub strings : List ℕ
@@ -84,3 +99,27 @@ pub record Session (limit : ℕ) (old : World) (input : List ℕ) (new : World) 
   pub no_string : string_end (take LIMIT rest) ≡ None
   pub all_written : written ≡ lines ++ code_line (rest_code rest)
   pub a_line : coded ≡ (line || is_code (rest_code rest))
+
+-- a session that a command string ends: what follows that is not executed
+pub record SessionToExit (limit : ℕ) (old : World) (input : List ℕ) (new : World) (written : List ℕ) (coded : Bool) :
+    Type 0 where
+  pub count : ℕ
+  pub strings : List ℕ
+  pub last : List ℕ
+  pub behind : List ℕ
+  pub lines : List ℕ
+  pub steps : ℕ
+  pub mid : World
+  pub after : World
+  pub whole : input ≡ strings ++ (last ++ behind)
+  pub executed : Executes limit old count strings mid lines coded
+  pub one_string : IsCommandString last
+  pub exits : Stops (start last mid) limit (stop.Exit steps) after
+  pub stays : new ≡ without_typed after
+  pub all_written : written ≡ lines ++ lines_of (stop.Exit steps) after
+
+-- a whole session of an input: what it leaves, what it writes, whether a code line is among it, and whether a command string
+-- ended it
+abbrev pub Session : ℕ → World → List ℕ → World → List ℕ → Bool → Bool → Type 0
+Session limit old input new written coded false = SessionToEnd limit old input new written coded
+Session limit old input new written coded true = SessionToExit limit old input new written coded

@@ -20,4 +20,4 @@ pub use head::{Head, OnRegister, Texts};
 pub use kind::Kind;
 pub use pattern::Span;
 pub use skip::{Bracket, Pairs, Route, Skip};
-pub use stop::Stop;
+pub use stop::{HostFault, Stop};

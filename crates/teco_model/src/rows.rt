@@ -1,4 +1,5 @@
 ghost use Rattle.teco_model.specs.FileRows.{FileRows};
+ghost use Rattle.teco_model.specs.PageRows.{PageRows};
 ghost use Rattle.teco_model.specs.Rows.{WorkedRows};
 ghost use Rattle.teco_model.specs.SkipRows.{SkipRows};
 
@@ -15,4 +16,9 @@ pub fn skip_rows()
 /// The rules of pages and files give what commands worked by hand give.
 pub fn file_rows()
     ensures { FileRows }
+{}
+
+/// The definition of a step gives what command strings of pages and files worked by hand give.
+pub fn page_rows()
+    ensures { PageRows }
 {}

@@ -13,6 +13,7 @@ returns c = record {
   one_output = refl;
   not_the_input = refl;
   not_the_output = refl;
+  no_such_file = refl;
   nothing_to_close = refl;
   nothing_to_read = refl;
   nothing_to_write = refl;
