@@ -116,11 +116,9 @@ Breaks (kind.File f) fault before after new = FileBreaks f fault before new
 
 -- Every code comes whatever the host does, but for those that are only told by reading a page: that it is too long, or that there is
 -- none, so that a search fails. The SRH of such a search writes the buffer, too.
-abbrev pub is_told_by_page : Search → Code → Bool
-is_told_by_page search_kind.Find c = false
-is_told_by_page search_kind.Replace c = false
-is_told_by_page s code.Nfo = false
-is_told_by_page s c = is_late_in_search s c
+abbrev pub is_told_by_page : Code → Bool
+is_told_by_page code.Nfo = false
+is_told_by_page c = is_late_in_search c
 
 abbrev pub is_srh : Code → Bool
 is_srh code.Srh = true
@@ -128,7 +126,7 @@ is_srh c = false
 
 abbrev pub is_late_for : HostFault → Kind → Code → Bool
 is_late_for In (kind.Page p) c = is_late_in_page p c
-is_late_for In (kind.Search s) c = is_told_by_page s c
+is_late_for In (kind.Search s) c = is_told_by_page c
 is_late_for Out (kind.Search s) c = is_srh c
 is_late_for fault k c = false
 

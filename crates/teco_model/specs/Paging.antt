@@ -16,7 +16,7 @@ use Rattle.teco_model.specs.Files.{Input, Output, Files, with_written}
 use Rattle.teco_model.specs.Match.{first_from}
 use Rattle.teco_model.specs.Pages.{Page, first_page, behind_first_page, written_page}
 use Rattle.teco_model.specs.Pattern.{Pattern}
-use Rattle.teco_model.specs.Places.{range_span, characters_of}
+use Rattle.teco_model.specs.Places.{text_between}
 use Rattle.teco_model.specs.Search.{pattern_of, search_text_of, kept_after}
 use Rattle.teco_model.specs.State.{Kept, World}
 
@@ -113,21 +113,27 @@ pub record Progress : Type 0 where
   pub world : World
   pub left : ℕ
 
--- nP turns n pages, and nPW writes n, a step each
+-- nP turns n pages, and nPW writes n, a step each, which needs an output
 abbrev pub one_page_of : (World → Result World Code) → ℕ → World → Result Progress Code
 one_page_of page n world = do
+  output ← needed_output world
   done ← page world
   Ok (record { world = done; left = n - 1 })
 
 -- m,nP and m,nPW write the range alone
-abbrev pub range_written : ℤ → ℤ → World → Result Progress Code
+abbrev pub range_written : ℤ → ℤ → World → Result World Code
 range_written m n world = do
-  part ← range_span world.kept.text m n
-  Ok (record { world = world_after_writing (characters_of part world.kept) world; left = 0 })
+  text ← text_between m n world.kept
+  Ok (world_after_writing text world)
+
+abbrev pub range_done : ℤ → ℤ → World → Result Progress Code
+range_done m n world = do
+  done ← range_written m n world
+  Ok (record { world = done; left = 0 })
 
 -- the first step of P and PW, whose codes are NFO, and then ARG or POP
 abbrev pub pages_of : (World → Result World Code) → Option ℤ → Option ℤ → World → Result Progress Code
-pages_of page (Some m) (Some n) world = range_written m n world
+pages_of page (Some m) (Some n) world = range_done m n world
 pages_of page first value world = do
   n ← page_count (unwrap_or value (pos 1))
   one_page_of page n world

@@ -41,3 +41,9 @@ part_of taken kept = part_named taken.first taken.value kept
 -- the characters of a part of the buffer
 abbrev pub characters_of : Span → Kept → List ℕ
 characters_of part kept = range kept.text part.start part.end
+
+-- the characters between the places that two numbers name
+abbrev pub text_between : ℤ → ℤ → Kept → Result (List ℕ) Code
+text_between m n kept = do
+  part ← range_span kept.text m n
+  Ok (characters_of part kept)

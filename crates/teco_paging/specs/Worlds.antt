@@ -1,19 +1,17 @@
 -- What stays with an editor and its host together, and what a command of pages did to it, beside its definition.
-use Rattle.std.specs.Prelude.{ℕ, ℤ, ◌≡◌, ◌<◌, ⊤, List, [], ◌++◌, length, Bool, true, false, Option, Some, None, Result, Ok, Err, IsOk, ◌⊎◌}
+use Rattle.std.specs.Prelude.{ℕ, ◌≡◌, ◌<◌, ⊤, List, [], ◌++◌, length, Bool, true, false, Option, Some, None, Result, Ok, Err, IsOk, ◌⊎◌}
 use Rattle.teco_base.specs.declared.TheConstants.{LIMIT}
 use Rattle.teco_base.specs.declared.code.Code as base
 use Rattle.teco_base.specs.declared.code.Code.TheVariants as code
 use Rattle.teco_model.specs.Faults.{WritesPart}
 use Rattle.teco_model.specs.Pages.{first_page}
-use Rattle.teco_model.specs.Checked.{◌>>=◌}
-use Rattle.teco_model.specs.Paging.{unread, world_after_writing}
+use Rattle.teco_model.specs.Paging.{unread}
 use Rattle.teco_model.specs.State.{Kept, World}
 use Rattle.teco_model.specs.Typing.{typing_of}
 use Rattle.teco_model.specs.declared.stop.HostFault.TheVariants as host_fault
 use Rattle.teco_pages.specs.Held.{Held, files_of, IsSameOutput}
 use Rattle.teco_pages.specs.HostFiles.{HostFiles, Told, Becomes, after_writing}
 use Rattle.teco_pages.specs.PageCalls.{WritesFront}
-use Rattle.teco_step.specs.Turning.{text_between}
 use Rattle.teco_paging.specs.declared.halt.Halt.{Halt}
 use Rattle.teco_paging.specs.declared.halt.Halt.TheVariants.{Code, Memory, Host}
 
@@ -46,6 +44,15 @@ Turns old new defined (Err Memory) = IsDoneOrFull defined × (new ≡ old)
 Turns old new defined (Err (Host host_fault.NoFile)) = ⊥
 Turns old new defined (Err (Host host_fault.In)) = IsDoneOrFull defined × (new ≡ old)
 Turns old new defined (Err (Host host_fault.Out)) = StopsWriting old new defined
+
+-- The same of a command that writes nothing.
+abbrev pub Reads : World → World → Result World base.Code → Result (Unit {0}) Halt → Type 0
+Reads old new defined (Ok done) = defined ≡ Ok new
+Reads old new defined (Err (Code c)) = (defined ≡ Err c) × (new ≡ old)
+Reads old new defined (Err Memory) = IsDoneOrFull defined × (new ≡ old)
+Reads old new defined (Err (Host host_fault.NoFile)) = ⊥
+Reads old new defined (Err (Host host_fault.In)) = IsDoneOrFull defined × (new ≡ old)
+Reads old new defined (Err (Host host_fault.Out)) = ⊥
 
 -- Bytes went out; or the host failed, and some from their front did.
 abbrev pub PutsOut : List ℕ → Result (Unit {0}) Halt → Option HostFiles → Option HostFiles → ℕ → ℕ → Type 0
@@ -83,9 +90,3 @@ TellsUnread old new (Err (Host host_fault.Out)) = ⊥
 -- these bytes are typed
 abbrev pub with_typed : List ℕ → World → World
 with_typed message world = record world { kept = (typing_of message world.kept).kept }
-
--- the range alone is written
-abbrev pub range_written : ℤ → ℤ → World → Result World base.Code
-range_written m n world = do
-  text ← text_between m n world.kept
-  Ok (world_after_writing text world)

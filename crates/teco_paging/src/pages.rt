@@ -4,7 +4,7 @@ ghost use Rattle.teco_model.specs.Pages.{written_page};
 ghost use Rattle.teco_model.specs.Paging as model;
 ghost use Rattle.teco_model.specs.State.{Kept};
 ghost use Rattle.teco_paging.specs.Halts.{Counts};
-ghost use Rattle.teco_paging.specs.Worlds.{PutsOut, Together, Turns, Writes, TellsUnread, with_typed, range_written};
+ghost use Rattle.teco_paging.specs.Worlds.{PutsOut, Reads, Together, Turns, Writes, TellsUnread, with_typed};
 
 use crate::halt::Halt;
 use teco_base::Code;
@@ -18,7 +18,7 @@ pub fn yank<T: TextStore, H: Host>(
     pages: &mut Pages,
     host: &mut H,
 ) -> Result<(), Halt>
-    ensures turns { Together (λ old new. Turns old new (model.yank old) result)
+    ensures reads { Together (λ old new. Reads old new (model.yank old) result)
         editor.old pages.old editor.new pages.new (H.files host.old) (H.files host.new) }
     ensures counted { Counts result (H.failures host.old) (H.failures host.new) }
 {
@@ -43,7 +43,7 @@ pub fn append<T: TextStore, H: Host>(
     pages: &mut Pages,
     host: &mut H,
 ) -> Result<(), Halt>
-    ensures turns { Together (λ old new. Turns old new (model.append old) result)
+    ensures reads { Together (λ old new. Reads old new (model.append old) result)
         editor.old pages.old editor.new pages.new (H.files host.old) (H.files host.new) }
     ensures counted { Counts result (H.failures host.old) (H.failures host.new) }
 {
@@ -189,7 +189,7 @@ pub fn write_range<T: TextStore, H: Host>(
     host: &mut H,
 ) -> Result<(), Halt>
     requires { IsSome pages.now.output }
-    ensures writes { Together (λ old new. Writes old new (range_written m n old) result)
+    ensures writes { Together (λ old new. Writes old new (model.range_written m n old) result)
         editor.now pages.now editor.now pages.now (H.files host.old) (H.files host.new) }
     ensures counted { Counts result (H.failures host.old) (H.failures host.new) }
 {

@@ -9,6 +9,8 @@ pub use Rattle.teco_regs.specs.Texts
 pub mod Performs
 pub mod Bodies
 pub mod Frames
+pub mod Courses
+pub mod Outside
 pub mod Ways
 pub mod Seeks
 pub mod Steps

@@ -30,7 +30,7 @@ pub fn argue(argument: Argument, text: &[u8], arguments: &mut Args) -> Result<()
 }
 
 /// Gives a value.
-fn give(arguments: &mut Args, value: i32) -> Result<(), Stuck>
+pub fn give(arguments: &mut Args, value: i32) -> Result<(), Stuck>
     ensures { Argues false arguments.new
         (with_level arguments.old (level_with value arguments.old.level)) result }
 {

@@ -3,10 +3,13 @@
 
 mod arguments;
 mod body;
+mod course;
 mod flow;
 mod frames;
 mod machine;
 mod macros;
+mod outside;
+mod pace;
 mod perform;
 mod seek;
 mod way;

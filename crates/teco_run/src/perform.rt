@@ -1,5 +1,5 @@
 //! What the elements do that go on behind themselves.
-ghost use Rattle.std.specs.Prelude.{◌≡◌, false};
+ghost use Rattle.std.specs.Prelude.{◌≡◌};
 ghost use Rattle.teco_model.specs.Element.{seen};
 ghost use Rattle.teco_model.specs.Memory.{grows, command_grows};
 ghost use Rattle.teco_model.specs.Step as model;
@@ -7,9 +7,8 @@ ghost use Rattle.teco_model.specs.declared.kind.Kind.TheVariants as kind;
 ghost use Rattle.teco_run.specs.Performs.{Performs};
 ghost use Rattle.teco_step.specs.Does.{DoesIfMemory};
 
-use teco_base::Code;
 use teco_expr::Args;
-use teco_model::kind::{Command, Page, Query};
+use teco_model::kind::{Command, Query};
 use teco_model::{Element, Taken};
 use teco_step::{Editor, Stuck};
 use teco_text::TextStore;
@@ -84,22 +83,5 @@ pub fn obey<T: TextStore>(
     if let Some(answer) = execute(editor, command, element, taken)? {
         arguments.value(answer)?;
     }
-    Ok(())
-}
-
-/// `nA` gives a character's code; the other page commands are not there yet.
-pub fn turn_pages<T: TextStore>(
-    editor: &Editor<T>,
-    page: Page,
-    arguments: &mut Args,
-) -> Result<(), Stuck>
-    ensures { Performs false editor.now editor.now arguments.new
-        (model.after_page page editor.now arguments.old) result }
-{
-    let Page::Append = page else {
-        return Err(Stuck::Code(Code::Ill));
-    };
-    let n = arguments.take()?.value.ok_or(Code::Ill)?;
-    arguments.value(editor.character(n))?;
     Ok(())
 }

@@ -1,8 +1,8 @@
 //! Pages that come into the buffer.
 ghost use Rattle.std.specs.Prelude.{◌≡◌, ◌++◌, true, Ok, Err, MatchResult};
 ghost use Rattle.teco_model.specs.Paging.{page_added, page_taken};
+ghost use Rattle.teco_model.specs.Places.{text_between};
 ghost use Rattle.teco_step.specs.Does.{KeepsIfMemory};
-ghost use Rattle.teco_step.specs.Turning.{text_between};
 
 use crate::editor::Editor;
 use crate::stuck::Stuck;
