@@ -1,4 +1,5 @@
--- A library: a text whose elements are comments, ESC and ^U without a colon, which set the text of each register at most once.
+-- A library: a text whose elements are comments, ESC and ^U without a colon, which set the text of each register at
+-- most once.
 use Rattle.std.specs.Prelude.{◌≡◌, ℕ, ◌<◌, ◌≤◌, List, [], ◌∷◌, ◌++◌, map, count_by, find, Bool, true, false, ◌==◌, ◌&&◌, Option, Some, None, option_map}
 use Rattle.std.specs.List.{AllPass, range_with_len}
 use Rattle.std.specs.Option.{option_map_or}
@@ -41,7 +42,7 @@ pub record AreOfLibrary (readings : List Reading) : Type 0 where
 abbrev pub IsLibrary : List ℕ → Type 0
 IsLibrary text = AreOfLibrary (readings text 0)
 
--- The first element that is not allowed stands at a place: with what is read before it, it is not of a library, and that is.
+-- The first element that is not allowed stands at a place: what is read before it is of a library, and with it is not.
 pub record IsFirstNotAllowed (text : List ℕ) (place : ℕ) : Type 0 where
   pub before : List Reading
   pub reading : Reading

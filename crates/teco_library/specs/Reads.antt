@@ -1,4 +1,4 @@
--- What reading a library gives. The fact of one answer holds of no text of which that of another does, but for Ok and Memory.
+-- What reading a library gives. NotALibrary comes exactly where a text is no library, whatever memory does.
 use Rattle.std.specs.Prelude.{◌≡◌, ℕ, ◌<◌, List, length, Option, Result, Ok, Err}
 use Rattle.teco_library.specs.declared.fault.LibraryFault.{LibraryFault}
 use Rattle.teco_library.specs.declared.fault.LibraryFault.TheVariants.{NotALibrary, Memory}

@@ -29,7 +29,8 @@ impl Model for Library {
 
     ghost view = { λ l. texts_at l.file.items l.spans };
 
-    ghost invariant = { λ l. (length l.file.items ≤ LIMIT) × (length l.spans ≡ REGISTERS) × All (IsWithin l.file.items) l.spans };
+    ghost invariant = { λ l. (length l.file.items ≤ LIMIT) × (length l.spans ≡ REGISTERS)
+        × All (IsWithin l.file.items) l.spans };
 }
 
 impl Library {

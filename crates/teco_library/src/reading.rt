@@ -48,7 +48,8 @@ fn span_of(element: &Element) -> Span
     }
 }
 
-/// Says whether a library may have what is read behind all of which these are the spans, and keeps its span, if it sets a text.
+/// Keeps the span of what is read, if it sets a text, and says whether a library may have it behind all of which these are
+/// the spans.
 fn admit(spans: &mut [Option<Span>; REGISTERS], reading: &Reading) -> bool
     requires { EndsItsText (seen reading.now) }
     ensures { Admits (seen reading.now) spans.old spans.new result }
