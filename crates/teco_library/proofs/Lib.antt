@@ -1,0 +1,3 @@
+pub mod OwnText
+pub mod Registers
+pub mod Ahead

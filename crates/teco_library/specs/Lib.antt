@@ -1,0 +1,4 @@
+-- What a library is, and what reading one gives.
+pub mod Library
+pub mod Spans
+pub mod Reads

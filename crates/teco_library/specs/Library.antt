@@ -1,0 +1,69 @@
+-- A library: a text whose elements are comments, ESC and ^U without a colon, which set the text of each register at
+-- most once.
+use Rattle.std.specs.Prelude.{◌≡◌, ℕ, ◌<◌, ◌≤◌, List, [], ◌∷◌, ◌++◌, map, count_by, find, Bool, true, false, ◌==◌, ◌&&◌, Option, Some, None, option_map}
+use Rattle.std.specs.List.{AllPass, range_with_len}
+use Rattle.std.specs.Option.{option_map_or}
+use Rattle.teco_base.specs.declared.TheConstants.{REGISTERS}
+use Rattle.teco_model.specs.declared.kind.Kind.{Kind}
+use Rattle.teco_model.specs.declared.kind.Kind.TheVariants as kind
+use Rattle.teco_model.specs.declared.kind.Argument.TheVariants as argument
+use Rattle.teco_model.specs.declared.kind.Command.TheVariants as command
+use Rattle.teco_model.specs.declared.kind.Flow.TheVariants as flow
+use Rattle.teco_model.specs.declared.kind.Storage.TheVariants as storage
+use Rattle.teco_model.specs.Ahead.{Reading, Whole, Faulty, place_of, readings}
+
+-- the register whose text an element sets
+abbrev pub register_set : Kind → Option ℕ
+register_set (kind.Command (command.Storage (storage.SetText r))) = Some r
+register_set k = None
+
+-- comments, ESC and ^U
+abbrev pub is_of_library : Kind → Bool
+is_of_library (kind.Flow flow.Comment) = true
+is_of_library (kind.Argument argument.DropAll) = true
+is_of_library (kind.Command (command.Storage (storage.SetText r))) = true
+is_of_library k = false
+
+-- These stand in a library without a colon; a fault is no element.
+abbrev pub is_allowed : Reading → Bool
+is_allowed (Whole e) = is_of_library e.kind && (e.colons == 0)
+is_allowed (Faulty c place next) = false
+
+-- does it set the text of this register?
+abbrev pub sets : ℕ → Reading → Bool
+sets q (Whole e) = option_map_or (λ r. r == q) (register_set e.kind) false
+sets q (Faulty c place next) = false
+
+-- what is read of a library, or of the front of one
+pub record AreOfLibrary (readings : List Reading) : Type 0 where
+  pub allowed : AllPass is_allowed readings
+  pub once : (q : ℕ) → q < REGISTERS → count_by (sets q) readings ≤ 1
+
+abbrev pub IsLibrary : List ℕ → Type 0
+IsLibrary text = AreOfLibrary (readings text 0)
+
+-- The first element that is not allowed stands at a place: what is read before it is of a library, and with it is not.
+pub record IsFirstNotAllowed (text : List ℕ) (place : ℕ) : Type 0 where
+  pub before : List Reading
+  pub reading : Reading
+  pub behind : List Reading
+  pub read : readings text 0 ≡ before ++ reading ∷ behind
+  pub stands : place_of reading ≡ place
+  pub allowed : AreOfLibrary before
+  pub refused : ¬ AreOfLibrary (before ++ reading ∷ [])
+
+-- its own text
+abbrev pub own_text : Reading → List ℕ
+own_text (Whole e) = e.text
+own_text (Faulty c place next) = []
+
+-- the text that a register gets
+abbrev pub text_set : List Reading → ℕ → Option (List ℕ)
+text_set readings q = option_map own_text (find (sets q) readings)
+
+-- the texts of all registers, by their places
+unfoldable pub texts_set : List Reading → List (Option (List ℕ))
+texts_set readings = map (text_set readings) (range_with_len 0 REGISTERS)
+
+abbrev pub texts_of : List ℕ → List (Option (List ℕ))
+texts_of text = texts_set (readings text 0)

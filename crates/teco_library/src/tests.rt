@@ -1,0 +1,140 @@
+// Library files, with the texts that they give or the place where they are none. A call that is refused memory is made
+// once more, so that the rows also hold where one allocation fails.
+use super::*;
+use std::alloc::{AllocError, Global};
+use std::process::Abort;
+use std::test::*;
+use teco_base::{LIMIT, Reg};
+
+/// The names of all registers, in the order of their places.
+const NAMES: [u8; 36] = *b"ABCDEFGHIJKLMNOPQRSTUVWXYZ0123456789";
+
+/// A register's name and text.
+type Given = (u8, &'static [u8]);
+
+const LIBRARIES: [(&[u8], &[Given]); 14] = [
+    (b"", &[]),
+    (b" \r\n^M^J", &[]),
+    (b"\x1b\x1b", &[]),
+    (b"!5C!", &[]),
+    (b"!TECO-LIB 2 x!", &[]),
+    (
+        b"@^UA/J<Sfoo\x1b;I!\x1b>/",
+        &[(b'A', b"J<Sfoo\x1b;I!\x1b>")],
+    ),
+    (b"^UA..\x1b", &[(b'A', b"..")]),
+    (b"\x15Z:^UA\x1b", &[(b'Z', b":^UA")]),
+    (b"^u0\x1b@^u9xx", &[(b'0', b""), (b'9', b"")]),
+    (b"@^UA\x1b@\x1b", &[(b'A', b"@")]),
+    (
+        b"^Uq1\x1b^UA2\x1b^U72\x1b",
+        &[(b'A', b"2"), (b'Q', b"1"), (b'7', b"2")],
+    ),
+    (
+        b" !A!\r\n@^UA/x/!and B!\x1b @^UB/!y!/\x1b\x1b^M",
+        &[(b'A', b"x"), (b'B', b"!y!")],
+    ),
+    (b"^UA\x00\xff^UB\x1b", &[(b'A', b"\x00\xff^UB")]),
+    (b"@^UA\x00MB\x00@^UBAxA", &[(b'A', b"MB"), (b'B', b"x")]),
+];
+
+/// The place is that of the first element that is not allowed.
+const NO_LIBRARIES: [(&[u8], usize); 26] = [
+    (b"^UAx\x1b^UAx\x1b", 5),
+    (b"^UA\x1b ^Ua\x1b", 5),
+    (b"^UA\x1b!A!^UB\x1b@^UA//J", 11),
+    (b":^UAx\x1b", 0),
+    (b":@^UA/x/", 0),
+    (b"\x1b@:^UA/x/", 1),
+    (b"::^UA\x1b", 0),
+    (b"^M:U", 2),
+    (b" \r\n5", 3),
+    (b"!A!J!B!=", 3),
+    (b"Ix\x1b", 0),
+    (b"^UAx\x1bGA", 5),
+    (b"\tx\x1b", 0),
+    (b"UA", 0),
+    (b"MA", 0),
+    (b"Otag\x1b!tag!", 0),
+    (b"\x1b<>", 1),
+    (b"^Atext\x01", 0),
+    // cut elements, and what begins none
+    (b"^UAx", 0),
+    (b"^UA\x1b@^UB/x", 4),
+    (b" ^U", 1),
+    (b"!A! !never ended", 4),
+    (b"@", 0),
+    (b"^U?x\x1b", 0),
+    (b"\x00", 0),
+    (b"!\xff!\xff", 3),
+];
+
+fn read(rt: &impl Abort, alloc: Global, file: &[u8]) -> Result<Library, LibraryFault> {
+    assert!(rt; file.len() <= LIMIT, "a file that is too long");
+    match Library::read(alloc, file) {
+        // one growth may be refused
+        Err(LibraryFault::Memory) => Library::read(alloc, file),
+        answer => answer,
+    }
+}
+
+fn given(name: u8, texts: &[Given]) -> Option<&'static [u8]> {
+    texts
+        .iter()
+        .find(|(register, _)| *register == name)
+        .map(|(_, text)| *text)
+}
+
+fn check_texts(rt: &impl Abort, library: &Library, wanted: &[Given], row: usize) {
+    let texts = library.texts();
+    for (place, name) in NAMES.iter().enumerate() {
+        let reg = Reg::of(*name).expect(rt, "a register");
+        let text = given(*name, wanted);
+        assert!(rt; library.text(reg) == text, "row {row}, place {place}");
+        assert!(rt;
+            library.contains(reg) == text.is_some(),
+            "row {row}, place {place}"
+        );
+        assert!(rt;
+            texts.get(place).copied() == Some(text),
+            "row {row}, place {place}"
+        );
+    }
+}
+
+#[test]
+fn libraries_give_their_texts(rt: HostRuntime) {
+    for (row, (file, wanted)) in LIBRARIES.iter().enumerate() {
+        let Ok(library) = read(&rt, rt.alloc(), file) else {
+            panic!(rt; "row {row}: no library");
+        };
+        check_texts(&rt, &library, wanted, row);
+    }
+}
+
+#[test]
+fn first_element_that_is_not_allowed_is_told(rt: HostRuntime) {
+    for (row, (file, wanted)) in NO_LIBRARIES.iter().enumerate() {
+        match read(&rt, rt.alloc(), file) {
+            Err(LibraryFault::NotALibrary { place }) => {
+                assert!(rt; place == *wanted, "row {row}: {place}");
+            }
+            _ => panic!(rt; "row {row}: a library"),
+        }
+    }
+}
+
+fn text_of(alloc: Global, fault: LibraryFault) -> Result<String, AllocError> {
+    Ok(format!(in alloc; "{fault}")?)
+}
+
+#[test]
+fn fault_has_its_text(rt: HostRuntime) {
+    let fault = LibraryFault::NotALibrary { place: 12 };
+    let text = match text_of(rt.alloc(), fault) {
+        Ok(text) => text,
+        // one growth may be refused
+        Err(_) => text_of(rt.alloc(), fault).expect(&rt, "memory"),
+    };
+    assert!(rt; text.as_str() == "the element at 12 cannot stand in a library");
+}
