@@ -1,3 +1,4 @@
 pub mod Known
 pub mod Pairs
+pub mod Said
 pub mod SessionSteps

@@ -7,7 +7,11 @@ use Rattle.std.proofs.lemmas.Bool.{le-leb}
 use Rattle.std.proofs.lemmas.List.{take_all, take_at}
 use Rattle.std.specs.Io.KnownBytes.{Consumes, IsAtEnd, prepend_known}
 use Rattle.teco_base.specs.declared.TheConstants.{LIMIT}
-use Rattle.teco_model.specs.Session.{Executes, none, one_more, Session, IsCommandString, string_end, code_line, is_code, rest_code}
+use Rattle.teco_model.specs.Session.{Executes, none, one_more, Session, SessionToEnd, SessionToExit, IsCommandString, string_end, code_line, code_of, is_code, is_exit, lines_of, rest_code}
+use Rattle.teco_model.specs.Run.{Stops}
+use Rattle.teco_model.specs.State.{World, start}
+use Rattle.teco_model.specs.declared.stop.Stop.{Stop}
+use Rattle.teco_model.specs.declared.stop.Stop.TheVariants as stop_kind
 use Rattle.teco_session.proofs.Known.{Consumes-ahead}
 use Rattle.teco_session.proofs.Pairs.{string_end-nil}
 use Rattle.teco_session.specs.Answers.{Runs, RunsNot, MayRun, Answers}
@@ -16,6 +20,7 @@ use Rattle.teco_session.specs.Strings.{IsPiece, IsRest, IsUnended}
 use Rattle.teco_session.specs.declared.ahead.TheConstants.{CHUNK}
 use Rattle.teco_session.specs.declared.fault.SessionFault.{SessionFault}
 use Rattle.teco_session.specs.declared.fault.SessionFault.TheVariants.{Read, Write, Memory}
+use Rattle.teco_session.specs.declared.sessions.Done.{Done}
 use Rattle.teco_session.specs.declared.sessions.TheConstants.{STRINGS}
 use Rattle.teco_session.specs.declared.strings.Piece.{Piece}
 use Rattle.teco_session.specs.declared.strings.Piece.TheVariants.{Command, Rest}
@@ -30,20 +35,21 @@ Serves-start limit s ahead e = record {
   appended = Appends-nil s.written;
 }
 
--- one more string
-pub Serves-more : (limit count : ℕ) (old mid new : Setting) (coded line : Bool) (string : List ℕ) → Serves limit count old mid coded → Consumes mid.unread new.unread string → IsCommandString string → Answers limit Command string mid.world new.world mid.written new.written (Ok line) → Serves limit (count + 1) old new (coded || line)
-Serves-more limit count old mid new coded line string served came is answers =
+-- one more string, which does not end the session
+pub Serves-more : (limit count : ℕ) (old mid new : Setting) (coded : Bool) (done : Done) (string : List ℕ) → done.exit ≡ false → Serves limit count old mid coded → Consumes mid.unread new.unread string → IsCommandString string → Answers limit Command string mid.world new.world mid.written new.written (Ok done) → Serves limit (count + 1) old new (coded || done.coded)
+Serves-more limit count old mid new coded done string on served came is answers =
     let runs = answers.ran in
+    let goes_on : is_exit runs.stop ≡ false = sym runs.an_exit ∙ sym answers.exit_told ∙ on in
     record {
       strings = served.strings ++ string;
       lines = served.lines ++ answers.lines;
       came = Consumes-trans old.unread mid.unread new.unread served.strings string served.came came;
-      executed = rw (runs.stays, runs.all_lines, answers.told, runs.a_line) (one_more count served.strings mid.world served.lines coded string runs.stop runs.after served.executed is runs.stops);
+      executed = rw (runs.stays, runs.all_lines, answers.coded_told, runs.a_line) (one_more count served.strings mid.world served.lines coded string runs.stop runs.after served.executed is runs.stops goes_on);
       appended = Appends-trans old.written mid.written new.written served.lines answers.lines served.appended answers.writes;
     }
 
 -- the session of some strings and a rest that is no string
-session_of : (limit count : ℕ) (old : Setting) (new : Setting) (strings lines rest : List ℕ) (line : Bool) → Executes limit old.world count strings new.world lines line → string_end (take LIMIT rest) ≡ None → Session limit old.world (strings ++ rest) new.world (lines ++ code_line (rest_code rest)) (line || is_code (rest_code rest))
+session_of : (limit count : ℕ) (old : Setting) (new : Setting) (strings lines rest : List ℕ) (line : Bool) → Executes limit old.world count strings new.world lines line → string_end (take LIMIT rest) ≡ None → SessionToEnd limit old.world (strings ++ rest) new.world (lines ++ code_line (rest_code rest)) (line || is_code (rest_code rest))
 session_of limit count old new strings lines rest line executed no_string = record {
   count = count;
   strings = strings;
@@ -61,23 +67,60 @@ session_of limit count old new strings lines rest line executed no_string = reco
 short_rest : (rest : List ℕ) → length rest ≤ LIMIT → string_end rest ≡ None → string_end (take LIMIT rest) ≡ None
 short_rest rest short endless = ap string_end (take_all LIMIT rest short) ∙ endless
 
+-- a stop that ends the session
+pub record IsExit (stop : Stop) : Type 0 where
+  pub steps : ℕ
+  pub same : stop ≡ stop_kind.Exit steps
+
+exit_of : (stop : Stop) → is_exit stop ≡ true → IsExit stop
+exit_of (stop_kind.Exit steps) e = record { steps = steps; same = refl }
+exit_of (stop_kind.Ended steps) e = cc
+exit_of (stop_kind.Error c) e = cc
+exit_of stop_kind.Limit e = cc
+exit_of stop_kind.Memory e = cc
+exit_of (stop_kind.HostFault fault) e = cc
+
+-- the session that a command string ends, behind others
+session_to : (limit count : ℕ) (old mid new : World) (strings lines string more : List ℕ) (own : List ℕ) (line coded : Bool) → Executes limit old count strings mid lines line → IsCommandString string → Runs limit string mid new own coded true → SessionToExit limit old (strings ++ (string ++ more)) new (lines ++ own) (line || coded)
+session_to limit count old mid new strings lines string more own line coded executed is runs =
+    let exits = exit_of runs.stop (sym runs.an_exit) in
+    let no_line : coded ≡ false = runs.a_line ∙ ap (λ stop. is_code (code_of stop)) exits.same in
+    record {
+      count = count;
+      strings = strings;
+      last = string;
+      behind = more;
+      lines = lines;
+      steps = exits.steps;
+      mid = mid;
+      after = runs.after;
+      whole = refl;
+      executed = rw (no_line, or-false line) executed;
+      one_string = is;
+      exits = subst (λ stop. Stops (start string mid) limit stop runs.after) exits.same runs.stops;
+      stays = runs.stays;
+      all_written = ap (λ l. lines ++ l) (runs.all_lines ∙ ap (λ stop. lines_of stop runs.after) exits.same);
+    }
+
 -- the session of a command string
-string_session : (limit : ℕ) (old new : Setting) (string lines : List ℕ) (coded : Bool) → IsCommandString string → Runs limit string old.world new.world lines coded → Session limit old.world string new.world lines coded
-string_session limit old new string lines coded is runs = record {
+string_session : (limit : ℕ) (old new : Setting) (string lines : List ℕ) (coded exit : Bool) → IsCommandString string → Runs limit string old.world new.world lines coded exit → Session limit old.world string new.world lines coded exit
+string_session limit old new string lines coded false is runs = record {
   count = 1;
   strings = string;
   rest = [];
   lines = lines;
   line = coded;
   whole = sym (append-nil string);
-  executed = rw (runs.stays, runs.all_lines, runs.a_line) (one_more 0 [] old.world [] false string runs.stop runs.after none is runs.stops);
+  executed = rw (runs.stays, runs.all_lines, runs.a_line) (one_more 0 [] old.world [] false string runs.stop runs.after none is runs.stops (sym runs.an_exit));
   no_string = string_end-nil;
   all_written = sym (append-nil lines);
   a_line = sym (or-false coded);
 }
+string_session limit old new string lines coded true is runs =
+    subst (λ l. SessionToExit limit old.world l new.world lines coded) (append-nil string) (session_to limit 0 old.world old.world new.world [] [] string [] lines false coded none is runs)
 
 -- the session of a rest
-rest_session : (limit : ℕ) (old new : Setting) (rest lines : List ℕ) (coded : Bool) → length rest ≤ LIMIT → string_end rest ≡ None → RunsNot rest old.world new.world lines coded → Session limit old.world rest new.world lines coded
+rest_session : (limit : ℕ) (old new : Setting) (rest lines : List ℕ) (coded : Bool) → length rest ≤ LIMIT → string_end rest ≡ None → RunsNot rest old.world new.world lines coded → SessionToEnd limit old.world rest new.world lines coded
 rest_session limit old new rest lines coded short endless runs_not =
     rw (runs_not.stays, runs_not.all_lines, runs_not.a_line) (session_of limit 0 old old [] [] rest false none (short_rest rest short endless))
 
@@ -91,6 +134,7 @@ Converses-write limit count old mid new coded ahead bytes piece fault served cam
   unused = ahead;
   lines = answers.lines;
   line = answers.coded;
+  exit = answers.exit;
   served = served;
   came = Consumes-ahead mid.unread new.unread bytes ahead came;
   one_piece = one piece is;
@@ -102,9 +146,9 @@ Converses-write limit count old mid new coded ahead bytes piece fault served cam
   one Command is = inl is
   one Rest is = inr is
 
-  session : (p : Piece) → IsPiece (prepend_known ahead new.unread) bytes p → MayRun limit p bytes mid.world new.world answers.lines answers.coded → Session limit mid.world bytes new.world answers.lines answers.coded
-  session Command is ran = string_session limit mid new bytes answers.lines answers.coded is ran
-  session Rest is ran = rest_session limit mid new bytes answers.lines answers.coded is.within is.endless ran
+  session : (p : Piece) → IsPiece (prepend_known ahead new.unread) bytes p → MayRun limit p bytes mid.world new.world answers.lines answers.coded answers.exit → Session limit mid.world bytes new.world answers.lines answers.coded answers.exit
+  session Command is ran = string_session limit mid new bytes answers.lines answers.coded answers.exit is ran
+  session Rest is ran = rw ran.1 (rest_session limit mid new bytes answers.lines answers.coded is.within is.endless ran.0)
 
 -- such a fault came behind the strings
 BreaksOff-behind : (limit count : ℕ) (old new : Setting) (left : Option (List ℕ)) (coded : Bool) (ahead part : List ℕ) (fault : SessionFault) → Serves limit count old (record new { unread = left }) coded → Consumes left (prepend_known ahead new.unread) part → IsUnended part → length ahead ≤ CHUNK → (fault ≡ Read → (ahead ≡ []) ⊎ (count ≡ STRINGS)) → BreaksOff limit old new fault
@@ -173,16 +217,33 @@ stays rest left is = elim (eq-or-lt_of_le is.within) [
 ]
 
 -- a session is finished at a rest
-pub Finishes-rest : (limit count : ℕ) (old mid new : Setting) (coded line : Bool) (left : Option (List ℕ)) (rest : List ℕ) → Serves limit count old mid coded → Consumes mid.unread left rest → IsRest left rest → Answers limit Rest rest mid.world new.world mid.written new.written (Ok line) → Finishes limit old new (coded || line)
-Finishes-rest limit count old mid new coded line left rest served came is answers =
+pub Finishes-rest : (limit count : ℕ) (old mid new : Setting) (coded : Bool) (done : Done) (left : Option (List ℕ)) (rest : List ℕ) → Serves limit count old mid coded → Consumes mid.unread left rest → IsRest left rest → Answers limit Rest rest mid.world new.world mid.written new.written (Ok done) → Finishes limit old new (coded || done.coded) false
+Finishes-rest limit count old mid new coded done left rest served came is answers =
     let more = known_rest left in
     let behind = stays rest left is in
     let read = served.strings ++ rest in
-    let runs_not = answers.ran in
+    let runs_not = answers.ran.0 in
     record {
       input = served.strings ++ (rest ++ more);
       lines = served.lines ++ answers.lines;
       told = subst (λ l. IfSome old.unread (λ bytes. bytes ≡ l)) (append_assoc served.strings rest more) (told_input old.unread left read (Consumes-trans old.unread mid.unread left served.strings rest served.came came));
-      session = rw (runs_not.stays, runs_not.all_lines, answers.told, runs_not.a_line, ← behind.code) (session_of limit count old mid served.strings served.lines (rest ++ more) coded served.executed behind.endless);
+      session = rw (runs_not.stays, runs_not.all_lines, answers.coded_told, runs_not.a_line, ← behind.code) (session_of limit count old mid served.strings served.lines (rest ++ more) coded served.executed behind.endless);
       appended = Appends-trans old.written mid.written new.written served.lines answers.lines served.appended answers.writes;
     }
+
+-- or at a command string that ends it
+pub Finishes-exit : (limit count : ℕ) (old mid new : Setting) (coded : Bool) (done : Done) (left : Option (List ℕ)) (bytes : List ℕ) (piece : Piece) → done.exit ≡ true → Serves limit count old mid coded → Consumes mid.unread left bytes → IsPiece left bytes piece → Answers limit piece bytes mid.world new.world mid.written new.written (Ok done) → Finishes limit old new (coded || done.coded) true
+Finishes-exit limit count old mid new coded done left string Command exits served came is answers =
+    let more = known_rest left in
+    let read = served.strings ++ string in
+    let ends : answers.exit ≡ true = sym answers.exit_told ∙ exits in
+    let runs = subst (λ exit. Runs limit string mid.world new.world answers.lines answers.coded exit) ends answers.ran in
+    record {
+      input = served.strings ++ (string ++ more);
+      lines = served.lines ++ answers.lines;
+      told = subst (λ l. IfSome old.unread (λ bytes. bytes ≡ l)) (append_assoc served.strings string more) (told_input old.unread left read (Consumes-trans old.unread mid.unread left served.strings string served.came came));
+      session = rw answers.coded_told (session_to limit count old.world mid.world new.world served.strings served.lines string more answers.lines coded answers.coded served.executed is runs);
+      appended = Appends-trans old.written mid.written new.written served.lines answers.lines served.appended answers.writes;
+    }
+Finishes-exit limit count old mid new coded done left rest Rest exits served came is answers =
+    let no : false ≡ true = sym answers.ran.1 ∙ sym answers.exit_told ∙ exits in cc

@@ -1,16 +1,17 @@
 -- What a session did with one piece of its input, beside the definition.
-use Rattle.std.specs.Prelude.{ℕ, ◌≡◌, List, Option, Bool, Result, IfOk}
+use Rattle.std.specs.Prelude.{ℕ, ◌≡◌, List, Option, Bool, false, Result, Ok, Err, IfOk}
 use Rattle.teco_model.specs.Run.{Stops}
-use Rattle.teco_model.specs.Session.{code_of, code_line, is_code, lines_of, rest_code, without_typed}
+use Rattle.teco_model.specs.Session.{code_of, code_line, is_code, is_exit, lines_of, rest_code, without_typed}
 use Rattle.teco_model.specs.State.{World, start}
 use Rattle.teco_model.specs.declared.stop.Stop.{Stop}
 use Rattle.teco_session.specs.Output.{Writes}
 use Rattle.teco_session.specs.declared.fault.SessionFault.{SessionFault}
+use Rattle.teco_session.specs.declared.sessions.Done.{Done}
 use Rattle.teco_session.specs.declared.strings.Piece.{Piece}
 use Rattle.teco_session.specs.declared.strings.Piece.TheVariants.{Command, Rest}
 
--- a command string was run: what it has to write, and whether a code line is among it
-pub record Runs (limit : ℕ) (string : List ℕ) (old new : World) (lines : List ℕ) (coded : Bool)
+-- a command string was run: what it has to write, whether a code line is among it, and whether it ends the session
+pub record Runs (limit : ℕ) (string : List ℕ) (old new : World) (lines : List ℕ) (coded exit : Bool)
     : Type 0 where
   pub stop : Stop
   pub after : World
@@ -18,6 +19,7 @@ pub record Runs (limit : ℕ) (string : List ℕ) (old new : World) (lines : Lis
   pub stays : new ≡ without_typed after
   pub all_lines : lines ≡ lines_of stop after
   pub a_line : coded ≡ is_code (code_of stop)
+  pub an_exit : exit ≡ is_exit stop
 
 -- a rest was not run
 pub record RunsNot (rest : List ℕ) (old new : World) (lines : List ℕ) (coded : Bool)
@@ -27,15 +29,22 @@ pub record RunsNot (rest : List ℕ) (old new : World) (lines : List ℕ) (coded
   pub a_line : coded ≡ is_code (rest_code rest)
 
 -- a piece was run, if it is a command string
-abbrev pub MayRun : ℕ → Piece → List ℕ → World → World → List ℕ → Bool → Type 0
-MayRun limit Command bytes old new lines coded = Runs limit bytes old new lines coded
-MayRun limit Rest bytes old new lines coded = RunsNot bytes old new lines coded
+abbrev pub MayRun : ℕ → Piece → List ℕ → World → World → List ℕ → Bool → Bool → Type 0
+MayRun limit Command bytes old new lines coded exit = Runs limit bytes old new lines coded exit
+MayRun limit Rest bytes old new lines coded exit = RunsNot bytes old new lines coded × (exit ≡ false)
 
 -- and what it has to write was written, or with a fault a part of that
 pub record Answers (limit : ℕ) (piece : Piece) (bytes : List ℕ) (old new : World)
-    (sink sunk : Option (List ℕ)) (result : Result Bool SessionFault) : Type 0 where
+    (sink sunk : Option (List ℕ)) (result : Result Done SessionFault) : Type 0 where
   pub lines : List ℕ
   pub coded : Bool
-  pub ran : MayRun limit piece bytes old new lines coded
+  pub exit : Bool
+  pub ran : MayRun limit piece bytes old new lines coded exit
   pub writes : Writes sink sunk lines result
-  pub told : IfOk result (λ line. line ≡ coded)
+  pub coded_told : IfOk result (λ done. done.coded ≡ coded)
+  pub exit_told : IfOk result (λ done. done.exit ≡ exit)
+
+-- a fault, or whether a code line was written and whether the session ends
+abbrev pub Said : Result Bool SessionFault → Bool → Result Done SessionFault → Type 0
+Said (Ok line) exit result = result ≡ Ok (record { coded = line; exit = exit })
+Said (Err fault) exit result = result ≡ Err fault

@@ -22,7 +22,7 @@ abbrev pub setting : Kept → Option (List ℕ) → Option (List ℕ) → Settin
 setting kept unread written =
     record { world = world_of kept; unread = unread; written = written }
 
--- so many command strings came, were executed, and what they write was written
+-- so many command strings came, were executed, and what they write was written; none of them ends the session
 pub record Serves (limit count : ℕ) (old new : Setting) (coded : Bool) : Type 0 where
   pub strings : List ℕ
   pub lines : List ℕ
@@ -31,11 +31,11 @@ pub record Serves (limit count : ℕ) (old new : Setting) (coded : Bool) : Type 
   pub appended : Appends old.written new.written lines
 
 -- The session of the input was written. The input is the reader's, where that tells it.
-pub record Finishes (limit : ℕ) (old new : Setting) (coded : Bool) : Type 0 where
+pub record Finishes (limit : ℕ) (old new : Setting) (coded exit : Bool) : Type 0 where
   pub input : List ℕ
   pub lines : List ℕ
   pub told : IfSome old.unread (λ bytes. bytes ≡ input)
-  pub session : Session limit old.world input new.world lines coded
+  pub session : Session limit old.world input new.world lines coded exit
   pub appended : Appends old.written new.written lines
 
 -- Some command strings were served, and then the fault came: nothing else was executed or written.
@@ -64,16 +64,17 @@ pub record CutsShort (limit : ℕ) (old new : Setting) : Type 0 where
   pub unused : List ℕ
   pub lines : List ℕ
   pub line : Bool
+  pub exit : Bool
   pub served : Serves limit count old last coded
   pub came : Consumes last.unread new.unread (piece ++ unused)
   pub one_piece : IsCommandString piece ⊎ IsRest (prepend_known unused new.unread) piece
   pub one_read : length unused ≤ CHUNK
-  pub session : Session limit last.world piece new.world lines line
+  pub session : Session limit last.world piece new.world lines line exit
   pub part : WritesPart last.written new.written lines
 
 -- what comes of a session
 abbrev pub Converses : ℕ → Setting → Setting → Result Done SessionFault → Type 0
-Converses limit old new (Ok done) = Finishes limit old new done.coded
+Converses limit old new (Ok done) = Finishes limit old new done.coded done.exit
 Converses limit old new (Err Read) = BreaksOff limit old new Read
 Converses limit old new (Err Memory) = BreaksOff limit old new Memory
 Converses limit old new (Err Write) = CutsShort limit old new

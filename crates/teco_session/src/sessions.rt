@@ -3,9 +3,10 @@ ghost use Rattle.std.specs.Prelude.{◌≡◌, ◌≤◌, ◌++◌, [], length, 
 ghost use Rattle.std.specs.List.{list_all};
 ghost use Rattle.teco_base.specs.Bytes as byte;
 ghost use Rattle.teco_base.specs.declared.TheConstants.{LIMIT};
+ghost use Rattle.teco_model.specs.Session as model;
 ghost use Rattle.teco_model.specs.Session.{rest_code, code_of, code_line, is_code};
 ghost use Rattle.teco_model.specs.State.{world_of};
-ghost use Rattle.teco_session.specs.Answers.{Answers};
+ghost use Rattle.teco_session.specs.Answers.{Answers, Said};
 ghost use Rattle.teco_session.specs.Output.{Writes};
 ghost use Rattle.teco_session.specs.Sessions.{Converses, setting};
 
@@ -17,6 +18,7 @@ use std::alloc::Global;
 use std::io::{Read, Write};
 use teco_base::bytes::is_blank;
 use teco_base::{Code, LIMIT};
+use teco_model::HostFault;
 use teco_run::{Machine, Stop};
 use teco_text::TextStore;
 
@@ -28,6 +30,26 @@ pub const STRINGS: u64 = 4_294_967_296;
 pub struct Done {
     /// Was a code line written?
     pub coded: bool,
+    /// Did a command string end the session?
+    pub exit: bool,
+}
+
+// The code that is typed for what the host could not do.
+fn code_of_fault(fault: HostFault) -> Code
+    ensures { result ≡ model.code_of_fault fault }
+{
+    match fault {
+        HostFault::NoFile => Code::Fnf,
+        HostFault::In => Code::Inp,
+        HostFault::Out => Code::Out,
+    }
+}
+
+// Does a stop end the session?
+fn is_exit(stop: Stop) -> bool
+    ensures { result ≡ model.is_exit stop }
+{
+    matches!(stop, Stop::Exit { .. })
 }
 
 // The code that is typed for a stop.
@@ -36,9 +58,11 @@ fn code_of_stop(stop: Stop) -> Option<Code>
 {
     match stop {
         Stop::Ended { .. } => None,
+        Stop::Exit { .. } => None,
         Stop::Error(code) => Some(code),
         Stop::Limit => Some(Code::Lim),
         Stop::Memory => Some(Code::Mem),
+        Stop::HostFault(fault) => Some(code_of_fault(fault)),
     }
 }
 
@@ -89,15 +113,25 @@ fn write_lines<W: Write>(
     write_code(writer, code)
 }
 
+// What was done with a piece.
+fn said(line: Result<bool, SessionFault>, exit: bool) -> Result<Done, SessionFault>
+    ensures { Said line exit result }
+{
+    match line {
+        Ok(coded) => Ok(Done { coded, exit }),
+        Err(fault) => Err(fault),
+    }
+}
+
 // Runs a piece of the input, if it is a command string, and writes what it types and its code line. Says whether there is
-// such a line.
+// such a line, and whether it ends the session.
 fn answer<T: TextStore, W: Write>(
     machine: &mut Machine<T>,
     piece: Piece,
     bytes: &[u8],
     writer: &mut W,
     limit: u64,
-) -> Result<bool, SessionFault>
+) -> Result<Done, SessionFault>
     requires { length bytes.now ≤ LIMIT }
     ensures { Answers limit piece bytes.now (world_of machine.old) (world_of machine.new)
         (W.contents writer.old) (W.contents writer.new) result }
@@ -106,17 +140,18 @@ fn answer<T: TextStore, W: Write>(
         Piece::Command => {
             let stop = machine.run(bytes, limit);
             let typed = machine.take_typed();
-            write_lines(writer, typed.as_slice(), code_of_stop(stop))
+            let line = write_lines(writer, typed.as_slice(), code_of_stop(stop));
+            said(line, is_exit(stop))
         }
-        Piece::Rest => write_lines(writer, &[], code_of_rest(bytes)),
+        Piece::Rest => said(write_lines(writer, &[], code_of_rest(bytes)), false),
     }
 }
 
 /// Runs the command strings that a reader gives, each for at most `limit` steps. What a string types is written when it has
 /// stopped, and then a code line for a stop that is not the end.
 ///
-/// A string is run as soon as its end is read. After a code the session goes on with the next string. A rest without an end
-/// is not executed. With a fault of reading or of memory, the strings that came before it are executed and written, and
+/// A string is run as soon as its end is read. After a code the session goes on with the next string; a string that ends the
+/// session is the last. A rest without an end is not executed. With a fault of reading or of memory, the strings that came before it are executed and written, and
 /// nothing else is. With one of writing, the string whose bytes were being written is the last that was executed: a part of
 /// what it writes is written, from the front and less than all.
 pub fn session<T: TextStore, R: Read, W: Write>(
@@ -136,10 +171,13 @@ pub fn session<T: TextStore, R: Read, W: Write>(
     let mut coded = false;
     for _ in 0..STRINGS {
         let piece = next_piece(&mut string, &mut ahead, reader)?;
-        let line = answer(machine, piece, string.as_slice(), writer, limit)?;
-        coded |= line;
+        let done = answer(machine, piece, string.as_slice(), writer, limit)?;
+        coded |= done.coded;
+        if done.exit {
+            return Ok(Done { coded, exit: true });
+        }
         if let Piece::Rest = piece {
-            return Ok(Done { coded });
+            return Ok(Done { coded, exit: false });
         }
     }
     Err(SessionFault::Read)
