@@ -1,0 +1,9 @@
+-- Where a run of a library's macros can go: positions, the ways between them, and the nodes that an expansion numbers.
+pub mod Position
+pub mod Library
+pub mod Refusal
+pub mod Ways
+pub mod Names
+pub mod Node
+pub mod Expansion
+pub mod Rows
