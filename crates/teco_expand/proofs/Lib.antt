@@ -1,1 +1,6 @@
+mod Checks
+mod Turns
+mod FlowWays
+mod StepWays
+mod Linking
 mod Worked

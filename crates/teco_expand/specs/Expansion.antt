@@ -1,18 +1,18 @@
 -- The expansion of a library from an entry: a call is followed by the elements of its text and by its return, and then each
 -- way is looked up among them.
-use Rattle.std.specs.Prelude.{ℕ, zero, suc, ◌+◌, List, [], ◌∷◌, ◌++◌, map, length, drop, get_or, nat_le, Bool, true, false, ◌&&◌, ◌==◌, bytes_eq, if◌then◌else◌, Option, Some, None, unwrap_or, option_map, Result, Ok, Err, position as first_index}
+use Rattle.std.specs.Prelude.{ℕ, zero, suc, ◌+◌, List, [], ◌∷◌, ◌++◌, map, length, drop, get_or, nat_le, Bool, true, false, not, ◌&&◌, ◌==◌, bytes_eq, if◌then◌else◌, Option, Some, None, unwrap_or, option_map, Result, Ok, Err, position as first_index}
 use Rattle.std.specs.List.{list_any}
 use Rattle.std.specs.Option.{ok_or}
 use Rattle.teco_model.specs.declared.kind.Kind.{Kind}
 use Rattle.teco_model.specs.declared.kind.Kind.TheVariants as kind
-use Rattle.teco_model.specs.declared.kind.Flow.TheVariants as flow
 use Rattle.teco_model.specs.Element.{Element}
-use Rattle.teco_expand.specs.Library.{Library, macro}
+use Rattle.teco_expand.specs.Library.{Library}
 use Rattle.teco_expand.specs.Names.{names_macro}
-use Rattle.teco_expand.specs.Node.{Stand, Node, beginning, over, stand_at}
-use Rattle.teco_expand.specs.Position.{Spot, Position, spot_in, moved_to, place_at}
-use Rattle.teco_expand.specs.Refusal.{Reason, Unpaired, NoMacro, Recursion, TooLarge, Refusal, ◌>>=◌}
-use Rattle.teco_expand.specs.Ways.{past, read_at, ways_at}
+use Rattle.teco_expand.specs.Node.{Stand, Node, beginning, over, stand_at, base_of}
+use Rattle.teco_expand.specs.Order.{stand_behind}
+use Rattle.teco_expand.specs.Position.{Spot, Position, place_at}
+use Rattle.teco_expand.specs.Refusal.{Reason, Unpaired, Recursion, TooLarge, Refusal, unless, ◌>>=◌}
+use Rattle.teco_expand.specs.Ways.{read_at, ways_at}
 
 -- how many elements there are at most
 abbrev pub MOST_ELEMENTS : ℕ
@@ -31,65 +31,39 @@ pub record Visit : Type 0 where
 abbrev pub first_visit : ℕ → Visit
 first_visit entry = record { stand = beginning entry; registers = [] }
 
--- a visit elsewhere in the same text, with these iterations open
-abbrev pub visit_at : Position → List ℕ → Visit → Visit
-visit_at p iterations v = record v { stand = record { position = p; iterations = iterations } }
+-- the registers whose texts are open behind an element, or behind the end of a text
+abbrev pub open_behind_kind : Kind → List ℕ → List ℕ
+open_behind_kind (kind.Call c) registers = c.register ∷ registers
+open_behind_kind k registers = registers
 
--- < is followed by its body, and > by what is outside of it
-abbrev pub visit_inside : Element → ℕ → Visit → Visit
-visit_inside e number v =
-    let p = v.stand.position in
-    visit_at (moved_to e.next (e.next ∷ p.running.starts) p) (number ∷ v.stand.iterations) v
+abbrev pub open_behind : Option Element → List ℕ → List ℕ
+open_behind None registers = drop 1 registers
+open_behind (Some e) registers = open_behind_kind e.kind registers
 
-abbrev pub visit_outside : Element → Visit → Visit
-visit_outside e v =
-    let p = v.stand.position in
-    visit_at (moved_to e.next (drop 1 p.running.starts) p) (drop 1 v.stand.iterations) v
+abbrev pub visit_behind : Library → ℕ → Option Element → Visit → Visit
+visit_behind library number read v = record {
+  stand = stand_behind library number read v.stand;
+  registers = open_behind read v.registers;
+}
 
--- a call is followed by its text
-abbrev pub visit_called : ℕ → List ℕ → Element → Visit → Visit
-visit_called r text e v =
-    let p = v.stand.position in record {
-      stand = record v.stand {
-        position = record { running = spot_in text; callers = (past e p).running ∷ p.callers };
-      };
-      registers = r ∷ v.registers;
-    }
+-- A call of a register whose text is open is a recursion.
+abbrev pub is_open : ℕ → List ℕ → Bool
+is_open r registers = list_any (λ other. other == r) registers
 
--- a call of a register whose text is open is a recursion
-abbrev pub call_followed : Option (List ℕ) → ℕ → Element → Visit → Result Visit Reason
-call_followed None r e v = Err NoMacro
-call_followed (Some text) r e v =
-    if list_any (λ other. other == r) v.registers then Err Recursion else Ok (visit_called r text e v)
+abbrev pub is_recursion_of_kind : Kind → List ℕ → Bool
+is_recursion_of_kind (kind.Call c) registers = is_open c.register registers
+is_recursion_of_kind k registers = false
 
--- a return is followed by what stands behind its call
-abbrev pub position_behind : List Spot → Position → Position
-position_behind [] p = p
-position_behind (caller ∷ callers) p = record { running = caller; callers = callers }
+abbrev pub is_recursion : Option Element → List ℕ → Bool
+is_recursion None registers = false
+is_recursion (Some e) registers = is_recursion_of_kind e.kind registers
 
-abbrev pub visit_returned : Visit → Visit
-visit_returned v =
-    let p = v.stand.position in
-    record (visit_at (position_behind p.callers p) v.stand.iterations v) { registers = drop 1 v.registers }
-
--- what follows an element of a number in the order of the texts
-abbrev pub element_followed : Library → ℕ → Kind → Element → Visit → Result Visit Reason
-element_followed library number (kind.Call c) e v = call_followed (macro library c.register) c.register e v
-element_followed library number (kind.Flow flow.Iterate) e v = Ok (visit_inside e number v)
-element_followed library number (kind.Flow flow.EndTurn) e v = Ok (visit_outside e v)
-element_followed library number k e v = Ok (visit_at (past e v.stand.position) v.stand.iterations v)
-
-abbrev pub followed : Library → ℕ → Option Element → Visit → Result Visit Reason
-followed library number None v = Ok (visit_returned v)
-followed library number (Some e) v = element_followed library number e.kind e v
-
--- an element counts with what it opens
-abbrev pub within : ℕ → Visit → Result Visit Reason
-within number next =
-    if nat_le number MOST_ELEMENTS
+-- An element counts with what it opens.
+abbrev pub is_within : ℕ → Visit → Bool
+is_within number next =
+    nat_le number MOST_ELEMENTS
     && nat_le (length next.registers) MOST_OPEN
     && nat_le (length next.stand.iterations) MOST_OPEN
-    then Ok next else Err TooLarge
 
 -- The visit that follows one of a number. What is read there may be refused, then its ways, then what it calls, and then how
 -- much there is.
@@ -97,8 +71,9 @@ unfoldable pub next_visit : Library → ℕ → Visit → Result Visit Reason
 next_visit library number v = do
   read ← read_at v.stand.position
   ways ← ways_at library read v.stand.position
-  next ← followed library number read v
-  within number next
+  once ← unless (is_recursion read v.registers) Recursion
+  few ← unless (not (is_within number (visit_behind library number read v))) TooLarge
+  Ok (visit_behind library number read v)
 
 -- the register whose text it is; the call of the entry counts to the entry
 abbrev pub register_at : ℕ → Visit → ℕ
@@ -119,22 +94,20 @@ pub record Walk : Type 0 where
 abbrev pub refused_walk : ℕ → Visit → Reason → Walk
 refused_walk entry v reason = record { visits = v ∷ []; refusal = Some (refusal_at entry v reason) }
 
-abbrev pub whole_walk : Visit → Walk
-whole_walk v = record { visits = v ∷ []; refusal = None }
+-- it goes on while texts are open
+abbrev pub walk_while : List ℕ → Visit → Walk → Walk
+walk_while [] v rest = record { visits = v ∷ []; refusal = None }
+walk_while (r ∷ registers) v rest = record rest { visits = v ∷ rest.visits }
 
-abbrev pub walk_from : Visit → Walk → Walk
-walk_from v rest = record rest { visits = v ∷ rest.visits }
+abbrev pub walk_behind : ℕ → Visit → Result Visit Reason → (Visit → Walk) → Walk
+walk_behind entry v (Err reason) on = refused_walk entry v reason
+walk_behind entry v (Ok next) on = walk_while next.registers v (on next)
 
--- at most so many visits from one of a number on
+-- so many visits at most, from one of a number on
 unfoldable pub walk : ℕ → Library → ℕ → ℕ → Visit → Walk
 walk zero library entry number v = refused_walk entry v TooLarge
-walk (suc more) library entry number v = elim (next_visit library number v) [
-  | Err reason ↦ refused_walk entry v reason
-  | Ok next ↦ elim next.registers [
-    | [] ↦ whole_walk v
-    | r ∷ rs ↦ walk_from v (walk more library entry (number + 1) next)
-  ]
-]
+walk (suc more) library entry number v =
+    walk_behind entry v (next_visit library number v) (walk more library entry (number + 1))
 
 -- where all stand, the end behind them
 abbrev pub stand_of_visit : Visit → Stand
@@ -145,7 +118,7 @@ all_stands w entry = map stand_of_visit w.visits ++ over entry ∷ []
 
 -- stands are compared part by part
 abbrev pub same_spot : Spot → Spot → Bool
-same_spot a b = a.place == b.place && bytes_eq a.text b.text && bytes_eq a.starts b.starts
+same_spot a b = a.place == b.place && (bytes_eq a.text b.text && bytes_eq a.starts b.starts)
 
 abbrev pub same_spots : List Spot → List Spot → Bool
 same_spots [] [] = true
@@ -184,15 +157,6 @@ way_numbers library entry w first number v (target ∷ targets) =
       ways ← way_numbers library entry w number number v targets
       Ok (way ∷ ways)
 
--- Ways lead ahead, but for the first of >, which leads back behind its <.
-abbrev pub behind_kind : Kind → ℕ → List ℕ → ℕ
-behind_kind (kind.Flow flow.EndTurn) number iterations = get_or iterations 0 0
-behind_kind k number iterations = number
-
-abbrev pub behind_what : Option Element → ℕ → List ℕ → ℕ
-behind_what None number iterations = number
-behind_what (Some e) number iterations = behind_kind e.kind number iterations
-
 -- a refusal has its place
 abbrev pub refused_at : {X : Type 0} → ℕ → Visit → Result X Reason → Result X Refusal
 refused_at entry v (Ok x) = Ok x
@@ -202,7 +166,7 @@ unfoldable pub node_at : Library → ℕ → Walk → ℕ → Visit → Result N
 node_at library entry w number v = do
   read ← refused_at entry v (read_at v.stand.position)
   targets ← refused_at entry v (ways_at library read v.stand.position)
-  ways ← way_numbers library entry w (behind_what read number v.stand.iterations) number v targets
+  ways ← way_numbers library entry w (base_of read number v.stand.iterations) number v targets
   Ok (record {
     stand = v.stand;
     register = register_at entry v;

@@ -3,7 +3,12 @@ pub mod Position
 pub mod Library
 pub mod Refusal
 pub mod Ways
+pub mod Turns
+pub mod Was
+pub mod Steps
 pub mod Names
 pub mod Node
+pub mod Order
 pub mod Expansion
+pub mod Linked
 pub mod Rows

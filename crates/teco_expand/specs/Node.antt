@@ -1,10 +1,11 @@
 -- Nodes: what a run of a macro comes to, numbered from 1 in the order of the texts, and the ways between them.
-use Rattle.std.specs.Prelude.{◌≡◌, ℕ, zero, suc, ◌-◌, List, [], ◌∷◌, ◌++◌, map, drop, nat_lt, if◌then◌else◌, Bool, Option, Some, None, Ok, slice_get}
+use Rattle.std.specs.Prelude.{ℕ, zero, suc, ◌-◌, List, [], ◌∷◌, ◌++◌, map, drop, get_or, nat_lt, if◌then◌else◌, Bool, Option, Some, None, slice_get}
 use Rattle.teco_base.specs.Register.{register_name}
+use Rattle.teco_model.specs.declared.kind.Kind.{Kind}
+use Rattle.teco_model.specs.declared.kind.Kind.TheVariants as kind
+use Rattle.teco_model.specs.declared.kind.Flow.TheVariants as flow
 use Rattle.teco_model.specs.Element.{Element}
-use Rattle.teco_expand.specs.Library.{Library}
 use Rattle.teco_expand.specs.Position.{Position, spot_in, depth, place_at}
-use Rattle.teco_expand.specs.Ways.{read_at, ways_at}
 
 -- where a run stands among nodes: its position, and the numbers of the < whose iterations are open, the innermost first
 pub record Stand : Type 0 where
@@ -64,16 +65,11 @@ stand_at number from p = record {
   iterations = iterations_at number from.iterations (depth from.position) (depth p);
 }
 
--- A node is linked: it has what is read where it stands, and each of its ways leads to the number of what stands where the
--- machine will stand.
-pub record IsLinked (library : Library) (all : List Stand) (number : ℕ) (node : Node) : Type 0 where
-  pub targets : List Position
-  pub reads : read_at node.stand.position ≡ Ok node.element
-  pub goes : ways_at library node.element node.stand.position ≡ Ok targets
-  pub leads : map (numbered all) node.ways ≡ map (λ p. Some (stand_at number node.stand p)) targets
+-- Ways lead ahead of their node, but for the first of >, which leads back, ahead of its <.
+abbrev pub base_of_kind : Kind → ℕ → List ℕ → ℕ
+base_of_kind (kind.Flow flow.EndTurn) number iterations = get_or iterations 0 0
+base_of_kind k number iterations = number
 
--- All nodes are linked, and the first stands at the call of the entry.
-pub record AreLinked (library : Library) (entry : ℕ) (nodes : List Node) : Type 0 where
-  pub first : numbered (stands nodes entry) 1 ≡ Some (beginning entry)
-  pub each :
-      (k : ℕ) (node : Node) → numbered nodes k ≡ Some node → IsLinked library (stands nodes entry) k node
+abbrev pub base_of : Option Element → ℕ → List ℕ → ℕ
+base_of None number iterations = number
+base_of (Some e) number iterations = base_of_kind e.kind number iterations

@@ -96,10 +96,12 @@ search_ways false (start ∷ outer) e p = way_or_jump (past e p) e p
 search_ways colon starts e p = one_way (past e p)
 
 -- M goes to the beginning of its text, and its own text waits behind it.
+abbrev pub called : List ℕ → Element → Position → Position
+called text e p = record { running = spot_in text; callers = (past e p).running ∷ p.callers }
+
 abbrev pub call_ways : Option (List ℕ) → Element → Position → Result (List Position) Reason
 call_ways None e p = Err NoMacro
-call_ways (Some text) e p =
-    one_way (record { running = spot_in text; callers = (past e p).running ∷ p.callers })
+call_ways (Some text) e p = one_way (called text e p)
 
 -- The end of a text goes back to the text that waits, if there is one; no iteration may be open.
 abbrev pub return_ways : List ℕ → List Spot → Result (List Position) Reason
