@@ -3,4 +3,9 @@ mod Turns
 mod FlowWays
 mod StepWays
 mod Linking
+mod Texts
+mod Keeping
+mod KeepingPages
+mod StayLoaded
+mod Runs
 mod Worked

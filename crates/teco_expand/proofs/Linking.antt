@@ -1,19 +1,18 @@
 -- Whatever is expanded is linked.
-use Rattle.std.proofs.Common.{◌≡◌, ℕ, zero, suc, ◌+◌, ◌<◌, ◌≤◌, List, [], ◌∷◌, ◌++◌, map, drop, length, Bool, true, false, not, ◌&&◌, ◌==◌, bytes_eq, Option, Some, None, Result, Ok, Err, refl, sym, ap, ◌∙◌, subst, slice_get, get_or, position, eqb-true, arith}
+use Rattle.std.proofs.Common.{◌≡◌, ℕ, zero, suc, ◌+◌, ◌<◌, List, [], ◌∷◌, ◌++◌, map, drop, Bool, true, false, not, ◌&&◌, ◌==◌, bytes_eq, Option, Some, None, Result, Ok, Err, refl, sym, ap, ◌∙◌, subst, slice_get, get_or, position, eqb-true, arith}
 use Rattle.std.specs.Option.{option_map, ok_or}
 use Rattle.std.proofs.lemmas.Slice.Eq.{bytes_eq-Decides}
 use Rattle.std.proofs.lemmas.List.Quantifiers.{position-Some}
 use Rattle.std.proofs.lemmas.Option.{slice_get-get_or}
 use Rattle.teco_model.specs.Element.{Element}
-use Rattle.teco_expand.specs.Refusal.{Reason, Unpaired, Recursion, TooLarge, Refusal, unless, ◌>>=◌}
+use Rattle.teco_expand.specs.Refusal.{Reason, Unpaired, Recursion, TooLarge, unless}
 use Rattle.teco_expand.specs.Library.{Library}
-use Rattle.teco_expand.specs.Names.{names_macro}
 use Rattle.teco_expand.specs.Position.{Spot, Position}
 use Rattle.teco_expand.specs.Ways.{read_at, ways_at}
-use Rattle.teco_expand.specs.Node.{Stand, Node, beginning, over, stand_of_node, stands, numbered, stand_at, base_of}
+use Rattle.teco_expand.specs.Node.{Stand, Node, over, stand_of_node, stands, numbered, stand_at, base_of}
 use Rattle.teco_expand.specs.Order.{stand_behind}
-use Rattle.teco_expand.specs.Expansion.{Visit, first_visit, visit_behind, is_recursion, is_within, next_visit, register_at, refusal_at, Walk, walk, walk_while, walk_behind, whole_walk_of, stand_of_visit, all_stands, same_spot, same_spots, same_position, same_stand, number_behind, refusal_of_way, way_numbers, refused_at, node_at, nodes_at, unless_refused, expansion, MOST_ELEMENTS}
-use Rattle.teco_expand.specs.Linked.{AreAhead, IsLinked, AreLinked, ExpansionsAreLinked}
+use Rattle.teco_expand.specs.Expansion.{Visit, first_visit, visit_behind, is_recursion, is_within, next_visit, refusal_at, Walk, walk, walk_while, walk_behind, whole_walk_of, stand_of_visit, all_stands, same_spot, same_spots, same_position, same_stand, number_behind, refusal_of_way, way_numbers, refused_at, node_at, nodes_at, unless_refused, expansion, MOST_ELEMENTS}
+use Rattle.teco_expand.specs.Linked.{AreAhead, IsLinked, ExpansionsAreLinked}
 use Rattle.teco_expand.proofs.Checks.{ok, bound_way, some_of}
 
 and_left : (a b : Bool) → (a && b) ≡ true → a ≡ true

@@ -29,7 +29,7 @@ use Rattle.teco_expand.specs.Library.{Library, macro, IsLoaded}
 use Rattle.teco_expand.specs.Position.{Position, position_of, position_of_frames, start_of, spot_of}
 use Rattle.teco_expand.specs.Ways.{pattern_parts, as_fault, sound, past, read_at, search_ways, call_ways, return_ways, element_ways, ways_at, flow_ways}
 use Rattle.teco_expand.specs.Was.{Finds, Misses, Answers, GoesOnFound, GoesOnMissed, LeavesByMiss, ElementWas, StepWas}
-use Rattle.teco_expand.specs.Steps.{is_long, IsLeftAt, Goes, Stays, Moves, Went, Stayed, StepsGoWays}
+use Rattle.teco_expand.specs.Steps.{is_long, IsLeftAt, Stays, Moves, Went, Stayed, StepsGoWays}
 use Rattle.teco_expand.proofs.Checks.{ok, bound_way}
 use Rattle.teco_expand.proofs.Turns.{leaves_by_kind, turn_goes, jumped as jump_made}
 use Rattle.teco_expand.proofs.FlowWays.{position_in, jump_leads, first_way, second_way, only, way_leads}

@@ -6,9 +6,11 @@ pub mod Ways
 pub mod Turns
 pub mod Was
 pub mod Steps
+pub mod Loaded
 pub mod Names
 pub mod Node
 pub mod Order
 pub mod Expansion
 pub mod Linked
+pub mod Run
 pub mod Rows

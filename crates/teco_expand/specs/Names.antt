@@ -44,3 +44,27 @@ named_by k = None
 abbrev pub names_macro : Library → Option Element → Bool
 names_macro library None = false
 names_macro library (Some e) = option_map_or (is_macro library) (named_by e.kind) false
+
+-- X, ^U and ] write the text of a register.
+abbrev pub written_by_storage : Storage → Option ℕ
+written_by_storage (storage.Copy r) = Some r
+written_by_storage (storage.SetText r) = Some r
+written_by_storage s = None
+
+abbrev pub written_by_stack : Stack → Option ℕ
+written_by_stack (stack.Pop r) = Some r
+written_by_stack s = None
+
+abbrev pub written_by_command : Command → Option ℕ
+written_by_command (command.Storage s) = written_by_storage s
+written_by_command c = None
+
+abbrev pub written_by : Kind → Option ℕ
+written_by (kind.Stack s) = written_by_stack s
+written_by (kind.Command c) = written_by_command c
+written_by k = None
+
+-- does an element write a register of the library?
+abbrev pub writes_macro : Library → Option Element → Bool
+writes_macro library None = false
+writes_macro library (Some e) = option_map_or (is_macro library) (written_by e.kind) false

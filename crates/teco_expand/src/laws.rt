@@ -1,6 +1,8 @@
 //! Laws of expansions.
 ghost use Rattle.teco_expand.specs.Linked.{ExpansionsAreLinked};
+ghost use Rattle.teco_expand.specs.Loaded.{LoadingLoads, StaysLoaded};
 ghost use Rattle.teco_expand.specs.Rows.{WorkedExpansions};
+ghost use Rattle.teco_expand.specs.Run.{RunsComeToNodes, StepsGoAlongNodes};
 ghost use Rattle.teco_expand.specs.Steps.{StepsGoWays};
 
 /// The definition gives the expansions that are worked by hand.
@@ -13,7 +15,27 @@ pub fn steps_go_ways()
     ensures { StepsGoWays }
 {}
 
+/// A library is loaded where its texts are put into their registers.
+pub fn loading_loads()
+    ensures { LoadingLoads }
+{}
+
+/// It stays loaded through each step that writes no register of the library.
+pub fn stays_loaded()
+    ensures { StaysLoaded }
+{}
+
 /// The nodes of an expansion are linked.
 pub fn expansions_are_linked()
     ensures { ExpansionsAreLinked }
+{}
+
+/// From a linked node each step goes one of the node's ways, to where the machine stands then.
+pub fn steps_go_along_nodes()
+    ensures { StepsGoAlongNodes }
+{}
+
+/// A run of a macro stands at linked nodes alone, and at the end.
+pub fn runs_come_to_nodes()
+    ensures { RunsComeToNodes }
 {}
