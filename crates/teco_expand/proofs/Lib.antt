@@ -7,5 +7,6 @@ mod Texts
 mod Keeping
 mod KeepingPages
 mod StayLoaded
+mod Iterations
 mod Runs
 mod Worked

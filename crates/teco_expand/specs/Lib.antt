@@ -12,5 +12,6 @@ pub mod Node
 pub mod Order
 pub mod Expansion
 pub mod Linked
+pub mod Iterations
 pub mod Run
 pub mod Rows

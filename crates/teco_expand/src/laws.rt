@@ -1,4 +1,5 @@
 //! Laws of expansions.
+ghost use Rattle.teco_expand.specs.Iterations.{IterationsAreOpen};
 ghost use Rattle.teco_expand.specs.Linked.{ExpansionsAreLinked};
 ghost use Rattle.teco_expand.specs.Loaded.{LoadingLoads, StaysLoaded};
 ghost use Rattle.teco_expand.specs.Rows.{WorkedExpansions};
@@ -28,6 +29,11 @@ pub fn stays_loaded()
 /// The nodes of an expansion are linked.
 pub fn expansions_are_linked()
     ensures { ExpansionsAreLinked }
+{}
+
+/// A node has the numbers of the iterations that are open where it stands.
+pub fn iterations_are_open()
+    ensures { IterationsAreOpen }
 {}
 
 /// From a linked node each step goes one of the node's ways, to where the machine stands then.
