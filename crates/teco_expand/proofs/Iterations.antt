@@ -1,17 +1,15 @@
 -- The numbers of open iterations.
-use Rattle.std.proofs.Common.{◌≡◌, ℕ, zero, suc, ◌+◌, ◌<◌, List, [], ◌∷◌, ◌++◌, map, drop, Option, Some, None, Result, Ok, Err, refl, sym, ap, ◌∙◌, subst, slice_get, arith}
-use Rattle.teco_model.specs.declared.kind.Flow.{Flow}
+use Rattle.std.proofs.Common.{◌≡◌, ℕ, zero, suc, ◌<◌, List, [], ◌∷◌, ◌++◌, map, drop, Option, Some, None, Ok, refl, sym, ap, ◌∙◌, subst, slice_get, arith}
 use Rattle.teco_model.specs.declared.kind.Flow.TheVariants as flow
 use Rattle.teco_model.specs.declared.kind.Kind.{Kind}
 use Rattle.teco_model.specs.declared.kind.Kind.TheVariants as kind
 use Rattle.teco_model.specs.Element.{Element}
-use Rattle.teco_expand.specs.Iterations.{Begins, AreOpenIn, AreOpen, IsOpen, IterationsAreOpen}
+use Rattle.teco_expand.specs.Iterations.{AreOpenIn, AreOpen, IsOpen, IterationsAreOpen}
 use Rattle.teco_expand.specs.Library.{Library, macro}
-use Rattle.teco_expand.specs.Linked.{IsLinked, AreLinked}
+use Rattle.teco_expand.specs.Linked.{AreLinked}
 use Rattle.teco_expand.specs.Node.{Stand, Node, beginning, over, stand_of_node, stands, numbered}
 use Rattle.teco_expand.specs.Order.{position_in_text, position_behind_call, stand_behind_kind, stand_behind}
 use Rattle.teco_expand.specs.Position.{Spot, Position}
-use Rattle.teco_expand.specs.Refusal.{Reason}
 use Rattle.teco_expand.specs.Ways.{end_ways, flow_ways, return_ways, element_ways, ways_at}
 
 -- what is behind a number is behind a greater one
@@ -19,16 +17,18 @@ later_in : (nodes : List Node) (entry below more : ℕ) (text : List ℕ) (calle
     AreOpenIn nodes entry below text callers Rest starts numbers → AreOpenIn nodes entry more text callers Other starts numbers
 later_in nodes entry below more text callers Rest Other [] numbers l f o = f numbers o
 later_in nodes entry below more text callers Rest Other (start ∷ outer) [] l f o = absurd o
-later_in nodes entry below more text callers Rest Other (start ∷ outer) (n ∷ numbers) l f o =
-    (record {
-      node = o.0.node;
-      element = o.0.element;
-      at = o.0.at;
-      before = omega (arith, l, o.0.before);
-      reads = o.0.reads;
-      is_begin = o.0.is_begin;
-      behind = o.0.behind;
-    }, later_in nodes entry below more text callers Rest Other outer numbers l f o.1)
+later_in nodes entry below more text callers Rest Other (start ∷ outer) (n ∷ numbers) l f o = (
+  record {
+    node = o.0.node;
+    element = o.0.element;
+    at = o.0.at;
+    before = omega (arith, l, o.0.before);
+    reads = o.0.reads;
+    is_begin = o.0.is_begin;
+    behind = o.0.behind;
+  },
+  later_in nodes entry below more text callers Rest Other outer numbers l f o.1,
+)
 
 later : (nodes : List Node) (entry below more : ℕ) (spots : List Spot) (numbers : List ℕ) → below < more → AreOpen nodes entry below spots numbers → AreOpen nodes entry more spots numbers
 later nodes entry below more [] numbers l o = o
@@ -110,8 +110,8 @@ all_open library entry nodes (suc k) node are h =
     let p = before.node.stand.position in
     let order : node.stand ≡ stand_behind library (suc k) before.node.element before.node.stand = are.order (suc k) before.node node before.at h in
     let next = behind library nodes entry (suc k) before.node.element before.node linked.targets before.at refl
-        (node_stands nodes (over entry) (suc k) node h ∙ ap Some order) linked.goes
-        (later nodes entry (suc k) (suc (suc k)) (p.running ∷ p.callers) before.node.stand.iterations (omega arith) o) in
+    (node_stands nodes (over entry) (suc k) node h ∙ ap Some order) linked.goes
+    (later nodes entry (suc k) (suc (suc k)) (p.running ∷ p.callers) before.node.stand.iterations (omega arith) o) in
     subst (IsOpen nodes entry (suc (suc k))) (sym order) next
 
 pub iterations_are_open : IterationsAreOpen

@@ -1,5 +1,5 @@
 -- Whatever is expanded is linked.
-use Rattle.std.proofs.Common.{◌≡◌, ℕ, zero, suc, ◌+◌, ◌<◌, List, [], ◌∷◌, ◌++◌, map, drop, Bool, true, false, not, ◌&&◌, ◌==◌, bytes_eq, Option, Some, None, Result, Ok, Err, refl, sym, ap, ◌∙◌, subst, slice_get, get_or, position, eqb-true, arith}
+use Rattle.std.proofs.Common.{◌≡◌, ℕ, zero, suc, ◌+◌, ◌-◌, ◌<◌, length, rules, List, [], ◌∷◌, ◌++◌, map, drop, Bool, true, false, not, ◌&&◌, ◌==◌, bytes_eq, Option, Some, None, Result, Ok, Err, refl, sym, ap, ◌∙◌, subst, slice_get, get_or, position, eqb-true, arith}
 use Rattle.std.specs.Option.{option_map, ok_or}
 use Rattle.std.proofs.lemmas.Slice.Eq.{bytes_eq-Decides}
 use Rattle.std.proofs.lemmas.List.Quantifiers.{position-Some}
@@ -12,7 +12,7 @@ use Rattle.teco_expand.specs.Ways.{read_at, ways_at}
 use Rattle.teco_expand.specs.Node.{Stand, Node, over, stand_of_node, stands, numbered, stand_at, base_of}
 use Rattle.teco_expand.specs.Order.{stand_behind}
 use Rattle.teco_expand.specs.Expansion.{Visit, first_visit, visit_behind, is_recursion, is_within, next_visit, refusal_at, Walk, walk, walk_while, walk_behind, whole_walk_of, stand_of_visit, all_stands, same_spot, same_spots, same_position, same_stand, number_behind, refusal_of_way, way_numbers, refused_at, node_at, nodes_at, unless_refused, expansion, MOST_ELEMENTS}
-use Rattle.teco_expand.specs.Linked.{AreAhead, IsLinked, ExpansionsAreLinked}
+use Rattle.teco_expand.specs.Linked.{IsNext, Lead, IsLinked, ExpansionsAreLinked}
 use Rattle.teco_expand.proofs.Checks.{ok, bound_way, some_of}
 
 and_left : (a b : Bool) → (a && b) ≡ true → a ≡ true
@@ -57,30 +57,57 @@ slice_get-drop zero k xs = let e : 0 + k ≡ k = omega arith in rw e refl
 slice_get-drop (suc n) k [] = refl
 slice_get-drop (suc n) k (x ∷ xs) = let e : suc n + k ≡ suc (n + k) = omega arith in rw e (slice_get-drop n k xs)
 
--- a number that is found is that of the stand, and ahead
-record Found (all : List Stand) (base : ℕ) (stand : Stand) (n : ℕ) : Type 0 where
-  at : numbered all n ≡ Some stand
-  ahead : base < n
+-- and one stand compares alike to itself
+same_bytes : (xs : List ℕ) → bytes_eq xs xs ≡ true
+same_bytes xs = (bytes_eq-Decides xs xs).1 refl
 
-found : (all : List Stand) (base : ℕ) (stand : Stand) (k : Option ℕ) (n : ℕ) → position (same_stand stand) (drop base all) ≡ k → option_map (λ k. suc (base + k)) k ≡ Some n → Found all base stand n
+same_number : (n : ℕ) → (n == n) ≡ true
+same_number n = search rules
+
+and_both : (a b : Bool) → a ≡ true → b ≡ true → (a && b) ≡ true
+and_both a b h g = rw (h, g) refl
+
+spot_alike : (a : Spot) → same_spot a a ≡ true
+spot_alike a = and_both (a.place == a.place) _ (same_number a.place) (and_both (bytes_eq a.text a.text) (bytes_eq a.starts a.starts) (same_bytes a.text) (same_bytes a.starts))
+
+spots_of_itself : (spots : List Spot) → same_spots spots spots ≡ true
+spots_of_itself [] = refl
+spots_of_itself (spot ∷ spots) = and_both (same_spot spot spot) (same_spots spots spots) (spot_alike spot) (spots_of_itself spots)
+
+stand_alike : (a : Stand) → same_stand a a ≡ true
+stand_alike a =
+    and_both (same_position a.position a.position) (bytes_eq a.iterations a.iterations)
+    (and_both (same_spot a.position.running a.position.running) (same_spots a.position.callers a.position.callers) (spot_alike a.position.running) (spots_of_itself a.position.callers))
+    (same_bytes a.iterations)
+
+numbered-some : {X : Type 0} (all : List X) (n base j : ℕ) → n ≡ suc (base + j) → numbered all n ≡ slice_get (drop base all) j
+numbered-some all n base j h = ap (numbered all) h ∙ sym (slice_get-drop base j all)
+
+get_or-some : {X : Type 0} (xs : List X) (j : ℕ) (x d : X) → j < length xs → slice_get xs j ≡ Some x → get_or xs j d ≡ x
+get_or-some xs j x d l h = let e : Some (get_or xs j d) ≡ Some x = sym (slice_get-get_or xs j d l) ∙ h in cc
+
+-- a number that is found is the next that stands so
+found : (all : List Stand) (base : ℕ) (stand : Stand) (k : Option ℕ) (n : ℕ) → position (same_stand stand) (drop base all) ≡ k → option_map (λ k. suc (base + k)) k ≡ Some n → IsNext all base stand n
 found all base stand None n h g = absurd (cc)
 found all base stand (Some k) n h g =
     let same : suc (base + k) ≡ n = cc in
     let at = position-Some (same_stand stand) (drop base all) k stand h in
     let alike : stand ≡ get_or (drop base all) k stand = stands_alike stand (get_or (drop base all) k stand) at.1 in
-    subst (Found all base stand) same (record {
+    subst (IsNext all base stand) same (record {
       at = sym (slice_get-drop base k all) ∙ (slice_get-get_or (drop base all) k stand at.0 ∙ ap Some (sym alike));
       ahead = omega arith;
+      least = λ m l u e.
+          let j = m - suc base in
+          let small : j < k = omega (arith, l, u) in
+          let there : slice_get (drop base all) j ≡ Some stand = sym (numbered-some all m base j (omega (arith, l, u))) ∙ e in
+          let is : get_or (drop base all) j stand ≡ stand = get_or-some (drop base all) j stand stand (omega (arith, small, at.0)) there in
+          let z : true ≡ false = sym (stand_alike stand) ∙ (ap (same_stand stand) (sym is) ∙ at.2 j small) in absurd (cc);
     })
 
 -- ways that are numbered
-record Lead (all : List Stand) (base number : ℕ) (from : Stand) (targets : List Position) (ways : List ℕ) : Type 0 where
-  leads : map (numbered all) ways ≡ map (λ p. Some (stand_at number from p)) targets
-  ahead : AreAhead base number ways
-
 numbers_lead : (library : Library) (entry : ℕ) (w : Walk) (base number : ℕ) (v : Visit) (targets : List Position) (ways : List ℕ) → way_numbers library entry w base number v targets ≡ Ok ways → Lead (all_stands w entry) base number v.stand targets ways
 unfolding way_numbers
-numbers_lead library entry w base number v [] ways h = subst (Lead (all_stands w entry) base number v.stand []) (ok [] ways h) (record { leads = refl; ahead = tt })
+numbers_lead library entry w base number v [] ways h = subst (Lead (all_stands w entry) base number v.stand []) (ok [] ways h) tt
 numbers_lead library entry w base number v (target ∷ targets) ways h =
     let all = all_stands w entry in
     let stand = stand_at number v.stand target in
@@ -88,9 +115,7 @@ numbers_lead library entry w base number v (target ∷ targets) ways h =
     let rest = bound_way (way_numbers library entry w number number v targets) _ ways way.gives in
     let head = found all base stand _ way.before refl (some_of (number_behind base all stand) _ way.before way.was) in
     let tail = numbers_lead library entry w number number v targets rest.before rest.was in
-    let one : numbered all way.before ≡ Some stand = head.at in
-    let others : map (numbered all) rest.before ≡ map (λ p. Some (stand_at number v.stand p)) targets = tail.leads in
-    subst (Lead all base number v.stand (target ∷ targets)) (ok _ ways rest.gives) (record { leads = cc; ahead = (head.ahead, tail.ahead) })
+    subst (Lead all base number v.stand (target ∷ targets)) (ok _ ways rest.gives) (head, tail)
 
 -- a node that is made of a visit of a number
 pub record Stands (library : Library) (all : List Stand) (number : ℕ) (v : Visit) (node : Node) : Type 0 where
@@ -114,8 +139,7 @@ node_stands library entry w number v node h =
         targets = targets.before;
         reads = read_there entry v (read_at v.stand.position) read.before read.was;
         goes = read_there entry v (ways_at library read.before v.stand.position) targets.before targets.was;
-        leads = lead.leads;
-        ahead = lead.ahead;
+        leads = lead;
         names = refl;
       };
     })

@@ -1,14 +1,12 @@
 -- A run stands at nodes alone.
 use Rattle.std.proofs.Common.{◌≡◌, ℕ, zero, suc, List, [], ◌∷◌, ◌++◌, map, Option, Some, None, Ok, refl, sym, ap, ◌∙◌, subst, slice_get}
-use Rattle.std.specs.Option.{option_map}
-use Rattle.std.proofs.lemmas.Option.{slice_get-map}
 use Rattle.teco_model.specs.Element.{Element, blank_len, element_at}
 use Rattle.teco_model.specs.Run.{run, go_on}
 use Rattle.teco_model.specs.State.{State, Outcome, Next, End, Exit, Fail, Absent, start}
 use Rattle.teco_model.specs.Step.{step}
 use Rattle.teco_expand.specs.Library.{Library, IsLoaded}
-use Rattle.teco_expand.specs.Linked.{IsLinked, AreLinked}
-use Rattle.teco_expand.specs.Node.{Stand, Node, call_of, beginning, over, stand_of_node, stands, numbered, stand_at}
+use Rattle.teco_expand.specs.Linked.{IsNext, Lead, IsLinked, AreLinked}
+use Rattle.teco_expand.specs.Node.{Stand, Node, call_of, beginning, over, stand_of_node, stands, numbered, stand_at, base_of, base_of_way}
 use Rattle.teco_expand.specs.Position.{Position, position_of, position_of_frames}
 use Rattle.teco_expand.specs.Run.{MovesFrom, Went, Stayed, StepsGoAlongNodes, StandsAt, WritesNoMacro, ComesTo, RunsComeToNodes}
 use Rattle.teco_expand.specs.Steps as steps
@@ -19,27 +17,29 @@ use Rattle.teco_expand.proofs.StayLoaded.{stays_loaded}
 use Rattle.teco_expand.proofs.StepWays.{steps_go_ways}
 
 -- a way's number
-pub record Numbered (all : List Stand) (ways : List ℕ) (way : ℕ) (stand : Stand) : Type 0 where
+pub record Numbered (all : List Stand) (base : ℕ) (ways : List ℕ) (way : ℕ) (stand : Stand) : Type 0 where
   pub number : ℕ
   pub taken : slice_get ways way ≡ Some number
-  pub there : numbered all number ≡ Some stand
+  pub there : IsNext all base stand number
 
-pub way_number : (all : List Stand) (f : Position → Stand) (ways : List ℕ) (targets : List Position) (way : ℕ) (p : Position) → map (numbered all) ways ≡ map (λ p. Some (f p)) targets → slice_get targets way ≡ Some p → Numbered all ways way (f p)
-way_number all f ways targets way p h g = among (slice_get ways way) refl
-  where
-    there : option_map (numbered all) (slice_get ways way) ≡ Some (Some (f p))
-    there = sym (slice_get-map (numbered all) ways way) ∙ (ap (λ l. slice_get l way) h ∙ (slice_get-map (λ p. Some (f p)) targets way ∙ ap (option_map (λ p. Some (f p))) g))
-
-    among : (o : Option ℕ) → slice_get ways way ≡ o → Numbered all ways way (f p)
-    among None e = let z : option_map (numbered all) None ≡ Some (Some (f p)) = rw e at there in absurd (cc)
-    among (Some number) e =
-        let z : option_map (numbered all) (Some number) ≡ Some (Some (f p)) = rw e at there in
-        record { number = number; taken = e; there = (let y : numbered all number ≡ Some (f p) = cc in y) }
+way_number : (all : List Stand) (base number : ℕ) (from : Stand) (ways : List ℕ) (targets : List Position) (way : ℕ) (p : Position) → Lead all base number from targets ways → slice_get targets way ≡ Some p →
+    Numbered all (base_of_way way base number) ways way (stand_at number from p)
+way_number all base number from ways [] way p l h = absurd (cc)
+way_number all base number from [] (target ∷ targets) way p l h = absurd l
+way_number all base number from (n ∷ ways) (target ∷ targets) zero p l h =
+    let e : target ≡ p = cc in
+    record { number = n; taken = refl; there = subst (λ p. IsNext all base (stand_at number from p) n) e l.0 }
+way_number all base number from (n ∷ ways) (target ∷ targets) (suc zero) p l h =
+    let later = way_number all number number from ways targets zero p l.1 h in
+    record { number = later.number; taken = later.taken; there = later.there }
+way_number all base number from (n ∷ ways) (target ∷ targets) (suc (suc way)) p l h =
+    let later = way_number all number number from ways targets (suc way) p l.1 h in
+    record { number = later.number; taken = later.taken; there = later.there }
 
 along : (library : Library) (all : List Stand) (number : ℕ) (node : Node) (s t : State) → (linked : IsLinked library all number node) → Moves node.element linked.targets s t → MovesFrom all number node s t
 along library all number node s t linked (steps.Stayed stays) = Stayed stays
 along library all number node s t linked (steps.Went goes) =
-    let n = way_number all (stand_at number node.stand) node.ways linked.targets goes.way (position_of t) linked.leads goes.leads in
+    let n = way_number all (base_of node.element number node.stand.iterations) number node.stand node.ways linked.targets goes.way (position_of t) linked.leads goes.leads in
     Went (record { way = goes.way; target = n.number; taken = n.taken; there = n.there; done = goes.done; was = goes.was })
 
 pub steps_go_along_nodes : StepsGoAlongNodes
@@ -86,7 +86,7 @@ came library all number node s t at h r loaded (Went goes) = record {
   number = goes.target;
   there = record {
     stand = stand_at number node.stand (position_of t);
-    at = goes.there;
+    at = goes.there.at;
     position = refl;
     left = λ read e. nothing_left read t.left goes.done;
     loaded = loaded;

@@ -1,5 +1,5 @@
 -- What an expansion says of its nodes.
-use Rattle.std.specs.Prelude.{◌≡◌, ℕ, suc, ◌<◌, List, [], ◌∷◌, map, ⊤, Some, Ok}
+use Rattle.std.specs.Prelude.{◌≡◌, ◌≢◌, ℕ, suc, ◌<◌, List, [], ◌∷◌, ⊤, Some, Ok}
 use Rattle.teco_expand.specs.Expansion.{expansion}
 use Rattle.teco_expand.specs.Library.{Library}
 use Rattle.teco_expand.specs.Names.{names_macro}
@@ -8,19 +8,25 @@ use Rattle.teco_expand.specs.Order.{stand_behind}
 use Rattle.teco_expand.specs.Position.{Position}
 use Rattle.teco_expand.specs.Ways.{read_at, ways_at}
 
--- the first way leads ahead of a base, and another ahead of the node
-abbrev pub AreAhead : ℕ → ℕ → List ℕ → Type 0
-AreAhead base number [] = ⊤
-AreAhead base number (way ∷ ways) = (base < way) × AreAhead number number ways
+-- A number is the next ahead of a base that stands so.
+pub record IsNext (all : List Stand) (base : ℕ) (stand : Stand) (number : ℕ) : Type 0 where
+  pub at : numbered all number ≡ Some stand
+  pub ahead : base < number
+  pub least : (n : ℕ) → base < n → n < number → numbered all n ≢ Some stand
 
--- A node is linked: it has what is read where it stands, and each of its ways leads to the number of what stands where the
--- machine will stand.
+-- Ways lead to the next that stand where the machine will stand, the first of them ahead of a base of its own.
+abbrev pub Lead : List Stand → ℕ → ℕ → Stand → List Position → List ℕ → Type 0
+Lead all base number from [] [] = ⊤
+Lead all base number from (target ∷ targets) (way ∷ ways) =
+    IsNext all base (stand_at number from target) way × Lead all number number from targets ways
+Lead all base number from targets ways = ⊥
+
+-- A node is linked: it has what is read where it stands, and its ways lead where the ways from there do.
 pub record IsLinked (library : Library) (all : List Stand) (number : ℕ) (node : Node) : Type 0 where
   pub targets : List Position
   pub reads : read_at node.stand.position ≡ Ok node.element
   pub goes : ways_at library node.element node.stand.position ≡ Ok targets
-  pub leads : map (numbered all) node.ways ≡ map (λ p. Some (stand_at number node.stand p)) targets
-  pub ahead : AreAhead (base_of node.element number node.stand.iterations) number node.ways
+  pub leads : Lead all (base_of node.element number node.stand.iterations) number node.stand targets node.ways
   pub names : node.names_macro ≡ names_macro library node.element
 
 -- All nodes are linked, the first stands at the call of the entry, and each one where the order of the texts wants it.

@@ -73,3 +73,7 @@ base_of_kind k number iterations = number
 abbrev pub base_of : Option Element → ℕ → List ℕ → ℕ
 base_of None number iterations = number
 base_of (Some e) number iterations = base_of_kind e.kind number iterations
+
+abbrev pub base_of_way : ℕ → ℕ → ℕ → ℕ
+base_of_way zero base number = base
+base_of_way (suc way) base number = number

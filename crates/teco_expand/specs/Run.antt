@@ -5,9 +5,9 @@ use Rattle.teco_model.specs.Run.{Reaches}
 use Rattle.teco_model.specs.State.{World, State, Next, start}
 use Rattle.teco_model.specs.Step.{step}
 use Rattle.teco_expand.specs.Library.{Library, IsLoaded}
-use Rattle.teco_expand.specs.Linked.{AreLinked}
+use Rattle.teco_expand.specs.Linked.{IsNext, AreLinked}
 use Rattle.teco_expand.specs.Names.{writes_macro}
-use Rattle.teco_expand.specs.Node.{Stand, Node, call_of, stands, numbered, stand_at}
+use Rattle.teco_expand.specs.Node.{Stand, Node, call_of, stands, numbered, stand_at, base_of, base_of_way}
 use Rattle.teco_expand.specs.Position.{position_of}
 use Rattle.teco_expand.specs.Steps.{IsLeftAt, Stays}
 use Rattle.teco_expand.specs.Was.{StepWas}
@@ -19,7 +19,9 @@ pub record GoesTo (all : List Stand) (number : ℕ) (node : Node) (s t : State) 
   pub way : ℕ
   pub target : ℕ
   pub taken : slice_get node.ways way ≡ Some target
-  pub there : numbered all target ≡ Some (stand_at number node.stand (position_of t))
+  pub there :
+      IsNext all (base_of_way way (base_of node.element number node.stand.iterations) number)
+      (stand_at number node.stand (position_of t)) target
   pub done : t.left ≡ None
   pub was : StepWas node.element way s t
 
