@@ -8,5 +8,6 @@ mod Keeping
 mod KeepingPages
 mod StayLoaded
 mod Iterations
+mod Leading
 mod Runs
 mod Worked

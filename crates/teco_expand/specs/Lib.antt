@@ -13,5 +13,6 @@ pub mod Order
 pub mod Expansion
 pub mod Linked
 pub mod Iterations
+pub mod Leading
 pub mod Run
 pub mod Rows

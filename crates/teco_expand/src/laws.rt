@@ -1,5 +1,6 @@
 //! Laws of expansions.
 ghost use Rattle.teco_expand.specs.Iterations.{IterationsAreOpen};
+ghost use Rattle.teco_expand.specs.Leading.{WaysLead};
 ghost use Rattle.teco_expand.specs.Linked.{ExpansionsAreLinked};
 ghost use Rattle.teco_expand.specs.Loaded.{LoadingLoads, StaysLoaded};
 ghost use Rattle.teco_expand.specs.Rows.{WorkedExpansions};
@@ -34,6 +35,11 @@ pub fn expansions_are_linked()
 /// A node has the numbers of the iterations that are open where it stands.
 pub fn iterations_are_open()
     ensures { IterationsAreOpen }
+{}
+
+/// A way leads to the number, and with the iterations open, that its element says.
+pub fn ways_lead()
+    ensures { WaysLead }
 {}
 
 /// From a linked node each step goes one of the node's ways, to where the machine stands then.
