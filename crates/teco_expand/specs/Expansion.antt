@@ -1,5 +1,5 @@
--- The expansion of a library from an entry: a call is followed by the elements of its text and by its return, and then each
--- way is looked up among them.
+-- The expansion of a library from an entry: a call is followed by the elements of its text and by its return, and then
+-- each way is looked up among them.
 use Rattle.std.specs.Prelude.{ℕ, zero, suc, ◌+◌, List, [], ◌∷◌, ◌++◌, map, length, drop, get_or, nat_le, Bool, true, false, not, ◌&&◌, ◌==◌, bytes_eq, if◌then◌else◌, Option, Some, None, unwrap_or, option_map, Result, Ok, Err, position as first_index}
 use Rattle.std.specs.List.{list_any}
 use Rattle.std.specs.Option.{ok_or}
@@ -65,8 +65,8 @@ is_within number next =
     && nat_le (length next.registers) MOST_OPEN
     && nat_le (length next.stand.iterations) MOST_OPEN
 
--- The visit that follows one of a number. What is read there may be refused, then its ways, then what it calls, and then how
--- much there is.
+-- The visit that follows one of a number. What is read there may be refused, then its ways, then what it calls, and then
+-- how much there is.
 unfoldable pub next_visit : Library → ℕ → Visit → Result Visit Reason
 next_visit library number v = do
   read ← read_at v.stand.position
@@ -153,7 +153,8 @@ way_numbers library entry w first number v [] = Ok []
 way_numbers library entry w first number v (target ∷ targets) =
     let all = all_stands w entry in
     let stand = stand_at number v.stand target in do
-      way ← ok_or (number_behind first all stand) (refusal_of_way first all w.refusal (refusal_at entry v Unpaired) stand)
+      way ← ok_or (number_behind first all stand)
+          (refusal_of_way first all w.refusal (refusal_at entry v Unpaired) stand)
       ways ← way_numbers library entry w number number v targets
       Ok (way ∷ ways)
 

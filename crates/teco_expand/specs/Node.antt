@@ -12,8 +12,8 @@ pub record Stand : Type 0 where
   pub position : Position
   pub iterations : List ℕ
 
--- A node: where it stands, the register whose text that is, the element that is read there or none at the end of the text,
--- the numbers that its ways lead to, and whether the register that the element names is one of the library.
+-- A node: where it stands, the register whose text that is, the element that is read there or none at the end of the
+-- text, the numbers that its ways lead to, and whether the register that the element names is one of the library.
 pub record Node : Type 0 where
   pub stand : Stand
   pub register : ℕ

@@ -1,5 +1,5 @@
--- Where a run stands, without what it computes: the texts, the places in them, and the starts of the open iterations. What
--- is kept, the pending arguments and the turns left are no part of it.
+-- Where a run stands, without what it computes: the texts, the places in them, and the starts of the open iterations.
+-- What is kept, the pending arguments and the turns left are no part of it.
 use Rattle.std.specs.Prelude.{ℕ, List, [], ◌∷◌, ◌++◌, map, length}
 use Rattle.teco_model.specs.declared.flow.Loop.{Loop}
 use Rattle.teco_model.specs.Element.{blank_end}

@@ -1,8 +1,9 @@
 -- Why a library is not expanded.
 use Rattle.std.specs.Prelude.{ℕ, Bool, true, false, Result, Ok, Err}
 
--- a fault of an element, or of a search text (X2); a bracket, pipe or tag without its partner, or pairs that overlap (X3);
--- a call of what is no macro of the library (X11); recursion (X12); too many elements, open calls or open iterations (X16)
+-- a fault of an element, or of a search text (X2); a bracket, pipe or tag without its partner, or pairs that overlap
+-- (X3); a call of what is no macro of the library (X11); recursion (X12); too many elements, open calls or open
+-- iterations (X16)
 pub data Reason : Type 0 where
   Fault : Reason
   Unpaired : Reason

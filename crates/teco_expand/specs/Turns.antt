@@ -1,5 +1,5 @@
--- What a flow element did, by the way that it went: what it asked of its argument, and what became of the open iterations and
--- of the turns left.
+-- What a flow element did, by the way that it went: what it asked of its argument, and what became of the open
+-- iterations and of the turns left.
 use Rattle.std.specs.Prelude.{◌≡◌, ℕ, ℤ, zero, suc, List, ◌∷◌, drop, true, false, Option, Some, None, Ok}
 use Rattle.teco_model.specs.declared.arguments.Taken.{Taken}
 use Rattle.teco_model.specs.declared.flow.Loop.{Loop}

@@ -1,4 +1,4 @@
--- What a step was that went a way: a return, a call, a flow element, a search, or an element that goes on behind itself.
+-- What a step was that went a way: a return, a call, a flow element, a search, or an element that only goes on.
 use Rattle.std.specs.Prelude.{◌≡◌, ℕ, ℤ, zero, suc, pos, negsuc, List, [], ◌∷◌, true, false, Option, Some, None, ◌⊎◌, Ok}
 use Rattle.teco_model.specs.declared.flow.Loop.{Loop}
 use Rattle.teco_model.specs.declared.kind.Call.{Call}

@@ -1,5 +1,5 @@
--- The ways from a position: where the machine may stand behind the element that is read there. Of two ways the first goes
--- on, and the second jumps; that of > goes back to the start first.
+-- The ways from a position: where the machine may stand behind the element that is read there. Of two ways the first
+-- goes on, and the second jumps; of > the first goes back to the start, and the second goes on.
 use Rattle.std.specs.Prelude.{ℕ, List, [], ◌∷◌, drop, Bool, false, Option, Some, None, Result, Ok, Err}
 use Rattle.std.specs.Option.{ok_or}
 use Rattle.teco_base.specs.declared.code.Code.{Code}
