@@ -108,7 +108,9 @@ all_open library entry nodes (suc k) node are h =
     let linked = are.each (suc k) before.node before.at in
     let o = all_open library entry nodes k before.node are before.at in
     let p = before.node.stand.position in
-    let order : node.stand ≡ stand_behind library (suc k) before.node.element before.node.stand = are.order (suc k) before.node node before.at h in
+    let known : numbered (stands nodes entry) (suc (suc k)) ≡ Some (stand_behind library (suc k) before.node.element before.node.stand) = are.order (suc k) before.node before.at in
+    let same : Some node.stand ≡ Some (stand_behind library (suc k) before.node.element before.node.stand) = sym (node_stands nodes (over entry) (suc k) node h) ∙ known in
+    let order : node.stand ≡ stand_behind library (suc k) before.node.element before.node.stand = cc in
     let next = behind library nodes entry (suc k) before.node.element before.node linked.targets before.at refl
     (node_stands nodes (over entry) (suc k) node h ∙ ap Some order) linked.goes
     (later nodes entry (suc k) (suc (suc k)) (p.running ∷ p.callers) before.node.stand.iterations (omega arith) o) in

@@ -1,7 +1,6 @@
 -- Where ways lead.
-use Rattle.std.proofs.Common.{◌≡◌, ℕ, zero, suc, ◌+◌, ◌-◌, ◌<◌, ◌≤◌, List, [], ◌∷◌, ◌++◌, map, drop, length, get_or, nat_lt, if◌then◌else◌, Bool, true, false, Option, Some, None, Result, Ok, refl, sym, ap, ◌∙◌, subst, slice_get, arith, length-append, length-drop}
+use Rattle.std.proofs.Common.{◌≡◌, ℕ, zero, suc, ◌+◌, ◌-◌, ◌≤◌, List, [], ◌∷◌, ◌++◌, drop, length, get_or, nat_lt, if◌then◌else◌, Bool, true, false, Option, Some, None, Result, Ok, refl, sym, ap, ◌∙◌, subst, slice_get, arith, length-append, length-drop}
 use Rattle.std.proofs.lemmas.Bool.{ltb-true, ltb-false}
-use Rattle.std.proofs.lemmas.List.{length-map}
 use Rattle.std.specs.Option.{ok_or}
 use Rattle.teco_model.specs.declared.kind.Call.{Call}
 use Rattle.teco_model.specs.declared.kind.Search.{Search}
@@ -18,13 +17,13 @@ use Rattle.teco_expand.specs.Iterations.{body_at, AreOpen, AreOpenIn, IsOpen}
 use Rattle.teco_expand.specs.Leading.{Place, place_at, IsBehind, IsAhead, IsInside, IsBack, IsOutside, LeadsByFlow, LeadsByKind, LeadsBy, WaysLead}
 use Rattle.teco_expand.specs.Library.{Library, macro}
 use Rattle.teco_expand.specs.Linked.{IsNext, Lead, AreLinked}
-use Rattle.teco_expand.specs.Node.{Stand, Node, over, stand_of_node, stands, numbered, iterations_at, stand_at, base_of_kind, base_of, base_of_way}
+use Rattle.teco_expand.specs.Node.{Stand, Node, stands, numbered, iterations_at, stand_at, base_of_kind, base_of, base_of_way}
 use Rattle.teco_expand.specs.Order.{position_in_text, position_behind_call, stand_inside, stand_outside, stand_behind_kind, stand_behind}
 use Rattle.teco_expand.specs.Position.{Spot, Position, moved_to, starts_in, depth}
 use Rattle.teco_expand.specs.Refusal.{Reason, Unpaired}
 use Rattle.teco_expand.specs.Ways.{past, jumped, jump_way, way_or_jump, end_ways, leave_ways, flow_ways, search_ways, called, call_ways, return_ways, element_ways, ways_at}
 use Rattle.teco_expand.proofs.Checks.{ok, bound_way}
-use Rattle.teco_expand.proofs.Iterations.{node_stands, iterations_are_open}
+use Rattle.teco_expand.proofs.Iterations.{iterations_are_open}
 use Rattle.teco_expand.proofs.Turns.{leaves_by_kind}
 
 -- iterations by depth
@@ -56,21 +55,6 @@ near all base number stand n h = among (nat_lt (suc base) number) refl
     among : (b : Bool) → nat_lt (suc base) number ≡ b → number ≡ suc base
     among true l = absurd (n.least (suc base) (omega arith) (ltb-true (suc base) number l) h)
     among false l = omega (arith, n.ahead, ltb-false (suc base) number l)
-
-within : {X : Type 0} (xs : List X) (k : ℕ) (x : X) → slice_get xs k ≡ Some x → k < length xs
-within [] k x h = absurd (cc)
-within (y ∷ xs) zero x h = omega arith
-within (y ∷ xs) (suc k) x h = omega (arith, within xs k x h)
-
-beyond : {X : Type 0} (xs : List X) (k : ℕ) → slice_get xs k ≡ None → length xs ≤ k
-beyond [] k h = omega arith
-beyond (y ∷ xs) zero h = absurd (cc)
-beyond (y ∷ xs) (suc k) h = omega (arith, beyond xs k h)
-
-numbered_within : (nodes : List Node) (end : Stand) (number : ℕ) (stand : Stand) → numbered (map stand_of_node nodes ++ end ∷ []) number ≡ Some stand → number ≤ length nodes + 1
-numbered_within nodes end zero stand h = omega arith
-numbered_within nodes end (suc k) stand h =
-    omega (arith, within (map stand_of_node nodes ++ end ∷ []) k stand h, length-append (map stand_of_node nodes) (end ∷ []), length-map nodes stand_of_node)
 
 -- a jump that is a way
 record Jumped (e : Element) (p q : Position) : Type 0 where
@@ -131,12 +115,7 @@ jump_depth n e p q j leaves l =
 module _ (library : Library) (entry : ℕ) (nodes : List Node) (number : ℕ) (node : Node) (are : AreLinked library entry nodes) (at : numbered nodes number ≡ Some node) where
   -- what stands as the order wants it is just behind
   behind : (stand : Stand) (target : ℕ) → IsNext (stands nodes entry) number stand target → stand ≡ stand_behind library number node.element node.stand → target ≡ suc number
-  behind stand target n h = among (numbered nodes (suc number)) refl
-    where
-      among : (o : Option Node) → numbered nodes (suc number) ≡ o → target ≡ suc number
-      among (Some next) e =
-          near (stands nodes entry) number target stand n (node_stands nodes (over entry) number next e ∙ ap Some (are.order number node next at e ∙ sym h))
-      among None e = omega (arith, n.ahead, numbered_within nodes (over entry) target stand n.at, beyond nodes number e)
+  behind stand target n h = near (stands nodes entry) number target stand n (are.order number node at ∙ ap Some (sym h))
 
   -- to the next
   on : (q : Position) (target : ℕ) (stand : Stand) → depth node.stand.position ≡ depth q → stand_behind library number node.element node.stand ≡ record node.stand { position = q } →

@@ -1,18 +1,26 @@
 -- Whatever is expanded is linked.
-use Rattle.std.proofs.Common.{◌≡◌, ℕ, zero, suc, ◌+◌, ◌-◌, ◌<◌, length, rules, List, [], ◌∷◌, ◌++◌, map, drop, Bool, true, false, not, ◌&&◌, ◌==◌, bytes_eq, Option, Some, None, Result, Ok, Err, refl, sym, ap, ◌∙◌, subst, slice_get, get_or, position, eqb-true, arith}
+use Rattle.std.proofs.Common.{◌≡◌, ℕ, zero, suc, ◌+◌, ◌-◌, ◌<◌, ◌≤◌, nat_le, length, rules, List, [], ◌∷◌, ◌++◌, map, drop, Bool, true, false, not, ◌&&◌, ◌==◌, bytes_eq, Option, Some, None, Result, Ok, Err, refl, sym, ap, ◌∙◌, subst, slice_get, get_or, position, eqb-true, arith}
 use Rattle.std.specs.Option.{option_map, ok_or}
+use Rattle.std.proofs.lemmas.Bool.{leb-true}
+use Rattle.std.proofs.lemmas.List.{length-map}
 use Rattle.std.proofs.lemmas.Slice.Eq.{bytes_eq-Decides}
 use Rattle.std.proofs.lemmas.List.Quantifiers.{position-Some}
 use Rattle.std.proofs.lemmas.Option.{slice_get-get_or}
-use Rattle.teco_model.specs.Element.{Element}
-use Rattle.teco_expand.specs.Refusal.{Reason, Unpaired, Recursion, TooLarge, unless}
-use Rattle.teco_expand.specs.Library.{Library}
-use Rattle.teco_expand.specs.Position.{Spot, Position}
-use Rattle.teco_expand.specs.Ways.{read_at, ways_at}
-use Rattle.teco_expand.specs.Node.{Stand, Node, over, stand_of_node, stands, numbered, stand_at, base_of}
-use Rattle.teco_expand.specs.Order.{stand_behind}
-use Rattle.teco_expand.specs.Expansion.{Visit, first_visit, visit_behind, is_recursion, is_within, next_visit, refusal_at, Walk, walk, walk_while, walk_behind, whole_walk_of, stand_of_visit, all_stands, same_spot, same_spots, same_position, same_stand, number_behind, refusal_of_way, way_numbers, refused_at, node_at, nodes_at, unless_refused, expansion, MOST_ELEMENTS}
-use Rattle.teco_expand.specs.Linked.{IsNext, Lead, IsLinked, ExpansionsAreLinked}
+use Rattle.teco_base.specs.Register.{register_of, register_name}
+use Rattle.teco_model.specs.declared.kind.Call.{Call}
+use Rattle.teco_model.specs.declared.kind.Flow.TheVariants as flow
+use Rattle.teco_model.specs.declared.kind.Kind.{Kind}
+use Rattle.teco_model.specs.declared.kind.Kind.TheVariants as kind
+use Rattle.teco_model.specs.Element.{Element, blank_len, element_from, element_at}
+use Rattle.teco_model.specs.Letters.{letters}
+use Rattle.teco_expand.specs.Refusal.{Reason, Unpaired, Recursion, TooLarge, Refusal, unless}
+use Rattle.teco_expand.specs.Library.{Library, macro}
+use Rattle.teco_expand.specs.Position.{Spot, Position, spot_in, starts_in, depth}
+use Rattle.teco_expand.specs.Ways.{past, read_at, end_ways, call_ways, flow_ways, return_ways, element_ways, ways_at}
+use Rattle.teco_expand.specs.Node.{Stand, Node, call_of, beginning, over, stand_of_node, stands, numbered, stand_at, base_of}
+use Rattle.teco_expand.specs.Order.{position_in_text, position_behind_call, stand_behind_kind, stand_behind}
+use Rattle.teco_expand.specs.Expansion.{Visit, first_visit, open_behind_kind, open_behind, visit_behind, is_recursion, is_within, next_visit, refusal_at, Walk, walk, walk_while, walk_behind, whole_walk_of, stand_of_visit, all_stands, same_spot, same_spots, same_position, same_stand, number_behind, refusal_of_way, way_numbers, refused_at, node_at, nodes_at, unless_refused, expansion, MOST_ELEMENTS, MOST_OPEN}
+use Rattle.teco_expand.specs.Linked.{IsNext, Lead, IsLinked, ExpansionsAreLinked, ExpansionsAreSmall}
 use Rattle.teco_expand.proofs.Checks.{ok, bound_way, some_of}
 
 and_left : (a b : Bool) → (a && b) ≡ true → a ≡ true
@@ -173,11 +181,50 @@ all_stand library entry w number (v ∷ vs) nodes h =
     subst (AllStand library (all_stands w entry) number (v ∷ vs)) (ok _ nodes rest.gives)
     (one_more library (all_stands w entry) number v vs node.before rest.before (node_stands library entry w number v node.before node.was) (all_stand library entry w (number + 1) vs rest.before rest.was))
 
--- what is visited next
+-- what a walk visits: the calls that wait are those of the open registers, down to that of the entry
+abbrev CallersEnd : ℕ → List ℕ → List Spot → Type 0
+CallersEnd entry [] callers = callers ≡ (over entry).position.running ∷ []
+CallersEnd entry (r ∷ registers) [] = ⊥
+CallersEnd entry (r ∷ registers) (caller ∷ callers) = CallersEnd entry registers callers
+
+abbrev Waits : ℕ → List ℕ → Stand → Type 0
+Waits entry [] stand = stand ≡ beginning entry
+Waits entry (r ∷ registers) stand = CallersEnd entry registers stand.position.callers
+
+record IsSound (entry : ℕ) (v : Visit) : Type 0 where
+  waits : Waits entry v.registers v.stand
+  deep : length v.stand.iterations ≡ depth v.stand.position
+  few : length v.stand.iterations ≤ MOST_OPEN
+  few_calls : length v.registers ≤ MOST_OPEN
+
+-- the first visit is that of a call
+record IsCall (read : Option Element) : Type 0 where
+  element : Element
+  call : Call
+  reads : read ≡ Some element
+  kind_is : element.kind ≡ kind.Call call
+  next : element.next ≡ 2
+
+first_read : (entry : ℕ) (read : Option Element) → read_at (beginning entry).position ≡ Ok read → IsCall read
+unfolding read_at element_at element_from blank_len letters
+first_read entry read h = among (register_of (register_name entry)) refl
+  where
+    among : (o : Option ℕ) → register_of (register_name entry) ≡ o → IsCall read
+    among None e = let z = rw e at h in absurd (cc)
+    among (Some r) e = let is = ok _ read (rw e at h) in record { element = _; call = record { register = r }; reads = sym is; kind_is = refl; next = refl }
+
+-- what is known of a visit that is not refused
 record Next (library : Library) (number : ℕ) (v next : Visit) : Type 0 where
   read : Option Element
+  targets : List Position
   reads : read_at v.stand.position ≡ Ok read
+  goes : ways_at library read v.stand.position ≡ Ok targets
   is : next ≡ visit_behind library number read v
+  fits : is_within number next ≡ true
+
+not_false : (b : Bool) → unless (not b) TooLarge ≡ Ok tt → b ≡ true
+not_false true h = refl
+not_false false h = absurd (cc)
 
 next_is : (library : Library) (number : ℕ) (v next : Visit) → next_visit library number v ≡ Ok next → Next library number v next
 unfolding next_visit
@@ -186,7 +233,154 @@ next_is library number v next h =
     let ways = bound_way (ways_at library read.before v.stand.position) _ next read.gives in
     let once = bound_way (unless (is_recursion read.before v.registers) Recursion) _ next ways.gives in
     let few = bound_way (unless (not (is_within number (visit_behind library number read.before v))) TooLarge) _ next once.gives in
-    record { read = read.before; reads = read.was; is = sym (ok _ next few.gives) }
+    let is : visit_behind library number read.before v ≡ next = ok _ next few.gives in
+    record {
+      read = read.before;
+      targets = ways.before;
+      reads = read.was;
+      goes = ways.was;
+      is = sym is;
+      fits = ap (is_within number) (sym is) ∙ not_false (is_within number (visit_behind library number read.before v)) few.was;
+    }
+
+-- the iterations of what follows are as many as are open there
+deep_outside : (starts numbers rest : List ℕ) (e : Element) (p : Position) (targets : List Position) → end_ways starts e p ≡ Ok targets → length numbers ≡ length (starts ++ rest) → length (drop 1 numbers) ≡ length (drop 1 starts ++ rest)
+deep_outside [] numbers rest e p targets w h = absurd (cc)
+deep_outside (start ∷ outer) [] rest e p targets w h = absurd (omega (arith, h))
+deep_outside (start ∷ outer) (n ∷ numbers) rest e p targets w h = omega (arith, h)
+
+deep_called : (text : Option (List ℕ)) (e : Element) (p : Position) → depth (position_in_text text e p) ≡ depth p
+deep_called None e p = refl
+deep_called (Some text) e p = refl
+
+deep_returned : (starts : List ℕ) (callers : List Spot) (p : Position) (targets : List Position) → p.running.starts ≡ starts → p.callers ≡ callers → return_ways starts callers ≡ Ok targets → depth (position_behind_call callers p) ≡ depth p
+deep_returned (start ∷ outer) callers p targets s c w = absurd (cc)
+deep_returned [] [] p targets s c w = refl
+deep_returned [] (caller ∷ callers) p targets s c w = sym (ap (λ starts. length (starts ++ starts_in p.callers)) s ∙ ap (λ callers. length (starts_in callers)) c)
+
+deep_kind : (library : Library) (number : ℕ) (k : Kind) (e : Element) (stand : Stand) (targets : List Position) → element_ways library k e stand.position ≡ Ok targets → length stand.iterations ≡ depth stand.position →
+    (let next = stand_behind_kind library number k e stand in length next.iterations ≡ depth next.position)
+unfolding flow_ways
+deep_kind library number (kind.Call c) e stand targets w h = h ∙ sym (deep_called (macro library c.register) e stand.position)
+deep_kind library number (kind.Flow flow.Iterate) e stand targets w h = omega (arith, h)
+deep_kind library number (kind.Flow flow.EndTurn) e stand targets w h =
+    deep_outside stand.position.running.starts stand.iterations (starts_in stand.position.callers) e stand.position targets w h
+deep_kind library number k e stand targets w h = h
+
+deep_behind : (library : Library) (number : ℕ) (read : Option Element) (stand : Stand) (targets : List Position) → ways_at library read stand.position ≡ Ok targets → length stand.iterations ≡ depth stand.position →
+    (let next = stand_behind library number read stand in length next.iterations ≡ depth next.position)
+unfolding ways_at
+deep_behind library number None stand targets w h = h ∙ sym (deep_returned stand.position.running.starts stand.position.callers stand.position targets refl refl w)
+deep_behind library number (Some e) stand targets w h = deep_kind library number e.kind e stand targets w h
+
+-- the visit that waits for nothing is that of a call
+is_call : Kind → Bool
+is_call (kind.Call c) = true
+is_call k = false
+
+must_call : {P : Type 0} (entry : ℕ) (k : Kind) (e : Element) (stand : Stand) → read_at stand.position ≡ Ok (Some e) → e.kind ≡ k → is_call k ≡ false → Waits entry [] stand → P
+unfolding is_call
+must_call entry k e stand r g c w =
+    let first = first_read entry (Some e) (ap (λ (stand : Stand). read_at stand.position) (sym w) ∙ r) in
+    let same : e ≡ first.element = (let s : Some e ≡ Some first.element = first.reads in cc) in
+    let z : false ≡ true = sym c ∙ (ap is_call (sym g) ∙ (ap (λ (e : Element). is_call e.kind) same ∙ ap is_call first.kind_is)) in absurd (cc)
+
+must_read : {P : Type 0} (entry : ℕ) (stand : Stand) → read_at stand.position ≡ Ok None → Waits entry [] stand → P
+must_read entry stand r w =
+    let first = first_read entry None (ap (λ (stand : Stand). read_at stand.position) (sym w) ∙ r) in
+    let z : None ≡ Some first.element = first.reads in absurd (cc)
+
+kept_waits : (entry : ℕ) (k : Kind) (e : Element) (registers : List ℕ) (stand next : Stand) → read_at stand.position ≡ Ok (Some e) → e.kind ≡ k → is_call k ≡ false → next.position.callers ≡ stand.position.callers → Waits entry registers stand → Waits entry registers next
+kept_waits entry k e [] stand next r g c same w = must_call entry k e stand r g c w
+kept_waits entry k e (r' ∷ registers) stand next r g c same w = subst (CallersEnd entry registers) (sym same) w
+
+called_waits : (entry : ℕ) (text : Option (List ℕ)) (e : Element) (registers : List ℕ) (stand : Stand) (targets : List Position) → read_at stand.position ≡ Ok (Some e) → call_ways text e stand.position ≡ Ok targets → Waits entry registers stand →
+    CallersEnd entry registers (position_in_text text e stand.position).callers
+called_waits entry None e registers stand targets r c w = absurd (cc)
+called_waits entry (Some text) e [] stand targets r c w =
+    let first = first_read entry (Some e) (ap (λ (stand : Stand). read_at stand.position) (sym w) ∙ r) in
+    let same : e ≡ first.element = (let s : Some e ≡ Some first.element = first.reads in cc) in
+    let next : e.next ≡ 2 = ap (λ (e : Element). e.next) same ∙ first.next in
+    ap (λ (stand : Stand). (past e stand.position).running ∷ stand.position.callers) w
+    ∙ ap (λ place. record (spot_in (call_of entry)) { place = place } ∷ []) next
+called_waits entry (Some text) e (r' ∷ registers) stand targets r c w = w
+
+waits_kind : (library : Library) (entry number : ℕ) (k : Kind) (e : Element) (registers : List ℕ) (stand : Stand) (targets : List Position) → read_at stand.position ≡ Ok (Some e) → e.kind ≡ k → element_ways library k e stand.position ≡ Ok targets →
+    Waits entry registers stand → Waits entry (open_behind_kind k registers) (stand_behind_kind library number k e stand)
+unfolding is_call
+waits_kind library entry number (kind.Call c) e registers stand targets r g w o = called_waits entry (macro library c.register) e registers stand targets r w o
+waits_kind library entry number (kind.Flow flow.Iterate) e registers stand targets r g w o = kept_waits entry (kind.Flow flow.Iterate) e registers stand _ r g refl refl o
+waits_kind library entry number (kind.Flow flow.EndTurn) e registers stand targets r g w o = kept_waits entry (kind.Flow flow.EndTurn) e registers stand _ r g refl refl o
+waits_kind library entry number k e registers stand targets r g w o = kept_waits entry k e registers stand _ r g refl refl o
+
+returned_waits : (entry r : ℕ) (registers : List ℕ) (callers : List Spot) (p : Position) → CallersEnd entry (r ∷ registers) callers → CallersEnd entry registers (position_behind_call callers p).callers
+returned_waits entry r registers [] p w = absurd w
+returned_waits entry r registers (caller ∷ callers) p w = w
+
+-- behind a visit another follows while registers are open
+waits_behind : (library : Library) (entry number : ℕ) (read : Option Element) (registers : List ℕ) (r : ℕ) (others : List ℕ) (stand : Stand) (targets : List Position) → read_at stand.position ≡ Ok read → ways_at library read stand.position ≡ Ok targets →
+    Waits entry registers stand → open_behind read registers ≡ r ∷ others → Waits entry (open_behind read registers) (stand_behind library number read stand)
+unfolding ways_at
+waits_behind library entry number None [] r others stand targets h w o e = absurd (cc)
+waits_behind library entry number None (a ∷ []) r others stand targets h w o e = absurd (cc)
+waits_behind library entry number None (a ∷ b ∷ registers) r others stand targets h w o e = returned_waits entry b registers stand.position.callers stand.position o
+waits_behind library entry number (Some e') registers r others stand targets h w o e = waits_kind library entry number e'.kind e' registers stand targets h refl w o
+
+-- and else the end
+no_numbers : (numbers : List ℕ) → length numbers ≡ 0 → numbers ≡ []
+no_numbers [] h = refl
+no_numbers (n ∷ numbers) h = absurd (cc)
+
+over_behind : (library : Library) (entry number : ℕ) (stand : Stand) (callers : List Spot) → stand.position.callers ≡ callers → callers ≡ (over entry).position.running ∷ [] →
+    (let next = stand_behind library number None stand in length next.iterations ≡ depth next.position) → stand_behind library number None stand ≡ over entry
+over_behind library entry number stand callers c h deep =
+    let there : position_behind_call stand.position.callers stand.position ≡ (over entry).position = ap (λ callers. position_behind_call callers stand.position) (c ∙ h) in
+    let none : stand.iterations ≡ [] = no_numbers stand.iterations (deep ∙ ap depth there) in
+    λ i. record { position = there i; iterations = none i }
+
+open_or_call : (entry : ℕ) (k : Kind) (e : Element) (registers : List ℕ) (stand : Stand) → {P : Type 0} → read_at stand.position ≡ Ok (Some e) → e.kind ≡ k → Waits entry registers stand → open_behind_kind k registers ≡ [] → P
+unfolding is_call
+open_or_call entry (kind.Call c) e registers stand r g o h = absurd (cc)
+open_or_call entry k e [] stand r g o h = must_call entry k e stand r g refl o
+open_or_call entry k e (a ∷ registers) stand r g o h = absurd (cc)
+
+end_behind : (library : Library) (entry number : ℕ) (read : Option Element) (registers : List ℕ) (stand : Stand) (targets : List Position) → read_at stand.position ≡ Ok read → ways_at library read stand.position ≡ Ok targets →
+    Waits entry registers stand → length stand.iterations ≡ depth stand.position → open_behind read registers ≡ [] → stand_behind library number read stand ≡ over entry
+end_behind library entry number None [] stand targets h w o d e = must_read entry stand h o
+end_behind library entry number None (a ∷ []) stand targets h w o d e = over_behind library entry number stand stand.position.callers refl o (deep_behind library number None stand targets w d)
+end_behind library entry number None (a ∷ b ∷ registers) stand targets h w o d e = absurd (cc)
+end_behind library entry number (Some e') registers stand targets h w o d e = open_or_call entry e'.kind e' registers stand h refl o e
+
+-- what is known of all visits of a walk that is not refused
+record Followed (library : Library) (number : ℕ) (all : List Stand) (k : ℕ) (a : Visit) : Type 0 where
+  read : Option Element
+  reads : read_at a.stand.position ≡ Ok read
+  next : slice_get all (suc k) ≡ Some (stand_behind library number read a.stand)
+
+record IsDone (library : Library) (entry number : ℕ) (vs : List Visit) : Type 0 where
+  each : (k : ℕ) (a : Visit) → slice_get vs k ≡ Some a → Followed library (number + k) (map stand_of_visit vs ++ over entry ∷ []) k a
+  sound : (k : ℕ) (a : Visit) → slice_get vs k ≡ Some a → IsSound entry a
+  few : number + length vs ≤ MOST_ELEMENTS + 1
+
+-- the tests of what there may be
+counts_few : (number : ℕ) (next : Visit) → is_within number next ≡ true → (number ≤ MOST_ELEMENTS) × (length next.registers ≤ MOST_OPEN) × (length next.stand.iterations ≤ MOST_OPEN)
+counts_few number next h =
+    let both = and_left (nat_le number MOST_ELEMENTS && nat_le (length next.registers) MOST_OPEN) (nat_le (length next.stand.iterations) MOST_OPEN) h in (
+      leb-true number MOST_ELEMENTS (and_left (nat_le number MOST_ELEMENTS) (nat_le (length next.registers) MOST_OPEN) both),
+      leb-true (length next.registers) MOST_OPEN (and_right (nat_le number MOST_ELEMENTS) (nat_le (length next.registers) MOST_OPEN) both),
+      leb-true (length next.stand.iterations) MOST_OPEN (and_right (nat_le number MOST_ELEMENTS && nat_le (length next.registers) MOST_OPEN) (nat_le (length next.stand.iterations) MOST_OPEN) h),
+    )
+
+next_sound : (library : Library) (entry number : ℕ) (v next : Visit) (r : ℕ) (others : List ℕ) → IsSound entry v → Next library number v next → next.registers ≡ r ∷ others → IsSound entry next
+next_sound library entry number v next r others s n h =
+    let fits = counts_few number next n.fits in
+    record {
+      waits = subst (λ (v : Visit). Waits entry v.registers v.stand) (sym n.is)
+          (waits_behind library entry number n.read v.registers r others v.stand n.targets n.reads n.goes s.waits (ap (λ (v : Visit). v.registers) (sym n.is) ∙ h));
+      deep = subst (λ (v : Visit). length v.stand.iterations ≡ depth v.stand.position) (sym n.is) (deep_behind library number n.read v.stand n.targets n.goes s.deep);
+      few = fits.2;
+      few_calls = fits.1;
+    }
 
 -- visits one after another
 begins_while : (registers : List ℕ) (v : Visit) (rest : Walk) → slice_get (walk_while registers v rest).visits 0 ≡ Some v
@@ -202,43 +396,68 @@ unfolding walk
 begins library entry zero number v = refl
 begins library entry (suc more) number v = begins_behind entry v (next_visit library number v) (walk more library entry (number + 1))
 
-record AreOrdered (library : Library) (number : ℕ) (vs : List Visit) : Type 0 where
-  each : (k : ℕ) (a b : Visit) → slice_get vs k ≡ Some a → slice_get vs (suc k) ≡ Some b → Next library (number + k) a b
+stands_first : (vs : List Visit) (v : Visit) (end : Stand) → slice_get vs 0 ≡ Some v → slice_get (map stand_of_visit vs ++ end ∷ []) 0 ≡ Some v.stand
+stands_first [] v end h = absurd (cc)
+stands_first (first ∷ vs) v end h = let e : first ≡ v = cc in ap (λ (v : Visit). Some v.stand) e
 
-one_ordered : (library : Library) (number : ℕ) (v : Visit) → AreOrdered library number (v ∷ [])
-one_ordered library number v = record { each = λ k a b h g. absurd (cc) }
+module _ (library : Library) (entry : ℕ) where
+  last_done : (number : ℕ) (v next : Visit) → IsSound entry v → Next library number v next → next.registers ≡ [] → IsDone library entry number (v ∷ [])
+  last_done number v next s n h = record { each = each; sound = sound; few = omega (arith, (counts_few number next n.fits).0) }
+    where
+      over_next : stand_behind library number n.read v.stand ≡ over entry
+      over_next = end_behind library entry number n.read v.registers v.stand n.targets n.reads n.goes s.waits s.deep (ap (λ (v : Visit). v.registers) (sym n.is) ∙ h)
 
-more_ordered : (library : Library) (number : ℕ) (v next : Visit) (vs : List Visit) → Next library number v next → slice_get vs 0 ≡ Some next → AreOrdered library (number + 1) vs → AreOrdered library number (v ∷ vs)
-more_ordered library number v next vs n first rest = record { each = each }
-  where
-    each : (k : ℕ) (a b : Visit) → slice_get (v ∷ vs) k ≡ Some a → slice_get vs k ≡ Some b → Next library (number + k) a b
-    each zero a b h g =
-        let here : number ≡ number + 0 = omega arith in
-        let from : v ≡ a = cc in
-        let to : next ≡ b = cc in
-        subst (λ n. Next library n a b) here (subst (λ a. Next library number a b) from (subst (λ b. Next library number v b) to n))
-    each (suc k) a b h g =
-        let e : number + 1 + k ≡ number + suc k = omega arith in
-        subst (λ n. Next library n a b) e (rest.each k a b h g)
+      each : (k : ℕ) (a : Visit) → slice_get (v ∷ []) k ≡ Some a → Followed library (number + k) (v.stand ∷ over entry ∷ []) k a
+      each zero a g =
+          let same : v ≡ a = cc in
+          let here : number ≡ number + 0 = omega arith in
+          subst (Followed library (number + 0) (v.stand ∷ over entry ∷ []) 0) same
+          (subst (λ n'. Followed library n' (v.stand ∷ over entry ∷ []) 0 v) here (record { read = n.read; reads = n.reads; next = ap Some (sym over_next) }))
+      each (suc k) a g = absurd (cc)
 
-ordered_while : (library : Library) (number : ℕ) (registers : List ℕ) (v next : Visit) (rest : Walk) → Next library number v next → slice_get rest.visits 0 ≡ Some next → AreOrdered library (number + 1) rest.visits →
-    AreOrdered library number (walk_while registers v rest).visits
-ordered_while library number [] v next rest n first later = one_ordered library number v
-ordered_while library number (r ∷ registers) v next rest n first later = more_ordered library number v next rest.visits n first later
+      sound : (k : ℕ) (a : Visit) → slice_get (v ∷ []) k ≡ Some a → IsSound entry a
+      sound zero a g = let same : v ≡ a = cc in subst (IsSound entry) same s
+      sound (suc k) a g = absurd (cc)
 
-ordered_behind : (library : Library) (entry number : ℕ) (v : Visit) (r : Result Visit Reason) (on : Visit → Walk) → next_visit library number v ≡ r →
-    ((next : Visit) → slice_get (on next).visits 0 ≡ Some next) → ((next : Visit) → AreOrdered library (number + 1) (on next).visits) →
-    AreOrdered library number (walk_behind entry v r on).visits
-ordered_behind library entry number v (Err reason) on h first later = one_ordered library number v
-ordered_behind library entry number v (Ok next) on h first later =
-    ordered_while library number next.registers v next (on next) (next_is library number v next h) (first next) (later next)
+  more_done : (number : ℕ) (v next : Visit) (vs : List Visit) → IsSound entry v → Next library number v next → slice_get vs 0 ≡ Some next → IsDone library entry (number + 1) vs → IsDone library entry number (v ∷ vs)
+  more_done number v next vs s n first rest = record { each = each; sound = sound; few = omega (arith, rest.few) }
+    where
+      all : List Stand
+      all = map stand_of_visit vs ++ over entry ∷ []
 
-ordered : (library : Library) (entry more number : ℕ) (v : Visit) → AreOrdered library number (walk more library entry number v).visits
-unfolding walk
-ordered library entry zero number v = one_ordered library number v
-ordered library entry (suc more) number v =
-    ordered_behind library entry number v (next_visit library number v) (walk more library entry (number + 1)) refl
-    (begins library entry more (number + 1)) (ordered library entry more (number + 1))
+      each : (k : ℕ) (a : Visit) → slice_get (v ∷ vs) k ≡ Some a → Followed library (number + k) (v.stand ∷ (map stand_of_visit vs ++ over entry ∷ [])) k a
+      each zero a g =
+          let same : v ≡ a = cc in
+          let here : number ≡ number + 0 = omega arith in
+          subst (Followed library (number + 0) (v.stand ∷ (map stand_of_visit vs ++ over entry ∷ [])) 0) same
+          (subst (λ n'. Followed library n' (v.stand ∷ (map stand_of_visit vs ++ over entry ∷ [])) 0 v) here
+          (record { read = n.read; reads = n.reads; next = stands_first vs next (over entry) first ∙ ap (λ (v : Visit). Some v.stand) n.is }))
+      each (suc k) a g =
+          let f = rest.each k a g in
+          let e : number + 1 + k ≡ number + suc k = omega arith in
+          record { read = f.read; reads = f.reads; next = f.next ∙ ap (λ n'. Some (stand_behind library n' f.read a.stand)) e }
+
+      sound : (k : ℕ) (a : Visit) → slice_get (v ∷ vs) k ≡ Some a → IsSound entry a
+      sound zero a g = let same : v ≡ a = cc in subst (IsSound entry) same s
+      sound (suc k) a g = rest.sound k a g
+
+  while_done : (number : ℕ) (registers : List ℕ) (v next : Visit) (rest : Walk) → IsSound entry v → Next library number v next → next.registers ≡ registers → slice_get rest.visits 0 ≡ Some next →
+      (IsSound entry next → rest.refusal ≡ None → IsDone library entry (number + 1) rest.visits) → (walk_while registers v rest).refusal ≡ None → IsDone library entry number (walk_while registers v rest).visits
+  while_done number [] v next rest s n h first later none = last_done number v next s n h
+  while_done number (r ∷ registers) v next rest s n h first later none =
+      more_done number v next rest.visits s n first (later (next_sound library entry number v next r registers s n h) none)
+
+  behind_done : (number : ℕ) (v : Visit) (r : Result Visit Reason) (on : Visit → Walk) → next_visit library number v ≡ r → IsSound entry v → ((next : Visit) → slice_get (on next).visits 0 ≡ Some next) →
+      ((next : Visit) → IsSound entry next → (on next).refusal ≡ None → IsDone library entry (number + 1) (on next).visits) → (walk_behind entry v r on).refusal ≡ None → IsDone library entry number (walk_behind entry v r on).visits
+  behind_done number v (Err reason) on h s first later none = absurd (cc)
+  behind_done number v (Ok next) on h s first later none =
+      while_done number next.registers v next (on next) s (next_is library number v next h) refl (first next) (later next) none
+
+  done : (more number : ℕ) (v : Visit) → IsSound entry v → (walk more library entry number v).refusal ≡ None → IsDone library entry number (walk more library entry number v).visits
+  unfolding walk
+  done zero number v s none = absurd (cc)
+  done (suc more) number v s none =
+      behind_done number v (next_visit library number v) (walk more library entry (number + 1)) refl s (begins library entry more (number + 1)) (done more (number + 1)) none
 
 -- the visit that a node is made of
 record Visited (vs : List Visit) (k : ℕ) (node : Node) : Type 0 where
@@ -258,45 +477,86 @@ visited (v ∷ vs) (first ∷ nodes) (suc k) node same h =
     let later = visited vs nodes k node rest h in
     record { visit = later.visit; at = later.at; stand = later.stand }
 
--- nodes are in the order of their visits
-nodes_ordered : (library : Library) (entry : ℕ) (vs : List Visit) (nodes : List Node) (all : List Stand) → AllStand library all 1 vs nodes → AreOrdered library 1 vs → (k : ℕ) (node next : Node) → numbered nodes k ≡ Some node → numbered nodes (suc k) ≡ Some next →
-    next.stand ≡ stand_behind library k node.element node.stand
-nodes_ordered library entry vs nodes all stand order zero node next g h = absurd (cc)
-nodes_ordered library entry vs nodes all stand order (suc k) node next g h =
-    let a = visited vs nodes k node stand.same g in
-    let b = visited vs nodes (suc k) next stand.same h in
-    let n = order.each k a.visit b.visit a.at b.at in
-    let linked = stand.each k node g in
-    let element : n.read ≡ node.element = ok n.read node.element (sym n.reads ∙ (ap (λ (stand : Stand). read_at stand.position) a.stand ∙ linked.reads)) in
-    let number : 1 + k ≡ suc k = omega arith in
-    sym b.stand
-    ∙ (ap stand_of_visit n.is
-    ∙ (ap (λ n'. stand_behind library n' n.read a.visit.stand) number
-    ∙ (ap (λ read. stand_behind library (suc k) read a.visit.stand) element
-    ∙ ap (stand_behind library (suc k) node.element) a.stand)))
+-- an expansion that is not refused
+record IsExpanded (library : Library) (entry : ℕ) (nodes : List Node) (w : Walk) : Type 0 where
+  made : AllStand library (all_stands w entry) 1 w.visits nodes
+  walked : IsDone library entry 1 w.visits
+  first : slice_get w.visits 0 ≡ Some (first_visit entry)
 
-first_stands : (vs : List Visit) (v : Visit) (end : Stand) → slice_get vs 0 ≡ Some v → slice_get (map stand_of_visit vs ++ end ∷ []) 0 ≡ Some v.stand
-first_stands [] v end h = absurd (cc)
-first_stands (first ∷ vs) v end h = let e : first ≡ v = cc in ap (λ (v : Visit). Some v.stand) e
+not_refused : (o : Option Refusal) → unless_refused o ≡ Ok tt → o ≡ None
+not_refused None h = refl
+not_refused (Some refusal) h = absurd (cc)
 
-each_linked : (library : Library) (entry : ℕ) (w : Walk) (nodes : List Node) → AllStand library (all_stands w entry) 1 w.visits nodes → all_stands w entry ≡ stands nodes entry → (k : ℕ) (node : Node) → numbered nodes k ≡ Some node →
-    IsLinked library (stands nodes entry) k node
-each_linked library entry w nodes stand same zero node g = absurd (cc)
-each_linked library entry w nodes stand same (suc k) node g =
-    let e : 1 + k ≡ suc k = omega arith in
-    subst (λ all. IsLinked library all (suc k) node) same (subst (λ n. IsLinked library (all_stands w entry) n node) e (stand.each k node g))
-
-pub expansions_are_linked : ExpansionsAreLinked
+expanded : (library : Library) (entry : ℕ) (nodes : List Node) → expansion library entry ≡ Ok nodes → IsExpanded library entry nodes (whole_walk_of library entry)
 unfolding expansion
-expansions_are_linked library entry nodes h =
+expanded library entry nodes h =
     let w = whole_walk_of library entry in
     let made = bound_way (nodes_at library entry w 1 w.visits) _ nodes h in
     let ended = bound_way (unless_refused w.refusal) _ nodes made.gives in
-    let all : nodes_at library entry w 1 w.visits ≡ Ok nodes = made.was ∙ ended.gives in
-    let stand = all_stand library entry w 1 w.visits nodes all in
-    let same : all_stands w entry ≡ stands nodes entry = ap (λ all. all ++ over entry ∷ []) (sym stand.same) in
     record {
-      first = ap (λ all. slice_get all 0) (sym same) ∙ first_stands w.visits (first_visit entry) (over entry) (begins library entry (MOST_ELEMENTS + 1) 1 (first_visit entry));
-      each = each_linked library entry w nodes stand same;
-      order = nodes_ordered library entry w.visits nodes (all_stands w entry) stand (ordered library entry (MOST_ELEMENTS + 1) 1 (first_visit entry));
+      made = all_stand library entry w 1 w.visits nodes (made.was ∙ ended.gives);
+      walked = done library entry (MOST_ELEMENTS + 1) 1 (first_visit entry) (record { waits = refl; deep = refl; few = omega arith; few_calls = omega arith }) (not_refused w.refusal ended.was);
+      first = begins library entry (MOST_ELEMENTS + 1) 1 (first_visit entry);
+    }
+
+module _ (library : Library) (entry : ℕ) (nodes : List Node) (w : Walk) (is : IsExpanded library entry nodes w) where
+  same_stands : all_stands w entry ≡ stands nodes entry
+  same_stands = ap (λ all. all ++ over entry ∷ []) (sym is.made.same)
+
+  each_linked : (k : ℕ) (node : Node) → numbered nodes k ≡ Some node → IsLinked library (stands nodes entry) k node
+  each_linked zero node g = absurd (cc)
+  each_linked (suc k) node g =
+      let e : 1 + k ≡ suc k = omega arith in
+      subst (λ all. IsLinked library all (suc k) node) same_stands (subst (λ n. IsLinked library (all_stands w entry) n node) e (is.made.each k node g))
+
+  in_order : (k : ℕ) (node : Node) → numbered nodes k ≡ Some node → numbered (stands nodes entry) (suc k) ≡ Some (stand_behind library k node.element node.stand)
+  in_order zero node g = absurd (cc)
+  in_order (suc k) node g =
+      let a = visited w.visits nodes k node is.made.same g in
+      let f = is.walked.each k a.visit a.at in
+      let linked = is.made.each k node g in
+      let element : f.read ≡ node.element = ok f.read node.element (sym f.reads ∙ (ap (λ (stand : Stand). read_at stand.position) a.stand ∙ linked.reads)) in
+      let number : 1 + k ≡ suc k = omega arith in
+      ap (λ all. slice_get all (suc k)) (sym same_stands)
+      ∙ (f.next
+      ∙ (ap (λ n. Some (stand_behind library n f.read a.visit.stand)) number
+      ∙ (ap (λ read. Some (stand_behind library (suc k) read a.visit.stand)) element
+      ∙ ap (λ stand. Some (stand_behind library (suc k) node.element stand)) a.stand)))
+
+  visit_of : (k : ℕ) (node : Node) → numbered nodes k ≡ Some node → (v : Visit) × IsSound entry v × (v.stand ≡ node.stand)
+  visit_of zero node g = absurd (cc)
+  visit_of (suc k) node g = let a = visited w.visits nodes k node is.made.same g in (a.visit, is.walked.sound k a.visit a.at, a.stand)
+
+pub expansions_are_linked : ExpansionsAreLinked
+expansions_are_linked library entry nodes h =
+    let w = whole_walk_of library entry in
+    let is = expanded library entry nodes h in
+    record {
+      first = ap (λ all. slice_get all 0) (sym (same_stands library entry nodes w is)) ∙ stands_first w.visits (first_visit entry) (over entry) is.first;
+      each = each_linked library entry nodes w is;
+      order = in_order library entry nodes w is;
+    }
+
+-- as many calls are open as registers
+callers_few : (entry : ℕ) (registers : List ℕ) (callers : List Spot) → CallersEnd entry registers callers → length callers ≡ suc (length registers)
+callers_few entry [] callers w = ap length w
+callers_few entry (r ∷ registers) [] w = absurd w
+callers_few entry (r ∷ registers) (caller ∷ callers) w = ap suc (callers_few entry registers callers w)
+
+calls_few : (entry : ℕ) (registers : List ℕ) (stand : Stand) → Waits entry registers stand → length stand.position.callers ≡ length registers
+calls_few entry [] stand w = ap (λ (stand : Stand). length stand.position.callers) w
+calls_few entry (r ∷ registers) stand w = callers_few entry registers stand.position.callers w
+
+pub expansions_are_small : ExpansionsAreSmall
+expansions_are_small library entry nodes h =
+    let w = whole_walk_of library entry in
+    let is = expanded library entry nodes h in
+    record {
+      elements = omega (arith, is.walked.few, sym (length-map nodes stand_of_node) ∙ (ap length is.made.same ∙ length-map w.visits stand_of_visit));
+      calls = λ k node g.
+          let v = visit_of library entry nodes w is k node g in
+          subst (λ (stand : Stand). length stand.position.callers ≤ MOST_OPEN) v.2 (omega (arith, calls_few entry v.0.registers v.0.stand v.1.waits, v.1.few_calls));
+      iterations = λ k node g.
+          let v = visit_of library entry nodes w is k node g in
+          subst (λ (stand : Stand). length stand.iterations ≤ MOST_OPEN) v.2 v.1.few;
     }

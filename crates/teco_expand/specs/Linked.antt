@@ -1,6 +1,6 @@
 -- What an expansion says of its nodes.
-use Rattle.std.specs.Prelude.{◌≡◌, ◌≢◌, ℕ, suc, ◌<◌, List, [], ◌∷◌, ⊤, Some, Ok}
-use Rattle.teco_expand.specs.Expansion.{expansion}
+use Rattle.std.specs.Prelude.{◌≡◌, ◌≢◌, ℕ, suc, ◌<◌, ◌≤◌, length, List, [], ◌∷◌, ⊤, Some, Ok}
+use Rattle.teco_expand.specs.Expansion.{MOST_ELEMENTS, MOST_OPEN, expansion}
 use Rattle.teco_expand.specs.Library.{Library}
 use Rattle.teco_expand.specs.Names.{names_macro}
 use Rattle.teco_expand.specs.Node.{Stand, Node, beginning, stands, numbered, stand_at, base_of}
@@ -29,16 +29,29 @@ pub record IsLinked (library : Library) (all : List Stand) (number : ℕ) (node 
   pub leads : Lead all (base_of node.element number node.stand.iterations) number node.stand targets node.ways
   pub names : node.names_macro ≡ names_macro library node.element
 
--- All nodes are linked, the first stands at the call of the entry, and each one where the order of the texts wants it.
+-- All nodes are linked, the first stands at the call of the entry, and each is followed by what follows in the texts,
+-- the last by the end.
 pub record AreLinked (library : Library) (entry : ℕ) (nodes : List Node) : Type 0 where
   pub first : numbered (stands nodes entry) 1 ≡ Some (beginning entry)
   pub each :
       (k : ℕ) (node : Node) → numbered nodes k ≡ Some node → IsLinked library (stands nodes entry) k node
   pub order :
-      (k : ℕ) (node next : Node) → numbered nodes k ≡ Some node → numbered nodes (suc k) ≡ Some next
-      → next.stand ≡ stand_behind library k node.element node.stand
+      (k : ℕ) (node : Node) → numbered nodes k ≡ Some node
+      → numbered (stands nodes entry) (suc k) ≡ Some (stand_behind library k node.element node.stand)
 
 abbrev pub ExpansionsAreLinked : Type 0
 ExpansionsAreLinked =
     (library : Library) (entry : ℕ) (nodes : List Node)
     → expansion library entry ≡ Ok nodes → AreLinked library entry nodes
+
+-- There are no more elements, open calls and open iterations than there may be.
+pub record AreFew (nodes : List Node) : Type 0 where
+  pub elements : length nodes ≤ MOST_ELEMENTS
+  pub calls :
+      (k : ℕ) (node : Node) → numbered nodes k ≡ Some node → length node.stand.position.callers ≤ MOST_OPEN
+  pub iterations :
+      (k : ℕ) (node : Node) → numbered nodes k ≡ Some node → length node.stand.iterations ≤ MOST_OPEN
+
+abbrev pub ExpansionsAreSmall : Type 0
+ExpansionsAreSmall =
+    (library : Library) (entry : ℕ) (nodes : List Node) → expansion library entry ≡ Ok nodes → AreFew nodes

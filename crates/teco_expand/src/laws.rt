@@ -1,7 +1,7 @@
 //! Laws of expansions.
 ghost use Rattle.teco_expand.specs.Iterations.{IterationsAreOpen};
 ghost use Rattle.teco_expand.specs.Leading.{WaysLead};
-ghost use Rattle.teco_expand.specs.Linked.{ExpansionsAreLinked};
+ghost use Rattle.teco_expand.specs.Linked.{ExpansionsAreLinked, ExpansionsAreSmall};
 ghost use Rattle.teco_expand.specs.Loaded.{LoadingLoads, StaysLoaded};
 ghost use Rattle.teco_expand.specs.Rows.{WorkedExpansions};
 ghost use Rattle.teco_expand.specs.Run.{RunsComeToNodes, StepsGoAlongNodes};
@@ -30,6 +30,11 @@ pub fn stays_loaded()
 /// The nodes of an expansion are linked.
 pub fn expansions_are_linked()
     ensures { ExpansionsAreLinked }
+{}
+
+/// An expansion has no more elements, open calls and open iterations than there may be.
+pub fn expansions_are_small()
+    ensures { ExpansionsAreSmall }
 {}
 
 /// A node has the numbers of the iterations that are open where it stands.
