@@ -79,16 +79,16 @@ behind library nodes entry number None node targets h r n w o =
 behind library nodes entry number (Some e) node targets h r n w o = behind_kind library nodes entry number e.kind e node targets h r refl n w o
 
 -- a number that is one more is behind another
-record Earlier (nodes : List Node) (k : ℕ) : Type 0 where
-  node : Node
-  at : slice_get nodes k ≡ Some node
+pub record Earlier (nodes : List Node) (k : ℕ) : Type 0 where
+  pub node : Node
+  pub at : slice_get nodes k ≡ Some node
 
-earlier : (nodes : List Node) (k : ℕ) (node : Node) → slice_get nodes (suc k) ≡ Some node → Earlier nodes k
+pub earlier : (nodes : List Node) (k : ℕ) (node : Node) → slice_get nodes (suc k) ≡ Some node → Earlier nodes k
 earlier [] k node h = absurd (cc)
 earlier (first ∷ nodes) zero node h = record { node = first; at = refl }
 earlier (first ∷ nodes) (suc k) node h = let e = earlier nodes k node h in record { node = e.node; at = e.at }
 
-first_is : (nodes : List Node) (end stand : Stand) (node : Node) → slice_get (map stand_of_node nodes ++ end ∷ []) 0 ≡ Some stand → slice_get nodes 0 ≡ Some node → stand ≡ node.stand
+pub first_is : (nodes : List Node) (end stand : Stand) (node : Node) → slice_get (map stand_of_node nodes ++ end ∷ []) 0 ≡ Some stand → slice_get nodes 0 ≡ Some node → stand ≡ node.stand
 first_is [] end stand node h g = absurd (cc)
 first_is (first ∷ nodes) end stand node h g =
     let e : first ≡ node = cc in

@@ -10,4 +10,5 @@ mod StayLoaded
 mod Iterations
 mod Leading
 mod Runs
+mod Ends
 mod Worked

@@ -60,7 +60,7 @@ stands_alike a b h =
     let iterations : a.iterations ≡ b.iterations = (bytes_eq-Decides a.iterations b.iterations).0 (and_right (same_position a.position b.position) _ h) in
     λ i. record { position = position i; iterations = iterations i }
 
-slice_get-drop : {X : Type 0} (n k : ℕ) (xs : List X) → slice_get (drop n xs) k ≡ slice_get xs (n + k)
+pub slice_get-drop : {X : Type 0} (n k : ℕ) (xs : List X) → slice_get (drop n xs) k ≡ slice_get xs (n + k)
 slice_get-drop zero k xs = let e : 0 + k ≡ k = omega arith in rw e refl
 slice_get-drop (suc n) k [] = refl
 slice_get-drop (suc n) k (x ∷ xs) = let e : suc n + k ≡ suc (n + k) = omega arith in rw e (slice_get-drop n k xs)

@@ -1,4 +1,5 @@
 //! Laws of expansions.
+ghost use Rattle.teco_expand.specs.Ends.{IterationsEnd};
 ghost use Rattle.teco_expand.specs.Iterations.{IterationsAreOpen};
 ghost use Rattle.teco_expand.specs.Leading.{WaysLead};
 ghost use Rattle.teco_expand.specs.Linked.{ExpansionsAreLinked, ExpansionsAreSmall};
@@ -40,6 +41,11 @@ pub fn expansions_are_small()
 /// A node has the numbers of the iterations that are open where it stands.
 pub fn iterations_are_open()
     ensures { IterationsAreOpen }
+{}
+
+/// An iteration that is open at a node ends there or ahead, by one `>` alone.
+pub fn iterations_end()
+    ensures { IterationsEnd }
 {}
 
 /// A way leads to the number, and with the iterations open, that its element says.
