@@ -1,12 +1,12 @@
 -- The ends of iterations.
-use Rattle.std.proofs.Common.{◌≡◌, ℕ, zero, suc, ◌+◌, ◌-◌, ◌<◌, ◌≤◌, List, [], ◌∷◌, drop, length, ◌==◌, Bool, true, false, if◌then◌else◌, inl, inr, ◌⊎◌, Option, Some, None, refl, sym, ap, ◌∙◌, subst, slice_get, arith, eqb-true, rules, nat_lt}
+use Rattle.std.proofs.Common.{◌≡◌, ℕ, zero, suc, ◌+◌, ◌-◌, ◌<◌, ◌≤◌, List, [], ◌∷◌, take, drop, length, ◌==◌, Bool, true, false, if◌then◌else◌, inl, inr, ◌⊎◌, Option, Some, None, refl, sym, ap, ◌∙◌, subst, slice_get, arith, eqb-true, rules, nat_lt}
 use Rattle.std.proofs.lemmas.Bool.{ltb-true, ltb-false}
 use Rattle.std.specs.List.{AllByRecursion}
 use Rattle.teco_model.specs.declared.kind.Flow.TheVariants as flow
 use Rattle.teco_model.specs.declared.kind.Kind.{Kind}
 use Rattle.teco_model.specs.declared.kind.Kind.TheVariants as kind
 use Rattle.teco_model.specs.Element.{Element}
-use Rattle.teco_expand.specs.Ends.{is_innermost, ends_by_kind, ends_by, ends, first_end, end_of, Descend, IsBegin, IterationsEnd}
+use Rattle.teco_expand.specs.Ends.{is_innermost, ends_by_kind, ends_by, ends, first_end, end_of, Descend, IsBegin, IterationsEnd, LeftHaveEnded}
 use Rattle.teco_expand.specs.Iterations.{body_at, AreOpenIn, AreOpen}
 use Rattle.teco_expand.specs.Library.{Library}
 use Rattle.teco_expand.specs.Linked.{AreLinked}
@@ -136,6 +136,24 @@ first_end_is b n (suc i) (x ∷ xs) node h e f =
     let t : ends b x ≡ false = f 0 x (omega arith) refl in
     ap (λ t. if t then n else first_end b (suc n) xs) t
     ∙ (first_end_is b (suc n) i xs node h e (λ j m l g. f (suc j) m (omega (arith, l)) g) ∙ omega arith)
+
+-- what is taken of descending numbers is not dropped of them
+among_taken : (b n : ℕ) (numbers : List ℕ) → Among b (take n numbers) → Among b numbers
+among_taken b zero numbers a = absurd a
+among_taken b (suc n) [] a = absurd a
+among_taken b (suc n) (m ∷ numbers) (inl e) = inl e
+among_taken b (suc n) (m ∷ numbers) (inr a) = inr (among_taken b n numbers a)
+
+among_dropped : (b n : ℕ) (numbers : List ℕ) → Among b (drop n numbers) → Among b numbers
+among_dropped b zero numbers a = a
+among_dropped b (suc n) [] a = absurd a
+among_dropped b (suc n) (m ∷ numbers) a = inr (among_dropped b n numbers a)
+
+taken_or_dropped : (bound b n : ℕ) (numbers : List ℕ) → Descend bound numbers → Among b (take n numbers) → Among b (drop n numbers) → b < b
+taken_or_dropped bound b zero numbers d a c = absurd a
+taken_or_dropped bound b (suc n) [] d a c = absurd a
+taken_or_dropped bound b (suc n) (m ∷ numbers) d (inl e) c = omega (arith, e, below m b numbers d.1 (among_dropped b n numbers c))
+taken_or_dropped bound b (suc n) (m ∷ numbers) d (inr a) c = taken_or_dropped m b n numbers d.1 a c
 
 -- what a search for an end comes to
 data Ended (b n : ℕ) (xs : List Node) : Type 0 where
@@ -330,6 +348,54 @@ module _ (library : Library) (entry : ℕ) (nodes : List Node) (are : AreLinked 
           let open' : Among b node.stand.iterations = subst (Among b) (sym inner.is) (inl refl) in
           let small : suc (b + i) ≤ length nodes = (numbered_within nodes (suc (b + i)) node there).1 in
           ((opened_at b (suc (b + i)) node there open').begin, omega (arith, s, small))
+
+  not_yet : (b k : ℕ) (node : Node) → (first : FirstEnd nodes b (suc b)) → numbered nodes k ≡ Some node → Among b node.stand.iterations → k < first.number → ends b node ≡ false
+  not_yet b k node first h a l =
+      let before : b < k = below k b node.stand.iterations (all_descend k node h) a in first.least k node (omega (arith, before)) l h
+
+  -- one that is open stays open up to its end
+  stays_until : (b d k : ℕ) (node : Node) (target : ℕ) (stand : Stand) → (first : FirstEnd nodes b (suc b)) → numbered nodes k ≡ Some node → Among b node.stand.iterations → target ≡ suc (k + d) →
+      numbered (stands nodes entry) target ≡ Some stand → target ≤ first.number → Among b stand.iterations
+  stays_until b zero k node target stand first h a e g l =
+      let number : target ≡ suc k = omega (arith, e) in
+      let f = not_yet b k node first h a (omega (arith, l, e)) in
+      let same : Some (stand_behind library k node.element node.stand) ≡ Some stand = sym (are.order k node h) ∙ (ap (numbered (stands nodes entry)) (sym number) ∙ g) in
+      let is : stand_behind library k node.element node.stand ≡ stand = cc in
+      subst (λ (stand : Stand). Among b stand.iterations) is (stays_open b k node.stand.iterations _ (λ b. ends b node) (change library k node.element node.stand) f a)
+  stays_until b (suc d) k node target stand first h a e g l = among (onward k node h) (λ next there open'. stays_until b d (suc k) next target stand first there open' (omega (arith, e)) g l)
+    where
+      f : ends b node ≡ false
+      f = not_yet b k node first h a (omega (arith, l, e))
+
+      among : Onward k node → ((next : Node) → numbered nodes (suc k) ≡ Some next → Among b next.stand.iterations → Among b stand.iterations) → Among b stand.iterations
+      among (Over o) on =
+          absurd (subst (λ (stand : Stand). Among b stand.iterations) o (stays_open b k node.stand.iterations _ (λ b. ends b node) (change library k node.element node.stand) f a))
+      among (Further next there o) on = on next there (stays_open b k node.stand.iterations next.stand.iterations (λ b. ends b node) (changes k node next o) f a)
+
+  -- what is left on the way has ended
+  left_ended : (number : ℕ) (node : Node) (target : ℕ) (stand : Stand) (left : ℕ) → numbered nodes number ≡ Some node → numbered (stands nodes entry) target ≡ Some stand → number < target → stand.iterations ≡ drop left node.stand.iterations →
+      (b : ℕ) → Among b (take left node.stand.iterations) → end_of nodes b < target
+  left_ended number node target stand left h g l s b a = among (nat_lt (end_of nodes b) target) refl
+    where
+      open' : Among b node.stand.iterations
+      open' = among_taken b left node.stand.iterations a
+
+      first : FirstEnd nodes b (suc b)
+      first = first_of b (opened_at b number node h open')
+
+      among : (c : Bool) → nat_lt (end_of nodes b) target ≡ c → end_of nodes b < target
+      among true c = ltb-true (end_of nodes b) target c
+      among false c =
+          let still = stays_until b (target - suc number) number node target stand first h open' (omega (arith, l)) g (omega (arith, ltb-false (end_of nodes b) target c, is_end b first)) in
+          absurd (omega (arith, taken_or_dropped number b left node.stand.iterations (all_descend number node h) a (subst (Among b) s still)))
+
+  all_ended : (target : ℕ) (numbers : List ℕ) → ((b : ℕ) → Among b numbers → end_of nodes b < target) → AllByRecursion (λ b. end_of nodes b < target) numbers
+  all_ended target [] f = tt
+  all_ended target (n ∷ numbers) f = (f n (inl refl), all_ended target numbers (λ b a. f b (inr a)))
+
+pub left_have_ended : LeftHaveEnded
+left_have_ended library entry nodes number node target stand left are h g l s =
+    all_ended library entry nodes are target (take left node.stand.iterations) (left_ended library entry nodes are number node target stand left h g l s)
 
 pub iterations_end : IterationsEnd
 iterations_end library entry nodes are = record {

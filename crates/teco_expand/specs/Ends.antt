@@ -1,5 +1,5 @@
 -- The ends of iterations: each that is open at a node ends there or ahead, by one > alone.
-use Rattle.std.specs.Prelude.{◌≡◌, ℕ, suc, ◌<◌, ◌≤◌, List, [], ◌∷◌, length, drop, ◌==◌, Bool, true, false, if◌then◌else◌, Option, Some, None, ⊤}
+use Rattle.std.specs.Prelude.{◌≡◌, ℕ, suc, ◌<◌, ◌≤◌, List, [], ◌∷◌, length, take, drop, ◌==◌, Bool, true, false, if◌then◌else◌, Option, Some, None, ⊤}
 use Rattle.std.specs.List.{AllByRecursion}
 use Rattle.teco_model.specs.declared.kind.Flow.TheVariants as flow
 use Rattle.teco_model.specs.declared.kind.Kind.{Kind}
@@ -7,7 +7,7 @@ use Rattle.teco_model.specs.declared.kind.Kind.TheVariants as kind
 use Rattle.teco_model.specs.Element.{Element}
 use Rattle.teco_expand.specs.Library.{Library}
 use Rattle.teco_expand.specs.Linked.{AreLinked}
-use Rattle.teco_expand.specs.Node.{Node, numbered}
+use Rattle.teco_expand.specs.Node.{Stand, Node, stands, numbered}
 
 -- is an iteration the innermost?
 abbrev pub is_innermost : ℕ → List ℕ → Bool
@@ -64,3 +64,12 @@ pub record AreClosed (nodes : List Node) : Type 0 where
 
 abbrev pub IterationsEnd : Type 0
 IterationsEnd = (library : Library) (entry : ℕ) (nodes : List Node) → AreLinked library entry nodes → AreClosed nodes
+
+-- Where fewer iterations are open at a later number than at a node, those that were left ended before it.
+abbrev pub LeftHaveEnded : Type 0
+LeftHaveEnded =
+    (library : Library) (entry : ℕ) (nodes : List Node) (number : ℕ) (node : Node) (target : ℕ) (stand : Stand) (left : ℕ)
+    → AreLinked library entry nodes → numbered nodes number ≡ Some node
+    → numbered (stands nodes entry) target ≡ Some stand → number < target
+    → stand.iterations ≡ drop left node.stand.iterations
+    → AllByRecursion (λ begin. end_of nodes begin < target) (take left node.stand.iterations)

@@ -1,5 +1,5 @@
 //! Laws of expansions.
-ghost use Rattle.teco_expand.specs.Ends.{IterationsEnd};
+ghost use Rattle.teco_expand.specs.Ends.{IterationsEnd, LeftHaveEnded};
 ghost use Rattle.teco_expand.specs.Iterations.{IterationsAreOpen};
 ghost use Rattle.teco_expand.specs.Leading.{WaysLead};
 ghost use Rattle.teco_expand.specs.Linked.{ExpansionsAreLinked, ExpansionsAreSmall};
@@ -46,6 +46,11 @@ pub fn iterations_are_open()
 /// An iteration that is open at a node ends there or ahead, by one `>` alone.
 pub fn iterations_end()
     ensures { IterationsEnd }
+{}
+
+/// Iterations that are left on the way to a later number have ended before it.
+pub fn left_have_ended()
+    ensures { LeftHaveEnded }
 {}
 
 /// A way leads to the number, and with the iterations open, that its element says.
