@@ -11,4 +11,5 @@ mod Iterations
 mod Leading
 mod Runs
 mod Ends
+mod Places
 mod Worked

@@ -38,7 +38,7 @@ pub next : (s t : State) → Next s ≡ Next t → s ≡ t
 next s t h = cc
 
 -- what was read
-read_is : (r : Result (Option Element) Code) (read : Option Element) → (as_fault r >>= (λ read. sound read)) ≡ Ok read → r ≡ Ok read
+pub read_is : (r : Result (Option Element) Code) (read : Option Element) → (as_fault r >>= (λ read. sound read)) ≡ Ok read → r ≡ Ok read
 read_is (Ok None) read h = ap Ok (ok None read h)
 read_is (Ok (Some e)) read h = let b = bound_way (as_fault (pattern_parts e.kind e.text)) _ read h in ap Ok (ok (Some e) read b.gives)
 read_is (Err c) read h = absurd (cc)

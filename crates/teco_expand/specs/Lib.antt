@@ -13,6 +13,7 @@ pub mod Order
 pub mod Expansion
 pub mod Linked
 pub mod Iterations
+pub mod Places
 pub mod Ends
 pub mod Leading
 pub mod Run
