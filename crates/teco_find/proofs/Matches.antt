@@ -1,12 +1,14 @@
 -- Matches and searches in a text of two pieces.
 use Rattle.std.proofs.Common.{◌≡◌, ℕ, zero, suc, ◌+◌, ◌-◌, ◌<◌, ◌≤◌, Bool, true, false, List, [], ◌∷◌, length, drop, get_or, Option, Some, None, ap, sym, refl, ◌∙◌, arith, length-append}
 use Rattle.std.proofs.lemmas.List.{at_drop_more, length-drop}
-use Rattle.std.specs.Option.{option_or}
+use Rattle.std.specs.Option.{option_map_or, option_or}
 use Rattle.std.specs.Prelude.{IsSome, option_map, option_and_then}
 use Rattle.memchr.specs.Find.{IsFirst, IsLast, Nowhere, NoneBefore, NoneAfter}
 use Rattle.teco_model.specs.Match as model
+use Rattle.teco_model.specs.Paging.{sought}
 use Rattle.teco_model.specs.Pattern.{Pattern}
 use Rattle.teco_model.specs.declared.pattern.Item.{Item}
+use Rattle.teco_model.specs.declared.pattern.Sought.TheVariants.{Wanted}
 use Rattle.teco_model.specs.declared.pattern.Span.{Span}
 use Rattle.teco_find.specs.Anchors.{Anchors, IsLastTried, IsNextTried, Stands, StartsAt}
 use Rattle.teco_find.specs.Needles.{Begins, NoneUpTo}
@@ -134,7 +136,20 @@ module _ (search : ℕ → Option Span) (onward : Span → ℕ) where
   pub nth_more : (at turn n : ℕ) → turn < n → model.nth_match search onward at (suc (n - turn)) ≡ option_and_then (λ last. model.nth_match search onward (onward last) (suc (n - (turn + 1)))) (search at)
   nth_more at turn n less = let e : n - turn ≡ suc (n - (turn + 1)) = omega arith in ap (λ k. model.nth_match search onward at (suc k)) e
 
+-- so many matches ahead, as far as they are there
+module _ (pattern : Pattern) (text : List ℕ) where
+  pub sought_all : (from n : ℕ) → 1 ≤ n → sought pattern text from (suc (n - 1)) ≡ sought pattern text from n
+  sought_all from n some = let e : suc (n - 1) ≡ n = omega arith in ap (sought pattern text from) e
+
+  pub sought_more : (at turn n : ℕ) → turn < n → sought pattern text at (suc (n - turn)) ≡ option_map_or (λ (span : Span). sought pattern text span.end (suc (n - (turn + 1)))) (model.first_from pattern text at) (Wanted (suc (n - turn)))
+  sought_more at turn n less =
+      let e : n - turn ≡ suc (n - (turn + 1)) = omega arith in
+      ap (λ k. sought pattern text at (suc k)) e
+      ∙ ap (λ k. option_map_or (λ (span : Span). sought pattern text span.end (suc (n - (turn + 1)))) (model.first_from pattern text at) (Wanted (suc k))) (sym e)
+
 -- what the functions need
 pub ruleset starts = (here_none, here_some, length-drop)
 
 pub ruleset turns = (nth_all, nth_more)
+
+pub ruleset seeking = (sought_all, sought_more)

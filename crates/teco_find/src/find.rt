@@ -1,14 +1,15 @@
 // Searches over a text in two pieces.
 ghost use Rattle.std.specs.Prelude.{◌≡◌, ◌≤◌, ◌<◌, length, IfSome};
 ghost use Rattle.teco_model.specs.Match as model;
+ghost use Rattle.teco_model.specs.Paging.{sought};
 ghost use Rattle.teco_find.specs.Anchors.{IsLastTried, IsNextTried};
-ghost use Rattle.teco_find.specs.Pieces.{joined};
+ghost use Rattle.teco_find.specs.Pieces.{joined, IsSoughtPart};
 
 use crate::needle::next_start;
 use crate::pattern::Pattern;
 use crate::pieces::{text_from, text_len};
 use crate::rests::match_rest;
-use teco_model::Span;
+use teco_model::{Sought, Span};
 
 impl Pattern {
     /// The match that starts at a place of a text in two pieces.
@@ -106,6 +107,27 @@ impl Pattern {
             at = self.first_from(text, at)?.end;
         }
         self.first_from(text, at)
+    }
+
+    /// The last of `n` matches from a place on, as [`Pattern::forward`] counts them; or how many more than there are.
+    #[tactic(auto, using(crate::proofs::Matches::seeking))]
+    pub fn seek(&self, text: (&[u8], &[u8]), from: usize, n: u32) -> Sought
+        requires from { from ≤ length (joined text) }
+        requires some { 1 ≤ n }
+        ensures value { result ≡ sought self.now (joined text.entry) from n }
+        ensures part { IsSoughtPart (joined text.entry) result }
+    {
+        let mut at = from;
+        for turn in 1..n {
+            match self.first_from(text, at) {
+                Some(span) => at = span.end,
+                None => return Sought::Wanted(n - turn + 1),
+            }
+        }
+        match self.first_from(text, at) {
+            Some(span) => Sought::Last(span),
+            None => Sought::Wanted(1),
+        }
     }
 
     /// The `n`th match that starts before a place, counted backwards. It may reach past the place,

@@ -8,6 +8,8 @@ use Rattle.teco_base.specs.declared.code.Code.TheVariants as code
 use Rattle.teco_model.specs.declared.arguments.Taken.{Taken}
 use Rattle.teco_model.specs.declared.kind.Search.{Search}
 use Rattle.teco_model.specs.declared.pattern.Span.{Span}
+use Rattle.teco_model.specs.declared.pattern.Sought.{Sought}
+use Rattle.teco_model.specs.declared.pattern.Sought.TheVariants.{Last, Wanted}
 use Rattle.teco_model.specs.Checked.{◌>>=◌}
 use Rattle.teco_model.specs.Element.{Element}
 use Rattle.teco_model.specs.Files.{Input, Output, Files, with_written}
@@ -136,17 +138,28 @@ pages page taken world = do
   pages_of page taken.first taken.value world
 
 -- What n matches from a place on come to: the last of them, or how many are still wanted behind the buffer.
-pub data Sought : Type 0 where
-  Last : Span → Sought
-  Wanted : ℕ → Sought
-
 abbrev pub sought : Pattern → List ℕ → ℕ → ℕ → Sought
 sought pattern text at zero = Wanted 0
 sought pattern text at (suc zero) = option_map_or Last (first_from pattern text at) (Wanted 1)
-sought pattern text at (suc (suc n)) = elim (first_from pattern text at) [
-  | None ↦ Wanted (suc (suc n))
-  | Some span ↦ sought pattern text span.end (suc n)
-]
+sought pattern text at (suc (suc n)) =
+    option_map_or (λ (span : Span). sought pattern text span.end (suc n)) (first_from pattern text at) (Wanted (suc (suc n)))
+
+-- What a look at the buffer comes to: what is kept at the last match, or how many more are wanted.
+pub data Here : Type 0 where
+  MetHere : Kept → Here
+  WantedYet : ℕ → Here
+
+abbrev pub here_of : Search → Element → Kept → Sought → Result Here Code
+here_of s e kept (Last span) = do
+  met ← kept_after s e span kept
+  Ok (MetHere met)
+here_of s e kept (Wanted n) = Ok (WantedYet n)
+
+-- from the pointer on, by the last search text
+abbrev pub look_here : Search → Element → ℕ → Kept → Result Here Code
+look_here s e n kept = do
+  pattern ← pattern_of kept.search_text kept
+  here_of s e kept (sought pattern kept.text kept.pointer n)
 
 -- What a step of N and FN comes to: it found the last match, or turned a page and wants so many more; or there is no page left,
 -- and nothing is done yet but that the search text is kept.
@@ -168,19 +181,17 @@ page_looked_for (c ∷ bytes) wanted world = do
   Ok (Turned wanted turned)
 
 -- a match is met in the buffer; where a page is needed an output is, too
-abbrev pub looked_on : Search → Element → Sought → World → Result Looked Code
-looked_on s e (Last span) world = do
-  kept ← kept_after s e span world.kept
-  Ok (Met (record world { kept = kept }))
-looked_on s e (Wanted n) world = do
+abbrev pub looked_on : Here → World → Result Looked Code
+looked_on (MetHere kept) world = Ok (Met (record world { kept = kept }))
+looked_on (WantedYet n) world = do
   output ← needed_output world
   page_looked_for (unread world.files) n world
 
--- a step that wants n matches, from the pointer on
+-- a step that wants n matches
 abbrev pub look_for : Search → Element → ℕ → World → Result Looked Code
 look_for s e n world = do
-  pattern ← pattern_of world.kept.search_text world.kept
-  looked_on s e (sought pattern world.kept.text world.kept.pointer n) world
+  here ← look_here s e n world.kept
+  looked_on here world
 
 -- how many matches are wanted first: one where nothing is said, else one at least; a first value is ARG
 abbrev pub match_count : Option ℤ → Option ℤ → Result ℕ Code
@@ -188,7 +199,11 @@ match_count None value = page_count (unwrap_or value (pos 1))
 match_count (Some m) value = Err code.Arg
 
 -- the first step of N and FN keeps their search text
+abbrev pub world_seeking : List ℕ → World → World
+world_seeking text world =
+    record world { kept = record world.kept { search_text = search_text_of text world.kept } }
+
 abbrev pub look_first : Search → Element → Taken → World → Result Looked Code
 look_first s e taken world = do
   n ← match_count taken.first taken.value
-  look_for s e n (record world { kept = record world.kept { search_text = search_text_of e.text world.kept } })
+  look_for s e n (world_seeking e.text world)

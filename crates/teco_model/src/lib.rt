@@ -18,6 +18,6 @@ pub use element::Element;
 pub use flow::Loop;
 pub use head::{Head, OnRegister, Texts};
 pub use kind::Kind;
-pub use pattern::Span;
+pub use pattern::{Sought, Span};
 pub use skip::{Bracket, Pairs, Route, Skip};
 pub use stop::{HostFault, Stop};

@@ -54,3 +54,12 @@ pub struct Span {
     /// The place behind its last character.
     pub end: usize,
 }
+
+/// What a number of matches, one behind the other, come to.
+#[derive(Clone, Copy)]
+pub enum Sought {
+    /// The last of them.
+    Last(Span),
+    /// There are fewer: so many more are wanted.
+    Wanted(u32),
+}

@@ -3,15 +3,16 @@ ghost use Rattle.std.specs.Prelude.{◌≡◌, Some, ◌≤◌, ◌≢◌, lengt
 ghost use Rattle.teco_find.specs.Pieces.{joined};
 ghost use Rattle.teco_find.specs.Reading.{Reads};
 ghost use Rattle.teco_model.specs.Element.{seen};
+ghost use Rattle.teco_model.specs.Paging.{look_here};
 ghost use Rattle.teco_model.specs.Search as model;
-ghost use Rattle.teco_search.specs.Searches.{Searches, stuck_by_pattern};
+ghost use Rattle.teco_search.specs.Searches.{Looks, Searches, Settles, stuck_by_pattern};
 ghost use Rattle.teco_text.specs.Answers.{IsPart};
 
 use std::alloc::Global;
 use teco_base::Code;
 use teco_find::{FindFault, Pattern};
 use teco_model::kind::Search;
-use teco_model::{Element, Span, Taken};
+use teco_model::{Element, Sought, Span, Taken};
 use teco_step::{Editor, Stuck};
 use teco_text::TextStore;
 
@@ -78,29 +79,29 @@ fn pattern<T: TextStore>(
     Pattern::read(alloc, text, editor.regs(), editor.mode() != 0)
 }
 
-// Goes behind the match that was found, or replaces it.
+// Goes behind the match that was found, or replaces it; the search text becomes the last one.
 #[tactic(auto, using(crate::proofs::Late::late))]
 fn settle<T: TextStore>(
     editor: &mut Editor<T>,
     search: Search,
     element: &Element<'_>,
+    text: &[u8],
     found: Span,
-) -> Result<Finding, Stuck>
+) -> Result<(), Stuck>
     requires { IsPart editor.old.text found.start found.end }
-    ensures { Searches element.now.text.now editor.old editor.new
-        (model.finding_of search (seen element.now) (Some found)
-        (record editor.old { search_text = model.search_text_of element.now.text.now editor.old })) result }
+    ensures { Settles editor.old editor.new (model.kept_after search (seen element.now) found
+        (record editor.old { search_text = model.search_text_of text.now editor.old })) result }
 {
     match search {
         Search::Find | Search::FindInPages => {
-            editor.keep_search_text(element.text)?;
+            editor.keep_search_text(text)?;
             editor.go_behind(found);
         }
         Search::Replace | Search::ReplaceInPages => {
-            editor.replace(found, element.second, element.text)?;
+            editor.replace(found, element.second, text)?;
         }
     }
-    Ok(Finding::Found)
+    Ok(())
 }
 
 /// `S` goes behind the match that it finds, and `FS` puts its second text in the place of the match; the search text is then
@@ -121,7 +122,38 @@ pub fn search<T: TextStore>(
         Err(fault) => return Err(stuck(fault)),
     };
     match find(&pattern, editor.text(), editor.dot(), element.colons, n) {
-        Some(found) => settle(editor, search, element, found),
+        Some(found) => {
+            settle(editor, search, element, element.text, found)?;
+            Ok(Finding::Found)
+        }
         None => Ok(Finding::Missed),
+    }
+}
+
+/// `N` and `FN` look for the last of `n` matches from the pointer on, by a search text, where an empty one means the last, and
+/// settle there as `S` and `FS` do. Where the buffer has fewer it says how many more are wanted, and changes nothing.
+pub fn look<T: TextStore>(
+    alloc: Global,
+    editor: &mut Editor<T>,
+    search: Search,
+    element: &Element<'_>,
+    text: &[u8],
+    n: u32,
+) -> Result<Option<u32>, Stuck>
+    requires { 1 ≤ n }
+    ensures looks { Looks editor.old editor.new (look_here search (seen element.now) n
+        (record editor.old { search_text = model.search_text_of text.now editor.old })) result }
+    ensures some { IfOk result (λ more. IfSome more (λ wanted. 1 ≤ wanted)) }
+{
+    let pattern = match pattern(alloc, editor, text) {
+        Ok(pattern) => pattern,
+        Err(fault) => return Err(stuck(fault)),
+    };
+    match pattern.seek(editor.text(), editor.dot(), n) {
+        Sought::Last(found) => {
+            settle(editor, search, element, text, found)?;
+            Ok(None)
+        }
+        Sought::Wanted(more) => Ok(Some(more)),
     }
 }

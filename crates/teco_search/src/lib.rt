@@ -3,7 +3,7 @@
 
 mod finding;
 
-pub use finding::{Finding, search};
+pub use finding::{Finding, look, search};
 
 #[cfg(test)]
 mod tests;

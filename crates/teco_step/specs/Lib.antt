@@ -16,3 +16,4 @@ pub use Rattle.teco_regs.specs.Texts
 pub use Rattle.teco_model.specs.Places
 pub mod Faults
 pub mod Does
+pub mod Turning

@@ -11,7 +11,7 @@ use teco_model::Span;
 use teco_text::TextStore;
 
 // Makes room for a text of this length in the place of one.
-fn make_room(kept: &mut Vec<u8>, len: usize) -> Result<(), AllocError>
+pub(crate) fn make_room(kept: &mut Vec<u8>, len: usize) -> Result<(), AllocError>
     ensures items { kept.new.items ≡ kept.old.items }
     ensures room { OnOk result (len ≤ vec_capacity kept.new) }
 {
@@ -19,7 +19,7 @@ fn make_room(kept: &mut Vec<u8>, len: usize) -> Result<(), AllocError>
 }
 
 // Puts a text in the place of one; an empty text changes nothing.
-fn put_text(kept: &mut Vec<u8>, text: &[u8])
+pub(crate) fn put_text(kept: &mut Vec<u8>, text: &[u8])
     requires { length text.now ≤ vec_capacity kept.old }
     ensures { kept.new.items ≡ model.text_or text.now kept.old.items }
 {

@@ -13,6 +13,7 @@ mod places;
 mod query;
 mod storage;
 mod stuck;
+mod turning;
 mod typing;
 
 pub use editor::Editor;

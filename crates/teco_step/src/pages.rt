@@ -1,11 +1,14 @@
 //! Pages that come into the buffer.
-ghost use Rattle.std.specs.Prelude.{◌≡◌, true};
+ghost use Rattle.std.specs.Prelude.{◌≡◌, ◌++◌, true, Ok, Err, MatchResult};
 ghost use Rattle.teco_model.specs.Paging.{page_added, page_taken};
 ghost use Rattle.teco_step.specs.Does.{KeepsIfMemory};
+ghost use Rattle.teco_step.specs.Turning.{text_between};
 
 use crate::editor::Editor;
 use crate::stuck::Stuck;
-use teco_text::TextStore;
+use teco_base::Code;
+use teco_model::Span;
+use teco_text::{TextStore, pieces};
 
 impl<T: TextStore> Editor<T> {
     /// Whether a form feed ended the last page in the buffer.
@@ -13,6 +16,16 @@ impl<T: TextStore> Editor<T> {
         ensures { result ≡ self.now.form_feed }
     {
         self.form_feed
+    }
+
+    /// The characters between the places that two numbers name, in two pieces of which either may be empty.
+    pub fn range_text(&self, m: i32, n: i32) -> Result<(&[u8], &[u8]), Code>
+        ensures { MatchResult result
+            (λ lent. text_between m n self.now ≡ Ok (lent.0.now ++ lent.1.now))
+            (λ c. text_between m n self.now ≡ Err c) }
+    {
+        let Span { start, end } = self.range(m, n)?;
+        Ok(pieces(&self.store, start, end))
     }
 
     /// A page becomes the buffer, with the pointer at its start. One longer than `LIMIT` is FUL.

@@ -1,0 +1,4 @@
+-- The words that the contracts of this crate are written in.
+pub mod Files
+pub mod Halts
+pub mod Worlds

@@ -1,0 +1,26 @@
+-- What goes out to a host while a page comes in.
+use Rattle.std.specs.Prelude.{ℕ, ℤ, ◌≡◌, ◌<◌, List, Option, Result, Ok, Err}
+use Rattle.teco_base.specs.declared.code.Code.{Code}
+use Rattle.teco_model.specs.Checked.{◌>>=◌}
+use Rattle.teco_model.specs.Places.{range_span, characters_of}
+use Rattle.teco_model.specs.State.{Kept}
+use Rattle.teco_pages.specs.HostFiles.{HostFiles, Becomes, after_writing}
+use Rattle.teco_pages.specs.PageCalls.{WritesFront}
+use Rattle.teco_pages.specs.declared.fault.Fault.{Fault}
+use Rattle.teco_pages.specs.declared.fault.Fault.TheVariants.{NoFile, In, Out, Full, Memory}
+
+-- The bytes were written; or with a fault, which is counted, some from their front; or memory was refused, before the host was
+-- called.
+abbrev pub GoesOut : List ℕ → Result (Unit {0}) Fault → Option HostFiles → Option HostFiles → ℕ → ℕ → Type 0
+GoesOut bytes (Ok done) old new f g = Becomes (after_writing bytes) old new × (g ≡ f)
+GoesOut bytes (Err NoFile) old new f g = ⊥
+GoesOut bytes (Err In) old new f g = ⊥
+GoesOut bytes (Err Out) old new f g = WritesFront bytes old new × (f < g)
+GoesOut bytes (Err Full) old new f g = ⊥
+GoesOut bytes (Err Memory) old new f g = (new ≡ old) × (g ≡ f)
+
+-- the characters between the places that two numbers name
+abbrev pub text_between : ℤ → ℤ → Kept → Result (List ℕ) Code
+text_between m n kept = do
+  part ← range_span kept.text m n
+  Ok (characters_of part kept)
