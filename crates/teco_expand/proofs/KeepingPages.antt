@@ -14,7 +14,9 @@ use Rattle.teco_model.specs.Checked.{◌>>=◌}
 use Rattle.teco_model.specs.Element.{Element}
 use Rattle.teco_model.specs.Outside.{pages_done}
 use Rattle.teco_model.specs.Pages.{first_page}
-use Rattle.teco_model.specs.Paging.{fitting, page_taken, page_added, world_with_next_page, yank, append, appended, page_turned, page_written, Progress, one_page_of, pages_of, Sought, Last, Wanted, sought, Looked, Met, Turned, Through, page_looked_for, looked_on, look_for, unread, nothing_lost, page_count, needed_output, match_count}
+use Rattle.teco_model.specs.declared.pattern.Sought.{Sought}
+use Rattle.teco_model.specs.declared.pattern.Sought.TheVariants.{Last, Wanted}
+use Rattle.teco_model.specs.Paging.{fitting, page_taken, page_added, world_with_next_page, yank, append, appended, page_turned, page_written, Progress, one_page_of, pages_of, sought, Looked, Met, Turned, Through, page_looked_for, looked_on, look_for, unread, nothing_lost, page_count, needed_output, match_count, Here, MetHere, WantedYet, here_of, look_here, world_seeking}
 use Rattle.teco_model.specs.Search.{Finding, Found, Missed, kept_after, finding_of, search, count_of, pattern_of, search_text_of, match_of}
 use Rattle.teco_model.specs.Places.{range_span}
 use Rattle.std.specs.Prelude.{unwrap_or}
@@ -116,19 +118,30 @@ page_looked_keeps : (library : Library) (bytes : List ℕ) (n : ℕ) (world : Wo
 page_looked_keeps library [] n world = untouched library world.kept
 page_looked_keeps library (c ∷ bytes) n world = onto library world.kept kept_of_world kept_of_looked (page_turned world) _ (turned_keeps library world) (λ turned k. k)
 
-looked_on_keeps : (library : Library) (x : Search) (e : Element) (found : Sought) (world : World) → AllKeep library world.kept kept_of_looked (looked_on x e found world)
-looked_on_keeps library x e (Last span) world = onto library world.kept itself kept_of_looked (kept_after x e span world.kept) _ (kept_after_keeps library x e span world.kept) (λ kept k. k)
-looked_on_keeps library x e (Wanted n) world =
+abbrev pub kept_of_here : Kept → Here → Kept
+kept_of_here old (MetHere kept) = kept
+kept_of_here old (WantedYet n) = old
+
+here_keeps : (library : Library) (x : Search) (e : Element) (kept : Kept) (found : Sought) → AllKeep library kept (kept_of_here kept) (here_of x e kept found)
+here_keeps library x e kept (Last span) = onto library kept itself (kept_of_here kept) (kept_after x e span kept) _ (kept_after_keeps library x e span kept) (λ met k. k)
+here_keeps library x e kept (Wanted n) = untouched library kept
+
+look_here_keeps : (library : Library) (x : Search) (e : Element) (n : ℕ) (kept : Kept) → AllKeep library kept (kept_of_here kept) (look_here x e n kept)
+look_here_keeps library x e n kept =
+    after library kept (kept_of_here kept) (pattern_of kept.search_text kept) _ (λ pattern. here_keeps library x e kept (sought pattern kept.text kept.pointer n))
+
+looked_on_keeps : (library : Library) (here : Here) (world : World) → Keeps library world.kept.registers (kept_of_here world.kept here).registers → AllKeep library world.kept kept_of_looked (looked_on here world)
+looked_on_keeps library (MetHere kept) world k = k
+looked_on_keeps library (WantedYet n) world k =
     after library world.kept kept_of_looked (needed_output world) _ (λ output. page_looked_keeps library (unread world.files) n world)
 
 look_for_keeps : (library : Library) (x : Search) (e : Element) (n : ℕ) (world : World) → AllKeep library world.kept kept_of_looked (look_for x e n world)
 look_for_keeps library x e n world =
-    after library world.kept kept_of_looked (pattern_of world.kept.search_text world.kept) _ (λ pattern.
-    looked_on_keeps library x e (sought pattern world.kept.text world.kept.pointer n) world)
+    onto library world.kept (kept_of_here world.kept) kept_of_looked (look_here x e n world.kept) _ (look_here_keeps library x e n world.kept) (λ here k. looked_on_keeps library here world k)
 
 pub looking_keeps : (library : Library) (x : Search) (e : Element) (s : State) (left : Option ℕ) → AllKeep library s.world.kept kept_of_looked (looking x e s left)
 looking_keeps library x e s None =
     after library s.world.kept kept_of_looked (arguments_of s.arguments.level) _ (λ taken.
     after library s.world.kept kept_of_looked (match_count taken.first taken.value) _ (λ n.
-    look_for_keeps library x e n (record s.world { kept = record s.world.kept { search_text = search_text_of e.text s.world.kept } })))
+    look_for_keeps library x e n (world_seeking e.text s.world)))
 looking_keeps library x e s (Some n) = look_for_keeps library x e n s.world
