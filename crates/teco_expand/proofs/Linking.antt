@@ -19,8 +19,8 @@ use Rattle.teco_expand.specs.Position.{Spot, Position, spot_in, starts_in, depth
 use Rattle.teco_expand.specs.Ways.{past, read_at, end_ways, call_ways, flow_ways, return_ways, element_ways, ways_at}
 use Rattle.teco_expand.specs.Node.{Stand, Node, call_of, beginning, over, stand_of_node, stands, numbered, stand_at, base_of}
 use Rattle.teco_expand.specs.Order.{position_in_text, position_behind_call, stand_behind_kind, stand_behind}
-use Rattle.teco_expand.specs.Expansion.{Visit, first_visit, open_behind_kind, open_behind, visit_behind, is_recursion, is_within, next_visit, refusal_at, Walk, walk, walk_while, walk_behind, whole_walk_of, stand_of_visit, all_stands, same_spot, same_spots, same_position, same_stand, number_behind, refusal_of_way, way_numbers, refused_at, node_at, nodes_at, unless_refused, expansion, MOST_ELEMENTS, MOST_OPEN}
-use Rattle.teco_expand.specs.Linked.{IsNext, Lead, IsLinked, ExpansionsAreLinked, ExpansionsAreSmall}
+use Rattle.teco_expand.specs.Expansion.{Visit, first_visit, open_behind_kind, open_behind, visit_behind, is_recursion, is_within, next_visit, register_at, refusal_at, Walk, walk, walk_while, walk_behind, whole_walk_of, stand_of_visit, all_stands, same_spot, same_spots, same_position, same_stand, number_behind, refusal_of_way, way_numbers, refused_at, node_at, nodes_at, unless_refused, expansion, MOST_ELEMENTS, MOST_OPEN}
+use Rattle.teco_expand.specs.Linked.{IsNext, Lead, IsLinked, ExpansionsAreLinked, ExpansionsAreSmall, IsTextOf, NodesHaveTexts}
 use Rattle.teco_expand.proofs.Checks.{ok, bound_way, some_of}
 
 and_left : (a b : Bool) → (a && b) ≡ true → a ≡ true
@@ -126,23 +126,25 @@ numbers_lead library entry w base number v (target ∷ targets) ways h =
     subst (Lead all base number v.stand (target ∷ targets)) (ok _ ways rest.gives) (head, tail)
 
 -- a node that is made of a visit of a number
-pub record Stands (library : Library) (all : List Stand) (number : ℕ) (v : Visit) (node : Node) : Type 0 where
+pub record Stands (library : Library) (entry : ℕ) (all : List Stand) (number : ℕ) (v : Visit) (node : Node) : Type 0 where
   pub linked : IsLinked library all number node
   pub stand : node.stand ≡ v.stand
+  pub register : node.register ≡ register_at entry v
 
 read_there : {X : Type 0} (entry : ℕ) (v : Visit) (r : Result X Reason) (x : X) → refused_at entry v r ≡ Ok x → r ≡ Ok x
 read_there entry v (Ok y) x h = ap Ok (ok y x h)
 read_there entry v (Err reason) x h = absurd (cc)
 
-node_stands : (library : Library) (entry : ℕ) (w : Walk) (number : ℕ) (v : Visit) (node : Node) → node_at library entry w number v ≡ Ok node → Stands library (all_stands w entry) number v node
+node_stands : (library : Library) (entry : ℕ) (w : Walk) (number : ℕ) (v : Visit) (node : Node) → node_at library entry w number v ≡ Ok node → Stands library entry (all_stands w entry) number v node
 unfolding node_at
 node_stands library entry w number v node h =
     let read = bound_way (refused_at entry v (read_at v.stand.position)) _ node h in
     let targets = bound_way (refused_at entry v (ways_at library read.before v.stand.position)) _ node read.gives in
     let ways = bound_way (way_numbers library entry w (base_of read.before number v.stand.iterations) number v targets.before) _ node targets.gives in
     let lead = numbers_lead library entry w (base_of read.before number v.stand.iterations) number v targets.before ways.before ways.was in
-    subst (Stands library (all_stands w entry) number v) (ok _ node ways.gives) (record {
+    subst (Stands library entry (all_stands w entry) number v) (ok _ node ways.gives) (record {
       stand = refl;
+      register = refl;
       linked = record {
         targets = targets.before;
         reads = read_there entry v (read_at v.stand.position) read.before read.was;
@@ -152,15 +154,20 @@ node_stands library entry w number v node h =
       };
     })
 
+abbrev register_of_node : Node → ℕ
+register_of_node node = node.register
+
 -- nodes that are made of visits, one after another
-record AllStand (library : Library) (all : List Stand) (number : ℕ) (vs : List Visit) (nodes : List Node) : Type 0 where
+record AllStand (library : Library) (entry : ℕ) (all : List Stand) (number : ℕ) (vs : List Visit) (nodes : List Node) : Type 0 where
   each : (k : ℕ) (node : Node) → slice_get nodes k ≡ Some node → IsLinked library all (number + k) node
   same : map stand_of_node nodes ≡ map stand_of_visit vs
+  registers : map register_of_node nodes ≡ map (register_at entry) vs
 
-one_more : (library : Library) (all : List Stand) (number : ℕ) (v : Visit) (vs : List Visit) (node : Node) (nodes : List Node) → Stands library all number v node → AllStand library all (number + 1) vs nodes → AllStand library all number (v ∷ vs) (node ∷ nodes)
-one_more library all number v vs node nodes s a = record {
+one_more : (library : Library) (entry : ℕ) (all : List Stand) (number : ℕ) (v : Visit) (vs : List Visit) (node : Node) (nodes : List Node) → Stands library entry all number v node → AllStand library entry all (number + 1) vs nodes → AllStand library entry all number (v ∷ vs) (node ∷ nodes)
+one_more library entry all number v vs node nodes s a = record {
   each = each;
   same = let head : node.stand ≡ v.stand = s.stand in let tail = a.same in cc;
+  registers = let head : node.register ≡ register_at entry v = s.register in let tail = a.registers in cc;
 }
   where
     each : (k : ℕ) (other : Node) → slice_get (node ∷ nodes) k ≡ Some other → IsLinked library all (number + k) other
@@ -172,14 +179,14 @@ one_more library all number v vs node nodes s a = record {
         let e : number + 1 + k ≡ number + suc k = omega arith in
         subst (λ n. IsLinked library all n other) e (a.each k other h)
 
-all_stand : (library : Library) (entry : ℕ) (w : Walk) (number : ℕ) (vs : List Visit) (nodes : List Node) → nodes_at library entry w number vs ≡ Ok nodes → AllStand library (all_stands w entry) number vs nodes
+all_stand : (library : Library) (entry : ℕ) (w : Walk) (number : ℕ) (vs : List Visit) (nodes : List Node) → nodes_at library entry w number vs ≡ Ok nodes → AllStand library entry (all_stands w entry) number vs nodes
 unfolding nodes_at
-all_stand library entry w number [] nodes h = subst (AllStand library (all_stands w entry) number []) (ok [] nodes h) (record { each = λ k node g. absurd (cc); same = refl })
+all_stand library entry w number [] nodes h = subst (AllStand library entry (all_stands w entry) number []) (ok [] nodes h) (record { each = λ k node g. absurd (cc); same = refl; registers = refl })
 all_stand library entry w number (v ∷ vs) nodes h =
     let node = bound_way (node_at library entry w number v) _ nodes h in
     let rest = bound_way (nodes_at library entry w (number + 1) vs) _ nodes node.gives in
-    subst (AllStand library (all_stands w entry) number (v ∷ vs)) (ok _ nodes rest.gives)
-    (one_more library (all_stands w entry) number v vs node.before rest.before (node_stands library entry w number v node.before node.was) (all_stand library entry w (number + 1) vs rest.before rest.was))
+    subst (AllStand library entry (all_stands w entry) number (v ∷ vs)) (ok _ nodes rest.gives)
+    (one_more library entry (all_stands w entry) number v vs node.before rest.before (node_stands library entry w number v node.before node.was) (all_stand library entry w (number + 1) vs rest.before rest.was))
 
 -- what a walk visits: the calls that wait are those of the open registers, down to that of the entry
 abbrev CallersEnd : ℕ → List ℕ → List Spot → Type 0
@@ -191,11 +198,20 @@ abbrev Waits : ℕ → List ℕ → Stand → Type 0
 Waits entry [] stand = stand ≡ beginning entry
 Waits entry (r ∷ registers) stand = CallersEnd entry registers stand.position.callers
 
-record IsSound (entry : ℕ) (v : Visit) : Type 0 where
+-- the texts that are open are those of the open registers, and the command string
+abbrev AreTexts : Library → ℕ → List ℕ → List Spot → Type 0
+AreTexts library entry [] [] = ⊥
+AreTexts library entry [] (spot ∷ []) = spot.text ≡ call_of entry
+AreTexts library entry [] (spot ∷ caller ∷ callers) = ⊥
+AreTexts library entry (r ∷ registers) [] = ⊥
+AreTexts library entry (r ∷ registers) (spot ∷ callers) = (macro library r ≡ Some spot.text) × AreTexts library entry registers callers
+
+record IsSound (library : Library) (entry : ℕ) (v : Visit) : Type 0 where
   waits : Waits entry v.registers v.stand
   deep : length v.stand.iterations ≡ depth v.stand.position
   few : length v.stand.iterations ≤ MOST_OPEN
   few_calls : length v.registers ≤ MOST_OPEN
+  texts : AreTexts library entry v.registers (v.stand.position.running ∷ v.stand.position.callers)
 
 -- the first visit is that of a call
 record IsCall (read : Option Element) : Type 0 where
@@ -326,6 +342,38 @@ waits_behind library entry number None (a ∷ []) r others stand targets h w o e
 waits_behind library entry number None (a ∷ b ∷ registers) r others stand targets h w o e = returned_waits entry b registers stand.position.callers stand.position o
 waits_behind library entry number (Some e') registers r others stand targets h w o e = waits_kind library entry number e'.kind e' registers stand targets h refl w o
 
+-- what follows has such texts, too
+same_text : (library : Library) (entry : ℕ) (registers : List ℕ) (a b : Spot) (callers : List Spot) → a.text ≡ b.text → AreTexts library entry registers (a ∷ callers) → AreTexts library entry registers (b ∷ callers)
+same_text library entry [] a b [] e t = sym e ∙ t
+same_text library entry [] a b (caller ∷ callers) e t = absurd t
+same_text library entry (r ∷ registers) a b callers e t = (t.0 ∙ ap Some e, t.1)
+
+called_texts : (library : Library) (entry r : ℕ) (registers : List ℕ) (text : Option (List ℕ)) (e : Element) (p : Position) (targets : List Position) → macro library r ≡ text → call_ways text e p ≡ Ok targets → AreTexts library entry registers (p.running ∷ p.callers) →
+    (let q = position_in_text text e p in AreTexts library entry (r ∷ registers) (q.running ∷ q.callers))
+called_texts library entry r registers None e p targets m w t = absurd (cc)
+called_texts library entry r registers (Some text) e p targets m w t = (m, same_text library entry registers p.running (past e p).running p.callers refl t)
+
+returned_texts : (library : Library) (entry : ℕ) (registers : List ℕ) (callers : List Spot) (p : Position) → p.callers ≡ callers → AreTexts library entry registers (p.running ∷ callers) →
+    (let q = position_behind_call callers p in AreTexts library entry (drop 1 registers) (q.running ∷ q.callers))
+returned_texts library entry [] [] p c t = subst (λ callers. AreTexts library entry [] (p.running ∷ callers)) (sym c) t
+returned_texts library entry [] (caller ∷ callers) p c t = absurd t
+returned_texts library entry (r ∷ []) [] p c t = absurd t.1
+returned_texts library entry (r ∷ a ∷ registers) [] p c t = absurd t.1
+returned_texts library entry (r ∷ registers) (caller ∷ callers) p c t = t.1
+
+kind_texts : (library : Library) (entry number : ℕ) (k : Kind) (e : Element) (registers : List ℕ) (stand : Stand) (targets : List Position) → element_ways library k e stand.position ≡ Ok targets → AreTexts library entry registers (stand.position.running ∷ stand.position.callers) →
+    (let q = (stand_behind_kind library number k e stand).position in AreTexts library entry (open_behind_kind k registers) (q.running ∷ q.callers))
+kind_texts library entry number (kind.Call c) e registers stand targets w t = called_texts library entry c.register registers (macro library c.register) e stand.position targets refl w t
+kind_texts library entry number (kind.Flow flow.Iterate) e registers stand targets w t = same_text library entry registers stand.position.running _ stand.position.callers refl t
+kind_texts library entry number (kind.Flow flow.EndTurn) e registers stand targets w t = same_text library entry registers stand.position.running _ stand.position.callers refl t
+kind_texts library entry number k e registers stand targets w t = same_text library entry registers stand.position.running _ stand.position.callers refl t
+
+texts_behind : (library : Library) (entry number : ℕ) (read : Option Element) (registers : List ℕ) (stand : Stand) (targets : List Position) → ways_at library read stand.position ≡ Ok targets → AreTexts library entry registers (stand.position.running ∷ stand.position.callers) →
+    (let q = (stand_behind library number read stand).position in AreTexts library entry (open_behind read registers) (q.running ∷ q.callers))
+unfolding ways_at
+texts_behind library entry number None registers stand targets w t = returned_texts library entry registers stand.position.callers stand.position refl t
+texts_behind library entry number (Some e) registers stand targets w t = kind_texts library entry number e.kind e registers stand targets w t
+
 -- and else the end
 no_numbers : (numbers : List ℕ) → length numbers ≡ 0 → numbers ≡ []
 no_numbers [] h = refl
@@ -359,7 +407,7 @@ record Followed (library : Library) (number : ℕ) (all : List Stand) (k : ℕ) 
 
 record IsDone (library : Library) (entry number : ℕ) (vs : List Visit) : Type 0 where
   each : (k : ℕ) (a : Visit) → slice_get vs k ≡ Some a → Followed library (number + k) (map stand_of_visit vs ++ over entry ∷ []) k a
-  sound : (k : ℕ) (a : Visit) → slice_get vs k ≡ Some a → IsSound entry a
+  sound : (k : ℕ) (a : Visit) → slice_get vs k ≡ Some a → IsSound library entry a
   few : number + length vs ≤ MOST_ELEMENTS + 1
 
 -- the tests of what there may be
@@ -371,7 +419,7 @@ counts_few number next h =
       leb-true (length next.stand.iterations) MOST_OPEN (and_right (nat_le number MOST_ELEMENTS && nat_le (length next.registers) MOST_OPEN) (nat_le (length next.stand.iterations) MOST_OPEN) h),
     )
 
-next_sound : (library : Library) (entry number : ℕ) (v next : Visit) (r : ℕ) (others : List ℕ) → IsSound entry v → Next library number v next → next.registers ≡ r ∷ others → IsSound entry next
+next_sound : (library : Library) (entry number : ℕ) (v next : Visit) (r : ℕ) (others : List ℕ) → IsSound library entry v → Next library number v next → next.registers ≡ r ∷ others → IsSound library entry next
 next_sound library entry number v next r others s n h =
     let fits = counts_few number next n.fits in
     record {
@@ -380,6 +428,8 @@ next_sound library entry number v next r others s n h =
       deep = subst (λ (v : Visit). length v.stand.iterations ≡ depth v.stand.position) (sym n.is) (deep_behind library number n.read v.stand n.targets n.goes s.deep);
       few = fits.2;
       few_calls = fits.1;
+      texts = subst (λ (v : Visit). AreTexts library entry v.registers (v.stand.position.running ∷ v.stand.position.callers)) (sym n.is)
+          (texts_behind library entry number n.read v.registers v.stand n.targets n.goes s.texts);
     }
 
 -- visits one after another
@@ -401,7 +451,7 @@ stands_first [] v end h = absurd (cc)
 stands_first (first ∷ vs) v end h = let e : first ≡ v = cc in ap (λ (v : Visit). Some v.stand) e
 
 module _ (library : Library) (entry : ℕ) where
-  last_done : (number : ℕ) (v next : Visit) → IsSound entry v → Next library number v next → next.registers ≡ [] → IsDone library entry number (v ∷ [])
+  last_done : (number : ℕ) (v next : Visit) → IsSound library entry v → Next library number v next → next.registers ≡ [] → IsDone library entry number (v ∷ [])
   last_done number v next s n h = record { each = each; sound = sound; few = omega (arith, (counts_few number next n.fits).0) }
     where
       over_next : stand_behind library number n.read v.stand ≡ over entry
@@ -415,11 +465,11 @@ module _ (library : Library) (entry : ℕ) where
           (subst (λ n'. Followed library n' (v.stand ∷ over entry ∷ []) 0 v) here (record { read = n.read; reads = n.reads; next = ap Some (sym over_next) }))
       each (suc k) a g = absurd (cc)
 
-      sound : (k : ℕ) (a : Visit) → slice_get (v ∷ []) k ≡ Some a → IsSound entry a
-      sound zero a g = let same : v ≡ a = cc in subst (IsSound entry) same s
+      sound : (k : ℕ) (a : Visit) → slice_get (v ∷ []) k ≡ Some a → IsSound library entry a
+      sound zero a g = let same : v ≡ a = cc in subst (IsSound library entry) same s
       sound (suc k) a g = absurd (cc)
 
-  more_done : (number : ℕ) (v next : Visit) (vs : List Visit) → IsSound entry v → Next library number v next → slice_get vs 0 ≡ Some next → IsDone library entry (number + 1) vs → IsDone library entry number (v ∷ vs)
+  more_done : (number : ℕ) (v next : Visit) (vs : List Visit) → IsSound library entry v → Next library number v next → slice_get vs 0 ≡ Some next → IsDone library entry (number + 1) vs → IsDone library entry number (v ∷ vs)
   more_done number v next vs s n first rest = record { each = each; sound = sound; few = omega (arith, rest.few) }
     where
       all : List Stand
@@ -437,23 +487,23 @@ module _ (library : Library) (entry : ℕ) where
           let e : number + 1 + k ≡ number + suc k = omega arith in
           record { read = f.read; reads = f.reads; next = f.next ∙ ap (λ n'. Some (stand_behind library n' f.read a.stand)) e }
 
-      sound : (k : ℕ) (a : Visit) → slice_get (v ∷ vs) k ≡ Some a → IsSound entry a
-      sound zero a g = let same : v ≡ a = cc in subst (IsSound entry) same s
+      sound : (k : ℕ) (a : Visit) → slice_get (v ∷ vs) k ≡ Some a → IsSound library entry a
+      sound zero a g = let same : v ≡ a = cc in subst (IsSound library entry) same s
       sound (suc k) a g = rest.sound k a g
 
-  while_done : (number : ℕ) (registers : List ℕ) (v next : Visit) (rest : Walk) → IsSound entry v → Next library number v next → next.registers ≡ registers → slice_get rest.visits 0 ≡ Some next →
-      (IsSound entry next → rest.refusal ≡ None → IsDone library entry (number + 1) rest.visits) → (walk_while registers v rest).refusal ≡ None → IsDone library entry number (walk_while registers v rest).visits
+  while_done : (number : ℕ) (registers : List ℕ) (v next : Visit) (rest : Walk) → IsSound library entry v → Next library number v next → next.registers ≡ registers → slice_get rest.visits 0 ≡ Some next →
+      (IsSound library entry next → rest.refusal ≡ None → IsDone library entry (number + 1) rest.visits) → (walk_while registers v rest).refusal ≡ None → IsDone library entry number (walk_while registers v rest).visits
   while_done number [] v next rest s n h first later none = last_done number v next s n h
   while_done number (r ∷ registers) v next rest s n h first later none =
       more_done number v next rest.visits s n first (later (next_sound library entry number v next r registers s n h) none)
 
-  behind_done : (number : ℕ) (v : Visit) (r : Result Visit Reason) (on : Visit → Walk) → next_visit library number v ≡ r → IsSound entry v → ((next : Visit) → slice_get (on next).visits 0 ≡ Some next) →
-      ((next : Visit) → IsSound entry next → (on next).refusal ≡ None → IsDone library entry (number + 1) (on next).visits) → (walk_behind entry v r on).refusal ≡ None → IsDone library entry number (walk_behind entry v r on).visits
+  behind_done : (number : ℕ) (v : Visit) (r : Result Visit Reason) (on : Visit → Walk) → next_visit library number v ≡ r → IsSound library entry v → ((next : Visit) → slice_get (on next).visits 0 ≡ Some next) →
+      ((next : Visit) → IsSound library entry next → (on next).refusal ≡ None → IsDone library entry (number + 1) (on next).visits) → (walk_behind entry v r on).refusal ≡ None → IsDone library entry number (walk_behind entry v r on).visits
   behind_done number v (Err reason) on h s first later none = absurd (cc)
   behind_done number v (Ok next) on h s first later none =
       while_done number next.registers v next (on next) s (next_is library number v next h) refl (first next) (later next) none
 
-  done : (more number : ℕ) (v : Visit) → IsSound entry v → (walk more library entry number v).refusal ≡ None → IsDone library entry number (walk more library entry number v).visits
+  done : (more number : ℕ) (v : Visit) → IsSound library entry v → (walk more library entry number v).refusal ≡ None → IsDone library entry number (walk more library entry number v).visits
   unfolding walk
   done zero number v s none = absurd (cc)
   done (suc more) number v s none =
@@ -477,9 +527,20 @@ visited (v ∷ vs) (first ∷ nodes) (suc k) node same h =
     let later = visited vs nodes k node rest h in
     record { visit = later.visit; at = later.at; stand = later.stand }
 
+register_there : (entry : ℕ) (vs : List Visit) (nodes : List Node) (k : ℕ) (v : Visit) (node : Node) → map register_of_node nodes ≡ map (register_at entry) vs → slice_get vs k ≡ Some v → slice_get nodes k ≡ Some node → node.register ≡ register_at entry v
+register_there entry [] nodes k v node same h g = absurd (cc)
+register_there entry (first ∷ vs) [] k v node same h g = absurd (cc)
+register_there entry (w ∷ vs) (first ∷ nodes) zero v node same h g =
+    let e : first ≡ node = cc in
+    let f : w ≡ v = cc in
+    let register : first.register ≡ register_at entry w = cc in
+    ap register_of_node (sym e) ∙ (register ∙ ap (register_at entry) f)
+register_there entry (w ∷ vs) (first ∷ nodes) (suc k) v node same h g =
+    let rest : map register_of_node nodes ≡ map (register_at entry) vs = cc in register_there entry vs nodes k v node rest h g
+
 -- an expansion that is not refused
 record IsExpanded (library : Library) (entry : ℕ) (nodes : List Node) (w : Walk) : Type 0 where
-  made : AllStand library (all_stands w entry) 1 w.visits nodes
+  made : AllStand library entry (all_stands w entry) 1 w.visits nodes
   walked : IsDone library entry 1 w.visits
   first : slice_get w.visits 0 ≡ Some (first_visit entry)
 
@@ -495,7 +556,7 @@ expanded library entry nodes h =
     let ended = bound_way (unless_refused w.refusal) _ nodes made.gives in
     record {
       made = all_stand library entry w 1 w.visits nodes (made.was ∙ ended.gives);
-      walked = done library entry (MOST_ELEMENTS + 1) 1 (first_visit entry) (record { waits = refl; deep = refl; few = omega arith; few_calls = omega arith }) (not_refused w.refusal ended.was);
+      walked = done library entry (MOST_ELEMENTS + 1) 1 (first_visit entry) (record { waits = refl; deep = refl; few = omega arith; few_calls = omega arith; texts = refl }) (not_refused w.refusal ended.was);
       first = begins library entry (MOST_ELEMENTS + 1) 1 (first_visit entry);
     }
 
@@ -523,9 +584,18 @@ module _ (library : Library) (entry : ℕ) (nodes : List Node) (w : Walk) (is : 
       ∙ (ap (λ read. Some (stand_behind library (suc k) read a.visit.stand)) element
       ∙ ap (λ stand. Some (stand_behind library (suc k) node.element stand)) a.stand)))
 
-  visit_of : (k : ℕ) (node : Node) → numbered nodes k ≡ Some node → (v : Visit) × IsSound entry v × (v.stand ≡ node.stand)
+  -- the visit that a node is made of
+  record VisitOf (node : Node) : Type 0 where
+    visit : Visit
+    sound : IsSound library entry visit
+    stand : visit.stand ≡ node.stand
+    register : node.register ≡ register_at entry visit
+
+  visit_of : (k : ℕ) (node : Node) → numbered nodes k ≡ Some node → VisitOf node
   visit_of zero node g = absurd (cc)
-  visit_of (suc k) node g = let a = visited w.visits nodes k node is.made.same g in (a.visit, is.walked.sound k a.visit a.at, a.stand)
+  visit_of (suc k) node g =
+      let a = visited w.visits nodes k node is.made.same g in
+      record { visit = a.visit; sound = is.walked.sound k a.visit a.at; stand = a.stand; register = register_there entry w.visits nodes k a.visit node is.made.registers a.at g }
 
 pub expansions_are_linked : ExpansionsAreLinked
 expansions_are_linked library entry nodes h =
@@ -555,8 +625,25 @@ expansions_are_small library entry nodes h =
       elements = omega (arith, is.walked.few, sym (length-map nodes stand_of_node) ∙ (ap length is.made.same ∙ length-map w.visits stand_of_visit));
       calls = λ k node g.
           let v = visit_of library entry nodes w is k node g in
-          subst (λ (stand : Stand). length stand.position.callers ≤ MOST_OPEN) v.2 (omega (arith, calls_few entry v.0.registers v.0.stand v.1.waits, v.1.few_calls));
+          subst (λ (stand : Stand). length stand.position.callers ≤ MOST_OPEN) v.stand (omega (arith, calls_few entry v.visit.registers v.visit.stand v.sound.waits, v.sound.few_calls));
       iterations = λ k node g.
           let v = visit_of library entry nodes w is k node g in
-          subst (λ (stand : Stand). length stand.iterations ≤ MOST_OPEN) v.2 v.1.few;
+          subst (λ (stand : Stand). length stand.iterations ≤ MOST_OPEN) v.stand v.sound.few;
     }
+
+-- the text of a register is that of the innermost open one
+text_there : (library : Library) (entry : ℕ) (registers : List ℕ) (spot : Spot) (callers : List Spot) → AreTexts library entry registers (spot ∷ callers) → IsTextOf library entry callers (get_or registers 0 entry) spot.text
+text_there library entry [] spot [] t = (refl, t)
+text_there library entry [] spot (caller ∷ callers) t = absurd t
+text_there library entry (r ∷ []) spot [] t = absurd t.1
+text_there library entry (r ∷ a ∷ registers) spot [] t = absurd t.1
+text_there library entry (r ∷ registers) spot (caller ∷ callers) t = t.0
+
+pub nodes_have_texts : NodesHaveTexts
+nodes_have_texts library entry nodes number node h g =
+    let is = expanded library entry nodes h in
+    let v = visit_of library entry nodes (whole_walk_of library entry) is number node g in
+    let p = v.visit.stand.position in
+    subst (λ r. IsTextOf library entry node.stand.position.callers r node.stand.position.running.text) (sym v.register)
+    (subst (λ (stand : Stand). IsTextOf library entry stand.position.callers (register_at entry v.visit) stand.position.running.text) v.stand
+    (text_there library entry v.visit.registers p.running p.callers v.sound.texts))

@@ -1,11 +1,11 @@
 -- What an expansion says of its nodes.
 use Rattle.std.specs.Prelude.{◌≡◌, ◌≢◌, ℕ, suc, ◌<◌, ◌≤◌, length, List, [], ◌∷◌, ⊤, Some, Ok}
 use Rattle.teco_expand.specs.Expansion.{MOST_ELEMENTS, MOST_OPEN, expansion}
-use Rattle.teco_expand.specs.Library.{Library}
+use Rattle.teco_expand.specs.Library.{Library, macro}
 use Rattle.teco_expand.specs.Names.{names_macro}
-use Rattle.teco_expand.specs.Node.{Stand, Node, beginning, stands, numbered, stand_at, base_of}
+use Rattle.teco_expand.specs.Node.{Stand, Node, call_of, beginning, stands, numbered, stand_at, base_of}
 use Rattle.teco_expand.specs.Order.{stand_behind}
-use Rattle.teco_expand.specs.Position.{Position}
+use Rattle.teco_expand.specs.Position.{Spot, Position}
 use Rattle.teco_expand.specs.Ways.{read_at, ways_at}
 
 -- A number is the next ahead of a base that stands so.
@@ -55,3 +55,14 @@ pub record AreFew (nodes : List Node) : Type 0 where
 abbrev pub ExpansionsAreSmall : Type 0
 ExpansionsAreSmall =
     (library : Library) (entry : ℕ) (nodes : List Node) → expansion library entry ≡ Ok nodes → AreFew nodes
+
+-- A node has the register of its text: the entry's where that is called, and else that of a macro.
+abbrev pub IsTextOf : Library → ℕ → List Spot → ℕ → List ℕ → Type 0
+IsTextOf library entry [] register text = (register ≡ entry) × (text ≡ call_of entry)
+IsTextOf library entry (caller ∷ callers) register text = macro library register ≡ Some text
+
+abbrev pub NodesHaveTexts : Type 0
+NodesHaveTexts =
+    (library : Library) (entry : ℕ) (nodes : List Node) (number : ℕ) (node : Node)
+    → expansion library entry ≡ Ok nodes → numbered nodes number ≡ Some node
+    → IsTextOf library entry node.stand.position.callers node.register node.stand.position.running.text

@@ -2,7 +2,7 @@
 ghost use Rattle.teco_expand.specs.Ends.{IterationsEnd, LeftHaveEnded};
 ghost use Rattle.teco_expand.specs.Iterations.{IterationsAreOpen};
 ghost use Rattle.teco_expand.specs.Leading.{WaysLead};
-ghost use Rattle.teco_expand.specs.Linked.{ExpansionsAreLinked, ExpansionsAreSmall};
+ghost use Rattle.teco_expand.specs.Linked.{ExpansionsAreLinked, ExpansionsAreSmall, NodesHaveTexts};
 ghost use Rattle.teco_expand.specs.Loaded.{LoadingLoads, StaysLoaded};
 ghost use Rattle.teco_expand.specs.Places.{NodesHavePlaces};
 ghost use Rattle.teco_expand.specs.Rows.{WorkedExpansions};
@@ -37,6 +37,11 @@ pub fn expansions_are_linked()
 /// An expansion has no more elements, open calls and open iterations than there may be.
 pub fn expansions_are_small()
     ensures { ExpansionsAreSmall }
+{}
+
+/// A node has the register of its text.
+pub fn nodes_have_texts()
+    ensures { NodesHaveTexts }
 {}
 
 /// A node has the place of its element, and a return that of the end of its text.
