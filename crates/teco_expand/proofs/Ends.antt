@@ -394,7 +394,7 @@ module _ (library : Library) (entry : ℕ) (nodes : List Node) (are : AreLinked 
   all_ended target (n ∷ numbers) f = (f n (inl refl), all_ended target numbers (λ b a. f b (inr a)))
 
 pub left_have_ended : LeftHaveEnded
-left_have_ended library entry nodes number node target stand left are h g l s =
+left_have_ended library entry nodes number target left node stand are h g l s =
     all_ended library entry nodes are target (take left node.stand.iterations) (left_ended library entry nodes are number node target stand left h g l s)
 
 pub iterations_end : IterationsEnd

@@ -68,7 +68,7 @@ IterationsEnd = (library : Library) (entry : ℕ) (nodes : List Node) → AreLin
 -- Where fewer iterations are open at a later number than at a node, those that were left ended before it.
 abbrev pub LeftHaveEnded : Type 0
 LeftHaveEnded =
-    (library : Library) (entry : ℕ) (nodes : List Node) (number : ℕ) (node : Node) (target : ℕ) (stand : Stand) (left : ℕ)
+    (library : Library) (entry : ℕ) (nodes : List Node) (number target left : ℕ) (node : Node) (stand : Stand)
     → AreLinked library entry nodes → numbered nodes number ≡ Some node
     → numbered (stands nodes entry) target ≡ Some stand → number < target
     → stand.iterations ≡ drop left node.stand.iterations

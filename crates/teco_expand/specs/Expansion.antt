@@ -65,8 +65,8 @@ is_within number next =
     && nat_le (length next.registers) MOST_OPEN
     && nat_le (length next.stand.iterations) MOST_OPEN
 
--- The visit that follows one of a number. What is read there may be refused, then its ways, then what it calls, and then
--- how much there is.
+-- The visit that follows one of a number. What is read there may be refused, then its ways, then what it calls, and
+-- then how much there is.
 unfoldable pub next_visit : Library → ℕ → Visit → Result Visit Reason
 next_visit library number v = do
   read ← read_at v.stand.position
