@@ -12,14 +12,20 @@ use Rattle.teco_model.specs.declared.kind.Kind.TheVariants as kind
 use Rattle.teco_model.specs.Element.{Element, blank_len, is_blank_pair, blank_end, element_from, element_at}
 use Rattle.teco_model.proofs.Ahead.{Advances, reading_at-advances}
 use Rattle.teco_expand.specs.Library.{Library, macro}
-use Rattle.teco_expand.specs.Linked.{AreLinked}
+use Rattle.teco_expand.specs.Linked.{AreLinked, IsSound, NodesAreSound}
 use Rattle.teco_expand.specs.Node.{Stand, Node, beginning, over}
 use Rattle.teco_expand.specs.Order.{position_in_text, position_behind_call, stand_behind_kind, stand_behind}
 use Rattle.teco_expand.specs.Places.{IsPlaceOf, NodesHavePlaces}
 use Rattle.teco_expand.specs.Position.{Spot, Position, place_at}
-use Rattle.teco_expand.specs.Ways.{read_at}
+use Rattle.teco_expand.specs.Ways.{pattern_parts, as_fault, sound, read_at}
+use Rattle.teco_expand.specs.Refusal as refusal
+use Rattle.teco_expand.proofs.Checks.{ok, bound_way}
 use Rattle.teco_expand.proofs.Iterations.{earlier, first_is, node_stands}
 use Rattle.teco_expand.proofs.StepWays.{read_is}
+
+faultless : {X : Type 0} (r : Result X Code) (x : X) → as_fault r ≡ Ok x → r ≡ Ok x
+faultless (Ok y) x h = ap Ok (ok y x h)
+faultless (Err c) x h = absurd (cc)
 
 -- blanks are within their bytes
 blanks_within : (bytes : List ℕ) → blank_len bytes ≤ length bytes
@@ -107,3 +113,16 @@ pub nodes_have_places : NodesHavePlaces
 nodes_have_places library entry nodes zero node are h = absurd (cc)
 nodes_have_places library entry nodes (suc k) node are h =
     placed node.element node.stand.position (all_in library entry nodes k node are h) (are.each (suc k) node h).reads
+
+-- what is read is sound
+pub nodes_are_sound : NodesAreSound
+unfolding read_at
+nodes_are_sound library all number node linked =
+    (element_read node.stand.position node.element linked.reads, among (element_at node.stand.position.running.text node.stand.position.running.place) node.element linked.reads)
+  where
+    among : (r : Result (Option Element) Code) (read : Option Element) → refusal.◌>>=◌ (as_fault r) (λ read. sound read) ≡ Ok read → IsSound read
+    among (Ok None) read h = subst IsSound (ok None read h) tt
+    among (Ok (Some e)) read h =
+        let p = bound_way (as_fault (pattern_parts e.kind e.text)) _ read h in
+        subst IsSound (ok (Some e) read p.gives) (p.before, faultless (pattern_parts e.kind e.text) p.before p.was)
+    among (Err c) read h = absurd (cc)

@@ -2,19 +2,20 @@
 use Rattle.std.proofs.Common.{◌≡◌, ℕ, zero, suc, List, [], ◌∷◌, ◌++◌, map, Option, Some, None, Ok, refl, sym, ap, ◌∙◌, subst, slice_get}
 use Rattle.teco_model.specs.Element.{Element, blank_len, element_at}
 use Rattle.teco_model.specs.Run.{run, go_on}
-use Rattle.teco_model.specs.State.{State, Outcome, Next, End, Exit, Fail, Absent, start}
-use Rattle.teco_model.specs.Step.{step}
+use Rattle.teco_model.specs.State.{Frame, State, Outcome, Next, End, Exit, Fail, Absent, start}
+use Rattle.teco_model.specs.declared.flow.Loop.{Loop}
+use Rattle.teco_model.specs.Step.{end_outcome, end_of_text, step}
 use Rattle.teco_expand.specs.Library.{Library, IsLoaded}
 use Rattle.teco_expand.specs.Linked.{IsNext, Lead, IsLinked, AreLinked}
 use Rattle.teco_expand.specs.Node.{Stand, Node, call_of, beginning, over, stand_of_node, stands, numbered, stand_at, base_of, base_of_way}
-use Rattle.teco_expand.specs.Position.{Position, position_of, position_of_frames}
-use Rattle.teco_expand.specs.Run.{MovesFrom, Went, Stayed, StepsGoAlongNodes, StandsAt, WritesNoMacro, ComesTo, RunsComeToNodes}
+use Rattle.teco_expand.specs.Position.{Position, start_of, spot_of, position_of, position_of_frames}
+use Rattle.teco_expand.specs.Run.{MovesFrom, Went, Stayed, StepsGoAlongNodes, StandsAt, WritesNoMacro, ComesTo, RunsComeToNodes, RunsEnd}
 use Rattle.teco_expand.specs.Steps as steps
 use Rattle.teco_expand.specs.Steps.{IsLeftAt, Goes, Stays, Moves}
 use Rattle.teco_expand.specs.Ways.{read_at, ways_at}
 use Rattle.teco_expand.proofs.Checks.{ok}
 use Rattle.teco_expand.proofs.StayLoaded.{stays_loaded}
-use Rattle.teco_expand.proofs.StepWays.{steps_go_ways}
+use Rattle.teco_expand.proofs.StepWays.{as_read, steps_go_ways}
 
 -- a way's number
 pub record Numbered (all : List Stand) (base : ℕ) (ways : List ℕ) (way : ℕ) (stand : Stand) : Type 0 where
@@ -147,3 +148,19 @@ runs_come_to_nodes library entry nodes world (suc n) s are l f r =
     let last = last_step (run n (start (call_of entry) world)) s r in
     let before = runs_come_to_nodes library entry nodes world n last.last are l f last.was in
     at_number library entry nodes before.number last.last s are before.there (f n last.last last.was) last.goes
+
+-- the end
+no_loops : (loops : List Loop) → [] ≡ map start_of loops → loops ≡ []
+no_loops [] h = refl
+no_loops (loop ∷ loops) h = absurd (cc)
+
+no_callers : (callers : List Frame) → [] ≡ map spot_of callers → callers ≡ []
+no_callers [] h = refl
+no_callers (caller ∷ callers) h = absurd (cc)
+
+pub runs_end : RunsEnd
+runs_end entry s h =
+    let loops : s.frames.running.loops ≡ [] = no_loops s.frames.running.loops (ap (λ (p : Position). p.running.starts) h) in
+    let callers : s.frames.callers ≡ [] = no_callers s.frames.callers (ap (λ (p : Position). p.callers) h) in
+    as_read s None (ap read_at (sym h) ∙ over_reads entry)
+    ∙ (ap (λ loops. end_of_text loops s) loops ∙ ap (λ callers. end_outcome callers s) callers)

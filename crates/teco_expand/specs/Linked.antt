@@ -1,12 +1,14 @@
 -- What an expansion says of its nodes.
-use Rattle.std.specs.Prelude.{◌≡◌, ◌≢◌, ℕ, suc, ◌<◌, ◌≤◌, length, List, [], ◌∷◌, ⊤, Some, Ok}
+use Rattle.std.specs.Prelude.{◌≡◌, ◌≢◌, ℕ, suc, ◌<◌, ◌≤◌, length, List, [], ◌∷◌, ⊤, Option, Some, None, Ok}
+use Rattle.teco_model.specs.declared.pattern.Part.{Part}
+use Rattle.teco_model.specs.Element.{Element, element_at}
 use Rattle.teco_expand.specs.Expansion.{MOST_ELEMENTS, MOST_OPEN, expansion}
 use Rattle.teco_expand.specs.Library.{Library, macro}
 use Rattle.teco_expand.specs.Names.{names_macro}
 use Rattle.teco_expand.specs.Node.{Stand, Node, call_of, beginning, stands, numbered, stand_at, base_of}
 use Rattle.teco_expand.specs.Order.{stand_behind}
 use Rattle.teco_expand.specs.Position.{Spot, Position}
-use Rattle.teco_expand.specs.Ways.{read_at, ways_at}
+use Rattle.teco_expand.specs.Ways.{pattern_parts, read_at, ways_at}
 
 -- A number is the next ahead of a base that stands so.
 pub record IsNext (all : List Stand) (base : ℕ) (stand : Stand) (number : ℕ) : Type 0 where
@@ -66,3 +68,13 @@ NodesHaveTexts =
     (library : Library) (entry : ℕ) (nodes : List Node) (number : ℕ) (node : Node)
     → expansion library entry ≡ Ok nodes → numbered nodes number ≡ Some node
     → IsTextOf library entry node.stand.position.callers node.register node.stand.position.running.text
+
+-- What is read at a node is an element of its text, or its end; and a search text says a pattern.
+abbrev pub IsSound : Option Element → Type 0
+IsSound None = ⊤
+IsSound (Some e) = (read : List Part) × (pattern_parts e.kind e.text ≡ Ok read)
+
+abbrev pub NodesAreSound : Type 0
+NodesAreSound =
+    (library : Library) (all : List Stand) (number : ℕ) (node : Node) → IsLinked library all number node
+    → (element_at node.stand.position.running.text node.stand.position.running.place ≡ Ok node.element) × IsSound node.element

@@ -2,12 +2,12 @@
 use Rattle.std.specs.Prelude.{◌≡◌, ℕ, List, false, Option, None, Some, Ok, slice_get}
 use Rattle.teco_model.specs.Element.{Element}
 use Rattle.teco_model.specs.Run.{Reaches}
-use Rattle.teco_model.specs.State.{World, State, Next, start}
+use Rattle.teco_model.specs.State.{World, State, Next, End, start}
 use Rattle.teco_model.specs.Step.{step}
 use Rattle.teco_expand.specs.Library.{Library, IsLoaded}
 use Rattle.teco_expand.specs.Linked.{IsNext, AreLinked}
 use Rattle.teco_expand.specs.Names.{writes_macro}
-use Rattle.teco_expand.specs.Node.{Stand, Node, call_of, stands, numbered, stand_at, base_of, base_of_way}
+use Rattle.teco_expand.specs.Node.{Stand, Node, call_of, over, stands, numbered, stand_at, base_of, base_of_way}
 use Rattle.teco_expand.specs.Position.{position_of}
 use Rattle.teco_expand.specs.Steps.{IsLeftAt, Stays}
 use Rattle.teco_expand.specs.Was.{StepWas}
@@ -59,3 +59,7 @@ RunsComeToNodes =
     → AreLinked library entry nodes → IsLoaded library world.kept
     → ((m : ℕ) (u : State) → Reaches m (start (call_of entry) world) u → WritesNoMacro library u)
     → Reaches n (start (call_of entry) world) s → ComesTo library (stands nodes entry) s
+
+-- Where a run stands at the end, the next step is the end of the command string.
+abbrev pub RunsEnd : Type 0
+RunsEnd = (entry : ℕ) (s : State) → (over entry).position ≡ position_of s → step s ≡ End s.world

@@ -2,11 +2,11 @@
 ghost use Rattle.teco_expand.specs.Ends.{IterationsEnd, LeftHaveEnded};
 ghost use Rattle.teco_expand.specs.Iterations.{IterationsAreOpen};
 ghost use Rattle.teco_expand.specs.Leading.{WaysLead};
-ghost use Rattle.teco_expand.specs.Linked.{ExpansionsAreLinked, ExpansionsAreSmall, NodesHaveTexts};
+ghost use Rattle.teco_expand.specs.Linked.{ExpansionsAreLinked, ExpansionsAreSmall, NodesAreSound, NodesHaveTexts};
 ghost use Rattle.teco_expand.specs.Loaded.{LoadingLoads, StaysLoaded};
 ghost use Rattle.teco_expand.specs.Places.{NodesHavePlaces};
 ghost use Rattle.teco_expand.specs.Rows.{WorkedExpansions};
-ghost use Rattle.teco_expand.specs.Run.{RunsComeToNodes, StepsGoAlongNodes};
+ghost use Rattle.teco_expand.specs.Run.{RunsComeToNodes, RunsEnd, StepsGoAlongNodes};
 ghost use Rattle.teco_expand.specs.Steps.{StepsGoWays};
 
 /// The definition gives the expansions that are worked by hand.
@@ -37,6 +37,11 @@ pub fn expansions_are_linked()
 /// An expansion has no more elements, open calls and open iterations than there may be.
 pub fn expansions_are_small()
     ensures { ExpansionsAreSmall }
+{}
+
+/// What is read at a linked node is an element of its text, or its end, and a search text there says a pattern.
+pub fn nodes_are_sound()
+    ensures { NodesAreSound }
 {}
 
 /// A node has the register of its text.
@@ -77,4 +82,9 @@ pub fn steps_go_along_nodes()
 /// A run of a macro stands at linked nodes alone, and at the end.
 pub fn runs_come_to_nodes()
     ensures { RunsComeToNodes }
+{}
+
+/// Where a run stands at the end, the next step is the end of the command string.
+pub fn runs_end()
+    ensures { RunsEnd }
 {}
