@@ -77,4 +77,5 @@ IsSound (Some e) = (read : List Part) × (pattern_parts e.kind e.text ≡ Ok rea
 abbrev pub NodesAreSound : Type 0
 NodesAreSound =
     (library : Library) (all : List Stand) (number : ℕ) (node : Node) → IsLinked library all number node
-    → (element_at node.stand.position.running.text node.stand.position.running.place ≡ Ok node.element) × IsSound node.element
+    → (element_at node.stand.position.running.text node.stand.position.running.place ≡ Ok node.element)
+    × IsSound node.element
