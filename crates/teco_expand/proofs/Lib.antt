@@ -1,0 +1,15 @@
+mod Checks
+mod Turns
+mod FlowWays
+mod StepWays
+mod Linking
+mod Texts
+mod Keeping
+mod KeepingPages
+mod StayLoaded
+mod Iterations
+mod Leading
+mod Runs
+mod Ends
+mod Places
+mod Worked
