@@ -1,0 +1,21 @@
+-- The definition of what the verifier knows and demands, and the laws of it, a file a subject.
+pub mod Attempt
+pub mod Values
+pub mod Arguments
+pub mod Facts
+pub mod Shifts
+pub mod Motions
+pub mod Deletions
+pub mod Insertions
+pub mod Typings
+pub mod Storages
+pub mod Queries
+pub mod Ways
+pub mod Joins
+pub mod Searches
+pub mod Flows
+pub mod Pages
+pub mod Transfer
+pub mod Covers
+pub mod Bodies
+pub mod Printed
