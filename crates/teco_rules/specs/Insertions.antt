@@ -1,5 +1,6 @@
 -- I and TAB.
 use Rattle.std.specs.Prelude.{ℕ, ℤ, pos, ◌+◌, List, [], ◌∷◌, length, Option, Some, None, Result, Ok, Err}
+use Rattle.teco_base.specs.declared.bytes.TheConstants.{TAB}
 use Rattle.teco_model.specs.declared.kind.Insertion.{Insertion}
 use Rattle.teco_model.specs.declared.kind.Insertion.TheVariants.{Text, Tab}
 use Rattle.teco_poly.specs.Polynomial.{Polynomial, number}
@@ -25,7 +26,7 @@ abbrev pub insertion_with : Insertion → List ℕ → Option Value → Facts �
 insertion_with Text text None facts = insertion_of_length (length text) facts
 insertion_with Text [] (Some n) facts = insertion_of_length 1 facts
 insertion_with Text (c ∷ text) (Some n) facts = Err refusal.Argument
-insertion_with Tab text None facts = insertion_of_length (1 + length text) facts
+insertion_with Tab text None facts = insertion_of_length (length (TAB ∷ text)) facts
 insertion_with Tab text (Some n) facts = Err refusal.Argument
 
 abbrev pub insertion : Insertion → List ℕ → KnownTaken → Facts → Result Foreseen Refusal

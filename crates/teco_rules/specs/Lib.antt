@@ -19,3 +19,5 @@ pub mod Transfer
 pub mod Covers
 pub mod Bodies
 pub mod Printed
+pub mod Describes
+pub mod Sound
