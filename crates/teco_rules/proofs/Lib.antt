@@ -11,3 +11,6 @@ pub mod Each
 pub mod Registers
 pub mod Asking
 pub mod Transfers
+pub mod Ways
+pub mod Flowing
+pub mod Covering

@@ -132,7 +132,7 @@ module _ (distances : Distances) (s t : Value) (fore back : ℕ) (v w : ℤ) (b 
   difference_in = let r = ranged in linear_or_in _ _ (interval_difference (interval_of distances s) (interval_of distances t)) fore back (v -ℤ w) refl b.within (minus_in s t fore back v w h i) (record { low = omega (arith, ints, r); high = omega (arith, ints, r) })
 
 -- ---- products
-scaled_le : (n : ℕ) (a b : ℤ) → a ≤ℤ b → (pos n *ℤ a) ≤ℤ (pos n *ℤ b)
+pub scaled_le : (n : ℕ) (a b : ℤ) → a ≤ℤ b → (pos n *ℤ a) ≤ℤ (pos n *ℤ b)
 scaled_le zero a b h = rw (zero-*ℤ a, zero-*ℤ b) (omega (arith, ints))
 scaled_le (suc n) a b h = omega (arith, ints, suc_ℤ-*ℤ (pos n) a, suc_ℤ-*ℤ (pos n) b, scaled_le n a b h)
 

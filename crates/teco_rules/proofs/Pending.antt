@@ -6,6 +6,8 @@ use Rattle.teco_base.specs.Arithmetic.{and, or}
 use Rattle.teco_base.specs.declared.code.Code.{Code}
 use Rattle.teco_base.specs.declared.code.Code.TheVariants as code
 use Rattle.teco_model.specs.Arguments as model
+use Rattle.teco_model.specs.Checked.{◌>>=◌ as ◌>>>=◌}
+use Rattle.teco_model.specs.Effect.{needed_value}
 use Rattle.teco_model.specs.declared.arguments.Level.{Level}
 use Rattle.teco_model.specs.declared.arguments.Operator.{Operator}
 use Rattle.teco_model.specs.declared.arguments.Operator.TheVariants.{Plus, Minus, Times, Over, And, Or}
@@ -13,6 +15,7 @@ use Rattle.teco_rules.proofs.Numbers.{AreDistances, interval_of_in, value_in_in,
 use Rattle.teco_rules.proofs.Quotients.{divided_covers, bitwise_in, and_fits, or_fits}
 use Rattle.teco_rules.proofs.Steps.{Covers, covers_then}
 use Rattle.teco_rules.specs.Arguments as known
+use Rattle.teco_rules.specs.Attempt.{◌>>=◌}
 use Rattle.teco_rules.specs.Arguments.{KnownLevel, KnownArguments}
 use Rattle.teco_rules.specs.Describes.{IsOptional, IsLevel, ArePending, AreEach, IsTaken}
 use Rattle.teco_rules.specs.Values.{single, interval_of, IsValue}
@@ -144,7 +147,10 @@ module _ (distances : Distances) (fore back : ℕ) (b : AreDistances distances f
   taken_covers k level i =
       covers_then (IsOptional (IsValue fore back)) (IsTaken fore back) _ _ _ _ (finished_covers k level i) (λ s v h. paired_covers k.first s level.first v i.first h)
 
--- Ranges are true wherever the pointer is.
+  pub needed_covers : (k : KnownLevel) (level : Level) → IsLevel fore back k level → Covers (IsValue fore back) (known.arguments_of k >>= λ taken. known.needed_value taken.value) (model.arguments_of level >>>= λ taken. needed_value taken.value)
+  needed_covers k level i = covers_then (IsTaken fore back) (IsValue fore back) _ _ _ _ (taken_covers k level i) (λ known taken j. the_value known.value taken.value j.value)
+
+-- Intervals are true wherever the pointer is.
 module _ (distances : Distances) (fore back fore' back' : ℕ) (b : AreDistances distances fore back) where
   settled_value_is : (value : Option Value) (n : Option ℤ) → IsOptional (IsValue fore back) value n → IsOptional (IsValue fore' back') (known.settled_value distances value) n
   settled_value_is None None h = tt

@@ -42,25 +42,22 @@ needed_taken facts = do
   needed_value taken.value
 
 -- The most that a value is, as a polynomial: of Z, of the pointer and of both together by what is held, of Z-. by what is
--- ahead, and 0 at the least.
-abbrev pub bound_by : ℤ → ℤ → ℕ → Facts → Result Polynomial Refusal
-bound_by (pos (suc zero)) (pos (suc zero)) k facts = sum_of facts.held (number k)
-bound_by (pos zero) (pos (suc zero)) k facts = sum_of facts.held (number k)
-bound_by (pos (suc zero)) (pos zero) k facts = sum_of facts.position.ahead (number k)
-bound_by (pos (suc zero)) (pos (suc (suc zero))) k facts = do
+-- ahead, of a value in which neither distance counts positively by its constant, and of any other by its interval; 0 at the
+-- least.
+abbrev pub bound_by : ℤ → ℤ → ℕ → ℕ → Facts → Result Polynomial Refusal
+bound_by (pos (suc zero)) (pos (suc zero)) k most facts = sum_of facts.held (number k)
+bound_by (pos zero) (pos (suc zero)) k most facts = sum_of facts.held (number k)
+bound_by (pos (suc zero)) (pos zero) k most facts = sum_of facts.position.ahead (number k)
+bound_by (pos (suc zero)) (pos (suc (suc zero))) k most facts = do
   both ← sum_of facts.held facts.held
   sum_of both (number k)
-bound_by ahead behind k facts = Ok (number k)
-
--- no distance counts positively but in those four
-abbrev pub is_bounded : ℤ → ℤ → Bool
-is_bounded (pos (suc zero)) (pos (suc (suc zero))) = true
-is_bounded ahead behind = int_le ahead (pos 1) && int_le behind (pos 1)
+bound_by ahead behind k most facts =
+    Ok (number (if int_le ahead (pos 0) && int_le behind (pos 0) then k else most))
 
 abbrev pub bound_of : Value → Facts → Result Polynomial Refusal
 bound_of s facts =
-    if is_bounded s.ahead s.behind then bound_by s.ahead s.behind (positive s.hi) facts
-    else Ok (number (positive (interval_of facts.position.distances s).hi))
+    let most = positive (interval_of facts.position.distances s).hi in
+    bound_by s.ahead s.behind (positive s.hi) most facts
 
 -- The turns of an iteration: at most its count, or without one what is ahead and one more.
 abbrev pub turns_of : Option Value → Facts → Result Polynomial Refusal

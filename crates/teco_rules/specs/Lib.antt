@@ -21,3 +21,5 @@ pub mod Bodies
 pub mod Printed
 pub mod Describes
 pub mod Sound
+pub mod SoundFlow
+pub mod SoundBodies

@@ -1,6 +1,8 @@
 //! Laws of what elements do to what is known: where the transfer gives facts that fit, the machine comes to a state that
 //! they describe, without a code.
 ghost use Rattle.teco_rules.specs.Sound.{ArgumentsAreSound, ValuesAreSound, CommandsAreSound, QueriesAreSound, StacksAreSound};
+ghost use Rattle.teco_rules.specs.SoundFlow.{WaysAreSound, TestsAreSound, LeavesAreSound, IterationsAreSound, TurnsAreSound, TurnEndsAreSound, TagsAreSound, OthersAreSound};
+ghost use Rattle.teco_rules.specs.SoundBodies.{CoversAreSound};
 
 /// Digits, operators, parentheses, comma and ESC.
 pub fn arguments_are_sound()
@@ -25,4 +27,49 @@ pub fn queries_are_sound()
 /// The push-down list.
 pub fn stacks_are_sound()
     ensures { StacksAreSound }
+{}
+
+/// The way that a number takes is reached, and what is known on it holds.
+pub fn ways_are_sound()
+    ensures { WaysAreSound }
+{}
+
+/// A conditional goes on where its test holds, and else away.
+pub fn tests_are_sound()
+    ensures { TestsAreSound }
+{}
+
+/// Semicolons go on, or leave their iteration.
+pub fn leaves_are_sound()
+    ensures { LeavesAreSound }
+{}
+
+/// An iteration is entered, or skipped where its count begins no turn.
+pub fn iterations_are_sound()
+    ensures { IterationsAreSound }
+{}
+
+/// An iteration takes no more turns than are known; without a count what is ahead is less.
+pub fn turns_are_sound()
+    ensures { TurnsAreSound }
+{}
+
+/// A turn that ends goes back, or on behind its iteration.
+pub fn turn_ends_are_sound()
+    ensures { TurnEndsAreSound }
+{}
+
+/// O goes to its tag.
+pub fn tags_are_sound()
+    ensures { TagsAreSound }
+{}
+
+/// The other elements of flow, calls and returns change nothing.
+pub fn others_are_sound()
+    ensures { OthersAreSound }
+{}
+
+/// What covers facts that describe a state describes it.
+pub fn covers_are_sound()
+    ensures { CoversAreSound }
 {}
