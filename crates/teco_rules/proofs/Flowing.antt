@@ -60,7 +60,7 @@ always : {X Y : Type 0} (P : X → Y → Type 0) (r : Result X Refusal) (y : Y) 
 always P (Ok x) y h = h x
 always P (Err e) y h = tt
 
-each_dropped : {X Y : Type 0} (P : X → Y → Type 0) (count : ℕ) (xs : List X) (ys : List Y) → AreEach P xs ys → AreEach P (drop count xs) (drop count ys)
+pub each_dropped : {X Y : Type 0} (P : X → Y → Type 0) (count : ℕ) (xs : List X) (ys : List Y) → AreEach P xs ys → AreEach P (drop count xs) (drop count ys)
 each_dropped P zero xs ys h = h
 each_dropped P (suc count) [] [] h = tt
 each_dropped P (suc count) (x ∷ xs) (y ∷ ys) h = each_dropped P count xs ys h.1
@@ -86,7 +86,7 @@ module _ (run : Run) (facts : Facts) (unread : ℕ) (kept : Kept) (arguments : m
   number_told : Covers (λ s v. IsTold run facts.answer s (fore_of kept) (back_of kept) unread v) (needed_taken facts) (number_in arguments.level)
   number_told = told_by run facts.answer (fore_of kept) (back_of kept) unread arguments.level _ d.answers (needed_covers facts.position.distances (fore_of kept) (back_of kept) now facts.arguments.level arguments.level d.pending.level)
 
-  taken_are : ArePending (fore_of kept) (back_of kept) (facts_taken facts).arguments (model.levels_after_taking arguments)
+  pub taken_are : ArePending (fore_of kept) (back_of kept) (facts_taken facts).arguments (model.levels_after_taking arguments)
   taken_are = record { level = empty_is facts.position.distances (fore_of kept) (back_of kept) now; outer = d.pending.outer }
 
   -- ---- ways
@@ -94,7 +94,7 @@ module _ (run : Run) (facts : Facts) (unread : ℕ) (kept : Kept) (arguments : m
   reached None i = i
   reached (Some p) i = let h = d.state in record { state = record { position = i; held = h.held; registers = h.registers; pushed = h.pushed }; pending = taken_are; answers = tt }
 
-  behind : (count : ℕ) (p : Position) (state : Facts) → IsAt run p (fore_of kept) (back_of kept) unread → state.held ≡ facts.held → state.numbers ≡ facts.numbers → state.texts ≡ facts.texts → state.pushes ≡ facts.pushes → Describes (run_behind count run) (leaving count (at_position p state)) unread kept model.no_arguments
+  pub behind : (count : ℕ) (p : Position) (state : Facts) → IsAt run p (fore_of kept) (back_of kept) unread → state.held ≡ facts.held → state.numbers ≡ facts.numbers → state.texts ≡ facts.texts → state.pushes ≡ facts.pushes → Describes (run_behind count run) (leaving count (at_position p state)) unread kept model.no_arguments
   behind count p state i e f g k = let h = d.state in record {
     state = record {
       position = record { begin = i.begin; end = i.end; fallen = each_dropped (HasFallen (fore_of kept + unread)) count p.falls run.turns i.fallen; ahead = i.ahead };

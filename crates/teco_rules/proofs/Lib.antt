@@ -14,3 +14,6 @@ pub mod Transfers
 pub mod Ways
 pub mod Flowing
 pub mod Covering
+pub mod Meeting
+pub mod Matching
+pub mod Searching

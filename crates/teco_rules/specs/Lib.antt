@@ -22,4 +22,5 @@ pub mod Printed
 pub mod Describes
 pub mod Sound
 pub mod SoundFlow
+pub mod SoundSearch
 pub mod SoundBodies

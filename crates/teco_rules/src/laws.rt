@@ -2,6 +2,7 @@
 //! they describe, without a code.
 ghost use Rattle.teco_rules.specs.Sound.{ArgumentsAreSound, ValuesAreSound, CommandsAreSound, QueriesAreSound, StacksAreSound};
 ghost use Rattle.teco_rules.specs.SoundFlow.{WaysAreSound, TestsAreSound, LeavesAreSound, IterationsAreSound, TurnsAreSound, TurnEndsAreSound, TagsAreSound, OthersAreSound};
+ghost use Rattle.teco_rules.specs.SoundSearch.{SearchesAreSound};
 ghost use Rattle.teco_rules.specs.SoundBodies.{CoversAreSound};
 
 /// Digits, operators, parentheses, comma and ESC.
@@ -72,4 +73,9 @@ pub fn others_are_sound()
 /// What covers facts that describe a state describes it.
 pub fn covers_are_sound()
     ensures { CoversAreSound }
+{}
+
+/// What is known of a search in the buffer is true where it found, and where it failed.
+pub fn searches_are_sound()
+    ensures { SearchesAreSound }
 {}
