@@ -54,7 +54,7 @@ each_covered covers P Q k [] (e ∷ es) ys c h = absurd (cc)
 each_covered covers P Q k (x ∷ xs) [] ys c h = absurd (cc)
 
 -- ---- values
-interval_covered : (i j : Interval) (v : ℤ) → IsTrue (covers_interval i j) → IsWithin j v → IsWithin i v
+pub interval_covered : (i j : Interval) (v : ℤ) → IsTrue (covers_interval i j) → IsWithin j v → IsWithin i v
 interval_covered i j v c h = let p = and_both _ _ c in record { low = omega (arith, ints, le_holds i.lo j.lo p.0, h); high = omega (arith, ints, le_holds j.hi i.hi p.1, h) }
 
 module _ (d : Distances) (fore back : ℕ) (b : AreDistances d fore back) where
@@ -138,10 +138,10 @@ answers_covered run (Some answer) (Some edge) fore back unread level c (v, e, i)
 answers_covered run (Some answer) None fore back unread level c h = absurd (cc)
 
 -- ---- registers
-length_covered : (n : ℕ) (most edge : Polynomial) (pair : Pair) → IsTrue (covers_length most edge) → length pair.text ≤ value edge n → length pair.text ≤ value most n
+pub length_covered : (n : ℕ) (most edge : Polynomial) (pair : Pair) → IsTrue (covers_length most edge) → length pair.text ≤ value edge n → length pair.text ≤ value most n
 length_covered n most edge pair c h = omega (arith, values_compare edge most n c, h)
 
-pushed_covered : (n : ℕ) (below : List Pair) (known edge : List Pushed) (stack : List Pair) → IsTrue (each_covers covers_pushed known edge) → ArePushed n below edge stack → ArePushed n below known stack
+pub pushed_covered : (n : ℕ) (below : List Pair) (known edge : List Pushed) (stack : List Pair) → IsTrue (each_covers covers_pushed known edge) → ArePushed n below edge stack → ArePushed n below known stack
 pushed_covered n below [] [] stack c h = h
 pushed_covered n below (s ∷ known) (t ∷ edge) (pair ∷ stack) c h =
     let p = and_both _ _ c in

@@ -24,13 +24,13 @@ use Rattle.teco_rules.proofs.Steps.{Covers, covers_leads}
 use Rattle.teco_rules.proofs.Transfers.{without_answer, pending_again}
 use Rattle.teco_rules.proofs.Ways.{IsOn, told_on, within_may}
 use Rattle.teco_rules.specs.Arguments as known
-use Rattle.teco_rules.specs.Arguments.{KnownTaken}
+use Rattle.teco_rules.specs.Arguments.{KnownLevel, KnownTaken}
 use Rattle.teco_rules.specs.Attempt.{◌>>=◌}
 use Rattle.teco_rules.specs.Deletions.{positive}
-use Rattle.teco_rules.specs.Describes.{Run, IsWhole, Holds, IsAt, IsAnswer, Answers, Describes, AreEach, HasFallen, IsTaken, IsOptional, ArePending, fore_of, back_of}
+use Rattle.teco_rules.specs.Describes.{Run, IsWhole, Holds, IsAt, IsAnswer, Answers, Describes, AreEach, HasFallen, IsLevel, IsTaken, IsOptional, ArePending, fore_of, back_of}
 use Rattle.teco_rules.specs.Facts.{Position, Answer, Facts, Iteration, sum_of, at_position, with_arguments, without_arguments}
 use Rattle.teco_rules.specs.Flows.{Edges, needed_taken, facts_taken, leaving, entering, begun, iteration, leaving_numbers, turns, turns_of, bound_by, bound_of, without_value, turn_end}
-use Rattle.teco_rules.specs.Joins.{none_pending}
+use Rattle.teco_rules.specs.Joins.{is_empty, none_pending}
 use Rattle.teco_rules.specs.Sound.{Leads}
 use Rattle.teco_rules.specs.SoundFlow.{Tells, IsReached, IsTold, run_behind, run_in_turn, number_needed, TestsAreSound, LeavingOr, LeavesAreSound, EntersOr, IterationsAreSound, AreTurns, TurnsAreSound, EndsTurn, TurnEndsAreSound, TagsAreSound, PassOn, OthersAreSound}
 use Rattle.teco_rules.specs.Transfer as transfers
@@ -50,6 +50,10 @@ tells_then P Q (Err e) c f h k = tt
 passes : {X Y A : Type 0} (Q : A → Y → Type 0) (r : Result X Refusal) (c : Result Y Code) (f : X → Result A Refusal) → ((x : X) → Tells Q (f x) c) → Tells Q (r >>= f) c
 passes Q (Ok x) c f k = k x
 passes Q (Err e) c f k = tt
+
+passes_with : {X Y A : Type 0} (P : X → Type 0) (Q : A → Y → Type 0) (r : Result X Refusal) (c : Result Y Code) (f : X → Result A Refusal) → IfOk r P → ((x : X) → P x → Tells Q (f x) c) → Tells Q (r >>= f) c
+passes_with P Q (Ok x) c f h k = k x h
+passes_with P Q (Err e) c f h k = tt
 
 weaker : {X Y : Type 0} (P Q : X → Y → Type 0) (r : Result X Refusal) (c : Result Y Code) → ((x : X) (y : Y) → P x y → Q x y) → Covers P r c → Covers Q r c
 weaker P Q (Ok x) (Ok y) k h = k x y h
@@ -177,33 +181,44 @@ module _ (run : Run) (facts : Facts) (unread : ℕ) (kept : Kept) (arguments : m
 
   -- <
   abbrev taken_facts : Facts
-  taken_facts = facts_taken (transfers.without_answer facts)
+  taken_facts = without_arguments (transfers.without_answer facts)
 
-  entered : (counted : Bool) → Describes (run_in_turn unread kept run) (entering counted taken_facts) unread kept (model.levels_after_taking arguments)
-  entered counted = let h = d.state in record {
+  -- nothing else is pending there
+  abbrev NoneLeft : Type 0
+  NoneLeft = ArePending (fore_of kept) (back_of kept) known.no_arguments (model.levels_after_taking arguments)
+
+  none_with : (outer : List KnownLevel) → AreEach (IsLevel (fore_of kept) (back_of kept)) outer arguments.outer → IfOk (cond (is_empty outer) (Ok tt) (Err refusal.Pending)) (λ (u : Unit {0}). NoneLeft)
+  none_with [] h = record { level = empty_is facts.position.distances (fore_of kept) (back_of kept) now; outer = h }
+  none_with (level ∷ outer) h = tt
+
+  none_left : IfOk (none_pending (known.levels_after_taking facts.arguments)) (λ u. NoneLeft)
+  none_left = none_with facts.arguments.outer d.pending.outer
+
+  entered : (counted : Bool) → NoneLeft → Describes (run_in_turn unread kept run) (entering counted taken_facts) unread kept (model.levels_after_taking arguments)
+  entered counted none = let h = d.state in record {
     state = record {
       position = record { begin = h.position.begin; end = h.position.end; fallen = (omega (arith, ints), h.position.fallen); ahead = h.position.ahead };
       held = h.held;
       registers = let r = h.registers in record { numbers = r.numbers; texts = r.texts };
       pushed = h.pushed;
     };
-    pending = taken_are;
+    pending = none;
     answers = tt;
   }
 
-  skipped : Describes run taken_facts unread kept (model.levels_after_taking arguments)
-  skipped = record { state = let h = d.state in record { position = h.position; held = h.held; registers = h.registers; pushed = h.pushed }; pending = taken_are; answers = tt }
+  skipped : NoneLeft → Describes run taken_facts unread kept (model.levels_after_taking arguments)
+  skipped none = record { state = let h = d.state in record { position = h.position; held = h.held; registers = h.registers; pushed = h.pushed }; pending = none; answers = tt }
 
   of_value : (s : Value) (v : ℤ) → IsValue (fore_of kept) (back_of kept) s v → IsWithin (interval_of facts.position.distances s) v
   of_value s v i = interval_of_in s facts.position.distances (fore_of kept) (back_of kept) v now.least (omega (arith, now.within)) (omega (arith, now.within)) i.is
 
-  enters : (o : Option Value) (v : Option ℤ) → IsOptional (IsValue (fore_of kept) (back_of kept)) o v → EntersOr run unread kept arguments v (iteration o taken_facts)
-  enters None None i = entered false
-  enters (Some s) (Some (pos (suc n))) i = rw (within_may Positive (interval_of facts.position.distances s) (pos (suc n)) (of_value s (pos (suc n)) i) (omega (arith, ints))) (entered true)
-  enters (Some s) (Some (pos zero)) i = rw (within_may NotPositive (interval_of facts.position.distances s) (pos zero) (of_value s (pos zero) i) (omega (arith, ints))) skipped
-  enters (Some s) (Some (negsuc n)) i = rw (within_may NotPositive (interval_of facts.position.distances s) (negsuc n) (of_value s (negsuc n) i) (omega (arith, ints))) skipped
-  enters None (Some v) i = absurd i
-  enters (Some s) None i = absurd i
+  enters : (o : Option Value) (v : Option ℤ) → NoneLeft → IsOptional (IsValue (fore_of kept) (back_of kept)) o v → EntersOr run unread kept arguments v (iteration o taken_facts)
+  enters None None none i = entered false none
+  enters (Some s) (Some (pos (suc n))) none i = rw (within_may Positive (interval_of facts.position.distances s) (pos (suc n)) (of_value s (pos (suc n)) i) (omega (arith, ints))) (entered true none)
+  enters (Some s) (Some (pos zero)) none i = rw (within_may NotPositive (interval_of facts.position.distances s) (pos zero) (of_value s (pos zero) i) (omega (arith, ints))) (skipped none)
+  enters (Some s) (Some (negsuc n)) none i = rw (within_may NotPositive (interval_of facts.position.distances s) (negsuc n) (of_value s (negsuc n) i) (omega (arith, ints))) (skipped none)
+  enters None (Some v) none i = absurd i
+  enters (Some s) None none i = absurd i
 
   -- the turns: what a value is at most
   bounded_sum : (p : Polynomial) (k : ℕ) (v : ℤ) → v ≤ℤ (pos (value p run.n) +ℤ pos k) → IfOk (sum_of p (number k)) (λ most. v ≤ℤ pos (value most run.n))
@@ -270,8 +285,8 @@ module _ (run : Run) (facts : Facts) (unread : ℕ) (kept : Kept) (arguments : m
   iterated : Tells (λ edges (taken : Taken). EntersOr run unread kept arguments taken.value edges) (known.arguments_of facts.arguments.level >>= λ taken. none_pending (known.levels_after_taking facts.arguments) >>= λ alone. turns_of taken.value (transfers.without_answer facts) >>= λ most. Ok (iteration taken.value taken_facts)) (model.arguments_of arguments.level)
   iterated =
       tells_then (IsTaken (fore_of kept) (back_of kept)) (λ edges (taken : Taken). EntersOr run unread kept arguments taken.value edges) _ _ _ taking_is (λ own taken i.
-      passes (λ edges (taken : Taken). EntersOr run unread kept arguments taken.value edges) (none_pending (known.levels_after_taking facts.arguments)) (Ok taken) (λ alone. turns_of own.value (transfers.without_answer facts) >>= λ most. Ok (iteration own.value taken_facts)) (λ alone.
-      passes (λ edges (taken : Taken). EntersOr run unread kept arguments taken.value edges) (turns_of own.value (transfers.without_answer facts)) (Ok taken) (λ most. Ok (iteration own.value taken_facts)) (λ most l. enters own.value taken.value i.value)))
+      passes_with (λ (u : Unit {0}). NoneLeft) (λ edges (taken : Taken). EntersOr run unread kept arguments taken.value edges) (none_pending (known.levels_after_taking facts.arguments)) (Ok taken) (λ alone. turns_of own.value (transfers.without_answer facts) >>= λ most. Ok (iteration own.value taken_facts)) none_left (λ alone none.
+      passes (λ edges (taken : Taken). EntersOr run unread kept arguments taken.value edges) (turns_of own.value (transfers.without_answer facts)) (Ok taken) (λ most. Ok (iteration own.value taken_facts)) (λ most l. enters own.value taken.value none i.value)))
 
   -- >
   at_end : (i : Iteration) (outer : List Iteration) → EndsTurn run unread kept i.counted (record { on = cond i.counted (Some (leaving 1 (transfers.without_answer facts))) None; away = Some (at_position (begun (drop 1 facts.position.falls) facts.position) (without_arguments (transfers.without_answer facts))) })

@@ -17,3 +17,4 @@ pub mod Covering
 pub mod Meeting
 pub mod Matching
 pub mod Searching
+pub mod Bodies

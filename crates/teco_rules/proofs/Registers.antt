@@ -45,10 +45,10 @@ use Rattle.teco_rules.specs.declared.values.Interval.{Interval}
 use Rattle.teco_rules.specs.declared.values.Value.{Value}
 
 -- what is known of a pair's number, and of its text
-abbrev IsNumber : Interval → Pair → Type 0
+abbrev pub IsNumber : Interval → Pair → Type 0
 IsNumber i pair = IsWithin i pair.number
 
-abbrev IsText : ℕ → Polynomial → Pair → Type 0
+abbrev pub IsText : ℕ → Polynomial → Pair → Type 0
 IsText n most pair = length pair.text ≤ value most n
 
 zero_within : IsWithin any_number (pos 0)

@@ -6,8 +6,8 @@ use Rattle.teco_rules.specs.declared.values.Interval.{Interval}
 use Rattle.teco_rules.specs.declared.refusal.Refusal.{Refusal}
 use Rattle.teco_rules.specs.declared.refusal.Refusal.TheVariants as refusal
 use Rattle.teco_rules.specs.Attempt.{◌>>=◌}
-use Rattle.teco_rules.specs.Covers.{each_covers, covers_length}
-use Rattle.teco_rules.specs.Facts.{Position, Iteration, Facts, nowhere, sum_of, without_arguments}
+use Rattle.teco_rules.specs.Covers.{each_covers, covers_interval, covers_length, covers_pushed}
+use Rattle.teco_rules.specs.Facts.{Position, Iteration, Facts, nowhere, sum_of}
 use Rattle.teco_rules.specs.Values.{any_number}
 
 -- What is chosen: how much is held at most at the start of each turn, how long the texts are at most, and whether the
@@ -41,7 +41,7 @@ position_at_start choice position = record {
 
 -- The facts at the start of a body, from those that enter it.
 abbrev pub body_start : Choice → List Bool → Facts → Facts
-body_start choice written entering = record (without_arguments entering) {
+body_start choice written entering = record entering {
   position = position_at_start choice entering.position;
   held = choice.held;
   numbers = unknown_where written entering.numbers;
@@ -87,17 +87,22 @@ abbrev pub has_room : Choice → Polynomial → Facts → Facts → Bool
 has_room choice turns entering end =
     is_within choice.held (growth_of choice.held end.held >>= held_last entering.held turns)
 
--- A turn that ends leaves what the next one may begin with: as many pushes, and texts that are no longer.
-abbrev pub returns : Choice → Bool → Polynomial → Facts → Facts → Bool
-returns choice counted turns entering end =
+-- A turn that ends leaves what the next one may begin with: numbers, texts and pushes that those at the start cover.
+abbrev pub begins_again : Facts → Facts → Bool
+begins_again start end =
+    each_covers covers_interval start.numbers end.numbers
+    && each_covers covers_length start.texts end.texts
+    && each_covers covers_pushed start.pushes end.pushes
+
+abbrev pub returns : Choice → List Bool → Bool → Polynomial → Facts → Facts → Bool
+returns choice written counted turns entering end =
     counts counted end.position
     && keeps choice.kept end.position
     && has_room choice turns entering end
-    && each_covers covers_length choice.texts end.texts
-    && nat_eq (length end.pushes) (length entering.pushes)
+    && begins_again (body_start choice written entering) end
 
 -- A choice stands where it begins and, if the > is reached, returns.
-abbrev pub stands : Choice → Bool → Polynomial → Facts → Option Facts → Bool
-stands choice counted turns entering None = begins choice entering
-stands choice counted turns entering (Some end) =
-    begins choice entering && returns choice counted turns entering end
+abbrev pub stands : Choice → List Bool → Bool → Polynomial → Facts → Option Facts → Bool
+stands choice written counted turns entering None = begins choice entering
+stands choice written counted turns entering (Some end) =
+    begins choice entering && returns choice written counted turns entering end

@@ -93,7 +93,7 @@ iterate facts = do
   taken ← arguments_of facts.arguments.level
   alone ← none_pending (levels_after_taking facts.arguments)
   most ← turns_of taken.value facts
-  Ok (iteration taken.value (facts_taken facts))
+  Ok (iteration taken.value (without_arguments facts))
 
 -- > goes back to the begin of the body, and where turns are counted on, too
 abbrev pub turn_end : List Iteration → Facts → Result Edges Refusal

@@ -3,7 +3,7 @@
 ghost use Rattle.teco_rules.specs.Sound.{ArgumentsAreSound, ValuesAreSound, CommandsAreSound, QueriesAreSound, StacksAreSound};
 ghost use Rattle.teco_rules.specs.SoundFlow.{WaysAreSound, TestsAreSound, LeavesAreSound, IterationsAreSound, TurnsAreSound, TurnEndsAreSound, TagsAreSound, OthersAreSound};
 ghost use Rattle.teco_rules.specs.SoundSearch.{SearchesAreSound};
-ghost use Rattle.teco_rules.specs.SoundBodies.{CoversAreSound};
+ghost use Rattle.teco_rules.specs.SoundBodies.{CoversAreSound, JoinsAreSound, EntryIsSound, BodyStartsAreSound, ReturnsAreSound, TurnsFall, RoomIsSound};
 
 /// Digits, operators, parentheses, comma and ESC.
 pub fn arguments_are_sound()
@@ -78,4 +78,34 @@ pub fn covers_are_sound()
 /// What is known of a search in the buffer is true where it found, and where it failed.
 pub fn searches_are_sound()
     ensures { SearchesAreSound }
+{}
+
+/// Where ways meet, what is known of both describes what either describes.
+pub fn joins_are_sound()
+    ensures { JoinsAreSound }
+{}
+
+/// What is known at the entry is true.
+pub fn entry_is_sound()
+    ensures { EntryIsSound }
+{}
+
+/// The start of a body, where its choice begins, describes what enters it.
+pub fn body_starts_are_sound()
+    ensures { BodyStartsAreSound }
+{}
+
+/// Where a choice returns, the start of the body describes the state behind the end of a turn.
+pub fn returns_are_sound()
+    ensures { ReturnsAreSound }
+{}
+
+/// Without a count less is ahead behind each turn.
+pub fn turns_fall()
+    ensures { TurnsFall }
+{}
+
+/// Where there is room, at the start of the last turn no more is held than was chosen.
+pub fn room_is_sound()
+    ensures { RoomIsSound }
 {}
