@@ -18,3 +18,4 @@ pub mod Meeting
 pub mod Matching
 pub mod Searching
 pub mod Bodies
+pub mod Worked

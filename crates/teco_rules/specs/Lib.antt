@@ -24,3 +24,4 @@ pub mod Sound
 pub mod SoundFlow
 pub mod SoundSearch
 pub mod SoundBodies
+pub mod Rows

@@ -2,6 +2,7 @@
 //! they describe, without a code.
 ghost use Rattle.teco_rules.specs.Sound.{ArgumentsAreSound, ValuesAreSound, CommandsAreSound, QueriesAreSound, StacksAreSound};
 ghost use Rattle.teco_rules.specs.SoundFlow.{WaysAreSound, TestsAreSound, LeavesAreSound, IterationsAreSound, TurnsAreSound, TurnEndsAreSound, TagsAreSound, OthersAreSound};
+ghost use Rattle.teco_rules.specs.Rows.{FactRows};
 ghost use Rattle.teco_rules.specs.SoundSearch.{SearchesAreSound};
 ghost use Rattle.teco_rules.specs.SoundBodies.{CoversAreSound, JoinsAreSound, EntryIsSound, BodyStartsAreSound, ReturnsAreSound, TurnsFall, RoomIsSound};
 
@@ -108,4 +109,9 @@ pub fn turns_fall()
 /// Where there is room, at the start of the last turn no more is held than was chosen.
 pub fn room_is_sound()
     ensures { RoomIsSound }
+{}
+
+/// What is known along texts that were worked by hand.
+pub fn fact_rows()
+    ensures { FactRows }
 {}
