@@ -1,17 +1,15 @@
 -- Codes of characters, and what Q, ^X and \ give.
-use Rattle.std.proofs.Common.{◌≡◌, ℕ, zero, suc, ◌+◌, ◌-◌, ◌≤◌, ◌<◌, arith, w32, FitsSigned, refl, ℤ, pos, negsuc, ◌≤ℤ◌, List, [], ◌∷◌, take, drop, length, length-take, length-drop, Option, Some, None, IfSome, Bool, true, false, cond, ◌==◌, ◌||◌, option_map, get_or}
-use Rattle.std.specs.Prelude.{slice_get, unwrap_or, ⊤}
-use Rattle.std.specs.List.{prefix_len, AllByRecursion}
+use Rattle.std.proofs.Common.{ℕ, zero, suc, ◌+◌, ◌≤◌, ◌<◌, arith, w32, FitsSigned, refl, ℤ, pos, negsuc, List, [], ◌∷◌, take, drop, length, length-take, length-drop, Option, Some, None, IfSome, Bool, true, false, cond, ◌==◌, ◌||◌, option_map, get_or}
+use Rattle.std.specs.Prelude.{slice_get, unwrap_or}
+use Rattle.std.specs.List.{prefix_len}
 use Rattle.std.proofs.lemmas.Int.{ints, SFits-int_wrap}
 use Rattle.std.proofs.lemmas.Fmt.{length_signed_le, decimal_nonempty}
 use Rattle.teco_base.specs.Bytes.{is_digit}
 use Rattle.teco_base.specs.NumberText.{decimal}
-use Rattle.teco_base.specs.declared.TheConstants.{LIMIT, REGISTERS}
 use Rattle.teco_model.specs.Character.{code_at}
 use Rattle.teco_model.specs.Conversion.{sign_len, is_minus, signed_value, reading, number_at}
-use Rattle.teco_model.specs.Effect.{Effect, no_answer, with_answer}
 use Rattle.teco_model.specs.Query as model
-use Rattle.teco_model.specs.Registers.{Pair, empty_pair}
+use Rattle.teco_model.specs.Registers.{empty_pair}
 use Rattle.teco_model.specs.State.{Kept}
 use Rattle.teco_model.specs.Storage.{text_in, number_in}
 use Rattle.teco_model.specs.declared.kind.Query.{Query}
@@ -20,9 +18,10 @@ use Rattle.teco_poly.specs.Polynomial.{number}
 use Rattle.teco_rules.proofs.Each.{all_at}
 use Rattle.teco_rules.proofs.Editing.{inserted_foretold}
 use Rattle.teco_rules.proofs.Moving.{pointer_at}
-use Rattle.teco_rules.proofs.Numbers.{value_in_in}
-use Rattle.teco_rules.proofs.Registers.{empty_whole, number_at as known_number_at, untouched}
-use Rattle.teco_rules.proofs.Shapes.{Shifts, Foretells, IsDone, value-number, done_with}
+use Rattle.teco_rules.proofs.Near.{empty_whole}
+use Rattle.teco_rules.proofs.Numbers.{value_in_in, any_within}
+use Rattle.teco_rules.proofs.Registers.{number_at as known_number_at, untouched}
+use Rattle.teco_rules.proofs.Shapes.{Shifts, Foretells, value-number, done_with}
 use Rattle.teco_rules.specs.Describes.{Run, IsWhole, IsWholePair, AreBytes, Holds, fore_of, back_of}
 use Rattle.teco_rules.specs.Facts.{Facts}
 use Rattle.teco_rules.specs.Queries as row
@@ -49,9 +48,6 @@ interval_value fore back i v w f = record { is = value_in_in i fore back v w; fi
 
 pub code_value : (fore back : ℕ) (text : List ℕ) → AreBytes text → (z : ℤ) → IsValue fore back (value_in row.character) (code_at text z)
 code_value fore back text h z = let w = code_within text h z in interval_value fore back row.character _ w (omega (arith, ints, w))
-
-pub any_within : (v : ℤ) → FitsSigned w32 v → IsWithin any_number v
-any_within v f = record { low = omega (arith, ints, f); high = omega (arith, ints, f) }
 
 -- ---- decimal numbers
 -- one of 32 bits has 1 to 11 characters

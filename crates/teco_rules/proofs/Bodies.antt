@@ -1,31 +1,26 @@
 -- The entry, the start of a body, and its turns.
-use Rattle.std.proofs.Common.{◌≡◌, ℕ, zero, suc, ◌+◌, ◌-◌, ◌*◌, ◌≤◌, arith, refl, sym, subst, ap, ℤ, pos, negsuc, ◌+ℤ◌, ◌≤ℤ◌, int_le, List, [], ◌∷◌, drop, map, length, Bool, true, false, not, cond, ◌&&◌, ◌||◌, Option, Some, None, Result, Ok, Err, IfOk, ok_or, get_or, replicate}
-use Rattle.std.specs.Prelude.{IsTrue, ⊤}
+use Rattle.std.proofs.Common.{◌≡◌, ℕ, zero, suc, ◌+◌, ◌-◌, ◌*◌, ◌≤◌, arith, refl, sym, subst, ℤ, pos, int_le, List, [], ◌∷◌, drop, map, length, Bool, true, false, cond, Option, Some, None, ok_or, get_or, replicate}
+use Rattle.std.specs.Prelude.{IsTrue}
 use Rattle.std.specs.List.{AllByRecursion}
 use Rattle.std.specs.Option.{option_map_or}
 use Rattle.std.proofs.Math.Nat.{mul-le-mul}
 use Rattle.std.proofs.lemmas.Int.{ints}
 use Rattle.teco_base.specs.declared.TheConstants.{REGISTERS}
-use Rattle.teco_model.specs.Arguments.{Arguments, no_arguments}
 use Rattle.teco_model.specs.Registers.{Pair, empty_pair}
-use Rattle.teco_model.specs.State.{Kept}
 use Rattle.teco_poly.proofs.Lawful.{values_compare, value_of_difference, value_of_product, value_of_one_less, value_of_sum, values_of_constants}
-use Rattle.teco_poly.specs.Polynomial.{Polynomial, value, variable, sub, mul, add, one_less, is_at_most}
-use Rattle.teco_rules.proofs.Asking.{any_within}
+use Rattle.teco_poly.specs.Polynomial.{Polynomial, value, variable, sub, mul, add, one_less}
+use Rattle.teco_rules.proofs.Numbers.{any_within}
 use Rattle.teco_rules.proofs.Covering.{and_both, each_covered, interval_covered, length_covered, pushed_covered, le_holds}
 use Rattle.teco_rules.proofs.Each.{each_length, all_at}
-use Rattle.teco_rules.proofs.Flowing.{each_dropped}
-use Rattle.teco_rules.proofs.Registers.{empty_whole}
+use Rattle.teco_rules.proofs.Near.{empty_whole}
 use Rattle.teco_rules.specs.Attempt.{◌>>=◌}
-use Rattle.teco_rules.specs.Bodies.{Choice, unknown_where, fall_if, falls_at_start, body_start, begins, has_own_fall, own_fall, counts, keeps, held_last, growth_of, is_within, has_room, returns, begins_again}
-use Rattle.teco_rules.specs.Covers.{each_covers, covers_interval, covers_length, covers_pushed}
-use Rattle.teco_rules.specs.Describes.{Run, IsWhole, IsWholePair, Holds, IsAt, Describes, AreRegisters, AreEach, HasFallen, fore_of, back_of}
-use Rattle.teco_rules.specs.Facts.{Position, Facts, entry_facts, sum_of}
+use Rattle.teco_rules.specs.Bodies.{Choice, unknown_where, fall_if, has_own_fall, own_fall, keeps, held_last, is_within}
+use Rattle.teco_rules.specs.Covers.{covers_interval, covers_length}
+use Rattle.teco_rules.specs.Describes.{IsWholePair, AreEach, HasFallen, fore_of}
+use Rattle.teco_rules.specs.Facts.{Position, Facts, sum_of}
 use Rattle.teco_rules.specs.Flows.{entering}
-use Rattle.teco_rules.specs.SoundBodies.{BodyStartsAreSound, IsCarried, BeginsAgain, ReturnsAreSound, TurnsFall, HasRoom, RoomIsSound, IsEntry, EntryIsSound}
-use Rattle.teco_rules.specs.SoundFlow.{run_behind, run_in_turn}
+use Rattle.teco_rules.specs.Laws.{BodyStartsAreSound, IsCarried, ReturnsAreSound, TurnsFall, HasRoom, RoomIsSound, EntryIsSound}
 use Rattle.teco_rules.specs.Values.{IsWithin, any_number}
-use Rattle.teco_rules.specs.declared.refusal.Refusal.{Refusal}
 use Rattle.teco_rules.specs.declared.refusal.Refusal.TheVariants as refusal
 use Rattle.teco_rules.specs.declared.values.Interval.{Interval}
 

@@ -1,23 +1,22 @@
 -- What covers facts that describe a state describes it.
-use Rattle.std.proofs.Common.{◌≡◌, ℕ, ◌≤◌, ◌+◌, arith, sym, subst, ◌∙◌, refl, ℤ, pos, ◌≤ℤ◌, int_le, nat_le, nat_eq, List, [], ◌∷◌, Bool, true, false, ◌&&◌, Option, Some, None, cond, length}
-use Rattle.std.specs.Prelude.{IsTrue, ⊤}
+use Rattle.std.proofs.Common.{◌≡◌, ℕ, ◌≤◌, ◌+◌, arith, ◌∙◌, refl, ℤ, pos, ◌≤ℤ◌, int_le, nat_le, List, [], ◌∷◌, Bool, true, false, ◌&&◌, Option, Some, None, cond, length}
+use Rattle.std.specs.Prelude.{IsTrue}
 use Rattle.std.proofs.lemmas.Int.{ints}
 use Rattle.std.proofs.lemmas.Bool.Decides.{nat_tests}
 use Rattle.teco_model.specs.Arguments.{Arguments}
 use Rattle.teco_model.specs.Registers.{Pair}
-use Rattle.teco_model.specs.State.{Kept}
 use Rattle.teco_model.specs.declared.arguments.Level.{Level}
 use Rattle.teco_model.specs.declared.arguments.Operator.{Operator}
 use Rattle.teco_model.specs.declared.arguments.Operator.TheVariants.{Plus, Minus, Times, Over, And, Or}
 use Rattle.teco_poly.proofs.Lawful.{values_compare}
-use Rattle.teco_poly.specs.Polynomial.{Polynomial, value, is_at_most}
+use Rattle.teco_poly.specs.Polynomial.{Polynomial, value}
 use Rattle.teco_rules.proofs.Numbers.{AreDistances, interval_of_in}
-use Rattle.teco_rules.proofs.Shapes.{distances}
+use Rattle.teco_rules.proofs.Near.{distances}
 use Rattle.teco_rules.specs.Arguments.{KnownLevel, KnownArguments}
-use Rattle.teco_rules.specs.Covers.{each_covers, both_cover, covers_interval, are_equal, is_interval, is_same, covers_value, is_same_operator, covers_level, covers_arguments, covers_distances, covers_fall, covers_position, covers_answer, is_same_iteration, covers_length, covers_pushed, covers}
-use Rattle.teco_rules.specs.Describes.{Run, IsWhole, Holds, IsAt, IsAnswer, Answers, Describes, AreRegisters, IsPushed, ArePushed, IsLevel, ArePending, IsOptional, AreEach, HasFallen, fore_of, back_of}
-use Rattle.teco_rules.specs.Facts.{Position, Answer, Pushed, Facts}
-use Rattle.teco_rules.specs.SoundBodies.{CoversAreSound}
+use Rattle.teco_rules.specs.Covers.{each_covers, both_cover, covers_interval, are_equal, is_interval, is_same, covers_value, is_same_operator, covers_level, covers_arguments, covers_fall, covers_position, covers_answer, covers_length, covers_pushed, covers}
+use Rattle.teco_rules.specs.Describes.{Run, IsAt, Answers, ArePushed, IsLevel, ArePending, IsOptional, AreEach, HasFallen, fore_of, back_of}
+use Rattle.teco_rules.specs.Facts.{Position, Answer, Pushed}
+use Rattle.teco_rules.specs.Laws.{CoversAreSound}
 use Rattle.teco_rules.specs.Values.{IsIn, IsValue, IsWithin, interval_of}
 use Rattle.teco_rules.specs.declared.values.Distances.{Distances}
 use Rattle.teco_rules.specs.declared.values.Interval.{Interval}

@@ -1,7 +1,18 @@
 -- Lists of which something is known at each place.
-use Rattle.std.proofs.Common.{◌≡◌, ℕ, zero, suc, ◌<◌, arith, ap, List, [], ◌∷◌, length, get_or, set}
+use Rattle.std.proofs.Common.{◌≡◌, ℕ, zero, suc, ◌<◌, ◌≤◌, arith, List, [], ◌∷◌, length, get_or, set}
 use Rattle.std.specs.List.{AllByRecursion}
+use Rattle.teco_model.specs.Registers.{Pair}
+use Rattle.teco_poly.specs.Polynomial.{Polynomial, value}
 use Rattle.teco_rules.specs.Describes.{AreEach}
+use Rattle.teco_rules.specs.Values.{IsWithin}
+use Rattle.teco_rules.specs.declared.values.Interval.{Interval}
+
+-- what is known of a pair's number, and of its text
+abbrev pub IsNumber : Interval → Pair → Type 0
+IsNumber i pair = IsWithin i pair.number
+
+abbrev pub IsText : ℕ → Polynomial → Pair → Type 0
+IsText n most pair = length pair.text ≤ value most n
 
 -- at a place, and at one that is not there
 pub each_at : {X Y : Type 0} (P : X → Y → Type 0) (xs : List X) (ys : List Y) (d : X) (e : Y) → AreEach P xs ys → P d e → (r : ℕ) → P (get_or xs r d) (get_or ys r e)

@@ -25,7 +25,8 @@ use Rattle.teco_model.specs.declared.pattern.Span.{Span as Part}
 use Rattle.teco_poly.specs.Polynomial.{Polynomial, value, number}
 use Rattle.teco_rules.proofs.Moving.{IsPlaced, placed_is, count_within, line_within, line_on, line_back}
 use Rattle.teco_rules.proofs.Shapes.{Shifts, Moves, IsDone, Foretells, shift_leads, value-number}
-use Rattle.teco_rules.proofs.Steps.{given_then, leads_given}
+use Rattle.teco_rules.proofs.Steps.{given_then}
+use Rattle.teco_rules.proofs.Leading.{leads_given}
 use Rattle.teco_rules.specs.Arguments.{KnownTaken}
 use Rattle.teco_rules.specs.Attempt.{◌>>=◌}
 use Rattle.teco_rules.specs.Deletions as row
@@ -33,9 +34,9 @@ use Rattle.teco_rules.specs.Describes.{Run, IsWhole, Holds, IsTaken, IsOptional,
 use Rattle.teco_rules.specs.Facts.{Facts, nowhere}
 use Rattle.teco_rules.specs.Insertions as insertions
 use Rattle.teco_rules.specs.Motions.{count_of}
-use Rattle.teco_rules.specs.Shifts.{Shift, moving, shift_to, Foreseen, silent_behind, silent}
+use Rattle.teco_rules.specs.Shifts.{Shift, moving, Foreseen, silent_behind}
 use Rattle.teco_rules.specs.Typings as typings
-use Rattle.teco_rules.specs.Values.{IsIn, IsWithin, single, interval_of, IsValue}
+use Rattle.teco_rules.specs.Values.{IsIn, IsWithin, IsValue}
 use Rattle.teco_rules.specs.declared.refusal.Refusal.{Refusal}
 use Rattle.teco_rules.specs.declared.refusal.Refusal.TheVariants as refusal
 use Rattle.teco_rules.specs.declared.values.Interval.{Interval}

@@ -1,42 +1,39 @@
 -- Tests, iterations and tags: the edge that the machine goes along.
-use Rattle.std.proofs.Common.{◌≡◌, ℕ, zero, suc, ◌+◌, ◌≤◌, arith, refl, sym, subst, ℤ, pos, negsuc, ◌+ℤ◌, ◌*ℤ◌, ◌≤ℤ◌, int_le, List, [], ◌∷◌, drop, length, Bool, true, false, not, cond, ◌&&◌, Option, Some, None, option_map, MatchOption, Result, Ok, Err, IfOk, ok_or}
-use Rattle.std.specs.Prelude.{⊤}
+use Rattle.std.proofs.Common.{◌≡◌, ℕ, zero, suc, ◌+◌, ◌≤◌, arith, refl, sym, subst, ℤ, pos, negsuc, ◌+ℤ◌, ◌*ℤ◌, ◌≤ℤ◌, int_le, List, [], ◌∷◌, drop, Bool, true, false, cond, ◌&&◌, Option, Some, None, option_map, Result, Ok, Err, IfOk}
 use Rattle.std.proofs.lemmas.Int.{ints}
 use Rattle.teco_base.specs.declared.code.Code.{Code}
-use Rattle.teco_base.specs.declared.code.Code.TheVariants as code
 use Rattle.teco_model.specs.Arguments as model
 use Rattle.teco_model.specs.Checked.{◌>>=◌ as ◌>>>=◌}
-use Rattle.teco_model.specs.Condition.{holds, is_zero, is_negative, is_positive}
+use Rattle.teco_model.specs.Condition.{holds}
 use Rattle.teco_model.specs.Effect as effect
-use Rattle.teco_model.specs.Flow.{later_turns, leaves}
+use Rattle.teco_model.specs.Flow.{leaves}
 use Rattle.teco_model.specs.State.{Kept}
 use Rattle.teco_model.specs.declared.arguments.Level.{Level}
 use Rattle.teco_model.specs.declared.arguments.Taken.{Taken}
-use Rattle.teco_model.specs.declared.kind.Flow.TheVariants as flow
-use Rattle.teco_model.specs.declared.kind.Kind.TheVariants as kind
 use Rattle.teco_model.specs.declared.kind.Test.{Test}
 use Rattle.teco_model.specs.declared.kind.Test.TheVariants as test
-use Rattle.teco_poly.specs.Polynomial.{Polynomial, value, number, add}
+use Rattle.teco_poly.specs.Polynomial.{Polynomial, value, number}
 use Rattle.teco_rules.proofs.Numbers.{AreDistances, interval_of_in, scaled_le}
 use Rattle.teco_rules.proofs.Pending.{taken_covers, empty_is, nothing_is, needed_covers}
-use Rattle.teco_rules.proofs.Shapes.{distances, value-sum_of, value-number}
-use Rattle.teco_rules.proofs.Steps.{Covers, covers_leads}
-use Rattle.teco_rules.proofs.Transfers.{without_answer, pending_again}
+use Rattle.teco_rules.proofs.Near.{distances}
+use Rattle.teco_rules.proofs.Shapes.{value-sum_of, value-number}
+use Rattle.teco_rules.proofs.Steps.{Covers}
+use Rattle.teco_rules.proofs.Transfers.{without_answer}
 use Rattle.teco_rules.proofs.Ways.{IsOn, told_on, within_may}
 use Rattle.teco_rules.specs.Arguments as known
 use Rattle.teco_rules.specs.Arguments.{KnownLevel, KnownTaken}
 use Rattle.teco_rules.specs.Attempt.{◌>>=◌}
 use Rattle.teco_rules.specs.Deletions.{positive}
-use Rattle.teco_rules.specs.Describes.{Run, IsWhole, Holds, IsAt, IsAnswer, Answers, Describes, AreEach, HasFallen, IsLevel, IsTaken, IsOptional, ArePending, fore_of, back_of}
-use Rattle.teco_rules.specs.Facts.{Position, Answer, Facts, Iteration, sum_of, at_position, with_arguments, without_arguments}
-use Rattle.teco_rules.specs.Flows.{Edges, needed_taken, facts_taken, leaving, entering, begun, iteration, leaving_numbers, turns, turns_of, bound_by, bound_of, without_value, turn_end}
+use Rattle.teco_rules.specs.Describes.{Run, run_behind, run_in_turn, IsWhole, IsAt, Answers, Describes, AreEach, HasFallen, IsLevel, IsTaken, IsOptional, ArePending, fore_of, back_of}
+use Rattle.teco_rules.specs.Facts.{Position, Answer, Facts, Iteration, sum_of, at_position, without_arguments}
+use Rattle.teco_rules.specs.Flows.{Edges, needed_taken, facts_taken, leaving, entering, begun, iteration, leaving_numbers, turns_of, bound_by, bound_of, without_value, turn_end}
 use Rattle.teco_rules.specs.Joins.{is_empty, none_pending}
-use Rattle.teco_rules.specs.Sound.{Leads}
-use Rattle.teco_rules.specs.SoundFlow.{Tells, IsReached, IsTold, run_behind, run_in_turn, number_needed, TestsAreSound, LeavingOr, LeavesAreSound, EntersOr, IterationsAreSound, AreTurns, TurnsAreSound, EndsTurn, TurnEndsAreSound, TagsAreSound, PassOn, OthersAreSound}
+use Rattle.teco_rules.specs.Laws.{IsTold}
+use Rattle.teco_rules.specs.SoundFlow.{Tells, IsReached, number_needed, TestsAreSound, LeavingOr, LeavesAreSound, EntersOr, IterationsAreSound, AreTurns, TurnsAreSound, EndsTurn, TurnEndsAreSound, TagsAreSound, OthersAreSound}
 use Rattle.teco_rules.specs.Transfer as transfers
 use Rattle.teco_rules.specs.Transfer.{Placed, transfer}
-use Rattle.teco_rules.specs.Values.{IsIn, IsValue, IsWithin, interval_of}
-use Rattle.teco_rules.specs.Ways.{Numbers, Zero, NotZero, Negative, NotNegative, Positive, NotPositive, All, Takes, holding, other, may_take, position_by, way}
+use Rattle.teco_rules.specs.Values.{IsValue, IsWithin, interval_of}
+use Rattle.teco_rules.specs.Ways.{Numbers, Positive, NotPositive, Takes, holding, other, position_by, way}
 use Rattle.teco_rules.specs.declared.refusal.Refusal.{Refusal}
 use Rattle.teco_rules.specs.declared.refusal.Refusal.TheVariants as refusal
 use Rattle.teco_rules.specs.declared.values.Value.{Value}

@@ -1,12 +1,12 @@
 -- Where a match lies, and the pattern of a search text that has a minimum length.
-use Rattle.std.proofs.Common.{◌≡◌, ℕ, zero, suc, ◌+◌, ◌-◌, ◌≤◌, ◌<◌, arith, refl, sym, subst, ap, ◌∙◌, ℤ, pos, negsuc, List, [], ◌∷◌, length, Option, Some, None, Result, Ok, Err, IfOk, IfSome, MatchOption, Bool}
+use Rattle.std.proofs.Common.{◌≡◌, ℕ, zero, suc, ◌+◌, ◌-◌, ◌≤◌, ◌<◌, arith, refl, subst, ap, pos, List, [], ◌∷◌, length, Option, Some, None, Result, Ok, Err, IfSome, MatchOption, Bool}
 use Rattle.std.proofs.lemmas.Option.{slice_get_within}
-use Rattle.std.specs.Prelude.{slice_get, flat_map, fold}
+use Rattle.std.specs.Prelude.{flat_map, fold}
 use Rattle.teco_base.specs.declared.code.Code.{Code}
 use Rattle.teco_model.proofs.Searches.{here_finds, forward_finds, none_is_shorter}
 use Rattle.teco_model.specs.Checked.{◌>>=◌}
-use Rattle.teco_model.specs.Match.{is_space_or_tab, here, forward}
-use Rattle.teco_model.specs.Matching.{HasAt, IsOne, IsRun, Matches, InTurn, IsMatch, IsMatchAt, IsFirstFrom, IsNth}
+use Rattle.teco_model.specs.Match.{here, forward}
+use Rattle.teco_model.specs.Matching.{HasAt, Matches, InTurn, IsMatch, IsMatchAt, IsFirstFrom, IsNth}
 use Rattle.teco_model.specs.Pattern.{Pattern, pattern, minimum, parts, with_part, items_of}
 use Rattle.teco_model.specs.Registers.{Registers}
 use Rattle.teco_model.specs.Search.{match_of}

@@ -1,18 +1,17 @@
 -- Where ways meet: what is known of each is true of both.
-use Rattle.std.proofs.Common.{◌≡◌, ℕ, ◌+◌, ◌≤◌, min, arith, refl, ℤ, pos, List, [], ◌∷◌, length, Option, Some, None, Result, Ok, Err, IfOk, ok_or}
-use Rattle.std.specs.Prelude.{⊤}
+use Rattle.std.proofs.Common.{◌≡◌, ℕ, ◌+◌, ◌≤◌, arith, refl, ℤ, List, [], ◌∷◌, length, Option, Some, None, Result, Ok, Err, IfOk, ok_or}
 use Rattle.std.proofs.lemmas.Int.{ints, clamps}
 use Rattle.teco_poly.proofs.Lawful.{value_of_join}
 use Rattle.teco_poly.specs.Polynomial.{Polynomial, value, join}
 use Rattle.teco_rules.specs.Attempt.{◌>>=◌}
-use Rattle.teco_rules.specs.Describes.{Run, IsAt, AreEach, HasFallen, ArePushed, ArePending, Describes, fore_of, back_of}
+use Rattle.teco_rules.specs.Describes.{Run, IsAt, AreEach, HasFallen, ArePushed, ArePending, fore_of, back_of}
 use Rattle.teco_rules.specs.Facts.{Position, Pushed, Facts, join_of, without_arguments}
-use Rattle.teco_rules.specs.Joins.{smaller_fall, smaller_falls, nearer_of, joined_position, hull, hulls, joined_lengths, joined_pushes, none_pending, joined}
-use Rattle.teco_rules.specs.SoundBodies.{MayMeet, MeetsBoth, JoinsAreSound}
+use Rattle.teco_rules.specs.Joins.{smaller_fall, smaller_falls, nearer_of, joined_position, hull, hulls, joined_lengths, joined_pushes, none_pending}
+use Rattle.teco_rules.specs.Laws.{MayMeet, MeetsBoth, JoinsAreSound}
 use Rattle.teco_rules.specs.declared.values.Interval.{Interval}
 use Rattle.teco_rules.specs.declared.values.Value.{Value}
 use Rattle.teco_rules.specs.Arguments.{KnownLevel, KnownArguments, no_arguments}
-use Rattle.teco_rules.proofs.Registers.{IsNumber, IsText}
+use Rattle.teco_rules.proofs.Each.{IsNumber, IsText}
 use Rattle.teco_rules.proofs.Steps.{given_then}
 use Rattle.teco_model.specs.Arguments.{Arguments}
 use Rattle.teco_model.specs.Registers.{Pair}

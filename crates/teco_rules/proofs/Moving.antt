@@ -1,11 +1,11 @@
 -- C, R, J and L.
-use Rattle.std.proofs.Common.{◌≡◌, ℕ, zero, suc, ◌+◌, ◌-◌, ◌≤◌, arith, refl, ℤ, pos, negsuc, ◌+ℤ◌, ◌-ℤ◌, ◌≤ℤ◌, int_le, int_lt, unsigned_abs, min, [], length, Option, Some, None, Ok, IfSome, IfOk, Bool, true, false, cond, nat_le}
+use Rattle.std.proofs.Common.{◌≡◌, ℕ, zero, suc, ◌+◌, ◌-◌, ◌≤◌, arith, refl, ℤ, pos, negsuc, ◌+ℤ◌, ◌-ℤ◌, ◌≤ℤ◌, int_le, int_lt, unsigned_abs, min, length, Option, Some, None, Ok, IfSome, IfOk, Bool, true, false, cond, nat_le}
 use Rattle.std.specs.Prelude.{unwrap_or}
 use Rattle.std.proofs.lemmas.Int.{ints}
 use Rattle.std.proofs.lemmas.Bool.Decides.{nat_tests}
 use Rattle.teco_base.specs.declared.TheConstants.{LIMIT}
 use Rattle.teco_base.specs.Lines.{line_place}
-use Rattle.teco_model.specs.Effect.{no_answer, with_answer}
+use Rattle.teco_model.specs.Effect.{with_answer}
 use Rattle.teco_model.specs.Element.{Element}
 use Rattle.teco_model.specs.Motion as model
 use Rattle.teco_model.specs.Places.{place_in}
@@ -16,15 +16,17 @@ use Rattle.teco_model.specs.declared.kind.Motion.TheVariants.{Forward, Backward,
 use Rattle.teco_poly.specs.Polynomial.{number}
 use Rattle.teco_rules.proofs.Lines.{on_within, none_within, back_within}
 use Rattle.teco_rules.proofs.Numbers.{AreLeast, least_in, plus_in, minus_in, interval_of_in}
-use Rattle.teco_rules.proofs.Shapes.{Shifts, Moves, IsDone, Foretells, distances, shift_leads, value-number}
-use Rattle.teco_rules.proofs.Steps.{given_then, leads_given}
+use Rattle.teco_rules.proofs.Near.{distances}
+use Rattle.teco_rules.proofs.Shapes.{Shifts, Moves, IsDone, Foretells, shift_leads}
+use Rattle.teco_rules.proofs.Steps.{given_then}
+use Rattle.teco_rules.proofs.Leading.{leads_given}
 use Rattle.teco_rules.specs.Arguments.{KnownTaken}
 use Rattle.teco_rules.specs.Describes.{Run, IsWhole, Holds, IsTaken, IsOptional, fore_of, back_of}
 use Rattle.teco_rules.specs.Facts.{Facts, nowhere}
 use Rattle.teco_rules.specs.Motions as row
 use Rattle.teco_rules.specs.Shifts as shifts
 use Rattle.teco_rules.specs.Shifts.{Shift, moving}
-use Rattle.teco_rules.specs.Values.{IsIn, IsWithin, single, interval_of, size, pointer, minus, least, distance_of, IsValue, value_in}
+use Rattle.teco_rules.specs.Values.{IsIn, IsWithin, single, size, pointer, minus, least, distance_of, IsValue, value_in}
 use Rattle.teco_rules.specs.declared.refusal.Refusal.{Refusal}
 use Rattle.teco_rules.specs.declared.refusal.Refusal.TheVariants as refusal
 use Rattle.teco_rules.specs.declared.values.Distances.{Distances}

@@ -161,3 +161,6 @@ pub product_in : (distances : Distances) (s t : Value) (fore back : ℕ) (v w : 
 product_in distances s t fore back v w b h i =
     let r = ranged distances s t fore back v w b h i in
     value_in_in _ fore back (mul v w) (kept_in_32_bits_in _ (v *ℤ w) (product_within (interval_of distances s) (interval_of distances t) v w r.0 r.1))
+
+pub any_within : (v : ℤ) → FitsSigned w32 v → IsWithin any_number v
+any_within v f = record { low = omega (arith, ints, f); high = omega (arith, ints, f) }

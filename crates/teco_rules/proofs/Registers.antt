@@ -1,18 +1,16 @@
 -- U, %, X, ^U, G, the push-down list, and what types.
-use Rattle.std.proofs.Common.{◌≡◌, ℕ, zero, suc, ◌+◌, ◌-◌, ◌≤◌, arith, w32, FitsSigned, refl, subst, ℤ, pos, ◌+ℤ◌, List, [], ◌∷◌, length, drop, length-take, length-drop, length-append, ◌++◌, ◌<◌, get_or, set, Bool, true, false, cond, nat_le, IfOk, Option, Some, None, Result, Ok, Err, ok_or}
-use Rattle.std.specs.Prelude.{unwrap_or, ⊤}
-use Rattle.std.specs.List.{AllByRecursion}
+use Rattle.std.proofs.Common.{◌≡◌, ℕ, zero, suc, ◌+◌, ◌-◌, ◌≤◌, arith, w32, refl, ℤ, pos, ◌+ℤ◌, List, [], length, drop, length-take, length-drop, length-append, ◌++◌, ◌<◌, get_or, set, Bool, true, false, cond, nat_le, IfOk, Option, Some, None, Result, Ok, Err}
+use Rattle.std.specs.Prelude.{unwrap_or}
 use Rattle.std.proofs.lemmas.Int.{ints, SFits-int_wrap}
 use Rattle.std.proofs.lemmas.Bool.Decides.{nat_tests}
 use Rattle.teco_base.specs.declared.TheConstants.{LIMIT, REGISTERS}
 use Rattle.teco_base.specs.declared.code.Code.{Code}
 use Rattle.teco_base.specs.declared.code.Code.TheVariants as code
-use Rattle.teco_model.specs.Arguments.{Arguments}
 use Rattle.teco_model.specs.Checked.{◌>>=◌ as ◌>>>=◌}
 use Rattle.teco_model.specs.Effect.{Effect, no_answer, needed_value}
 use Rattle.teco_model.specs.Element.{Element}
 use Rattle.teco_model.specs.Places.{characters_of}
-use Rattle.teco_model.specs.Registers.{Pair, Registers, empty_pair, with_pair, with_text, registers_without_top}
+use Rattle.teco_model.specs.Registers.{Pair, empty_pair, with_pair, with_text}
 use Rattle.teco_model.specs.State.{Kept}
 use Rattle.teco_model.specs.Storage as model
 use Rattle.teco_model.specs.Typing as model_typing
@@ -22,40 +20,30 @@ use Rattle.teco_model.specs.declared.kind.Storage.TheVariants.{SetNumber, Add, C
 use Rattle.teco_model.specs.declared.kind.Typing.{Typing}
 use Rattle.teco_model.specs.declared.kind.Typing.TheVariants as typing_kind
 use Rattle.teco_model.specs.declared.pattern.Span.{Span as Part}
-use Rattle.teco_poly.specs.Polynomial.{Polynomial, value, number}
-use Rattle.teco_rules.proofs.Each.{each_at, each_set, each_kept, each_length, all_at, all_set}
+use Rattle.teco_poly.specs.Polynomial.{Polynomial, value}
+use Rattle.teco_rules.proofs.Each.{IsNumber, IsText, each_at, each_set, each_kept, each_length, all_set}
 use Rattle.teco_rules.proofs.Editing.{inserted_foretold, parts_lead}
 use Rattle.teco_rules.proofs.Moving.{count_within}
 use Rattle.teco_rules.proofs.Numbers.{interval_of_in, value_in_in, kept_in_32_bits_in}
-use Rattle.teco_rules.proofs.Shapes.{IsDone, Foretells, distances, value-sum_of, value-number, done_with}
+use Rattle.teco_rules.proofs.Near.{distances}
+use Rattle.teco_rules.proofs.Shapes.{IsDone, Foretells, value-sum_of, value-number, done_with}
 use Rattle.teco_rules.specs.Arguments.{KnownTaken}
 use Rattle.teco_rules.specs.Arguments as known
 use Rattle.teco_rules.specs.Attempt.{◌>>=◌}
-use Rattle.teco_rules.specs.Describes.{Run, IsWhole, IsWholePair, Holds, AreRegisters, IsPushed, ArePushed, IsTaken, IsOptional, fore_of, back_of}
-use Rattle.teco_rules.specs.Facts.{Facts, Pushed, number_of, text_of, sum_of}
+use Rattle.teco_rules.specs.Describes.{Run, IsWhole, Holds, AreRegisters, IsPushed, ArePushed, IsTaken, IsOptional, fore_of, back_of}
+use Rattle.teco_rules.specs.Facts.{Facts, Pushed, number_of, text_of}
 use Rattle.teco_rules.specs.Motions.{count_of}
 use Rattle.teco_rules.specs.Shifts.{Foreseen, silent}
-use Rattle.teco_rules.specs.Sound.{Succeeds, Leads, Fits, IsNamedByStorage}
+use Rattle.teco_rules.specs.SoundElements.{Succeeds, Fits, IsNamedByStorage}
 use Rattle.teco_rules.specs.Storages as row
 use Rattle.teco_rules.specs.Typings as typings
-use Rattle.teco_rules.specs.Values.{IsWithin, any_number, single, interval_of, interval_sum, kept_in_32_bits, IsValue, value_in}
+use Rattle.teco_rules.specs.Values.{IsWithin, any_number, interval_of, interval_sum, kept_in_32_bits, IsValue, value_in}
 use Rattle.teco_rules.specs.declared.refusal.Refusal.{Refusal}
-use Rattle.teco_rules.specs.declared.refusal.Refusal.TheVariants as refusal
 use Rattle.teco_rules.specs.declared.values.Interval.{Interval}
 use Rattle.teco_rules.specs.declared.values.Value.{Value}
 
--- what is known of a pair's number, and of its text
-abbrev pub IsNumber : Interval → Pair → Type 0
-IsNumber i pair = IsWithin i pair.number
-
-abbrev pub IsText : ℕ → Polynomial → Pair → Type 0
-IsText n most pair = length pair.text ≤ value most n
-
 zero_within : IsWithin any_number (pos 0)
 zero_within = record { low = omega (arith, ints); high = omega (arith, ints) }
-
-pub empty_whole : IsWholePair empty_pair
-empty_whole = record { number = omega (arith, ints); within = omega arith; bytes = tt }
 
 -- a part of the buffer is no longer than it
 pub part_short : (part : Part) (kept : Kept) → length (characters_of part kept) ≤ length kept.text

@@ -1,6 +1,6 @@
 -- S and FS: what is known of both outcomes is true.
-use Rattle.std.proofs.Common.{◌≡◌, ℕ, zero, suc, ◌+◌, ◌-◌, ◌≤◌, arith, refl, sym, subst, ap, ℤ, pos, negsuc, ◌+ℤ◌, ◌≤ℤ◌, int_le, int_lt, List, [], ◌∷◌, drop, map, length, Bool, true, false, cond, nat_le, ◌&&◌, Option, Some, None, Result, Ok, Err, IfOk, IfSome, MatchOption, inl, inr}
-use Rattle.std.specs.Prelude.{unwrap_or, ⊤, not}
+use Rattle.std.proofs.Common.{◌≡◌, ℕ, zero, suc, ◌+◌, ◌-◌, ◌≤◌, arith, refl, sym, subst, ap, ℤ, pos, negsuc, ◌≤ℤ◌, int_le, int_lt, List, [], ◌∷◌, map, length, Bool, true, false, cond, nat_le, ◌&&◌, Option, Some, None, Result, Ok, Err, IfOk, IfSome, inl, inr}
+use Rattle.std.specs.Prelude.{unwrap_or, not}
 use Rattle.std.proofs.lemmas.Int.{ints}
 use Rattle.std.proofs.lemmas.List.{length-map}
 use Rattle.std.proofs.lemmas.Bool.Decides.{nat_tests}
@@ -17,39 +17,37 @@ use Rattle.teco_model.specs.Pattern.{Pattern, minimum}
 use Rattle.teco_model.specs.Search as searching
 use Rattle.teco_model.specs.Search.{Finding, Found, Missed}
 use Rattle.teco_model.specs.State.{Kept}
-use Rattle.teco_model.specs.Step.{After, after, colon_miss, at_start, answer_where}
+use Rattle.teco_model.specs.Step.{after, colon_miss, at_start, answer_where}
 use Rattle.teco_model.specs.declared.arguments.Taken.{Taken}
-use Rattle.teco_model.specs.declared.kind.Kind.TheVariants as kind
 use Rattle.teco_model.specs.declared.kind.Search.{Search}
 use Rattle.teco_model.specs.declared.kind.Search.TheVariants.{Find, Replace, FindInPages, ReplaceInPages}
 use Rattle.teco_model.specs.declared.pattern.Span.{Span}
-use Rattle.teco_poly.specs.Polynomial.{Polynomial, value, number}
+use Rattle.teco_poly.specs.Polynomial.{Polynomial, value}
 use Rattle.teco_rules.proofs.Editing.{replaced_at, replaced_within}
 use Rattle.teco_rules.proofs.Flowing.{each_dropped, taken_are}
 use Rattle.teco_rules.proofs.Matching.{HasPattern, pattern_with, LiesAhead, match_lies}
 use Rattle.teco_rules.proofs.Meeting.{IsJoin, position_joined}
 use Rattle.teco_rules.proofs.Moving.{or_single}
 use Rattle.teco_rules.proofs.Numbers.{AreDistances, interval_of_in}
-use Rattle.teco_rules.proofs.Pending.{settled_are, taken_covers, empty_is, nothing_is}
-use Rattle.teco_rules.proofs.Shapes.{Shifts, distances, shifted_at, shifted_holds, value-sum_of, value-number}
-use Rattle.teco_rules.proofs.Steps.{Covers, covers_leads, leads_given}
+use Rattle.teco_rules.proofs.Pending.{settled_are, taken_covers}
+use Rattle.teco_rules.proofs.Near.{distances}
+use Rattle.teco_rules.proofs.Shapes.{Shifts, shifted_at, shifted_holds, value-sum_of, value-number}
+use Rattle.teco_rules.proofs.Steps.{Covers}
 use Rattle.teco_rules.proofs.Transfers.{without_answer, pending_again}
 use Rattle.teco_rules.specs.Arguments as known
 use Rattle.teco_rules.specs.Arguments.{KnownTaken}
 use Rattle.teco_rules.specs.Attempt.{◌>>=◌}
-use Rattle.teco_rules.specs.Describes.{Run, IsWhole, Holds, IsAt, IsAnswer, Describes, HasFallen, IsTaken, IsOptional, ArePending, fore_of, back_of}
-use Rattle.teco_rules.specs.Facts.{Position, Answer, Facts, with_arguments, at_position, sum_of}
+use Rattle.teco_rules.specs.Describes.{Run, run_behind, IsWhole, Holds, IsAt, Describes, HasFallen, IsTaken, IsOptional, ArePending, fore_of, back_of}
+use Rattle.teco_rules.specs.Facts.{Position, Facts}
 use Rattle.teco_rules.specs.Flows.{Edges, leaving, facts_taken}
-use Rattle.teco_rules.specs.Joins.{joined_position}
-use Rattle.teco_rules.specs.Motions.{count_of, or_one, success}
+use Rattle.teco_rules.specs.Motions.{count_of, success}
 use Rattle.teco_rules.specs.Searches as row
-use Rattle.teco_rules.specs.Shifts.{Shift, moving, shifted, facts_behind, position_after, fall_after}
-use Rattle.teco_rules.specs.Sound.{Succeeds, Leads, Fits, Arrives, FitsOn, ArrivesOn}
-use Rattle.teco_rules.specs.SoundFlow.{run_behind}
-use Rattle.teco_rules.specs.SoundSearch.{IsInBuffer, ArrivesAway, MissArrives, SearchArrives, SearchesAreSound, finding}
+use Rattle.teco_rules.specs.Shifts.{Shift, shifted, facts_behind, position_after, fall_after}
+use Rattle.teco_rules.specs.SoundElements.{Succeeds, Leads, Arrives, FitsOn, ArrivesOn}
+use Rattle.teco_rules.specs.SoundSearches.{IsInBuffer, MissArrives, SearchArrives, SearchesAreSound, finding}
 use Rattle.teco_rules.specs.Transfer as transfers
 use Rattle.teco_rules.specs.Transfer.{Placed, transfer}
-use Rattle.teco_rules.specs.Values.{IsIn, IsValue, IsWithin, interval_of, value_in}
+use Rattle.teco_rules.specs.Values.{IsValue, IsWithin, value_in}
 use Rattle.teco_rules.specs.declared.refusal.Refusal.{Refusal}
 use Rattle.teco_rules.specs.declared.refusal.Refusal.TheVariants as refusal
 use Rattle.teco_rules.specs.declared.values.Interval.{Interval}

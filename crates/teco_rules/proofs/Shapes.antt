@@ -1,6 +1,5 @@
 -- The shapes of what commands do, and that the facts that they leave are true.
-use Rattle.std.proofs.Common.{◌≡◌, ℕ, ◌+◌, ◌-◌, ◌*◌, ◌≤◌, arith, refl, ap, ℤ, pos, negsuc, ◌+ℤ◌, ◌≤ℤ◌, List, [], ◌∷◌, length, map, Option, Some, None, Result, Ok, Err, IfSome, IfOk, MatchOption, ok_or}
-use Rattle.std.specs.Prelude.{⊤}
+use Rattle.std.proofs.Common.{◌≡◌, ℕ, ◌+◌, ◌≤◌, arith, refl, ℤ, pos, negsuc, ◌+ℤ◌, ◌≤ℤ◌, List, [], ◌∷◌, length, map, Option, Some, None, Result, Ok, Err, IfSome, IfOk, ok_or}
 use Rattle.std.proofs.lemmas.Int.{ints}
 use Rattle.teco_base.specs.declared.TheConstants.{LIMIT}
 use Rattle.teco_base.specs.declared.code.Code.{Code}
@@ -9,13 +8,13 @@ use Rattle.teco_model.specs.Effect.{Effect}
 use Rattle.teco_model.specs.State.{Kept}
 use Rattle.teco_poly.proofs.Lawful.{value_of_sum, values_of_constants}
 use Rattle.teco_poly.specs.Polynomial.{Polynomial, value, number, add}
-use Rattle.teco_rules.proofs.Numbers.{AreDistances}
+use Rattle.teco_rules.proofs.Near.{distances}
 use Rattle.teco_rules.proofs.Pending.{settled_are}
 use Rattle.teco_rules.specs.Attempt.{◌>>=◌}
 use Rattle.teco_rules.specs.Describes.{Run, IsWhole, Holds, IsAt, IsOptional, AreEach, HasFallen, ArePending, fore_of, back_of}
 use Rattle.teco_rules.specs.Facts.{Facts, sum_of}
-use Rattle.teco_rules.specs.Shifts.{Shift, Foreseen, shifted, facts_behind, silent_behind, fall_after, ahead_after, silent}
-use Rattle.teco_rules.specs.Sound.{Succeeds, Leads, Fits}
+use Rattle.teco_rules.specs.Shifts.{Shift, Foreseen, shifted, facts_behind, fall_after, ahead_after}
+use Rattle.teco_rules.specs.SoundElements.{Succeeds, Leads, Fits}
 use Rattle.teco_rules.specs.Values.{IsValue}
 use Rattle.teco_rules.specs.declared.refusal.Refusal.{Refusal}
 use Rattle.teco_rules.specs.declared.refusal.Refusal.TheVariants as refusal
@@ -78,9 +77,6 @@ abbrev pub Foretells : Run → Facts → ℕ → Kept → Result Foreseen Refusa
 Foretells run facts unread kept = Leads (λ (known : Foreseen). Fits run.n known.facts) (IsDone run facts unread kept)
 
 module _ (run : Run) (facts : Facts) (unread : ℕ) (kept : Kept) (w : IsWhole kept) (h : Holds run facts unread kept) where
-  pub distances : AreDistances facts.position.distances (fore_of kept) (back_of kept)
-  distances = record { least = record { behind = h.position.begin; ahead = h.position.end }; within = omega (arith, w.inside, w.within) }
-
   -- the position behind a shift
   pub shifted_at : (shift : Shift) (new : Kept) (held : Polynomial) → Shifts run.n shift kept new → length new.text + unread ≤ value held run.n → IsAt run (facts_behind shift held facts).position (fore_of new) (back_of new) unread
   shifted_at shift new held s held_now =
@@ -106,7 +102,7 @@ module _ (run : Run) (facts : Facts) (unread : ℕ) (kept : Kept) (w : IsWhole k
   done_after : (shift : Shift) (effect : Effect) (answer : Option Value) (held : Polynomial) → Shifts run.n shift kept effect.kept → IsOptional (IsValue (fore_of effect.kept) (back_of effect.kept)) answer effect.answer → value held run.n ≡ value facts.held run.n + value shift.growth run.n → IsDone run facts unread kept (record { facts = facts_behind shift held facts; answer = answer }) effect
   done_after shift effect answer held s i e = record {
     state = shifted_holds shift effect.kept held s e;
-    pending = λ arguments p. settled_are facts.position.distances (fore_of kept) (back_of kept) (fore_of effect.kept) (back_of effect.kept) distances facts.arguments arguments p;
+    pending = λ arguments p. settled_are facts.position.distances (fore_of kept) (back_of kept) (fore_of effect.kept) (back_of effect.kept) (distances run facts unread kept w h) facts.arguments arguments p;
     answer = i;
     grown = omega (arith, s.grown, e);
   }

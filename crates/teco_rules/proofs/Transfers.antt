@@ -1,21 +1,16 @@
 -- The laws of elements that go on behind themselves.
-use Rattle.std.proofs.Common.{◌≡◌, ℕ, zero, suc, ◌+◌, ◌≤◌, ◌<◌, arith, w32, FitsSigned, refl, sym, subst, ℤ, pos, neg_ℤ, List, [], ◌∷◌, length, drop, Option, Some, None, Result, Ok, Err, Bool, true, false, cond, IfOk, MatchOption, ok_or}
-use Rattle.std.specs.Prelude.{⊤}
+use Rattle.std.proofs.Common.{◌≡◌, ℕ, zero, suc, ◌+◌, ◌≤◌, arith, w32, refl, sym, subst, ℤ, pos, neg_ℤ, List, [], ◌∷◌, length, drop, Option, Some, None, Result, Ok, Err, Bool, true, false, cond, IfOk, ok_or}
 use Rattle.std.proofs.lemmas.Int.{ints, SFits-int_wrap}
-use Rattle.teco_base.specs.declared.TheConstants.{LIMIT, REGISTERS}
 use Rattle.teco_base.specs.declared.code.Code.{Code}
 use Rattle.teco_base.specs.declared.code.Code.TheVariants as code
 use Rattle.teco_model.specs.Arguments as model
 use Rattle.teco_model.specs.Checked.{◌>>=◌ as ◌>>>=◌}
 use Rattle.teco_model.specs.Conversion.{number_at}
 use Rattle.teco_model.specs.Effect.{Effect}
-use Rattle.teco_model.specs.Element.{Element}
-use Rattle.teco_model.specs.Query as asked
 use Rattle.teco_model.specs.Registers.{Pair, registers_without_top}
 use Rattle.teco_model.specs.State.{Kept}
 use Rattle.teco_model.specs.Step as step
 use Rattle.teco_model.specs.Step.{After, after}
-use Rattle.teco_model.specs.Storage as stored
 use Rattle.teco_model.specs.declared.arguments.Level.{Level}
 use Rattle.teco_model.specs.declared.arguments.Operator.{Operator}
 use Rattle.teco_model.specs.declared.arguments.Taken.{Taken}
@@ -23,8 +18,6 @@ use Rattle.teco_model.specs.declared.kind.Argument.{Argument}
 use Rattle.teco_model.specs.declared.kind.Argument.TheVariants.{DropAll, Digits, Operate, Open, Close, Comma}
 use Rattle.teco_model.specs.declared.kind.Command.{Command}
 use Rattle.teco_model.specs.declared.kind.Command.TheVariants as command
-use Rattle.teco_model.specs.declared.kind.Kind.{Kind}
-use Rattle.teco_model.specs.declared.kind.Kind.TheVariants as kind
 use Rattle.teco_model.specs.declared.kind.Query.{Query}
 use Rattle.teco_model.specs.declared.kind.Query.TheVariants as query
 use Rattle.teco_model.specs.declared.kind.Stack.{Stack}
@@ -32,30 +25,30 @@ use Rattle.teco_model.specs.declared.kind.Stack.TheVariants as stack
 use Rattle.teco_model.specs.declared.kind.Value.{Value as Given}
 use Rattle.teco_model.specs.declared.kind.Value.TheVariants.{Begin, Size, Pointer, Whole, LastLength, LastText}
 use Rattle.teco_poly.specs.Polynomial.{Polynomial, value}
-use Rattle.teco_rules.proofs.Asking.{interval_value, any_within, query_foretold, number_is, length_is, mode_is, past, number_fits, number_short}
+use Rattle.teco_rules.proofs.Asking.{interval_value, query_foretold, number_is, length_is, mode_is, past, number_fits}
 use Rattle.teco_rules.proofs.Editing.{deletion_foretold, insertion_foretold}
 use Rattle.teco_rules.proofs.Moving.{motion_foretold, size_in, pointer_in}
-use Rattle.teco_rules.proofs.Numbers.{AreDistances}
+use Rattle.teco_rules.proofs.Numbers.{AreDistances, any_within}
 use Rattle.teco_rules.proofs.Pending.{settled_are, give_covers, give_both_covers, operate_covers, comma_covers, closed_covers, at_level_covers, taken_covers, nothing_is, opened_is, single_in, empty_is}
 use Rattle.teco_rules.proofs.Registers.{storage_foretold, typing_foretold, pushed_holds, popped_holds}
-use Rattle.teco_rules.proofs.Shapes.{IsDone, Foretells, distances, shifted_holds, value-sum_of}
-use Rattle.teco_rules.proofs.Steps.{Covers, covers_leads, leads_on}
+use Rattle.teco_rules.proofs.Near.{distances}
+use Rattle.teco_rules.proofs.Shapes.{IsDone, Foretells, shifted_holds, value-sum_of}
+use Rattle.teco_rules.proofs.Steps.{Covers}
+use Rattle.teco_rules.proofs.Leading.{covers_leads, leads_on}
 use Rattle.teco_rules.specs.Arguments as known
 use Rattle.teco_rules.specs.Arguments.{KnownLevel, KnownArguments, KnownTaken}
 use Rattle.teco_rules.specs.Attempt.{◌>>=◌}
 use Rattle.teco_rules.specs.Describes.{Run, IsWhole, Holds, Describes, ArePushed, IsLevel, IsTaken, IsOptional, ArePending, fore_of, back_of}
-use Rattle.teco_rules.specs.Facts.{Facts, Pushed, Iteration, with_arguments}
-use Rattle.teco_rules.specs.Flows.{Edges, goes_on}
+use Rattle.teco_rules.specs.Facts.{Facts, Pushed, with_arguments}
 use Rattle.teco_rules.specs.Queries as row
 use Rattle.teco_rules.specs.Shifts.{Foreseen, facts_answered, facts_behind}
-use Rattle.teco_rules.specs.Sound.{Succeeds, Leads, Fits, Arrives, FitsOn, ArrivesOn, GoesOn, IsNamedByCommand, IsNamedByQuery, IsNamedByStack, ArgumentsAreSound, ValuesAreSound, CommandsAreSound, QueriesAreSound, StacksAreSound}
+use Rattle.teco_rules.specs.SoundElements.{Leads, Fits, Arrives, FitsOn, ArrivesOn, IsNamedByCommand, ArgumentsAreSound, ValuesAreSound, CommandsAreSound, QueriesAreSound, StacksAreSound}
 use Rattle.teco_rules.specs.Storages as storages
 use Rattle.teco_rules.specs.Transfer as transfers
 use Rattle.teco_rules.specs.Transfer.{Placed, transfer}
-use Rattle.teco_rules.specs.Values.{single, value_in, size, pointer, IsValue, IsWithin, any_number}
+use Rattle.teco_rules.specs.Values.{single, value_in, size, IsValue, any_number}
 use Rattle.teco_rules.specs.declared.refusal.Refusal.{Refusal}
 use Rattle.teco_rules.specs.declared.refusal.Refusal.TheVariants as refusal
-use Rattle.teco_rules.specs.declared.values.Distances.{Distances}
 use Rattle.teco_rules.specs.declared.values.Value.{Value}
 
 -- the edge that goes on

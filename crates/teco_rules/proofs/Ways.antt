@@ -1,17 +1,15 @@
 -- The way that a number takes is reached, and what is known on it holds.
-use Rattle.std.proofs.Common.{◌≡◌, ℕ, zero, suc, ◌+◌, ◌≤◌, min, arith, refl, subst, ℤ, pos, negsuc, neg_ℤ, ◌+ℤ◌, ◌-ℤ◌, ◌≤ℤ◌, ◌*ℤ◌, int_le, Bool, true, false, ◌&&◌, not, cond, Option, Some, None, option_map, MatchOption, inl, inr}
-use Rattle.std.specs.Prelude.{⊤}
+use Rattle.std.proofs.Common.{◌≡◌, ℕ, zero, suc, ◌+◌, ◌≤◌, arith, refl, subst, ℤ, pos, negsuc, neg_ℤ, ◌+ℤ◌, ◌-ℤ◌, ◌≤ℤ◌, ◌*ℤ◌, int_le, Bool, true, false, ◌&&◌, not, cond, Option, Some, None, option_map, MatchOption, inl, inr}
 use Rattle.std.proofs.lemmas.Int.{ints}
-use Rattle.teco_base.specs.declared.TheConstants.{LIMIT}
 use Rattle.teco_model.specs.State.{Kept}
 use Rattle.teco_rules.proofs.Numbers.{AreDistances, interval_of_in}
-use Rattle.teco_rules.proofs.Shapes.{distances}
+use Rattle.teco_rules.proofs.Near.{distances}
 use Rattle.teco_rules.specs.Deletions.{positive}
 use Rattle.teco_rules.specs.Describes.{Run, IsWhole, Holds, IsAt, IsAnswer, fore_of, back_of}
 use Rattle.teco_rules.specs.Facts.{Position, Answer, Facts, at_position}
-use Rattle.teco_rules.specs.SoundFlow.{IsTold, WaysAreSound}
+use Rattle.teco_rules.specs.Laws.{IsTold, WaysAreSound}
 use Rattle.teco_rules.specs.Values.{IsIn, IsWithin, interval_of}
-use Rattle.teco_rules.specs.Ways.{Numbers, Zero, NotZero, Negative, NotNegative, Positive, NotPositive, All, Takes, may_take, opposite, least_taking, with_back, with_fore, raised_by, position_on, position_of, position_by, way}
+use Rattle.teco_rules.specs.Ways.{Numbers, Zero, NotZero, Negative, NotNegative, Positive, NotPositive, All, Takes, may_take, opposite, least_taking, with_back, with_fore, raised_by, position_on, position_of, position_by}
 use Rattle.teco_rules.specs.declared.values.Distances.{Distances}
 use Rattle.teco_rules.specs.declared.values.Interval.{Interval}
 use Rattle.teco_rules.specs.declared.values.Value.{Value}

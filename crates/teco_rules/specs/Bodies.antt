@@ -1,5 +1,5 @@
 -- The body of an iteration: what is chosen for its start, and when a choice stands.
-use Rattle.std.specs.Prelude.{ℕ, ℤ, pos, int_le, nat_eq, ◌&&◌, ◌||◌, List, [], ◌∷◌, map, length, Bool, true, false, not, Option, Some, None, Result, Ok, Err, if◌then◌else◌}
+use Rattle.std.specs.Prelude.{ℕ, ℤ, pos, int_le, ◌&&◌, ◌||◌, List, [], ◌∷◌, map, Bool, false, not, Option, Some, None, Result, Ok, Err, if◌then◌else◌}
 use Rattle.std.specs.Option.{option_map_or, ok_or}
 use Rattle.teco_poly.specs.Polynomial.{Polynomial, mul, sub, one_less, is_at_most}
 use Rattle.teco_rules.specs.declared.values.Interval.{Interval}
@@ -7,7 +7,7 @@ use Rattle.teco_rules.specs.declared.refusal.Refusal.{Refusal}
 use Rattle.teco_rules.specs.declared.refusal.Refusal.TheVariants as refusal
 use Rattle.teco_rules.specs.Attempt.{◌>>=◌}
 use Rattle.teco_rules.specs.Covers.{each_covers, covers_interval, covers_length, covers_pushed}
-use Rattle.teco_rules.specs.Facts.{Position, Iteration, Facts, nowhere, sum_of}
+use Rattle.teco_rules.specs.Facts.{Position, Facts, nowhere, sum_of}
 use Rattle.teco_rules.specs.Values.{any_number}
 
 -- What is chosen: how much is held at most at the start of each turn, how long the texts are at most, and whether the

@@ -1,19 +1,18 @@
 -- What it means that facts describe a state of the machine.
-use Rattle.std.specs.Prelude.{◌≡◌, ◌⊎◌, ℕ, ℤ, pos, negsuc, ◌+◌, ◌-◌, ◌<◌, ◌≤◌, ◌+ℤ◌, ◌≤ℤ◌, ⊤, List, [], ◌∷◌, length, slice_index_or, Option, Some, None, MatchOption, FitsSigned}
+use Rattle.std.specs.Prelude.{◌≡◌, ◌⊎◌, ℕ, ℤ, pos, negsuc, ◌+◌, ◌-◌, ◌<◌, ◌≤◌, ◌+ℤ◌, ◌≤ℤ◌, ⊤, List, [], ◌∷◌, length, drop, Option, Some, None, MatchOption, FitsSigned}
 use Rattle.std.specs.Int.{w32}
 use Rattle.std.specs.List.{AllByRecursion}
 use Rattle.teco_base.specs.declared.TheConstants.{LIMIT, REGISTERS}
 use Rattle.teco_model.specs.declared.arguments.Level.{Level}
 use Rattle.teco_model.specs.declared.arguments.Taken.{Taken}
 use Rattle.teco_model.specs.Arguments.{Arguments, empty_level}
-use Rattle.teco_model.specs.Registers.{Pair, Registers, AreWhole, pair_of}
+use Rattle.teco_model.specs.Registers.{Pair}
 use Rattle.teco_model.specs.State.{Kept}
 use Rattle.teco_poly.specs.Polynomial.{Polynomial, value}
-use Rattle.teco_rules.specs.declared.values.Value.{Value}
 use Rattle.teco_rules.specs.declared.values.Interval.{Interval}
 use Rattle.teco_rules.specs.Arguments.{KnownLevel, KnownArguments, KnownTaken}
-use Rattle.teco_rules.specs.Facts.{Position, Answer, Pushed, Facts, number_of, text_of}
-use Rattle.teco_rules.specs.Values.{IsValue, IsWithin, any_number}
+use Rattle.teco_rules.specs.Facts.{Position, Answer, Pushed, Facts}
+use Rattle.teco_rules.specs.Values.{IsValue, IsWithin}
 
 -- the pointer's distances from the begin and from the end
 abbrev pub back_of : Kept → ℕ
@@ -48,6 +47,13 @@ pub record Run : Type 0 where
   pub n : ℕ
   pub turns : List ℕ
   pub below : List Pair
+
+-- a run behind iterations that it left, and one in which a turn begins
+abbrev pub run_behind : ℕ → Run → Run
+run_behind count run = record run { turns = drop count run.turns }
+
+abbrev pub run_in_turn : ℕ → Kept → Run → Run
+run_in_turn unread kept run = record run { turns = (fore_of kept + unread) ∷ run.turns }
 
 -- of what may be absent
 abbrev pub IsOptional : {X Y : Type 0} → (X → Y → Type 0) → Option X → Option Y → Type 0

@@ -1,8 +1,8 @@
 -- What is known before an element.
-use Rattle.std.specs.Prelude.{ℕ, zero, suc, ℤ, pos, List, [], ◌∷◌, length, replicate, slice_index_or, Bool, Option, Some, None, Result}
+use Rattle.std.specs.Prelude.{ℕ, ℤ, List, [], replicate, slice_index_or, Bool, Option, None, Result}
 use Rattle.std.specs.Option.{ok_or}
 use Rattle.teco_base.specs.declared.TheConstants.{REGISTERS}
-use Rattle.teco_poly.specs.Polynomial.{Polynomial, variable, number, add, join}
+use Rattle.teco_poly.specs.Polynomial.{Polynomial, variable, add, join}
 use Rattle.teco_rules.specs.declared.values.Interval.{Interval}
 use Rattle.teco_rules.specs.declared.values.Distances.{Distances}
 use Rattle.teco_rules.specs.declared.refusal.Refusal.{Refusal}

@@ -1,12 +1,12 @@
 -- Iterations, conditionals and tags: the two edges behind an element, and how many turns an iteration takes.
-use Rattle.std.specs.Prelude.{ℕ, zero, suc, ℤ, pos, negsuc, int_le, ◌&&◌, List, [], ◌∷◌, drop, length, Bool, true, false, Option, Some, None, Result, Ok, Err, option_map, if◌then◌else◌}
+use Rattle.std.specs.Prelude.{ℕ, zero, suc, ℤ, pos, int_le, ◌&&◌, List, [], ◌∷◌, drop, length, Bool, true, false, Option, Some, None, Result, Ok, Err, option_map, if◌then◌else◌}
 use Rattle.teco_model.specs.declared.kind.Flow.{Flow}
 use Rattle.teco_model.specs.declared.kind.Flow.TheVariants as flow
 use Rattle.teco_poly.specs.Polynomial.{Polynomial, number}
 use Rattle.teco_rules.specs.declared.values.Value.{Value}
 use Rattle.teco_rules.specs.declared.refusal.Refusal.{Refusal}
 use Rattle.teco_rules.specs.declared.refusal.Refusal.TheVariants as refusal
-use Rattle.teco_rules.specs.Arguments.{KnownTaken, arguments_of, needed_value, levels_after_taking}
+use Rattle.teco_rules.specs.Arguments.{arguments_of, needed_value, levels_after_taking}
 use Rattle.teco_rules.specs.Attempt.{◌>>=◌}
 use Rattle.teco_rules.specs.Deletions.{positive}
 use Rattle.teco_rules.specs.Facts.{Position, Answer, Iteration, Facts, sum_of, with_arguments, without_arguments, at_position}

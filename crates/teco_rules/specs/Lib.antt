@@ -20,8 +20,8 @@ pub mod Covers
 pub mod Bodies
 pub mod Printed
 pub mod Describes
-pub mod Sound
-pub mod SoundFlow
-pub mod SoundSearch
-pub mod SoundBodies
+pub mod Laws
 pub mod Rows
+pub mod SoundElements
+pub mod SoundFlow
+pub mod SoundSearches

@@ -1,5 +1,5 @@
 -- C, R, J and L.
-use Rattle.std.specs.Prelude.{ℕ, zero, suc, ℤ, pos, negsuc, int_le, Bool, true, false, Option, Some, None, Result, Ok, unwrap_or, if◌then◌else◌}
+use Rattle.std.specs.Prelude.{ℕ, zero, suc, ℤ, pos, negsuc, int_le, Bool, false, Option, Some, None, Result, Ok, unwrap_or, if◌then◌else◌}
 use Rattle.teco_model.specs.declared.kind.Motion.{Motion}
 use Rattle.teco_model.specs.declared.kind.Motion.TheVariants.{Forward, Backward, To, Lines}
 use Rattle.teco_rules.specs.declared.values.Value.{Value}
@@ -10,7 +10,7 @@ use Rattle.teco_rules.specs.Arguments.{KnownTaken}
 use Rattle.teco_rules.specs.Attempt.{◌>>=◌}
 use Rattle.teco_rules.specs.Facts.{Facts, nowhere}
 use Rattle.teco_rules.specs.Shifts.{Shift, shifted, moving, shift_to, Foreseen, answering, silent_behind}
-use Rattle.teco_rules.specs.Values.{single, size, pointer, plus, minus, interval_of}
+use Rattle.teco_rules.specs.Values.{single, pointer, plus, minus, interval_of}
 
 -- the argument, 1 where there is none, and the interval of that
 abbrev pub or_one : Option Value → Value

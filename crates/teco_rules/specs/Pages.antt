@@ -1,5 +1,5 @@
 -- A, P, PW and Y.
-use Rattle.std.specs.Prelude.{ℤ, pos, int_le, Option, Some, None, Result, Ok, Err, if◌then◌else◌}
+use Rattle.std.specs.Prelude.{pos, int_le, Option, Some, None, Result, Ok, Err, if◌then◌else◌}
 use Rattle.teco_model.specs.declared.kind.Page.{Page}
 use Rattle.teco_model.specs.declared.kind.Page.TheVariants as page
 use Rattle.teco_rules.specs.declared.values.Value.{Value}
@@ -11,7 +11,7 @@ use Rattle.teco_rules.specs.Attempt.{◌>>=◌}
 use Rattle.teco_rules.specs.Facts.{Facts, nowhere}
 use Rattle.teco_rules.specs.Motions.{count_of}
 use Rattle.teco_rules.specs.Queries.{character}
-use Rattle.teco_rules.specs.Shifts.{Shift, moving, Foreseen, silent, answering, silent_behind}
+use Rattle.teco_rules.specs.Shifts.{moving, Foreseen, silent, answering, silent_behind}
 use Rattle.teco_rules.specs.Typings.{part_named}
 
 -- there is one page at least

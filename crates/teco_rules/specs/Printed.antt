@@ -1,5 +1,5 @@
 -- What is printed of an element: how many steps it takes at most, and which files it needs.
-use Rattle.std.specs.Prelude.{ℤ, pos, Bool, true, false, is_some, not, ◌&&◌, Option, Some, None, Result, Ok}
+use Rattle.std.specs.Prelude.{Bool, true, false, Option, Some, None, Result, Ok}
 use Rattle.teco_model.specs.declared.kind.Kind.{Kind}
 use Rattle.teco_model.specs.declared.kind.Kind.TheVariants as kind
 use Rattle.teco_model.specs.declared.kind.Page.{Page}

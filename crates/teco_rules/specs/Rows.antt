@@ -1,9 +1,8 @@
 -- What is known along texts, worked by hand.
-use Rattle.std.specs.Prelude.{◌≡◌, ℕ, zero, suc, ℤ, pos, List, [], ◌∷◌, ◌++◌, codes, replicate, Bool, true, false, not, Option, Some, None, option_map, Result, Ok, Err}
+use Rattle.std.specs.Prelude.{◌≡◌, ℕ, zero, suc, ℤ, pos, List, [], ◌∷◌, ◌++◌, codes, replicate, Bool, true, false, Option, Some, None, Result, Ok, Err}
 use Rattle.teco_poly.specs.declared.coefficients.TheConstants.{COEFFICIENTS}
 use Rattle.teco_base.specs.declared.TheConstants.{REGISTERS}
 use Rattle.teco_base.specs.declared.bytes.TheConstants.{ESC}
-use Rattle.teco_base.specs.declared.code.Code.{Code}
 use Rattle.teco_model.specs.Element.{Element, element_at}
 use Rattle.teco_model.specs.State.{frame_of}
 use Rattle.teco_model.specs.Step.{has_colon}
@@ -11,7 +10,7 @@ use Rattle.teco_poly.specs.Polynomial.{Polynomial, variable, first}
 use Rattle.teco_poly.specs.Text.{text}
 use Rattle.teco_rules.specs.Attempt.{◌>>=◌}
 use Rattle.teco_rules.specs.Bodies.{Choice, body_start, stands}
-use Rattle.teco_rules.specs.Facts.{Position, Iteration, Facts, entry_facts, sum_of}
+use Rattle.teco_rules.specs.Facts.{Iteration, Facts, entry_facts}
 use Rattle.teco_rules.specs.Flows.{Edges, turns}
 use Rattle.teco_rules.specs.Transfer.{Placed, transfer}
 use Rattle.teco_rules.specs.declared.refusal.Refusal.{Refusal}

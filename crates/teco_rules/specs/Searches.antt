@@ -1,19 +1,19 @@
 -- S, FS, N and FN: what is known where they found, and where they failed.
-use Rattle.std.specs.Prelude.{ℕ, zero, suc, ℤ, pos, int_le, int_lt, ◌+◌, ◌&&◌, ◌||◌, List, [], ◌∷◌, length, Bool, true, false, Option, Some, None, Result, Ok, Err, if◌then◌else◌}
+use Rattle.std.specs.Prelude.{ℕ, suc, pos, int_le, int_lt, ◌+◌, ◌&&◌, List, [], ◌∷◌, length, Option, Some, None, Result, Ok, Err, if◌then◌else◌}
 use Rattle.teco_base.specs.declared.code.Code.{Code}
 use Rattle.teco_model.specs.declared.kind.Search.{Search}
 use Rattle.teco_model.specs.declared.kind.Search.TheVariants.{Find, Replace, FindInPages, ReplaceInPages}
 use Rattle.teco_model.specs.Element.{Element}
 use Rattle.teco_model.specs.Pattern.{minimum}
-use Rattle.teco_poly.specs.Polynomial.{Polynomial, number}
+use Rattle.teco_poly.specs.Polynomial.{number}
 use Rattle.teco_rules.specs.declared.values.Value.{Value}
 use Rattle.teco_rules.specs.declared.values.Interval.{Interval}
 use Rattle.teco_rules.specs.declared.values.Distances.{Distances}
 use Rattle.teco_rules.specs.declared.refusal.Refusal.{Refusal}
 use Rattle.teco_rules.specs.declared.refusal.Refusal.TheVariants as refusal
-use Rattle.teco_rules.specs.Arguments.{KnownTaken, arguments_of, levels_after_taking, levels_after_answer, settled}
+use Rattle.teco_rules.specs.Arguments.{arguments_of, levels_after_taking, levels_after_answer}
 use Rattle.teco_rules.specs.Attempt.{◌>>=◌}
-use Rattle.teco_rules.specs.Facts.{Position, Answer, Facts, nowhere, sum_of, with_arguments, at_position}
+use Rattle.teco_rules.specs.Facts.{Position, Facts, nowhere, with_arguments, at_position}
 use Rattle.teco_rules.specs.Joins.{joined_position}
 use Rattle.teco_rules.specs.Motions.{count_of, success}
 use Rattle.teco_rules.specs.Shifts.{Shift, moving, shifted, position_after}

@@ -1,5 +1,5 @@
 -- What an element that moves the pointer, or edits the buffer, does to what is known of the position.
-use Rattle.std.specs.Prelude.{ℕ, ℤ, pos, negsuc, ◌+◌, ◌+ℤ◌, min, List, [], map, length, Option, Some, None, Result, Ok, Err}
+use Rattle.std.specs.Prelude.{ℕ, ℤ, pos, ◌+ℤ◌, min, map, Option, Some, None, Result, Ok, Err}
 use Rattle.teco_base.specs.declared.TheConstants.{LIMIT}
 use Rattle.teco_poly.specs.Polynomial.{Polynomial, number}
 use Rattle.teco_rules.specs.declared.values.Value.{Value}
@@ -9,7 +9,7 @@ use Rattle.teco_rules.specs.declared.refusal.Refusal.{Refusal}
 use Rattle.teco_rules.specs.declared.refusal.Refusal.TheVariants as refusal
 use Rattle.teco_rules.specs.Arguments.{settled, levels_after_answer}
 use Rattle.teco_rules.specs.Attempt.{◌>>=◌}
-use Rattle.teco_rules.specs.Facts.{Position, Facts, sum_of, with_arguments, nowhere}
+use Rattle.teco_rules.specs.Facts.{Position, Facts, sum_of, with_arguments}
 use Rattle.teco_rules.specs.Values.{size, pointer, minus, least, distance_of, value_in}
 
 -- the least distances afterwards, how much ahead falls at the least, if that is known, and how much longer the buffer grows

@@ -1,6 +1,6 @@
 -- The laws of tests, iterations and tags: the edge that the machine goes along is reached, and its facts describe the state
 -- there.
-use Rattle.std.specs.Prelude.{◌≡◌, ℕ, ℤ, pos, ◌+◌, ◌≤◌, ◌≤ℤ◌, ⊤, List, [], ◌∷◌, drop, Bool, true, false, Option, Some, None, MatchOption, Result, Ok, Err, IfOk, if◌then◌else◌}
+use Rattle.std.specs.Prelude.{◌≡◌, ℕ, ℤ, pos, ◌+◌, ◌≤◌, ◌≤ℤ◌, ⊤, List, ◌∷◌, Bool, true, false, Option, Some, None, MatchOption, Result, IfOk, if◌then◌else◌}
 use Rattle.teco_base.specs.declared.code.Code.{Code}
 use Rattle.teco_model.specs.Arguments.{Arguments, arguments_of, levels_after_taking, no_arguments}
 use Rattle.teco_model.specs.Checked.{◌>>=◌}
@@ -13,16 +13,13 @@ use Rattle.teco_model.specs.declared.kind.Call.{Call}
 use Rattle.teco_model.specs.declared.kind.Flow.TheVariants as flow
 use Rattle.teco_model.specs.declared.kind.Kind.TheVariants as kind
 use Rattle.teco_model.specs.declared.kind.Test.{Test}
-use Rattle.teco_poly.specs.Polynomial.{Polynomial, value}
-use Rattle.teco_rules.specs.Describes.{Run, IsWhole, Holds, IsAt, IsAnswer, Describes, fore_of, back_of}
-use Rattle.teco_rules.specs.Facts.{Answer, Facts, Iteration}
+use Rattle.teco_poly.specs.Polynomial.{value}
+use Rattle.teco_rules.specs.Describes.{Run, IsWhole, Describes, run_behind, run_in_turn, fore_of}
+use Rattle.teco_rules.specs.Facts.{Facts, Iteration}
 use Rattle.teco_rules.specs.Flows.{Edges, turns}
-use Rattle.teco_rules.specs.Sound.{Leads}
+use Rattle.teco_rules.specs.SoundElements.{Leads}
 use Rattle.teco_rules.specs.Transfer.{Placed, transfer, transfer_return}
-use Rattle.teco_rules.specs.Values.{IsIn}
-use Rattle.teco_rules.specs.Ways.{Numbers, Takes, way}
 use Rattle.teco_rules.specs.declared.refusal.Refusal.{Refusal}
-use Rattle.teco_rules.specs.declared.values.Value.{Value}
 
 -- what is known where nothing has to fit: no code comes
 abbrev pub Tells : {X Y : Type 0} → (X → Y → Type 0) → Result X Refusal → Result Y Code → Type 0
@@ -32,26 +29,6 @@ Tells P known done = Leads (λ edges. ⊤) P known done
 abbrev pub IsReached : Run → Option Facts → ℕ → Kept → Arguments → Type 0
 IsReached run edge unread kept arguments =
     MatchOption edge ⊥ (λ next. Describes run next unread kept arguments)
-
--- a run behind iterations that it left, and one in which a turn begins
-abbrev pub run_behind : ℕ → Run → Run
-run_behind count run = record run { turns = drop count run.turns }
-
-abbrev pub run_in_turn : ℕ → Kept → Run → Run
-run_in_turn unread kept run = record run { turns = (fore_of kept + unread) ∷ run.turns }
-
--- a number is told: it is of a value, or it is an answer
-abbrev pub IsTold : Run → Option Answer → Value → ℕ → ℕ → ℕ → ℤ → Type 0
-IsTold run answer s fore back unread v = MatchOption answer (IsIn s fore back v) (λ a. IsAnswer run a fore back unread v)
-
--- The way that a number takes is reached, and what is known on it holds.
-abbrev pub WaysAreSound : Type 0
-WaysAreSound =
-    (run : Run) (facts : Facts) (unread : ℕ) (kept : Kept)
-    (numbers : Numbers) (answer : Option Answer) (s : Value) (v : ℤ)
-    → IsWhole kept → Holds run facts unread kept
-    → IsTold run answer s (fore_of kept) (back_of kept) unread v → Takes numbers v
-    → MatchOption (way numbers answer s facts) ⊥ (λ next. Holds run next unread kept)
 
 -- the number that ; and " need
 abbrev pub number_needed : Arguments → Result ℤ Code

@@ -1,5 +1,5 @@
 -- What an element does to what is known before it.
-use Rattle.std.specs.Prelude.{ℕ, zero, suc, ℤ, pos, negsuc, neg_ℤ, length, List, [], ◌∷◌, Bool, true, false, Option, Some, None, Result, Ok, Err, if◌then◌else◌}
+use Rattle.std.specs.Prelude.{ℕ, pos, neg_ℤ, List, Bool, true, false, Option, Some, None, Result, Ok, Err}
 use Rattle.teco_base.specs.declared.TheConstants.{LIMIT}
 use Rattle.teco_model.specs.declared.kind.Kind.{Kind}
 use Rattle.teco_model.specs.declared.kind.Kind.TheVariants as kind
@@ -9,14 +9,11 @@ use Rattle.teco_model.specs.declared.kind.Value.{Value as Given}
 use Rattle.teco_model.specs.declared.kind.Value.TheVariants.{Begin, Size, Pointer, Whole, LastLength, LastText}
 use Rattle.teco_model.specs.declared.kind.Command.{Command}
 use Rattle.teco_model.specs.declared.kind.Command.TheVariants as command
-use Rattle.teco_model.specs.declared.kind.Flow.{Flow}
 use Rattle.teco_model.specs.declared.kind.Flow.TheVariants as flow
 use Rattle.teco_model.specs.declared.kind.Page.{Page}
 use Rattle.teco_model.specs.declared.kind.Search.{Search}
-use Rattle.teco_model.specs.declared.kind.Stack.{Stack}
 use Rattle.teco_model.specs.Arguments.{run_value}
 use Rattle.teco_model.specs.Element.{Element}
-use Rattle.teco_rules.specs.declared.values.Value.{Value}
 use Rattle.teco_rules.specs.declared.values.Interval.{Interval}
 use Rattle.teco_rules.specs.declared.values.Distances.{Distances}
 use Rattle.teco_rules.specs.declared.refusal.Refusal.{Refusal}

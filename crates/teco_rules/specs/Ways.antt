@@ -1,5 +1,5 @@
 -- The two ways of a test, and what is known on each.
-use Rattle.std.specs.Prelude.{◌≡◌, ℕ, zero, suc, ℤ, pos, negsuc, neg_ℤ, ◌+◌, ◌+ℤ◌, ◌-ℤ◌, ◌≤ℤ◌, ⊤, max, int_le, Bool, true, false, ◌&&◌, not, Option, Some, None, option_map, if◌then◌else◌}
+use Rattle.std.specs.Prelude.{◌≡◌, ℕ, zero, suc, ℤ, pos, negsuc, neg_ℤ, ◌+◌, ◌+ℤ◌, ◌-ℤ◌, ◌≤ℤ◌, ⊤, max, int_le, Bool, true, ◌&&◌, not, Option, Some, None, option_map, if◌then◌else◌}
 use Rattle.teco_model.specs.declared.kind.Test.{Test}
 use Rattle.teco_model.specs.declared.kind.Test.TheVariants as test
 use Rattle.teco_rules.specs.declared.values.Value.{Value}

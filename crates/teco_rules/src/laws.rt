@@ -1,84 +1,15 @@
-//! Laws of what elements do to what is known: where the transfer gives facts that fit, the machine comes to a state that
-//! they describe, without a code.
-ghost use Rattle.teco_rules.specs.Sound.{ArgumentsAreSound, ValuesAreSound, CommandsAreSound, QueriesAreSound, StacksAreSound};
-ghost use Rattle.teco_rules.specs.SoundFlow.{WaysAreSound, TestsAreSound, LeavesAreSound, IterationsAreSound, TurnsAreSound, TurnEndsAreSound, TagsAreSound, OthersAreSound};
+//! Laws of facts alone: what they say of a state, and rows of them.
+ghost use Rattle.teco_rules.specs.Laws.{WaysAreSound, CoversAreSound, JoinsAreSound, EntryIsSound, BodyStartsAreSound, ReturnsAreSound, TurnsFall, RoomIsSound};
 ghost use Rattle.teco_rules.specs.Rows.{FactRows};
-ghost use Rattle.teco_rules.specs.SoundSearch.{SearchesAreSound};
-ghost use Rattle.teco_rules.specs.SoundBodies.{CoversAreSound, JoinsAreSound, EntryIsSound, BodyStartsAreSound, ReturnsAreSound, TurnsFall, RoomIsSound};
-
-/// Digits, operators, parentheses, comma and ESC.
-pub fn arguments_are_sound()
-    ensures { ArgumentsAreSound }
-{}
-
-/// B, Z, the pointer, H and ^S.
-pub fn values_are_sound()
-    ensures { ValuesAreSound }
-{}
-
-/// What moves the pointer, deletes, inserts and types, and U, %, X, ^U and G.
-pub fn commands_are_sound()
-    ensures { CommandsAreSound }
-{}
-
-/// Q, ^X and \.
-pub fn queries_are_sound()
-    ensures { QueriesAreSound }
-{}
-
-/// The push-down list.
-pub fn stacks_are_sound()
-    ensures { StacksAreSound }
-{}
 
 /// The way that a number takes is reached, and what is known on it holds.
 pub fn ways_are_sound()
     ensures { WaysAreSound }
 {}
 
-/// A conditional goes on where its test holds, and else away.
-pub fn tests_are_sound()
-    ensures { TestsAreSound }
-{}
-
-/// Semicolons go on, or leave their iteration.
-pub fn leaves_are_sound()
-    ensures { LeavesAreSound }
-{}
-
-/// An iteration is entered, or skipped where its count begins no turn.
-pub fn iterations_are_sound()
-    ensures { IterationsAreSound }
-{}
-
-/// An iteration takes no more turns than are known; without a count what is ahead is less.
-pub fn turns_are_sound()
-    ensures { TurnsAreSound }
-{}
-
-/// A turn that ends goes back, or on behind its iteration.
-pub fn turn_ends_are_sound()
-    ensures { TurnEndsAreSound }
-{}
-
-/// O goes to its tag.
-pub fn tags_are_sound()
-    ensures { TagsAreSound }
-{}
-
-/// The other elements of flow, calls and returns change nothing.
-pub fn others_are_sound()
-    ensures { OthersAreSound }
-{}
-
 /// What covers facts that describe a state describes it.
 pub fn covers_are_sound()
     ensures { CoversAreSound }
-{}
-
-/// What is known of a search in the buffer is true where it found, and where it failed.
-pub fn searches_are_sound()
-    ensures { SearchesAreSound }
 {}
 
 /// Where ways meet, what is known of both describes what either describes.

@@ -4,6 +4,7 @@
 
 pub mod laws;
 pub mod refusal;
+pub mod sound;
 pub mod values;
 
 pub use refusal::Refusal;

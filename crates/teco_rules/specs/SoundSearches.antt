@@ -1,5 +1,5 @@
 -- The law of searches in the buffer: what is known where they found, and where they failed.
-use Rattle.std.specs.Prelude.{◌≡◌, ℕ, ℤ, pos, negsuc, ⊤, List, Bool, true, false, Option, Some, None, MatchOption, Result}
+use Rattle.std.specs.Prelude.{◌≡◌, ℕ, pos, negsuc, ⊤, List, Bool, true, false, Some, MatchOption, Result}
 use Rattle.teco_base.specs.declared.code.Code.{Code}
 use Rattle.teco_model.specs.Arguments.{Arguments, arguments_of, levels_after_taking, levels_after_answer, no_arguments}
 use Rattle.teco_model.specs.Checked.{◌>>=◌}
@@ -11,11 +11,10 @@ use Rattle.teco_model.specs.declared.kind.Kind.TheVariants as kind
 use Rattle.teco_model.specs.declared.kind.Search.{Search}
 use Rattle.teco_model.specs.declared.kind.Search.TheVariants.{Find, Replace, FindInPages, ReplaceInPages}
 use Rattle.teco_poly.specs.Polynomial.{Polynomial}
-use Rattle.teco_rules.specs.Describes.{Run, IsWhole, Describes}
+use Rattle.teco_rules.specs.Describes.{Run, IsWhole, Describes, run_behind}
 use Rattle.teco_rules.specs.Facts.{Facts}
 use Rattle.teco_rules.specs.Flows.{Edges}
-use Rattle.teco_rules.specs.Sound.{Leads, Arrives, FitsOn, ArrivesOn}
-use Rattle.teco_rules.specs.SoundFlow.{run_behind}
+use Rattle.teco_rules.specs.SoundElements.{Leads, Arrives, FitsOn, ArrivesOn}
 use Rattle.teco_rules.specs.Transfer.{Placed, transfer}
 
 -- S and FS stay in the buffer

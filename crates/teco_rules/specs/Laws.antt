@@ -1,17 +1,32 @@
--- The laws of facts that are covered, of ways that meet, of the entry and of the start of a body.
-use Rattle.std.specs.Prelude.{◌≡◌, ℕ, ℤ, pos, ◌+◌, ◌-◌, ◌*◌, ◌≤◌, ◌≤ℤ◌, ⊤, IsTrue, length, List, [], ◌∷◌, Bool, true, false, Option, Some, None, MatchOption, Result, Ok, IfOk}
-use Rattle.teco_base.specs.declared.TheConstants.{REGISTERS}
+-- The laws of facts alone: of the ways of tests, of facts that are covered, of ways that meet, of the entry, and of the start
+-- of a body and its turns.
+use Rattle.std.specs.Prelude.{◌≡◌, ℕ, ℤ, ◌+◌, ◌-◌, ◌*◌, ◌≤◌, IsTrue, length, List, [], ◌∷◌, Bool, true, false, Option, MatchOption, IfOk}
 use Rattle.teco_model.specs.Arguments.{Arguments, no_arguments}
 use Rattle.teco_model.specs.Registers.{pair_of}
 use Rattle.teco_model.specs.State.{Kept}
 use Rattle.teco_poly.specs.Polynomial.{Polynomial, value}
 use Rattle.teco_rules.specs.Bodies.{Choice, body_start, begins, returns, has_room}
 use Rattle.teco_rules.specs.Covers.{covers}
-use Rattle.teco_rules.specs.Describes.{Run, IsWhole, Holds, IsAt, Describes, AreEach, HasFallen, fore_of, back_of}
-use Rattle.teco_rules.specs.Facts.{Facts, entry_facts, without_arguments}
+use Rattle.teco_rules.specs.Describes.{Run, run_behind, run_in_turn, IsWhole, Holds, IsAnswer, Describes, AreEach, HasFallen, fore_of, back_of}
+use Rattle.teco_rules.specs.Facts.{Answer, Facts, entry_facts, without_arguments}
 use Rattle.teco_rules.specs.Flows.{entering}
 use Rattle.teco_rules.specs.Joins.{joined}
-use Rattle.teco_rules.specs.SoundFlow.{run_behind, run_in_turn}
+use Rattle.teco_rules.specs.Values.{IsIn}
+use Rattle.teco_rules.specs.Ways.{Numbers, Takes, way}
+use Rattle.teco_rules.specs.declared.values.Value.{Value}
+
+-- a number is told: it is of a value, or it is an answer
+abbrev pub IsTold : Run → Option Answer → Value → ℕ → ℕ → ℕ → ℤ → Type 0
+IsTold run answer s fore back unread v = MatchOption answer (IsIn s fore back v) (λ a. IsAnswer run a fore back unread v)
+
+-- The way that a number takes is reached, and what is known on it holds.
+abbrev pub WaysAreSound : Type 0
+WaysAreSound =
+    (run : Run) (facts : Facts) (unread : ℕ) (kept : Kept)
+    (numbers : Numbers) (answer : Option Answer) (s : Value) (v : ℤ)
+    → IsWhole kept → Holds run facts unread kept
+    → IsTold run answer s (fore_of kept) (back_of kept) unread v → Takes numbers v
+    → MatchOption (way numbers answer s facts) ⊥ (λ next. Holds run next unread kept)
 
 -- What covers facts that describe a state describes it.
 abbrev pub CoversAreSound : Type 0

@@ -1,5 +1,5 @@
 -- The laws of what elements do to facts: where the transfer gives facts, the machine comes to a state that they describe.
-use Rattle.std.specs.Prelude.{◌≡◌, ℕ, ◌+◌, ◌<◌, ◌≤◌, ⊤, length, List, Option, Some, None, MatchOption, Result, Ok, Err}
+use Rattle.std.specs.Prelude.{◌≡◌, ℕ, ◌+◌, ◌<◌, ◌≤◌, ⊤, length, MatchOption, Result, Ok, Err}
 use Rattle.std.specs.List.{AllByRecursion}
 use Rattle.teco_base.specs.declared.TheConstants.{LIMIT, REGISTERS}
 use Rattle.teco_base.specs.declared.code.Code.{Code}
@@ -15,7 +15,6 @@ use Rattle.teco_model.specs.declared.kind.Storage.{Storage}
 use Rattle.teco_model.specs.declared.kind.Storage.TheVariants as storage
 use Rattle.teco_model.specs.declared.kind.Value.{Value as Given}
 use Rattle.teco_model.specs.Arguments.{Arguments}
-use Rattle.teco_model.specs.Element.{Element}
 use Rattle.teco_model.specs.State.{Kept}
 use Rattle.teco_model.specs.Step.{After, after_argument, after_value, after_query, after_stack, after_command}
 use Rattle.teco_poly.specs.Polynomial.{Polynomial, value}
