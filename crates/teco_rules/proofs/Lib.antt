@@ -21,3 +21,4 @@ pub mod Transfers
 pub mod Flowing
 pub mod Matching
 pub mod Searching
+pub mod Library

@@ -1,8 +1,13 @@
 -- The laws of facts alone: of the ways of tests, of facts that are covered, of ways that meet, of the entry, and of the start
 -- of a body and its turns.
-use Rattle.std.specs.Prelude.{◌≡◌, ℕ, ℤ, ◌+◌, ◌-◌, ◌*◌, ◌≤◌, IsTrue, length, List, [], ◌∷◌, Bool, true, false, Option, MatchOption, IfOk}
+use Rattle.std.specs.Prelude.{◌≡◌, ℕ, ℤ, ◌+◌, ◌-◌, ◌*◌, ◌≤◌, IsTrue, length, List, [], ◌∷◌, Bool, true, false, Option, MatchOption, IfOk, IsErr, ⊤}
 use Rattle.teco_model.specs.Arguments.{Arguments, no_arguments}
 use Rattle.teco_model.specs.Registers.{pair_of}
+use Rattle.teco_model.specs.declared.kind.Command.TheVariants as command
+use Rattle.teco_model.specs.declared.kind.Kind.{Kind}
+use Rattle.teco_model.specs.declared.kind.Kind.TheVariants as kind
+use Rattle.teco_model.specs.declared.kind.Stack.TheVariants as stack
+use Rattle.teco_model.specs.declared.kind.Storage.TheVariants as storage
 use Rattle.teco_model.specs.State.{Kept}
 use Rattle.teco_poly.specs.Polynomial.{Polynomial, value}
 use Rattle.teco_rules.specs.Bodies.{Choice, body_start, begins, returns, has_room}
@@ -11,9 +16,21 @@ use Rattle.teco_rules.specs.Describes.{Run, run_behind, run_in_turn, IsWhole, Ho
 use Rattle.teco_rules.specs.Facts.{Answer, Facts, entry_facts, without_arguments}
 use Rattle.teco_rules.specs.Flows.{entering}
 use Rattle.teco_rules.specs.Joins.{joined}
+use Rattle.teco_rules.specs.Transfer.{Placed, transfer}
 use Rattle.teco_rules.specs.Values.{IsIn}
 use Rattle.teco_rules.specs.Ways.{Numbers, Takes, way}
 use Rattle.teco_rules.specs.declared.values.Value.{Value}
+
+-- ], X and ^U write the text of a register; none of the library's is written.
+abbrev pub WritesText : Kind → Type 0
+WritesText (kind.Stack (stack.Pop r)) = ⊤
+WritesText (kind.Command (command.Storage (storage.Copy r))) = ⊤
+WritesText (kind.Command (command.Storage (storage.SetText r))) = ⊤
+WritesText k = ⊥
+
+abbrev pub LibraryStays : Type 0
+LibraryStays =
+    (x : Placed) (facts : Facts) → x.library ≡ true → WritesText x.element.kind → IsErr (transfer x facts)
 
 -- a number is told: it is of a value, or it is an answer
 abbrev pub IsTold : Run → Option Answer → Value → ℕ → ℕ → ℕ → ℤ → Type 0

@@ -1,5 +1,5 @@
 //! Laws of facts alone: what they say of a state, and rows of them.
-ghost use Rattle.teco_rules.specs.Laws.{WaysAreSound, CoversAreSound, JoinsAreSound, EntryIsSound, BodyStartsAreSound, ReturnsAreSound, TurnsFall, RoomIsSound};
+ghost use Rattle.teco_rules.specs.Laws.{WaysAreSound, CoversAreSound, JoinsAreSound, EntryIsSound, BodyStartsAreSound, ReturnsAreSound, TurnsFall, RoomIsSound, LibraryStays};
 ghost use Rattle.teco_rules.specs.Rows.{FactRows};
 
 /// The way that a number takes is reached, and what is known on it holds.
@@ -45,4 +45,9 @@ pub fn room_is_sound()
 /// What is known along texts that were worked by hand.
 pub fn fact_rows()
     ensures { FactRows }
+{}
+
+/// No text of the library is written.
+pub fn library_stays()
+    ensures { LibraryStays }
 {}
