@@ -93,7 +93,7 @@ turns_fall run end unread kept arguments choice written turns entering begun out
     own_falls 1 end.position (fore_of kept + unread) begun outer r.0 (subst (λ turns. AreEach (HasFallen (fore_of kept + unread)) end.position.falls turns) e d.state.position.fallen)
 
 -- a fall since the begin of a turn is one since then, too
-falls_carried : (ahead begun : ℕ) (falls : List (Option ℤ)) (outer : List ℕ) → ahead ≤ begun → AreEach (HasFallen begun) falls outer → AreEach (HasFallen ahead) falls outer
+pub falls_carried : (ahead begun : ℕ) (falls : List (Option ℤ)) (outer : List ℕ) → ahead ≤ begun → AreEach (HasFallen begun) falls outer → AreEach (HasFallen ahead) falls outer
 falls_carried ahead begun [] [] l h = tt
 falls_carried ahead begun (None ∷ falls) (start ∷ outer) l h = (tt, falls_carried ahead begun falls outer l h.1)
 falls_carried ahead begun (Some v ∷ falls) (start ∷ outer) l h = (omega (arith, ints, h.0), falls_carried ahead begun falls outer l h.1)

@@ -52,7 +52,7 @@ nat_le_true : (a b : ℕ) → a ≤ b → nat_le a b ≡ true
 nat_le_true a b h = grind (arith, nat_tests)
 
 -- there is something
-abbrev Comes : {X : Type 0} → Result X Code → Type 0
+abbrev pub Comes : {X : Type 0} → Result X Code → Type 0
 Comes (Ok x) = ⊤
 Comes (Err c) = ⊥
 
@@ -214,7 +214,7 @@ module _ (run : Run) (facts : Facts) (unread : ℕ) (kept : Kept) (whole : IsWho
   both_in (negsuc a) w from to p q = absurd (omega (arith, ints, p.begin))
   both_in (pos a) (negsuc b) from to p q = absurd (omega (arith, ints, q.begin))
 
-  both_named : (s t : Value) (v w : ℤ) → IsIn s (fore_of kept) (back_of kept) v → IsIn t (fore_of kept) (back_of kept) w → IfOk (typings.part_named (Some s) (Some t) facts.position.distances) (λ u. Comes (part_named (Some v) (Some w) kept))
+  pub both_named : (s t : Value) (v w : ℤ) → IsIn s (fore_of kept) (back_of kept) v → IsIn t (fore_of kept) (back_of kept) w → IfOk (typings.part_named (Some s) (Some t) facts.position.distances) (λ u. Comes (part_named (Some v) (Some w) kept))
   both_named s t v w i j =
       given_then (IsPlaced run facts unread kept whole h v) (λ u. Comes (part_named (Some v) (Some w) kept)) _ _ (placed_is run facts unread kept whole h s v i) (λ from p.
       given_then (IsPlaced run facts unread kept whole h w) (λ u. Comes (part_named (Some v) (Some w) kept)) _ _ (placed_is run facts unread kept whole h t w j) (λ to q. both_in v w from to p q))

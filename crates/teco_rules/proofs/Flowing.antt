@@ -81,7 +81,7 @@ module _ (run : Run) (facts : Facts) (unread : ℕ) (kept : Kept) (arguments : m
   now : AreDistances facts.position.distances (fore_of kept) (back_of kept)
   now = distances run facts unread kept whole d.state
 
-  taking_is : Covers (IsTaken (fore_of kept) (back_of kept)) (known.arguments_of facts.arguments.level) (model.arguments_of arguments.level)
+  pub taking_is : Covers (IsTaken (fore_of kept) (back_of kept)) (known.arguments_of facts.arguments.level) (model.arguments_of arguments.level)
   taking_is = taken_covers facts.position.distances (fore_of kept) (back_of kept) now facts.arguments.level arguments.level d.pending.level
 
   number_told : Covers (λ s v. IsTold run facts.answer s (fore_of kept) (back_of kept) unread v) (needed_taken facts) (number_in arguments.level)
@@ -206,7 +206,7 @@ module _ (run : Run) (facts : Facts) (unread : ℕ) (kept : Kept) (arguments : m
   skipped : NoneLeft → Describes run taken_facts unread kept (model.levels_after_taking arguments)
   skipped none = record { state = let h = d.state in record { position = h.position; held = h.held; registers = h.registers; pushed = h.pushed }; pending = none; answers = tt }
 
-  of_value : (s : Value) (v : ℤ) → IsValue (fore_of kept) (back_of kept) s v → IsWithin (interval_of facts.position.distances s) v
+  pub of_value : (s : Value) (v : ℤ) → IsValue (fore_of kept) (back_of kept) s v → IsWithin (interval_of facts.position.distances s) v
   of_value s v i = interval_of_in s facts.position.distances (fore_of kept) (back_of kept) v now.least (omega (arith, now.within)) (omega (arith, now.within)) i.is
 
   enters : (o : Option Value) (v : Option ℤ) → NoneLeft → IsOptional (IsValue (fore_of kept) (back_of kept)) o v → EntersOr run unread kept arguments v (iteration o taken_facts)

@@ -22,3 +22,4 @@ pub mod Flowing
 pub mod Matching
 pub mod Searching
 pub mod Library
+pub mod Paging

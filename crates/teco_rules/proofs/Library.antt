@@ -1,7 +1,6 @@
 -- No text of the library is written.
-use Rattle.std.proofs.Common.{◌≡◌, ℕ, Bool, true, refl, sym, subst, List, Option, Some, None, Result, Ok, Err}
+use Rattle.std.proofs.Common.{◌≡◌, ℕ, true, refl, sym, subst, List, Option, Some, None, Result, Ok, Err}
 use Rattle.std.specs.Prelude.{IsErr}
-use Rattle.teco_model.specs.declared.kind.Command.{Command}
 use Rattle.teco_model.specs.declared.kind.Command.TheVariants as command
 use Rattle.teco_model.specs.declared.kind.Kind.{Kind}
 use Rattle.teco_model.specs.declared.kind.Kind.TheVariants as kind
@@ -10,7 +9,6 @@ use Rattle.teco_model.specs.declared.kind.Storage.TheVariants as storage
 use Rattle.teco_rules.specs.Arguments.{KnownTaken, arguments_of, levels_after_taking}
 use Rattle.teco_rules.specs.Attempt.{◌>>=◌}
 use Rattle.teco_rules.specs.Facts.{Facts, with_arguments}
-use Rattle.teco_rules.specs.Flows.{Edges, goes_on}
 use Rattle.teco_rules.specs.Laws.{WritesText, LibraryStays}
 use Rattle.teco_rules.specs.Shifts.{Foreseen}
 use Rattle.teco_rules.specs.Storages.{own_text_storage, copy}

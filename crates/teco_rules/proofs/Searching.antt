@@ -71,7 +71,7 @@ allowed_count false y false i value e f g h = positive_count value _ refl (omega
 
 -- ---- what a search leaves
 module _ (run : Run) (facts : Facts) (unread : ℕ) (kept : Kept) (whole : IsWhole kept) (h : Holds run facts unread kept) where
-  of_count : (o : Option Value) (v : Option ℤ) → IsOptional (IsValue (fore_of kept) (back_of kept)) o v → IsWithin (count_of o facts.position.distances) (unwrap_or v (pos 1))
+  pub of_count : (o : Option Value) (v : Option ℤ) → IsOptional (IsValue (fore_of kept) (back_of kept)) o v → IsWithin (count_of o facts.position.distances) (unwrap_or v (pos 1))
   of_count o v i =
       let d = distances run facts unread kept whole h in
       interval_of_in _ facts.position.distances (fore_of kept) (back_of kept) _ d.least (omega (arith, d.within)) (omega (arith, d.within)) (or_single (fore_of kept) (back_of kept) o v (pos 1) i)
@@ -127,7 +127,7 @@ module _ (run : Run) (facts : Facts) (unread : ℕ) (kept : Kept) (whole : IsWho
   falls_alike ReplaceInPages b colons v = absurd b
 
 -- ---- steps
-succeeds_then : {X Y : Type 0} (P : X → Type 0) (Q : Y → Type 0) (r : Result X Code) (f : X → Y) → ((x : X) → P x → Q (f x)) → Succeeds P r → Succeeds Q (r >>>= λ x. Ok (f x))
+pub succeeds_then : {X Y : Type 0} (P : X → Type 0) (Q : Y → Type 0) (r : Result X Code) (f : X → Y) → ((x : X) → P x → Q (f x)) → Succeeds P r → Succeeds Q (r >>>= λ x. Ok (f x))
 succeeds_then P Q (Ok x) f k h = k x h
 succeeds_then P Q (Err c) f k h = h
 

@@ -37,7 +37,7 @@ fallen_after (Some v) (Some fall) before after begun h i = omega (arith, ints)
 fallen_after None fall before after begun h i = tt
 fallen_after (Some v) None before after begun h i = tt
 
-falls_after : (v : Option ℤ) (falls : List (Option ℤ)) (turns : List ℕ) (before after : ℕ) → IfSome v (λ w. (pos after +ℤ w) ≤ℤ pos before) → AreEach (HasFallen before) falls turns → AreEach (HasFallen after) (map (fall_after v) falls) turns
+pub falls_after : (v : Option ℤ) (falls : List (Option ℤ)) (turns : List ℕ) (before after : ℕ) → IfSome v (λ w. (pos after +ℤ w) ≤ℤ pos before) → AreEach (HasFallen before) falls turns → AreEach (HasFallen after) (map (fall_after v) falls) turns
 falls_after v [] [] before after h i = tt
 falls_after v (fall ∷ falls) (begun ∷ turns) before after h i = (fallen_after v fall before after begun h i.0, falls_after v falls turns before after h i.1)
 falls_after v [] (begun ∷ turns) before after h i = absurd i
@@ -48,7 +48,7 @@ more_unread None before after unread h = tt
 more_unread (Some v) before after unread h = omega (arith, ints)
 
 -- ahead is at most what was ahead, or what is held
-ahead_most : (v : Option ℤ) (n before after : ℕ) (held ahead : Polynomial) → IfSome v (λ w. (pos after +ℤ w) ≤ℤ pos before) → before ≤ value ahead n → after ≤ value held n → after ≤ value (ahead_after v held ahead) n
+pub ahead_most : (v : Option ℤ) (n before after : ℕ) (held ahead : Polynomial) → IfSome v (λ w. (pos after +ℤ w) ≤ℤ pos before) → before ≤ value ahead n → after ≤ value held n → after ≤ value (ahead_after v held ahead) n
 ahead_most (Some (pos v)) n before after held ahead h i j = omega (arith, ints)
 ahead_most (Some (negsuc v)) n before after held ahead h i j = j
 ahead_most None n before after held ahead h i j = j

@@ -25,3 +25,4 @@ pub mod Rows
 pub mod SoundElements
 pub mod SoundFlow
 pub mod SoundSearches
+pub mod SoundPages

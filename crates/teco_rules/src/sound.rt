@@ -2,6 +2,7 @@
 //! they describe, without a code.
 ghost use Rattle.teco_rules.specs.SoundElements.{ArgumentsAreSound, ValuesAreSound, CommandsAreSound, QueriesAreSound, StacksAreSound};
 ghost use Rattle.teco_rules.specs.SoundFlow.{TestsAreSound, LeavesAreSound, IterationsAreSound, TurnsAreSound, TurnEndsAreSound, TagsAreSound, OthersAreSound};
+ghost use Rattle.teco_rules.specs.SoundPages.{AppendsAreSound, PageTurnsAreSound, PageWritesAreSound};
 ghost use Rattle.teco_rules.specs.SoundSearches.{SearchesAreSound};
 
 /// Digits, operators, parentheses, comma and ESC.
@@ -67,4 +68,19 @@ pub fn others_are_sound()
 /// What is known of a search in the buffer is true where it found, and where it failed.
 pub fn searches_are_sound()
     ensures { SearchesAreSound }
+{}
+
+/// A adds a page behind the buffer, or answers.
+pub fn appends_are_sound()
+    ensures { AppendsAreSound }
+{}
+
+/// P turns its pages, or writes a part.
+pub fn page_turns_are_sound()
+    ensures { PageTurnsAreSound }
+{}
+
+/// PW writes, and leaves what is kept.
+pub fn page_writes_are_sound()
+    ensures { PageWritesAreSound }
 {}
