@@ -21,8 +21,8 @@ back_of kept = kept.pointer
 abbrev pub fore_of : Kept → ℕ
 fore_of kept = length kept.text - kept.pointer
 
--- What always holds of what a machine keeps: the pointer is in the text, numbers fit 32 bits, characters are bytes, and no
--- text is longer than LIMIT.
+-- What always holds of what a machine keeps: the pointer is in the text, numbers fit 32 bits, characters are bytes,
+-- and no text is longer than LIMIT.
 abbrev pub AreBytes : List ℕ → Type 0
 AreBytes text = AllByRecursion (λ c. c < 256) text
 
@@ -41,8 +41,8 @@ pub record IsWhole (kept : Kept) : Type 0 where
   pub last : kept.last_length ≤ LIMIT
   pub mode : FitsSigned w32 kept.mode
 
--- What a run is at that its facts speak of: the number that the polynomials are taken at, how much was ahead when the turns
--- of the open iterations began, the innermost first, and the push-down list of the entry.
+-- What a run is at that its facts speak of: the number that the polynomials are taken at, how much was ahead when the
+-- turns of the open iterations began, the innermost first, and the push-down list of the entry.
 pub record Run : Type 0 where
   pub n : ℕ
   pub turns : List ℕ
@@ -107,7 +107,8 @@ Answers run answer fore back unread level =
     (λ a. (v : ℤ) × (level ≡ record empty_level { value = Some v }) × IsAnswer run a fore back unread v)
 
 -- each register's number is of its interval, and its text no longer than is known
-pub record AreRegisters (run : Run) (intervals : List Interval) (lengths : List Polynomial) (pairs : List Pair) : Type 0 where
+pub record AreRegisters
+    (run : Run) (intervals : List Interval) (lengths : List Polynomial) (pairs : List Pair) : Type 0 where
   pub numbers : AreEach (λ i (pair : Pair). IsWithin i pair.number) intervals pairs
   pub texts : AreEach (λ most (pair : Pair). length pair.text ≤ value most run.n) lengths pairs
 

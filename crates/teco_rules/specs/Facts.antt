@@ -10,11 +10,11 @@ use Rattle.teco_rules.specs.declared.refusal.Refusal.TheVariants as refusal
 use Rattle.teco_rules.specs.Arguments.{KnownArguments, no_arguments}
 use Rattle.teco_rules.specs.Values.{any_number}
 
--- What is held is the buffer and the unread input; what is ahead is the part of it behind the pointer. How much there may
--- be is told by polynomials in N.
+-- What is held is the buffer and the unread input; what is ahead is the part of it behind the pointer. How much there
+-- may be is told by polynomials in N.
 
--- Where the pointer is: its least distances, for each open iteration the least fall of what is ahead since its turn began,
--- if it is known, the innermost first, and how much is ahead.
+-- Where the pointer is: its least distances, for each open iteration the least fall of what is ahead since its turn
+-- began, if it is known, the innermost first, and how much is ahead.
 pub record Position : Type 0 where
   pub distances : Distances
   pub falls : List (Option ℤ)

@@ -1,5 +1,5 @@
--- The laws of facts alone: of the ways of tests, of facts that are covered, of ways that meet, of the entry, and of the start
--- of a body and its turns.
+-- The laws of facts alone: of the ways of tests, of facts that are covered, of ways that meet, of the entry, and of
+-- the start of a body and its turns.
 use Rattle.std.specs.Prelude.{◌≡◌, ℕ, ℤ, ◌+◌, ◌-◌, ◌*◌, ◌≤◌, IsTrue, length, List, [], ◌∷◌, Bool, true, false, Option, MatchOption, IfOk, IsErr, ⊤}
 use Rattle.teco_model.specs.Arguments.{Arguments, no_arguments}
 use Rattle.teco_model.specs.Registers.{pair_of}
@@ -34,7 +34,8 @@ LibraryStays =
 
 -- a number is told: it is of a value, or it is an answer
 abbrev pub IsTold : Run → Option Answer → Value → ℕ → ℕ → ℕ → ℤ → Type 0
-IsTold run answer s fore back unread v = MatchOption answer (IsIn s fore back v) (λ a. IsAnswer run a fore back unread v)
+IsTold run answer s fore back unread v =
+    MatchOption answer (IsIn s fore back v) (λ a. IsAnswer run a fore back unread v)
 
 -- The way that a number takes is reached, and what is known on it holds.
 abbrev pub WaysAreSound : Type 0
@@ -94,15 +95,16 @@ BodyStartsAreSound =
     → Describes (run_in_turn unread kept run) (entered counted facts) unread kept arguments
     → Describes (run_in_turn unread kept run) (body_start choice written (entered counted facts)) unread kept arguments
 
--- What is carried from turn to turn: a kept iteration began its turn with no more ahead than was at its <, and with falls of
--- those outside as they were there.
+-- What is carried from turn to turn: a kept iteration began its turn with no more ahead than was at its <, and with
+-- falls of those outside as they were there.
 pub record IsCarried (run : Run) (facts : Facts) (begun : ℕ) (outer : List ℕ) : Type 0 where
   pub ahead : begun ≤ value facts.position.ahead run.n
   pub falls : AreEach (HasFallen begun) facts.position.falls outer
 
--- Where a choice returns, the facts at the start of the body describe the state behind its >, if no more is held than the
--- choice has; and what is carried to this turn is carried to the next.
-pub record BeginsAgain (run : Run) (facts start : Facts) (unread : ℕ) (kept : Kept) (kept_iteration : Bool) (outer : List ℕ) : Type 0 where
+-- Where a choice returns, the facts at the start of the body describe the state behind its >, if no more is held than
+-- the choice has; and what is carried to this turn is carried to the next.
+pub record BeginsAgain
+    (run : Run) (facts start : Facts) (unread : ℕ) (kept : Kept) (kept_iteration : Bool) (outer : List ℕ) : Type 0 where
   pub described : Describes (run_in_turn unread kept (run_behind 1 run)) start unread kept no_arguments
   pub carried : kept_iteration ≡ true → IsCarried run facts (fore_of kept + unread) outer
 
@@ -126,8 +128,8 @@ TurnsFall =
     → Describes run end unread kept arguments → run.turns ≡ begun ∷ outer
     → fore_of kept + unread + 1 ≤ begun
 
--- Where there is room, what is held grows by no more than a growth in each turn, and at the start of the last turn no more is
--- held than the choice has.
+-- Where there is room, what is held grows by no more than a growth in each turn, and at the start of the last turn no
+-- more is held than the choice has.
 pub record HasRoom (n : ℕ) (choice : Choice) (turns : Polynomial) (entering end : Facts) : Type 0 where
   pub growth : ℕ
   pub grows : value end.held n ≡ value choice.held n + growth

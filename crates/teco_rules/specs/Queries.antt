@@ -50,7 +50,8 @@ value_for q colons level = if takes q colons then standing_value level else None
 abbrev pub facts_after_query : Query → ℕ → Option Value → Facts → Result Facts Refusal
 facts_after_query q colons None facts = do
   known ← facts_at_query q facts
-  arguments ← with_level known.arguments (level_with known.position.distances (value_in (query q colons facts)) known.arguments.level)
+  arguments ← with_level known.arguments
+      (level_with known.position.distances (value_in (query q colons facts)) known.arguments.level)
   Ok (with_arguments arguments known)
 facts_after_query q colons (Some s) facts = do
   known ← query_with q (with_arguments (levels_after_taking facts.arguments) facts)

@@ -19,7 +19,8 @@ use Rattle.teco_rules.specs.Motions.{count_of, success}
 use Rattle.teco_rules.specs.Shifts.{Shift, moving, shifted, position_after}
 use Rattle.teco_rules.specs.Values.{value_in}
 
--- A first value, and a count that may be 0, may be refused by the machine; a count that may be negative is not verified.
+-- A first value, and a count that may be 0, may be refused by the machine; a count that may be negative is not
+-- verified.
 abbrev pub count_allowed : Interval → Result (Unit {0}) Refusal
 count_allowed n =
     if int_le n.lo (pos 0) && int_le (pos 0) n.hi then Err refusal.Argument

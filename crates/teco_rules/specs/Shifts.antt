@@ -12,8 +12,8 @@ use Rattle.teco_rules.specs.Attempt.{◌>>=◌}
 use Rattle.teco_rules.specs.Facts.{Position, Facts, sum_of, with_arguments}
 use Rattle.teco_rules.specs.Values.{size, pointer, minus, least, distance_of, value_in}
 
--- the least distances afterwards, how much ahead falls at the least, if that is known, and how much longer the buffer grows
--- at the most
+-- the least distances afterwards, how much ahead falls at the least, if that is known, and how much longer the buffer
+-- grows at the most
 pub record Shift : Type 0 where
   pub distances : Distances
   pub fall : Option ℤ
@@ -67,8 +67,8 @@ known_distance why None = Err why
 abbrev pub distance : Refusal → Value → Distances → Result ℕ Refusal
 distance why s distances = known_distance why (distance_of (least s distances))
 
--- To a place: it is known to lie in the buffer, its distances become those of the pointer, and what is ahead falls by what
--- the place is behind the pointer.
+-- To a place: it is known to lie in the buffer, its distances become those of the pointer, and what is ahead falls by
+-- what the place is behind the pointer.
 abbrev pub shift_to : Value → Distances → Result Shift Refusal
 shift_to place distances = do
   back ← distance refusal.Place place distances

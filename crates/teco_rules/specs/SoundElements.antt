@@ -1,4 +1,5 @@
--- The laws of what elements do to facts: where the transfer gives facts, the machine comes to a state that they describe.
+-- The laws of what elements do to facts: where the transfer gives facts, the machine comes to a state that they
+-- describe.
 use Rattle.std.specs.Prelude.{◌≡◌, ℕ, ◌+◌, ◌<◌, ◌≤◌, ⊤, length, MatchOption, Result, Ok, Err}
 use Rattle.std.specs.List.{AllByRecursion}
 use Rattle.teco_base.specs.declared.TheConstants.{LIMIT, REGISTERS}
@@ -30,7 +31,8 @@ pub record Fits (n : ℕ) (facts : Facts) : Type 0 where
   pub texts : AllByRecursion (λ most. value most n ≤ LIMIT) facts.texts
 
 -- The facts describe the state that the machine comes to, and the buffer grew by no more than they say.
-pub record Arrives (run : Run) (held : Polynomial) (unread : ℕ) (kept : Kept) (next : Facts) (after : After) : Type 0 where
+pub record Arrives
+    (run : Run) (held : Polynomial) (unread : ℕ) (kept : Kept) (next : Facts) (after : After) : Type 0 where
   pub described : Describes run next unread after.kept after.arguments
   pub grown : length after.kept.text + value held run.n ≤ length kept.text + value next.held run.n
 

@@ -1,5 +1,5 @@
--- The laws of tests, iterations and tags: the edge that the machine goes along is reached, and its facts describe the state
--- there.
+-- The laws of tests, iterations and tags: the edge that the machine goes along is reached, and its facts describe the
+-- state there.
 use Rattle.std.specs.Prelude.{◌≡◌, ℕ, ℤ, pos, ◌+◌, ◌≤◌, ◌≤ℤ◌, ⊤, List, ◌∷◌, Bool, true, false, Option, Some, None, MatchOption, Result, IfOk, if◌then◌else◌}
 use Rattle.teco_base.specs.declared.code.Code.{Code}
 use Rattle.teco_model.specs.Arguments.{Arguments, arguments_of, levels_after_taking, no_arguments}
@@ -108,11 +108,13 @@ TagsAreSound =
     (run : Run) (facts : Facts) (unread : ℕ) (kept : Kept) (arguments : Arguments) (x : Placed)
     → IsWhole kept → Describes run facts unread kept arguments → x.element.kind ≡ kind.Flow flow.GoTo
     → Tells
-    (λ edges (taken : Taken). (taken.value ≡ None) × IsReached (run_behind x.leaves run) edges.away unread kept no_arguments)
+    (λ edges (taken : Taken).
+    (taken.value ≡ None) × IsReached (run_behind x.leaves run) edges.away unread kept no_arguments)
     (transfer x facts) (arguments_of arguments.level)
 
 -- The other elements of flow, a call and a return change nothing: | goes away, and the others go on.
-pub record PassOn (run : Run) (facts : Facts) (unread : ℕ) (kept : Kept) (arguments : Arguments) (x : Placed) : Type 0 where
+pub record PassOn
+    (run : Run) (facts : Facts) (unread : ℕ) (kept : Kept) (arguments : Arguments) (x : Placed) : Type 0 where
   pub otherwise :
       x.element.kind ≡ kind.Flow flow.Otherwise
       → IfOk (transfer x facts) (λ edges. IsReached run edges.away unread kept arguments)

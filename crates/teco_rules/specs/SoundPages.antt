@@ -1,5 +1,5 @@
--- The laws of A, P and PW: where the transfer gives facts that fit, and the files that are needed are open, the pages go by
--- without a code, and the facts describe what they leave.
+-- The laws of A, P and PW: where the transfer gives facts that fit, and the files that are needed are open, the pages
+-- go by without a code, and the facts describe what they leave.
 use Rattle.std.specs.Prelude.{◌≡◌, ℕ, ℤ, ◌+◌, ◌≤◌, length, Option, Some, None, MatchOption}
 use Rattle.teco_model.specs.Arguments.{Arguments, arguments_of, levels_after_taking, levels_after_answer}
 use Rattle.teco_model.specs.Character.{character}
@@ -22,7 +22,8 @@ abbrev pub unread_of : World → ℕ
 unread_of world = length (unread world.files)
 
 -- The facts describe what a world comes to, and what is held grew by no more than they say.
-pub record ComesTo (run : Run) (held : Polynomial) (old : World) (next : Facts) (arguments : Arguments) (new : World) : Type 0 where
+pub record ComesTo
+    (run : Run) (held : Polynomial) (old : World) (next : Facts) (arguments : Arguments) (new : World) : Type 0 where
   pub described : Describes run next (unread_of new) new.kept arguments
   pub grown :
       length new.kept.text + unread_of new + value held run.n
@@ -48,7 +49,9 @@ AppendsAreSound =
     → Leads (FitsOn run.n) (Appends run facts.held world arguments) (transfer x facts) (arguments_of arguments.level)
 
 -- The first page of nP, and m,nP; and each page that follows.
-pub record TurnsPages (run : Run) (held : Polynomial) (world : World) (arguments : Arguments) (edges : Edges) (first value : Option ℤ) : Type 0 where
+pub record TurnsPages
+    (run : Run) (held : Polynomial) (world : World) (arguments : Arguments) (edges : Edges)
+    (first value : Option ℤ) : Type 0 where
   pub begins :
       Succeeds (λ (p : Progress). Comes run held world (levels_after_taking arguments) edges p.world)
       (pages page_turned (record { first = first; value = value }) world)
@@ -62,7 +65,8 @@ PageTurnsAreSound =
     (run : Run) (facts : Facts) (world : World) (arguments : Arguments) (x : Placed) (output : Output)
     → IsWhole world.kept → Describes run facts (unread_of world) world.kept arguments
     → x.element.kind ≡ kind.Page page.Next → world.files.output ≡ Some output
-    → Leads (FitsOn run.n) (λ edges (taken : Taken). TurnsPages run facts.held world arguments edges taken.first taken.value)
+    → Leads (FitsOn run.n)
+    (λ edges (taken : Taken). TurnsPages run facts.held world arguments edges taken.first taken.value)
     (transfer x facts) (arguments_of arguments.level)
 
 -- PW writes and leaves what is kept.
@@ -72,6 +76,7 @@ PageWritesAreSound =
     → IsWhole world.kept → Describes run facts (unread_of world) world.kept arguments
     → x.element.kind ≡ kind.Page page.Write → world.files.output ≡ Some output
     → Leads (FitsOn run.n)
-    (λ edges (taken : Taken). Succeeds (λ (p : Progress). Comes run facts.held world (levels_after_taking arguments) edges p.world)
+    (λ edges (taken : Taken). Succeeds
+    (λ (p : Progress). Comes run facts.held world (levels_after_taking arguments) edges p.world)
     (pages page_written (record { first = taken.first; value = taken.value }) world))
     (transfer x facts) (arguments_of arguments.level)

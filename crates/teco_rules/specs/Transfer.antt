@@ -33,8 +33,8 @@ use Rattle.teco_rules.specs.Storages.{storage, stack}
 use Rattle.teco_rules.specs.Typings.{typing}
 use Rattle.teco_rules.specs.Values.{single, value_in, size, pointer}
 
--- An element where it stands: whether the register that it names is one of the library's, whether it stands in an iteration
--- of its own text, whether a search counts as having a colon, and how many iterations its skip leaves.
+-- An element where it stands: whether the register that it names is one of the library's, whether it stands in an
+-- iteration of its own text, whether a search counts as having a colon, and how many iterations its skip leaves.
 pub record Placed : Type 0 where
   pub element : Element
   pub library : Bool
@@ -77,7 +77,8 @@ level_with_value LastText distances level = Err refusal.Unverified
 
 abbrev pub facts_after_value : Given → Facts → Result Facts Refusal
 facts_after_value v facts =
-    facts_after_levels (with_level facts.arguments (level_with_value v facts.position.distances facts.arguments.level)) facts
+    let level = level_with_value v facts.position.distances facts.arguments.level in
+    facts_after_levels (with_level facts.arguments level) facts
 
 -- what a command does with the arguments that it took
 abbrev pub execution : Command → Placed → KnownTaken → Facts → Result Foreseen Refusal
@@ -106,8 +107,8 @@ on changed = do
   facts ← changed
   Ok (goes_on facts)
 
--- A search that counts as having a colon answers; any other goes on where it found, and where it failed leaves its iteration,
--- in which alone it is verified.
+-- A search that counts as having a colon answers; any other goes on where it found, and where it failed leaves its
+-- iteration, in which alone it is verified.
 abbrev pub search_outcomes : Bool → Bool → Facts → Facts → Result Edges Refusal
 search_outcomes inside true found failed = on (facts_of_answer found failed)
 search_outcomes true false found failed = Ok (record { on = Some found; away = Some (leaving 1 failed) })

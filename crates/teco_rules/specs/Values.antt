@@ -1,5 +1,5 @@
--- What is known of a number: an interval, or a linear value in Z and the pointer. Both are one thing, told in the distances
--- of the pointer from the end of the buffer and from its begin: Z is the sum of both, and . the latter.
+-- What is known of a number: an interval, or a linear value in Z and the pointer. Both are one thing, told in the
+-- distances of the pointer from the end of the buffer and from its begin: Z is the sum of both, and . the latter.
 use Rattle.std.specs.Prelude.{ℕ, ℤ, pos, negsuc, ◌-◌, ◌^◌, ◌+ℤ◌, ◌-ℤ◌, ◌*ℤ◌, ◌≤ℤ◌, int_le, int_lt, int_div, min, unsigned_abs, FitsSigned, Bool, ◌&&◌, ◌||◌, Option, Some, None, if◌then◌else◌}
 use Rattle.std.specs.Int.{int_min, int_max, w32}
 use Rattle.teco_base.specs.declared.TheConstants.{LIMIT}

@@ -106,8 +106,8 @@ position_on n s position =
     then option_map (λ distances. record position { distances = distances }) (raised n s position.distances)
     else None
 
--- A search's answer is -1 where it found, and 0 where it failed: the position is that of the outcome that takes the way, or
--- what is known of both.
+-- A search's answer is -1 where it found, and 0 where it failed: the position is that of the outcome that takes the
+-- way, or what is known of both.
 abbrev pub position_of : Numbers → Answer → Position → Option Position
 position_of Zero answer position = Some answer.failed
 position_of NotZero answer position = Some answer.found

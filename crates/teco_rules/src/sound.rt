@@ -1,5 +1,5 @@
-//! Laws of what elements do to what is known: where the transfer gives facts that fit, the machine comes to a state that
-//! they describe, without a code.
+//! Laws of what elements do to what is known: where the transfer gives facts that fit, the machine comes to a state
+//! that they describe, without a code.
 ghost use Rattle.teco_rules.specs.SoundElements.{ArgumentsAreSound, ValuesAreSound, CommandsAreSound, QueriesAreSound, StacksAreSound};
 ghost use Rattle.teco_rules.specs.SoundFlow.{TestsAreSound, LeavesAreSound, IterationsAreSound, TurnsAreSound, TurnEndsAreSound, TagsAreSound, OthersAreSound};
 ghost use Rattle.teco_rules.specs.SoundPages.{AppendsAreSound, PageTurnsAreSound, PageWritesAreSound};
