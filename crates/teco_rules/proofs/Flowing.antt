@@ -39,7 +39,7 @@ use Rattle.teco_rules.specs.declared.refusal.Refusal.TheVariants as refusal
 use Rattle.teco_rules.specs.declared.values.Value.{Value}
 
 -- ---- steps
-tells_then : {X Y A : Type 0} (P : X → Y → Type 0) (Q : A → Y → Type 0) (r : Result X Refusal) (c : Result Y Code) (f : X → Result A Refusal) → Covers P r c → ((x : X) (y : Y) → P x y → Tells Q (f x) (Ok y)) → Tells Q (r >>= f) c
+pub tells_then : {X Y A : Type 0} (P : X → Y → Type 0) (Q : A → Y → Type 0) (r : Result X Refusal) (c : Result Y Code) (f : X → Result A Refusal) → Covers P r c → ((x : X) (y : Y) → P x y → Tells Q (f x) (Ok y)) → Tells Q (r >>= f) c
 tells_then P Q (Ok x) (Ok y) f h k = k x y h
 tells_then P Q (Ok x) (Err e) f h k = absurd h
 tells_then P Q (Err e) c f h k = tt

@@ -23,3 +23,4 @@ pub mod Matching
 pub mod Searching
 pub mod Library
 pub mod Paging
+pub mod Steppings

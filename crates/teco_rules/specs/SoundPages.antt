@@ -1,19 +1,22 @@
 -- The laws of A, P and PW: where the transfer gives facts that fit, and the files that are needed are open, the pages
 -- go by without a code, and the facts describe what they leave.
-use Rattle.std.specs.Prelude.{◌≡◌, ℕ, ℤ, ◌+◌, ◌≤◌, length, Option, Some, None, MatchOption}
+use Rattle.std.specs.Prelude.{◌≡◌, ℕ, ℤ, pos, unwrap_or, ◌≤ℤ◌, ⊤, ◌+◌, ◌≤◌, length, Option, Some, None, MatchOption}
 use Rattle.teco_model.specs.Arguments.{Arguments, arguments_of, levels_after_taking, levels_after_answer}
 use Rattle.teco_model.specs.Character.{character}
 use Rattle.teco_model.specs.Files.{Input, Output}
 use Rattle.teco_model.specs.Paging.{Progress, unread, append, pages, page_turned, page_written}
-use Rattle.teco_model.specs.State.{World}
+use Rattle.teco_model.specs.State.{Kept, World}
 use Rattle.teco_model.specs.Step.{after}
 use Rattle.teco_model.specs.declared.arguments.Taken.{Taken}
 use Rattle.teco_model.specs.declared.kind.Kind.TheVariants as kind
+use Rattle.teco_model.specs.declared.kind.Page.{Page}
 use Rattle.teco_model.specs.declared.kind.Page.TheVariants as page
 use Rattle.teco_poly.specs.Polynomial.{Polynomial, value}
 use Rattle.teco_rules.specs.Describes.{Run, IsWhole, Describes}
 use Rattle.teco_rules.specs.Facts.{Facts}
 use Rattle.teco_rules.specs.Flows.{Edges}
+use Rattle.teco_rules.specs.Printed.{steps}
+use Rattle.teco_rules.specs.SoundFlow.{Tells}
 use Rattle.teco_rules.specs.SoundElements.{Leads, Succeeds, Arrives, FitsOn}
 use Rattle.teco_rules.specs.Transfer.{Placed, transfer}
 
@@ -80,3 +83,20 @@ PageWritesAreSound =
     (λ (p : Progress). Comes run facts.held world (levels_after_taking arguments) edges p.world)
     (pages page_written (record { first = taken.first; value = taken.value }) world))
     (transfer x facts) (arguments_of arguments.level)
+
+-- nP and nPW take as many steps as pages, at most as many as are known; m,nP and m,nPW take one.
+abbrev pub PagesAtMost : ℕ → Option ℤ → Option ℤ → Type 0
+PagesAtMost most (Some m) (Some n) = 1 ≤ most
+PagesAtMost most first n = unwrap_or n (pos 1) ≤ℤ pos most
+
+abbrev pub IsTurnOrWrite : Page → Type 0
+IsTurnOrWrite page.Next = ⊤
+IsTurnOrWrite page.Write = ⊤
+IsTurnOrWrite p = ⊥
+
+abbrev pub PageStepsAreBounded : Type 0
+PageStepsAreBounded =
+    (run : Run) (facts : Facts) (unread : ℕ) (kept : Kept) (arguments : Arguments) (p : Page)
+    → IsWhole kept → Describes run facts unread kept arguments → IsTurnOrWrite p
+    → Tells (λ most (taken : Taken). PagesAtMost (value most run.n) taken.first taken.value)
+    (steps (kind.Page p) facts) (arguments_of arguments.level)

@@ -2,7 +2,7 @@
 //! that they describe, without a code.
 ghost use Rattle.teco_rules.specs.SoundElements.{ArgumentsAreSound, ValuesAreSound, CommandsAreSound, QueriesAreSound, StacksAreSound};
 ghost use Rattle.teco_rules.specs.SoundFlow.{TestsAreSound, LeavesAreSound, IterationsAreSound, TurnsAreSound, TurnEndsAreSound, TagsAreSound, OthersAreSound};
-ghost use Rattle.teco_rules.specs.SoundPages.{AppendsAreSound, PageTurnsAreSound, PageWritesAreSound};
+ghost use Rattle.teco_rules.specs.SoundPages.{AppendsAreSound, PageTurnsAreSound, PageWritesAreSound, PageStepsAreBounded};
 ghost use Rattle.teco_rules.specs.SoundSearches.{SearchesAreSound};
 
 /// Digits, operators, parentheses, comma and ESC.
@@ -83,4 +83,9 @@ pub fn page_turns_are_sound()
 /// PW writes, and leaves what is kept.
 pub fn page_writes_are_sound()
     ensures { PageWritesAreSound }
+{}
+
+/// P and PW take at most as many steps as are known.
+pub fn page_steps_are_bounded()
+    ensures { PageStepsAreBounded }
 {}
