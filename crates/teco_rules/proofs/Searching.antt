@@ -250,17 +250,16 @@ module _ (run : Run) (facts : Facts) (unread : ℕ) (kept : Kept) (arguments : m
     answered_by (Ok position) j None l last = λ fits. missed_answers position j last
     answered_by (Ok position) j (Some span) l last = λ fits. span_found span last l fits.buffer (ArrivesBy true (record { on = Some (answered position); away = None })) (found_answers position j)
 
-    outcome_leads : (colon inside : Bool) → (colon ≡ false → x.element.colons ≡ 0) → (o : Option Span) → IfSome o (LiesAhead kept.text kept.pointer least) → (last : List ℕ) → Leads (FitsOn run.n) (ArrivesBy colon) (transfers.search_outcomes inside colon found (row.facts_failed s x.element.colons taking)) (searching.finding_of s x.element o (record kept { search_text = last }))
-    outcome_leads true inside c o l last = answered_by _ (position_joined run found.position failed (falls_alike run taking unread kept whole taking_holds s inside_buffer x.element.colons shift.fall)) o l last
-    outcome_leads false false c o l last = tt
-    outcome_leads false true c None l last = λ fits typed. missed_leaves (c refl) last typed
-    outcome_leads false true c (Some span) l last = λ fits. span_found span last l fits.buffer (ArrivesBy false (record { on = Some found; away = Some (leaving 1 (row.facts_failed s x.element.colons taking)) })) found_arrives
+    outcome_leads : (colon : Bool) → (colon ≡ false → x.element.colons ≡ 0) → (o : Option Span) → IfSome o (LiesAhead kept.text kept.pointer least) → (last : List ℕ) → Leads (FitsOn run.n) (ArrivesBy colon) (transfers.search_outcomes colon found (row.facts_failed s x.element.colons taking)) (searching.finding_of s x.element o (record kept { search_text = last }))
+    outcome_leads true c o l last = answered_by _ (position_joined run found.position failed (falls_alike run taking unread kept whole taking_holds s inside_buffer x.element.colons shift.fall)) o l last
+    outcome_leads false c None l last = λ fits typed. missed_leaves (c refl) last typed
+    outcome_leads false c (Some span) l last = λ fits. span_found span last l fits.buffer (ArrivesBy false (record { on = Some found; away = Some (leaving 1 (row.facts_failed s x.element.colons taking)) })) found_arrives
 
   -- what is held after what was put in
-  grown_leads : (least : ℕ) (r : Result Polynomial Refusal) → IfOk r (λ held. value held run.n ≡ value facts.held run.n + value (row.shift_found s least (length x.element.second) facts.position.distances).growth run.n) → (o : Option Span) → IfSome o (LiesAhead kept.text kept.pointer least) → (last : List ℕ) → Leads (FitsOn run.n) (SearchArrives run facts.held unread kept arguments x) ((r >>= λ held. Ok (facts_behind (row.shift_found s least (length x.element.second) facts.position.distances) held taking)) >>= λ found. transfers.search_outcomes x.inside x.colon found (row.facts_failed s x.element.colons taking)) (searching.finding_of s x.element o (record kept { search_text = last }))
+  grown_leads : (least : ℕ) (r : Result Polynomial Refusal) → IfOk r (λ held. value held run.n ≡ value facts.held run.n + value (row.shift_found s least (length x.element.second) facts.position.distances).growth run.n) → (o : Option Span) → IfSome o (LiesAhead kept.text kept.pointer least) → (last : List ℕ) → Leads (FitsOn run.n) (SearchArrives run facts.held unread kept arguments x) ((r >>= λ held. Ok (facts_behind (row.shift_found s least (length x.element.second) facts.position.distances) held taking)) >>= λ found. transfers.search_outcomes x.colon found (row.facts_failed s x.element.colons taking)) (searching.finding_of s x.element o (record kept { search_text = last }))
   grown_leads least (Err why) e o l last = tt
-  grown_leads least (Ok held) e o l last = arrives_so x.colon has_colon (outcome_leads least held e x.colon x.inside has_colon o l last) where
-    arrives_so : (colon : Bool) → (colon ≡ false → x.element.colons ≡ 0) → Leads (FitsOn run.n) (ArrivesBy least held e x.colon) (transfers.search_outcomes x.inside x.colon (found least held e) (row.facts_failed s x.element.colons taking)) (searching.finding_of s x.element o (record kept { search_text = last })) → Leads (FitsOn run.n) (SearchArrives run facts.held unread kept arguments x) (transfers.search_outcomes x.inside x.colon (found least held e) (row.facts_failed s x.element.colons taking)) (searching.finding_of s x.element o (record kept { search_text = last }))
+  grown_leads least (Ok held) e o l last = arrives_so x.colon has_colon (outcome_leads least held e x.colon has_colon o l last) where
+    arrives_so : (colon : Bool) → (colon ≡ false → x.element.colons ≡ 0) → Leads (FitsOn run.n) (ArrivesBy least held e x.colon) (transfers.search_outcomes x.colon (found least held e) (row.facts_failed s x.element.colons taking)) (searching.finding_of s x.element o (record kept { search_text = last })) → Leads (FitsOn run.n) (SearchArrives run facts.held unread kept arguments x) (transfers.search_outcomes x.colon (found least held e) (row.facts_failed s x.element.colons taking)) (searching.finding_of s x.element o (record kept { search_text = last }))
     arrives_so colon c h = leads_as _ _ h where
       leads_as : (r : Result Edges Refusal) (c : Result Finding Code) → Leads (FitsOn run.n) (ArrivesBy least held e x.colon) r c → Leads (FitsOn run.n) (SearchArrives run facts.held unread kept arguments x) r c
       leads_as (Err why) c h = tt
@@ -268,19 +267,23 @@ module _ (run : Run) (facts : Facts) (unread : ℕ) (kept : Kept) (arguments : m
       leads_as (Ok edges) (Ok (Found new)) h = h
       leads_as (Ok edges) (Ok (Missed new)) h = h
 
-  searched : (t : Taken) (m : ℕ) → searching.count_of t.first t.value ≡ Ok (pos (suc m)) → Leads (FitsOn run.n) (SearchArrives run facts.held unread kept arguments x) (row.facts_found s x.element taking >>= λ found. transfers.search_outcomes x.inside x.colon found (row.facts_failed s x.element.colons taking)) (searching.search s x.element t kept)
+  searched : (t : Taken) (m : ℕ) → searching.count_of t.first t.value ≡ Ok (pos (suc m)) → Leads (FitsOn run.n) (SearchArrives run facts.held unread kept arguments x) (row.facts_found s x.element taking >>= λ found. transfers.search_outcomes x.colon found (row.facts_failed s x.element.colons taking)) (searching.search s x.element t kept)
   searched t m e =
       rw e
-      (minimum_leads (FitsOn run.n) (SearchArrives run facts.held unread kept arguments x) kept x.element.text (λ least. shifted (row.shift_found s least (length x.element.second) facts.position.distances) taking) (λ found. transfers.search_outcomes x.inside x.colon found (row.facts_failed s x.element.colons taking)) (λ p. searching.finding_of s x.element (searching.match_of p x.element.colons (pos (suc m)) kept.text kept.pointer) (record kept { search_text = searching.search_text_of x.element.text kept }))
+      (minimum_leads (FitsOn run.n) (SearchArrives run facts.held unread kept arguments x) kept x.element.text (λ least. shifted (row.shift_found s least (length x.element.second) facts.position.distances) taking) (λ found. transfers.search_outcomes x.colon found (row.facts_failed s x.element.colons taking)) (λ p. searching.finding_of s x.element (searching.match_of p x.element.colons (pos (suc m)) kept.text kept.pointer) (record kept { search_text = searching.search_text_of x.element.text kept }))
       (λ least p long. grown_leads least _ (value-sum_of run.n facts.held _) _ (match_lies p kept.text least long x.element.colons m kept.pointer) _))
 
-  at_search : (r : Result KnownTaken Refusal) (c : Result Taken Code) → Covers (IsTaken (fore_of kept) (back_of kept)) r c → Leads (FitsOn run.n) (SearchArrives run facts.held unread kept arguments x) ((r >>= λ known. row.count_checked known.first known.value facts.position.distances >>= λ u. Ok taking) >>= λ taken. row.facts_found s x.element taken >>= λ found. transfers.search_outcomes x.inside x.colon found (row.facts_failed s x.element.colons taken)) (c >>>= λ t. searching.search s x.element t kept)
+  allowed_first : (r : Result (Unit {0}) Refusal) (z : Result Edges Refusal) (c : Result Finding Code) → Leads (FitsOn run.n) (SearchArrives run facts.held unread kept arguments x) z c → Leads (FitsOn run.n) (SearchArrives run facts.held unread kept arguments x) (r >>= λ allowed. z) c
+  allowed_first (Ok u) z c h = h
+  allowed_first (Err why) z c h = tt
+
+  at_search : (r : Result KnownTaken Refusal) (c : Result Taken Code) → Covers (IsTaken (fore_of kept) (back_of kept)) r c → Leads (FitsOn run.n) (SearchArrives run facts.held unread kept arguments x) ((r >>= λ known. row.count_checked known.first known.value facts.position.distances >>= λ u. Ok taking) >>= λ taken. transfers.search_allowed x.inside x.colon >>= λ allowed. row.facts_found s x.element taken >>= λ found. transfers.search_outcomes x.colon found (row.facts_failed s x.element.colons taken)) (c >>>= λ t. searching.search s x.element t kept)
   at_search (Err why) c h = tt
   at_search (Ok k) (Err c) h = absurd h
   at_search (Ok k) (Ok t) h = by_count _ (counted run facts unread kept whole d.state k.first k.value t.first t.value h.first h.value) where
-    by_count : (r : Result (Unit {0}) Refusal) → IfOk r (λ u. Counts t.first t.value) → Leads (FitsOn run.n) (SearchArrives run facts.held unread kept arguments x) ((r >>= λ u. Ok taking) >>= λ taken. row.facts_found s x.element taken >>= λ found. transfers.search_outcomes x.inside x.colon found (row.facts_failed s x.element.colons taken)) (searching.search s x.element t kept)
+    by_count : (r : Result (Unit {0}) Refusal) → IfOk r (λ u. Counts t.first t.value) → Leads (FitsOn run.n) (SearchArrives run facts.held unread kept arguments x) ((r >>= λ u. Ok taking) >>= λ taken. transfers.search_allowed x.inside x.colon >>= λ allowed. row.facts_found s x.element taken >>= λ found. transfers.search_outcomes x.colon found (row.facts_failed s x.element.colons taken)) (searching.search s x.element t kept)
     by_count (Err why) n = tt
-    by_count (Ok u) (m, e) = searched t m e
+    by_count (Ok u) (m, e) = allowed_first _ _ _ (searched t m e)
 
 pub searches_are_sound : SearchesAreSound
 unfolding transfer

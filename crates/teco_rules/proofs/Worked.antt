@@ -27,4 +27,7 @@ fact_rows = record {
   alone = refl;
   below = refl;
   library = refl;
+  unanswered = refl;
+  no_text = refl;
+  pending = refl;
 }

@@ -143,3 +143,6 @@ pub record FactRows : Type 0 where
   pub alone : from_entry 1 (codes "=") ≡ Err refusal.Argument
   pub below : from_entry 1 (codes "]A") ≡ Err refusal.Pop
   pub library : behind 2 true (codes "[A]A") 0 entry_facts ≡ Err refusal.Written
+  pub unanswered : from_entry 1 (codes "Sfoo" ++ ESC ∷ []) ≡ Err refusal.Unverified
+  pub no_text : from_entry 1 (codes ":S" ++ ESC ∷ []) ≡ Err refusal.Unverified
+  pub pending : from_entry 4 (codes "5+(<") ≡ Err refusal.Pending

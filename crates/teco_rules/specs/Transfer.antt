@@ -1,5 +1,5 @@
 -- What an element does to what is known before it.
-use Rattle.std.specs.Prelude.{ℕ, pos, neg_ℤ, List, Bool, true, false, Option, Some, None, Result, Ok, Err}
+use Rattle.std.specs.Prelude.{ℕ, pos, neg_ℤ, List, Bool, true, false, Option, Some, None, Result, Ok, Err, ◌||◌, if◌then◌else◌}
 use Rattle.teco_base.specs.declared.TheConstants.{LIMIT}
 use Rattle.teco_model.specs.declared.kind.Kind.{Kind}
 use Rattle.teco_model.specs.declared.kind.Kind.TheVariants as kind
@@ -107,18 +107,21 @@ on changed = do
   facts ← changed
   Ok (goes_on facts)
 
--- A search that counts as having a colon answers; any other goes on where it found, and where it failed leaves its
--- iteration, in which alone it is verified.
-abbrev pub search_outcomes : Bool → Bool → Facts → Facts → Result Edges Refusal
-search_outcomes inside true found failed = on (facts_of_answer found failed)
-search_outcomes true false found failed = Ok (record { on = Some found; away = Some (leaving 1 failed) })
-search_outcomes false false found failed = Err refusal.Unverified
+-- A search that counts as having a colon answers; any other is verified in an iteration alone, goes on where it found, and
+-- where it failed leaves that.
+abbrev pub search_allowed : Bool → Bool → Result (Unit {0}) Refusal
+search_allowed inside colon = if inside || colon then Ok tt else Err refusal.Unverified
+
+abbrev pub search_outcomes : Bool → Facts → Facts → Result Edges Refusal
+search_outcomes true found failed = on (facts_of_answer found failed)
+search_outcomes false found failed = Ok (record { on = Some found; away = Some (leaving 1 failed) })
 
 abbrev pub search_edges : Search → Placed → Facts → Result Edges Refusal
 search_edges s x facts = do
   taken ← facts_at_search facts
+  allowed ← search_allowed x.inside x.colon
   found ← facts_found s x.element taken
-  search_outcomes x.inside x.colon found (facts_failed s x.element.colons taken)
+  search_outcomes x.colon found (facts_failed s x.element.colons taken)
 
 -- the other elements of files are not verified; their arguments are taken first
 abbrev pub file_edges : Facts → Result Edges Refusal
