@@ -1,0 +1,26 @@
+-- Lemmas of the laws.
+pub mod Steps
+pub mod Numbers
+pub mod Quotients
+pub mod Pending
+pub mod Near
+pub mod Each
+pub mod Ways
+pub mod Covering
+pub mod Meeting
+pub mod Bodies
+pub mod Worked
+pub mod Leading
+pub mod Lines
+pub mod Shapes
+pub mod Moving
+pub mod Editing
+pub mod Registers
+pub mod Asking
+pub mod Transfers
+pub mod Flowing
+pub mod Matching
+pub mod Searching
+pub mod Library
+pub mod Paging
+pub mod Steppings
