@@ -4,7 +4,7 @@ use super::*;
 use std::alloc::Global;
 use std::process::Abort;
 use teco_base::Reg;
-use teco_model::Span;
+use teco_model::{Sought, Span};
 use teco_regs::Regs;
 
 #[derive(Clone, Copy)]
@@ -102,6 +102,29 @@ fn matches_from_a_place(rt: HostRuntime) {
     for (search, text, from, way, want) in rows {
         let pattern = read(rt.alloc(), search, &regs, true).expect(&rt, "a pattern");
         expect_found(&rt, &pattern, text, from, way, want);
+    }
+}
+
+#[test]
+fn the_last_of_some_matches(rt: HostRuntime) {
+    let regs = registers(&rt, rt.alloc());
+    let rows: [(&[u8], &[u8], usize, u32, Result<(usize, usize), u32>); 6] = [
+        (b"aa", b"aaaa", 0, 1, Ok((0, 2))),
+        (b"aa", b"aaaa", 0, 2, Ok((2, 4))),
+        (b"aa", b"aaaa", 0, 5, Err(3)),
+        (b"ab", b"abcab", 1, 2, Err(1)),
+        (b"ab", b"abcab", 1, 1, Ok((3, 5))),
+        (b"x", b"", 0, 7, Err(7)),
+    ];
+    for (search, text, from, n, want) in rows {
+        let pattern = read(rt.alloc(), search, &regs, true).expect(&rt, "a pattern");
+        for cut in 0..=text.len() {
+            let found = match pattern.seek(text.split_at(cut), from, n) {
+                Sought::Last(span) => Ok((span.start, span.end)),
+                Sought::Wanted(more) => Err(more),
+            };
+            assert_eq!(rt; found, want);
+        }
     }
 }
 

@@ -9,5 +9,5 @@ pub use files::{abandon_output, close_output, copy_all, exit, open_input, open_o
 pub use halt::Halt;
 pub use pages::{append, has_unread, look_through, turn_page, write_page, write_range, yank};
 
-// #[cfg(test)]
-// mod tests;
+#[cfg(test)]
+mod tests;

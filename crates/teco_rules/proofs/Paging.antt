@@ -17,7 +17,7 @@ use Rattle.teco_rules.proofs.Searching.{succeeds_then, of_count}
 use Rattle.teco_rules.specs.Pages as row
 use Rattle.teco_rules.specs.Transfer.{transfer}
 use Rattle.teco_model.specs.Character.{character}
-use Rattle.teco_model.specs.Step.{after}
+use Rattle.teco_model.specs.Going.{after}
 use Rattle.teco_rules.proofs.Asking.{code_value}
 use Rattle.teco_rules.proofs.Bodies.{falls_carried}
 use Rattle.teco_rules.proofs.Flowing.{taken_are, taking_is}
@@ -208,7 +208,7 @@ module _ (run : Run) (facts : Facts) (world : World) (pending : arguments.Argume
   }
 
   -- a part that is written
-  part_written : (P : model.Progress → Type 0) (r : Result Part Code) → Editing.Comes r → ((part : Part) → P (record { world = model.world_after_writing (characters_of part world.kept) world; left = 0 })) → Succeeds P (r >>>= λ part. Ok (record { world = model.world_after_writing (characters_of part world.kept) world; left = 0 }))
+  part_written : (P : model.Progress → Type 0) (r : Result Part Code) → Editing.Comes r → ((part : Part) → P (record { world = model.world_after_writing (characters_of part world.kept) world; left = 0 })) → Succeeds P (((r >>>= λ part. Ok (characters_of part world.kept)) >>>= λ text. Ok (model.world_after_writing text world)) >>>= λ done. Ok (record { world = done; left = 0 }))
   part_written P (Ok part) c h = h part
   part_written P (Err e) c h = absurd c
 
@@ -231,7 +231,7 @@ module _ (run : Run) (facts : Facts) (world : World) (pending : arguments.Argume
     counted_turns m v c (Err why) h sum e = tt
     counted_turns m v c (Ok u) h (Err why) e = tt
     counted_turns m v c (Ok u) h (Ok held) e = λ l. record {
-      begins = with_output (λ p. ComesTo run facts.held world (page_behind held) (arguments.levels_after_taking pending) p.world) _ _ out (λ q. c _ (counted_pages model.page_turned (unwrap_or v (pos 1)) (λ p. ComesTo run facts.held world (page_behind held) (arguments.levels_after_taking pending) p.world) h (λ k. succeeds_then (ComesTo run facts.held world (page_behind held) (arguments.levels_after_taking pending)) (λ p. ComesTo run facts.held world (page_behind held) (arguments.levels_after_taking pending) p.world) _ _ (λ w c. c) (page_succeeds held e l.buffer))));
+      begins = with_output (λ p. ComesTo run facts.held world (page_behind held) (arguments.levels_after_taking pending) p.world) _ _ out (λ q. c _ (counted_pages model.page_turned (unwrap_or v (pos 1)) (λ p. ComesTo run facts.held world (page_behind held) (arguments.levels_after_taking pending) p.world) h (λ k. with_output (λ p. ComesTo run facts.held world (page_behind held) (arguments.levels_after_taking pending) p.world) _ _ out (λ opened. succeeds_then (ComesTo run facts.held world (page_behind held) (arguments.levels_after_taking pending)) (λ p. ComesTo run facts.held world (page_behind held) (arguments.levels_after_taking pending) p.world) _ _ (λ w c. c) (page_succeeds held e l.buffer)))));
       more = λ later none c. page_again held e l.buffer later c;
     }
 
@@ -254,7 +254,7 @@ module _ (run : Run) (facts : Facts) (world : World) (pending : arguments.Argume
 
     counted_writes : (m v : Option ℤ) (as_counted : (P : model.Progress → Type 0) → Succeeds P (model.page_count (unwrap_or v (pos 1)) >>>= λ n. model.one_page_of model.page_written n world) → Succeeds P (model.pages_of model.page_written m v world)) (r : Result (Unit {0}) Refusal) → IfOk r (λ u. pos 1 ≤ℤ unwrap_or v (pos 1)) → FitsThen (Writes m v) (transfers.on ((r >>= λ some. Ok (silent taking)) >>= λ known. Ok (facts_answered known)))
     counted_writes m v c (Err why) h = tt
-    counted_writes m v c (Ok u) h = λ l. with_output (λ p. ComesTo run facts.held world unchanged (arguments.levels_after_taking pending) p.world) _ _ out (λ q. c _ (counted_pages model.page_written (unwrap_or v (pos 1)) (λ p. ComesTo run facts.held world unchanged (arguments.levels_after_taking pending) p.world) h (λ k. stays _ refl)))
+    counted_writes m v c (Ok u) h = λ l. with_output (λ p. ComesTo run facts.held world unchanged (arguments.levels_after_taking pending) p.world) _ _ out (λ q. c _ (counted_pages model.page_written (unwrap_or v (pos 1)) (λ p. ComesTo run facts.held world unchanged (arguments.levels_after_taking pending) p.world) h (λ k. with_output (λ p. ComesTo run facts.held world unchanged (arguments.levels_after_taking pending) p.world) _ _ out (λ opened. stays _ refl))))
 
     writing_writes : (f o : Option Value) (m v : Option ℤ) → IsOptional (IsValue (fore_of world.kept) (back_of world.kept)) f m → IsOptional (IsValue (fore_of world.kept) (back_of world.kept)) o v → FitsThen (Writes m v) (transfers.on (row.writing f o taking >>= λ known. Ok (facts_answered known)))
     writing_writes (Some s) (Some t) (Some v) (Some w) i j = range_writes _ v w (Editing.both_named run taking (unread_of world) world.kept whole taking_holds s t v w i.is j.is)

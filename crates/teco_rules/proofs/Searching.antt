@@ -17,7 +17,8 @@ use Rattle.teco_model.specs.Pattern.{Pattern, minimum}
 use Rattle.teco_model.specs.Search as searching
 use Rattle.teco_model.specs.Search.{Finding, Found, Missed}
 use Rattle.teco_model.specs.State.{Kept}
-use Rattle.teco_model.specs.Step.{after, colon_miss, at_start, answer_where}
+use Rattle.teco_model.specs.Going.{after}
+use Rattle.teco_model.specs.Searching.{kept_by_miss, at_start, answer_where}
 use Rattle.teco_model.specs.declared.arguments.Taken.{Taken}
 use Rattle.teco_model.specs.declared.kind.Search.{Search}
 use Rattle.teco_model.specs.declared.kind.Search.TheVariants.{Find, Replace, FindInPages, ReplaceInPages}
@@ -105,12 +106,12 @@ module _ (run : Run) (facts : Facts) (unread : ℕ) (kept : Kept) (whole : IsWho
   failed_at_begin : IsAt run (position_after (row.shift_to_begin facts.position.distances) facts.held facts.position) (length kept.text - 0) 0 unread
   failed_at_begin = shifted_at run facts unread kept whole h (row.shift_to_begin facts.position.distances) (record kept { pointer = 0 }) facts.held to_begin h.held
 
-  failed_in : (colons : ℕ) (last : List ℕ) → let new = colon_miss colons (record kept { search_text = last }) in IsAt run (row.position_failed_in colons facts) (fore_of new) (back_of new) unread
+  failed_in : (colons : ℕ) (last : List ℕ) → let new = kept_by_miss colons (record kept { search_text = last }) in IsAt run (row.position_failed_in colons facts) (fore_of new) (back_of new) unread
   failed_in zero last = failed_at_begin
   failed_in (suc zero) last = failed_at_begin
   failed_in (suc (suc colons)) last = h.position
 
-  failed_at : (s : Search) → IsInBuffer s → (colons : ℕ) (last : List ℕ) → let new = colon_miss colons (record kept { search_text = last }) in IsAt run (row.position_failed s colons facts) (fore_of new) (back_of new) unread
+  failed_at : (s : Search) → IsInBuffer s → (colons : ℕ) (last : List ℕ) → let new = kept_by_miss colons (record kept { search_text = last }) in IsAt run (row.position_failed s colons facts) (fore_of new) (back_of new) unread
   failed_at Find b colons last = failed_in colons last
   failed_at Replace b colons last = failed_in colons last
   failed_at FindInPages b colons last = absurd b
@@ -196,20 +197,20 @@ module _ (run : Run) (facts : Facts) (unread : ℕ) (kept : Kept) (arguments : m
     }
 
     -- a miss leaves text and registers
-    missed_text : (colons : ℕ) (last : List ℕ) → (colon_miss colons (record kept { search_text = last })).text ≡ kept.text
+    missed_text : (colons : ℕ) (last : List ℕ) → (kept_by_miss colons (record kept { search_text = last })).text ≡ kept.text
     missed_text zero last = refl
     missed_text (suc zero) last = refl
     missed_text (suc (suc colons)) last = refl
 
-    missed_registers : (colons : ℕ) (last : List ℕ) → (colon_miss colons (record kept { search_text = last })).registers ≡ kept.registers
+    missed_registers : (colons : ℕ) (last : List ℕ) → (kept_by_miss colons (record kept { search_text = last })).registers ≡ kept.registers
     missed_registers zero last = refl
     missed_registers (suc zero) last = refl
     missed_registers (suc (suc colons)) last = refl
 
-    missed_answers : (position : Position) → IsJoin run found.position failed position → (last : List ℕ) → Arrives run facts.held unread kept (answered position) (after (colon_miss x.element.colons (record kept { search_text = last })) (model.levels_after_answer (Some (pos 0)) (model.levels_after_taking arguments)))
+    missed_answers : (position : Position) → IsJoin run found.position failed position → (last : List ℕ) → Arrives run facts.held unread kept (answered position) (after (kept_by_miss x.element.colons (record kept { search_text = last })) (model.levels_after_answer (Some (pos 0)) (model.levels_after_taking arguments)))
     missed_answers position j last =
         let h = d.state in
-        let new : Kept = colon_miss x.element.colons (record kept { search_text = last }) in
+        let new : Kept = kept_by_miss x.element.colons (record kept { search_text = last }) in
         let i = failed_at run taking unread kept whole taking_holds s inside_buffer x.element.colons last in
         let text : length new.text ≡ length kept.text = ap length (missed_text x.element.colons last) in record {
           described = record {

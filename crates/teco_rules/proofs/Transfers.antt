@@ -10,7 +10,7 @@ use Rattle.teco_model.specs.Effect.{Effect}
 use Rattle.teco_model.specs.Registers.{Pair, registers_without_top}
 use Rattle.teco_model.specs.State.{Kept}
 use Rattle.teco_model.specs.Step as step
-use Rattle.teco_model.specs.Step.{After, after}
+use Rattle.teco_model.specs.Going.{After, after}
 use Rattle.teco_model.specs.declared.arguments.Level.{Level}
 use Rattle.teco_model.specs.declared.arguments.Operator.{Operator}
 use Rattle.teco_model.specs.declared.arguments.Taken.{Taken}

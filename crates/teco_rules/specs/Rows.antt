@@ -5,7 +5,7 @@ use Rattle.teco_base.specs.declared.TheConstants.{REGISTERS}
 use Rattle.teco_base.specs.declared.bytes.TheConstants.{ESC}
 use Rattle.teco_model.specs.Element.{Element, element_at}
 use Rattle.teco_model.specs.State.{frame_of}
-use Rattle.teco_model.specs.Step.{has_colon}
+use Rattle.teco_model.specs.Searching.{has_colon}
 use Rattle.teco_poly.specs.Polynomial.{Polynomial, variable, first}
 use Rattle.teco_poly.specs.Text.{text}
 use Rattle.teco_rules.specs.Attempt.{◌>>=◌}

@@ -17,7 +17,8 @@ use Rattle.teco_model.specs.declared.kind.Storage.TheVariants as storage
 use Rattle.teco_model.specs.declared.kind.Value.{Value as Given}
 use Rattle.teco_model.specs.Arguments.{Arguments}
 use Rattle.teco_model.specs.State.{Kept}
-use Rattle.teco_model.specs.Step.{After, after_argument, after_value, after_query, after_stack, after_command}
+use Rattle.teco_model.specs.Going.{After}
+use Rattle.teco_model.specs.Step.{after_argument, after_value, after_query, after_stack, after_command}
 use Rattle.teco_poly.specs.Polynomial.{Polynomial, value}
 use Rattle.teco_rules.specs.declared.refusal.Refusal.{Refusal}
 use Rattle.teco_rules.specs.Describes.{Run, IsWhole, Describes}

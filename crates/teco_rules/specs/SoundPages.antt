@@ -6,7 +6,7 @@ use Rattle.teco_model.specs.Character.{character}
 use Rattle.teco_model.specs.Files.{Input, Output}
 use Rattle.teco_model.specs.Paging.{Progress, unread, append, pages, page_turned, page_written}
 use Rattle.teco_model.specs.State.{Kept, World}
-use Rattle.teco_model.specs.Step.{after}
+use Rattle.teco_model.specs.Going.{after}
 use Rattle.teco_model.specs.declared.arguments.Taken.{Taken}
 use Rattle.teco_model.specs.declared.kind.Kind.TheVariants as kind
 use Rattle.teco_model.specs.declared.kind.Page.{Page}

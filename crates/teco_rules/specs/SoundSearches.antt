@@ -6,7 +6,8 @@ use Rattle.teco_model.specs.Checked.{◌>>=◌}
 use Rattle.teco_model.specs.Element.{Element}
 use Rattle.teco_model.specs.Search.{Finding, Found, Missed, search}
 use Rattle.teco_model.specs.State.{Kept}
-use Rattle.teco_model.specs.Step.{After, after, answer_where, colon_miss, at_start}
+use Rattle.teco_model.specs.Going.{After, after}
+use Rattle.teco_model.specs.Searching.{answer_where, kept_by_miss, at_start}
 use Rattle.teco_model.specs.declared.kind.Kind.TheVariants as kind
 use Rattle.teco_model.specs.declared.kind.Search.{Search}
 use Rattle.teco_model.specs.declared.kind.Search.TheVariants.{Find, Replace, FindInPages, ReplaceInPages}
@@ -39,7 +40,7 @@ ArrivesAway run held unread kept edges done =
 abbrev pub MissArrives : Bool → Run → Polynomial → ℕ → Kept → Arguments → ℕ → Edges → Kept → Type 0
 MissArrives true run held unread kept arguments colons edges missed =
     ArrivesOn run held unread kept edges
-    (after (colon_miss colons missed) (levels_after_answer (Some (pos 0)) (levels_after_taking arguments)))
+    (after (kept_by_miss colons missed) (levels_after_answer (Some (pos 0)) (levels_after_taking arguments)))
 MissArrives false run held unread kept arguments colons edges missed =
     (typed : List ℕ) → ArrivesAway (run_behind 1 run) held unread kept edges
     (after (record (at_start missed) { typed = typed }) no_arguments)

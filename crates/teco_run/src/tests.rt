@@ -8,6 +8,7 @@ use std::alloc::AllocError;
 use std::process::Abort;
 use std::test::Fail;
 use teco_base::{Code, LIMIT, Reg};
+use teco_model::HostFault;
 use teco_text::VecText;
 
 type Row = (
@@ -31,7 +32,11 @@ fn run(machine: &mut Machine<VecText>, command: &[u8], limit: u64) -> Stop {
 fn answer(stop: Stop) -> Result<u64, Code> {
     match stop {
         Stop::Ended { steps } => Ok(steps),
+        Stop::Exit { steps } => Ok(steps),
         Stop::Error(code) => Err(code),
+        Stop::HostFault(HostFault::NoFile) => Err(Code::Fnf),
+        Stop::HostFault(HostFault::In) => Err(Code::Inp),
+        Stop::HostFault(HostFault::Out) => Err(Code::Out),
         Stop::Limit => Err(Code::Lim),
         Stop::Memory => Err(Code::Mem),
     }

@@ -1,5 +1,7 @@
 // Searches, each on a buffer of its own. One that is refused memory is made once more, so that the rows also hold where one
 // allocation fails.
+ghost use Rattle.std.specs.Prelude.{◌≤◌};
+
 use super::*;
 use std::alloc::Global;
 use std::process::Abort;
@@ -129,4 +131,47 @@ fn texts_are_found_or_missed(rt: HostRuntime) {
     for row in rows.iter() {
         expect_row(&rt, rt.alloc(), row);
     }
+}
+
+fn look_twice(
+    alloc: Global,
+    editor: &mut Editor<VecText>,
+    kind: Search,
+    element: &Element<'_>,
+    n: u32,
+) -> Result<Option<u32>, Stuck>
+    requires { 1 ≤ n }
+{
+    match look(alloc, editor, kind, element, element.text, n) {
+        Err(Stuck::Memory) => look(alloc, editor, kind, element, element.text, n),
+        answer => answer,
+    }
+}
+
+#[test]
+fn looks_for_the_last_of_some(rt: HostRuntime) {
+    let element = Element {
+        kind: Kind::Search(Search::ReplaceInPages),
+        colons: 0,
+        at: false,
+        text: b"ab",
+        second: b"x",
+        place: 0,
+        next: 1,
+    };
+    let mut buffer = editor(&rt, rt.alloc(), b"abcabc", 0);
+    // fewer are there, and nothing changes
+    let wanted = look_twice(rt.alloc(), &mut buffer, Search::FindInPages, &element, 3);
+    assert!(rt; matches!(wanted, Ok(Some(1))));
+    assert_eq!(rt; buffer.dot(), 0);
+    assert_eq!(rt; buffer.search_text(), &b""[..]);
+    let found = look_twice(rt.alloc(), &mut buffer, Search::FindInPages, &element, 2);
+    assert!(rt; matches!(found, Ok(None)));
+    assert_eq!(rt; buffer.dot(), 5);
+    assert_eq!(rt; buffer.search_text(), &b"ab"[..]);
+    buffer.set_dot(0);
+    let replaced = look_twice(rt.alloc(), &mut buffer, Search::ReplaceInPages, &element, 1);
+    assert!(rt; matches!(replaced, Ok(None)));
+    assert_eq!(rt; buffer.text().0, &b"xcabc"[..]);
+    assert_eq!(rt; buffer.dot(), 1);
 }

@@ -19,6 +19,7 @@ const LIMIT: u64 = 100_000_000;
 /// What came of a session, in a word.
 fn word(outcome: Result<Done, SessionFault>) -> &'static str {
     match outcome {
+        Ok(Done { exit: true, .. }) => "exit",
         Ok(done) => { if done.coded { "coded" } else { "done" } }
         Err(SessionFault::Read) => "read",
         Err(SessionFault::Write) => "write",
@@ -241,6 +242,59 @@ fn sessions(rt: HostRuntime) {
     }
     for (i, row) in CODED.iter().enumerate() {
         expect_row(&rt, rt.alloc(), LIMIT, *row, "coded", i);
+    }
+}
+
+/// Sessions with commands of pages and files, where there is no host: nothing can be opened.
+const WITHOUT_HOST: [Row; 15] = [
+    (b"Y\x1b\x1b", b"?NFI\r\n", b"", 0),
+    (b"A\x1b\x1b", b"?NFI\r\n", b"", 0),
+    (b"Iab\x1b0A=\x1b\x1bP\x1b\x1b", b"-1\r\n?NFO\r\n", b"ab", 2),
+    (b"0P\x1b\x1b", b"?NFO\r\n", b"", 0),
+    (b"5,6PW\x1b\x1b", b"?NFO\r\n", b"", 0),
+    (b"1+P\x1b\x1b", b"?ARG\r\n", b"", 0),
+    (b"ERin\x1b\x1b", b"?FNF\r\n", b"", 0),
+    (b"EWout\x1b\x1b", b"?OUT\r\n", b"", 0),
+    (b"ER\x1b\x1b", b"?ARG\r\n", b"", 0),
+    (b"@EW//\x1b\x1b", b"?ARG\r\n", b"", 0),
+    (b"EKEF\x1b\x1b", b"?NFO\r\n", b"", 0),
+    (b"EC\x1b\x1b", b"?NFO\r\n", b"", 0),
+    // a match in the buffer is found; where a page is needed, an output is
+    (
+        b"Iabab\x1bJ2Nb\x1b.=:Nz\x1b\x1b",
+        b"4\r\n?NFO\r\n",
+        b"abab",
+        4,
+    ),
+    (
+        b"Iaa\x1bJ:FNa\x1bbc\x1b=.=0Na\x1b\x1b",
+        b"-1\r\n2\r\n?ARG\r\n",
+        b"bca",
+        2,
+    ),
+    (b"N^N\x1b\x1b", b"?ICE\r\n", b"", 0),
+];
+
+/// Sessions that a command string ends; nothing behind it is read or executed.
+const ENDED: [Row; 4] = [
+    (b"EX1=\x1b\x1b", b"", b"", 0),
+    (b"1=EX\x1b\x1b2=", b"1\r\n", b"", 0),
+    (
+        b"1;\x1b\x1bIa\x1bEX\x1b\x1bIb\x1b\x1b",
+        b"?SNI\r\n",
+        b"a",
+        1,
+    ),
+    (b"@^UA/eX/MA1=\x1b\x1b", b"", b"", 0),
+];
+
+#[test]
+fn sessions_without_host(rt: HostRuntime) {
+    for (i, row) in WITHOUT_HOST.iter().enumerate() {
+        expect_row(&rt, rt.alloc(), LIMIT, *row, "coded", i);
+    }
+    for (i, row) in ENDED.iter().enumerate() {
+        expect_row(&rt, rt.alloc(), LIMIT, *row, "exit", i);
     }
 }
 

@@ -1,11 +1,13 @@
 // Each public call once, on a text in a vector. A command that is refused memory is executed once more, so that the rows also
 // hold where one allocation fails.
 use super::*;
+use std::alloc::Global;
 use std::process::Abort;
 use std::test::Fail;
-use teco_base::Reg;
+use teco_base::{Code, Reg};
 use teco_model::kind::{Command, Insertion, Motion, Query, Radix, Stack, Storage, Typing, Unit};
 use teco_model::{Element, Kind, Span, Taken};
+use teco_pages::{MemHost, Pages};
 use teco_text::{TextStore, VecText};
 
 // A command with its colons, its text and its arguments, and what it answers.
@@ -512,4 +514,70 @@ fn pages_come_into_the_buffer(rt: HostRuntime) {
     assert!(rt; !editor.form_feed());
     assert!(rt; editor.take_page(b"", false).is_ok());
     expect_text(&rt, &editor, b"", 0);
+}
+
+// A host with an open output.
+fn open_host(rt: &impl Abort, alloc: Global, pages: &mut Pages) -> MemHost {
+    let mut host = MemHost::new(alloc);
+    if pages.open_out(b"out", &mut host).is_err() {
+        pages
+            .open_out(b"out", &mut host)
+            .map_err(|_| ())
+            .expect(rt, "memory");
+    }
+    host
+}
+
+#[test]
+fn pages_go_out_of_the_buffer(rt: HostRuntime) -> Result<(), Fail> {
+    let mut editor = Editor::new(rt.alloc(), VecText::new(rt.alloc()));
+    let mut pages = Pages::new(rt.alloc());
+    let mut host = open_host(&rt, rt.alloc(), &mut pages);
+    if editor.take_page(b"ab", true).is_err() {
+        editor
+            .take_page(b"ab", true)
+            .map_err(|_| ())
+            .expect(&rt, "memory");
+    }
+    let (front, back) = editor
+        .range_text(2, 1)
+        .map_err(|_| ())
+        .expect(&rt, "a range");
+    assert_eq!(rt; (front, back), (&b"b"[..], &b""[..]));
+    assert!(rt; matches!(editor.range_text(0, 3), Err(Code::Pop)));
+    if editor
+        .turn_page(b"q", b"cde", false, &pages, &mut host)
+        .is_err()
+    {
+        // a write may have been refused memory
+        return Ok(());
+    }
+    expect_text(&rt, &editor, b"cde", 0);
+    assert!(rt; !editor.form_feed());
+    assert_eq!(rt; editor.search_text(), &b"q"[..]);
+    if editor.look_through(b"", b"no", &pages, &mut host).is_err() {
+        return Ok(());
+    }
+    expect_text(&rt, &editor, b"", 0);
+    assert_eq!(rt; editor.search_text(), &b"q"[..]);
+    assert_eq!(rt; editor.take_typed().as_slice(), &b"no"[..]);
+    if pages.close_out(&mut host).is_err() {
+        return Ok(());
+    }
+    assert_eq!(rt; host.file(b"out"), Some(&b"ab\x0ccde"[..]));
+    Ok(())
+}
+
+#[test]
+fn the_buffer_is_left(rt: HostRuntime) {
+    let mut editor = Editor::new(rt.alloc(), VecText::new(rt.alloc()));
+    if editor.take_page(b"ab", true).is_err() {
+        editor
+            .take_page(b"ab", true)
+            .map_err(|_| ())
+            .expect(&rt, "memory");
+    }
+    editor.leave_page();
+    expect_text(&rt, &editor, b"", 0);
+    assert!(rt; !editor.form_feed());
 }
