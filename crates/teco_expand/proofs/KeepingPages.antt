@@ -16,9 +16,9 @@ use Rattle.teco_model.specs.Outside.{pages_done}
 use Rattle.teco_model.specs.Pages.{first_page}
 use Rattle.teco_model.specs.declared.pattern.Sought.{Sought}
 use Rattle.teco_model.specs.declared.pattern.Sought.TheVariants.{Last, Wanted}
-use Rattle.teco_model.specs.Paging.{fitting, page_taken, page_added, world_with_next_page, yank, append, appended, page_turned, page_written, Progress, one_page_of, pages_of, sought, Looked, Met, Turned, Through, page_looked_for, looked_on, look_for, unread, nothing_lost, page_count, needed_output, match_count, Here, MetHere, WantedYet, here_of, look_here, world_seeking}
+use Rattle.teco_model.specs.Paging.{fitting, page_taken, page_added, world_with_next_page, yank, append, appended, page_turned, page_written, Progress, one_page_of, pages_of, range_written, sought, Looked, Met, Turned, Through, page_looked_for, looked_on, look_for, unread, nothing_lost, page_count, needed_output, match_count, Here, MetHere, WantedYet, here_of, look_here, world_seeking}
 use Rattle.teco_model.specs.Search.{Finding, Found, Missed, kept_after, finding_of, search, count_of, pattern_of, search_text_of, match_of}
-use Rattle.teco_model.specs.Places.{range_span}
+use Rattle.teco_model.specs.Places.{text_between}
 use Rattle.std.specs.Prelude.{unwrap_or}
 use Rattle.teco_model.specs.Searching.{looking}
 use Rattle.teco_model.specs.State.{Kept, World, State}
@@ -96,22 +96,31 @@ turned_keeps library world = onto library world.kept kept_of_world kept_of_world
 pub written_keeps : (library : Library) (world : World) → AllKeep library world.kept kept_of_world (page_written world)
 written_keeps library world = untouched library world.kept
 
-one_page_keeps : (library : Library) (one_page : World → Result World Code) (n : ℕ) (world : World) → AllKeep library world.kept kept_of_world (one_page world) → AllKeep library world.kept kept_of_progress (one_page_of one_page n world)
-one_page_keeps library one_page n world h = onto library world.kept kept_of_world kept_of_progress (one_page world) _ h (λ done k. k)
+pub one_page_keeps :
+    (library : Library) (one_page : World → Result World Code) (n : ℕ) (world : World)
+    → AllKeep library world.kept kept_of_world (one_page world)
+    → AllKeep library world.kept kept_of_progress (one_page_of one_page n world)
+one_page_keeps library one_page n world h =
+    after library world.kept kept_of_progress (needed_output world) _ (λ output.
+    onto library world.kept kept_of_world kept_of_progress (one_page world) _ h (λ done k. k))
 
 pages_of_keeps : (library : Library) (one_page : World → Result World Code) (first value : Option ℤ) (world : World) → AllKeep library world.kept kept_of_world (one_page world) → AllKeep library world.kept kept_of_progress (pages_of one_page first value world)
 pages_of_keeps library one_page (Some m) (Some n) world h =
-    after library world.kept kept_of_progress (range_span world.kept.text m n) _ (λ part. untouched library world.kept)
+    onto library world.kept kept_of_world kept_of_progress (range_written m n world) _
+    (after library world.kept kept_of_world (text_between m n world.kept) _ (λ text. untouched library world.kept))
+    (λ done k. k)
 pages_of_keeps library one_page None value world h =
     after library world.kept kept_of_progress (page_count (unwrap_or value (pos 1))) _ (λ n. one_page_keeps library one_page n world h)
 pages_of_keeps library one_page (Some m) None world h =
     after library world.kept kept_of_progress (page_count (pos 1)) _ (λ n. one_page_keeps library one_page n world h)
 
-pub pages_done_keeps : (library : Library) (one_page : World → Result World Code) (s : State) (left : Option ℕ) → AllKeep library s.world.kept kept_of_world (one_page s.world) → AllKeep library s.world.kept kept_of_progress (pages_done one_page s left)
-pages_done_keeps library one_page s None h =
+pub pages_done_keeps :
+    (library : Library) (one_page : World → Result World Code) (s : State)
+    → AllKeep library s.world.kept kept_of_world (one_page s.world)
+    → AllKeep library s.world.kept kept_of_progress (pages_done one_page s)
+pages_done_keeps library one_page s h =
     after library s.world.kept kept_of_progress (arguments_of s.arguments.level) _ (λ taken.
     after library s.world.kept kept_of_progress (needed_output s.world) _ (λ output. pages_of_keeps library one_page taken.first taken.value s.world h))
-pages_done_keeps library one_page s (Some n) h = one_page_keeps library one_page n s.world h
 
 -- N and FN
 page_looked_keeps : (library : Library) (bytes : List ℕ) (n : ℕ) (world : World) → AllKeep library world.kept kept_of_looked (page_looked_for bytes n world)
@@ -135,13 +144,16 @@ looked_on_keeps library (MetHere kept) world k = k
 looked_on_keeps library (WantedYet n) world k =
     after library world.kept kept_of_looked (needed_output world) _ (λ output. page_looked_keeps library (unread world.files) n world)
 
-look_for_keeps : (library : Library) (x : Search) (e : Element) (n : ℕ) (world : World) → AllKeep library world.kept kept_of_looked (look_for x e n world)
+pub look_for_keeps :
+    (library : Library) (x : Search) (e : Element) (n : ℕ) (world : World)
+    → AllKeep library world.kept kept_of_looked (look_for x e n world)
 look_for_keeps library x e n world =
     onto library world.kept (kept_of_here world.kept) kept_of_looked (look_here x e n world.kept) _ (look_here_keeps library x e n world.kept) (λ here k. looked_on_keeps library here world k)
 
-pub looking_keeps : (library : Library) (x : Search) (e : Element) (s : State) (left : Option ℕ) → AllKeep library s.world.kept kept_of_looked (looking x e s left)
-looking_keeps library x e s None =
+pub looking_keeps :
+    (library : Library) (x : Search) (e : Element) (s : State)
+    → AllKeep library s.world.kept kept_of_looked (looking x e s)
+looking_keeps library x e s =
     after library s.world.kept kept_of_looked (arguments_of s.arguments.level) _ (λ taken.
     after library s.world.kept kept_of_looked (match_count taken.first taken.value) _ (λ n.
     look_for_keeps library x e n (world_seeking e.text s.world)))
-looking_keeps library x e s (Some n) = look_for_keeps library x e n s.world

@@ -14,21 +14,21 @@ use Rattle.teco_model.specs.declared.kind.Page.{Page}
 use Rattle.teco_model.specs.declared.kind.Page.TheVariants as page
 use Rattle.teco_model.specs.declared.kind.Search.{Search}
 use Rattle.teco_model.specs.declared.kind.Search.TheVariants as search_kind
-use Rattle.teco_model.specs.Arguments.{no_arguments, levels_after_taking, levels_after_answer}
+use Rattle.teco_model.specs.Arguments.{Arguments, no_arguments, levels_after_answer}
 use Rattle.teco_model.specs.Element.{Element, element_at}
 use Rattle.teco_model.specs.Flow.{Turn, turn_of, jump}
-use Rattle.teco_model.specs.Going.{After, frames_at, frames_in, outcome_behind, world_keeping, with_nothing_left}
-use Rattle.teco_model.specs.Outside.{world_outcome, pages_outcome, pages_behind, append_outcome, character_outcome, opened_outcome, exit_outcome, page_outcome, file_outcome}
-use Rattle.teco_model.specs.Paging.{append, Progress, looked_through, Looked, Met, Turned, Through}
+use Rattle.teco_model.specs.Going.{After, frames_at, frames_in, outcome_behind, world_keeping, taking, with_nothing_left}
+use Rattle.teco_model.specs.Outside.{world_outcome, pages_outcome, pages_behind, pages_done, pages_outcome_of, append_outcome, character_outcome, opened_outcome, exit_outcome, page_outcome, file_outcome}
+use Rattle.teco_model.specs.Paging.{append, Progress, page_turned, page_written, one_page_of, look_for, looked_through, Looked, Met, Turned, Through}
 use Rattle.teco_model.specs.Search.{Finding, Found, Missed}
-use Rattle.teco_model.specs.Searching.{has_colon, answer_where, search_behind, kept_by_miss, finding, looking, leaving_outcome, missed_outcome, miss_outcome, search_outcome, looked_outcome, outcome_of_search}
+use Rattle.teco_model.specs.Searching.{has_colon, answer_where, search_behind, kept_by_miss, finding, looking, leaving_outcome, missed_outcome, miss_outcome, search_outcome, looked_outcome, looked_outcome_of, outcome_of_search}
 use Rattle.teco_model.specs.State.{Kept, World, Frame, Frames, State, Next, End}
 use Rattle.teco_model.specs.Step.{flow_outcome, call_outcome, outcome_of, end_of_text, outcome_at, step}
 use Rattle.teco_expand.specs.Refusal.{◌>>=◌}
 use Rattle.teco_expand.specs.Library.{Library, macro, IsLoaded}
 use Rattle.teco_expand.specs.Position.{Position, position_of, position_of_frames, start_of, spot_of}
 use Rattle.teco_expand.specs.Ways.{pattern_parts, as_fault, sound, past, read_at, search_ways, call_ways, return_ways, element_ways, ways_at, flow_ways}
-use Rattle.teco_expand.specs.Was.{Finds, Misses, Answers, GoesOnFound, GoesOnMissed, LeavesByMiss, ElementWas, StepWas}
+use Rattle.teco_expand.specs.Was.{looking_on, levels_looking, levels_searching, Finds, Misses, Answers, GoesOnFound, GoesOnMissed, LeavesByMiss, ElementWas, StepWas}
 use Rattle.teco_expand.specs.Steps.{is_long, IsLeftAt, Stays, Moves, Went, Stayed, StepsGoWays}
 use Rattle.teco_expand.proofs.Checks.{ok, bound_way}
 use Rattle.teco_expand.proofs.Turns.{leaves_by_kind, turn_goes, jumped as jump_made}
@@ -77,11 +77,17 @@ performed : (r : Result After Code) (e : Element) (ways : List Position) (s t : 
 performed (Err c) e ways s t was w l h = absurd (cc)
 performed (Ok done) e ways s t was w l h = goes_past (Some e) e ways s s _ t was w l refl h
 
-did_world : (r : Result World Code) (e : Element) (ways : List Position) (s t : State) → StepWas (Some e) 0 s t → slice_get ways 0 ≡ Some (past e (position_of s)) → s.left ≡ None → world_outcome e s r ≡ Next t → Moves (Some e) ways s t
+did_world :
+    (r : Result World Code) (e : Element) (ways : List Position) (s t : State) → StepWas (Some e) 0 s t
+    → slice_get ways 0 ≡ Some (past e (position_of s)) → s.left ≡ None → world_outcome e (taking s) r ≡ Next t
+    → Moves (Some e) ways s t
 did_world (Err c) e ways s t was w l h = absurd (cc)
 did_world (Ok world) e ways s t was w l h = goes_past (Some e) e ways s s _ t was w l refl h
 
-opened : (r : Result (Option World) Code) (e : Element) (ways : List Position) (s t : State) → StepWas (Some e) 0 s t → slice_get ways 0 ≡ Some (past e (position_of s)) → s.left ≡ None → opened_outcome e s r ≡ Next t → Moves (Some e) ways s t
+opened :
+    (r : Result (Option World) Code) (e : Element) (ways : List Position) (s t : State) → StepWas (Some e) 0 s t
+    → slice_get ways 0 ≡ Some (past e (position_of s)) → s.left ≡ None → opened_outcome e (taking s) r ≡ Next t
+    → Moves (Some e) ways s t
 opened (Err c) e ways s t was w l h = absurd (cc)
 opened (Ok None) e ways s t was w l h = absurd (cc)
 opened (Ok (Some world)) e ways s t was w l h = goes_past (Some e) e ways s s _ t was w l refl h
@@ -90,27 +96,51 @@ exited : {P : Type 0} (r : Result Taken Code) (s t : State) → exit_outcome s r
 exited (Err c) s t h = absurd (cc)
 exited (Ok taken) s t h = absurd (cc)
 
-appended : (r : Result Taken Code) (e : Element) (ways : List Position) (s t : State) → StepWas (Some e) 0 s t → slice_get ways 0 ≡ Some (past e (position_of s)) → s.left ≡ None → append_outcome e s r ≡ Next t → Moves (Some e) ways s t
+appended :
+    (r : Result Taken Code) (e : Element) (ways : List Position) (s t : State) → StepWas (Some e) 0 s t
+    → slice_get ways 0 ≡ Some (past e (position_of s)) → s.left ≡ None → append_outcome e (taking s) r ≡ Next t
+    → Moves (Some e) ways s t
 appended (Err c) e ways s t was w l h = absurd (cc)
 appended (Ok taken) e ways s t was w l h = among taken.value h
   where
-    among : (value : Option ℤ) → elim value [ None ↦ world_outcome e s (append s.world) | Some n ↦ character_outcome e s n ] ≡ Next t → Moves (Some e) ways s t
+    among :
+        (value : Option ℤ)
+        → elim value [
+          | None ↦ world_outcome e (taking s) (append s.world)
+          | Some n ↦ character_outcome e (taking s) n
+        ] ≡ Next t
+        → Moves (Some e) ways s t
     among None h = did_world (append s.world) e ways s t was w l h
     among (Some n) h = goes_past (Some e) e ways s s _ t was w l refl h
 
-paged : (k : Kind) (r : Result Progress Code) (e : Element) (ways : List Position) (s t : State) → e.kind ≡ k → is_long k ≡ true → StepWas (Some e) 0 s t → slice_get ways 0 ≡ Some (past e (position_of s)) → pages_outcome e s r ≡ Next t → Moves (Some e) ways s t
-paged k (Err c) e ways s t g long was w h = absurd (cc)
-paged k (Ok done) e ways s t g long was w h = among done.left h
+paged :
+    (k : Kind) (r : Result Progress Code) (e : Element) (ways : List Position) (s u t : State) → u.frames ≡ s.frames
+    → e.kind ≡ k → is_long k ≡ true → StepWas (Some e) 0 s t → slice_get ways 0 ≡ Some (past e (position_of s))
+    → pages_outcome e u r ≡ Next t → Moves (Some e) ways s t
+paged k (Err c) e ways s u t f g long was w h = absurd (cc)
+paged k (Ok done) e ways s u t f g long was w h = among done.left h
   where
-    among : (left : ℕ) → pages_behind e s done.world left ≡ Next t → Moves (Some e) ways s t
-    among zero h = goes_past (Some e) e ways s s _ t was w refl refl h
-    among (suc n) h = stays (Some e) (suc n) ways s _ t refl refl (ap is_long g ∙ long) h
+    among : (left : ℕ) → pages_behind e u done.world left ≡ Next t → Moves (Some e) ways s t
+    among zero h = goes_past (Some e) e ways s s _ t was w refl (ap (frames_at e.next) f) h
+    among (suc n) h = stays (Some e) (suc n) ways s _ t refl f (ap is_long g ∙ long) h
+
+paged_from :
+    (k : Kind) (one_page : World → Result World Code) (left : Option ℕ) (e : Element) (ways : List Position)
+    (s t : State)
+    → e.kind ≡ k → is_long k ≡ true → StepWas (Some e) 0 s t → slice_get ways 0 ≡ Some (past e (position_of s))
+    → pages_outcome_of one_page e s left ≡ Next t → Moves (Some e) ways s t
+paged_from k one_page None e ways s t g long was w h =
+    paged k (pages_done one_page s) e ways s (taking s) t refl g long was w h
+paged_from k one_page (Some n) e ways s t g long was w h =
+    paged k (one_page_of one_page n s.world) e ways s s t refl g long was w h
 
 page_moved : (p : Page) (e : Element) (ways : List Position) (s t : State) → e.kind ≡ kind.Page p → IsLeftAt (Some e) s.left → StepWas (Some e) 0 s t → slice_get ways 0 ≡ Some (past e (position_of s)) → page_outcome p e s ≡ Next t → Moves (Some e) ways s t
 page_moved page.Yank e ways s t g l was w h = did_world _ e ways s t was w (nothing_left (kind.Page page.Yank) e s.left g refl l) h
 page_moved page.Append e ways s t g l was w h = appended _ e ways s t was w (nothing_left (kind.Page page.Append) e s.left g refl l) h
-page_moved page.Next e ways s t g l was w h = paged (kind.Page page.Next) _ e ways s t g refl was w h
-page_moved page.Write e ways s t g l was w h = paged (kind.Page page.Write) _ e ways s t g refl was w h
+page_moved page.Next e ways s t g l was w h =
+    paged_from (kind.Page page.Next) page_turned s.left e ways s t g refl was w h
+page_moved page.Write e ways s t g l was w h =
+    paged_from (kind.Page page.Write) page_written s.left e ways s t g refl was w h
 
 file_moved : (f : File) (e : Element) (ways : List Position) (s t : State) → s.left ≡ None → StepWas (Some e) 0 s t → slice_get ways 0 ≡ Some (past e (position_of s)) → file_outcome f e s ≡ Next t → Moves (Some e) ways s t
 file_moved file.Read e ways s t l was w h = opened _ e ways s t was w l h
@@ -132,16 +162,19 @@ record Missing (x : Search) (colon : Bool) (e : Element) (s u : State) (new : Wo
   kind_is : e.kind ≡ kind.Search x
   done : u.left ≡ None
   frames_are : u.frames ≡ s.frames
-  arguments_are : u.arguments ≡ s.arguments
+  arguments_are : u.arguments ≡ levels_searching x s
   misses : Misses x e s new
   colon_is : has_colon e s.frames.running ≡ colon
 
-answers : (answer : Option ℤ) (e : Element) (world : World) (s u t : State) → u.frames ≡ s.frames → u.arguments ≡ s.arguments → search_behind e answer world u ≡ Next t → Answers answer world e s t
-answers answer e world s u t f a h =
+answers :
+    (answer : Option ℤ) (levels : Arguments) (e : Element) (world : World) (s u t : State)
+    → u.frames ≡ s.frames → u.arguments ≡ levels → search_behind e answer world u ≡ Next t
+    → Answers answer world levels e s t
+answers answer levels e world s u t f a h =
     let g = sym (next _ t h) in
     record {
       world_is = ap (λ (t : State). t.world) g;
-      arguments_are = ap (λ (t : State). t.arguments) g ∙ ap (λ a. levels_after_answer answer (levels_after_taking a)) a;
+      arguments_are = ap (λ (t : State). t.arguments) g ∙ ap (levels_after_answer answer) a;
       frames_are = ap (λ (t : State). t.frames) g ∙ ap (frames_at e.next) f;
     }
 
@@ -176,46 +209,100 @@ left_by_miss x (loop ∷ outer) e old new ways s u t m o w h = among (jump code.
 missed : (x : Search) (colon : Bool) (e : Element) (old new : World) (ways : List Position) (s u t : State) → Missing x colon e s u new →
     search_ways colon (map start_of s.frames.running.loops) e (position_of s) ≡ Ok ways → miss_outcome colon e old new u ≡ Next t → Moves (Some e) ways s t
 missed x true e old new ways s u t m w h =
-    let was : GoesOnMissed x e s t = record { world = new; misses = m.misses; colon = m.colon_is; answers = answers (Some (pos 0)) e new s u t m.frames_are m.arguments_are h } in
+    let was : GoesOnMissed x e s t = record {
+      world = new;
+      misses = m.misses;
+      colon = m.colon_is;
+      answers = answers (Some (pos 0)) (levels_searching x s) e new s u t m.frames_are m.arguments_are h;
+    } in
     goes_past (Some e) e ways s s _ t (of_kind (kind.Search x) 0 e s t m.kind_is (inr was)) (search_first true (map start_of s.frames.running.loops) e (position_of s) ways w) m.done (ap (frames_at e.next) m.frames_are) h
 missed x false e old new ways s u t m w h =
     left_by_miss x s.frames.running.loops e old new ways s u t m refl w (ap (λ (f : Frames). missed_outcome e old new u f.running.loops) (sym m.frames_are) ∙ h)
 
-found : (x : Search) (colon : Bool) (e : Element) (world : World) (ways : List Position) (s u t : State) → e.kind ≡ kind.Search x → u.left ≡ None → u.frames ≡ s.frames → u.arguments ≡ s.arguments → Finds x e s world → has_colon e s.frames.running ≡ colon →
-    search_ways colon (map start_of s.frames.running.loops) e (position_of s) ≡ Ok ways → search_behind e (answer_where colon (negsuc 0)) world u ≡ Next t → Moves (Some e) ways s t
+found :
+    (x : Search) (colon : Bool) (e : Element) (world : World) (ways : List Position) (s u t : State)
+    → e.kind ≡ kind.Search x → u.left ≡ None → u.frames ≡ s.frames → u.arguments ≡ levels_searching x s
+    → Finds x e s world → has_colon e s.frames.running ≡ colon
+    → search_ways colon (map start_of s.frames.running.loops) e (position_of s) ≡ Ok ways
+    → search_behind e (answer_where colon (negsuc 0)) world u ≡ Next t → Moves (Some e) ways s t
 found x colon e world ways s u t g l f a finds c w h =
-    let was : GoesOnFound x e s t = record { world = world; finds = finds; answers = answers _ e world s u t f a (ap (λ colon. search_behind e (answer_where colon (negsuc 0)) world u) c ∙ h) } in
+    let gone = ap (λ colon. search_behind e (answer_where colon (negsuc 0)) world u) c ∙ h in
+    let was : GoesOnFound x e s t = record {
+      world = world;
+      finds = finds;
+      answers = answers _ (levels_searching x s) e world s u t f a gone;
+    } in
     goes_past (Some e) e ways s s _ t (of_kind (kind.Search x) 0 e s t g (inl was)) (search_first colon (map start_of s.frames.running.loops) e (position_of s) ways w) l (ap (frames_at e.next) f) h
 
-searched : (x : Search) (r : Result Finding Code) (e : Element) (ways : List Position) (s t : State) → e.kind ≡ kind.Search x → s.left ≡ None →
-    ((kept : Kept) → r ≡ Ok (Found kept) → Finds x e s (world_keeping kept s)) → ((kept : Kept) → r ≡ Ok (Missed kept) → Misses x e s (world_keeping (kept_by_miss e.colons kept) s)) →
-    search_ways (has_colon e s.frames.running) (map start_of s.frames.running.loops) e (position_of s) ≡ Ok ways → search_outcome (has_colon e s.frames.running) e s r ≡ Next t → Moves (Some e) ways s t
-searched x (Err c) e ways s t g l finds misses w h = absurd (cc)
-searched x (Ok (Found kept)) e ways s t g l finds misses w h =
-    found x (has_colon e s.frames.running) e (world_keeping kept s) ways s s t g l refl refl (finds kept refl) refl w h
-searched x (Ok (Missed kept)) e ways s t g l finds misses w h =
-    missed x (has_colon e s.frames.running) e _ _ ways s s t (record { kind_is = g; done = l; frames_are = refl; arguments_are = refl; misses = misses kept refl; colon_is = refl }) w h
+searched :
+    (x : Search) (r : Result Finding Code) (e : Element) (ways : List Position) (s t : State) → e.kind ≡ kind.Search x
+    → s.left ≡ None → (taking s).arguments ≡ levels_searching x s
+    → ((kept : Kept) → r ≡ Ok (Found kept) → Finds x e s (world_keeping kept s))
+    → ((kept : Kept) → r ≡ Ok (Missed kept) → Misses x e s (world_keeping (kept_by_miss e.colons kept) s))
+    → search_ways (has_colon e s.frames.running) (map start_of s.frames.running.loops) e (position_of s) ≡ Ok ways
+    → search_outcome (has_colon e s.frames.running) e (taking s) r ≡ Next t → Moves (Some e) ways s t
+searched x (Err c) e ways s t g l a finds misses w h = absurd (cc)
+searched x (Ok (Found kept)) e ways s t g l a finds misses w h =
+    found x (has_colon e s.frames.running) e (world_keeping kept s) ways s (taking s) t g l refl a (finds kept refl)
+    refl w h
+searched x (Ok (Missed kept)) e ways s t g l a finds misses w h =
+    missed x (has_colon e s.frames.running) e _ _ ways s (taking s) t (record {
+      kind_is = g;
+      done = l;
+      frames_are = refl;
+      arguments_are = a;
+      misses = misses kept refl;
+      colon_is = refl;
+    }) w h
 
-looked : (x : Search) (r : Result Looked Code) (e : Element) (ways : List Position) (s t : State) → e.kind ≡ kind.Search x → is_long (kind.Search x) ≡ true →
-    ((world : World) → r ≡ Ok (Met world) → Finds x e s world) → ((last : World) → r ≡ Ok (Through last) → Misses x e s (looked_through last)) →
-    search_ways (has_colon e s.frames.running) (map start_of s.frames.running.loops) e (position_of s) ≡ Ok ways → looked_outcome (has_colon e s.frames.running) e s r ≡ Next t → Moves (Some e) ways s t
-looked x (Err c) e ways s t g long finds misses w h = absurd (cc)
-looked x (Ok (Met world)) e ways s t g long finds misses w h =
-    found x (has_colon e s.frames.running) e world ways s (with_nothing_left s) t g refl refl refl (finds world refl) refl w h
-looked x (Ok (Turned n world)) e ways s t g long finds misses w h = stays (Some e) n ways s _ t refl refl (ap is_long g ∙ long) h
-looked x (Ok (Through last)) e ways s t g long finds misses w h =
-    missed x (has_colon e s.frames.running) e _ _ ways s (with_nothing_left s) t (record { kind_is = g; done = refl; frames_are = refl; arguments_are = refl; misses = misses last refl; colon_is = refl }) w h
+looked :
+    (x : Search) (r : Result Looked Code) (e : Element) (ways : List Position) (s u t : State)
+    → e.kind ≡ kind.Search x → is_long (kind.Search x) ≡ true → u.frames ≡ s.frames
+    → u.arguments ≡ levels_searching x s → ((world : World) → r ≡ Ok (Met world) → Finds x e s world)
+    → ((last : World) → r ≡ Ok (Through last) → Misses x e s (looked_through last))
+    → search_ways (has_colon e s.frames.running) (map start_of s.frames.running.loops) e (position_of s) ≡ Ok ways
+    → looked_outcome (has_colon e s.frames.running) e u r ≡ Next t → Moves (Some e) ways s t
+looked x (Err c) e ways s u t g long f a finds misses w h = absurd (cc)
+looked x (Ok (Met world)) e ways s u t g long f a finds misses w h =
+    found x (has_colon e s.frames.running) e world ways s (with_nothing_left u) t g refl f a (finds world refl) refl w h
+looked x (Ok (Turned n world)) e ways s u t g long f a finds misses w h =
+    stays (Some e) n ways s _ t refl f (ap is_long g ∙ long) h
+looked x (Ok (Through last)) e ways s u t g long f a finds misses w h =
+    missed x (has_colon e s.frames.running) e _ _ ways s (with_nothing_left u) t (record {
+      kind_is = g;
+      done = refl;
+      frames_are = f;
+      arguments_are = a;
+      misses = misses last refl;
+      colon_is = refl;
+    }) w h
+
+looked_from :
+    (x : Search) (left : Option ℕ) (e : Element) (ways : List Position) (s t : State)
+    → e.kind ≡ kind.Search x → is_long (kind.Search x) ≡ true → levels_looking left s.arguments ≡ levels_searching x s
+    → ((world : World) → looking_on x e s left ≡ Ok (Met world) → Finds x e s world)
+    → ((last : World) → looking_on x e s left ≡ Ok (Through last) → Misses x e s (looked_through last))
+    → search_ways (has_colon e s.frames.running) (map start_of s.frames.running.loops) e (position_of s) ≡ Ok ways
+    → looked_outcome_of x e s left ≡ Next t → Moves (Some e) ways s t
+looked_from x None e ways s t g long a finds misses w h =
+    looked x (looking x e s) e ways s (taking s) t g long refl a finds misses w h
+looked_from x (Some n) e ways s t g long a finds misses w h =
+    looked x (look_for x e n s.world) e ways s s t g long refl a finds misses w h
 
 search_moved : (x : Search) (e : Element) (ways : List Position) (s t : State) → e.kind ≡ kind.Search x → IsLeftAt (Some e) s.left →
     search_ways (has_colon e s.frames.running) (map start_of s.frames.running.loops) e (position_of s) ≡ Ok ways → outcome_of_search x e s ≡ Next t → Moves (Some e) ways s t
 search_moved search_kind.Find e ways s t g l w h =
-    searched search_kind.Find (finding search_kind.Find e s) e ways s t g (nothing_left (kind.Search search_kind.Find) e s.left g refl l) (λ kept r. (kept, r, refl)) (λ kept r. (kept, r, refl)) w h
+    searched search_kind.Find (finding search_kind.Find e s) e ways s t g
+    (nothing_left (kind.Search search_kind.Find) e s.left g refl l) refl
+    (λ kept r. (kept, r, refl)) (λ kept r. (kept, r, refl)) w h
 search_moved search_kind.Replace e ways s t g l w h =
-    searched search_kind.Replace (finding search_kind.Replace e s) e ways s t g (nothing_left (kind.Search search_kind.Replace) e s.left g refl l) (λ kept r. (kept, r, refl)) (λ kept r. (kept, r, refl)) w h
+    searched search_kind.Replace (finding search_kind.Replace e s) e ways s t g
+    (nothing_left (kind.Search search_kind.Replace) e s.left g refl l) refl
+    (λ kept r. (kept, r, refl)) (λ kept r. (kept, r, refl)) w h
 search_moved search_kind.FindInPages e ways s t g l w h =
-    looked search_kind.FindInPages (looking search_kind.FindInPages e s s.left) e ways s t g refl (λ world r. r) (λ last r. (last, r, refl)) w h
+    looked_from search_kind.FindInPages s.left e ways s t g refl refl (λ world r. r) (λ last r. (last, r, refl)) w h
 search_moved search_kind.ReplaceInPages e ways s t g l w h =
-    looked search_kind.ReplaceInPages (looking search_kind.ReplaceInPages e s s.left) e ways s t g refl (λ world r. r) (λ last r. (last, r, refl)) w h
+    looked_from search_kind.ReplaceInPages s.left e ways s t g refl refl (λ world r. r) (λ last r. (last, r, refl)) w h
 
 -- calls and returns
 called : (library : Library) (c : Call) (text : Option (List ℕ)) (e : Element) (ways : List Position) (s t : State) → e.kind ≡ kind.Call c → IsLoaded library s.world.kept → macro library c.register ≡ text → s.left ≡ None →
