@@ -1,5 +1,7 @@
 // Each call on a text in a vector and files in memory. A call that is refused memory is made once more, so that the tests also
 // hold where one allocation fails.
+ghost use Rattle.std.specs.Prelude.{◌<◌};
+
 use super::*;
 use std::alloc::Global;
 use std::process::Abort;
@@ -21,7 +23,9 @@ struct Desk {
 }
 
 // The file `in` has two pages, and `out` is there already.
-fn new_desk(alloc: Global, piece: usize, call: HostCall, nth: u64) -> Result<Desk, Fail> {
+fn new_desk(alloc: Global, piece: usize, call: HostCall, nth: u64) -> Result<Desk, Fail>
+    requires { 0 < piece }
+{
     let mut mem = MemHost::new(alloc);
     if mem.put(b"in", b"ab\x0ccd").is_err() {
         mem.put(b"in", b"ab\x0ccd")?;
