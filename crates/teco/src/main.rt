@@ -9,6 +9,7 @@ use std::alloc::Global;
 use std::process::ExitCode;
 use std::{env, io};
 use teco_gap::GapText;
+use teco_pages::{FileHost, Host};
 use teco_run::Machine;
 use teco_session::{SessionFault, session};
 
@@ -18,12 +19,17 @@ const CODED: u8 = 1;
 /// The words are no command, or standard input, standard output or memory failed.
 const FAILED: u8 = 2;
 
-// Runs a session from standard input to standard output.
-fn run<R: Input + Print>(rt: &R, alloc: Global, limit: u64) -> Result<ExitCode, SessionFault> {
+// Runs a session from standard input to standard output, over the files of a host.
+fn run<R: Input + Print, H: Host>(
+    rt: &R,
+    alloc: Global,
+    host: &mut H,
+    limit: u64,
+) -> Result<ExitCode, SessionFault> {
     let mut machine = Machine::new(alloc, GapText::new(alloc));
     let mut reader = rt.reader();
     let mut writer = io::writer(rt);
-    let done = session(alloc, &mut machine, &mut reader, &mut writer, limit)?;
+    let done = session(alloc, &mut machine, &mut reader, &mut writer, host, limit)?;
     Ok(if done.coded {
         ExitCode::from(CODED)
     } else {
@@ -47,7 +53,8 @@ fn obey(rt: &HostRuntime) -> anyhow::Result<ExitCode> {
         .subcommand_matches("run")
         .and_then(|run| run.get_one::<u32>("limit"))
         .unwrap_or(u32::MAX);
-    Ok(run(rt, alloc, u64::from(limit))?)
+    let mut host = FileHost::new(alloc, *rt);
+    Ok(run(rt, alloc, &mut host, u64::from(limit))?)
 }
 
 fn main(rt: HostRuntime) -> ExitCode {

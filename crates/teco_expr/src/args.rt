@@ -1,4 +1,4 @@
-ghost use Rattle.std.specs.Prelude.{◌≡◌, ◌≤◌, ◌<◌, length, IsOk, OnSome, IfNone};
+ghost use Rattle.std.specs.Prelude.{◌≡◌, ◌≤◌, ◌<◌, length, IsOk, OnSome, IfNone, Some};
 ghost use Rattle.teco_model.specs.Arguments as model;
 ghost use Rattle.teco_model.specs.Arguments.{with_level};
 ghost use Rattle.teco_expr.specs.Does.{Does, Takes, Opens};
@@ -103,6 +103,17 @@ impl Args {
     {
         self.level = level::give(value, self.level).map_err(ArgFault::Code)?;
         Ok(())
+    }
+
+    /// Puts a command's answer in the place of what is pending in the innermost level.
+    pub fn answer(&mut self, value: i32)
+        ensures { self.new ≡ model.levels_after_answer (Some value) self.old }
+    {
+        self.level = Level {
+            first: None,
+            value: Some(value),
+            operator: None,
+        };
     }
 
     /// Takes the value that stands in the innermost level, with no operator behind it, and what else is pending there; `None`

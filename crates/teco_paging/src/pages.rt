@@ -66,6 +66,7 @@ pub fn append<T: TextStore, H: Host>(
 pub fn has_unread<H: Host>(pages: &mut Pages, host: &mut H) -> Result<bool, Halt>
     ensures tells { (kept : Kept) → Together (λ old new. TellsUnread old new result)
         kept pages.old kept pages.new (H.files host.old) (H.files host.new) }
+    ensures output { pages.new.output ≡ pages.old.output }
     ensures counted { Counts result (H.failures host.old) (H.failures host.new) }
 {
     if pages.input_name().is_none() {

@@ -9,8 +9,11 @@ pub use Rattle.teco_regs.specs.Texts
 pub mod Performs
 pub mod Bodies
 pub mod Frames
+pub mod Holdings
+pub mod Counts
 pub mod Courses
 pub mod Outside
+pub mod Pending
 pub mod Ways
 pub mod Seeks
 pub mod Steps

@@ -4,12 +4,17 @@
 mod arguments;
 mod body;
 mod course;
+mod desk;
+mod files;
 mod flow;
 mod frames;
+mod look;
 mod machine;
 mod macros;
+mod obey;
 mod outside;
 mod pace;
+mod pending;
 mod perform;
 mod seek;
 mod way;

@@ -1,25 +1,28 @@
-//! The elements of pages and files. The machine has no host yet: nothing can be opened, so nothing is read or written.
-ghost use Rattle.std.specs.Prelude.{◌≡◌, ◌≤◌, None, false, IfOk};
+//! The elements of pages and files.
+ghost use Rattle.std.specs.Prelude.{◌≡◌, ◌≤◌, ⊤, Some, None, IsSome, false, IfOk, MatchResult};
+ghost use Rattle.teco_base.specs.declared.code.Code.TheVariants as code;
 ghost use Rattle.teco_model.specs.Element.{seen};
-ghost use Rattle.teco_model.specs.Outside.{page_outcome, file_outcome};
+ghost use Rattle.teco_model.specs.Outside.{page_outcome, pages_outcome, world_outcome};
 ghost use Rattle.teco_model.specs.Paging as model;
-ghost use Rattle.teco_model.specs.State.{world_of};
 ghost use Rattle.teco_model.specs.declared.kind.Kind.TheVariants as kind;
-ghost use Rattle.teco_run.specs.Courses.{CourseFits, Heads, may_grow};
-ghost use Rattle.teco_run.specs.Frames.{state_of};
+ghost use Rattle.teco_model.specs.declared.kind.Page.TheVariants as page;
+ghost use Rattle.teco_paging.specs.Halts.{Counts};
+ghost use Rattle.teco_run.specs.Holdings.{Joined};
+ghost use Rattle.teco_run.specs.Pending.{at};
 ghost use Rattle.teco_run.specs.Ways.{IsRead, FitsIn, is_into};
-ghost use Rattle.teco_run.specs.Outside.{Leads, Opens, Takes};
+ghost use Rattle.teco_run.specs.Outside.{Follows, Leads, Settles, Takes};
 
-use crate::arguments::give;
-use crate::course::Course;
+use crate::desk::Desk;
 use crate::frames::Frames;
+use crate::pending::Pending;
 use crate::way::{self, Way};
 use teco_base::Code;
 use teco_expr::Args;
 use teco_model::kind::{File, Page};
-use teco_model::{Element, HostFault, Taken};
-use teco_paging::Halt;
-use teco_step::{Editor, Stuck};
+use teco_model::{Element, Taken};
+use teco_pages::{Host, Pages};
+use teco_paging::{self as paging, Halt};
+use teco_step::Stuck;
 use teco_text::TextStore;
 
 /// Takes the arguments.
@@ -29,7 +32,7 @@ pub fn taken(arguments: &mut Args) -> Result<Taken, Stuck>
     Ok(arguments.take()?)
 }
 
-/// How many matches or pages there are to be: one where nothing is said, else one at least.
+/// How many matches there are to be: one where nothing is said, else one at least.
 pub fn count(taken: Taken) -> Result<u32, Code>
     ensures value { result ≡ model.match_count taken.first taken.value }
     ensures some { IfOk result (λ n. 1 ≤ n) }
@@ -37,72 +40,331 @@ pub fn count(taken: Taken) -> Result<u32, Code>
     if taken.first.is_some() {
         return Err(Code::Arg);
     }
-    match u32::try_from(taken.value.unwrap_or(1)) {
+    page_count(taken.value.unwrap_or(1))
+}
+
+// How many pages there are to be, one at least.
+fn page_count(n: i32) -> Result<u32, Code>
+    ensures value { result ≡ model.page_count n }
+    ensures some { IfOk result (λ n. 1 ≤ n) }
+{
+    match u32::try_from(n) {
         Ok(n) if n > 0 => Ok(n),
         _ => Err(Code::Arg),
     }
 }
 
-/// A page command: nothing is open that it could read or write. `nA` gives a character's code.
-pub fn turn_pages<T: TextStore>(
-    editor: &Editor<T>,
-    page: Page,
+/// What is written needs an output.
+pub fn need_output(pages: &Pages) -> Result<(), Code>
+    ensures some { IfOk result (λ _. IsSome pages.now.output) }
+    ensures none { MatchResult result (λ _. ⊤) (λ c. (c ≡ code.Nfo) × (pages.now.output ≡ None)) }
+{
+    match pages.output_name() {
+        Some(_) => Ok(()),
+        None => Err(Code::Nfo),
+    }
+}
+
+/// What was found in the buffer, or why nothing was.
+pub fn settled(found: Result<Way, Stuck>) -> Result<Way, Halt>
+    ensures { Settles found result }
+{
+    Ok(found?)
+}
+
+/// The way behind what is done, or why it is not.
+pub fn behind(done: Result<(), Halt>, next: usize) -> Result<Way, Halt>
+    ensures { Follows next done result }
+{
+    done?;
+    Ok(way::to(next))
+}
+
+// `Y` reads the next page.
+fn yank_page<T: TextStore, H: Host>(
+    desk: &mut Desk<T>,
     element: &Element<'_>,
     frames: &Frames<'_>,
-    arguments: &mut Args,
+    pending: &mut Pending,
+    host: &mut H,
 ) -> Result<Way, Halt>
     requires { IsRead element.now frames.now }
-    ensures leads { Leads (kind.Page page) frames.now editor.now editor.now arguments.new None
-        (page_outcome page (seen element.now) (state_of frames.now (world_of editor.now) arguments.old None)) result }
+    ensures leads { Joined (λ old new. Leads (kind.Page page.Yank) frames.now pending.new
+        (world_outcome (seen element.now) (at frames.now pending.old old) (model.yank old)) old new result)
+        desk.old desk.new (H.files host.old) (H.files host.new) }
+    ensures counted { Counts result (H.failures host.old) (H.failures host.new) }
     ensures fits { IfOk result (FitsIn frames.now.running) }
     ensures out { IfOk result (λ way. is_into way ≡ false) }
 {
-    let taken = taken(arguments)?;
-    match page {
-        Page::Yank => Err(Halt::Code(Code::Nfi)),
-        Page::Append => {
-            let n = taken.value.ok_or(Code::Nfi)?;
-            give(arguments, editor.character(n))?;
-            Ok(way::to(element.next))
-        }
-        Page::Next => Err(Halt::Code(Code::Nfo)),
-        Page::Write => Err(Halt::Code(Code::Nfo)),
-    }
+    paging::yank(&mut desk.editor, &mut desk.pages, host)?;
+    Ok(way::to(element.next))
 }
 
-// No file can be opened; an empty name is a code.
-fn open(name: &[u8], fault: HostFault) -> Result<(), Halt>
-    ensures { Opens name.now fault result }
-{
-    if name.is_empty() {
-        Err(Halt::Code(Code::Arg))
-    } else {
-        Err(Halt::Host(fault))
-    }
-}
-
-/// A command of files: none can be opened, so none is to be closed or copied. `EX` ends the session.
-pub fn use_file<T: TextStore>(
-    editor: &Editor<T>,
-    file: File,
+// `Y` drops its arguments.
+fn yank<T: TextStore, H: Host>(
+    desk: &mut Desk<T>,
     element: &Element<'_>,
     frames: &Frames<'_>,
-    arguments: &mut Args,
-) -> Result<Course, Halt>
+    pending: &mut Pending,
+    host: &mut H,
+) -> Result<Way, Halt>
     requires { IsRead element.now frames.now }
-    ensures heads { Heads (kind.File file) element.now.next frames.now editor.now editor.now arguments.new
-        (file_outcome file (seen element.now) (state_of frames.now (world_of editor.now) arguments.old None)) result }
-    ensures fits { IfOk result (CourseFits frames.now.running) }
-    ensures no_growth { IfOk result (λ course. may_grow course ≡ false) }
+    ensures leads { Joined (λ old new. Leads (kind.Page page.Yank) frames.now pending.new
+        (page_outcome page.Yank (seen element.now) (at frames.now pending.old old)) old new result)
+        desk.old desk.new (H.files host.old) (H.files host.new) }
+    ensures counted { Counts result (H.failures host.old) (H.failures host.new) }
+    ensures fits { IfOk result (FitsIn frames.now.running) }
+    ensures out { IfOk result (λ way. is_into way ≡ false) }
 {
-    taken(arguments)?;
-    match file {
-        File::Read => open(element.text, HostFault::NoFile)?,
-        File::Write => open(element.text, HostFault::Out)?,
-        File::Close => return Err(Halt::Code(Code::Nfo)),
-        File::Abandon => {}
-        File::Copy => return Err(Halt::Code(Code::Nfo)),
-        File::Exit => return Ok(Course::Exit),
+    taken(&mut pending.arguments)?;
+    yank_page(desk, element, frames, pending, host)
+}
+
+// `A` appends the next page.
+fn append_page<T: TextStore, H: Host>(
+    desk: &mut Desk<T>,
+    element: &Element<'_>,
+    frames: &Frames<'_>,
+    pending: &mut Pending,
+    host: &mut H,
+) -> Result<Way, Halt>
+    requires { IsRead element.now frames.now }
+    ensures leads { Joined (λ old new. Leads (kind.Page page.Append) frames.now pending.new
+        (world_outcome (seen element.now) (at frames.now pending.old old) (model.append old)) old new result)
+        desk.old desk.new (H.files host.old) (H.files host.new) }
+    ensures counted { Counts result (H.failures host.old) (H.failures host.new) }
+    ensures fits { IfOk result (FitsIn frames.now.running) }
+    ensures out { IfOk result (λ way. is_into way ≡ false) }
+{
+    paging::append(&mut desk.editor, &mut desk.pages, host)?;
+    Ok(way::to(element.next))
+}
+
+// `nA` gives the code of a character, and `A` alone appends.
+fn append<T: TextStore, H: Host>(
+    desk: &mut Desk<T>,
+    element: &Element<'_>,
+    frames: &Frames<'_>,
+    pending: &mut Pending,
+    host: &mut H,
+) -> Result<Way, Halt>
+    requires { IsRead element.now frames.now }
+    ensures leads { Joined (λ old new. Leads (kind.Page page.Append) frames.now pending.new
+        (page_outcome page.Append (seen element.now) (at frames.now pending.old old)) old new result)
+        desk.old desk.new (H.files host.old) (H.files host.new) }
+    ensures counted { Counts result (H.failures host.old) (H.failures host.new) }
+    ensures fits { IfOk result (FitsIn frames.now.running) }
+    ensures out { IfOk result (λ way. is_into way ≡ false) }
+{
+    let Some(n) = taken(&mut pending.arguments)?.value else {
+        return append_page(desk, element, frames, pending, host);
+    };
+    pending.arguments.answer(desk.editor.character(n));
+    Ok(way::to(element.next))
+}
+
+// `m,nP` and `m,nPW` write a range of the buffer.
+fn write_range<T: TextStore, H: Host>(
+    desk: &mut Desk<T>,
+    m: i32,
+    n: i32,
+    element: &Element<'_>,
+    frames: &Frames<'_>,
+    pending: &mut Pending,
+    host: &mut H,
+) -> Result<Way, Halt>
+    requires read { IsRead element.now frames.now }
+    requires output { IsSome desk.old.held.output }
+    ensures by_p { Joined (λ old new. Leads (kind.Page page.Next) frames.now pending.new
+        (pages_outcome (seen element.now) (at frames.now pending.old old) (model.range_done m n old)) old new result)
+        desk.old desk.new (H.files host.old) (H.files host.new) }
+    ensures by_pw { Joined (λ old new. Leads (kind.Page page.Write) frames.now pending.new
+        (pages_outcome (seen element.now) (at frames.now pending.old old) (model.range_done m n old)) old new result)
+        desk.old desk.new (H.files host.old) (H.files host.new) }
+    ensures counted { Counts result (H.failures host.old) (H.failures host.new) }
+    ensures fits { IfOk result (FitsIn frames.now.running) }
+    ensures out { IfOk result (λ way. is_into way ≡ false) }
+{
+    let done = paging::write_range(&desk.editor, &desk.pages, m, n, host);
+    pending.clear_left();
+    behind(done, element.next)
+}
+
+// `P` turns a page, of so many that are left.
+fn turn_on<T: TextStore, H: Host>(
+    desk: &mut Desk<T>,
+    n: u32,
+    element: &Element<'_>,
+    frames: &Frames<'_>,
+    pending: &mut Pending,
+    host: &mut H,
+) -> Result<Way, Halt>
+    requires read { IsRead element.now frames.now }
+    ensures leads { Joined (λ old new. Leads (kind.Page page.Next) frames.now pending.new
+        (pages_outcome (seen element.now) (at frames.now pending.old old)
+        (model.one_page_of model.page_turned n old)) old new result)
+        desk.old desk.new (H.files host.old) (H.files host.new) }
+    ensures counted { Counts result (H.failures host.old) (H.failures host.new) }
+    ensures fits { IfOk result (FitsIn frames.now.running) }
+    ensures out { IfOk result (λ way. is_into way ≡ false) }
+{
+    need_output(&desk.pages)?;
+    paging::turn_page(&mut desk.editor, &mut desk.pages, &[], host)?;
+    if n > 1 {
+        pending.set_left(n - 1);
+        return Ok(way::to(frames.place()));
     }
-    Ok(Course::Go(way::to(element.next)))
+    pending.clear_left();
+    Ok(way::to(element.next))
+}
+
+// The first step of `P`, with the arguments that it took.
+fn turn_first<T: TextStore, H: Host>(
+    desk: &mut Desk<T>,
+    taken: Taken,
+    element: &Element<'_>,
+    frames: &Frames<'_>,
+    pending: &mut Pending,
+    host: &mut H,
+) -> Result<Way, Halt>
+    requires read { IsRead element.now frames.now }
+    requires output { IsSome desk.old.held.output }
+    ensures leads { Joined (λ old new. Leads (kind.Page page.Next) frames.now pending.new
+        (pages_outcome (seen element.now) (at frames.now pending.old old) (model.pages_of model.page_turned taken.first taken.value old)) old new result)
+        desk.old desk.new (H.files host.old) (H.files host.new) }
+    ensures counted { Counts result (H.failures host.old) (H.failures host.new) }
+    ensures fits { IfOk result (FitsIn frames.now.running) }
+    ensures out { IfOk result (λ way. is_into way ≡ false) }
+{
+    if let (Some(m), Some(n)) = (taken.first, taken.value) {
+        return write_range(desk, m, n, element, frames, pending, host);
+    }
+    let n = page_count(taken.value.unwrap_or(1))?;
+    turn_on(desk, n, element, frames, pending, host)
+}
+
+// The first step of `P`, or a further one.
+fn turn<T: TextStore, H: Host>(
+    desk: &mut Desk<T>,
+    element: &Element<'_>,
+    frames: &Frames<'_>,
+    pending: &mut Pending,
+    host: &mut H,
+) -> Result<Way, Halt>
+    requires read { IsRead element.now frames.now }
+    ensures leads { Joined (λ old new. Leads (kind.Page page.Next) frames.now pending.new
+        (page_outcome page.Next (seen element.now) (at frames.now pending.old old)) old new result)
+        desk.old desk.new (H.files host.old) (H.files host.new) }
+    ensures counted { Counts result (H.failures host.old) (H.failures host.new) }
+    ensures fits { IfOk result (FitsIn frames.now.running) }
+    ensures out { IfOk result (λ way. is_into way ≡ false) }
+{
+    if let Some(n) = pending.left() {
+        return turn_on(desk, n, element, frames, pending, host);
+    }
+    let taken = taken(&mut pending.arguments)?;
+    need_output(&desk.pages)?;
+    turn_first(desk, taken, element, frames, pending, host)
+}
+
+// `PW` writes the buffer, so many times as are left.
+fn write_on<T: TextStore, H: Host>(
+    desk: &mut Desk<T>,
+    n: u32,
+    element: &Element<'_>,
+    frames: &Frames<'_>,
+    pending: &mut Pending,
+    host: &mut H,
+) -> Result<Way, Halt>
+    requires read { IsRead element.now frames.now }
+    ensures leads { Joined (λ old new. Leads (kind.Page page.Write) frames.now pending.new
+        (pages_outcome (seen element.now) (at frames.now pending.old old)
+        (model.one_page_of model.page_written n old)) old new result)
+        desk.old desk.new (H.files host.old) (H.files host.new) }
+    ensures counted { Counts result (H.failures host.old) (H.failures host.new) }
+    ensures fits { IfOk result (FitsIn frames.now.running) }
+    ensures out { IfOk result (λ way. is_into way ≡ false) }
+{
+    need_output(&desk.pages)?;
+    paging::write_page(&desk.editor, &desk.pages, host)?;
+    if n > 1 {
+        pending.set_left(n - 1);
+        return Ok(way::to(frames.place()));
+    }
+    pending.clear_left();
+    Ok(way::to(element.next))
+}
+
+// The first step of `PW`, with the arguments that it took.
+fn write_first<T: TextStore, H: Host>(
+    desk: &mut Desk<T>,
+    taken: Taken,
+    element: &Element<'_>,
+    frames: &Frames<'_>,
+    pending: &mut Pending,
+    host: &mut H,
+) -> Result<Way, Halt>
+    requires read { IsRead element.now frames.now }
+    requires output { IsSome desk.old.held.output }
+    ensures leads { Joined (λ old new. Leads (kind.Page page.Write) frames.now pending.new
+        (pages_outcome (seen element.now) (at frames.now pending.old old) (model.pages_of model.page_written taken.first taken.value old)) old new result)
+        desk.old desk.new (H.files host.old) (H.files host.new) }
+    ensures counted { Counts result (H.failures host.old) (H.failures host.new) }
+    ensures fits { IfOk result (FitsIn frames.now.running) }
+    ensures out { IfOk result (λ way. is_into way ≡ false) }
+{
+    if let (Some(m), Some(n)) = (taken.first, taken.value) {
+        return write_range(desk, m, n, element, frames, pending, host);
+    }
+    let n = page_count(taken.value.unwrap_or(1))?;
+    write_on(desk, n, element, frames, pending, host)
+}
+
+// The first step of `PW`, or a further one.
+fn write<T: TextStore, H: Host>(
+    desk: &mut Desk<T>,
+    element: &Element<'_>,
+    frames: &Frames<'_>,
+    pending: &mut Pending,
+    host: &mut H,
+) -> Result<Way, Halt>
+    requires read { IsRead element.now frames.now }
+    ensures leads { Joined (λ old new. Leads (kind.Page page.Write) frames.now pending.new
+        (page_outcome page.Write (seen element.now) (at frames.now pending.old old)) old new result)
+        desk.old desk.new (H.files host.old) (H.files host.new) }
+    ensures counted { Counts result (H.failures host.old) (H.failures host.new) }
+    ensures fits { IfOk result (FitsIn frames.now.running) }
+    ensures out { IfOk result (λ way. is_into way ≡ false) }
+{
+    if let Some(n) = pending.left() {
+        return write_on(desk, n, element, frames, pending, host);
+    }
+    let taken = taken(&mut pending.arguments)?;
+    need_output(&desk.pages)?;
+    write_first(desk, taken, element, frames, pending, host)
+}
+
+/// A command of pages. `P` and `PW` stay at their element while pages are left.
+pub fn turn_pages<T: TextStore, H: Host>(
+    desk: &mut Desk<T>,
+    page: Page,
+    element: &Element<'_>,
+    frames: &Frames<'_>,
+    pending: &mut Pending,
+    host: &mut H,
+) -> Result<Way, Halt>
+    requires read { IsRead element.now frames.now }
+    ensures leads { Joined (λ old new. Leads (kind.Page page) frames.now pending.new
+        (page_outcome page (seen element.now) (at frames.now pending.old old)) old new result)
+        desk.old desk.new (H.files host.old) (H.files host.new) }
+    ensures counted { Counts result (H.failures host.old) (H.failures host.new) }
+    ensures fits { IfOk result (FitsIn frames.now.running) }
+    ensures out { IfOk result (λ way. is_into way ≡ false) }
+{
+    match page {
+        Page::Yank => yank(desk, element, frames, pending, host),
+        Page::Append => append(desk, element, frames, pending, host),
+        Page::Next => turn(desk, element, frames, pending, host),
+        Page::Write => write(desk, element, frames, pending, host),
+    }
 }

@@ -51,7 +51,7 @@ pub fn ask<T: TextStore>(
 }
 
 // Executes a command with the arguments that it took.
-fn execute<T: TextStore>(
+fn command_done<T: TextStore>(
     editor: &mut Editor<T>,
     command: Command,
     element: &Element<'_>,
@@ -70,7 +70,7 @@ fn execute<T: TextStore>(
 }
 
 /// Takes the arguments, executes the command, and gives what it answers.
-pub fn obey<T: TextStore>(
+pub fn execute<T: TextStore>(
     editor: &mut Editor<T>,
     command: Command,
     element: &Element<'_>,
@@ -80,7 +80,7 @@ pub fn obey<T: TextStore>(
         (model.after_command command (seen element.now) editor.old arguments.old) result }
 {
     let taken = arguments.take()?;
-    if let Some(answer) = execute(editor, command, element, taken)? {
+    if let Some(answer) = command_done(editor, command, element, taken)? {
         arguments.value(answer)?;
     }
     Ok(())

@@ -1,16 +1,14 @@
-//! Searches, and what becomes of those that miss.
-ghost use Rattle.std.specs.Prelude.{◌≡◌, ◌≤◌, None, true, false, length, IfOk};
-ghost use Rattle.teco_model.specs.Arguments.{empty_level};
+//! `S` and `FS`, and what becomes of those that miss.
+ghost use Rattle.std.specs.Prelude.{◌≡◌, ◌≤◌, true, false, length, IfOk};
 ghost use Rattle.teco_model.specs.Element.{element_at, seen};
 ghost use Rattle.teco_model.specs.Searching as model;
-ghost use Rattle.teco_model.specs.State.{world_of};
 ghost use Rattle.teco_run.specs.Frames.{state_of};
-ghost use Rattle.teco_run.specs.Seeks.{Seeks, miss_outcome};
+ghost use Rattle.teco_run.specs.Holdings.{beside};
+ghost use Rattle.teco_run.specs.Seeks.{SeeksAlways, miss_outcome};
 ghost use Rattle.teco_run.specs.Ways.{IsRead, FitsIn, is_into};
 
 use crate::flow::jump;
 use crate::frames::Frames;
-use crate::outside::{count, taken};
 use crate::way::{self, Way};
 use std::alloc::Global;
 use teco_base::Code;
@@ -18,12 +16,12 @@ use teco_expr::Args;
 use teco_lex::element;
 use teco_model::kind::{Flow, Search};
 use teco_model::{Element, Kind};
-use teco_search::{Finding, look, search};
+use teco_search::{Finding, search};
 use teco_step::{Editor, Stuck};
 use teco_text::TextStore;
 
 /// What a search types that misses and leaves its iteration.
-const MESSAGE: &[u8] = b"%SRH\r\n";
+pub const MESSAGE: &[u8] = b"%SRH\r\n";
 
 // Whether `;` or `:;` stands at a place.
 fn leaves_at(text: &[u8], place: usize) -> bool
@@ -36,6 +34,14 @@ fn leaves_at(text: &[u8], place: usize) -> bool
     }
 }
 
+/// Whether a search counts as having a colon.
+pub fn has_colon(element: &Element<'_>, frames: &Frames<'_>) -> bool
+    requires { IsRead element.now frames.now }
+    ensures { result ≡ model.has_colon (seen element.now) frames.now.running }
+{
+    element.colons > 0 || leaves_at(frames.text(), element.next)
+}
+
 // A miss that answers 0: the pointer goes to the start, but stays where the search looked at the pointer alone.
 fn answer_miss<T: TextStore>(
     editor: &mut Editor<T>,
@@ -44,10 +50,8 @@ fn answer_miss<T: TextStore>(
     arguments: &mut Args,
 ) -> Result<Way, Stuck>
     requires read { IsRead element.now frames.now }
-    requires taken { arguments.old.level ≡ empty_level }
-    ensures outcome { Seeks frames.now editor.old editor.new arguments.new
-        (miss_outcome true (seen element.now) editor.old
-        (state_of frames.now (world_of editor.old) arguments.old None)) result }
+    ensures outcome { SeeksAlways frames.now (λ files left. miss_outcome true (seen element.now) files editor.old
+        (state_of frames.now (beside files editor.old) arguments.old left)) editor.old editor.new arguments.new result }
     ensures fits { IfOk result (FitsIn frames.now.running) }
     ensures out { IfOk result (λ way. is_into way ≡ false) }
 {
@@ -56,7 +60,7 @@ fn answer_miss<T: TextStore>(
     } else {
         editor.miss(element.text, &[])?;
     }
-    arguments.value(0)?;
+    arguments.answer(0);
     Ok(way::to(element.next))
 }
 
@@ -70,9 +74,8 @@ fn leave_by_miss<T: TextStore>(
 ) -> Result<Way, Stuck>
     requires read { IsRead element.now frames.now }
     requires no_colon { element.now.colons ≡ 0 }
-    ensures outcome { Seeks frames.now editor.old editor.new arguments.new
-        (miss_outcome false (seen element.now) editor.old
-        (state_of frames.now (world_of editor.old) arguments.old None)) result }
+    ensures outcome { SeeksAlways frames.now (λ files left. miss_outcome false (seen element.now) files editor.old
+        (state_of frames.now (beside files editor.old) arguments.old left)) editor.old editor.new arguments.new result }
     ensures fits { IfOk result (FitsIn frames.now.running) }
     ensures out { IfOk result (λ way. is_into way ≡ false) }
 {
@@ -93,8 +96,8 @@ fn leave_by_miss<T: TextStore>(
     }
 }
 
-// Looks for the text of a search in the buffer, and says how the running text goes on.
-fn seek<T: TextStore>(
+/// Looks for the text of a search in the buffer, and says how the running text goes on.
+pub fn seek<T: TextStore>(
     alloc: Global,
     editor: &mut Editor<T>,
     kind: Search,
@@ -103,13 +106,12 @@ fn seek<T: TextStore>(
     arguments: &mut Args,
 ) -> Result<Way, Stuck>
     requires { IsRead element.now frames.now }
-    ensures outcome { Seeks frames.now editor.old editor.new arguments.new
-        (model.search_outcome_of kind (seen element.now)
-        (state_of frames.now (world_of editor.old) arguments.old None)) result }
+    ensures outcome { SeeksAlways frames.now (λ files left. model.search_outcome_of kind (seen element.now)
+        (state_of frames.now (beside files editor.old) arguments.old left)) editor.old editor.new arguments.new result }
     ensures fits { IfOk result (FitsIn frames.now.running) }
     ensures out { IfOk result (λ way. is_into way ≡ false) }
 {
-    let colon = element.colons > 0 || leaves_at(frames.text(), element.next);
+    let colon = has_colon(element, frames);
     let taken = arguments.take()?;
     let finding = match search(alloc, editor, kind, element, taken) {
         Ok(finding) => finding,
@@ -117,81 +119,11 @@ fn seek<T: TextStore>(
     };
     match (finding, colon) {
         (Finding::Found, true) => {
-            arguments.value(-1)?;
+            arguments.answer(-1);
             Ok(way::to(element.next))
         }
         (Finding::Found, false) => Ok(way::to(element.next)),
         (Finding::Missed, true) => answer_miss(editor, element, frames, arguments),
         (Finding::Missed, false) => leave_by_miss(editor, element, frames, arguments),
-    }
-}
-
-// `N` and `FN` look for a text in the buffer; there is no output, so that no page behind it can be looked at.
-fn look_in_pages<T: TextStore>(
-    alloc: Global,
-    editor: &mut Editor<T>,
-    kind: Search,
-    element: &Element<'_>,
-    frames: &Frames<'_>,
-    arguments: &mut Args,
-) -> Result<Way, Stuck>
-    requires { IsRead element.now frames.now }
-    ensures outcome { Seeks frames.now editor.old editor.new arguments.new
-        (model.looked_outcome_of kind (seen element.now)
-        (state_of frames.now (world_of editor.old) arguments.old None) None) result }
-    ensures fits { IfOk result (FitsIn frames.now.running) }
-    ensures out { IfOk result (λ way. is_into way ≡ false) }
-{
-    let colon = element.colons > 0 || leaves_at(frames.text(), element.next);
-    let taken = taken(arguments)?;
-    let n = count(taken)?;
-    if look(alloc, editor, kind, element, element.text, n)?.is_some() {
-        return Err(Stuck::Code(Code::Nfo));
-    }
-    if colon {
-        arguments.value(-1)?;
-    }
-    Ok(way::to(element.next))
-}
-
-/// Looks for the text of a search, and says how the running text goes on.
-pub fn find<T: TextStore>(
-    alloc: Global,
-    editor: &mut Editor<T>,
-    search: Search,
-    element: &Element<'_>,
-    frames: &Frames<'_>,
-    arguments: &mut Args,
-) -> Result<Way, Stuck>
-    requires { IsRead element.now frames.now }
-    ensures outcome { Seeks frames.now editor.old editor.new arguments.new
-        (model.outcome_of_search search (seen element.now)
-        (state_of frames.now (world_of editor.old) arguments.old None)) result }
-    ensures fits { IfOk result (FitsIn frames.now.running) }
-    ensures out { IfOk result (λ way. is_into way ≡ false) }
-{
-    match search {
-        Search::Find => seek(alloc, editor, Search::Find, element, frames, arguments),
-        Search::Replace => seek(alloc, editor, Search::Replace, element, frames, arguments),
-        Search::FindInPages => {
-            look_in_pages(
-                alloc,
-                editor,
-                Search::FindInPages,
-                element,
-                frames,
-                arguments,
-            )
-        }
-        Search::ReplaceInPages => {
-            look_in_pages(
-                alloc,
-                editor,
-                Search::ReplaceInPages,
-                element,
-                frames,
-                arguments,
-            )
-        }
     }
 }

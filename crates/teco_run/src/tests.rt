@@ -9,6 +9,7 @@ use std::process::Abort;
 use std::test::Fail;
 use teco_base::{Code, LIMIT, Reg};
 use teco_model::HostFault;
+use teco_pages::MemHost;
 use teco_text::VecText;
 
 type Row = (
@@ -21,11 +22,11 @@ type Row = (
 );
 
 // Runs a command string, which is no longer than one may be.
-fn run(machine: &mut Machine<VecText>, command: &[u8], limit: u64) -> Stop {
+fn run(machine: &mut Machine<VecText>, host: &mut MemHost, command: &[u8], limit: u64) -> Stop {
     if command.len() > LIMIT {
         return Stop::Limit;
     }
-    machine.run(command, limit)
+    machine.run(command, limit, host)
 }
 
 // The steps of a run that came to its end, or the code that is typed.
@@ -101,10 +102,11 @@ fn rows_of_commands(rt: HostRuntime) -> Result<(), Fail> {
     ];
     for (command, limit, want, typed, text, dot) in rows {
         let mut machine = Machine::new(rt.alloc(), VecText::new(rt.alloc()));
-        let mut got = answer(run(&mut machine, command, limit));
+        let mut host = MemHost::new(rt.alloc());
+        let mut got = answer(run(&mut machine, &mut host, command, limit));
         if got == Err(Code::Mem) {
             machine = Machine::new(rt.alloc(), VecText::new(rt.alloc()));
-            got = answer(run(&mut machine, command, limit));
+            got = answer(run(&mut machine, &mut host, command, limit));
         }
         assert_eq!(rt; got, want);
         assert_eq!(rt; machine.take_typed().as_slice(), typed);
@@ -139,10 +141,11 @@ fn load(machine: &mut Machine<VecText>, texts: [Option<&[u8]>; 36]) -> Result<()
 #[test]
 fn registers_are_shown_and_loaded(rt: HostRuntime) {
     let mut machine = Machine::new(rt.alloc(), VecText::new(rt.alloc()));
+    let mut host = MemHost::new(rt.alloc());
     let command = b"Iab\x1b5U9^UBcde\x1b[B\x1b\x1b";
-    if let Stop::Memory = run(&mut machine, command, 100) {
+    if let Stop::Memory = run(&mut machine, &mut host, command, 100) {
         machine = Machine::new(rt.alloc(), VecText::new(rt.alloc()));
-        run(&mut machine, command, 100);
+        run(&mut machine, &mut host, command, 100);
     }
     assert_eq!(rt; machine.regs().number(register(b'9')), 5);
     assert_eq!(rt; machine.regs().text(register(b'B')), b"cde".as_slice());
@@ -157,8 +160,8 @@ fn registers_are_shown_and_loaded(rt: HostRuntime) {
     assert_eq!(rt; machine.held(), 16);
     assert_eq!(rt; machine.regs().text(register(b'B')), b"cde".as_slice());
     assert_eq!(rt; machine.regs().text(register(b'9')), b"ninth".as_slice());
-    if let Stop::Memory = run(&mut machine, b"MA", 100) {
-        run(&mut machine, b"MA", 100);
+    if let Stop::Memory = run(&mut machine, &mut host, b"MA", 100) {
+        run(&mut machine, &mut host, b"MA", 100);
     }
     assert_eq!(rt; machine.take_typed().as_slice(), b"6\r\n".as_slice());
 }

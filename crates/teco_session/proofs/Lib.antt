@@ -2,3 +2,4 @@ pub mod Known
 pub mod Pairs
 pub mod Said
 pub mod SessionSteps
+pub mod Together

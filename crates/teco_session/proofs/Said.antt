@@ -1,5 +1,5 @@
 -- What is said of a piece, from what was written of it.
-use Rattle.std.proofs.Common.{◌≡◌, ℕ, List, Option, Bool, false, Result, Ok, Err, refl}
+use Rattle.std.proofs.Common.{◌≡◌, ℕ, List, Option, Bool, Result, Ok, Err, refl}
 use Rattle.std.specs.Prelude.{IfOk}
 use Rattle.teco_session.specs.Answers.{Said}
 use Rattle.teco_session.specs.Output.{Writes}

@@ -2,7 +2,7 @@
 use Rattle.std.specs.Prelude.{ℕ, ◌≡◌, ◌⊎◌, ◌≤◌, List, [], ◌++◌, length, Option, Bool, Result, Ok, Err, IfSome}
 use Rattle.std.specs.Io.KnownBytes.{Consumes, Appends, prepend_known}
 use Rattle.teco_model.specs.Session.{Executes, Session, IsCommandString}
-use Rattle.teco_model.specs.State.{Kept, World, world_of}
+use Rattle.teco_model.specs.State.{World}
 use Rattle.teco_session.specs.Output.{WritesPart}
 use Rattle.teco_session.specs.Strings.{IsRest, IsUnended}
 use Rattle.teco_session.specs.declared.ahead.TheConstants.{CHUNK}
@@ -11,16 +11,16 @@ use Rattle.teco_session.specs.declared.fault.SessionFault.TheVariants.{Read, Wri
 use Rattle.teco_session.specs.declared.sessions.Done.{Done}
 use Rattle.teco_session.specs.declared.sessions.TheConstants.{STRINGS}
 
--- what a session works on: what stays of the machine, and the bytes that the reader has left and that
+-- what a session works on: what stays of machine and host together, and the bytes that the reader has left and that
 -- the writer holds, where their types tell them
 pub record Setting : Type 0 where
   pub world : World
   pub unread : Option (List ℕ)
   pub written : Option (List ℕ)
 
-abbrev pub setting : Kept → Option (List ℕ) → Option (List ℕ) → Setting
-setting kept unread written =
-    record { world = world_of kept; unread = unread; written = written }
+abbrev pub setting : World → Option (List ℕ) → Option (List ℕ) → Setting
+setting world unread written =
+    record { world = world; unread = unread; written = written }
 
 -- so many command strings came, were executed, and what they write was written; none of them ends the session
 pub record Serves (limit count : ℕ) (old new : Setting) (coded : Bool) : Type 0 where

@@ -5,10 +5,11 @@ ghost use Rattle.teco_base.specs.Bytes as byte;
 ghost use Rattle.teco_base.specs.declared.TheConstants.{LIMIT};
 ghost use Rattle.teco_model.specs.Session as model;
 ghost use Rattle.teco_model.specs.Session.{rest_code, code_of, code_line, is_code};
-ghost use Rattle.teco_model.specs.State.{world_of};
+ghost use Rattle.teco_run.specs.Holdings.{Joined};
 ghost use Rattle.teco_session.specs.Answers.{Answers, Said};
 ghost use Rattle.teco_session.specs.Output.{Writes};
 ghost use Rattle.teco_session.specs.Sessions.{Converses, setting};
+ghost use Rattle.teco_session.specs.declared.strings.Piece.TheVariants as piece;
 
 use crate::ahead::Ahead;
 use crate::fault::SessionFault;
@@ -19,6 +20,7 @@ use std::io::{Read, Write};
 use teco_base::bytes::is_blank;
 use teco_base::{Code, LIMIT};
 use teco_model::HostFault;
+use teco_pages::Host;
 use teco_run::{Machine, Stop};
 use teco_text::TextStore;
 
@@ -123,55 +125,85 @@ fn said(line: Result<bool, SessionFault>, exit: bool) -> Result<Done, SessionFau
     }
 }
 
+// Runs a command string, and writes what it types and its code line.
+fn answer_command<T: TextStore, W: Write, H: Host>(
+    machine: &mut Machine<T>,
+    bytes: &[u8],
+    writer: &mut W,
+    host: &mut H,
+    limit: u64,
+) -> Result<Done, SessionFault>
+    requires { length bytes.now ≤ LIMIT }
+    ensures { Joined (λ old new. Answers limit piece.Command bytes.now old new (W.contents writer.old) (W.contents writer.new) result)
+        machine.old machine.new (H.files host.old) (H.files host.new) }
+{
+    let stop = machine.run(bytes, limit, host);
+    let typed = machine.take_typed();
+    let line = write_lines(writer, typed.as_slice(), code_of_stop(stop));
+    said(line, is_exit(stop))
+}
+
+// Writes the code line of a rest, which is not run.
+fn answer_rest<T: TextStore, W: Write, H: Host>(
+    machine: &Machine<T>,
+    bytes: &[u8],
+    writer: &mut W,
+    host: &H,
+    limit: u64,
+) -> Result<Done, SessionFault>
+    requires { length bytes.now ≤ LIMIT }
+    ensures { Joined (λ old new. Answers limit piece.Rest bytes.now old new (W.contents writer.old) (W.contents writer.new) result)
+        machine.now machine.now (H.files host.now) (H.files host.now) }
+{
+    said(write_lines(writer, &[], code_of_rest(bytes)), false)
+}
+
 // Runs a piece of the input, if it is a command string, and writes what it types and its code line. Says whether there is
 // such a line, and whether it ends the session.
-fn answer<T: TextStore, W: Write>(
+fn answer<T: TextStore, W: Write, H: Host>(
     machine: &mut Machine<T>,
     piece: Piece,
     bytes: &[u8],
     writer: &mut W,
+    host: &mut H,
     limit: u64,
 ) -> Result<Done, SessionFault>
     requires { length bytes.now ≤ LIMIT }
-    ensures { Answers limit piece bytes.now (world_of machine.old) (world_of machine.new)
-        (W.contents writer.old) (W.contents writer.new) result }
+    ensures { Joined (λ old new. Answers limit piece bytes.now old new (W.contents writer.old) (W.contents writer.new) result)
+        machine.old machine.new (H.files host.old) (H.files host.new) }
 {
     match piece {
-        Piece::Command => {
-            let stop = machine.run(bytes, limit);
-            let typed = machine.take_typed();
-            let line = write_lines(writer, typed.as_slice(), code_of_stop(stop));
-            said(line, is_exit(stop))
-        }
-        Piece::Rest => said(write_lines(writer, &[], code_of_rest(bytes)), false),
+        Piece::Command => answer_command(machine, bytes, writer, host, limit),
+        Piece::Rest => answer_rest(machine, bytes, writer, host, limit),
     }
 }
 
-/// Runs the command strings that a reader gives, each for at most `limit` steps. What a string types is written when it has
+/// Runs the command strings that a reader gives, each for at most `limit` steps, over the files of a host. What a string types is written when it has
 /// stopped, and then a code line for a stop that is not the end.
 ///
 /// A string is run as soon as its end is read. After a code the session goes on with the next string; a string that ends the
-/// session is the last. A rest without an end is not executed. With a fault of reading or of memory, the strings that came before it are executed and written, and
-/// nothing else is. With one of writing, the string whose bytes were being written is the last that was executed: a part of
+/// session is the last. A rest without an end is not executed. With a fault of reading or of memory, the strings that came before
+/// it are executed and written, and nothing else is. With one of writing, the string whose bytes were being written is the last that was executed: a part of
 /// what it writes is written, from the front and less than all.
-pub fn session<T: TextStore, R: Read, W: Write>(
+pub fn session<T: TextStore, R: Read, W: Write, H: Host>(
     alloc: Global,
     machine: &mut Machine<T>,
     reader: &mut R,
     writer: &mut W,
+    host: &mut H,
     limit: u64,
 ) -> Result<Done, SessionFault>
-    ensures { Converses limit
-        (setting machine.old (R.remaining reader.old) (W.contents writer.old))
-        (setting machine.new (R.remaining reader.new) (W.contents writer.new))
-        result }
+    ensures { Joined (λ old new. Converses limit
+        (setting old (R.remaining reader.old) (W.contents writer.old))
+        (setting new (R.remaining reader.new) (W.contents writer.new))
+        result) machine.old machine.new (H.files host.old) (H.files host.new) }
 {
     let mut string = Vec::new(alloc);
     let mut ahead = Ahead::new();
     let mut coded = false;
     for _ in 0..STRINGS {
         let piece = next_piece(&mut string, &mut ahead, reader)?;
-        let done = answer(machine, piece, string.as_slice(), writer, limit)?;
+        let done = answer(machine, piece, string.as_slice(), writer, host, limit)?;
         coded |= done.coded;
         if done.exit {
             return Ok(Done { coded, exit: true });

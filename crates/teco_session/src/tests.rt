@@ -1,4 +1,5 @@
 //! Sessions over memory. Expected bytes are worked by hand from the rules.
+mod files;
 mod flow;
 mod malformed;
 mod manual;
@@ -10,6 +11,7 @@ use std::io;
 use std::io::{ErrorKind, Read, Write};
 use std::process::Abort;
 use std::test::Fail;
+use teco_pages::MemHost;
 use teco_run::Machine;
 use teco_text::{TextStore, VecText};
 
@@ -226,7 +228,15 @@ fn expect_row(
     let mut machine = Machine::new(alloc, VecText::new(alloc));
     let mut reader = input;
     let mut writer = Vec::new(alloc);
-    let done = session(alloc, &mut machine, &mut reader, &mut writer, limit);
+    let mut host = MemHost::new(alloc);
+    let done = session(
+        alloc,
+        &mut machine,
+        &mut reader,
+        &mut writer,
+        &mut host,
+        limit,
+    );
     assert_eq!(rt; word(done), outcome, "row {number}");
     assert_eq!(rt; writer.as_slice(), written, "row {number}");
     assert!(rt; has(&machine, text, pointer), "row {number}");
@@ -245,8 +255,8 @@ fn sessions(rt: HostRuntime) {
     }
 }
 
-/// Sessions with commands of pages and files, where there is no host: nothing can be opened.
-const WITHOUT_HOST: [Row; 15] = [
+/// Sessions with commands of pages and files, where nothing is open.
+const NOTHING_OPEN: [Row; 14] = [
     (b"Y\x1b\x1b", b"?NFI\r\n", b"", 0),
     (b"A\x1b\x1b", b"?NFI\r\n", b"", 0),
     (b"Iab\x1b0A=\x1b\x1bP\x1b\x1b", b"-1\r\n?NFO\r\n", b"ab", 2),
@@ -254,7 +264,6 @@ const WITHOUT_HOST: [Row; 15] = [
     (b"5,6PW\x1b\x1b", b"?NFO\r\n", b"", 0),
     (b"1+P\x1b\x1b", b"?ARG\r\n", b"", 0),
     (b"ERin\x1b\x1b", b"?FNF\r\n", b"", 0),
-    (b"EWout\x1b\x1b", b"?OUT\r\n", b"", 0),
     (b"ER\x1b\x1b", b"?ARG\r\n", b"", 0),
     (b"@EW//\x1b\x1b", b"?ARG\r\n", b"", 0),
     (b"EKEF\x1b\x1b", b"?NFO\r\n", b"", 0),
@@ -290,7 +299,7 @@ const ENDED: [Row; 4] = [
 
 #[test]
 fn sessions_without_host(rt: HostRuntime) {
-    for (i, row) in WITHOUT_HOST.iter().enumerate() {
+    for (i, row) in NOTHING_OPEN.iter().enumerate() {
         expect_row(&rt, rt.alloc(), LIMIT, *row, "coded", i);
     }
     for (i, row) in ENDED.iter().enumerate() {
@@ -480,7 +489,15 @@ fn expect_slow(
         before: Some(writes),
         kind: kinds.1,
     };
-    let done = session(alloc, &mut machine, &mut reader, &mut writer, LIMIT);
+    let mut host = MemHost::new(alloc);
+    let done = session(
+        alloc,
+        &mut machine,
+        &mut reader,
+        &mut writer,
+        &mut host,
+        LIMIT,
+    );
     assert_eq!(rt; word(done), outcome, "{reads} reads, {writes} writes");
     assert_eq!(rt;
         writer.bytes.as_slice(),
@@ -530,7 +547,15 @@ fn reads_end_at_a_pair(rt: HostRuntime) -> Result<(), Fail> {
         let mut machine = Machine::new(rt.alloc(), VecText::new(rt.alloc()));
         let mut writer = Vec::new(rt.alloc());
         let mut reader = input.as_slice();
-        let done = session(rt.alloc(), &mut machine, &mut reader, &mut writer, LIMIT);
+        let mut host = MemHost::new(rt.alloc());
+        let done = session(
+            rt.alloc(),
+            &mut machine,
+            &mut reader,
+            &mut writer,
+            &mut host,
+            LIMIT,
+        );
         assert_eq!(rt; word(done), "done", "{len} bytes");
         assert_eq!(rt; writer.as_slice(), b"1\r\n2\r\n".as_slice(), "{len} bytes");
     }
@@ -561,12 +586,28 @@ fn memory_runs_out(rt: HostRuntime) {
     };
     let mut machine = Machine::new(alloc, VecText::new(alloc));
     let mut reader: &[u8] = b"Iab\x1b(((((((((1)))))))))=HT\x1b\x1b";
-    let done = session(alloc, &mut machine, &mut reader, &mut first, LIMIT);
+    let mut host = MemHost::new(alloc);
+    let done = session(
+        alloc,
+        &mut machine,
+        &mut reader,
+        &mut first,
+        &mut host,
+        LIMIT,
+    );
     assert!(rt; is_allowed(done, first.as_slice(), b"1\r\nab"));
     let left = has(&machine, b"ab", 2);
     assert!(rt; left || has(&machine, b"", 0));
     let whole: &[u8] = if left { b"ab-2\r\n" } else { b"0\r\n" };
     let mut reader: &[u8] = b"HT^S=\x1b\x1b";
-    let done = session(alloc, &mut machine, &mut reader, &mut second, LIMIT);
+    let mut host = MemHost::new(alloc);
+    let done = session(
+        alloc,
+        &mut machine,
+        &mut reader,
+        &mut second,
+        &mut host,
+        LIMIT,
+    );
     assert!(rt; is_allowed(done, second.as_slice(), whole));
 }

@@ -3,6 +3,7 @@ use crate::session;
 use std::alloc::{AllocError, Global};
 use std::process::Abort;
 use std::test::Fail;
+use teco_pages::MemHost;
 use teco_run::Machine;
 use teco_text::VecText;
 
@@ -124,7 +125,15 @@ fn expect_nest(rt: &impl Abort, alloc: Global, nest: Nest, number: usize) -> Res
     let mut machine = Machine::new(alloc, VecText::new(alloc));
     let mut reader = input.as_slice();
     let mut writer = Vec::new(alloc);
-    let done = session(alloc, &mut machine, &mut reader, &mut writer, LIMIT);
+    let mut host = MemHost::new(alloc);
+    let done = session(
+        alloc,
+        &mut machine,
+        &mut reader,
+        &mut writer,
+        &mut host,
+        LIMIT,
+    );
     assert_eq!(rt; word(done), outcome, "row {number}");
     assert_eq!(rt; writer.as_slice(), written, "row {number}");
     Ok(())

@@ -4,6 +4,7 @@ use crate::session;
 use std::alloc::Global;
 use std::process::Abort;
 use std::test::Fail;
+use teco_pages::MemHost;
 use teco_run::Machine;
 use teco_text::VecText;
 
@@ -89,7 +90,15 @@ fn examples_of_the_manual(rt: HostRuntime) {
             let mut machine = Machine::new(rt.alloc(), VecText::new(rt.alloc()));
             let mut reader = *input;
             let mut writer = Vec::new(rt.alloc());
-            let done = session(rt.alloc(), &mut machine, &mut reader, &mut writer, LIMIT);
+            let mut host = MemHost::new(rt.alloc());
+            let done = session(
+                rt.alloc(),
+                &mut machine,
+                &mut reader,
+                &mut writer,
+                &mut host,
+                LIMIT,
+            );
             assert!(rt; done.is_ok(), "example {i}");
             assert_eq!(rt; writer.as_slice(), *written, "example {i}");
         }

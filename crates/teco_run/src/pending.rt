@@ -1,0 +1,61 @@
+//! What is pending between two elements.
+ghost use Rattle.std.specs.Prelude.{◌≡◌, ◌≤◌, Some, None, IfSome};
+ghost use Rattle.teco_model.specs.Arguments.{no_arguments};
+
+use std::alloc::Global;
+use std::marker::Model;
+use teco_expr::Args;
+
+/// What is pending between two elements: arguments, and what an element of several steps still has to do.
+#[derive(Drop)]
+pub struct Pending {
+    pub arguments: Args,
+    // at least 1
+    left: Option<u32>,
+}
+
+impl Model for Pending {
+    ghost use Rattle.std.specs.Prelude.{◌≤◌, IfSome};
+    ghost use Rattle.teco_run.specs.Pending.{Pending};
+
+    ghost Value = { Pending };
+
+    ghost view = { λ p. record { arguments = p.arguments; left = p.left } };
+
+    ghost invariant = { λ p. IfSome p.left (λ n. 1 ≤ n) };
+}
+
+impl Pending {
+    /// Nothing is.
+    pub fn new(alloc: Global) -> Pending
+        ensures { result ≡ record { arguments = no_arguments; left = None } }
+    {
+        Pending {
+            arguments: Args::new(alloc),
+            left: None,
+        }
+    }
+
+    /// What is left to do at an element of several steps.
+    pub fn left(&self) -> Option<u32>
+        ensures value { result ≡ self.now.left }
+        ensures some { IfSome result (λ n. 1 ≤ n) }
+    {
+        self.left
+    }
+
+    /// So much is left to do at an element of several steps.
+    pub fn set_left(&mut self, n: u32)
+        requires { 1 ≤ n }
+        ensures { self.new ≡ record self.old { left = Some n } }
+    {
+        self.left = Some(n);
+    }
+
+    /// Nothing is left to do at it.
+    pub fn clear_left(&mut self)
+        ensures { self.new ≡ record self.old { left = None } }
+    {
+        self.left = None;
+    }
+}

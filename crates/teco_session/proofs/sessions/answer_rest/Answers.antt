@@ -1,0 +1,25 @@
+use Rattle.std.proofs.Common.{false, refl}
+use Rattle.teco_model.specs.Session.{code_line, is_code, rest_code}
+use Rattle.teco_model.specs.State.{World}
+use Rattle.teco_session.proofs.Said.{said-writes, said-coded, said-exit}
+use Rattle.teco_session.proofs.Together.{Joined-stays}
+use Rattle.teco_session.proofs.sessions.answer_rest.Goals as goal
+use Rattle.teco_session.specs.Answers.{Answers}
+use Rattle.teco_session.specs.declared.strings.Piece.TheVariants as piece
+
+pub returns : goal.returns
+returns g c =
+    let code = rest_code c.args.bytes.now in
+    let writes = rw c.code_of_rest.ensures at c.write_lines.ensures.lines in
+    let told = rw c.code_of_rest.ensures at c.write_lines.ensures.told in
+    Joined-stays (λ (old : World) (new : World). Answers c.args.limit piece.Rest c.args.bytes.now old new (g.W.Write.contents c.args.writer.now) (g.W.Write.contents c.write_lines.new.writer) c.said.result)
+    c.args.machine.now (g.H.Host.files c.args.host.now)
+    (λ world. record {
+      lines = code_line code;
+      coded = is_code code;
+      exit = false;
+      ran = (record { stays = refl; all_lines = refl; a_line = refl }, refl);
+      writes = said-writes _ _ _ _ _ _ c.said.ensures writes;
+      coded_told = said-coded _ _ _ _ c.said.ensures told;
+      exit_told = said-exit _ _ _ c.said.ensures;
+    })
