@@ -24,3 +24,4 @@ pub mod Searching
 pub mod Library
 pub mod Paging
 pub mod Steppings
+pub mod Seeking

@@ -55,12 +55,12 @@ page_if : (b : Bool) (c : ℕ) (bytes : List ℕ) → length (before_form_feed b
 page_if true c bytes h = omega arith
 page_if false c bytes h = omega (arith, h)
 
-page_short : (bytes : List ℕ) → length (before_form_feed bytes) + length (behind_form_feed bytes) ≤ length bytes
+pub page_short : (bytes : List ℕ) → length (before_form_feed bytes) + length (behind_form_feed bytes) ≤ length bytes
 page_short [] = omega arith
 page_short (c ∷ bytes) = page_if (c == FF) c bytes (page_short bytes)
 
 -- what is unread behind a page
-rest_of : (files : Files) → unread (model.files_behind_page files) ≡ behind_form_feed (unread files)
+pub rest_of : (files : Files) → unread (model.files_behind_page files) ≡ behind_form_feed (unread files)
 rest_of files = by_input files.input where
   by_input : (o : Option Input) → option_map_or (λ (input : Input). input.unread) (option_map (λ (input : Input). record input { unread = behind_first_page input.unread }) o) [] ≡ behind_form_feed (option_map_or (λ (input : Input). input.unread) o [])
   by_input None = refl
@@ -83,10 +83,10 @@ module _ (run : Run) (facts : Facts) (u : ℕ) (kept : Kept) (h : Holds run fact
       }
 
 -- ---- a page that is turned
-abbrev turned_world : World → World
+abbrev pub turned_world : World → World
 turned_world world = model.world_after_writing (written_page (model.page_of_buffer world.kept)) (record { kept = model.kept_with_page (first_page (unread world.files)) world.kept; files = model.files_behind_page world.files })
 
-turned_to : (world : World) (b : Bool) → nat_le (length (before_form_feed (unread world.files))) LIMIT ≡ b → length (before_form_feed (unread world.files)) ≤ LIMIT → (P : World → Type 0) → P (turned_world world) → Succeeds P (((cond b (Ok (before_form_feed (unread world.files))) (Err code.Ful) >>>= λ text. Ok (model.kept_with_page (first_page (unread world.files)) world.kept)) >>>= λ kept. Ok (record { kept = kept; files = model.files_behind_page world.files })) >>>= λ turned. Ok (model.world_after_writing (written_page (model.page_of_buffer world.kept)) turned))
+pub turned_to : (world : World) (b : Bool) → nat_le (length (before_form_feed (unread world.files))) LIMIT ≡ b → length (before_form_feed (unread world.files)) ≤ LIMIT → (P : World → Type 0) → P (turned_world world) → Succeeds P (((cond b (Ok (before_form_feed (unread world.files))) (Err code.Ful) >>>= λ text. Ok (model.kept_with_page (first_page (unread world.files)) world.kept)) >>>= λ kept. Ok (record { kept = kept; files = model.files_behind_page world.files })) >>>= λ turned. Ok (model.world_after_writing (written_page (model.page_of_buffer world.kept)) turned))
 turned_to world true e short P h = h
 turned_to world false e short P h = absurd (grind (arith, nat_tests))
 
@@ -108,10 +108,10 @@ module _ (run : Run) (facts : Facts) (world : World) (h : Holds run facts (unrea
 
 -- ---- further pages
 module _ (run : Run) (facts : Facts) (world : World) (h : Holds run facts (unread_of world) world.kept) (here : facts.position.distances ≡ nowhere) where
-  again_rest : unread_of (turned_world world) ≡ length (behind_form_feed (unread world.files))
+  pub again_rest : unread_of (turned_world world) ≡ length (behind_form_feed (unread world.files))
   again_rest = ap length (rest_of world.files)
 
-  again_holds : Holds run facts (unread_of (turned_world world)) (turned_world world).kept
+  pub again_holds : Holds run facts (unread_of (turned_world world)) (turned_world world).kept
   again_holds =
       let p = page_short (unread world.files) in
       let r = again_rest in record {

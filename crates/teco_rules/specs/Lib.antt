@@ -26,3 +26,4 @@ pub mod SoundElements
 pub mod SoundFlow
 pub mod SoundSearches
 pub mod SoundPages
+pub mod SoundSeeking

@@ -4,6 +4,7 @@ ghost use Rattle.teco_rules.specs.SoundElements.{ArgumentsAreSound, ValuesAreSou
 ghost use Rattle.teco_rules.specs.SoundFlow.{TestsAreSound, LeavesAreSound, IterationsAreSound, TurnsAreSound, TurnEndsAreSound, TagsAreSound, OthersAreSound};
 ghost use Rattle.teco_rules.specs.SoundPages.{AppendsAreSound, PageTurnsAreSound, PageWritesAreSound, PageStepsAreBounded};
 ghost use Rattle.teco_rules.specs.SoundSearches.{SearchesAreSound};
+ghost use Rattle.teco_rules.specs.SoundSeeking.{PageSearchesAreSound, SearchStepsAreBounded};
 
 /// Digits, operators, parentheses, comma and ESC.
 pub fn arguments_are_sound()
@@ -68,6 +69,16 @@ pub fn others_are_sound()
 /// What is known of a search in the buffer is true where it found, and where it failed.
 pub fn searches_are_sound()
     ensures { SearchesAreSound }
+{}
+
+/// N and FN turn pages, and what is known of them is true where they found, and where no page was left.
+pub fn page_searches_are_sound()
+    ensures { PageSearchesAreSound }
+{}
+
+/// A search takes at most as many steps as are known.
+pub fn search_steps_are_bounded()
+    ensures { SearchStepsAreBounded }
 {}
 
 /// A adds a page behind the buffer, or answers.
