@@ -25,3 +25,9 @@ pub mod Library
 pub mod Paging
 pub mod Steppings
 pub mod Seeking
+pub mod Bytes
+pub mod Keeping
+pub mod Levels
+pub mod Reading
+pub mod Filing
+pub mod Stepped

@@ -27,3 +27,4 @@ pub mod SoundFlow
 pub mod SoundSearches
 pub mod SoundPages
 pub mod SoundSeeking
+pub mod Wholeness
