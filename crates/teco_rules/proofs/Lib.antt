@@ -31,3 +31,5 @@ pub mod Levels
 pub mod Reading
 pub mod Filing
 pub mod Stepped
+pub mod Going
+pub mod Onward

@@ -28,3 +28,4 @@ pub mod SoundSearches
 pub mod SoundPages
 pub mod SoundSeeking
 pub mod Wholeness
+pub mod SoundSteps
