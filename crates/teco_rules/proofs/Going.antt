@@ -1,5 +1,5 @@
 -- Elements of one step come to no code, and go along their edges.
-use Rattle.std.proofs.Common.{◌≡◌, ℕ, zero, suc, ◌+◌, ◌≤◌, arith, refl, sym, subst, ap, ℤ, pos, negsuc, List, [], ◌∷◌, drop, length, Bool, true, false, cond, ◌||◌, nat_lt, Option, Some, None, option_map, IfSome, MatchOption, ok_or, Result, Ok, Err, IfOk, inl, inr, ◌⊎◌}
+use Rattle.std.proofs.Common.{◌≡◌, ℕ, zero, suc, arith, refl, sym, subst, ℤ, List, [], ◌∷◌, drop, Bool, true, false, cond, Option, Some, None, option_map, IfSome, MatchOption, ok_or, Result, Ok, Err, IfOk}
 use Rattle.std.specs.Prelude.{⊤, is_some}
 use Rattle.teco_base.specs.declared.code.Code.{Code}
 use Rattle.teco_base.specs.declared.code.Code.TheVariants as code
@@ -10,15 +10,13 @@ use Rattle.teco_model.specs.Condition.{holds}
 use Rattle.teco_model.specs.Element.{Element}
 use Rattle.teco_model.specs.Flow as flows
 use Rattle.teco_model.specs.Flow.{Turn}
-use Rattle.teco_model.specs.Going.{After, outcome_behind, taking, world_keeping}
+use Rattle.teco_model.specs.Going.{After, world_keeping}
 use Rattle.teco_model.specs.Skip.{skip_of}
-use Rattle.teco_model.specs.State.{Kept, World, Frame, State, Next}
+use Rattle.teco_model.specs.State.{Kept, World, Frame, State}
 use Rattle.teco_model.specs.Step as stepping
-use Rattle.teco_model.specs.declared.arguments.Taken.{Taken}
 use Rattle.teco_model.specs.declared.flow.Loop.{Loop}
 use Rattle.teco_model.specs.declared.kind.Flow.{Flow}
 use Rattle.teco_model.specs.declared.kind.Flow.TheVariants as flow
-use Rattle.teco_model.specs.declared.kind.Kind.{Kind}
 use Rattle.teco_model.specs.declared.kind.Kind.TheVariants as kind
 use Rattle.teco_model.specs.declared.kind.Test.{Test}
 use Rattle.teco_model.specs.Effect.{needed_value}
@@ -26,18 +24,18 @@ use Rattle.teco_poly.specs.Polynomial.{Polynomial, value}
 use Rattle.teco_rules.proofs.Flowing.{tests_are_sound, leaves_are_sound, iterations_are_sound, turn_ends_are_sound, tags_are_sound, others_are_sound}
 use Rattle.teco_rules.specs.Arguments as known
 use Rattle.teco_rules.specs.Attempt.{◌>>=◌}
-use Rattle.teco_rules.specs.Describes.{Run, Describes, run_behind, run_in_turn}
+use Rattle.teco_rules.specs.Describes.{Run, run_behind, run_in_turn}
 use Rattle.teco_rules.specs.Facts.{Position, Answer, Facts, Iteration, at_position, without_arguments}
 use Rattle.teco_rules.specs.Flows as edge
 use Rattle.teco_rules.specs.Flows.{Edges}
 use Rattle.teco_rules.specs.Joins.{none_pending}
-use Rattle.teco_rules.specs.SoundElements.{Succeeds, Leads, Arrives, FitsOn, ArrivesOn}
+use Rattle.teco_rules.specs.SoundElements.{Succeeds, Leads, Arrives, ArrivesOn}
 use Rattle.teco_rules.specs.SoundFlow.{IsReached, number_needed, LeavingOr, EntersOr, EndsTurn}
 use Rattle.teco_rules.specs.SoundPages.{unread_of, ComesTo, Comes}
-use Rattle.teco_rules.specs.SoundSteps.{LeadsAhead, IsInside, FlowStands, BeginsAt, GoesBehind, Reached, ReachedIf, enters, is_last, run_begun, FlowGoes}
+use Rattle.teco_rules.specs.SoundSteps.{LeadsAhead, IsInside, FlowStands, BeginsAt, GoesBehind, ReachedIf, enters, is_last, run_begun, FlowGoes}
 use Rattle.teco_rules.specs.Transfer as transfers
 use Rattle.teco_rules.specs.Transfer.{Placed, transfer}
-use Rattle.teco_rules.specs.Ways.{Numbers, way, position_by}
+use Rattle.teco_rules.specs.Ways.{Numbers, way}
 use Rattle.teco_rules.specs.declared.refusal.Refusal.{Refusal}
 use Rattle.teco_rules.specs.declared.refusal.Refusal.TheVariants as refusal
 use Rattle.teco_rules.specs.declared.values.Value.{Value}
@@ -251,8 +249,8 @@ module _ (run : Run) (facts : Facts) (x : Placed) (edges : Edges) (s : State) (h
       let told = leads_at (λ edges. ⊤) _ (transfer x facts) (model.arguments_of s.arguments.level) edges t tt (tags_are_sound run facts u kept s.arguments x h.whole.world.kept h.described e) in
       then_so _ (FlowGoes flow.GoTo run facts.held x edges s) (model.arguments_of s.arguments.level) (λ taken. flows.jump code.Tag x.element model.no_arguments frame >>>= λ turn. flows.without_value taken.value turn) told (λ taken w i.
       rw i.0 (without (jumped (FlowGoes flow.GoTo run facts.held x edges s) code.Tag model.no_arguments ahead (λ place. away_edge flow.GoTo e (run_behind x.leaves run) model.no_arguments refl i.1)))) where
-    without : Succeeds (FlowGoes flow.GoTo run facts.held x edges s) (flows.jump code.Tag x.element model.no_arguments frame) → Succeeds (FlowGoes flow.GoTo run facts.held x edges s) (flows.jump code.Tag x.element model.no_arguments frame >>>= λ turn. Ok turn)
-    without j = then_so (FlowGoes flow.GoTo run facts.held x edges s) (FlowGoes flow.GoTo run facts.held x edges s) _ _ j (λ turn w i. i)
+        without : Succeeds (FlowGoes flow.GoTo run facts.held x edges s) (flows.jump code.Tag x.element model.no_arguments frame) → Succeeds (FlowGoes flow.GoTo run facts.held x edges s) (flows.jump code.Tag x.element model.no_arguments frame >>>= λ turn. Ok turn)
+        without j = then_so (FlowGoes flow.GoTo run facts.held x edges s) (FlowGoes flow.GoTo run facts.held x edges s) _ _ j (λ turn w i. i)
 
   pub flow_goes : (f : Flow) → x.element.kind ≡ kind.Flow f → FlowStands f facts x frame → Succeeds (FlowGoes f run facts.held x edges s) (flows.turn_of f x.element s.arguments frame)
   flow_goes flow.Iterate e k = iterate_goes e k

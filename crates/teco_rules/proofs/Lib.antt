@@ -33,3 +33,5 @@ pub mod Filing
 pub mod Stepped
 pub mod Going
 pub mod Onward
+pub mod Paged
+pub mod Stepping

@@ -1,21 +1,18 @@
 -- Each element proceeds along its edges.
-use Rattle.std.proofs.Common.{◌≡◌, ℕ, zero, suc, ◌+◌, ◌-◌, ◌≤◌, arith, refl, sym, subst, ap, ℤ, pos, negsuc, List, [], ◌∷◌, ◌++◌, drop, length, Bool, true, false, cond, ◌||◌, nat_lt, Option, Some, None, IfSome, MatchOption, ok_or, Result, Ok, Err, IfOk, inl, inr, ◌⊎◌}
-use Rattle.std.specs.Prelude.{⊤, unwrap_or}
+use Rattle.std.proofs.Common.{◌≡◌, ℕ, zero, suc, ◌+◌, ◌-◌, ◌≤◌, arith, refl, sym, subst, ℤ, pos, List, [], ◌∷◌, Bool, true, false, ◌||◌, nat_lt, Option, Some, None, IfSome, MatchOption, Result, Ok, Err, IfOk, inl, inr}
 use Rattle.std.proofs.lemmas.Bool.Decides.{nat_tests}
 use Rattle.teco_base.specs.declared.code.Code.{Code}
 use Rattle.teco_base.specs.declared.code.Code.TheVariants as code
 use Rattle.teco_model.specs.Arguments as model
-use Rattle.teco_model.specs.Checked.{◌>>=◌ as ◌>>>=◌}
-use Rattle.teco_model.specs.Element.{Element}
 use Rattle.teco_model.specs.Files.{Output}
 use Rattle.teco_model.specs.Flow as flows
 use Rattle.teco_model.specs.Flow.{Turn}
-use Rattle.teco_model.specs.Going.{After, outcome_behind, taking, frames_at, with_nothing_left}
+use Rattle.teco_model.specs.Going.{After, outcome_behind, taking}
 use Rattle.teco_model.specs.Paging as paging
 use Rattle.teco_model.specs.Paging.{Looked, Met, Turned, Through}
 use Rattle.teco_model.specs.Search.{Finding, Found, Missed}
 use Rattle.teco_model.specs.Searching as outcomes
-use Rattle.teco_model.specs.State.{Kept, World, Frame, State, Outcome, Next}
+use Rattle.teco_model.specs.State.{Kept, World, Frame, State, Outcome}
 use Rattle.teco_model.specs.Step as stepping
 use Rattle.teco_model.specs.declared.flow.Loop.{Loop}
 use Rattle.teco_model.specs.declared.kind.Call.{Call}
@@ -24,7 +21,7 @@ use Rattle.teco_model.specs.declared.kind.Kind.{Kind}
 use Rattle.teco_model.specs.declared.kind.Kind.TheVariants as kind
 use Rattle.teco_model.specs.declared.kind.Search.{Search}
 use Rattle.teco_model.specs.declared.kind.Search.TheVariants as search
-use Rattle.teco_poly.specs.Polynomial.{Polynomial, value}
+use Rattle.teco_poly.specs.Polynomial.{Polynomial}
 use Rattle.teco_rules.proofs.Flowing.{others_are_sound}
 use Rattle.teco_rules.proofs.Going.{leads_at, ok_at, then_so, of_one, on_comes, goes_behind, flow_goes}
 use Rattle.teco_rules.proofs.Searching.{searches_are_sound}
@@ -32,15 +29,14 @@ use Rattle.teco_rules.proofs.Seeking.{page_searches_are_sound}
 use Rattle.teco_rules.specs.Describes.{Run, Describes, run_behind}
 use Rattle.teco_rules.specs.Facts.{Facts}
 use Rattle.teco_rules.specs.Flows.{Edges}
-use Rattle.teco_rules.specs.SoundElements.{Succeeds, Leads, Arrives, FitsOn, ArrivesOn}
+use Rattle.teco_rules.specs.SoundElements.{Succeeds, Arrives, FitsOn, ArrivesOn}
 use Rattle.teco_rules.specs.SoundFlow.{IsReached}
 use Rattle.teco_rules.specs.SoundPages.{unread_of, ComesTo, Comes}
 use Rattle.teco_rules.specs.SoundSearches.{IsInBuffer, MissArrives, SearchArrives, finding}
 use Rattle.teco_rules.specs.SoundSeeking.{IsInPages, facts_seeking, IsSeeking, ComesAway, MissComes, LooksOn, Seeks}
-use Rattle.teco_rules.specs.SoundSteps.{LeadsAhead, IsInside, KindStands, FlowStands, BeginsAt, GoesBehind, LeavesFor, Turns, FlowGoes, Begins, IsUnderway, KindEnds, Proceeds}
+use Rattle.teco_rules.specs.SoundSteps.{LeadsAhead, IsInside, KindStands, FlowStands, BeginsAt, GoesBehind, FlowGoes, KindEnds, Proceeds}
 use Rattle.teco_rules.specs.Transfer as transfers
 use Rattle.teco_rules.specs.Transfer.{Placed, transfer}
-use Rattle.teco_rules.specs.declared.refusal.Refusal.{Refusal}
 
 -- a search that counts as having no colon has none
 no_colons : (colons : ℕ) (leave : Bool) → (nat_lt 0 colons || leave) ≡ false → colons ≡ 0
@@ -114,13 +110,16 @@ module _ (run : Run) (facts : Facts) (x : Placed) (edges : Edges) (s : State) (h
     module _ (stays missed now : World) (left : Option ℕ) (l : left ≡ None) (colon : x.colon ≡ false) (c : ComesAway (run_behind 1 run) facts.held s.world edges missed) where
       leaves_by : (r : Result Turn Code) → flows.jump code.Utc x.element model.no_arguments frame ≡ r → Succeeds (λ (turn : Turn). turn.arguments ≡ model.no_arguments) r → Goes (kind.Search q) most (outcomes.leaving_outcome stays missed (at now left) r)
       leaves_by (Err why) e g = absurd g
-      leaves_by (Ok turn) e g = inl (inr (colon, record {
-        comes = rw g (with_typed (run_behind 1 run) facts.held s.world missed edges.away c _);
-        turn = turn;
-        jumps = e;
-        frames = refl;
-        done = l;
-      }))
+      leaves_by (Ok turn) e g = inl (inr (
+        colon,
+        record {
+          comes = rw g (with_typed (run_behind 1 run) facts.held s.world missed edges.away c _);
+          turn = turn;
+          jumps = e;
+          frames = refl;
+          done = l;
+        },
+      ))
 
       jumps : LeadsAhead x.element frame → Succeeds (λ (turn : Turn). turn.arguments ≡ model.no_arguments) (flows.jump code.Utc x.element model.no_arguments frame)
       jumps (place, e) = rw e refl
@@ -151,17 +150,21 @@ module _ (run : Run) (facts : Facts) (x : Placed) (edges : Edges) (s : State) (h
     through_goes true e last missed now m = found_goes (Some (pos 0)) missed now None refl m
     through_goes false e last missed now m = leaves_goes last missed now None refl e m
 
-    pub looked_goes : (now : World) (left : Option ℕ) → unread_of now + 1 ≤ most → (r : Result Looked Code) → Succeeds (LooksOn run (facts_seeking facts) s.world s.arguments x edges now) r → Goes (kind.Search q) most (outcomes.looked_outcome x.colon x.element (at now left) r)
-    looked_goes now left b (Err c) g = absurd g
-    looked_goes now left b (Ok (Met new)) g = found_goes _ new now None refl g
-    looked_goes now left b (Ok (Turned n new)) g = inr (unread_of new + 1, omega (arith, g.1, b), record {
-      some = omega arith;
-      pending = refl;
-      frames = refl;
-      output = g.0.output;
-      work = ((n, refl), omega arith, g.0);
-    })
-    looked_goes now left b (Ok (Through last)) g = through_goes x.colon refl last (paging.looked_through last) now g
+    pub looked_goes : IsInPages q → (now : World) (left : Option ℕ) → unread_of now + 1 ≤ most → (r : Result Looked Code) → Succeeds (LooksOn run (facts_seeking facts) s.world s.arguments x edges now) r → Goes (kind.Search q) most (outcomes.looked_outcome x.colon x.element (at now left) r)
+    looked_goes p now left b (Err c) g = absurd g
+    looked_goes p now left b (Ok (Met new)) g = found_goes _ new now None refl g
+    looked_goes p now left b (Ok (Turned n new)) g = inr (
+      unread_of new + 1,
+      omega (arith, g.1, b),
+      record {
+        some = omega arith;
+        pending = refl;
+        frames = refl;
+        output = g.0.output;
+        work = (p, (n, refl), omega arith, g.0);
+      },
+    )
+    looked_goes p now left b (Ok (Through last)) g = through_goes x.colon refl last (paging.looked_through last) now g
 
   has_none : x.colon ≡ false → x.element.colons ≡ 0
   has_none e = no_colons x.element.colons (outcomes.is_leave _) (subst (λ colon. colon ≡ false) h.colon e)
@@ -176,9 +179,9 @@ module _ (run : Run) (facts : Facts) (x : Placed) (edges : Edges) (s : State) (h
   look_proceeds q most fits b e k output o m =
       subst (λ left. Goes (kind.Search q) most (outcomes.looked_outcome_of q x.element s left)) (sym h.left)
       (subst (λ colon. Goes (kind.Search q) most (outcomes.looked_outcome colon x.element (taking s) (outcomes.looking q x.element s))) h.colon
-      (looked_goes q most k s.world s.left m _ (then_so _ (LooksOn run (facts_seeking facts) s.world s.arguments x edges s.world) (model.arguments_of s.arguments.level) (λ taken. paging.look_first q x.element taken s.world) (searched q fits b e output o) (λ taken w i. i.begins))))
+      (looked_goes q most k b s.world s.left m _ (then_so _ (LooksOn run (facts_seeking facts) s.world s.arguments x edges s.world) (model.arguments_of s.arguments.level) (λ taken. paging.look_first q x.element taken s.world) (searched q fits b e output o) (λ taken w i. i.begins))))
 
   pub look_again : (q : Search) (most : ℕ) → FitsOn run.n edges → IsInPages q → x.element.kind ≡ kind.Search q → KindStands (kind.Search q) facts x frame → (output : Output) → s.world.files.output ≡ Some output → (now : World) (n : ℕ) (left : Option ℕ) → IsSeeking run (facts_seeking facts) s.world s.arguments x.element.text now → unread_of now + 1 ≤ most → Goes (kind.Search q) most (outcomes.looked_outcome (outcomes.has_colon x.element frame) x.element (record s { world = now; arguments = model.levels_after_taking s.arguments; left = left }) (paging.look_for q x.element n now))
   look_again q most fits b e k output o now n left i m =
       subst (λ colon. Goes (kind.Search q) most (outcomes.looked_outcome colon x.element (record s { world = now; arguments = model.levels_after_taking s.arguments; left = left }) (paging.look_for q x.element n now))) h.colon
-      (looked_goes q most k now left m _ (of_one (Seeks run (facts_seeking facts) s.world s.arguments x q edges) (Succeeds (LooksOn run (facts_seeking facts) s.world s.arguments x edges now) (paging.look_for q x.element n now)) _ (searched q fits b e output o) (λ taken j. j.more now n i)))
+      (looked_goes q most k b now left m _ (of_one (Seeks run (facts_seeking facts) s.world s.arguments x q edges) (Succeeds (LooksOn run (facts_seeking facts) s.world s.arguments x edges now) (paging.look_for q x.element n now)) _ (searched q fits b e output o) (λ taken j. j.more now n i)))

@@ -314,15 +314,15 @@ module _ (run : Run) (facts : Facts) (world : World) (pending : arguments.Argume
   with_input held e fits input (Some i) q o = appended_comes held e fits i.unread (ap (λ o. option_map_or (λ (input : Input). input.unread) o []) q)
 
   abbrev AppendsBy : Option ℤ → Edges → Type 0
-  AppendsBy v edges = MatchOption v (Succeeds (Comes run facts.held world (arguments.levels_after_taking pending) edges) (model.append world)) (λ n. MatchOption edges.on ⊥ (λ next. Arrives run facts.held (unread_of world) world.kept next (after world.kept (arguments.levels_after_answer (Some (character n world.kept)) (arguments.levels_after_taking pending)))))
+  AppendsBy v edges = MatchOption v ((input : Input) → world.files.input ≡ Some input → Succeeds (Comes run facts.held world (arguments.levels_after_taking pending) edges) (model.append world)) (λ n. MatchOption edges.on ⊥ (λ next. Arrives run facts.held (unread_of world) world.kept next (after world.kept (arguments.levels_after_answer (Some (character n world.kept)) (arguments.levels_after_taking pending)))))
 
-  page_added : (input : Input) → world.files.input ≡ Some input → (sum : Result Polynomial Refusal) → IfOk sum (λ held. value held run.n ≡ value facts.held run.n + value (number 0) run.n) → FitsThen (AppendsBy None) (transfers.on (((sum >>= λ held. Ok (facts_behind (moving facts.position.distances (Some (pos 0))) held taking)) >>= λ known. Ok (silent known)) >>= λ known. Ok (facts_answered known)))
-  page_added input q (Err why) e = tt
-  page_added input q (Ok held) e = λ l. with_input held e l.buffer input world.files.input refl q
+  page_added : (sum : Result Polynomial Refusal) → IfOk sum (λ held. value held run.n ≡ value facts.held run.n + value (number 0) run.n) → FitsThen (AppendsBy None) (transfers.on (((sum >>= λ held. Ok (facts_behind (moving facts.position.distances (Some (pos 0))) held taking)) >>= λ known. Ok (silent known)) >>= λ known. Ok (facts_answered known)))
+  page_added (Err why) e = tt
+  page_added (Ok held) e = λ l input q. with_input held e l.buffer input world.files.input refl q
 
-  appends : (input : Input) → world.files.input ≡ Some input → (o : Option Value) (v : Option ℤ) → IsOptional (IsValue (fore_of world.kept) (back_of world.kept)) o v → FitsThen (AppendsBy v) (transfers.on (row.append o taking >>= λ known. Ok (facts_answered known)))
-  appends input q None None i = page_added input q _ (value-sum_of run.n facts.held (number 0))
-  appends input q (Some s) (Some n) i = λ l. record {
+  appends : (o : Option Value) (v : Option ℤ) → IsOptional (IsValue (fore_of world.kept) (back_of world.kept)) o v → FitsThen (AppendsBy v) (transfers.on (row.append o taking >>= λ known. Ok (facts_answered known)))
+  appends None None i = page_added _ (value-sum_of run.n facts.held (number 0))
+  appends (Some s) (Some n) i = λ l. record {
     described = record {
       state = pending_again run taking (unread_of world) world.kept taking_holds _;
       pending = record { level = record { first = tt; value = code_value (fore_of world.kept) (back_of world.kept) world.kept.text whole.bytes _; operator = refl }; outer = own_is.outer };
@@ -330,8 +330,8 @@ module _ (run : Run) (facts : Facts) (world : World) (pending : arguments.Argume
     };
     grown = omega arith;
   }
-  appends input q None (Some v) i = absurd i
-  appends input q (Some s) None i = absurd i
+  appends None (Some v) i = absurd i
+  appends (Some s) None i = absurd i
 
   -- what is taken
   taken_is : Covers (IsTaken (fore_of world.kept) (back_of world.kept)) (known.arguments_of facts.arguments.level) (arguments.arguments_of pending.level)
@@ -339,11 +339,11 @@ module _ (run : Run) (facts : Facts) (world : World) (pending : arguments.Argume
 
 pub appends_are_sound : AppendsAreSound
 unfolding transfer
-appends_are_sound run facts world pending x input whole d e q =
+appends_are_sound run facts world pending x whole d e =
     let n = without_answer run facts (unread_of world) world.kept pending d in
     subst (λ k. Leads (FitsOn run.n) (Appends run facts.held world pending) (transfers.edges_of k x (transfers.answer_for k facts) (transfers.without_answer facts)) (arguments.arguments_of pending.level)) (sym e)
     (taking_leads (FitsOn run.n) (Appends run facts.held world pending) (facts_taken (transfers.without_answer facts)) (λ k. row.append k.value (facts_taken (transfers.without_answer facts))) (IsTaken (fore_of world.kept) (back_of world.kept)) _ _ (taken_is run (transfers.without_answer facts) world pending whole n) (λ k t i.
-    as_leads run (transfers.without_answer facts) world pending whole n (Appends run facts.held world pending) t _ (appends run (transfers.without_answer facts) world pending whole n input q k.value t.value i.value)))
+    as_leads run (transfers.without_answer facts) world pending whole n (Appends run facts.held world pending) t _ (appends run (transfers.without_answer facts) world pending whole n k.value t.value i.value)))
 
 pub page_turns_are_sound : PageTurnsAreSound
 unfolding transfer

@@ -122,7 +122,7 @@ with_output : (Q : paging.Looked → Type 0) (o : Option Output) (output : Outpu
 with_output Q None output f e h = absurd (cc)
 with_output Q (Some q) output f e h = h q
 
-written_out : (bytes : List ℕ) (o : Option Output) (output : Output) → o ≡ Some output → (q : Output) × (with_written bytes o ≡ Some q)
+pub written_out : (bytes : List ℕ) (o : Option Output) (output : Output) → o ≡ Some output → (q : Output) × (with_written bytes o ≡ Some q)
 written_out bytes None output e = absurd (cc)
 written_out bytes (Some q) output e = (record q { written = q.written ++ bytes }, refl)
 

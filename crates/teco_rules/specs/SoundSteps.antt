@@ -1,6 +1,6 @@
 -- One law of all elements: where what is known before an element says its edges, and they fit, a step there comes to no
 -- code, and the facts of the edge that it goes along describe where it leads.
-use Rattle.std.specs.Prelude.{◌≡◌, ℕ, zero, suc, ℤ, pos, ◌+◌, ◌≤◌, ⊤, List, ◌∷◌, Bool, true, false, is_some, Option, Some, None, MatchOption, IfOk, Ok, ◌⊎◌}
+use Rattle.std.specs.Prelude.{◌≡◌, ℕ, zero, ℤ, ◌+◌, ◌≤◌, ⊤, List, ◌∷◌, Bool, true, false, is_some, Option, Some, None, MatchOption, IfOk, Ok, ◌⊎◌}
 use Rattle.teco_base.specs.declared.code.Code.TheVariants as code
 use Rattle.teco_model.specs.Ahead.{Whole}
 use Rattle.teco_model.specs.Arguments.{arguments_of, levels_after_taking, no_arguments}
@@ -11,7 +11,7 @@ use Rattle.teco_model.specs.Flow.{Turn, turn_of, jump, later_turns, leaves}
 use Rattle.teco_model.specs.Going.{frames_at, frames_in}
 use Rattle.teco_model.specs.Searching.{has_colon}
 use Rattle.teco_model.specs.Skip.{skip_of}
-use Rattle.teco_model.specs.State.{Frame, State, Outcome, Next, End, Exit, Fail, Absent}
+use Rattle.teco_model.specs.State.{Frame, State, Outcome, Next}
 use Rattle.teco_model.specs.Step.{step}
 use Rattle.teco_model.specs.Storage.{text_in}
 use Rattle.teco_model.specs.declared.arguments.Taken.{Taken}
@@ -32,8 +32,8 @@ use Rattle.teco_rules.specs.Flows.{Edges}
 use Rattle.teco_rules.specs.Printed.{Needs, needs, steps}
 use Rattle.teco_rules.specs.SoundElements.{FitsOn, IsNamedByCommand, IsNamedByQuery, IsNamedByStack}
 use Rattle.teco_rules.specs.SoundFlow.{number_needed}
-use Rattle.teco_rules.specs.SoundPages.{unread_of, ComesTo, Comes}
-use Rattle.teco_rules.specs.SoundSeeking.{facts_seeking, IsSeeking}
+use Rattle.teco_rules.specs.SoundPages.{unread_of, ComesTo, Comes, IsTurnOrWrite}
+use Rattle.teco_rules.specs.SoundSeeking.{IsInPages, facts_seeking, IsSeeking}
 use Rattle.teco_rules.specs.Transfer.{Placed, transfer}
 use Rattle.teco_rules.specs.Wholeness.{IsWholeState}
 
@@ -162,17 +162,17 @@ pub record Begins
 -- While work is left at P, PW, N and FN, so many steps come at the most.
 abbrev pub PageUnderway : Page → Run → Polynomial → Placed → Edges → State → ℕ → State → Type 0
 PageUnderway p run held x edges old rest s =
-    (s.left ≡ Some rest) × Comes run held old.world (levels_after_taking old.arguments) edges s.world
+    IsTurnOrWrite p × (s.left ≡ Some rest) × Comes run held old.world (levels_after_taking old.arguments) edges s.world
     × ((taken : Taken) × (arguments_of old.arguments.level ≡ Ok taken) × (taken.first ≡ None))
 
-abbrev pub SearchUnderway : Run → Facts → Placed → State → ℕ → State → Type 0
-SearchUnderway run facts x old rest s =
-    ((n : ℕ) × (s.left ≡ Some n)) × (unread_of s.world + 1 ≤ rest)
+abbrev pub SearchUnderway : Search → Run → Facts → Placed → State → ℕ → State → Type 0
+SearchUnderway q run facts x old rest s =
+    IsInPages q × ((n : ℕ) × (s.left ≡ Some n)) × (unread_of s.world + 1 ≤ rest)
     × IsSeeking run (facts_seeking facts) old.world old.arguments x.element.text s.world
 
 abbrev pub KindUnderway : Kind → Run → Facts → Placed → Edges → State → ℕ → State → Type 0
 KindUnderway (kind.Page p) run facts x edges old rest s = PageUnderway p run facts.held x edges old rest s
-KindUnderway (kind.Search s) run facts x edges old rest t = SearchUnderway run facts x old rest t
+KindUnderway (kind.Search q) run facts x edges old rest s = SearchUnderway q run facts x old rest s
 KindUnderway k run facts x edges old rest s = ⊥
 
 pub record IsUnderway
@@ -210,7 +210,7 @@ StepsAreSound =
 
 abbrev pub LaterStepsAreSound : Type 0
 LaterStepsAreSound =
-    (run : Run) (facts : Facts) (x : Placed) (edges : Edges) (old s : State) (rest : ℕ)
+    (run : Run) (facts : Facts) (x : Placed) (edges : Edges) (most : Polynomial) (old s : State) (rest : ℕ)
     → BeginsAt run facts x old → transfer x facts ≡ Ok edges → FitsOn run.n edges
-    → IsUnderway x.element.kind run facts x edges old rest s
+    → steps x.element.kind facts ≡ Ok most → IsUnderway x.element.kind run facts x edges old rest s
     → Proceeds x.element.kind run facts x edges old rest (step s)

@@ -5,6 +5,7 @@ ghost use Rattle.teco_rules.specs.SoundFlow.{TestsAreSound, LeavesAreSound, Iter
 ghost use Rattle.teco_rules.specs.SoundPages.{AppendsAreSound, PageTurnsAreSound, PageWritesAreSound, PageStepsAreBounded};
 ghost use Rattle.teco_rules.specs.SoundSearches.{SearchesAreSound};
 ghost use Rattle.teco_rules.specs.SoundSeeking.{PageSearchesAreSound, SearchStepsAreBounded};
+ghost use Rattle.teco_rules.specs.SoundSteps.{StepsAreSound, LaterStepsAreSound};
 
 /// Digits, operators, parentheses, comma and ESC.
 pub fn arguments_are_sound()
@@ -99,4 +100,14 @@ pub fn page_writes_are_sound()
 /// P and PW take at most as many steps as are known.
 pub fn page_steps_are_bounded()
     ensures { PageStepsAreBounded }
+{}
+
+/// The first step of any element comes to no code, and to the edge that it goes along, or leaves work to do.
+pub fn steps_are_sound()
+    ensures { StepsAreSound }
+{}
+
+/// So does each that follows.
+pub fn later_steps_are_sound()
+    ensures { LaterStepsAreSound }
 {}
