@@ -76,50 +76,56 @@ module _ (run : Run) (facts : Facts) (x : Placed) (edges : Edges) (s : State) (h
   Behind new = GoesBehind run facts.held edges x.element s new
 
   -- ---- on behind an element
-  pub outcome_goes : (k : Kind) (most : ℕ) → ((new : State) → Behind new → KindEnds k run facts x edges s new) → (r : Result After Code) → Succeeds (ArrivesOn run facts.held u s.world.kept edges) r → Goes k most (outcome_behind x.element s r)
-  outcome_goes k most i (Err c) g = absurd g
-  outcome_goes k most i (Ok done) g = inl (i _ (goes_behind run facts.held edges x.element s h.left (Ok done) g))
+  pub outcome_goes : (k : Kind) (most : ℕ) → 1 ≤ most → ((new : State) → Behind new → KindEnds k run facts x edges s new) → (r : Result After Code) → Succeeds (ArrivesOn run facts.held u s.world.kept edges) r → Goes k most (outcome_behind x.element s r)
+  outcome_goes k most some i (Err c) g = absurd g
+  outcome_goes k most some i (Ok done) g = inl (some, i _ (goes_behind run facts.held edges x.element s h.left (Ok done) g))
 
   -- ---- flow and calls
-  flow_on : (f : Flow) (most : ℕ) (r : Result Turn Code) → flows.turn_of f x.element s.arguments frame ≡ r → Succeeds (FlowGoes f run facts.held x edges s) r → Goes (kind.Flow f) most (stepping.flow_outcome s r)
-  flow_on f most (Err c) e g = absurd g
-  flow_on f most (Ok turn) e g = inl (record { turn = turn; turns = e; goes = g; gone = refl })
+  flow_on : (f : Flow) (most : ℕ) → 1 ≤ most → (r : Result Turn Code) → flows.turn_of f x.element s.arguments frame ≡ r → Succeeds (FlowGoes f run facts.held x edges s) r → Goes (kind.Flow f) most (stepping.flow_outcome s r)
+  flow_on f most some (Err c) e g = absurd g
+  flow_on f most some (Ok turn) e g = inl (some, record { turn = turn; turns = e; goes = g; gone = refl })
 
-  pub flow_proceeds : (f : Flow) (most : ℕ) → x.element.kind ≡ kind.Flow f → FlowStands f facts x frame → Goes (kind.Flow f) most (stepping.flow_outcome s (flows.turn_of f x.element s.arguments frame))
-  flow_proceeds f most e k = flow_on f most _ refl (flow_goes run facts x edges s h t f e k)
+  pub flow_proceeds : (f : Flow) (most : ℕ) → 1 ≤ most → x.element.kind ≡ kind.Flow f → FlowStands f facts x frame → Goes (kind.Flow f) most (stepping.flow_outcome s (flows.turn_of f x.element s.arguments frame))
+  flow_proceeds f most some e k = flow_on f most some _ refl (flow_goes run facts x edges s h t f e k)
 
   stays_comes : (o : Option Facts) → IfSome o (λ next. next.held ≡ facts.held) → MatchOption o ⊥ (λ next. Describes run next u s.world.kept s.arguments) → MatchOption o ⊥ (λ next. ComesTo run facts.held s.world next s.arguments s.world)
   stays_comes None e i = i
   stays_comes (Some next) e i = record { described = i; grown = rw e (omega arith) }
 
-  pub call_proceeds : (c : Call) (most : ℕ) → x.element.kind ≡ kind.Call c → Goes (kind.Call c) most (stepping.call_outcome c x.element s)
-  call_proceeds c most e = inl (record {
-    comes = stays_comes edges.on (ok_at (λ edges. IfSome edges.on (λ next. next.held ≡ facts.held)) (transfer x facts) edges t (call_held x facts c e)) (ok_at (λ edges. IsReached run edges.on u s.world.kept s.arguments) (transfer x facts) edges t ((others_are_sound run facts u s.world.kept s.arguments x h.described).call c e));
-    gone = refl;
-  })
+  pub call_proceeds : (c : Call) (most : ℕ) → 1 ≤ most → x.element.kind ≡ kind.Call c → Goes (kind.Call c) most (stepping.call_outcome c x.element s)
+  call_proceeds c most some e = inl (
+    some,
+    record {
+      comes = stays_comes edges.on (ok_at (λ edges. IfSome edges.on (λ next. next.held ≡ facts.held)) (transfer x facts) edges t (call_held x facts c e)) (ok_at (λ edges. IsReached run edges.on u s.world.kept s.arguments) (transfer x facts) edges t ((others_are_sound run facts u s.world.kept s.arguments x h.described).call c e));
+      gone = refl;
+    },
+  )
 
   -- ---- searches
-  module _ (q : Search) (most : ℕ) (stands : x.colon ≡ false → IsInside facts frame × LeadsAhead x.element frame) where
+  module _ (q : Search) (most : ℕ) (some : 1 ≤ most) (stands : x.colon ≡ false → IsInside facts frame × LeadsAhead x.element frame) where
     -- the state of a search that took its arguments
     abbrev at : World → Option ℕ → State
     at world left = record s { world = world; arguments = model.levels_after_taking s.arguments; left = left }
 
     found_goes : (answer : Option ℤ) (world now : World) (left : Option ℕ) → left ≡ None → Comes run facts.held s.world (model.levels_after_answer answer (model.levels_after_taking s.arguments)) edges world → Goes (kind.Search q) most (outcomes.search_behind x.element answer world (at now left))
-    found_goes answer world now left l c = inl (inl (record { comes = c; frames = refl; done = l }))
+    found_goes answer world now left l c = inl (some, inl (record { comes = c; frames = refl; done = l }))
 
     module _ (stays missed now : World) (left : Option ℕ) (l : left ≡ None) (colon : x.colon ≡ false) (c : ComesAway (run_behind 1 run) facts.held s.world edges missed) where
       leaves_by : (r : Result Turn Code) → flows.jump code.Utc x.element model.no_arguments frame ≡ r → Succeeds (λ (turn : Turn). turn.arguments ≡ model.no_arguments) r → Goes (kind.Search q) most (outcomes.leaving_outcome stays missed (at now left) r)
       leaves_by (Err why) e g = absurd g
-      leaves_by (Ok turn) e g = inl (inr (
-        colon,
-        record {
-          comes = rw g (with_typed (run_behind 1 run) facts.held s.world missed edges.away c _);
-          turn = turn;
-          jumps = e;
-          frames = refl;
-          done = l;
-        },
-      ))
+      leaves_by (Ok turn) e g = inl (
+        some,
+        inr (
+          colon,
+          record {
+            comes = rw g (with_typed (run_behind 1 run) facts.held s.world missed edges.away c _);
+            turn = turn;
+            jumps = e;
+            frames = refl;
+            done = l;
+          },
+        ),
+      )
 
       jumps : LeadsAhead x.element frame → Succeeds (λ (turn : Turn). turn.arguments ≡ model.no_arguments) (flows.jump code.Utc x.element model.no_arguments frame)
       jumps (place, e) = rw e refl
@@ -169,8 +175,8 @@ module _ (run : Run) (facts : Facts) (x : Placed) (edges : Edges) (s : State) (h
   has_none : x.colon ≡ false → x.element.colons ≡ 0
   has_none e = no_colons x.element.colons (outcomes.is_leave _) (subst (λ colon. colon ≡ false) h.colon e)
 
-  pub search_proceeds : (q : Search) (most : ℕ) → FitsOn run.n edges → IsInBuffer q → x.element.kind ≡ kind.Search q → KindStands (kind.Search q) facts x frame → Goes (kind.Search q) most (outcomes.search_outcome_of q x.element s)
-  search_proceeds q most fits b e k = subst (λ colon. Goes (kind.Search q) most (outcomes.search_outcome colon x.element (taking s) (outcomes.finding q x.element s))) h.colon (finding_goes q most k has_none _ (leads_at (FitsOn run.n) _ (transfer x facts) (finding q x.element s.world.kept s.arguments) edges t fits (searches_are_sound run facts u s.world.kept s.arguments x q h.whole.world.kept h.described e b has_none)))
+  pub search_proceeds : (q : Search) (most : ℕ) → 1 ≤ most → FitsOn run.n edges → IsInBuffer q → x.element.kind ≡ kind.Search q → KindStands (kind.Search q) facts x frame → Goes (kind.Search q) most (outcomes.search_outcome_of q x.element s)
+  search_proceeds q most some fits b e k = subst (λ colon. Goes (kind.Search q) most (outcomes.search_outcome colon x.element (taking s) (outcomes.finding q x.element s))) h.colon (finding_goes q most some k has_none _ (leads_at (FitsOn run.n) _ (transfer x facts) (finding q x.element s.world.kept s.arguments) edges t fits (searches_are_sound run facts u s.world.kept s.arguments x q h.whole.world.kept h.described e b has_none)))
 
   searched : (q : Search) → FitsOn run.n edges → IsInPages q → x.element.kind ≡ kind.Search q → (output : Output) → s.world.files.output ≡ Some output → Succeeds (Seeks run (facts_seeking facts) s.world s.arguments x q edges) (model.arguments_of s.arguments.level)
   searched q fits b e output o = leads_at (FitsOn run.n) _ (transfer x facts) (model.arguments_of s.arguments.level) edges t fits (page_searches_are_sound run facts s.world s.arguments x q output h.whole.world.kept h.described e b o)
@@ -179,9 +185,9 @@ module _ (run : Run) (facts : Facts) (x : Placed) (edges : Edges) (s : State) (h
   look_proceeds q most fits b e k output o m =
       subst (λ left. Goes (kind.Search q) most (outcomes.looked_outcome_of q x.element s left)) (sym h.left)
       (subst (λ colon. Goes (kind.Search q) most (outcomes.looked_outcome colon x.element (taking s) (outcomes.looking q x.element s))) h.colon
-      (looked_goes q most k b s.world s.left m _ (then_so _ (LooksOn run (facts_seeking facts) s.world s.arguments x edges s.world) (model.arguments_of s.arguments.level) (λ taken. paging.look_first q x.element taken s.world) (searched q fits b e output o) (λ taken w i. i.begins))))
+      (looked_goes q most (omega arith) k b s.world s.left m _ (then_so _ (LooksOn run (facts_seeking facts) s.world s.arguments x edges s.world) (model.arguments_of s.arguments.level) (λ taken. paging.look_first q x.element taken s.world) (searched q fits b e output o) (λ taken w i. i.begins))))
 
   pub look_again : (q : Search) (most : ℕ) → FitsOn run.n edges → IsInPages q → x.element.kind ≡ kind.Search q → KindStands (kind.Search q) facts x frame → (output : Output) → s.world.files.output ≡ Some output → (now : World) (n : ℕ) (left : Option ℕ) → IsSeeking run (facts_seeking facts) s.world s.arguments x.element.text now → unread_of now + 1 ≤ most → Goes (kind.Search q) most (outcomes.looked_outcome (outcomes.has_colon x.element frame) x.element (record s { world = now; arguments = model.levels_after_taking s.arguments; left = left }) (paging.look_for q x.element n now))
   look_again q most fits b e k output o now n left i m =
       subst (λ colon. Goes (kind.Search q) most (outcomes.looked_outcome colon x.element (record s { world = now; arguments = model.levels_after_taking s.arguments; left = left }) (paging.look_for q x.element n now))) h.colon
-      (looked_goes q most k b now left m _ (of_one (Seeks run (facts_seeking facts) s.world s.arguments x q edges) (Succeeds (LooksOn run (facts_seeking facts) s.world s.arguments x edges now) (paging.look_for q x.element n now)) _ (searched q fits b e output o) (λ taken j. j.more now n i)))
+      (looked_goes q most (omega arith) k b now left m _ (of_one (Seeks run (facts_seeking facts) s.world s.arguments x q edges) (Succeeds (LooksOn run (facts_seeking facts) s.world s.arguments x edges now) (paging.look_for q x.element n now)) _ (searched q fits b e output o) (λ taken j. j.more now n i)))

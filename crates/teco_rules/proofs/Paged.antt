@@ -82,15 +82,15 @@ module _ (run : Run) (facts : Facts) (x : Placed) (edges : Edges) (s : State) (h
     abbrev Goes : ℕ → Outcome → Type 0
     Goes most outcome = Proceeds (kind.Page p) run facts x edges s most outcome
 
-    behind_page : (most : ℕ) (world : World) (left : Option ℕ) → left ≡ None → ComesBehind world → Goes most (Next (record s { world = world; arguments = model.levels_after_taking s.arguments; frames = record s.frames { running = record s.frames.running { place = x.element.next } }; left = left }))
-    behind_page most world left l c = inl (record { comes = c; frames = refl; done = l })
+    behind_page : (most : ℕ) → 1 ≤ most → (world : World) (left : Option ℕ) → left ≡ None → ComesBehind world → Goes most (Next (record s { world = world; arguments = model.levels_after_taking s.arguments; frames = record s.frames { running = record s.frames.running { place = x.element.next } }; left = left }))
+    behind_page most some world left l c = inl (some, record { comes = c; frames = refl; done = l })
 
     -- ---- P and PW
     progress_goes : IsTurnOrWrite p → (most : ℕ) (taken : Taken) → model.arguments_of s.arguments.level ≡ Ok taken → (now : World) (left : Option ℕ) (r : Result Progress Code) → IfOk r (IsLeft most taken.first) → Succeeds (λ (done : Progress). ComesBehind done.world) r → Goes most (outside.pages_outcome x.element (at now left) r)
     progress_goes b most taken w now left (Err c) i g = absurd g
     progress_goes b most taken w now left (Ok done) i g = by done.left refl where
       by : (n : ℕ) → done.left ≡ n → Goes most (outside.pages_behind x.element (at now left) done.world n)
-      by zero e = behind_page most done.world None refl g
+      by zero e = behind_page most (omega (arith, i.fewer)) done.world None refl g
       by (suc n) e = inr (suc n, omega (arith, e, i.fewer), record { some = omega arith; pending = refl; frames = refl; output = i.output; work = (b, refl, g, (taken, w, i.alone (omega (arith, e)))) })
 
     module _ (turns : IsTurnOrWrite p) (page : World → Result World Code) (opens : (world : World) → IsOpen world → IfOk (page world) IsOpen) (o : IsOpen s.world) where
@@ -139,17 +139,17 @@ module _ (run : Run) (facts : Facts) (x : Placed) (edges : Edges) (s : State) (h
   abbrev Adds : ℕ → Outcome → Type 0
   Adds most outcome = Proceeds (kind.Page page.Append) run facts x edges s most outcome
 
-  appended : (most : ℕ) (r : Result World Code) → Succeeds ComesBehind r → Adds most (outside.world_outcome x.element (taking s) r)
-  appended most (Err c) g = absurd g
-  appended most (Ok world) g = behind_page page.Append most world s.left h.left g
+  appended : (most : ℕ) → 1 ≤ most → (r : Result World Code) → Succeeds ComesBehind r → Adds most (outside.world_outcome x.element (taking s) r)
+  appended most some (Err c) g = absurd g
+  appended most some (Ok world) g = behind_page page.Append most some world s.left h.left g
 
-  append_by : (most : ℕ) (taken : Taken) (o : Option ℤ) → (o ≡ None → (input : Input) × (s.world.files.input ≡ Some input)) → Appends run facts.held s.world s.arguments edges (record { first = taken.first; value = o }) → Adds most (elim o as (λ x. Outcome) [ None ↦ outside.world_outcome x.element (taking s) (paging.append s.world) | Some n ↦ outside.character_outcome x.element (taking s) n ])
-  append_by most taken None ready g = let i = ready refl in appended most (paging.append s.world) (g i.0 i.1)
-  append_by most taken (Some n) ready g = inl (record { comes = on_comes run facts.held s.world s.world.kept _ edges g; frames = refl; done = h.left })
+  append_by : (most : ℕ) → 1 ≤ most → (taken : Taken) (o : Option ℤ) → (o ≡ None → (input : Input) × (s.world.files.input ≡ Some input)) → Appends run facts.held s.world s.arguments edges (record { first = taken.first; value = o }) → Adds most (elim o as (λ x. Outcome) [ None ↦ outside.world_outcome x.element (taking s) (paging.append s.world) | Some n ↦ outside.character_outcome x.element (taking s) n ])
+  append_by most some taken None ready g = let i = ready refl in appended most some (paging.append s.world) (g i.0 i.1)
+  append_by most some taken (Some n) ready g = inl (some, record { comes = on_comes run facts.held s.world s.world.kept _ edges g; frames = refl; done = h.left })
 
-  append_taken : (most : ℕ) (r : Result Taken Code) → Succeeds (λ (taken : Taken). taken.value ≡ None → (input : Input) × (s.world.files.input ≡ Some input)) r → Succeeds (Appends run facts.held s.world s.arguments edges) r → Adds most (outside.append_outcome x.element (taking s) r)
-  append_taken most (Err c) ready g = absurd g
-  append_taken most (Ok taken) ready g = append_by most taken taken.value ready g
+  append_taken : (most : ℕ) → 1 ≤ most → (r : Result Taken Code) → Succeeds (λ (taken : Taken). taken.value ≡ None → (input : Input) × (s.world.files.input ≡ Some input)) r → Succeeds (Appends run facts.held s.world s.arguments edges) r → Adds most (outside.append_outcome x.element (taking s) r)
+  append_taken most some (Err c) ready g = absurd g
+  append_taken most some (Ok taken) ready g = append_by most some taken taken.value ready g
 
-  pub append_proceeds : (most : ℕ) → x.element.kind ≡ kind.Page page.Append → Succeeds (λ (taken : Taken). taken.value ≡ None → (input : Input) × (s.world.files.input ≡ Some input)) (model.arguments_of s.arguments.level) → Adds most (outside.append_outcome x.element (taking s) (model.arguments_of s.arguments.level))
-  append_proceeds most e ready = append_taken most _ ready (leads_at (FitsOn run.n) _ (transfer x facts) (model.arguments_of s.arguments.level) edges t fits (appends_are_sound run facts s.world s.arguments x h.whole.world.kept h.described e))
+  pub append_proceeds : (most : ℕ) → 1 ≤ most → x.element.kind ≡ kind.Page page.Append → Succeeds (λ (taken : Taken). taken.value ≡ None → (input : Input) × (s.world.files.input ≡ Some input)) (model.arguments_of s.arguments.level) → Adds most (outside.append_outcome x.element (taking s) (model.arguments_of s.arguments.level))
+  append_proceeds most some e ready = append_taken most some _ ready (leads_at (FitsOn run.n) _ (transfer x facts) (model.arguments_of s.arguments.level) edges t fits (appends_are_sound run facts s.world s.arguments x h.whole.world.kept h.described e))

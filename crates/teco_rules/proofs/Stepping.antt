@@ -1,12 +1,14 @@
 -- One law of all elements: the first step, and each that follows.
-use Rattle.std.proofs.Common.{◌≡◌, ℕ, ◌+◌, ◌≤◌, refl, sym, subst, ap, ◌∙◌, ℤ, true, Option, Some, None, Result, Ok, Err, IfOk}
+use Rattle.std.proofs.Common.{zero, suc, arith, inl, inr, ◌∙◌, ◌+◌, ◌≤◌, ◌⊎◌, ◌≡◌, ℕ, refl, sym, subst, ap, ℤ, true, Option, Some, None, Result, Ok, Err, IfOk}
 use Rattle.teco_base.specs.declared.code.Code.{Code}
 use Rattle.teco_model.specs.Arguments as model
 use Rattle.teco_model.specs.Files.{Input, Output}
 use Rattle.teco_model.specs.Outside as outside
 use Rattle.teco_model.specs.Paging as paging
+use Rattle.teco_model.specs.Run as runs
+use Rattle.teco_model.specs.Run.{Reaches}
 use Rattle.teco_model.specs.Searching as outcomes
-use Rattle.teco_model.specs.State.{Kept, World, Frames, State, Next}
+use Rattle.teco_model.specs.State.{Outcome, Kept, World, Frames, State, Next}
 use Rattle.teco_model.specs.Step as stepping
 use Rattle.teco_model.specs.Step.{step}
 use Rattle.teco_model.specs.declared.arguments.Taken.{Taken}
@@ -17,12 +19,13 @@ use Rattle.teco_model.specs.declared.kind.Page.{Page}
 use Rattle.teco_model.specs.declared.kind.Page.TheVariants as page
 use Rattle.teco_model.specs.declared.kind.Search.{Search}
 use Rattle.teco_model.specs.declared.kind.Search.TheVariants as search
-use Rattle.teco_poly.specs.Polynomial.{Polynomial, value}
+use Rattle.teco_poly.specs.Polynomial.{Polynomial, value, number}
 use Rattle.teco_rules.proofs.Flowing.{taking_is}
 use Rattle.teco_rules.proofs.Going.{leads_at, ok_at}
 use Rattle.teco_rules.proofs.Onward.{outcome_goes, flow_proceeds, call_proceeds, search_proceeds, look_proceeds, look_again}
 use Rattle.teco_rules.proofs.Paged.{turn_proceeds, write_proceeds, turn_again, write_again, append_proceeds}
 use Rattle.teco_rules.proofs.Seeking.{search_steps_are_bounded}
+use Rattle.teco_rules.proofs.Shapes.{value-number}
 use Rattle.teco_rules.proofs.Steps.{Covers}
 use Rattle.teco_rules.proofs.Transfers.{arguments_are_sound, values_are_sound, commands_are_sound, queries_are_sound, stacks_are_sound}
 use Rattle.teco_rules.specs.Arguments as known
@@ -31,12 +34,12 @@ use Rattle.teco_rules.specs.Attempt.{◌>>=◌}
 use Rattle.teco_rules.specs.Describes.{Run, IsTaken, IsOptional, fore_of, back_of}
 use Rattle.teco_rules.specs.Facts.{Facts}
 use Rattle.teco_rules.specs.Flows.{Edges}
-use Rattle.teco_rules.specs.Printed.{needs, needs_of_page, steps_of_page, steps}
+use Rattle.teco_rules.specs.Printed.{needs, needs_of_page, steps_of_page, steps_of_search, steps}
 use Rattle.teco_rules.specs.Shifts.{facts_answered}
 use Rattle.teco_rules.specs.SoundElements.{Succeeds, Leads, FitsOn}
 use Rattle.teco_rules.specs.SoundPages.{unread_of}
 use Rattle.teco_rules.specs.SoundSeeking.{IsInPages, SearchesAtMost}
-use Rattle.teco_rules.specs.SoundSteps.{IsNamed, KindStands, AreOpen, BeginsAt, IsUnderway, Proceeds, StepsAreSound, LaterStepsAreSound}
+use Rattle.teco_rules.specs.SoundSteps.{KindEnds, IsNamed, KindStands, AreOpen, BeginsAt, IsUnderway, Proceeds, StepsAreSound, LaterStepsAreSound, ElementsAreSound}
 use Rattle.teco_rules.specs.Transfer as transfers
 use Rattle.teco_rules.specs.Transfer.{Placed, transfer}
 use Rattle.teco_rules.specs.Values.{IsValue}
@@ -106,21 +109,29 @@ module _ (run : Run) (facts : Facts) (x : Placed) (edges : Edges) (s : State) (h
   bounded : (q : Search) (most : Polynomial) → steps (kind.Search q) facts ≡ Ok most → SearchesAtMost q u (value most run.n)
   bounded q most m = ok_at (λ most. SearchesAtMost q u (value most run.n)) (steps (kind.Search q) facts) most m (search_steps_are_bounded run facts u kept s.arguments q h.described)
 
+  -- any other takes one step
+  one_step : (most : Polynomial) → steps_of_search search.Find facts ≡ Ok most → 1 ≤ value most run.n
+  one_step most m = let e : number 1 ≡ most = cc in subst (λ (p : Polynomial). 1 ≤ value p run.n) e (omega (arith, value-number 1 run.n))
+
+  one_taken : (most : Polynomial) (r : Result KnownTaken Refusal) → (r >>= λ taken. Ok (number 1)) ≡ Ok most → 1 ≤ value most run.n
+  one_taken most (Ok taken) m = one_step most m
+  one_taken most (Err why) m = absurd (cc)
+
   first_step : (k : Kind) (most : Polynomial) → x.element.kind ≡ k → steps k facts ≡ Ok most → Proceeds k run facts x edges s (value most run.n) (stepping.outcome_of k x.element s)
   unfolding stepping.outcome_of
-  first_step (kind.Argument a) most e m = outcome_goes run facts x edges s h t (kind.Argument a) (value most run.n) (λ new g. g) _ (arrived (kind.Argument a) e _ _ (arguments_are_sound run facts u kept s.arguments x a h.whole.world.kept h.described e))
-  first_step (kind.Value v) most e m = outcome_goes run facts x edges s h t (kind.Value v) (value most run.n) (λ new g. g) _ (arrived (kind.Value v) e _ _ (values_are_sound run facts u kept s.arguments x v h.whole.world.kept h.described e))
-  first_step (kind.Query q) most e m = outcome_goes run facts x edges s h t (kind.Query q) (value most run.n) (λ new g. g) _ (arrived (kind.Query q) e _ _ (queries_are_sound run facts u kept s.arguments x q h.whole.world.kept h.described e (named (kind.Query q) e)))
-  first_step (kind.Stack k) most e m = outcome_goes run facts x edges s h t (kind.Stack k) (value most run.n) (λ new g. g) _ (arrived (kind.Stack k) e _ _ (stacks_are_sound run facts u kept s.arguments x k h.whole.world.kept h.described e (named (kind.Stack k) e)))
-  first_step (kind.Command c) most e m = outcome_goes run facts x edges s h t (kind.Command c) (value most run.n) (λ new g. g) _ (arrived (kind.Command c) e _ _ (commands_are_sound run facts u kept s.arguments x c h.whole.world.kept h.described e (named (kind.Command c) e)))
-  first_step (kind.Call c) most e m = call_proceeds run facts x edges s h t c (value most run.n) e
-  first_step (kind.Flow f) most e m = flow_proceeds run facts x edges s h t f (value most run.n) e (stands (kind.Flow f) e)
+  first_step (kind.Argument a) most e m = outcome_goes run facts x edges s h t (kind.Argument a) (value most run.n) (one_step most m) (λ new g. g) _ (arrived (kind.Argument a) e _ _ (arguments_are_sound run facts u kept s.arguments x a h.whole.world.kept h.described e))
+  first_step (kind.Value v) most e m = outcome_goes run facts x edges s h t (kind.Value v) (value most run.n) (one_step most m) (λ new g. g) _ (arrived (kind.Value v) e _ _ (values_are_sound run facts u kept s.arguments x v h.whole.world.kept h.described e))
+  first_step (kind.Query q) most e m = outcome_goes run facts x edges s h t (kind.Query q) (value most run.n) (one_step most m) (λ new g. g) _ (arrived (kind.Query q) e _ _ (queries_are_sound run facts u kept s.arguments x q h.whole.world.kept h.described e (named (kind.Query q) e)))
+  first_step (kind.Stack k) most e m = outcome_goes run facts x edges s h t (kind.Stack k) (value most run.n) (one_step most m) (λ new g. g) _ (arrived (kind.Stack k) e _ _ (stacks_are_sound run facts u kept s.arguments x k h.whole.world.kept h.described e (named (kind.Stack k) e)))
+  first_step (kind.Command c) most e m = outcome_goes run facts x edges s h t (kind.Command c) (value most run.n) (one_step most m) (λ new g. g) _ (arrived (kind.Command c) e _ _ (commands_are_sound run facts u kept s.arguments x c h.whole.world.kept h.described e (named (kind.Command c) e)))
+  first_step (kind.Call c) most e m = call_proceeds run facts x edges s h t c (value most run.n) (one_step most m) e
+  first_step (kind.Flow f) most e m = flow_proceeds run facts x edges s h t f (value most run.n) (one_step most m) e (stands (kind.Flow f) e)
   first_step (kind.Page page.Yank) most e m = absurd (ok_at (λ edges. ⊥) (transfer x facts) edges t (yank_refused x facts e))
-  first_step (kind.Page page.Append) most e m = append_proceeds run facts x edges s h t fits (value most run.n) e (input_of most _ _ (taking_is run facts u kept s.arguments h.whole.world.kept h.described) m (needed (kind.Page page.Append) e))
+  first_step (kind.Page page.Append) most e m = append_proceeds run facts x edges s h t fits (value most run.n) (one_taken most _ m) e (input_of most _ _ (taking_is run facts u kept s.arguments h.whole.world.kept h.described) m (needed (kind.Page page.Append) e))
   first_step (kind.Page page.Next) most e m = turn_proceeds run facts x edges s h t fits most m e (page_output page.Next most e m (λ o. refl))
   first_step (kind.Page page.Write) most e m = write_proceeds run facts x edges s h t fits most m e (page_output page.Write most e m (λ o. refl))
-  first_step (kind.Search search.Find) most e m = search_proceeds run facts x edges s h t search.Find (value most run.n) fits tt e (stands (kind.Search search.Find) e)
-  first_step (kind.Search search.Replace) most e m = search_proceeds run facts x edges s h t search.Replace (value most run.n) fits tt e (stands (kind.Search search.Replace) e)
+  first_step (kind.Search search.Find) most e m = search_proceeds run facts x edges s h t search.Find (value most run.n) (one_step most m) fits tt e (stands (kind.Search search.Find) e)
+  first_step (kind.Search search.Replace) most e m = search_proceeds run facts x edges s h t search.Replace (value most run.n) (one_step most m) fits tt e (stands (kind.Search search.Replace) e)
   first_step (kind.Search search.FindInPages) most e m = looks search.FindInPages most e tt ((needed (kind.Search search.FindInPages) e).output refl) (bounded search.FindInPages most m)
   first_step (kind.Search search.ReplaceInPages) most e m = looks search.ReplaceInPages most e tt ((needed (kind.Search search.ReplaceInPages) e).output refl) (bounded search.ReplaceInPages most m)
   first_step (kind.File f) most e m = absurd (ok_at (λ edges. ⊥) (transfer x facts) edges t (file_refused x facts f e))
@@ -174,3 +185,53 @@ later_steps_are_sound run facts x edges most old s rest h t fits m i =
     subst (λ s. Proceeds x.element.kind run facts x edges old rest (step s)) (sym same)
     (subst (λ r. Proceeds x.element.kind run facts x edges old rest (stepping.outcome_at (record old { world = s.world; arguments = model.levels_after_taking old.arguments; left = s.left }) r)) (sym h.read)
     (later_step run facts x edges old h t fits x.element.kind most rest s.world s.left refl m j))
+
+-- ---- an element as a whole
+first_then : (n : ℕ) (s middle : State) → step s ≡ Next middle → runs.run (suc n) s ≡ runs.run n middle
+unfolding runs.run
+first_then zero s middle e = e
+first_then (suc n) s middle e = ap runs.go_on (first_then n s middle e)
+
+module _ (run : Run) (facts : Facts) (x : Placed) (edges : Edges) (most : Polynomial) (s : State) (h : BeginsAt run facts x s) (t : transfer x facts ≡ Ok edges) (fits : FitsOn run.n edges) (m : steps x.element.kind facts ≡ Ok most) where
+  abbrev Underway : ℕ → State → Type 0
+  Underway rest now = IsUnderway x.element.kind run facts x edges s rest now
+
+  -- from a state on
+  record Ends (bound : ℕ) (now : State) : Type 0 where
+    before : ℕ
+    last : State
+    new : State
+    few : before + 1 ≤ bound
+    reaches : Reaches before now last
+    stands : (last ≡ now) ⊎ ((rest : ℕ) × Underway rest last)
+    final : step last ≡ Next new
+    ends : KindEnds x.element.kind run facts x edges s new
+
+  ends_or_on : (fuel bound : ℕ) (now : State) → bound ≤ fuel → (o : Outcome) → step now ≡ o → Proceeds x.element.kind run facts x edges s bound o → Ends bound now
+  unfolding runs.run
+  ends_or_on zero bound now l (Next new) e (inl (some, k)) = record { before = 0; last = now; new = new; few = omega arith; reaches = refl; stands = inl refl; final = e; ends = k }
+  ends_or_on (suc fuel) bound now l (Next new) e (inl (some, k)) = record { before = 0; last = now; new = new; few = omega arith; reaches = refl; stands = inl refl; final = e; ends = k }
+  ends_or_on zero bound now l (Next new) e (inr (rest, fewer, k)) = absurd (omega (arith, k.some))
+  ends_or_on (suc fuel) bound now l (Next new) e (inr (rest, fewer, k)) =
+      let j = ends_or_on fuel rest new (omega arith) _ refl (later_steps_are_sound run facts x edges most s new rest h t fits m k) in record {
+        before = suc j.before;
+        last = j.last;
+        new = j.new;
+        few = omega (arith, j.few);
+        reaches = first_then j.before now new e ∙ j.reaches;
+        stands = inr (still rest new j.last k j.stands);
+        final = j.final;
+        ends = j.ends;
+      } where
+        still : (rest : ℕ) (new last : State) → Underway rest new → (last ≡ new) ⊎ ((rest : ℕ) × Underway rest last) → (rest : ℕ) × Underway rest last
+        still rest new last k (inl e) = (rest, subst (λ s. Underway rest s) (sym e) k)
+        still rest new last k (inr i) = i
+  ends_or_on fuel bound now l o e k = absurd k
+
+  all_ends : Ends (value most run.n) s
+  all_ends = ends_or_on (value most run.n) (value most run.n) s (omega arith) _ refl (steps_are_sound run facts x edges most s h t fits m)
+
+pub elements_are_sound : ElementsAreSound
+elements_are_sound run facts x edges most s h t fits m =
+    let j = all_ends run facts x edges most s h t fits m in
+    record { before = j.before; last = j.last; new = j.new; few = j.few; reaches = j.reaches; stands = j.stands; final = j.final; ends = j.ends }

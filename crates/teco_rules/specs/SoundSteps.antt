@@ -9,6 +9,7 @@ use Rattle.teco_model.specs.Element.{Element, element_at}
 use Rattle.teco_model.specs.Files.{Input, Output, Files}
 use Rattle.teco_model.specs.Flow.{Turn, turn_of, jump, later_turns, leaves}
 use Rattle.teco_model.specs.Going.{frames_at, frames_in}
+use Rattle.teco_model.specs.Run.{Reaches}
 use Rattle.teco_model.specs.Searching.{has_colon}
 use Rattle.teco_model.specs.Skip.{skip_of}
 use Rattle.teco_model.specs.State.{Frame, State, Outcome, Next}
@@ -196,7 +197,7 @@ KindEnds k run facts x edges old new = GoesBehind run facts.held edges x.element
 -- A step ends the element, or leaves fewer than so many steps to come.
 abbrev pub Proceeds : Kind → Run → Facts → Placed → Edges → State → ℕ → Outcome → Type 0
 Proceeds k run facts x edges old most (Next new) =
-    KindEnds k run facts x edges old new
+    ((1 ≤ most) × KindEnds k run facts x edges old new)
     ⊎ ((rest : ℕ) × (rest + 1 ≤ most) × IsUnderway k run facts x edges old rest new)
 Proceeds k run facts x edges old most outcome = ⊥
 
@@ -214,3 +215,22 @@ LaterStepsAreSound =
     → BeginsAt run facts x old → transfer x facts ≡ Ok edges → FitsOn run.n edges
     → steps x.element.kind facts ≡ Ok most → IsUnderway x.element.kind run facts x edges old rest s
     → Proceeds x.element.kind run facts x edges old rest (step s)
+
+-- An element that begins takes at most its own steps: the last of them ends it, and while work is left it is underway.
+pub record Completes
+    (run : Run) (facts : Facts) (x : Placed) (edges : Edges) (most : ℕ) (s : State) : Type 0 where
+  pub before : ℕ
+  pub last : State
+  pub new : State
+  pub few : before + 1 ≤ most
+  pub reaches : Reaches before s last
+  pub stands : (last ≡ s) ⊎ ((rest : ℕ) × IsUnderway x.element.kind run facts x edges s rest last)
+  pub final : step last ≡ Next new
+  pub ends : KindEnds x.element.kind run facts x edges s new
+
+abbrev pub ElementsAreSound : Type 0
+ElementsAreSound =
+    (run : Run) (facts : Facts) (x : Placed) (edges : Edges) (most : Polynomial) (s : State)
+    → BeginsAt run facts x s → transfer x facts ≡ Ok edges → FitsOn run.n edges
+    → steps x.element.kind facts ≡ Ok most
+    → Completes run facts x edges (value most run.n) s

@@ -5,7 +5,7 @@ ghost use Rattle.teco_rules.specs.SoundFlow.{TestsAreSound, LeavesAreSound, Iter
 ghost use Rattle.teco_rules.specs.SoundPages.{AppendsAreSound, PageTurnsAreSound, PageWritesAreSound, PageStepsAreBounded};
 ghost use Rattle.teco_rules.specs.SoundSearches.{SearchesAreSound};
 ghost use Rattle.teco_rules.specs.SoundSeeking.{PageSearchesAreSound, SearchStepsAreBounded};
-ghost use Rattle.teco_rules.specs.SoundSteps.{StepsAreSound, LaterStepsAreSound};
+ghost use Rattle.teco_rules.specs.SoundSteps.{StepsAreSound, LaterStepsAreSound, ElementsAreSound};
 
 /// Digits, operators, parentheses, comma and ESC.
 pub fn arguments_are_sound()
@@ -110,4 +110,9 @@ pub fn steps_are_sound()
 /// So does each that follows.
 pub fn later_steps_are_sound()
     ensures { LaterStepsAreSound }
+{}
+
+/// An element takes at most as many steps as are known, and then its edge's facts describe where it leads.
+pub fn elements_are_sound()
+    ensures { ElementsAreSound }
 {}
