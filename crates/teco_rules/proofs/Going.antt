@@ -22,7 +22,7 @@ use Rattle.teco_model.specs.declared.kind.Test.{Test}
 use Rattle.teco_model.specs.Effect.{needed_value}
 use Rattle.teco_poly.specs.Polynomial.{Polynomial, value}
 use Rattle.teco_rules.proofs.Flowing.{tests_are_sound, leaves_are_sound, iterations_are_sound, turn_ends_are_sound, tags_are_sound, others_are_sound}
-use Rattle.teco_rules.specs.Arguments as known
+use Rattle.teco_rules.specs.Arguments as taking
 use Rattle.teco_rules.specs.Attempt.{◌>>=◌}
 use Rattle.teco_rules.specs.Describes.{Run, run_behind, run_in_turn}
 use Rattle.teco_rules.specs.Facts.{Position, Answer, Facts, Iteration, at_position, without_arguments}
@@ -32,7 +32,7 @@ use Rattle.teco_rules.specs.Joins.{none_pending}
 use Rattle.teco_rules.specs.SoundElements.{Succeeds, Leads, Arrives, ArrivesOn}
 use Rattle.teco_rules.specs.SoundFlow.{IsReached, number_needed, LeavingOr, EntersOr, EndsTurn}
 use Rattle.teco_rules.specs.SoundPages.{unread_of, ComesTo, Comes}
-use Rattle.teco_rules.specs.SoundSteps.{LeadsAhead, IsInside, FlowStands, BeginsAt, GoesBehind, ReachedIf, enters, is_last, run_begun, FlowGoes}
+use Rattle.teco_rules.specs.SoundSteps.{LeadsAhead, IsInside, EndsInside, FlowStands, BeginsAt, GoesBehind, ReachedIf, enters, is_last, run_begun, FlowGoes}
 use Rattle.teco_rules.specs.Transfer as transfers
 use Rattle.teco_rules.specs.Transfer.{Placed, transfer}
 use Rattle.teco_rules.specs.Ways.{Numbers, way}
@@ -116,18 +116,32 @@ gone_held leaves facts (Ok u) = (tt, refl)
 gone_held leaves facts (Err why) = tt
 
 flow_held : (f : Flow) (colons leaves : ℕ) (answer : Option Answer) (facts : Facts) → IfOk (edge.flow_edges f colons leaves answer facts) (KeepsHeld facts)
-flow_held flow.Iterate colons leaves answer facts = ok_always (KeepsHeld facts) (known.arguments_of facts.arguments.level) _ (λ taken. ok_always (KeepsHeld facts) (none_pending (known.levels_after_taking facts.arguments)) _ (λ alone. ok_always (KeepsHeld facts) (edge.turns_of taken.value facts) _ (λ most. entered_held taken.value (without_arguments facts))))
+flow_held flow.Iterate colons leaves answer facts = ok_always (KeepsHeld facts) (taking.arguments_of facts.arguments.level) _ (λ taken. ok_always (KeepsHeld facts) (none_pending (taking.levels_after_taking facts.arguments)) _ (λ alone. ok_always (KeepsHeld facts) (edge.turns_of taken.value facts) _ (λ most. entered_held taken.value (without_arguments facts))))
 flow_held flow.EndTurn colons leaves answer facts = ended_held facts.iterations facts
 flow_held flow.Leave colons leaves answer facts = left_or_held _ _ answer facts _
 flow_held (flow.Test test) colons leaves answer facts = tested_held _ _ answer facts _
 flow_held flow.Otherwise colons leaves answer facts = (tt, refl)
 flow_held flow.EndTest colons leaves answer facts = (refl, tt)
-flow_held flow.GoTo colons leaves answer facts = ok_always (KeepsHeld facts) (known.arguments_of facts.arguments.level) _ (λ taken. gone_held leaves facts (edge.without_value taken.value))
+flow_held flow.GoTo colons leaves answer facts = ok_always (KeepsHeld facts) (taking.arguments_of facts.arguments.level) _ (λ taken. gone_held leaves facts (edge.without_value taken.value))
 flow_held flow.Comment colons leaves answer facts = (refl, tt)
 
 pub held_kept : (x : Placed) (facts : Facts) (f : Flow) → x.element.kind ≡ kind.Flow f → IfOk (transfer x facts) (KeepsHeld facts)
 unfolding transfer
 held_kept x facts f e = subst (λ k. IfOk (transfers.edges_of k x (transfers.answer_for k facts) (transfers.without_answer facts)) (KeepsHeld facts)) (sym e) (flow_held f x.element.colons x.leaves (transfers.answer_for (kind.Flow f) facts) (transfers.without_answer facts))
+
+-- > is known to end an iteration
+record EndsKnown (facts : Facts) : Type 0 where
+  iteration : Iteration
+  others : List Iteration
+  iterations : facts.iterations ≡ iteration ∷ others
+
+ends_in : (facts state : Facts) (iterations : List Iteration) → facts.iterations ≡ iterations → IfOk (edge.turn_end iterations state) (λ edges. EndsKnown facts)
+ends_in facts state [] e = tt
+ends_in facts state (i ∷ outer) e = record { iteration = i; others = outer; iterations = e }
+
+end_known : (x : Placed) (facts : Facts) → x.element.kind ≡ kind.Flow flow.EndTurn → IfOk (transfer x facts) (λ edges. EndsKnown facts)
+unfolding transfer
+end_known x facts e = subst (λ k. IfOk (transfers.edges_of k x (transfers.answer_for k facts) (transfers.without_answer facts)) (λ edges. EndsKnown facts)) (sym e) (ends_in facts (transfers.without_answer facts) facts.iterations refl)
 
 -- ---- flow
 module _ (run : Run) (facts : Facts) (x : Placed) (edges : Edges) (s : State) (h : BeginsAt run facts x s) (t : transfer x facts ≡ Ok edges) where
@@ -177,7 +191,7 @@ module _ (run : Run) (facts : Facts) (x : Placed) (edges : Edges) (s : State) (h
         so_far _ (FlowGoes (flow.Test test) run facts.held x edges s) _ (λ turn r. (v, w, r)) (tested (holds test v) i)))
 
   -- ; and :;
-  module _ (e : x.element.kind ≡ kind.Flow flow.Leave) (inside : IsInside facts frame) (ahead : LeadsAhead x.element frame) where
+  module _ (e : x.element.kind ≡ kind.Flow flow.Leave) (inside : IsInside frame) (ahead : LeadsAhead x.element frame) where
     left : (b : Bool) → LeavingOr run u kept s.arguments b edges → Succeeds (ReachedIf b (run_behind 1 run) run facts.held s edges.away edges.on) (flows.leaving_where b x.element (model.levels_after_taking s.arguments) frame)
     left true i = jumped (ReachedIf true (run_behind 1 run) run facts.held s edges.away edges.on) code.Utc model.no_arguments ahead (λ place. away_edge flow.Leave e (run_behind 1 run) model.no_arguments refl i)
     left false i = on_edge flow.Leave e run (model.levels_after_taking s.arguments) refl i
@@ -210,11 +224,18 @@ module _ (run : Run) (facts : Facts) (x : Placed) (edges : Edges) (s : State) (h
         so_far _ (FlowGoes flow.Iterate run facts.held x edges s) _ (λ turn r. (taken, w, r)) (iterated taken.value i))
 
   -- >
-  module _ (e : x.element.kind ≡ kind.Flow flow.EndTurn) (inside : IsInside facts frame) where
-    ends : EndsTurn run u kept inside.iteration.counted edges
-    ends = ok_at (EndsTurn run u kept inside.iteration.counted) (transfer x facts) edges t (turn_ends_are_sound run facts u kept s.arguments x inside.iteration inside.others h.whole.world.kept h.described e inside.iterations)
+  module _ (e : x.element.kind ≡ kind.Flow flow.EndTurn) (stands : EndsInside facts frame) where
+    abbrev inside : IsInside frame
+    inside = stands.inside
 
-    next_goes : (loop : Loop) (outer : List Loop) (turns : Option ℕ) → ((n : ℕ) → turns ≡ Some n → inside.iteration.counted ≡ true) → ReachedIf (is_last turns) (run_behind 1 run) (run_begun s (run_behind 1 run)) facts.held s edges.on edges.away (elim turns as (λ x. Turn) [
+    -- the iteration that is known
+    known : EndsKnown facts
+    known = ok_at (λ edges. EndsKnown facts) (transfer x facts) edges t (end_known x facts e)
+
+    ends : EndsTurn run u kept known.iteration.counted edges
+    ends = ok_at (EndsTurn run u kept known.iteration.counted) (transfer x facts) edges t (turn_ends_are_sound run facts u kept s.arguments x known.iteration known.others h.whole.world.kept h.described e known.iterations)
+
+    next_goes : (loop : Loop) (outer : List Loop) (turns : Option ℕ) → ((n : ℕ) → turns ≡ Some n → known.iteration.counted ≡ true) → ReachedIf (is_last turns) (run_behind 1 run) (run_begun s (run_behind 1 run)) facts.held s edges.on edges.away (elim turns as (λ x. Turn) [
       | None ↦ flows.turn_to model.no_arguments loop.start (loop ∷ outer) frame
       | Some turns ↦ elim turns as (λ x. Turn) [
         | zero ↦ flows.turn_to model.no_arguments x.element.next outer frame
@@ -229,7 +250,7 @@ module _ (run : Run) (facts : Facts) (x : Placed) (edges : Edges) (s : State) (h
     turn_ended [] w l = absurd (cc)
     turn_ended (loop ∷ outer) w l =
         let same : loop ≡ inside.loop = cc in
-        (loop, outer, w, next_goes loop outer loop.turns (λ n c. inside.counted n (subst (λ (p : Loop). p.turns ≡ Some n) same c)))
+        (loop, outer, w, next_goes loop outer loop.turns (λ n c. stands.counted n known.iteration known.others (subst (λ (p : Loop). p.turns ≡ Some n) same c) known.iterations))
 
     pub turn_end_goes : Succeeds (FlowGoes flow.EndTurn run facts.held x edges s) (flows.turn_of flow.EndTurn x.element s.arguments frame)
     turn_end_goes = turn_ended frame.loops refl inside.loops
