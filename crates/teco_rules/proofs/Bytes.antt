@@ -13,6 +13,10 @@ use Rattle.teco_base.specs.Text.{range, text_after_replacement}
 use Rattle.teco_model.specs.Checked.{◌>>=◌}
 use Rattle.teco_rules.specs.Describes.{AreBytes}
 
+pub of_either : {X : Type 0} (P : X → Type 0) (b : Bool) (x y : X) → P x → P y → P (cond b x y)
+of_either P true x y h i = h
+of_either P false x y h i = i
+
 -- ---- lists
 module _ {X : Type 0} (P : X → Type 0) where
   pub all_taken : (n : ℕ) (xs : List X) → AllByRecursion P xs → AllByRecursion P (take n xs)

@@ -15,17 +15,13 @@ use Rattle.teco_model.specs.Pages.{Page, before_form_feed, behind_form_feed, has
 use Rattle.teco_model.specs.Paging as paging
 use Rattle.teco_model.specs.Places.{range_span}
 use Rattle.teco_model.specs.State.{World}
-use Rattle.teco_rules.proofs.Bytes.{all_joined, range_bytes, ok_then, ok_any}
+use Rattle.teco_rules.proofs.Bytes.{of_either, all_joined, range_bytes, ok_then, ok_any}
 use Rattle.teco_rules.proofs.Keeping.{IsPart, part_whole, edited}
 use Rattle.teco_rules.specs.Describes.{AreBytes, IsWhole}
 use Rattle.teco_rules.specs.Wholeness.{AreWholeFiles, IsWholeWorld}
 
 abbrev IsByte : ℕ → Type 0
 IsByte c = c < 256
-
-of_either : {X : Type 0} (P : X → Type 0) (b : Bool) (x y : X) → P x → P y → P (cond b x y)
-of_either P true x y h i = h
-of_either P false x y h i = i
 
 -- ---- pages
 before_bytes : (bytes : List ℕ) → AreBytes bytes → AreBytes (before_form_feed bytes)

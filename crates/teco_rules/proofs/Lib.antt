@@ -35,3 +35,4 @@ pub mod Going
 pub mod Onward
 pub mod Paged
 pub mod Stepping
+pub mod Names

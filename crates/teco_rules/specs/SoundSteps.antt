@@ -45,6 +45,10 @@ IsNamed (kind.Query q) = IsNamedByQuery q
 IsNamed (kind.Stack s) = IsNamedByStack s
 IsNamed k = ⊤
 
+abbrev pub ElementsAreNamed : Type 0
+ElementsAreNamed =
+    (text : List ℕ) (place : ℕ) (e : Element) → element_at text place ≡ Ok (Some e) → IsNamed e.kind
+
 -- ---- what must be known of where an element stands
 -- an element that may jump leads somewhere
 abbrev pub LeadsAhead : Element → Frame → Type 0
@@ -89,7 +93,6 @@ pub record BeginsAt (run : Run) (facts : Facts) (x : Placed) (s : State) : Type 
   pub left : s.left ≡ None
   pub read : element_at s.frames.running.text s.frames.running.place ≡ Ok (Some x.element)
   pub colon : x.colon ≡ has_colon x.element s.frames.running
-  pub named : IsNamed x.element.kind
   pub stands : KindStands x.element.kind facts x s.frames.running
   pub files : IfOk (needs x.element.kind facts) (λ need. AreOpen need s.world.files)
 

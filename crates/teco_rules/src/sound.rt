@@ -5,7 +5,7 @@ ghost use Rattle.teco_rules.specs.SoundFlow.{TestsAreSound, LeavesAreSound, Iter
 ghost use Rattle.teco_rules.specs.SoundPages.{AppendsAreSound, PageTurnsAreSound, PageWritesAreSound, PageStepsAreBounded};
 ghost use Rattle.teco_rules.specs.SoundSearches.{SearchesAreSound};
 ghost use Rattle.teco_rules.specs.SoundSeeking.{PageSearchesAreSound, SearchStepsAreBounded};
-ghost use Rattle.teco_rules.specs.SoundSteps.{StepsAreSound, LaterStepsAreSound, ElementsAreSound};
+ghost use Rattle.teco_rules.specs.SoundSteps.{ElementsAreNamed, StepsAreSound, LaterStepsAreSound, ElementsAreSound};
 
 /// Digits, operators, parentheses, comma and ESC.
 pub fn arguments_are_sound()
@@ -100,6 +100,11 @@ pub fn page_writes_are_sound()
 /// P and PW take at most as many steps as are known.
 pub fn page_steps_are_bounded()
     ensures { PageStepsAreBounded }
+{}
+
+/// The register that an element names is one of the 36.
+pub fn elements_are_named()
+    ensures { ElementsAreNamed }
 {}
 
 /// The first step of any element comes to no code, and to the edge that it goes along, or leaves work to do.
