@@ -36,3 +36,4 @@ pub mod Onward
 pub mod Paged
 pub mod Stepping
 pub mod Names
+pub mod Opened

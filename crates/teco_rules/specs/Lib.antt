@@ -29,3 +29,4 @@ pub mod SoundPages
 pub mod SoundSeeking
 pub mod Wholeness
 pub mod SoundSteps
+pub mod Opened

@@ -1,5 +1,6 @@
 //! Laws of facts alone: what they say of a state, and rows of them.
 ghost use Rattle.teco_rules.specs.Laws.{WaysAreSound, CoversAreSound, JoinsAreSound, EntryIsSound, BodyStartsAreSound, ReturnsAreSound, TurnsFall, RoomIsSound, LibraryStays};
+ghost use Rattle.teco_rules.specs.Opened.{FilesStayOpen};
 ghost use Rattle.teco_rules.specs.Rows.{FactRows};
 ghost use Rattle.teco_rules.specs.Wholeness.{WholeIsKept};
 
@@ -56,4 +57,9 @@ pub fn library_stays()
 /// What always holds of a state holds at the begin of a run, and each step keeps it.
 pub fn whole_is_kept()
     ensures { WholeIsKept }
+{}
+
+/// Files that are open stay open, but where an element is one of files.
+pub fn files_stay_open()
+    ensures { FilesStayOpen }
 {}
