@@ -1,5 +1,5 @@
 -- Each element proceeds along its edges.
-use Rattle.std.proofs.Common.{◌≡◌, ℕ, zero, suc, ◌+◌, ◌-◌, ◌≤◌, arith, refl, sym, subst, ℤ, pos, List, [], ◌∷◌, Bool, true, false, ◌||◌, nat_lt, Option, Some, None, IfSome, MatchOption, Result, Ok, Err, IfOk, inl, inr}
+use Rattle.std.proofs.Common.{ap, drop, ◌∙◌, ◌≡◌, ℕ, zero, suc, ◌+◌, ◌-◌, ◌≤◌, arith, refl, sym, subst, ℤ, pos, List, [], ◌∷◌, Bool, true, false, ◌||◌, nat_lt, Option, Some, None, IfSome, MatchOption, Result, Ok, Err, IfOk, inl, inr}
 use Rattle.std.proofs.lemmas.Bool.Decides.{nat_tests}
 use Rattle.teco_base.specs.declared.code.Code.{Code}
 use Rattle.teco_base.specs.declared.code.Code.TheVariants as code
@@ -12,6 +12,8 @@ use Rattle.teco_model.specs.Paging as paging
 use Rattle.teco_model.specs.Paging.{Looked, Met, Turned, Through}
 use Rattle.teco_model.specs.Search.{Finding, Found, Missed}
 use Rattle.teco_model.specs.Searching as outcomes
+use Rattle.teco_model.specs.Ahead.{Whole, readings}
+use Rattle.teco_model.specs.Skip.{skip_of, skip_on, route_of}
 use Rattle.teco_model.specs.State.{Kept, World, Frame, State, Outcome}
 use Rattle.teco_model.specs.Step as stepping
 use Rattle.teco_model.specs.declared.flow.Loop.{Loop}
@@ -102,7 +104,7 @@ module _ (run : Run) (facts : Facts) (x : Placed) (edges : Edges) (s : State) (h
   )
 
   -- ---- searches
-  module _ (q : Search) (most : ℕ) (some : 1 ≤ most) (stands : x.colon ≡ false → IsInside frame × LeadsAhead x.element frame) where
+  module _ (q : Search) (of_search : x.element.kind ≡ kind.Search q) (most : ℕ) (some : 1 ≤ most) (stands : x.colon ≡ false → IsInside frame × LeadsAhead x.element frame) where
     -- the state of a search that took its arguments
     abbrev at : World → Option ℕ → State
     at world left = record s { world = world; arguments = model.levels_after_taking s.arguments; left = left }
@@ -111,31 +113,43 @@ module _ (run : Run) (facts : Facts) (x : Placed) (edges : Edges) (s : State) (h
     found_goes answer world now left l c = inl (some, inl (record { comes = c; frames = refl; done = l }))
 
     module _ (stays missed now : World) (left : Option ℕ) (l : left ≡ None) (colon : x.colon ≡ false) (c : ComesAway (run_behind 1 run) facts.held s.world edges missed) where
-      leaves_by : (r : Result Turn Code) → flows.jump code.Utc x.element model.no_arguments frame ≡ r → Succeeds (λ (turn : Turn). turn.arguments ≡ model.no_arguments) r → Goes (kind.Search q) most (outcomes.leaving_outcome stays missed (at now left) r)
-      leaves_by (Err why) e g = absurd g
-      leaves_by (Ok turn) e g = inl (
-        some,
-        inr (
-          colon,
-          record {
-            comes = rw g (with_typed (run_behind 1 run) facts.held s.world missed edges.away c _);
-            turn = turn;
-            jumps = e;
-            frames = refl;
-            done = l;
-          },
-        ),
-      )
+      -- a jump that leaves one iteration
+      record LeavesOne (turn : Turn) : Type 0 where
+        none : turn.arguments ≡ model.no_arguments
+        loops : turn.frame.loops ≡ drop 1 frame.loops
 
-      jumps : LeadsAhead x.element frame → Succeeds (λ (turn : Turn). turn.arguments ≡ model.no_arguments) (flows.jump code.Utc x.element model.no_arguments frame)
-      jumps (place, e) = rw e refl
+      leaves_by : (loop : Loop) (outer : List Loop) → frame.loops ≡ loop ∷ outer → (r : Result Turn Code) → flows.jump code.Utc x.element model.no_arguments frame ≡ r → Succeeds LeavesOne r → Goes (kind.Search q) most (outcomes.leaving_outcome stays missed (at now left) r)
+      leaves_by loop outer w (Err why) e g = absurd g
+      leaves_by loop outer w (Ok turn) e g =
+          let rest : turn.frame.loops ≡ outer = g.loops ∙ ap (drop 1) w in
+          inl (
+            some,
+            inr (
+              colon,
+              record {
+                comes = rw g.none (with_typed (run_behind 1 run) facts.held s.world missed edges.away c _);
+                turn = turn;
+                jumps = e;
+                frames = refl;
+                loop = loop;
+                loops = w ∙ ap (λ outer. loop ∷ outer) (sym rest);
+                done = l;
+              },
+            ),
+          )
 
-      leaves_in : (loops : List Loop) (loop : Loop) (outer : List Loop) → loops ≡ loop ∷ outer → LeadsAhead x.element frame → Goes (kind.Search q) most (outcomes.missed_outcome x.element stays missed (at now left) loops)
-      leaves_in [] loop outer e a = absurd (cc)
-      leaves_in (first ∷ others) loop outer e a = leaves_by _ refl (jumps a)
+      leaves_one : (skip_of frame.text (Whole x.element)).leaves ≡ 1
+      leaves_one = subst (λ k. (skip_on (route_of k) x.element.text (readings frame.text x.element.next)).leaves ≡ 1) (sym of_search) refl
+
+      jumps : LeadsAhead x.element frame → Succeeds LeavesOne (flows.jump code.Utc x.element model.no_arguments frame)
+      jumps (place, e) = rw e (record { none = refl; loops = ap (λ n. drop n frame.loops) leaves_one })
+
+      leaves_in : (loops : List Loop) (loop : Loop) (outer : List Loop) → frame.loops ≡ loop ∷ outer → loops ≡ loop ∷ outer → LeadsAhead x.element frame → Goes (kind.Search q) most (outcomes.missed_outcome x.element stays missed (at now left) loops)
+      leaves_in [] loop outer w e a = absurd (cc)
+      leaves_in (first ∷ others) loop outer w e a = leaves_by loop outer w _ refl (jumps a)
 
       leaves_goes : Goes (kind.Search q) most (outcomes.missed_outcome x.element stays missed (at now left) frame.loops)
-      leaves_goes = let k = stands colon in leaves_in frame.loops k.0.loop k.0.outer k.0.loops k.1
+      leaves_goes = let k = stands colon in leaves_in frame.loops k.0.loop k.0.outer k.0.loops k.0.loops k.1
 
     -- S and FS
     at_begin : (colons : ℕ) (kept : Kept) → colons ≡ 0 → outcomes.kept_by_miss colons kept ≡ outcomes.at_start kept
@@ -176,7 +190,7 @@ module _ (run : Run) (facts : Facts) (x : Placed) (edges : Edges) (s : State) (h
   has_none e = no_colons x.element.colons (outcomes.is_leave _) (subst (λ colon. colon ≡ false) h.colon e)
 
   pub search_proceeds : (q : Search) (most : ℕ) → 1 ≤ most → FitsOn run.n edges → IsInBuffer q → x.element.kind ≡ kind.Search q → KindStands (kind.Search q) facts x frame → Goes (kind.Search q) most (outcomes.search_outcome_of q x.element s)
-  search_proceeds q most some fits b e k = subst (λ colon. Goes (kind.Search q) most (outcomes.search_outcome colon x.element (taking s) (outcomes.finding q x.element s))) h.colon (finding_goes q most some k has_none _ (leads_at (FitsOn run.n) _ (transfer x facts) (finding q x.element s.world.kept s.arguments) edges t fits (searches_are_sound run facts u s.world.kept s.arguments x q h.whole.world.kept h.described e b has_none)))
+  search_proceeds q most some fits b e k = subst (λ colon. Goes (kind.Search q) most (outcomes.search_outcome colon x.element (taking s) (outcomes.finding q x.element s))) h.colon (finding_goes q e most some k has_none _ (leads_at (FitsOn run.n) _ (transfer x facts) (finding q x.element s.world.kept s.arguments) edges t fits (searches_are_sound run facts u s.world.kept s.arguments x q h.whole.world.kept h.described e b has_none)))
 
   searched : (q : Search) → FitsOn run.n edges → IsInPages q → x.element.kind ≡ kind.Search q → (output : Output) → s.world.files.output ≡ Some output → Succeeds (Seeks run (facts_seeking facts) s.world s.arguments x q edges) (model.arguments_of s.arguments.level)
   searched q fits b e output o = leads_at (FitsOn run.n) _ (transfer x facts) (model.arguments_of s.arguments.level) edges t fits (page_searches_are_sound run facts s.world s.arguments x q output h.whole.world.kept h.described e b o)
@@ -185,9 +199,9 @@ module _ (run : Run) (facts : Facts) (x : Placed) (edges : Edges) (s : State) (h
   look_proceeds q most fits b e k output o m =
       subst (λ left. Goes (kind.Search q) most (outcomes.looked_outcome_of q x.element s left)) (sym h.left)
       (subst (λ colon. Goes (kind.Search q) most (outcomes.looked_outcome colon x.element (taking s) (outcomes.looking q x.element s))) h.colon
-      (looked_goes q most (omega arith) k b s.world s.left m _ (then_so _ (LooksOn run (facts_seeking facts) s.world s.arguments x edges s.world) (model.arguments_of s.arguments.level) (λ taken. paging.look_first q x.element taken s.world) (searched q fits b e output o) (λ taken w i. i.begins))))
+      (looked_goes q e most (omega arith) k b s.world s.left m _ (then_so _ (LooksOn run (facts_seeking facts) s.world s.arguments x edges s.world) (model.arguments_of s.arguments.level) (λ taken. paging.look_first q x.element taken s.world) (searched q fits b e output o) (λ taken w i. i.begins))))
 
   pub look_again : (q : Search) (most : ℕ) → FitsOn run.n edges → IsInPages q → x.element.kind ≡ kind.Search q → KindStands (kind.Search q) facts x frame → (output : Output) → s.world.files.output ≡ Some output → (now : World) (n : ℕ) (left : Option ℕ) → IsSeeking run (facts_seeking facts) s.world s.arguments x.element.text now → unread_of now + 1 ≤ most → Goes (kind.Search q) most (outcomes.looked_outcome (outcomes.has_colon x.element frame) x.element (record s { world = now; arguments = model.levels_after_taking s.arguments; left = left }) (paging.look_for q x.element n now))
   look_again q most fits b e k output o now n left i m =
       subst (λ colon. Goes (kind.Search q) most (outcomes.looked_outcome colon x.element (record s { world = now; arguments = model.levels_after_taking s.arguments; left = left }) (paging.look_for q x.element n now))) h.colon
-      (looked_goes q most (omega arith) k b now left m _ (of_one (Seeks run (facts_seeking facts) s.world s.arguments x q edges) (Succeeds (LooksOn run (facts_seeking facts) s.world s.arguments x edges now) (paging.look_for q x.element n now)) _ (searched q fits b e output o) (λ taken j. j.more now n i)))
+      (looked_goes q e most (omega arith) k b now left m _ (of_one (Seeks run (facts_seeking facts) s.world s.arguments x q edges) (Succeeds (LooksOn run (facts_seeking facts) s.world s.arguments x edges now) (paging.look_for q x.element n now)) _ (searched q fits b e output o) (λ taken j. j.more now n i)))

@@ -1,5 +1,5 @@
 -- One law of all elements: the first step, and each that follows.
-use Rattle.std.proofs.Common.{zero, suc, arith, inl, inr, ◌∙◌, ◌+◌, ◌≤◌, ◌⊎◌, ◌≡◌, ℕ, refl, sym, subst, ap, ℤ, true, Option, Some, None, Result, Ok, Err, IfOk}
+use Rattle.std.proofs.Common.{List, [], ◌∷◌, zero, suc, arith, inl, inr, ◌∙◌, ◌+◌, ◌≤◌, ◌⊎◌, ◌≡◌, ℕ, refl, sym, subst, ap, ℤ, true, Option, Some, None, Result, Ok, Err, IfOk}
 use Rattle.teco_base.specs.declared.code.Code.{Code}
 use Rattle.teco_model.specs.Arguments as model
 use Rattle.teco_model.specs.Files.{Input, Output}
@@ -8,10 +8,11 @@ use Rattle.teco_model.specs.Paging as paging
 use Rattle.teco_model.specs.Run as runs
 use Rattle.teco_model.specs.Run.{Reaches}
 use Rattle.teco_model.specs.Searching as outcomes
-use Rattle.teco_model.specs.State.{Outcome, Kept, World, Frames, State, Next}
+use Rattle.teco_model.specs.State.{Frame, Outcome, Kept, World, Frames, State, Next}
 use Rattle.teco_model.specs.Step as stepping
 use Rattle.teco_model.specs.Step.{step}
 use Rattle.teco_model.specs.declared.arguments.Taken.{Taken}
+use Rattle.teco_model.specs.declared.flow.Loop.{Loop}
 use Rattle.teco_model.specs.declared.kind.File.{File}
 use Rattle.teco_model.specs.declared.kind.Kind.{Kind}
 use Rattle.teco_model.specs.declared.kind.Kind.TheVariants as kind
@@ -28,7 +29,7 @@ use Rattle.teco_rules.proofs.Paged.{turn_proceeds, write_proceeds, turn_again, w
 use Rattle.teco_rules.proofs.Seeking.{search_steps_are_bounded}
 use Rattle.teco_rules.proofs.Shapes.{value-number}
 use Rattle.teco_rules.proofs.Steps.{Covers}
-use Rattle.teco_rules.proofs.Transfers.{arguments_are_sound, values_are_sound, commands_are_sound, queries_are_sound, stacks_are_sound}
+use Rattle.teco_rules.proofs.Transfers.{without_answer, arguments_are_sound, values_are_sound, commands_are_sound, queries_are_sound, stacks_are_sound}
 use Rattle.teco_rules.specs.Arguments as known
 use Rattle.teco_rules.specs.Arguments.{KnownTaken}
 use Rattle.teco_rules.specs.Attempt.{◌>>=◌}
@@ -40,7 +41,7 @@ use Rattle.teco_rules.specs.Shifts.{facts_answered}
 use Rattle.teco_rules.specs.SoundElements.{Succeeds, Leads, FitsOn}
 use Rattle.teco_rules.specs.SoundPages.{unread_of}
 use Rattle.teco_rules.specs.SoundSeeking.{IsInPages, SearchesAtMost}
-use Rattle.teco_rules.specs.SoundSteps.{KindEnds, IsNamed, KindStands, AreOpen, BeginsAt, IsUnderway, Proceeds, StepsAreSound, LaterStepsAreSound, ElementsAreSound}
+use Rattle.teco_rules.specs.SoundSteps.{ReturnsGoBack, KindEnds, IsNamed, KindStands, AreOpen, BeginsAt, IsUnderway, Proceeds, StepsAreSound, LaterStepsAreSound, ElementsAreSound}
 use Rattle.teco_rules.specs.Transfer as transfers
 use Rattle.teco_rules.specs.Transfer.{Placed, transfer}
 use Rattle.teco_rules.specs.Values.{IsValue}
@@ -236,3 +237,27 @@ pub elements_are_sound : ElementsAreSound
 elements_are_sound run facts x edges most s h t fits m =
     let j = all_ends run facts x edges most s h t fits m in
     record { before = j.before; last = j.last; new = j.new; few = j.few; reaches = j.reaches; stands = j.stands; final = j.final; ends = j.ends }
+
+-- ---- the end of a called text
+module _ (s : State) (caller : Frame) (callers : List Frame) where
+  abbrev back : State
+  back = record s { frames = record { running = caller; callers = callers } }
+
+  waiting_goes : (waiting : List Frame) → waiting ≡ caller ∷ callers → stepping.end_outcome waiting s ≡ Next back
+  waiting_goes [] e = absurd (cc)
+  waiting_goes (first ∷ others) e =
+      let p : first ≡ caller = cc in
+      let q : others ≡ callers = cc in
+      rw (p, q) refl
+
+  text_goes : (loops : List Loop) → loops ≡ [] → s.frames.callers ≡ caller ∷ callers → stepping.end_of_text loops s ≡ Next back
+  text_goes [] e c = waiting_goes s.frames.callers c
+  text_goes (loop ∷ outer) e c = absurd (cc)
+
+pub returns_go_back : ReturnsGoBack
+unfolding step
+returns_go_back run facts s caller callers d e l c = (
+  back s caller callers,
+  subst (λ r. stepping.outcome_at s r ≡ Next (back s caller callers)) (sym e) (text_goes s caller callers s.frames.running.loops l c),
+  record { comes = record { described = without_answer run facts (unread_of s.world) s.world.kept s.arguments d; grown = omega arith }; gone = refl },
+)

@@ -1,6 +1,6 @@
 -- One law of all elements: where what is known before an element says its edges, and they fit, a step there comes to no
 -- code, and the facts of the edge that it goes along describe where it leads.
-use Rattle.std.specs.Prelude.{◌≡◌, ℕ, zero, ℤ, ◌+◌, ◌≤◌, ⊤, List, ◌∷◌, Bool, true, false, is_some, Option, Some, None, MatchOption, IfOk, Ok, ◌⊎◌}
+use Rattle.std.specs.Prelude.{◌≡◌, ℕ, zero, ℤ, ◌+◌, ◌≤◌, ⊤, List, [], ◌∷◌, Bool, true, false, is_some, Option, Some, None, MatchOption, IfOk, Ok, ◌⊎◌}
 use Rattle.teco_base.specs.declared.code.Code.TheVariants as code
 use Rattle.teco_model.specs.Ahead.{Whole}
 use Rattle.teco_model.specs.Arguments.{arguments_of, levels_after_taking, no_arguments}
@@ -35,7 +35,7 @@ use Rattle.teco_rules.specs.SoundElements.{FitsOn, IsNamedByCommand, IsNamedByQu
 use Rattle.teco_rules.specs.SoundFlow.{number_needed}
 use Rattle.teco_rules.specs.SoundPages.{unread_of, ComesTo, Comes, IsTurnOrWrite}
 use Rattle.teco_rules.specs.SoundSeeking.{IsInPages, facts_seeking, IsSeeking}
-use Rattle.teco_rules.specs.Transfer.{Placed, transfer}
+use Rattle.teco_rules.specs.Transfer.{Placed, transfer, transfer_return}
 use Rattle.teco_rules.specs.Wholeness.{IsWholeState}
 
 -- a register that an element names is one of the 36
@@ -113,6 +113,8 @@ pub record LeavesFor
   pub turn : Turn
   pub jumps : jump code.Utc e no_arguments old.frames.running ≡ Ok turn
   pub frames : new.frames ≡ record old.frames { running = turn.frame }
+  pub loop : Loop
+  pub loops : old.frames.running.loops ≡ loop ∷ new.frames.running.loops
   pub done : new.left ≡ None
 
 -- An element of flow turns, along an edge that its value says.
@@ -240,3 +242,17 @@ ElementsAreSound =
     → BeginsAt run facts x s → transfer x facts ≡ Ok edges → FitsOn run.n edges
     → steps x.element.kind facts ≡ Ok most
     → Completes run facts x edges (value most run.n) s
+
+-- The end of a called text goes back, and what is known stays true.
+pub record ReturnsTo
+    (run : Run) (facts : Facts) (s : State) (caller : Frame) (callers : List Frame) (new : State) : Type 0 where
+  pub comes : Comes run facts.held s.world new.arguments (transfer_return facts) new.world
+  pub gone : new ≡ record s { frames = record { running = caller; callers = callers } }
+
+abbrev pub ReturnsGoBack : Type 0
+ReturnsGoBack =
+    (run : Run) (facts : Facts) (s : State) (caller : Frame) (callers : List Frame)
+    → Describes run facts (unread_of s.world) s.world.kept s.arguments
+    → element_at s.frames.running.text s.frames.running.place ≡ Ok None
+    → s.frames.running.loops ≡ [] → s.frames.callers ≡ caller ∷ callers
+    → (new : State) × (step s ≡ Next new) × ReturnsTo run facts s caller callers new

@@ -5,7 +5,7 @@ ghost use Rattle.teco_rules.specs.SoundFlow.{TestsAreSound, LeavesAreSound, Iter
 ghost use Rattle.teco_rules.specs.SoundPages.{AppendsAreSound, PageTurnsAreSound, PageWritesAreSound, PageStepsAreBounded};
 ghost use Rattle.teco_rules.specs.SoundSearches.{SearchesAreSound};
 ghost use Rattle.teco_rules.specs.SoundSeeking.{PageSearchesAreSound, SearchStepsAreBounded};
-ghost use Rattle.teco_rules.specs.SoundSteps.{ElementsAreNamed, StepsAreSound, LaterStepsAreSound, ElementsAreSound};
+ghost use Rattle.teco_rules.specs.SoundSteps.{ElementsAreNamed, StepsAreSound, LaterStepsAreSound, ElementsAreSound, ReturnsGoBack};
 
 /// Digits, operators, parentheses, comma and ESC.
 pub fn arguments_are_sound()
@@ -120,4 +120,9 @@ pub fn later_steps_are_sound()
 /// An element takes at most as many steps as are known, and then its edge's facts describe where it leads.
 pub fn elements_are_sound()
     ensures { ElementsAreSound }
+{}
+
+/// The end of a called text goes back, and what is known stays true.
+pub fn returns_go_back()
+    ensures { ReturnsGoBack }
 {}
