@@ -1,5 +1,5 @@
 -- Each step keeps what is whole.
-use Rattle.std.proofs.Common.{◌≡◌, ℕ, zero, suc, ◌+◌, ◌-◌, ◌≤◌, arith, refl, w32, FitsSigned, ℤ, pos, negsuc, ◌+ℤ◌, List, [], ◌∷◌, length, Option, Some, None, IfSome, MatchOption, ok_or, Result, Ok, Err, IfOk, Bool, true, false, cond, nat_le}
+use Rattle.std.proofs.Common.{subst, ◌≡◌, ℕ, zero, suc, ◌+◌, ◌-◌, ◌≤◌, arith, refl, w32, FitsSigned, ℤ, pos, negsuc, ◌+ℤ◌, List, [], ◌∷◌, length, Option, Some, None, IfSome, MatchOption, ok_or, Result, Ok, Err, IfOk, Bool, true, false, cond, nat_le}
 use Rattle.std.specs.List.{AllByRecursion}
 use Rattle.std.specs.Option.{option_map_or}
 use Rattle.std.specs.Prelude.{⊤}
@@ -26,10 +26,11 @@ use Rattle.teco_model.specs.Outside as outside
 use Rattle.teco_model.specs.Paging as paging
 use Rattle.teco_model.specs.Paging.{Looked, Met, Turned, Through, Here, MetHere, WantedYet, sought}
 use Rattle.teco_model.specs.Pattern.{Pattern}
+use Rattle.teco_model.specs.Run as runs
 use Rattle.teco_model.specs.Search as searching
 use Rattle.teco_model.specs.Search.{Finding, Found, Missed}
 use Rattle.teco_model.specs.Searching as outcomes
-use Rattle.teco_model.specs.State.{Kept, World, Frame, State, Outcome, Next, Exit}
+use Rattle.teco_model.specs.State.{Absent, Fail, End, Kept, World, Frame, State, Outcome, Next, Exit}
 use Rattle.teco_model.specs.Step as steps
 use Rattle.teco_model.specs.Step.{step}
 use Rattle.teco_model.specs.declared.arguments.Taken.{Taken}
@@ -406,8 +407,22 @@ step_whole : (s : State) → IsWholeState s → IsWholeOutcome (step s)
 unfolding step
 step_whole s h = at_place s h _ (element_bytes s.frames.running.text s.frames.running.place h.frames.running)
 
+-- ---- runs
+go_on_whole : (o : Outcome) → IsWholeOutcome o → IsWholeOutcome (runs.go_on o)
+go_on_whole (Next s) h = step_whole s h
+go_on_whole (End world) h = h
+go_on_whole (Exit world) h = h
+go_on_whole (Fail c world) h = h
+go_on_whole (Absent world) h = h
+
+run_whole : (n : ℕ) (s : State) → IsWholeState s → IsWholeOutcome (runs.run n s)
+unfolding runs.run
+run_whole zero s h = h
+run_whole (suc n) s h = go_on_whole (runs.run n s) (run_whole n s h)
+
 pub whole_is_kept : WholeIsKept
 whole_is_kept = record {
   starts = λ command world b w. record { world = w; arguments = none_whole; frames = record { running = b; callers = tt } };
   steps = step_whole;
+  runs = λ n s t h r. subst IsWholeOutcome r (run_whole n s h);
 }

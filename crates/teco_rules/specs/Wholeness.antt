@@ -4,6 +4,7 @@ use Rattle.std.specs.Int.{w32}
 use Rattle.std.specs.List.{AllByRecursion}
 use Rattle.teco_model.specs.Arguments.{Arguments}
 use Rattle.teco_model.specs.Files.{File, Input, Output, Files}
+use Rattle.teco_model.specs.Run.{Reaches}
 use Rattle.teco_model.specs.State.{World, Frame, Frames, State, Outcome, Next, End, Exit, Fail, Absent, start}
 use Rattle.teco_model.specs.Step.{step}
 use Rattle.teco_model.specs.declared.arguments.Level.{Level}
@@ -46,8 +47,9 @@ IsWholeOutcome (Exit world) = IsWholeWorld world
 IsWholeOutcome (Fail c world) = IsWholeWorld world
 IsWholeOutcome (Absent world) = IsWholeWorld world
 
--- A run begins whole where its command string is of bytes, and each step keeps what is whole.
+-- A run begins whole where its command string is of bytes; each step keeps what is whole, and so does a run.
 pub record WholeIsKept : Type 0 where
   pub starts :
       (command : List ℕ) (world : World) → AreBytes command → IsWholeWorld world → IsWholeState (start command world)
   pub steps : (s : State) → IsWholeState s → IsWholeOutcome (step s)
+  pub runs : (n : ℕ) (s t : State) → IsWholeState s → Reaches n s t → IsWholeState t
