@@ -39,11 +39,14 @@ module _ {X : Type 0} (P : X → Type 0) where
   all_put (suc r) x (y ∷ xs) h p = (h.0, all_put r x xs h.1 p)
 
 -- ---- texts
+abbrev pub IsByte : ℕ → Type 0
+IsByte c = c < 256
+
 pub range_bytes : (text : List ℕ) (a b : ℕ) → AreBytes text → AreBytes (range text a b)
-range_bytes text a b h = all_taken (λ c. c < 256) (b - a) (drop a text) (all_dropped (λ c. c < 256) a text h)
+range_bytes text a b h = all_taken IsByte (b - a) (drop a text) (all_dropped IsByte a text h)
 
 pub replaced_bytes : (text : List ℕ) (a b : ℕ) (new : List ℕ) → AreBytes text → AreBytes new → AreBytes (text_after_replacement text a b new)
-replaced_bytes text a b new h i = all_joined (λ c. c < 256) (take a text ++ new) (drop b text) (all_joined (λ c. c < 256) (take a text) new (all_taken (λ c. c < 256) a text h) i) (all_dropped (λ c. c < 256) b text h)
+replaced_bytes text a b new h i = all_joined IsByte (take a text ++ new) (drop b text) (all_joined IsByte (take a text) new (all_taken IsByte a text h) i) (all_dropped IsByte b text h)
 
 pub byte_small : (n : ℤ) → byte_of n < 256
 byte_small (pos n) = omega (arith, mod-lt n {m = 256} (omega arith))

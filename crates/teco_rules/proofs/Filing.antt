@@ -1,5 +1,5 @@
 -- Pages and files are of bytes, and stay so.
-use Rattle.std.proofs.Common.{◌≡◌, ℕ, ◌+◌, ◌-◌, ◌<◌, arith, refl, ℤ, pos, List, [], ◌∷◌, ◌++◌, length, length-append, Option, Some, None, option_map, IfSome, ok_or, Result, Ok, Err, IfOk, Bool, true, false, cond, nat_le, ◌==◌}
+use Rattle.std.proofs.Common.{◌≡◌, ℕ, ◌+◌, ◌-◌, arith, refl, ℤ, pos, List, [], ◌∷◌, ◌++◌, length, length-append, Option, Some, None, option_map, IfSome, ok_or, Result, Ok, Err, IfOk, Bool, true, false, cond, nat_le, ◌==◌}
 use Rattle.std.specs.List.{AllByRecursion}
 use Rattle.std.specs.Option.{option_map_or}
 use Rattle.std.specs.Prelude.{bytes_eq, unwrap_or}
@@ -15,13 +15,10 @@ use Rattle.teco_model.specs.Pages.{Page, before_form_feed, behind_form_feed, has
 use Rattle.teco_model.specs.Paging as paging
 use Rattle.teco_model.specs.Places.{range_span}
 use Rattle.teco_model.specs.State.{World}
-use Rattle.teco_rules.proofs.Bytes.{of_either, all_joined, range_bytes, ok_then, ok_any}
+use Rattle.teco_rules.proofs.Bytes.{IsByte, of_either, all_joined, range_bytes, ok_then, ok_any}
 use Rattle.teco_rules.proofs.Keeping.{IsPart, part_whole, edited}
 use Rattle.teco_rules.specs.Describes.{AreBytes, IsWhole}
 use Rattle.teco_rules.specs.Wholeness.{AreWholeFiles, IsWholeWorld}
-
-abbrev IsByte : ℕ → Type 0
-IsByte c = c < 256
 
 -- ---- pages
 before_bytes : (bytes : List ℕ) → AreBytes bytes → AreBytes (before_form_feed bytes)

@@ -1,5 +1,5 @@
 -- Commands keep what is whole.
-use Rattle.std.proofs.Common.{◌≡◌, ℕ, zero, suc, ◌+◌, ◌-◌, ◌<◌, ◌≤◌, arith, refl, w32, FitsSigned, ℤ, pos, negsuc, ◌+ℤ◌, List, [], ◌∷◌, ◌++◌, take, drop, length, length-append, length-take, length-drop, Option, Some, None, IfSome, ok_or, Ok, Err, IfOk, Bool, true, false, cond, nat_le}
+use Rattle.std.proofs.Common.{◌≡◌, ℕ, zero, suc, ◌+◌, ◌-◌, ◌≤◌, arith, refl, w32, FitsSigned, ℤ, pos, negsuc, ◌+ℤ◌, List, [], ◌∷◌, ◌++◌, take, drop, length, length-append, length-take, length-drop, Option, Some, None, IfSome, ok_or, Ok, Err, IfOk, Bool, true, false, cond, nat_le}
 use Rattle.std.specs.List.{AllByRecursion}
 use Rattle.std.specs.Prelude.{unwrap_or}
 use Rattle.std.proofs.lemmas.Int.{ints, SFits-int_wrap}
@@ -46,7 +46,7 @@ use Rattle.teco_model.specs.declared.kind.Typing.{Typing}
 use Rattle.teco_model.specs.declared.kind.Typing.TheVariants as typing_kind
 use Rattle.teco_model.specs.declared.pattern.Span.{Span}
 use Rattle.teco_rules.proofs.Asking.{code_within, number_short, number_fits}
-use Rattle.teco_rules.proofs.Bytes.{all_taken, all_dropped, all_put, all_joined, range_bytes, replaced_bytes, byte_small, decimal_bytes, ok_then, ok_any, ok_if}
+use Rattle.teco_rules.proofs.Bytes.{IsByte, all_taken, all_dropped, all_put, all_joined, range_bytes, replaced_bytes, byte_small, decimal_bytes, ok_then, ok_any, ok_if}
 use Rattle.teco_rules.proofs.Each.{all_at}
 use Rattle.teco_rules.proofs.Lines.{on_within, none_within, back_within}
 use Rattle.teco_rules.proofs.Near.{empty_whole}
@@ -133,7 +133,7 @@ module _ (kept : Kept) (w : IsWhole kept) where
       }
     where
       parted_bytes : (a b : ℕ) → AreBytes (take a kept.text ++ drop b kept.text)
-      parted_bytes a b = all_joined (λ c. c < 256) (take a kept.text) (drop b kept.text) (all_taken (λ c. c < 256) a kept.text w.bytes) (all_dropped (λ c. c < 256) b kept.text w.bytes)
+      parted_bytes a b = all_joined IsByte (take a kept.text) (drop b kept.text) (all_taken IsByte a kept.text w.bytes) (all_dropped IsByte b kept.text w.bytes)
 
   characters_if : (a b : ℕ) (c : Bool) (e : Code) → (c ≡ true → (a ≤ b) × (b ≤ length kept.text)) → IfOk (cond c (Ok (deletion.deletion_between a b kept)) (Err e)) IsWholeEffect
   characters_if a b true e h = deleted a b (h refl).0 (h refl).1
@@ -191,7 +191,7 @@ module _ (kept : Kept) (w : IsWhole kept) where
 
   text_stored : (colons r : ℕ) (text : List ℕ) → AreBytes text → IfOk (storage.text_storage colons r text kept) IsWholeEffect
   text_stored zero r text h = text_set r text h
-  text_stored (suc colons) r text h = text_set r _ (all_joined (λ c. c < 256) (storage.text_in r kept) text (pair_whole r).bytes h)
+  text_stored (suc colons) r text h = text_set r _ (all_joined IsByte (storage.text_in r kept) text (pair_whole r).bytes h)
 
   own_stored : (colons r : ℕ) (text : List ℕ) (value : Option ℤ) → AreBytes text → IfOk (storage.own_text_storage colons r text value kept) IsWholeEffect
   own_stored colons r text None h = text_stored colons r text h

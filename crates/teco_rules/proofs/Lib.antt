@@ -34,6 +34,6 @@ pub mod Stepped
 pub mod Going
 pub mod Onward
 pub mod Paged
-pub mod Stepping
+pub mod Elements
 pub mod Names
 pub mod Opened

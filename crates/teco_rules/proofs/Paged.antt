@@ -33,7 +33,8 @@ use Rattle.teco_rules.specs.SoundPages.{unread_of, ComesTo, Comes, TurnsPages, A
 use Rattle.teco_rules.specs.SoundSteps.{BeginsAt, Proceeds}
 use Rattle.teco_rules.specs.Transfer.{Placed, transfer}
 
-abbrev IsOpen : World → Type 0
+-- an output is open
+abbrev pub IsOpen : World → Type 0
 IsOpen world = (output : Output) × (world.files.output ≡ Some output)
 
 -- ---- an output stays open

@@ -1,5 +1,5 @@
 -- The texts of an element are of bytes, as the text that it stands in.
-use Rattle.std.proofs.Common.{ℕ, ◌+◌, ◌-◌, ◌<◌, List, [], ◌∷◌, take, drop, length, position, Option, Some, None, IfSome, Result, Ok, Err, IfOk, ok_or, Bool, true, false, nat_le, ◌==◌}
+use Rattle.std.proofs.Common.{ℕ, ◌+◌, ◌-◌, List, [], ◌∷◌, take, drop, length, position, Option, Some, None, IfSome, Result, Ok, Err, IfOk, ok_or, Bool, true, false, nat_le, ◌==◌}
 use Rattle.std.specs.List.{prefix_len}
 use Rattle.teco_base.specs.Register.{register_of}
 use Rattle.teco_base.specs.declared.bytes.TheConstants.{ESC}
@@ -14,11 +14,8 @@ use Rattle.teco_model.specs.declared.head.Head.TheVariants as head
 use Rattle.teco_model.specs.declared.head.Texts.{Texts}
 use Rattle.teco_model.specs.declared.head.Texts.TheVariants.{Itself, EndedBy, Two, NoText}
 use Rattle.teco_model.specs.declared.kind.Kind.{Kind}
-use Rattle.teco_rules.proofs.Bytes.{all_taken, all_dropped, ok_then, ok_any}
+use Rattle.teco_rules.proofs.Bytes.{IsByte, all_taken, all_dropped, ok_then, ok_any}
 use Rattle.teco_rules.specs.Describes.{AreBytes}
-
-abbrev IsByte : ℕ → Type 0
-IsByte c = c < 256
 
 -- both texts are of bytes
 pub record IsOfBytes (e : Element) : Type 0 where

@@ -1,4 +1,4 @@
-use Rattle.teco_rules.proofs.Stepping.{elements_are_sound}
+use Rattle.teco_rules.proofs.Elements.{elements_are_sound}
 use Rattle.teco_rules.proofs.sound.elements_are_sound.Goals as goal
 
 pub returns : goal.returns

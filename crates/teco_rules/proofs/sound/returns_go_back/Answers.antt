@@ -1,4 +1,4 @@
-use Rattle.teco_rules.proofs.Stepping.{returns_go_back}
+use Rattle.teco_rules.proofs.Elements.{returns_go_back}
 use Rattle.teco_rules.proofs.sound.returns_go_back.Goals as goal
 
 pub returns : goal.returns

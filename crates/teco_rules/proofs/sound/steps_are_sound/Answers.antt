@@ -1,4 +1,4 @@
-use Rattle.teco_rules.proofs.Stepping.{steps_are_sound}
+use Rattle.teco_rules.proofs.Elements.{steps_are_sound}
 use Rattle.teco_rules.proofs.sound.steps_are_sound.Goals as goal
 
 pub returns : goal.returns

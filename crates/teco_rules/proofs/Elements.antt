@@ -2,7 +2,7 @@
 use Rattle.std.proofs.Common.{List, [], ◌∷◌, zero, suc, arith, inl, inr, ◌∙◌, ◌+◌, ◌≤◌, ◌⊎◌, ◌≡◌, ℕ, refl, sym, subst, ap, ℤ, true, Option, Some, None, Result, Ok, Err, IfOk}
 use Rattle.teco_base.specs.declared.code.Code.{Code}
 use Rattle.teco_model.specs.Arguments as model
-use Rattle.teco_model.specs.Files.{Input, Output}
+use Rattle.teco_model.specs.Files.{Input}
 use Rattle.teco_model.specs.Outside as outside
 use Rattle.teco_model.specs.Paging as paging
 use Rattle.teco_model.specs.Run as runs
@@ -25,7 +25,7 @@ use Rattle.teco_rules.proofs.Flowing.{taking_is}
 use Rattle.teco_rules.proofs.Going.{leads_at, ok_at}
 use Rattle.teco_rules.proofs.Names.{elements_are_named}
 use Rattle.teco_rules.proofs.Onward.{outcome_goes, flow_proceeds, call_proceeds, search_proceeds, look_proceeds, look_again}
-use Rattle.teco_rules.proofs.Paged.{turn_proceeds, write_proceeds, turn_again, write_again, append_proceeds}
+use Rattle.teco_rules.proofs.Paged.{IsOpen, turn_proceeds, write_proceeds, turn_again, write_again, append_proceeds}
 use Rattle.teco_rules.proofs.Seeking.{search_steps_are_bounded}
 use Rattle.teco_rules.proofs.Shapes.{value-number}
 use Rattle.teco_rules.proofs.Steps.{Covers}
@@ -48,9 +48,6 @@ use Rattle.teco_rules.specs.Values.{IsValue}
 use Rattle.teco_rules.specs.declared.refusal.Refusal.{Refusal}
 use Rattle.teco_rules.specs.declared.refusal.Refusal.TheVariants as refusal
 use Rattle.teco_rules.specs.declared.values.Value.{Value}
-
-abbrev IsOpen : World → Type 0
-IsOpen world = (output : Output) × (world.files.output ≡ Some output)
 
 -- ---- what is refused leads nowhere
 yank_refused : (x : Placed) (facts : Facts) → x.element.kind ≡ kind.Page page.Yank → IfOk (transfer x facts) (λ edges. ⊥)
