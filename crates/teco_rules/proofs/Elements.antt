@@ -23,7 +23,6 @@ use Rattle.teco_model.specs.declared.kind.Search.TheVariants as search
 use Rattle.teco_poly.specs.Polynomial.{Polynomial, value, number}
 use Rattle.teco_rules.proofs.Flowing.{taking_is}
 use Rattle.teco_rules.proofs.Going.{leads_at, ok_at}
-use Rattle.teco_rules.proofs.Names.{elements_are_named}
 use Rattle.teco_rules.proofs.Onward.{outcome_goes, flow_proceeds, call_proceeds, search_proceeds, look_proceeds, look_again}
 use Rattle.teco_rules.proofs.Paged.{IsOpen, turn_proceeds, write_proceeds, turn_again, write_again, append_proceeds}
 use Rattle.teco_rules.proofs.Seeking.{search_steps_are_bounded}
@@ -74,7 +73,7 @@ module _ (run : Run) (facts : Facts) (x : Placed) (edges : Edges) (s : State) (h
   -- what an element needs
   module _ (k : Kind) (e : x.element.kind ≡ k) where
     named : IsNamed k
-    named = subst IsNamed e (elements_are_named s.frames.running.text s.frames.running.place x.element h.read)
+    named = subst IsNamed e h.named
 
     stands : KindStands k facts x s.frames.running
     stands = subst (λ k. KindStands k facts x s.frames.running) e h.stands

@@ -32,7 +32,7 @@ use Rattle.teco_rules.specs.Joins.{none_pending}
 use Rattle.teco_rules.specs.SoundElements.{Succeeds, Leads, Arrives, ArrivesOn}
 use Rattle.teco_rules.specs.SoundFlow.{IsReached, number_needed, LeavingOr, EntersOr, EndsTurn}
 use Rattle.teco_rules.specs.SoundPages.{unread_of, ComesTo, Comes}
-use Rattle.teco_rules.specs.SoundSteps.{LeadsAhead, IsInside, EndsInside, FlowStands, BeginsAt, GoesBehind, ReachedIf, enters, is_last, run_begun, FlowGoes}
+use Rattle.teco_rules.specs.SoundSteps.{LeadsAhead, IsInside, FlowStands, BeginsAt, GoesBehind, ReachedIf, enters, is_last, run_begun, FlowGoes}
 use Rattle.teco_rules.specs.Transfer as transfers
 use Rattle.teco_rules.specs.Transfer.{Placed, transfer}
 use Rattle.teco_rules.specs.Ways.{Numbers, way}
@@ -129,20 +129,6 @@ pub held_kept : (x : Placed) (facts : Facts) (f : Flow) → x.element.kind ≡ k
 unfolding transfer
 held_kept x facts f e = subst (λ k. IfOk (transfers.edges_of k x (transfers.answer_for k facts) (transfers.without_answer facts)) (KeepsHeld facts)) (sym e) (flow_held f x.element.colons x.leaves (transfers.answer_for (kind.Flow f) facts) (transfers.without_answer facts))
 
--- > is known to end an iteration
-record EndsKnown (facts : Facts) : Type 0 where
-  iteration : Iteration
-  others : List Iteration
-  iterations : facts.iterations ≡ iteration ∷ others
-
-ends_in : (facts state : Facts) (iterations : List Iteration) → facts.iterations ≡ iterations → IfOk (edge.turn_end iterations state) (λ edges. EndsKnown facts)
-ends_in facts state [] e = tt
-ends_in facts state (i ∷ outer) e = record { iteration = i; others = outer; iterations = e }
-
-end_known : (x : Placed) (facts : Facts) → x.element.kind ≡ kind.Flow flow.EndTurn → IfOk (transfer x facts) (λ edges. EndsKnown facts)
-unfolding transfer
-end_known x facts e = subst (λ k. IfOk (transfers.edges_of k x (transfers.answer_for k facts) (transfers.without_answer facts)) (λ edges. EndsKnown facts)) (sym e) (ends_in facts (transfers.without_answer facts) facts.iterations refl)
-
 -- ---- flow
 module _ (run : Run) (facts : Facts) (x : Placed) (edges : Edges) (s : State) (h : BeginsAt run facts x s) (t : transfer x facts ≡ Ok edges) where
   abbrev u : ℕ
@@ -191,7 +177,7 @@ module _ (run : Run) (facts : Facts) (x : Placed) (edges : Edges) (s : State) (h
         so_far _ (FlowGoes (flow.Test test) run facts.held x edges s) _ (λ turn r. (v, w, r)) (tested (holds test v) i)))
 
   -- ; and :;
-  module _ (e : x.element.kind ≡ kind.Flow flow.Leave) (inside : IsInside frame) (ahead : LeadsAhead x.element frame) where
+  module _ (e : x.element.kind ≡ kind.Flow flow.Leave) (inside : IsInside facts frame) (ahead : LeadsAhead x.element frame) where
     left : (b : Bool) → LeavingOr run u kept s.arguments b edges → Succeeds (ReachedIf b (run_behind 1 run) run facts.held s edges.away edges.on) (flows.leaving_where b x.element (model.levels_after_taking s.arguments) frame)
     left true i = jumped (ReachedIf true (run_behind 1 run) run facts.held s edges.away edges.on) code.Utc model.no_arguments ahead (λ place. away_edge flow.Leave e (run_behind 1 run) model.no_arguments refl i)
     left false i = on_edge flow.Leave e run (model.levels_after_taking s.arguments) refl i
@@ -224,18 +210,11 @@ module _ (run : Run) (facts : Facts) (x : Placed) (edges : Edges) (s : State) (h
         so_far _ (FlowGoes flow.Iterate run facts.held x edges s) _ (λ turn r. (taken, w, r)) (iterated taken.value i))
 
   -- >
-  module _ (e : x.element.kind ≡ kind.Flow flow.EndTurn) (stands : EndsInside facts frame) where
-    abbrev inside : IsInside frame
-    inside = stands.inside
+  module _ (e : x.element.kind ≡ kind.Flow flow.EndTurn) (inside : IsInside facts frame) where
+    ends : EndsTurn run u kept inside.iteration.counted edges
+    ends = ok_at (EndsTurn run u kept inside.iteration.counted) (transfer x facts) edges t (turn_ends_are_sound run facts u kept s.arguments x inside.iteration inside.others h.whole.world.kept h.described e inside.iterations)
 
-    -- the iteration that is known
-    known : EndsKnown facts
-    known = ok_at (λ edges. EndsKnown facts) (transfer x facts) edges t (end_known x facts e)
-
-    ends : EndsTurn run u kept known.iteration.counted edges
-    ends = ok_at (EndsTurn run u kept known.iteration.counted) (transfer x facts) edges t (turn_ends_are_sound run facts u kept s.arguments x known.iteration known.others h.whole.world.kept h.described e known.iterations)
-
-    next_goes : (loop : Loop) (outer : List Loop) (turns : Option ℕ) → ((n : ℕ) → turns ≡ Some n → known.iteration.counted ≡ true) → ReachedIf (is_last turns) (run_behind 1 run) (run_begun s (run_behind 1 run)) facts.held s edges.on edges.away (elim turns as (λ x. Turn) [
+    next_goes : (loop : Loop) (outer : List Loop) (turns : Option ℕ) → ((n : ℕ) → turns ≡ Some n → inside.iteration.counted ≡ true) → ReachedIf (is_last turns) (run_behind 1 run) (run_begun s (run_behind 1 run)) facts.held s edges.on edges.away (elim turns as (λ x. Turn) [
       | None ↦ flows.turn_to model.no_arguments loop.start (loop ∷ outer) frame
       | Some turns ↦ elim turns as (λ x. Turn) [
         | zero ↦ flows.turn_to model.no_arguments x.element.next outer frame
@@ -250,7 +229,7 @@ module _ (run : Run) (facts : Facts) (x : Placed) (edges : Edges) (s : State) (h
     turn_ended [] w l = absurd (cc)
     turn_ended (loop ∷ outer) w l =
         let same : loop ≡ inside.loop = cc in
-        (loop, outer, w, next_goes loop outer loop.turns (λ n c. stands.counted n known.iteration known.others (subst (λ (p : Loop). p.turns ≡ Some n) same c) known.iterations))
+        (loop, outer, w, next_goes loop outer loop.turns (λ n c. inside.counted n (subst (λ (p : Loop). p.turns ≡ Some n) same c)))
 
     pub turn_end_goes : Succeeds (FlowGoes flow.EndTurn run facts.held x edges s) (flows.turn_of flow.EndTurn x.element s.arguments frame)
     turn_end_goes = turn_ended frame.loops refl inside.loops

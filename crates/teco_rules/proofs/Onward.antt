@@ -104,7 +104,7 @@ module _ (run : Run) (facts : Facts) (x : Placed) (edges : Edges) (s : State) (h
   )
 
   -- ---- searches
-  module _ (q : Search) (of_search : x.element.kind ≡ kind.Search q) (most : ℕ) (some : 1 ≤ most) (stands : x.colon ≡ false → IsInside frame × LeadsAhead x.element frame) where
+  module _ (q : Search) (of_search : x.element.kind ≡ kind.Search q) (most : ℕ) (some : 1 ≤ most) (stands : x.colon ≡ false → IsInside facts frame × LeadsAhead x.element frame) where
     -- the state of a search that took its arguments
     abbrev at : World → Option ℕ → State
     at world left = record s { world = world; arguments = model.levels_after_taking s.arguments; left = left }

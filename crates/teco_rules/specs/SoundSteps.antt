@@ -54,23 +54,20 @@ ElementsAreNamed =
 abbrev pub LeadsAhead : Element → Frame → Type 0
 LeadsAhead e frame = (place : ℕ) × ((skip_of frame.text (Whole e)).to ≡ Some place)
 
--- an iteration is open in the text
-pub record IsInside (frame : Frame) : Type 0 where
+-- an iteration is open in the text, and in what is known, which knows whether its turns are counted
+pub record IsInside (facts : Facts) (frame : Frame) : Type 0 where
   pub loop : Loop
   pub outer : List Loop
   pub loops : frame.loops ≡ loop ∷ outer
-
--- Where its turns are counted, that is known.
-pub record EndsInside (facts : Facts) (frame : Frame) : Type 0 where
-  pub inside : IsInside frame
-  pub counted :
-      (turns : ℕ) (i : Iteration) (others : List Iteration)
-      → inside.loop.turns ≡ Some turns → facts.iterations ≡ i ∷ others → i.counted ≡ true
+  pub iteration : Iteration
+  pub others : List Iteration
+  pub iterations : facts.iterations ≡ iteration ∷ others
+  pub counted : (turns : ℕ) → loop.turns ≡ Some turns → iteration.counted ≡ true
 
 abbrev pub FlowStands : Flow → Facts → Placed → Frame → Type 0
 FlowStands flow.Iterate facts x frame = LeadsAhead x.element frame
-FlowStands flow.EndTurn facts x frame = EndsInside facts frame
-FlowStands flow.Leave facts x frame = IsInside frame × LeadsAhead x.element frame
+FlowStands flow.EndTurn facts x frame = IsInside facts frame
+FlowStands flow.Leave facts x frame = IsInside facts frame × LeadsAhead x.element frame
 FlowStands (flow.Test t) facts x frame = LeadsAhead x.element frame
 FlowStands flow.Otherwise facts x frame = LeadsAhead x.element frame
 FlowStands flow.GoTo facts x frame = LeadsAhead x.element frame
@@ -78,7 +75,7 @@ FlowStands f facts x frame = ⊤
 
 abbrev pub KindStands : Kind → Facts → Placed → Frame → Type 0
 KindStands (kind.Flow f) facts x frame = FlowStands f facts x frame
-KindStands (kind.Search s) facts x frame = x.colon ≡ false → IsInside frame × LeadsAhead x.element frame
+KindStands (kind.Search s) facts x frame = x.colon ≡ false → IsInside facts frame × LeadsAhead x.element frame
 KindStands k facts x frame = ⊤
 
 -- the files that it needs are open
@@ -93,6 +90,7 @@ pub record BeginsAt (run : Run) (facts : Facts) (x : Placed) (s : State) : Type 
   pub left : s.left ≡ None
   pub read : element_at s.frames.running.text s.frames.running.place ≡ Ok (Some x.element)
   pub colon : x.colon ≡ has_colon x.element s.frames.running
+  pub named : IsNamed x.element.kind
   pub stands : KindStands x.element.kind facts x s.frames.running
   pub files : IfOk (needs x.element.kind facts) (λ need. AreOpen need s.world.files)
 
