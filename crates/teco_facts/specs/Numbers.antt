@@ -1,0 +1,22 @@
+-- Which numbers the code keeps.
+use Rattle.std.specs.Prelude.{ℕ, ℤ, pos, negsuc, ◌+ℤ◌, ◌≤ℤ◌, ◌-◌, ◌^◌}
+use Rattle.teco_rules.specs.Values.{least_share, most_share}
+
+-- 32-bit numbers in order
+pub record IsRange (lo hi : ℤ) : Type 0 where
+  pub ordered : lo ≤ℤ hi
+  pub low : negsuc (2 ^ 31 - 1) ≤ℤ lo
+  pub high : hi ≤ℤ pos (2 ^ 31 - 1)
+
+-- how often distances count
+pub record IsSmall (times : ℤ) : Type 0 where
+  pub low : negsuc 7 ≤ℤ times
+  pub high : times ≤ℤ pos 8
+
+-- numbers in order, which have 32 bits wherever the pointer is
+pub record IsNumber (ahead behind lo hi : ℤ) : Type 0 where
+  pub ahead_small : IsSmall ahead
+  pub behind_small : IsSmall behind
+  pub ordered : lo ≤ℤ hi
+  pub low : negsuc (2 ^ 31 - 1) ≤ℤ (least_share 0 ahead +ℤ least_share 0 behind +ℤ lo)
+  pub high : (most_share 0 ahead +ℤ most_share 0 behind +ℤ hi) ≤ℤ pos (2 ^ 31 - 1)

@@ -1,0 +1,1 @@
+//! What distances count in numbers.
