@@ -20,3 +20,12 @@ pub record IsNumber (ahead behind lo hi : ℤ) : Type 0 where
   pub ordered : lo ≤ℤ hi
   pub low : negsuc (2 ^ 31 - 1) ≤ℤ (least_share 0 ahead +ℤ least_share 0 behind +ℤ lo)
   pub high : (most_share 0 ahead +ℤ most_share 0 behind +ℤ hi) ≤ℤ pos (2 ^ 31 - 1)
+
+-- what a distance counts lies between its extremes
+pub record IsShare (share times : ℤ) : Type 0 where
+  pub from : least_share 0 times ≤ℤ pos 0
+  pub to : pos 0 ≤ℤ most_share 0 times
+  pub low : least_share 0 times ≤ℤ share
+  pub high : share ≤ℤ most_share 0 times
+  pub least : negsuc (2 ^ 34) ≤ℤ share
+  pub most : share ≤ℤ pos (2 ^ 34)

@@ -1,7 +1,7 @@
 //! What the verifier knows before an element, and what each element does to it.
 #![tactic(auto)]
 
-mod arithmetic;
+pub mod arithmetic;
 mod margins;
 mod number;
 mod range;

@@ -1,5 +1,5 @@
 //! Whole numbers, as the rules have them. Contracts see the number itself.
-ghost use Rattle.std.specs.Prelude.{◌≡◌, ℕ, pos, negsuc, neg_ℤ, ◌+ℤ◌, ◌-ℤ◌, ◌*ℤ◌, ◌≤ℤ◌, ◌<◌, ◌^◌, ◌-◌, int_le, int_div, FitsSigned};
+ghost use Rattle.std.specs.Prelude.{◌≡◌, ℕ, pos, negsuc, neg_ℤ, ◌+ℤ◌, ◌-ℤ◌, ◌*ℤ◌, ◌≤ℤ◌, ◌<◌, ◌^◌, ◌-◌, int_le, int_lt, int_div, FitsSigned};
 ghost use Rattle.std.specs.Int.{int_min, int_max, w32, w64};
 ghost use Rattle.teco_base.specs.Arithmetic as bits;
 ghost use Rattle.teco_rules.specs.Deletions as rules;
@@ -124,6 +124,13 @@ impl Whole {
         Whole {
             value: i64::from(arithmetic::or(self.value as i32, other.value as i32)),
         }
+    }
+
+    /// Whether it is below 0.
+    pub fn is_negative(self) -> bool
+        ensures { result ≡ int_lt self (pos 0) }
+    {
+        self.value < 0
     }
 
     /// Whether it is at most another.
