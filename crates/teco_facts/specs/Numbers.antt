@@ -15,11 +15,28 @@ pub record IsSmall (times : ℤ) : Type 0 where
 
 -- numbers in order, which have 32 bits wherever the pointer is
 pub record IsNumber (ahead behind lo hi : ℤ) : Type 0 where
-  pub ahead_small : IsSmall ahead
-  pub behind_small : IsSmall behind
+  pub ahead_low : negsuc 1 ≤ℤ ahead
+  pub ahead_high : ahead ≤ℤ pos 2
+  pub behind_low : negsuc 1 ≤ℤ behind
+  pub behind_high : behind ≤ℤ pos 2
   pub ordered : lo ≤ℤ hi
   pub low : negsuc (2 ^ 31 - 1) ≤ℤ (least_share 0 ahead +ℤ least_share 0 behind +ℤ lo)
   pub high : (most_share 0 ahead +ℤ most_share 0 behind +ℤ hi) ≤ℤ pos (2 ^ 31 - 1)
+
+-- numbers that a sum or a difference of two of those may have
+pub record IsPlace (ahead behind lo hi : ℤ) : Type 0 where
+  pub ahead_low : negsuc 3 ≤ℤ ahead
+  pub ahead_high : ahead ≤ℤ pos 4
+  pub behind_low : negsuc 3 ≤ℤ behind
+  pub behind_high : behind ≤ℤ pos 4
+  pub ordered : lo ≤ℤ hi
+  pub low : negsuc (2 ^ 34) ≤ℤ lo
+  pub high : hi ≤ℤ pos (2 ^ 34)
+
+-- how much may fall at a time
+pub record IsNear (v : ℤ) : Type 0 where
+  pub low : negsuc (2 ^ 40) ≤ℤ v
+  pub high : v ≤ℤ pos (2 ^ 40)
 
 -- what a distance counts lies between its extremes
 pub record IsShare (share times : ℤ) : Type 0 where

@@ -1,5 +1,5 @@
 //! Whole numbers, as the rules have them. Contracts see the number itself.
-ghost use Rattle.std.specs.Prelude.{◌≡◌, ℕ, pos, negsuc, neg_ℤ, ◌+ℤ◌, ◌-ℤ◌, ◌*ℤ◌, ◌≤ℤ◌, ◌<◌, ◌^◌, ◌-◌, int_le, int_lt, int_div, FitsSigned};
+ghost use Rattle.std.specs.Prelude.{◌≡◌, ℕ, pos, negsuc, neg_ℤ, ◌+ℤ◌, ◌-ℤ◌, ◌*ℤ◌, ◌≤ℤ◌, ◌<◌, ◌^◌, ◌-◌, int_le, int_lt, int_div, unsigned_abs, min, FitsSigned};
 ghost use Rattle.std.specs.Int.{int_min, int_max, w32, w64};
 ghost use Rattle.teco_base.specs.Arithmetic as bits;
 ghost use Rattle.teco_rules.specs.Deletions as rules;
@@ -24,6 +24,9 @@ impl Model for Whole {
 }
 
 impl Whole {
+    /// -1.
+    pub const MINUS_ONE: Whole = Whole { value: -1 };
+
     /// 0.
     pub const ZERO: Whole = Whole { value: 0 };
 
@@ -156,6 +159,14 @@ impl Whole {
         Whole {
             value: self.value.max(other.value),
         }
+    }
+
+    /// A number that is known not to be negative, up to a limit.
+    pub fn up_to(self, limit: u32) -> u32
+        requires { pos 0 ≤ℤ self }
+        ensures value { result ≡ min (unsigned_abs self) limit }
+    {
+        (self.value as u64).min(u64::from(limit)) as u32
     }
 
     /// The number, and 0 for a negative one.
