@@ -1,2 +1,3 @@
 -- What the proofs of the functions share.
 pub mod Ends
+pub mod Linear

@@ -19,7 +19,7 @@ pub record IsNumber (ahead behind lo hi : ℤ) : Type 0 where
   pub ahead_high : ahead ≤ℤ pos 2
   pub behind_low : negsuc 1 ≤ℤ behind
   pub behind_high : behind ≤ℤ pos 2
-  pub ordered : lo ≤ℤ hi
+  pub range : IsRange lo hi
   pub low : negsuc (2 ^ 31 - 1) ≤ℤ (least_share 0 ahead +ℤ least_share 0 behind +ℤ lo)
   pub high : (most_share 0 ahead +ℤ most_share 0 behind +ℤ hi) ≤ℤ pos (2 ^ 31 - 1)
 

@@ -2,12 +2,16 @@
 #![tactic(auto)]
 
 pub mod arithmetic;
+mod level;
 mod margins;
 mod number;
+mod place;
 mod range;
 mod whole;
 
+pub use level::{Level, Taken};
 pub use margins::Margins;
 pub use number::Number;
+pub use place::Place;
 pub use range::Range;
 pub use whole::Whole;

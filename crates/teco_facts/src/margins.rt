@@ -9,7 +9,7 @@ use teco_base::LIMIT;
 const MOST: u64 = LIMIT as u64;
 
 /// The least distances of the pointer from the begin of the buffer and from its end, at most LIMIT.
-#[derive(Clone, Copy, Debug, PartialEq, Eq)]
+#[derive(Clone, Copy)]
 pub struct Margins {
     back: u32,
     fore: u32,

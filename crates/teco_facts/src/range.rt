@@ -10,7 +10,7 @@ const LEAST: i64 = -2_147_483_648;
 const MOST: i64 = 2_147_483_647;
 
 /// The numbers from one of 32 bits to another.
-#[derive(Clone, Copy, Debug, PartialEq, Eq)]
+#[derive(Clone, Copy)]
 pub struct Range {
     lo: Whole,
     hi: Whole,
@@ -74,5 +74,12 @@ impl Range {
         ensures range { IsRange self.lo self.hi }
     {
         self.hi
+    }
+
+    /// Whether there is one number alone.
+    pub fn is_single(self) -> bool
+        ensures { result ≡ values.is_single self }
+    {
+        self.hi.at_most(self.lo)
     }
 }

@@ -8,7 +8,7 @@ use std::marker::Model;
 use teco_base::arithmetic;
 
 /// A whole number.
-#[derive(Clone, Copy, Debug, PartialEq, Eq)]
+#[derive(Clone, Copy)]
 pub struct Whole {
     value: i64,
 }
@@ -134,6 +134,13 @@ impl Whole {
         ensures { result ≡ int_lt self (pos 0) }
     {
         self.value < 0
+    }
+
+    /// Whether it is above 0.
+    pub fn is_positive(self) -> bool
+        ensures { result ≡ int_lt (pos 0) self }
+    {
+        self.value > 0
     }
 
     /// Whether it is at most another.
