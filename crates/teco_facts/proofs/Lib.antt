@@ -1,3 +1,4 @@
 -- What the proofs of the functions share.
 pub mod Ends
 pub mod Linear
+pub mod Lists

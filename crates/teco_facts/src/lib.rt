@@ -2,6 +2,7 @@
 #![tactic(auto)]
 
 pub mod arithmetic;
+mod few;
 mod level;
 mod margins;
 mod number;
@@ -9,6 +10,7 @@ mod place;
 mod range;
 mod whole;
 
+pub use few::Few;
 pub use level::{Level, Taken};
 pub use margins::Margins;
 pub use number::Number;
