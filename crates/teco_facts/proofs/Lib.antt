@@ -2,3 +2,4 @@
 pub mod Ends
 pub mod Linear
 pub mod Lists
+pub mod Falling

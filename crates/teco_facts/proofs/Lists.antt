@@ -1,6 +1,6 @@
 -- Lists from their ends.
-use Rattle.std.proofs.Common.{◌≡◌, refl, sym, ap, ◌∙◌, ℕ, ◌-◌, ◌≤◌, List, ◌++◌, length, take, drop, reverse, ⊎_elim, length-take, length-drop, arith}
-use Rattle.std.proofs.lemmas.List.{take-append-drop, reverse-append, length-reverse, drop_at, drop_all, take-take}
+use Rattle.std.proofs.Common.{◌≡◌, refl, sym, ap, ◌∙◌, ℕ, ◌-◌, ◌+◌, ◌<◌, ◌≤◌, List, ◌∷◌, ◌++◌, length, map, get_or, take, drop, reverse, ⊎_elim, length-take, length-drop, arith}
+use Rattle.std.proofs.lemmas.List.{take-append-drop, reverse-append, length-reverse, drop_at, drop_all, drop_more, take-take}
 use Rattle.std.proofs.lemmas.Bool.{cases_lt}
 
 -- what is dropped at the front of a list that is turned round is cut off at the end of it
@@ -25,3 +25,10 @@ drop-reverse-take xs n count h =
     let long : length (take n xs) ≡ n = rw length-take (omega arith) in
     let less : n - count ≤ n = omega arith in
     ap reverse (sym (take-take (n - count) n xs less)) ∙ ap (λ k. reverse (take (k - count) (take n xs))) (sym long) ∙ drop-reverse (take n xs) count
+
+-- one more of a list that is gone through from its end
+pub map_put : {X Y : Type 0} (f : X → Y) (xs : List X) (i : ℕ) (x : X) → 0 < i → i ≤ length xs → x ≡ get_or xs (i - 1) x → f x ∷ map f (drop i xs) ≡ map f (drop (i - 1) xs)
+map_put f xs i x h l e =
+    let more = drop_more xs (i - 1) x (omega arith) in
+    let next : i - 1 + 1 ≡ i = omega arith in
+    ap (λ y. f y ∷ map f (drop i xs)) e ∙ ap (λ k. f (get_or xs (i - 1) x) ∷ map f (drop k xs)) (sym next) ∙ sym (ap (map f) more)

@@ -1,5 +1,6 @@
 -- Which numbers the code keeps.
-use Rattle.std.specs.Prelude.{ℕ, ℤ, pos, negsuc, ◌+ℤ◌, ◌≤ℤ◌, ◌-◌, ◌^◌}
+use Rattle.std.specs.Prelude.{ℤ, List, Option, Some, None, pos, negsuc, ◌+ℤ◌, ◌≤ℤ◌, ◌-◌, ◌^◌}
+use Rattle.std.specs.List.{All}
 use Rattle.teco_rules.specs.Values.{least_share, most_share}
 
 -- 32-bit numbers in order
@@ -46,3 +47,16 @@ pub record IsShare (share times : ℤ) : Type 0 where
   pub high : share ≤ℤ most_share 0 times
   pub least : negsuc (2 ^ 34) ≤ℤ share
   pub most : share ≤ℤ pos (2 ^ 34)
+
+-- a fall to which more may be added, if it is known
+pub record IsModest (fall : ℤ) : Type 0 where
+  pub low : negsuc (2 ^ 62) ≤ℤ fall
+  pub high : fall ≤ℤ pos (2 ^ 62)
+
+abbrev pub IsSmallFall : Option ℤ → Type 0
+IsSmallFall None = Unit {0}
+IsSmallFall (Some fall) = IsModest fall
+
+-- falls to each of which more may be added
+abbrev pub AreSmall : List (Option ℤ) → Type 0
+AreSmall falls = All IsSmallFall falls

@@ -2,18 +2,24 @@
 #![tactic(auto)]
 
 pub mod arithmetic;
+mod falls;
 mod few;
 mod level;
 mod margins;
 mod number;
 mod place;
+mod position;
 mod range;
+mod shift;
 mod whole;
 
+pub use falls::Falls;
 pub use few::Few;
 pub use level::{Level, Taken};
 pub use margins::Margins;
 pub use number::Number;
 pub use place::Place;
+pub use position::Position;
 pub use range::Range;
+pub use shift::Shift;
 pub use whole::Whole;

@@ -2,6 +2,7 @@
 ghost use Rattle.std.specs.Prelude.{◌≡◌, ◌≤◌, min};
 ghost use Rattle.teco_base.specs.declared.TheConstants.{LIMIT};
 ghost use Rattle.teco_rules.specs.Facts as facts;
+ghost use Rattle.teco_rules.specs.Joins as joins;
 
 use std::marker::Model;
 use teco_base::LIMIT;
@@ -61,5 +62,15 @@ impl Margins {
         ensures within { self.fore ≤ LIMIT }
     {
         self.fore
+    }
+
+    /// The smaller distances.
+    pub fn nearer(self, other: Margins) -> Margins
+        ensures { result ≡ joins.nearer_of self other }
+    {
+        Margins {
+            back: self.back.min(other.back),
+            fore: self.fore.min(other.fore),
+        }
     }
 }
