@@ -1,6 +1,6 @@
 -- Lists from their ends.
-use Rattle.std.proofs.Common.{◌≡◌, refl, sym, ap, ◌∙◌, ℕ, ◌-◌, ◌+◌, ◌<◌, ◌≤◌, List, ◌∷◌, ◌++◌, length, map, get_or, take, drop, reverse, ⊎_elim, length-take, length-drop, arith}
-use Rattle.std.proofs.lemmas.List.{take-append-drop, reverse-append, length-reverse, drop_at, drop_all, drop_more, take-take}
+use Rattle.std.proofs.Common.{◌≡◌, refl, sym, ap, ◌∙◌, ℕ, ◌-◌, ◌+◌, ◌<◌, ◌≤◌, List, [], ◌∷◌, ◌++◌, length, map, get_or, take, drop, reverse, ⊎_elim, length-take, length-drop, arith}
+use Rattle.std.proofs.lemmas.List.{take-append-drop, reverse-append, length-reverse, drop_at, drop_all, drop_more, take-take, take_all, map-append, append-nil}
 use Rattle.std.proofs.lemmas.Bool.{cases_lt}
 
 -- what is dropped at the front of a list that is turned round is cut off at the end of it
@@ -32,3 +32,17 @@ map_put f xs i x h l e =
     let more = drop_more xs (i - 1) x (omega arith) in
     let next : i - 1 + 1 ≡ i = omega arith in
     ap (λ y. f y ∷ map f (drop i xs)) e ∙ ap (λ k. f (get_or xs (i - 1) x) ∷ map f (drop k xs)) (sym next) ∙ sym (ap (map f) more)
+
+-- a list that is turned round is mapped as the list is
+reverse-cons : {X : Type 0} (x : X) (xs : List X) → reverse (x ∷ xs) ≡ reverse xs ++ x ∷ []
+reverse-cons x xs = reverse-append (x ∷ []) xs
+
+pub reverse-map : {X Y : Type 0} (f : X → Y) (xs : List X) → reverse (map f xs) ≡ map f (reverse xs)
+reverse-map f [] = refl
+reverse-map f (x ∷ xs) =
+    reverse-cons (f x) (map f xs) ∙ ap (λ ys. ys ++ f x ∷ []) (reverse-map f xs) ∙ sym (map-append f (reverse xs) (x ∷ []))
+    ∙ sym (ap (map f) (reverse-cons x xs))
+
+pub mapped_all : {X : Type 0} (f : X → X) (xs ys : List X) (n : ℕ) → ys ≡ map f (take n xs) ++ drop n xs → length xs ≤ n → reverse ys ≡ map f (reverse xs)
+mapped_all f xs ys n e h =
+    ap reverse (e ∙ ap (λ zs. map f zs ++ drop n xs) (take_all n xs h) ∙ ap (λ zs. map f xs ++ zs) (drop_all n xs h) ∙ append-nil (map f xs)) ∙ reverse-map f xs

@@ -1,2 +1,3 @@
 -- The words of the contracts.
 pub mod Numbers
+pub mod Does

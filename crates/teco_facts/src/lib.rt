@@ -1,7 +1,9 @@
 //! What the verifier knows before an element, and what each element does to it.
 #![tactic(auto)]
 
-pub mod arithmetic;
+mod arguments;
+mod arithmetic;
+mod facts;
 mod falls;
 mod few;
 mod level;
@@ -13,6 +15,8 @@ mod range;
 mod shift;
 mod whole;
 
+pub use arguments::Arguments;
+pub use facts::{Answer, Facts, Foreseen, Iteration, Pushed};
 pub use falls::Falls;
 pub use few::Few;
 pub use level::{Level, Taken};

@@ -31,7 +31,7 @@ impl Model for Position {
     ghost view = { λ p. record { distances = p.margins; falls = p.falls; ahead = p.ahead } };
 }
 
-// The sum, where it does not overflow.
+/// The sum, where it does not overflow.
 pub fn sum_of(one: &Poly, two: &Poly) -> Result<Poly, Refusal>
     ensures { result ≡ facts.sum_of one.now two.now }
 {

@@ -1,6 +1,5 @@
 //! What elements that move the pointer, or edit the buffer, do to what is known of the position.
-ghost use Rattle.std.specs.Prelude.{◌≡◌, ◌≤◌, ◌+◌, IfSome};
-ghost use Rattle.teco_base.specs.declared.TheConstants.{LIMIT};
+ghost use Rattle.std.specs.Prelude.{◌≡◌, ◌≤◌, ◌^◌, IfSome};
 ghost use Rattle.teco_rules.specs.Shifts as shifts;
 ghost use Rattle.teco_rules.specs.Insertions as insertions;
 ghost use Rattle.teco_facts.specs.Numbers.{IsNear};
@@ -75,7 +74,7 @@ impl Shift {
 
     /// An insertion before the pointer of so many characters at least, and at most as many as a polynomial says.
     pub fn inserting(least: usize, growth: Poly, margins: Margins) -> Shift
-        requires { least ≤ LIMIT }
+        requires { least ≤ 2 ^ 63 }
         ensures { result ≡ insertions.insertion_of least growth margins }
     {
         Shift {
