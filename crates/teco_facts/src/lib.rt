@@ -3,11 +3,13 @@
 
 mod arguments;
 mod arithmetic;
+mod deletion;
 mod facts;
 mod falls;
 mod few;
 mod level;
 mod margins;
+mod motion;
 mod number;
 mod place;
 mod position;

@@ -1,5 +1,6 @@
 //! What elements that move the pointer, or edit the buffer, do to what is known of the position.
 ghost use Rattle.std.specs.Prelude.{◌≡◌, ◌≤◌, ◌^◌, IfSome};
+ghost use Rattle.teco_rules.specs.Deletions as deletions;
 ghost use Rattle.teco_rules.specs.Shifts as shifts;
 ghost use Rattle.teco_rules.specs.Insertions as insertions;
 ghost use Rattle.teco_facts.specs.Numbers.{IsNear};
@@ -93,5 +94,30 @@ impl Shift {
         let fore = distance_of(place.least_behind(margins)).ok_or(Refusal::Place)?;
         let fall = place.least_past(margins);
         Ok(Shift::moving(u64::from(back), u64::from(fore), fall))
+    }
+
+    /// To either of two places, at the less known of which nothing may be nearer.
+    pub fn nearer(&self, other: &Shift) -> Shift
+        ensures { result ≡ deletions.nearer self.now other.now }
+    {
+        Shift::moving(
+            self.back.min(other.back),
+            self.fore.min(other.fore),
+            greater_known(self.fall, other.fall),
+        )
+    }
+}
+
+// The greater of what is known.
+fn greater_known(one: Option<Whole>, two: Option<Whole>) -> Option<Whole>
+    requires one_near { IfSome one IsNear }
+    requires two_near { IfSome two IsNear }
+    ensures value { result ≡ deletions.greater_known one two }
+    ensures near { IfSome result IsNear }
+{
+    match (one, two) {
+        (Some(one), Some(two)) => Some(one.max(two)),
+        (None, two) => two,
+        (one, None) => one,
     }
 }

@@ -187,4 +187,11 @@ impl Whole {
             self.value as u64
         }
     }
+
+    /// The number, or 0 where that is greater.
+    pub fn raised(self) -> Whole
+        ensures { result ≡ pos (rules.positive self) }
+    {
+        if self.value < 0 { Whole::ZERO } else { self }
+    }
 }
