@@ -1,5 +1,5 @@
 //! What is known before an element.
-ghost use Rattle.std.specs.Prelude.{◌≡◌, ◌∷◌, ◌<◌, IfOk, OnOk, Some, None, Option, length, drop, map};
+ghost use Rattle.std.specs.Prelude.{◌≡◌, ◌∷◌, ◌<◌, IfOk};
 ghost use Rattle.teco_base.specs.declared.TheConstants.{REGISTERS};
 ghost use Rattle.teco_rules.specs.Facts as rules;
 ghost use Rattle.teco_rules.specs.Shifts as shifts;
@@ -237,6 +237,15 @@ impl Facts {
         ensures { result ≡ rules.with_arguments (arguments.levels_after_taking self.arguments) self }
     {
         self.arguments.take();
+        self.answer = None;
+        self
+    }
+
+    /// The facts with another innermost level.
+    pub fn with_level(mut self, level: Level) -> Facts
+        ensures { result ≡ rules.with_arguments (record self.arguments { level = level }) self }
+    {
+        self.arguments.put(level);
         self.answer = None;
         self
     }
