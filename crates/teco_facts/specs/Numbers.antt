@@ -36,7 +36,7 @@ pub record IsPlace (ahead behind lo hi : ℤ) : Type 0 where
 
 -- how much may fall at a time
 pub record IsNear (v : ℤ) : Type 0 where
-  pub low : negsuc (2 ^ 40) ≤ℤ v
+  pub low : negsuc (2 ^ 40 - 1) ≤ℤ v
   pub high : v ≤ℤ pos (2 ^ 40)
 
 -- what a distance counts lies between its extremes

@@ -8,6 +8,7 @@ mod facts;
 mod falls;
 mod few;
 mod insertion;
+mod joining;
 mod level;
 mod margins;
 mod motion;

@@ -4,6 +4,7 @@ ghost use Rattle.std.specs.Int.{w32};
 ghost use Rattle.teco_base.specs.Arithmetic as bits;
 ghost use Rattle.teco_rules.specs.Arguments as rules;
 ghost use Rattle.teco_rules.specs.Values as values;
+ghost use Rattle.teco_facts.specs.Numbers.{IsNumber};
 
 use crate::arithmetic::{self, range_of};
 use crate::margins::Margins;
@@ -97,6 +98,14 @@ impl Number {
         ensures { result ≡ values.interval_of margins self }
     {
         range_of(margins, self.ahead, self.behind, self.lo, self.hi)
+    }
+
+    /// How often each distance counts, and the range of what else there is.
+    pub fn parts(self) -> (Whole, Whole, Whole, Whole)
+        ensures value { result ≡ (self.ahead, self.behind, self.lo, self.hi) }
+        ensures number { IsNumber self.ahead self.behind self.lo self.hi }
+    {
+        (self.ahead, self.behind, self.lo, self.hi)
     }
 
     /// The sum without a limit.

@@ -125,3 +125,94 @@ impl Numbers {
         }
     }
 }
+
+// The distances where that behind the pointer is known to be larger.
+fn with_back(margins: Margins, least: u64) -> Margins
+    ensures { result ≡ ways.with_back margins least }
+{
+    Margins::capped(least, u64::from(margins.fore()))
+}
+
+// The distances where that ahead of it is.
+fn with_fore(margins: Margins, least: u64) -> Margins
+    ensures { result ≡ ways.with_fore margins least }
+{
+    Margins::capped(u64::from(margins.back()), least)
+}
+
+// The least of the distance that a number is, plus or minus, is raised.
+fn raised_by(numbers: Numbers, ahead: Whole, behind: Whole, k: Whole, margins: Margins) -> Option<Margins>
+    requires { IsNear k }
+    ensures { result ≡ ways.raised_by (seen numbers) ahead behind k margins }
+{
+    if ahead.is(Whole::ONE) && behind.is(Whole::ZERO) {
+        let least = numbers.least_taking(margins.fore(), k)?;
+        Some(with_fore(margins, least))
+    } else if ahead.is(Whole::MINUS_ONE) && behind.is(Whole::ZERO) {
+        let least = numbers.opposite().least_taking(margins.fore(), k.negated())?;
+        Some(with_fore(margins, least))
+    } else if ahead.is(Whole::ZERO) && behind.is(Whole::ONE) {
+        let least = numbers.least_taking(margins.back(), k)?;
+        Some(with_back(margins, least))
+    } else if ahead.is(Whole::ZERO) && behind.is(Whole::MINUS_ONE) {
+        let least = numbers.opposite().least_taking(margins.back(), k.negated())?;
+        Some(with_back(margins, least))
+    } else {
+        Some(margins)
+    }
+}
+
+// The same of a number, if it is linear.
+fn raised(numbers: Numbers, number: Number, margins: Margins) -> Option<Margins>
+    ensures { result ≡ ways.raised (seen numbers) number margins }
+{
+    let (ahead, behind, lo, hi) = number.parts();
+    if hi.at_most(lo) {
+        raised_by(numbers, ahead, behind, lo, margins)
+    } else {
+        Some(margins)
+    }
+}
+
+// The position on the way of some numbers.
+fn position_on(numbers: Numbers, number: Number, position: &Position) -> Option<Position>
+    ensures { result ≡ ways.position_on (seen numbers) number position.now }
+{
+    let margins = position.margins();
+    if numbers.may_take(number.range(margins)) {
+        let raised = raised(numbers, number, margins)?;
+        Some(position.at(raised))
+    } else {
+        None
+    }
+}
+
+// The position on the way of a search's answer.
+fn position_of(numbers: Numbers, answer: &Answer, position: &Position) -> Option<Position>
+    ensures { result ≡ ways.position_of (seen numbers) answer.now position.now }
+{
+    match numbers {
+        Numbers::Zero | Numbers::NotNegative => Some(answer.failed()),
+        Numbers::NotZero | Numbers::Negative => Some(answer.found()),
+        Numbers::Positive => None,
+        Numbers::NotPositive | Numbers::All => Some(position.copied()),
+    }
+}
+
+// The position on the way of what is tested.
+fn position_by(numbers: Numbers, answer: &Option<Answer>, number: Number, position: &Position) -> Option<Position>
+    ensures { result ≡ ways.position_by (seen numbers) answer.now number position.now }
+{
+    match answer {
+        None => position_on(numbers, number, position),
+        Some(answer) => position_of(numbers, answer, position),
+    }
+}
+
+/// The facts on the way of some numbers, where the way is reached.
+pub fn way(numbers: Numbers, answer: &Option<Answer>, number: Number, facts: Facts) -> Option<Facts>
+    ensures { result ≡ ways.way (seen numbers) answer.now number facts }
+{
+    let position = position_by(numbers, answer, number, &facts.position)?;
+    Some(facts.at_position(position))
+}

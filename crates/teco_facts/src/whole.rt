@@ -1,5 +1,5 @@
 //! Whole numbers, as the rules have them. Contracts see the number itself.
-ghost use Rattle.std.specs.Prelude.{◌≡◌, ℕ, pos, negsuc, neg_ℤ, ◌+ℤ◌, ◌-ℤ◌, ◌*ℤ◌, ◌≤ℤ◌, ◌<◌, ◌^◌, ◌-◌, int_le, int_lt, int_div, unsigned_abs, min, FitsSigned};
+ghost use Rattle.std.specs.Prelude.{◌≡◌, ◌↔◌, IsTrue, pos, negsuc, neg_ℤ, ◌+ℤ◌, ◌-ℤ◌, ◌*ℤ◌, ◌≤ℤ◌, ◌<◌, ◌^◌, ◌-◌, int_le, int_lt, int_div, unsigned_abs, min, FitsSigned};
 ghost use Rattle.std.specs.Int.{int_min, int_max, w32, w64};
 ghost use Rattle.teco_base.specs.Arithmetic as bits;
 ghost use Rattle.teco_rules.specs.Deletions as rules;
@@ -193,5 +193,12 @@ impl Whole {
         ensures { result ≡ pos (rules.positive self) }
     {
         if self.value < 0 { Whole::ZERO } else { self }
+    }
+
+    /// Whether it is another.
+    pub fn is(self, other: Whole) -> bool
+        ensures { IsTrue result ↔ (self ≡ other) }
+    {
+        self.value == other.value
     }
 }
