@@ -3,3 +3,4 @@ pub mod Ends
 pub mod Linear
 pub mod Lists
 pub mod Falling
+pub mod Searched

@@ -2,3 +2,5 @@
 pub mod Numbers
 pub mod Does
 pub mod Seen
+pub mod Searched
+pub mod Placed

@@ -1,6 +1,7 @@
 //! Where the pointer is, and how much is ahead of it.
 ghost use Rattle.std.specs.Prelude.{◌≡◌, IfSome, map, drop, ◌∷◌, Some, Ok, pos, length, ◌<◌};
 ghost use Rattle.teco_rules.specs.Facts as facts;
+ghost use Rattle.teco_rules.specs.Flows as flows;
 ghost use Rattle.teco_rules.specs.Joins as joins;
 ghost use Rattle.teco_rules.specs.Shifts as shifts;
 ghost use Rattle.teco_facts.specs.Numbers.{IsNear, AreSmall};
@@ -153,6 +154,20 @@ impl Position {
         ensures { result ≡ record self.now { falls = Some (pos 0) ∷ self.now.falls } }
     {
         let mut falls = self.falls.copied();
+        falls.put(Some(Whole::ZERO));
+        Position {
+            margins: self.margins,
+            falls,
+            ahead: self.ahead,
+        }
+    }
+
+    /// The position where another turn begins.
+    pub fn turned(&self) -> Position
+        ensures { result ≡ flows.begun (drop 1 self.now.falls) self.now }
+    {
+        let mut falls = self.falls.copied();
+        falls.drop_front(1);
         falls.put(Some(Whole::ZERO));
         Position {
             margins: self.margins,

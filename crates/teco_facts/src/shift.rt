@@ -60,6 +60,19 @@ impl Shift {
         self.growth
     }
 
+    /// A shift.
+    pub fn of(back: u64, fore: u64, fall: Option<Whole>, growth: Poly) -> Shift
+        requires { IfSome fall IsNear }
+        ensures { result ≡ record { distances = record { back = back; fore = fore }; fall = fall; growth = growth } }
+    {
+        Shift {
+            back,
+            fore,
+            fall,
+            growth,
+        }
+    }
+
     /// A shift that is no growth.
     pub fn moving(back: u64, fore: u64, fall: Option<Whole>) -> Shift
         requires { IfSome fall IsNear }

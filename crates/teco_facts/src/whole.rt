@@ -33,6 +33,9 @@ impl Whole {
     /// 1.
     pub const ONE: Whole = Whole { value: 1 };
 
+    /// 2.
+    pub const TWO: Whole = Whole { value: 2 };
+
     /// The number itself.
     pub fn of(value: i64) -> Whole
         ensures { result ≡ value }
@@ -134,6 +137,13 @@ impl Whole {
         ensures { result ≡ int_lt self (pos 0) }
     {
         self.value < 0
+    }
+
+    /// Whether it is below 1.
+    pub fn is_below_one(self) -> bool
+        ensures { result ≡ int_lt self (pos 1) }
+    {
+        self.value < 1
     }
 
     /// Whether it is above 0.
