@@ -4,3 +4,4 @@ pub mod Linear
 pub mod Lists
 pub mod Falling
 pub mod Searched
+pub mod Popping

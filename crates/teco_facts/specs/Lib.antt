@@ -4,3 +4,4 @@ pub mod Does
 pub mod Seen
 pub mod Searched
 pub mod Placed
+pub mod Room

@@ -215,6 +215,14 @@ impl Facts {
         self.texts[register.index()]
     }
 
+    /// Takes the search's answer out.
+    pub fn take_answer(&mut self) -> Option<Answer>
+        ensures value { result ≡ self.old.answer }
+        ensures left { self.new ≡ record self.old { answer = None } }
+    {
+        self.answer.take()
+    }
+
     /// The facts with no search's answer.
     pub fn without_answer(mut self) -> Facts
         ensures { result ≡ record self { answer = None } }

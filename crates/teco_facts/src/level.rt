@@ -120,6 +120,13 @@ impl Level {
         }
     }
 
+    /// The first value, the value, and the operator.
+    pub fn parts(self) -> (Option<Number>, Option<Number>, Option<Operator>)
+        ensures { result ≡ (self.first, self.value, self.operator) }
+    {
+        (self.first, self.value, self.operator)
+    }
+
     /// The level with a value given to it.
     pub fn given(self, value: Number, margins: Margins) -> Result<Level, Refusal>
         ensures { result ≡ rules.level_with margins value self }

@@ -85,8 +85,8 @@ fn query_with(query: Query, facts: Facts) -> Result<Foreseen, Refusal>
 }
 
 /// The value that is taken, if one stands and is taken.
-pub fn value_for(query: Query, colons: u8, level: Level) -> Option<Number>
-    ensures { result ≡ queries.value_for query colons level }
+pub fn value_for(query: &Query, colons: u8, level: Level) -> Option<Number>
+    ensures { result ≡ queries.value_for query.now colons level }
 {
     let gives = matches!(query, Query::Number(_)) && colons != 0;
     if gives { None } else { level.standing() }

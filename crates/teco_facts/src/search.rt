@@ -1,6 +1,8 @@
 //! S, FS, N and FN: what is known where they found, and where they failed.
 ghost use Rattle.std.specs.Prelude.{◌≡◌, ◌≤◌, IfOk, length};
 ghost use Rattle.teco_base.specs.declared.TheConstants.{LIMIT};
+ghost use Rattle.teco_rules.specs.Arguments as arguments;
+ghost use Rattle.teco_rules.specs.Facts as known;
 ghost use Rattle.teco_rules.specs.Searches as searches;
 ghost use Rattle.teco_facts.specs.Numbers.{AreSmall};
 ghost use Rattle.teco_facts.specs.Searched as searched;
@@ -126,7 +128,8 @@ pub fn facts_of_answer(mut found: Facts, failed: Position) -> Result<Facts, Refu
 
 /// What is known before a search that took its arguments.
 pub fn facts_at_search(facts: Facts) -> Result<Facts, Refusal>
-    ensures { result ≡ searches.facts_at_search facts }
+    ensures value { result ≡ searches.facts_at_search facts }
+    ensures kept { IfOk result (λ taken. taken ≡ known.with_arguments (arguments.levels_after_taking facts.arguments) facts) }
 {
     let taken = facts.level().taken()?;
     count_checked(taken, facts.margins())?;

@@ -17,16 +17,16 @@ use teco_model::kind::Storage;
 use teco_poly::Poly;
 use teco_rules::Refusal;
 
-// The number of a register is of a range.
-fn with_number(register: Reg, number: Range, mut facts: Facts) -> Facts
+/// The number of a register is of a range.
+pub fn with_number(register: Reg, number: Range, mut facts: Facts) -> Facts
     ensures { result ≡ storages.with_number register number facts }
 {
     facts.numbers[register.index()] = number;
     facts
 }
 
-// The text of a register is at most so long.
-fn with_text(register: Reg, length: Poly, mut facts: Facts) -> Facts
+/// The text of a register is at most so long.
+pub fn with_text(register: Reg, length: Poly, mut facts: Facts) -> Facts
     ensures { result ≡ storages.with_text register length facts }
 {
     facts.texts[register.index()] = length;
@@ -41,8 +41,8 @@ fn addition(register: Reg, n: Option<Number>, facts: Facts) -> Foreseen
     Foreseen::answering(sum, with_number(register, sum, facts))
 }
 
-// A text of the library is not written.
-fn not_of_library(library: bool) -> Result<(), Refusal>
+/// A text of the library is not written.
+pub fn not_of_library(library: bool) -> Result<(), Refusal>
     ensures { result ≡ storages.not_of_library library }
 {
     if library {
