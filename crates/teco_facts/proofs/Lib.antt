@@ -5,3 +5,4 @@ pub mod Lists
 pub mod Falling
 pub mod Searched
 pub mod Popping
+pub mod Each

@@ -50,7 +50,7 @@ pub record IsShare (share times : ℤ) : Type 0 where
 
 -- a fall to which more may be added, if it is known
 pub record IsModest (fall : ℤ) : Type 0 where
-  pub low : negsuc (2 ^ 62) ≤ℤ fall
+  pub low : negsuc (2 ^ 62 - 1) ≤ℤ fall
   pub high : fall ≤ℤ pos (2 ^ 62)
 
 abbrev pub IsSmallFall : Option ℤ → Type 0

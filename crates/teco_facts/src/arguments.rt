@@ -1,5 +1,5 @@
 //! What is known of the pending arguments.
-ghost use Rattle.std.specs.Prelude.{◌≡◌, IfOk, Ok, Err, OnOk};
+ghost use Rattle.std.specs.Prelude.{◌≡◌, ◌<◌, IfOk, OnOk, length, slice_index_or};
 ghost use Rattle.teco_rules.specs.Arguments as rules;
 ghost use Rattle.teco_rules.specs.Joins as joins;
 ghost use Rattle.teco_facts.specs.Does.{Closes};
@@ -116,6 +116,21 @@ impl Arguments {
             let level = self.outer[at];
             self.outer[at] = level.settled(margins);
         }
+    }
+
+    /// How many parentheses are open.
+    pub fn depth(&self) -> usize
+        ensures { result ≡ length self.now.outer }
+    {
+        self.outer.len()
+    }
+
+    /// The level outside so many others.
+    pub fn outer_at(&self, at: usize) -> Level
+        requires { at < length self.now.outer }
+        ensures { result ≡ slice_index_or self.now.outer at result }
+    {
+        self.outer[self.outer.len() - 1 - at]
     }
 
     /// Whether nothing is pending.

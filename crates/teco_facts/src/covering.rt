@@ -1,11 +1,15 @@
 //! When what is known at the end of an edge is covered by what is known at its target.
-ghost use Rattle.std.specs.Prelude.{◌≡◌};
+ghost use Rattle.std.specs.Prelude.{◌≡◌, ◌&&◌};
 ghost use Rattle.teco_rules.specs.Covers as covers;
 
-use crate::facts::{Iteration, Pushed};
+use crate::arguments::Arguments;
+use crate::facts::{Answer, Facts, Iteration, Pushed};
+use crate::falls::Falls;
+use crate::few::Few;
 use crate::level::Level;
 use crate::margins::Margins;
 use crate::number::Number;
+use crate::position::Position;
 use crate::range::Range;
 use crate::whole::Whole;
 use teco_model::Operator;
@@ -131,4 +135,148 @@ pub fn covers_pushed(one: &Pushed, edge: &Pushed) -> bool
     ensures { result ≡ covers.covers_pushed one.now edge.now }
 {
     covers_range(one.number, edge.number) && edge.text.le(&one.text)
+}
+
+// Whether each fall is covered, of as many.
+fn covers_falls(one: &Falls, edge: &Falls) -> bool
+    ensures { result ≡ covers.each_covers covers.covers_fall one.now edge.now }
+{
+    if one.len() != edge.len() {
+        return false;
+    }
+    for at in (0..one.len()).rev() {
+        if !covers_fall(one.get(at), edge.get(at)) {
+            return false;
+        }
+    }
+    true
+}
+
+// Whether the same iterations are open.
+fn covers_iterations(one: &Few<Iteration>, edge: &Few<Iteration>) -> bool
+    ensures { result ≡ covers.each_covers covers.is_same_iteration one.now edge.now }
+{
+    if one.len() != edge.len() {
+        return false;
+    }
+    for at in (0..one.len()).rev() {
+        if !is_same_iteration(one.get(at), edge.get(at)) {
+            return false;
+        }
+    }
+    true
+}
+
+// Whether each outer level is covered, of as many.
+fn covers_outer(one: &Arguments, edge: &Arguments, margins: Margins) -> bool
+    ensures { result ≡ covers.each_covers (covers.covers_level margins) one.now.outer edge.now.outer }
+{
+    if one.depth() != edge.depth() {
+        return false;
+    }
+    for at in (0..one.depth()).rev() {
+        if !one.outer_at(at).covers(edge.outer_at(at), margins) {
+            return false;
+        }
+    }
+    true
+}
+
+// Whether each pushed pair is covered, of as many.
+fn covers_pushes(one: &Facts, edge: &Facts) -> bool
+    ensures { result ≡ covers.each_covers covers.covers_pushed one.now.pushes edge.now.pushes }
+{
+    if one.pushed() != edge.pushed() {
+        return false;
+    }
+    for at in (0..one.pushed()).rev() {
+        if !covers_pushed(&one.pushed_at(at), &edge.pushed_at(at)) {
+            return false;
+        }
+    }
+    true
+}
+
+// Whether each number is covered, of as many.
+fn covers_numbers(one: &[Range], edge: &[Range]) -> bool
+    ensures { result ≡ covers.each_covers covers.covers_interval one.now edge.now }
+{
+    if one.len() != edge.len() {
+        return false;
+    }
+    for at in (0..one.len()).rev() {
+        if !covers_range(one[at], edge[at]) {
+            return false;
+        }
+    }
+    true
+}
+
+// Whether each text is covered, of as many.
+fn covers_lengths(one: &[Poly], edge: &[Poly]) -> bool
+    ensures { result ≡ covers.each_covers covers.covers_length one.now edge.now }
+{
+    if one.len() != edge.len() {
+        return false;
+    }
+    for at in (0..one.len()).rev() {
+        if !covers_length(&one[at], &edge[at]) {
+            return false;
+        }
+    }
+    true
+}
+
+// Whether the arguments are covered: each level, of as many.
+fn covers_arguments(one: &Arguments, edge: &Arguments, margins: Margins) -> bool
+    ensures { result ≡ covers.covers_arguments margins one.now edge.now }
+{
+    one.level().covers(edge.level(), margins) && covers_outer(one, edge, margins)
+}
+
+impl Position {
+    /// Whether the position covers that of an edge.
+    pub fn covers(&self, edge: &Position) -> bool
+        ensures { result ≡ covers.covers_position self.now edge.now }
+    {
+        self.margins.covers(edge.margins)
+            && covers_falls(&self.falls, &edge.falls)
+            && edge.ahead.le(&self.ahead)
+    }
+}
+
+// Whether an answer is there only where the edge has one, whose outcomes are covered.
+fn covers_answer(one: &Option<Answer>, edge: &Option<Answer>) -> bool
+    ensures { result ≡ covers.covers_answer one.now edge.now }
+{
+    match (one, edge) {
+        (None, _) => true,
+        (Some(one), Some(edge)) => one.covers(edge),
+        (Some(_), None) => false,
+    }
+}
+
+impl Answer {
+    // Whether both outcomes are covered.
+    fn covers(&self, edge: &Answer) -> bool
+        ensures { result ≡ (covers.covers_position self.now.found edge.now.found && covers.covers_position self.now.failed edge.now.failed) }
+    {
+        self.found.covers(&edge.found) && self.failed.covers(&edge.failed)
+    }
+}
+
+impl Facts {
+    /// Whether what is known here covers what is known at the end of an edge: it says no more.
+    pub fn covers(&self, edge: &Facts) -> bool
+        ensures { result ≡ covers.covers self.now edge.now }
+    {
+        covers_arguments(&self.arguments, &edge.arguments, edge.position.margins())
+            && covers_answer(&self.answer, &edge.answer)
+            && self.position.covers(&edge.position)
+            && covers_iterations(&self.iterations, &edge.iterations)
+            && edge.held.le(&self.held)
+            && covers_numbers(&self.numbers, &edge.numbers)
+            && covers_lengths(&self.texts, &edge.texts)
+            && covers_pushes(self, edge)
+    }
 }

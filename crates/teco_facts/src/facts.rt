@@ -23,8 +23,8 @@ use teco_rules::Refusal;
 /// The positions where a search found, and where it failed.
 #[derive(Drop)]
 pub struct Answer {
-    found: Position,
-    failed: Position,
+    pub(crate) found: Position,
+    pub(crate) failed: Position,
 }
 
 impl Model for Answer {

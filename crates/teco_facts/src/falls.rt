@@ -1,5 +1,5 @@
 //! How much less is ahead since the turns of open iterations began, the innermost first.
-ghost use Rattle.std.specs.Prelude.{◌≡◌, map, ◌∷◌, [], IfSome, Option, None};
+ghost use Rattle.std.specs.Prelude.{◌≡◌, map, IfSome, IsTrue};
 ghost use Rattle.teco_rules.specs.Bodies as bodies;
 ghost use Rattle.teco_rules.specs.Joins as joins;
 ghost use Rattle.teco_rules.specs.Shifts as shifts;
@@ -7,6 +7,9 @@ ghost use Rattle.teco_facts.specs.Numbers.{IsNear, IsSmallFall, AreSmall};
 
 use crate::few::Few;
 use crate::whole::Whole;
+
+const LEAST: i64 = -4_611_686_018_427_387_904;
+const MOST: i64 = 4_611_686_018_427_387_904;
 
 /// A least fall for each open iteration, where it is known.
 pub type Falls = Few<Option<Whole>>;
@@ -87,4 +90,28 @@ pub fn falls_at_start(kept: bool, falls: &Falls) -> Falls
     let mut start = falls_if(kept, &outer);
     start.put(Some(Whole::ZERO));
     start
+}
+
+// Whether more may be added to a fall, if it is known.
+fn is_small_fall(fall: Option<Whole>) -> bool
+    ensures yes { IsTrue result → IsSmallFall fall }
+    ensures no { IsSmallFall fall → IsTrue result }
+{
+    match fall {
+        None => true,
+        Some(fall) => Whole::of(LEAST).at_most(fall) && fall.at_most(Whole::of(MOST)),
+    }
+}
+
+/// Whether more may be added to each fall.
+pub fn are_small(falls: &Falls) -> bool
+    ensures yes { IsTrue result → AreSmall falls.now }
+    ensures no { AreSmall falls.now → IsTrue result }
+{
+    for at in 0..falls.len() {
+        if !is_small_fall(falls.get(at)) {
+            return false;
+        }
+    }
+    true
 }

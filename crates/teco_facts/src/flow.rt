@@ -1,10 +1,14 @@
 //! Iterations, conditionals and tags.
-ghost use Rattle.std.specs.Prelude.{◌≡◌, ◌<◌, length};
+ghost use Rattle.std.specs.Prelude.{◌≡◌, ◌<◌, length, IsTrue};
 ghost use Rattle.teco_rules.specs.Flows as flows;
+ghost use Rattle.teco_facts.specs.Numbers.{AreSmall};
+ghost use Rattle.teco_facts.specs.Room.{HasRoom};
 ghost use Rattle.teco_facts.specs.Seen.{seen};
 ghost use Rattle.teco_facts.specs.declared.few.TheConstants.{DEPTH};
 
 use crate::facts::{Answer, Facts, Iteration};
+use crate::falls::are_small;
+use crate::few::DEPTH;
 use crate::number::Number;
 use crate::position::sum_of;
 use crate::typing::needed_value;
@@ -61,6 +65,22 @@ impl Facts {
         self.position = self.position.leaving(count);
         self.iterations.drop_front(count);
         self
+    }
+
+    /// Whether more may be added to each fall.
+    pub fn is_small(&self) -> bool
+        ensures yes { IsTrue result → AreSmall self.now.position.falls }
+        ensures no { AreSmall self.now.position.falls → IsTrue result }
+    {
+        are_small(&self.position.falls)
+    }
+
+    /// Whether one more iteration may be open.
+    pub fn has_room(&self) -> bool
+        ensures yes { IsTrue result → HasRoom self.now }
+        ensures no { HasRoom self.now → IsTrue result }
+    {
+        self.position.falls.len() < DEPTH && self.iterations.len() < DEPTH
     }
 
     // The facts in the body of an iteration that begins.

@@ -19,9 +19,9 @@ use teco_rules::Refusal;
 /// The least distances of the pointer, the least fall of each open iteration, and how much is ahead.
 #[derive(Drop)]
 pub struct Position {
-    margins: Margins,
-    falls: Falls,
-    ahead: Poly,
+    pub(crate) margins: Margins,
+    pub(crate) falls: Falls,
+    pub(crate) ahead: Poly,
 }
 
 impl Model for Position {

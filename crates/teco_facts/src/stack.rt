@@ -1,5 +1,5 @@
 //! The push-down list.
-ghost use Rattle.std.specs.Prelude.{◌≡◌, IfOk, length, nat_lt};
+ghost use Rattle.std.specs.Prelude.{◌≡◌, IfOk, ◌<◌, length, nat_lt, slice_index_or};
 ghost use Rattle.std.specs.List.{list_all};
 ghost use Rattle.teco_facts.specs.Does.{Pops};
 ghost use Rattle.teco_rules.specs.Facts as rules;
@@ -17,6 +17,14 @@ impl Facts {
         ensures { result ≡ length self.now.pushes }
     {
         self.pushes.len()
+    }
+
+    /// The pair that was pushed before so many others.
+    pub fn pushed_at(&self, at: usize) -> Pushed
+        requires { at < length self.now.pushes }
+        ensures { result ≡ slice_index_or self.now.pushes at result }
+    {
+        self.pushes[self.pushes.len() - 1 - at]
     }
 
     // Takes the pair that was pushed last.
