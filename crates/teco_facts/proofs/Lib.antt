@@ -6,3 +6,4 @@ pub mod Falling
 pub mod Searched
 pub mod Popping
 pub mod Each
+pub mod Unknown

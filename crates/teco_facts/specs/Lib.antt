@@ -5,3 +5,4 @@ pub mod Seen
 pub mod Searched
 pub mod Placed
 pub mod Room
+pub mod Chosen

@@ -182,8 +182,8 @@ fn covers_outer(one: &Arguments, edge: &Arguments, margins: Margins) -> bool
     true
 }
 
-// Whether each pushed pair is covered, of as many.
-fn covers_pushes(one: &Facts, edge: &Facts) -> bool
+/// Whether each pushed pair is covered, of as many.
+pub fn covers_pushes(one: &Facts, edge: &Facts) -> bool
     ensures { result ≡ covers.each_covers covers.covers_pushed one.now.pushes edge.now.pushes }
 {
     if one.pushed() != edge.pushed() {
@@ -197,8 +197,8 @@ fn covers_pushes(one: &Facts, edge: &Facts) -> bool
     true
 }
 
-// Whether each number is covered, of as many.
-fn covers_numbers(one: &[Range], edge: &[Range]) -> bool
+/// Whether each number is covered, of as many.
+pub fn covers_numbers(one: &[Range], edge: &[Range]) -> bool
     ensures { result ≡ covers.each_covers covers.covers_interval one.now edge.now }
 {
     if one.len() != edge.len() {
@@ -212,8 +212,8 @@ fn covers_numbers(one: &[Range], edge: &[Range]) -> bool
     true
 }
 
-// Whether each text is covered, of as many.
-fn covers_lengths(one: &[Poly], edge: &[Poly]) -> bool
+/// Whether each text is covered, of as many.
+pub fn covers_lengths(one: &[Poly], edge: &[Poly]) -> bool
     ensures { result ≡ covers.each_covers covers.covers_length one.now edge.now }
 {
     if one.len() != edge.len() {

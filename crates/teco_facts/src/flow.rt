@@ -67,6 +67,13 @@ impl Facts {
         self
     }
 
+    /// How many iterations are open.
+    pub fn open(&self) -> usize
+        ensures { result ≡ length self.now.iterations }
+    {
+        self.iterations.len()
+    }
+
     /// Whether more may be added to each fall.
     pub fn is_small(&self) -> bool
         ensures yes { IsTrue result → AreSmall self.now.position.falls }

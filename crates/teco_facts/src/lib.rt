@@ -3,6 +3,7 @@
 
 mod arguments;
 mod arithmetic;
+mod body;
 mod covering;
 mod deletion;
 mod digits;
@@ -38,7 +39,7 @@ pub use facts::{Answer, Facts, Foreseen, Iteration, Pushed};
 pub use falls::Falls;
 pub use fault::Fault;
 pub use few::Few;
-pub use flow::Edges;
+pub use flow::{Edges, turns};
 pub use level::{Level, Taken};
 pub use margins::Margins;
 pub use number::Number;
@@ -47,5 +48,9 @@ pub use position::Position;
 pub use printed::{Needs, needs_of, steps};
 pub use range::Range;
 pub use shift::Shift;
+pub use body::{Choice, body_start, growth_of, held_last};
 pub use edges::{Placed, transfer, transfer_return};
 pub use whole::Whole;
+
+#[cfg(test)]
+mod tests;
