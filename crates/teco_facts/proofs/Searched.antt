@@ -27,6 +27,7 @@ few (suc most) (b ∷ text) ps h = first_of_all (λ rest qs. few most rest qs) (
     others_too : ((rest : List ℕ) (qs : List Part) → model.parts_within most rest ≡ Ok qs → length qs ≤ most) → (p : Part × List ℕ) (others : Result (List Part) Code) → model.parts_within most p.1 ≡ others → (others >>= (λ rest. Ok (p.0 ∷ rest))) ≡ Ok ps → length ps ≤ suc most
     others_too fewer p (Err c) e g = absurd (cc)
     others_too fewer p (Ok rest) e g = let is : p.0 ∷ rest ≡ ps = (cc) in let less = fewer p.1 rest e in rw (← is) (omega arith)
+
     first_of_all : ((rest : List ℕ) (qs : List Part) → model.parts_within most rest ≡ Ok qs → length qs ≤ most) → (first : Result (Part × List ℕ) Code) → (first >>= (λ p. model.parts_within most p.1 >>= (λ rest. Ok (p.0 ∷ rest)))) ≡ Ok ps → length ps ≤ suc most
     first_of_all fewer (Err c) g = absurd (cc)
     first_of_all fewer (Ok p) g = others_too fewer p (model.parts_within most p.1) refl g

@@ -28,7 +28,14 @@ fn least_share(least: u32, times: Whole) -> Whole
     ensures value { result ≡ values.least_share least times }
     ensures share { IsShare result times }
 {
-    share(if times.is_negative() { LIMIT as u32 } else { least }, times)
+    share(
+        if times.is_negative() {
+            LIMIT as u32
+        } else {
+            least
+        },
+        times,
+    )
 }
 
 // How much a distance of at least `least` counts at the most.
@@ -39,7 +46,14 @@ fn most_share(least: u32, times: Whole) -> Whole
     ensures ordered { values.least_share least times ≤ℤ result }
     ensures share { IsShare result times }
 {
-    share(if times.is_negative() { least } else { LIMIT as u32 }, times)
+    share(
+        if times.is_negative() {
+            least
+        } else {
+            LIMIT as u32
+        },
+        times,
+    )
 }
 
 // The range of a number.
@@ -60,7 +74,13 @@ pub fn range_of(margins: Margins, ahead: Whole, behind: Whole, lo: Whole, hi: Wh
 }
 
 /// The least that a number can be.
-pub fn least_of(margins: Margins, ahead: Whole, behind: Whole, lo: Whole, hi: Whole) -> Option<Whole>
+pub fn least_of(
+    margins: Margins,
+    ahead: Whole,
+    behind: Whole,
+    lo: Whole,
+    hi: Whole,
+) -> Option<Whole>
     requires ahead_small { IsSmall ahead }
     requires behind_small { IsSmall behind }
     requires low { negsuc (2 ^ 35) ≤ℤ lo }

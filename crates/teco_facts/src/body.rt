@@ -48,11 +48,7 @@ impl Position {
         Position {
             margins: Margins::nowhere(),
             falls: falls_at_start(choice.kept, &self.falls),
-            ahead: if choice.kept {
-                self.ahead
-            } else {
-                choice.held
-            },
+            ahead: if choice.kept { self.ahead } else { choice.held },
         }
     }
 
@@ -100,7 +96,12 @@ pub fn growth_of(start: &Poly, end: &Poly) -> Result<Poly, Refusal>
 }
 
 // What is held at the start of the last turn, from what is at its <, and at the end of a turn.
-fn held_at_last(choice: &Choice, turns: &Poly, entering: &Facts, end: &Facts) -> Result<Poly, Refusal>
+fn held_at_last(
+    choice: &Choice,
+    turns: &Poly,
+    entering: &Facts,
+    end: &Facts,
+) -> Result<Poly, Refusal>
     ensures { result ≡ chosen.held_at_last choice.now turns.now entering.now end.now }
 {
     let growth = growth_of(&choice.held, &end.held)?;
@@ -163,7 +164,14 @@ fn begins_again(choice: &Choice, written: &[bool; REGISTERS], entering: &Facts, 
 
 impl Choice {
     // Whether the next turn may begin where one ends.
-    fn returns(&self, written: &[bool; REGISTERS], counted: bool, turns: &Poly, entering: &Facts, end: &Facts) -> bool
+    fn returns(
+        &self,
+        written: &[bool; REGISTERS],
+        counted: bool,
+        turns: &Poly,
+        entering: &Facts,
+        end: &Facts,
+    ) -> bool
         ensures { result ≡ bodies.returns self.now written.now counted turns.now entering.now end.now }
     {
         counts(counted, &end.position)
@@ -173,7 +181,14 @@ impl Choice {
     }
 
     /// Whether the choice stands: it begins and, if the > is reached, the next turn may begin there.
-    pub fn stands(&self, written: &[bool; REGISTERS], counted: bool, turns: &Poly, entering: &Facts, end: &Option<Facts>) -> bool
+    pub fn stands(
+        &self,
+        written: &[bool; REGISTERS],
+        counted: bool,
+        turns: &Poly,
+        entering: &Facts,
+        end: &Option<Facts>,
+    ) -> bool
         ensures { result ≡ bodies.stands self.now written.now counted turns.now entering.now end.now }
     {
         match end {

@@ -24,11 +24,7 @@ fn character_deletion(margins: Margins, n: Range) -> Result<Shift, Refusal>
     let behind = n.lo().negated().positive();
     let ahead = n.hi().positive();
     if ahead <= fore && behind <= back {
-        Ok(Shift::moving(
-            back - behind,
-            fore - ahead,
-            Some(n.lo().raised()),
-        ))
+        Ok(Shift::moving(back - behind, fore - ahead, Some(n.lo().raised())))
     } else {
         Err(Refusal::Deletion)
     }
@@ -44,7 +40,11 @@ fn range_deletion(m: Number, n: Number, margins: Margins) -> Result<Shift, Refus
 }
 
 // A part, or the lines that the argument counts.
-fn part_deletion(first: Option<Number>, value: Option<Number>, facts: Facts) -> Result<Foreseen, Refusal>
+fn part_deletion(
+    first: Option<Number>,
+    value: Option<Number>,
+    facts: Facts,
+) -> Result<Foreseen, Refusal>
     requires { AreSmall facts.position.falls }
     ensures { result ≡ deletions.part_deletion first value facts }
 {
@@ -62,7 +62,11 @@ fn part_deletion(first: Option<Number>, value: Option<Number>, facts: Facts) -> 
 }
 
 // So many characters, or a part.
-fn deletion_of_characters(first: Option<Number>, value: Option<Number>, facts: Facts) -> Result<Foreseen, Refusal>
+fn deletion_of_characters(
+    first: Option<Number>,
+    value: Option<Number>,
+    facts: Facts,
+) -> Result<Foreseen, Refusal>
     requires { AreSmall facts.position.falls }
     ensures { result ≡ deletions.deletion_of Characters first value facts }
 {

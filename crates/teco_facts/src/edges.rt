@@ -28,12 +28,11 @@ use crate::pages::page;
 use crate::position::Position;
 use crate::query::{facts_after_query, value_for};
 use crate::range::Range;
-use crate::search;
-use crate::stack;
 use crate::storage::storage;
 use crate::typing::typing;
 use crate::ways::Numbers;
 use crate::whole::Whole;
+use crate::{search, stack};
 use std::alloc::AllocError;
 use teco_base::LIMIT;
 use teco_model::Element;
@@ -81,7 +80,12 @@ pub fn facts_after_value(value: Value, facts: Facts) -> Result<Facts, Refusal>
 }
 
 // What a command does with the arguments that it took.
-fn execution(command: Command, placed: &Placed<'_>, taken: Taken, facts: Facts) -> Result<Foreseen, Refusal>
+fn execution(
+    command: Command,
+    placed: &Placed<'_>,
+    taken: Taken,
+    facts: Facts,
+) -> Result<Foreseen, Refusal>
     requires { AreSmall facts.position.falls }
     ensures { result ≡ rules.execution command (seen placed.now) taken facts }
 {
@@ -103,7 +107,11 @@ fn execution(command: Command, placed: &Placed<'_>, taken: Taken, facts: Facts) 
 }
 
 // What a command leaves that took its arguments.
-fn facts_after_command(command: Command, placed: &Placed<'_>, facts: Facts) -> Result<Facts, Refusal>
+fn facts_after_command(
+    command: Command,
+    placed: &Placed<'_>,
+    facts: Facts,
+) -> Result<Facts, Refusal>
     requires { AreSmall facts.position.falls }
     ensures { result ≡ rules.facts_after_command command (seen placed.now) facts }
 {
@@ -190,7 +198,12 @@ fn on_with_memory(changed: Result<Facts, Fault>) -> Result<Edges, Fault>
 }
 
 // The edges behind a search, from the facts where it found, the position where it failed, and what was known before it.
-fn search_outcomes(colon: bool, found: Facts, failed: Position, before: Facts) -> Result<Edges, Refusal>
+fn search_outcomes(
+    colon: bool,
+    found: Facts,
+    failed: Position,
+    before: Facts,
+) -> Result<Edges, Refusal>
     ensures { result ≡ rules.search_outcomes colon found (known.at_position failed before) }
 {
     if colon {
@@ -216,7 +229,12 @@ fn search_allowed(inside: bool, colon: bool) -> Result<(), Refusal>
 }
 
 // The edges behind a search, from the same facts twice.
-fn search_edges(kind: Search, placed: &Placed<'_>, facts: Facts, again: Facts) -> Result<Edges, Refusal>
+fn search_edges(
+    kind: Search,
+    placed: &Placed<'_>,
+    facts: Facts,
+    again: Facts,
+) -> Result<Edges, Refusal>
     requires same { again ≡ facts }
     requires small { AreSmall facts.position.falls }
     requires within { length placed.now.element.text.now ≤ LIMIT }
@@ -232,7 +250,14 @@ fn search_edges(kind: Search, placed: &Placed<'_>, facts: Facts, again: Facts) -
 }
 
 // The edges behind an element of flow, from the same facts twice.
-fn flow_edges(kind: Flow, colons: u8, leaves: u32, answer: &Option<Answer>, facts: Facts, again: Facts) -> Result<Edges, Refusal>
+fn flow_edges(
+    kind: Flow,
+    colons: u8,
+    leaves: u32,
+    answer: &Option<Answer>,
+    facts: Facts,
+    again: Facts,
+) -> Result<Edges, Refusal>
     requires same { again ≡ facts }
     requires room { kind ≡ flow.Iterate → HasRoom facts }
     ensures { result ≡ flows.flow_edges kind colons leaves answer.now facts }
@@ -282,7 +307,12 @@ fn file_edges(facts: &Facts) -> Result<Edges, Refusal>
 }
 
 // The edges behind an element of a kind, from the same facts twice.
-fn edges_of(placed: &Placed<'_>, answer: &Option<Answer>, facts: Facts, again: Facts) -> Result<Edges, Fault>
+fn edges_of(
+    placed: &Placed<'_>,
+    answer: &Option<Answer>,
+    facts: Facts,
+    again: Facts,
+) -> Result<Edges, Fault>
     requires same { again ≡ facts }
     requires small { AreSmall facts.position.falls }
     requires room { placed.now.element.kind ≡ kind.Flow flow.Iterate → HasRoom facts }
@@ -300,8 +330,14 @@ fn edges_of(placed: &Placed<'_>, answer: &Option<Answer>, facts: Facts, again: F
         }
         Kind::Stack(kind) => stack_edges(kind, placed.library, facts),
         Kind::Call(_) => Ok(Edges::on(facts)),
-        Kind::Flow(kind) => flow_edges(kind, element.colons, placed.leaves, answer, facts, again)
-            .map_err(Fault::Refused),
+        Kind::Flow(kind) => flow_edges(
+            kind,
+            element.colons,
+            placed.leaves,
+            answer,
+            facts,
+            again,
+        ).map_err(Fault::Refused),
         Kind::Command(kind) => on(facts_after_command(kind, placed, facts)),
         Kind::Page(kind) => on(facts_after_page(kind, facts)),
         Kind::Search(kind) => search_edges(kind, placed, facts, again).map_err(Fault::Refused),

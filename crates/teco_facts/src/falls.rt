@@ -9,6 +9,7 @@ use crate::few::Few;
 use crate::whole::Whole;
 
 const LEAST: i64 = -4_611_686_018_427_387_904;
+
 const MOST: i64 = 4_611_686_018_427_387_904;
 
 /// A least fall for each open iteration, where it is known.

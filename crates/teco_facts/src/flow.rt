@@ -234,7 +234,12 @@ fn leaving_numbers(colons: u8) -> Numbers
 }
 
 /// Semicolons leave their iteration, or go on.
-pub fn leave(colons: u8, answer: &Option<Answer>, facts: Facts, again: Facts) -> Result<Edges, Refusal>
+pub fn leave(
+    colons: u8,
+    answer: &Option<Answer>,
+    facts: Facts,
+    again: Facts,
+) -> Result<Edges, Refusal>
     requires same { again ≡ facts }
     ensures { result ≡ flows.leave colons answer.now facts }
 {
@@ -249,7 +254,12 @@ pub fn leave(colons: u8, answer: &Option<Answer>, facts: Facts, again: Facts) ->
 }
 
 /// A conditional goes on where its test holds.
-pub fn conditional(numbers: Numbers, answer: &Option<Answer>, facts: Facts, again: Facts) -> Result<Edges, Refusal>
+pub fn conditional(
+    numbers: Numbers,
+    answer: &Option<Answer>,
+    facts: Facts,
+    again: Facts,
+) -> Result<Edges, Refusal>
     requires same { again ≡ facts }
     ensures { result ≡ flows.conditional (seen numbers) answer.now facts }
 {

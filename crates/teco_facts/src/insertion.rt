@@ -21,7 +21,12 @@ fn insertion_of_length(n: usize, facts: Facts) -> Result<Foreseen, Refusal>
 }
 
 /// An insertion of its text, or of a byte.
-pub fn insertion(insertion: Insertion, text: &[u8], taken: Taken, facts: Facts) -> Result<Foreseen, Refusal>
+pub fn insertion(
+    insertion: Insertion,
+    text: &[u8],
+    taken: Taken,
+    facts: Facts,
+) -> Result<Foreseen, Refusal>
     requires { AreSmall facts.position.falls }
     ensures { result ≡ insertions.insertion insertion text.now taken facts }
 {

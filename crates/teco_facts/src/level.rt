@@ -62,7 +62,12 @@ impl Taken {
 }
 
 // What an operator makes of two values.
-fn applied(operator: Operator, one: Number, two: Number, margins: Margins) -> Result<Number, Refusal>
+fn applied(
+    operator: Operator,
+    one: Number,
+    two: Number,
+    margins: Margins,
+) -> Result<Number, Refusal>
     ensures { result ≡ rules.result_of margins operator one two }
 {
     match operator {
@@ -76,12 +81,22 @@ fn applied(operator: Operator, one: Number, two: Number, margins: Margins) -> Re
 }
 
 // A value with a pending operator applied.
-fn operated(value: Number, standing: Option<Number>, operator: Option<Operator>, margins: Margins) -> Result<Number, Refusal>
+fn operated(
+    value: Number,
+    standing: Option<Number>,
+    operator: Option<Operator>,
+    margins: Margins,
+) -> Result<Number, Refusal>
     ensures { result ≡ rules.value_with margins value standing operator }
 {
     match operator {
         None => Ok(value),
-        Some(operator) => applied(operator, standing.unwrap_or(Number::single(0)), value, margins),
+        Some(operator) => applied(
+            operator,
+            standing.unwrap_or(Number::single(0)),
+            value,
+            margins,
+        ),
     }
 }
 
@@ -173,7 +188,9 @@ impl Level {
     pub fn with_pair(self, one: Number, two: Number, margins: Margins) -> Result<Level, Refusal>
         ensures { result ≡ rules.level_with_pair margins one two self }
     {
-        self.given(one, margins)?.parted(margins)?.given(two, margins)
+        self.given(one, margins)?
+            .parted(margins)?
+            .given(two, margins)
     }
 
     /// The value of a level in parentheses.

@@ -29,12 +29,13 @@ mod search;
 mod shift;
 mod stack;
 mod storage;
-
 mod typing;
 mod ways;
 mod whole;
 
 pub use arguments::Arguments;
+pub use body::{Choice, body_start, growth_of, held_last};
+pub use edges::{Placed, transfer, transfer_return};
 pub use facts::{Answer, Facts, Foreseen, Iteration, Pushed};
 pub use falls::Falls;
 pub use fault::Fault;
@@ -48,8 +49,6 @@ pub use position::Position;
 pub use printed::{Needs, needs_of, steps};
 pub use range::Range;
 pub use shift::Shift;
-pub use body::{Choice, body_start, growth_of, held_last};
-pub use edges::{Placed, transfer, transfer_return};
 pub use whole::Whole;
 
 #[cfg(test)]

@@ -80,7 +80,12 @@ pub fn shift_by_lines(back: Option<Whole>, margins: Margins, n: Range) -> Shift
 }
 
 // To the place that the argument names; with a colon it may fail.
-fn motion_to(motion: Motion, colons: u8, n: Option<Number>, facts: Facts) -> Result<Foreseen, Refusal>
+fn motion_to(
+    motion: Motion,
+    colons: u8,
+    n: Option<Number>,
+    facts: Facts,
+) -> Result<Foreseen, Refusal>
     requires { AreSmall facts.position.falls }
     ensures { result ≡ motions.motion_to motion colons n facts }
 {

@@ -176,10 +176,7 @@ impl Number {
     pub fn product(self, other: Number, margins: Margins) -> Number
         ensures { result ≡ values.product margins self other }
     {
-        Number::within(arithmetic::product_of(
-            self.range(margins),
-            other.range(margins),
-        ))
+        Number::within(arithmetic::product_of(self.range(margins), other.range(margins)))
     }
 
     /// The quotient, where the divisor cannot be 0.

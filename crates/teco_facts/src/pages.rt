@@ -35,7 +35,11 @@ fn append(value: Option<Number>, facts: Facts) -> Result<Foreseen, Refusal>
         return Ok(Foreseen::answering(character(), facts));
     }
     let margins = facts.margins();
-    let shift = Shift::moving(u64::from(margins.back()), u64::from(margins.fore()), Some(Whole::ZERO));
+    let shift = Shift::moving(
+        u64::from(margins.back()),
+        u64::from(margins.fore()),
+        Some(Whole::ZERO),
+    );
     Foreseen::behind(&shift, facts)
 }
 

@@ -9,6 +9,7 @@ use crate::whole::Whole;
 use std::marker::Model;
 
 const LEAST: i64 = -536_870_912;
+
 const MOST: i64 = 536_870_912;
 
 /// A sum or a difference, which may be a place in the buffer.

@@ -52,13 +52,7 @@ fn ahead_after(by: Option<Whole>, held: Poly, ahead: Poly) -> Poly
 {
     match by {
         None => held,
-        Some(by) => {
-            if by.is_negative() {
-                held
-            } else {
-                ahead
-            }
-        }
+        Some(by) => { if by.is_negative() { held } else { ahead } }
     }
 }
 

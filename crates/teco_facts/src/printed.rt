@@ -32,7 +32,11 @@ impl Model for Needs {
 }
 
 // A step for each page, or one for a part.
-fn steps_of_pages(first: Option<Number>, value: Option<Number>, facts: &Facts) -> Result<Poly, Refusal>
+fn steps_of_pages(
+    first: Option<Number>,
+    value: Option<Number>,
+    facts: &Facts,
+) -> Result<Poly, Refusal>
     ensures { result ≡ printed.steps_of_pages first value facts.now }
 {
     if first.is_some() && value.is_some() {

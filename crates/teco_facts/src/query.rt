@@ -114,7 +114,12 @@ fn facts_taken(query: Query, facts: Facts) -> Result<Facts, Refusal>
 }
 
 /// A query gives a value, or takes one.
-pub fn facts_after_query(query: Query, colons: u8, taken: Option<Number>, facts: Facts) -> Result<Facts, Refusal>
+pub fn facts_after_query(
+    query: Query,
+    colons: u8,
+    taken: Option<Number>,
+    facts: Facts,
+) -> Result<Facts, Refusal>
     requires { AreSmall facts.position.falls }
     ensures { result ≡ queries.facts_after_query query colons taken facts }
 {

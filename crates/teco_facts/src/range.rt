@@ -7,6 +7,7 @@ use crate::whole::Whole;
 use std::marker::Model;
 
 const LEAST: i64 = -2_147_483_648;
+
 const MOST: i64 = 2_147_483_647;
 
 /// The numbers from one of 32 bits to another.

@@ -87,7 +87,9 @@ fn position_failed_in(colons: u8, facts: &Facts) -> Position
     }
     let margins = facts.margins();
     let fore = u64::from(margins.back()) + u64::from(margins.fore());
-    facts.position.after(&Shift::moving(0, fore, None), facts.held())
+    facts
+        .position
+        .after(&Shift::moving(0, fore, None), facts.held())
 }
 
 /// The position where a search failed.
@@ -104,7 +106,12 @@ pub fn position_failed(search: Search, colons: u8, facts: &Facts) -> Position
 }
 
 /// The facts where it found a text, for which another is put in.
-pub fn facts_found(search: Search, text: &[u8], second: &[u8], facts: Facts) -> Result<Facts, Refusal>
+pub fn facts_found(
+    search: Search,
+    text: &[u8],
+    second: &[u8],
+    facts: Facts,
+) -> Result<Facts, Refusal>
     requires small { AreSmall facts.position.falls }
     requires within { length text.now ≤ LIMIT }
     requires second_within { length second.now ≤ LIMIT }

@@ -8,8 +8,8 @@ use crate::facts::{Facts, Foreseen};
 use crate::level::Taken;
 use crate::motion::count_of;
 use crate::number::Number;
-use crate::range::Range;
 use crate::position::sum_of;
+use crate::range::Range;
 use crate::shift::Shift;
 use crate::typing::{needed_value, part_named};
 use teco_base::Reg;
@@ -65,7 +65,13 @@ fn text_storage(colons: u8, register: Reg, length: Poly, facts: Facts) -> Result
 }
 
 // A part of the buffer is copied.
-fn copy(library: bool, colons: u8, register: Reg, taken: Taken, facts: Facts) -> Result<Foreseen, Refusal>
+fn copy(
+    library: bool,
+    colons: u8,
+    register: Reg,
+    taken: Taken,
+    facts: Facts,
+) -> Result<Foreseen, Refusal>
     ensures { result ≡ storages.copy library colons register taken facts }
 {
     part_named(taken.first(), taken.value(), facts.margins())?;
@@ -75,7 +81,14 @@ fn copy(library: bool, colons: u8, register: Reg, taken: Taken, facts: Facts) ->
 }
 
 // Its own text is stored.
-fn own_text_storage(library: bool, colons: u8, register: Reg, text: &[u8], value: Option<Number>, facts: Facts) -> Result<Foreseen, Refusal>
+fn own_text_storage(
+    library: bool,
+    colons: u8,
+    register: Reg,
+    text: &[u8],
+    value: Option<Number>,
+    facts: Facts,
+) -> Result<Foreseen, Refusal>
     ensures { result ≡ storages.own_text_storage library colons register text.now value facts }
 {
     if value.is_some() {
@@ -99,7 +112,14 @@ fn retrieval(colons: u8, register: Reg, facts: Facts) -> Result<Foreseen, Refusa
 }
 
 /// What is done with a register.
-pub fn storage(storage: Storage, library: bool, colons: u8, text: &[u8], taken: Taken, facts: Facts) -> Result<Foreseen, Refusal>
+pub fn storage(
+    storage: Storage,
+    library: bool,
+    colons: u8,
+    text: &[u8],
+    taken: Taken,
+    facts: Facts,
+) -> Result<Foreseen, Refusal>
     requires { AreSmall facts.position.falls }
     ensures { result ≡ storages.storage storage library colons text.now taken facts }
 {

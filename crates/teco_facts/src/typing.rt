@@ -12,7 +12,11 @@ use teco_model::kind::Typing;
 use teco_rules::Refusal;
 
 /// Two places that are known to lie in the buffer, if there are two.
-pub fn part_named(first: Option<Number>, value: Option<Number>, margins: Margins) -> Result<(), Refusal>
+pub fn part_named(
+    first: Option<Number>,
+    value: Option<Number>,
+    margins: Margins,
+) -> Result<(), Refusal>
     ensures { result ≡ typings.part_named first value margins }
 {
     if let (Some(m), Some(n)) = (first, value) {

@@ -141,7 +141,13 @@ fn with_fore(margins: Margins, least: u64) -> Margins
 }
 
 // The least of the distance that a number is, plus or minus, is raised.
-fn raised_by(numbers: Numbers, ahead: Whole, behind: Whole, k: Whole, margins: Margins) -> Option<Margins>
+fn raised_by(
+    numbers: Numbers,
+    ahead: Whole,
+    behind: Whole,
+    k: Whole,
+    margins: Margins,
+) -> Option<Margins>
     requires { IsNear k }
     ensures { result ≡ ways.raised_by (seen numbers) ahead behind k margins }
 {
@@ -149,13 +155,17 @@ fn raised_by(numbers: Numbers, ahead: Whole, behind: Whole, k: Whole, margins: M
         let least = numbers.least_taking(margins.fore(), k)?;
         Some(with_fore(margins, least))
     } else if ahead.is(Whole::MINUS_ONE) && behind.is(Whole::ZERO) {
-        let least = numbers.opposite().least_taking(margins.fore(), k.negated())?;
+        let least = numbers
+            .opposite()
+            .least_taking(margins.fore(), k.negated())?;
         Some(with_fore(margins, least))
     } else if ahead.is(Whole::ZERO) && behind.is(Whole::ONE) {
         let least = numbers.least_taking(margins.back(), k)?;
         Some(with_back(margins, least))
     } else if ahead.is(Whole::ZERO) && behind.is(Whole::MINUS_ONE) {
-        let least = numbers.opposite().least_taking(margins.back(), k.negated())?;
+        let least = numbers
+            .opposite()
+            .least_taking(margins.back(), k.negated())?;
         Some(with_back(margins, least))
     } else {
         Some(margins)
@@ -200,7 +210,12 @@ fn position_of(numbers: Numbers, answer: &Answer, position: &Position) -> Option
 }
 
 // The position on the way of what is tested.
-fn position_by(numbers: Numbers, answer: &Option<Answer>, number: Number, position: &Position) -> Option<Position>
+fn position_by(
+    numbers: Numbers,
+    answer: &Option<Answer>,
+    number: Number,
+    position: &Position,
+) -> Option<Position>
     ensures { result ≡ ways.position_by (seen numbers) answer.now number position.now }
 {
     match answer {

@@ -191,11 +191,7 @@ impl Whole {
         ensures value { result ≡ rules.positive self }
         ensures small { result < 2 ^ 63 }
     {
-        if self.value < 0 {
-            0
-        } else {
-            self.value as u64
-        }
+        if self.value < 0 { 0 } else { self.value as u64 }
     }
 
     /// The number, or 0 where that is greater.
