@@ -44,6 +44,13 @@ impl Edges {
         }
     }
 
+    /// The facts of the edge that goes on, where it is reached.
+    pub fn forward(self) -> Option<Facts>
+        ensures { result ≡ self.on }
+    {
+        self.on
+    }
+
     /// It goes away.
     pub fn away(facts: Facts) -> Edges
         ensures { result ≡ flows.goes_away facts }

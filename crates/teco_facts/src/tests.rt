@@ -20,38 +20,43 @@ fn is_answered(text: &[u8], next: usize) -> bool {
         )
 }
 
-// The edges behind an element of a text whose register A is one of the library's.
-fn edges(text: &[u8], element: Element<'_>, library: bool, facts: &Facts) -> Result<Edges, Fault> {
-    let placed = Placed {
-        element,
-        library,
-        inside: facts.open() > 0,
-        colon: element.colons > 0 || is_answered(text, element.next),
-        leaves: 0,
-    };
-    let fits = placed.element.text.len() <= LIMIT && placed.element.second.len() <= LIMIT;
-    if !fits || !facts.is_small() || !facts.has_room() {
-        return Err(Fault::Refused(Refusal::Size));
+// The facts behind the element at a place, along the edge that goes on, and the place behind it.
+fn stepped(text: &[u8], at: usize, library: bool, facts: &Facts) -> Result<(Facts, usize), Fault> {
+    if at > text.len() {
+        return Err(Fault::Refused(Refusal::Fault));
     }
-    transfer(&placed, facts)
+    match element(text, at) {
+        Ok(Some(element)) => {
+            let next = element.next;
+            let colon = element.colons > 0 || is_answered(text, next);
+            let fits = element.text.len() <= LIMIT && element.second.len() <= LIMIT;
+            if !fits || !facts.is_small() || !facts.has_room() {
+                return Err(Fault::Refused(Refusal::Size));
+            }
+            let placed = Placed {
+                element,
+                library,
+                inside: facts.open() > 0,
+                colon,
+                leaves: 0,
+            };
+            match transfer(&placed, facts)?.forward() {
+                Some(facts) => Ok((facts, next)),
+                None => Err(Fault::Refused(Refusal::Partner)),
+            }
+        }
+        _ => Err(Fault::Refused(Refusal::Fault)),
+    }
 }
 
-// The facts behind so many elements, along the edges that go on.
+// The facts behind so many elements.
 fn behind(alloc: Global, text: &[u8], count: usize, library: bool) -> Result<Facts, Fault> {
     let mut facts = Facts::entry(alloc);
     let mut at = 0;
     for _ in 0..count {
-        if at > text.len() {
-            return Err(Fault::Refused(Refusal::Fault));
-        }
-        let Ok(Some(element)) = element(text, at) else {
-            return Err(Fault::Refused(Refusal::Fault));
-        };
-        at = element.next;
-        facts = match edges(text, element, library, &facts)?.on {
-            Some(facts) => facts,
-            None => return Err(Fault::Refused(Refusal::Partner)),
-        };
+        let (after, next) = stepped(text, at, library, &facts)?;
+        facts = after;
+        at = next;
     }
     Ok(facts)
 }
