@@ -1,5 +1,5 @@
 -- The ends of a number's range have 32 bits.
-use Rattle.std.proofs.Common.{◌≡◌, ℤ, pos, negsuc, ◌+ℤ◌, ◌≤ℤ◌, FitsSigned, w64, arith}
+use Rattle.std.proofs.Common.{◌≡◌, ℤ, ◌+ℤ◌, ◌≤ℤ◌, FitsSigned, w64, arith}
 use Rattle.std.proofs.lemmas.Int.{ints}
 use Rattle.teco_facts.specs.Numbers.{IsNumber, IsShare, IsRange}
 

@@ -1,5 +1,5 @@
 -- Falls that are gone through from their end.
-use Rattle.std.proofs.Common.{◌≡◌, refl, sym, ap, ◌∙◌, zero, suc, ℕ, ℤ, pos, Bool, Some, ◌-◌, ◌<◌, ◌≤◌, min, Option, List, [], ◌∷◌, length, map, drop, rules, ⊎_elim, length-drop, arith}
+use Rattle.std.proofs.Common.{◌≡◌, refl, ℕ, ℤ, pos, Bool, Some, ◌<◌, ◌≤◌, min, Option, List, [], ◌∷◌, length, map, drop, ⊎_elim, length-drop, arith}
 use Rattle.std.proofs.lemmas.List.{drop_all, length-map}
 use Rattle.std.proofs.lemmas.Bool.{cases_lt}
 use Rattle.teco_rules.specs.Bodies.{fall_if, falls_at_start}

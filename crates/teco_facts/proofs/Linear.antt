@@ -1,5 +1,5 @@
 -- What is linear may be kept.
-use Rattle.std.proofs.Common.{◌≡◌, refl, ℤ, pos, negsuc, ◌+ℤ◌, ◌-ℤ◌, ◌≤ℤ◌, Bool, true, false, int_le, ◌&&◌, arith}
+use Rattle.std.proofs.Common.{◌≡◌, refl, ℤ, pos, negsuc, ◌-ℤ◌, ◌≤ℤ◌, Bool, true, false, int_le, ◌&&◌, arith}
 use Rattle.std.proofs.lemmas.Int.{ints}
 use Rattle.teco_rules.specs.Values.{least_share, most_share, is_sign, is_linear}
 use Rattle.teco_facts.specs.Numbers.{IsNumber}

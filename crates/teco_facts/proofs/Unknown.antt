@@ -1,5 +1,5 @@
 -- Numbers that become unknown one after another.
-use Rattle.std.proofs.Common.{◌≡◌, refl, ap, ℕ, zero, suc, ◌<◌, ◌+◌, Bool, true, false, List, [], ◌∷◌, length, take, set, get_or, arith, add-one}
+use Rattle.std.proofs.Common.{◌≡◌, refl, ap, ℕ, zero, suc, ◌<◌, Bool, true, false, List, [], ◌∷◌, length, take, set, get_or, arith}
 use Rattle.teco_rules.specs.declared.values.Interval.{Interval}
 use Rattle.teco_rules.specs.Bodies.{unknown_where}
 use Rattle.teco_rules.specs.Values.{any_number}

@@ -1,5 +1,5 @@
 -- The definitions of searches, on the parts of an element and of the facts that they read.
-use Rattle.std.specs.Prelude.{ℕ, List, length, Option, Some, Result, Ok}
+use Rattle.std.specs.Prelude.{ℕ, List, length, Some, Result, Ok}
 use Rattle.teco_model.specs.declared.kind.Search.{Search}
 use Rattle.teco_rules.specs.declared.refusal.Refusal.{Refusal}
 use Rattle.teco_rules.specs.Arguments.{levels_after_answer}
