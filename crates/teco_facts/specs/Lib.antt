@@ -1,0 +1,8 @@
+-- The words of the contracts.
+pub mod Numbers
+pub mod Does
+pub mod Seen
+pub mod Searched
+pub mod Placed
+pub mod Room
+pub mod Chosen

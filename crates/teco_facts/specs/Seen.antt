@@ -1,0 +1,13 @@
+-- The numbers that take a way, as the rules have them.
+use Rattle.teco_rules.specs.Ways as ways
+use Rattle.teco_facts.specs.declared.ways.Numbers.{Numbers}
+use Rattle.teco_facts.specs.declared.ways.Numbers.TheVariants.{Zero, NotZero, Negative, NotNegative, Positive, NotPositive, All}
+
+abbrev pub seen : Numbers → ways.Numbers
+seen Zero = ways.Zero
+seen NotZero = ways.NotZero
+seen Negative = ways.Negative
+seen NotNegative = ways.NotNegative
+seen Positive = ways.Positive
+seen NotPositive = ways.NotPositive
+seen All = ways.All

@@ -1,0 +1,201 @@
+//! The body of an iteration: what is chosen for its start, and when a choice stands.
+ghost use Rattle.std.specs.Prelude.{◌≡◌, length};
+ghost use Rattle.teco_base.specs.declared.TheConstants.{REGISTERS};
+ghost use Rattle.teco_rules.specs.Bodies as bodies;
+ghost use Rattle.teco_facts.specs.Chosen as chosen;
+
+use crate::covering::{covers_lengths, covers_numbers, covers_pushes};
+use crate::facts::Facts;
+use crate::falls::falls_at_start;
+use crate::margins::Margins;
+use crate::position::{Position, sum_of};
+use crate::range::Range;
+use crate::whole::Whole;
+use std::marker::Model;
+use teco_base::REGISTERS;
+use teco_poly::Poly;
+use teco_rules::Refusal;
+
+/// What is chosen: how much is held at most at the start of each turn, how long the texts are at most, and whether the iteration
+/// is kept: what is ahead, and the falls of those outside, are then those at its <.
+#[derive(Clone, Copy)]
+pub struct Choice {
+    pub held: Poly,
+    pub kept: bool,
+    pub texts: [Poly; REGISTERS],
+}
+
+impl Model for Choice {
+    ghost use Rattle.teco_rules.specs.Bodies as bodies;
+
+    ghost Value = { bodies.Choice };
+
+    ghost view = { λ c. record { held = c.held; kept = c.kept; texts = c.texts } };
+
+    ghost inverse = { λ c. record { held = c.held; kept = c.kept; texts = c.texts } };
+
+    ghost use Rattle.std.specs.Prelude.{◌≡◌, length};
+    ghost use Rattle.teco_base.specs.declared.TheConstants.{REGISTERS};
+
+    ghost invariant = { λ c. length c.texts ≡ REGISTERS };
+}
+
+impl Position {
+    // The position at the start of a body.
+    fn at_start(&self, choice: &Choice) -> Position
+        ensures { result ≡ bodies.position_at_start choice.now self.now }
+    {
+        Position {
+            margins: Margins::nowhere(),
+            falls: falls_at_start(choice.kept, &self.falls),
+            ahead: if choice.kept { self.ahead } else { choice.held },
+        }
+    }
+
+    // Whether the fall of the innermost iteration is known to be at least so much.
+    fn has_own_fall(&self, least: u32) -> bool
+        ensures { result ≡ bodies.has_own_fall least self.now }
+    {
+        if self.falls.len() == 0 {
+            return false;
+        }
+        match self.falls.get(0) {
+            None => false,
+            Some(fall) => Whole::natural(least).at_most(fall),
+        }
+    }
+}
+
+// Whether without a count something falls in each turn.
+fn counts(counted: bool, position: &Position) -> bool
+    ensures { result ≡ bodies.counts counted position.now }
+{
+    counted || position.has_own_fall(1)
+}
+
+// Whether a kept iteration lets no more be ahead from turn to turn.
+fn keeps(kept: bool, position: &Position) -> bool
+    ensures { result ≡ bodies.keeps kept position.now }
+{
+    !kept || position.has_own_fall(0)
+}
+
+/// What is held at the start of the last of some turns, if it grows by so much in each.
+pub fn held_last(at: &Poly, turns: &Poly, growth: &Poly) -> Result<Poly, Refusal>
+    ensures { result ≡ bodies.held_last at.now turns.now growth.now }
+{
+    let grown = turns.one_less().mul(growth).ok_or(Refusal::Overflow)?;
+    sum_of(at, &grown)
+}
+
+/// How much more is held at the end of a turn than at its start.
+pub fn growth_of(start: &Poly, end: &Poly) -> Result<Poly, Refusal>
+    ensures { result ≡ bodies.growth_of start.now end.now }
+{
+    end.sub(start).ok_or(Refusal::Bound)
+}
+
+// What is held at the start of the last turn, from what is at its <, and at the end of a turn.
+fn held_at_last(
+    choice: &Choice,
+    turns: &Poly,
+    entering: &Facts,
+    end: &Facts,
+) -> Result<Poly, Refusal>
+    ensures { result ≡ chosen.held_at_last choice.now turns.now entering.now end.now }
+{
+    let growth = growth_of(&choice.held, &end.held)?;
+    held_last(&entering.held, turns, &growth)
+}
+
+// Whether no more is held at the start of the last turn than was chosen.
+fn has_room(choice: &Choice, turns: &Poly, entering: &Facts, end: &Facts) -> bool
+    ensures { result ≡ bodies.has_room choice.now turns.now entering.now end.now }
+{
+    match held_at_last(choice, turns, entering, end) {
+        Ok(held) => held.le(&choice.held),
+        Err(_) => false,
+    }
+}
+
+impl Choice {
+    /// Whether the choice is enough to begin with: it holds what the < does.
+    pub fn begins(&self, entering: &Facts) -> bool
+        ensures { result ≡ bodies.begins self.now entering.now }
+    {
+        entering.held.le(&self.held) && covers_lengths(&self.texts, &entering.texts)
+    }
+}
+
+// The numbers of registers, unknown where the body writes them.
+fn unknown_where(written: &[bool; REGISTERS], numbers: &[Range; REGISTERS]) -> [Range; REGISTERS]
+    ensures value { result ≡ bodies.unknown_where written.now numbers.now }
+    ensures all { length result ≡ REGISTERS }
+{
+    let mut unknown = *numbers;
+    for register in 0..REGISTERS {
+        if written[register] {
+            unknown[register] = Range::any();
+        }
+    }
+    unknown
+}
+
+/// The facts at the start of a body, from those that enter it.
+pub fn body_start(choice: &Choice, written: &[bool; REGISTERS], mut entering: Facts) -> Facts
+    ensures { result ≡ bodies.body_start choice.now written.now entering }
+{
+    entering.position = entering.position.at_start(choice);
+    entering.held = choice.held;
+    entering.numbers = unknown_where(written, &entering.numbers);
+    entering.texts = choice.texts;
+    entering
+}
+
+// Whether a turn that ends leaves what the next one may begin with.
+fn begins_again(choice: &Choice, written: &[bool; REGISTERS], entering: &Facts, end: &Facts) -> bool
+    ensures { result ≡ bodies.begins_again (bodies.body_start choice.now written.now entering.now) end.now }
+{
+    let numbers = unknown_where(written, &entering.numbers);
+    covers_numbers(&numbers, &end.numbers)
+        && covers_lengths(&choice.texts, &end.texts)
+        && covers_pushes(entering, end)
+}
+
+impl Choice {
+    // Whether the next turn may begin where one ends.
+    fn returns(
+        &self,
+        written: &[bool; REGISTERS],
+        counted: bool,
+        turns: &Poly,
+        entering: &Facts,
+        end: &Facts,
+    ) -> bool
+        ensures { result ≡ bodies.returns self.now written.now counted turns.now entering.now end.now }
+    {
+        counts(counted, &end.position)
+            && keeps(self.kept, &end.position)
+            && has_room(self, turns, entering, end)
+            && begins_again(self, written, entering, end)
+    }
+
+    /// Whether the choice stands: it begins and, if the > is reached, the next turn may begin there.
+    pub fn stands(
+        &self,
+        written: &[bool; REGISTERS],
+        counted: bool,
+        turns: &Poly,
+        entering: &Facts,
+        end: &Option<Facts>,
+    ) -> bool
+        ensures { result ≡ bodies.stands self.now written.now counted turns.now entering.now end.now }
+    {
+        match end {
+            None => self.begins(entering),
+            Some(end) => {
+                self.begins(entering) && self.returns(written, counted, turns, entering, end)
+            }
+        }
+    }
+}

@@ -1,0 +1,90 @@
+//! D and K.
+ghost use Rattle.std.specs.Prelude.{◌≡◌};
+ghost use Rattle.teco_model.specs.declared.kind.Unit.TheVariants.{Characters};
+ghost use Rattle.teco_rules.specs.Deletions as deletions;
+ghost use Rattle.teco_facts.specs.Numbers.{IsNear, AreSmall};
+
+use crate::facts::{Facts, Foreseen};
+use crate::level::Taken;
+use crate::margins::Margins;
+use crate::motion::{count_of, shift_by_lines};
+use crate::number::Number;
+use crate::range::Range;
+use crate::shift::Shift;
+use crate::whole::Whole;
+use teco_model::kind::Unit;
+use teco_rules::Refusal;
+
+// So many characters are known to be there, on either side.
+fn character_deletion(margins: Margins, n: Range) -> Result<Shift, Refusal>
+    ensures { result ≡ deletions.character_deletion margins n }
+{
+    let back = u64::from(margins.back());
+    let fore = u64::from(margins.fore());
+    let behind = n.lo().negated().positive();
+    let ahead = n.hi().positive();
+    if ahead <= fore && behind <= back {
+        Ok(Shift::moving(back - behind, fore - ahead, Some(n.lo().raised())))
+    } else {
+        Err(Refusal::Deletion)
+    }
+}
+
+// A part between two places that are known to lie in the buffer.
+fn range_deletion(m: Number, n: Number, margins: Margins) -> Result<Shift, Refusal>
+    ensures { result ≡ deletions.range_deletion m n margins }
+{
+    let from = Shift::to(m.place(), margins)?;
+    let to = Shift::to(n.place(), margins)?;
+    Ok(from.nearer(&to))
+}
+
+// A part, or the lines that the argument counts.
+fn part_deletion(
+    first: Option<Number>,
+    value: Option<Number>,
+    facts: Facts,
+) -> Result<Foreseen, Refusal>
+    requires { AreSmall facts.position.falls }
+    ensures { result ≡ deletions.part_deletion first value facts }
+{
+    let margins = facts.margins();
+    match (first, value) {
+        (Some(m), Some(n)) => {
+            let shift = range_deletion(m, n, margins)?;
+            Foreseen::behind(&shift, facts)
+        }
+        (_, value) => {
+            let shift = shift_by_lines(Some(Whole::ZERO), margins, count_of(value, margins));
+            Foreseen::behind(&shift, facts)
+        }
+    }
+}
+
+// So many characters, or a part.
+fn deletion_of_characters(
+    first: Option<Number>,
+    value: Option<Number>,
+    facts: Facts,
+) -> Result<Foreseen, Refusal>
+    requires { AreSmall facts.position.falls }
+    ensures { result ≡ deletions.deletion_of Characters first value facts }
+{
+    if first.is_some() && value.is_some() {
+        return part_deletion(first, value, facts);
+    }
+    let margins = facts.margins();
+    let shift = character_deletion(margins, count_of(value, margins))?;
+    Foreseen::behind(&shift, facts)
+}
+
+/// A deletion.
+pub fn deletion(unit: Unit, taken: Taken, facts: Facts) -> Result<Foreseen, Refusal>
+    requires { AreSmall facts.position.falls }
+    ensures { result ≡ deletions.deletion unit taken facts }
+{
+    match unit {
+        Unit::Characters => deletion_of_characters(taken.first(), taken.value(), facts),
+        Unit::Lines => part_deletion(taken.first(), taken.value(), facts),
+    }
+}

@@ -1,0 +1,336 @@
+//! What is known before an element.
+ghost use Rattle.std.specs.Prelude.{◌≡◌, ◌∷◌, ◌<◌, IfOk};
+ghost use Rattle.teco_base.specs.declared.TheConstants.{REGISTERS};
+ghost use Rattle.teco_rules.specs.Facts as rules;
+ghost use Rattle.teco_rules.specs.Shifts as shifts;
+ghost use Rattle.teco_rules.specs.Arguments as arguments;
+ghost use Rattle.teco_facts.specs.Numbers.{AreSmall};
+
+use crate::arguments::Arguments;
+use crate::few::Few;
+use crate::level::Level;
+use crate::margins::Margins;
+use crate::number::Number;
+use crate::position::{Position, sum_of};
+use crate::range::Range;
+use crate::shift::Shift;
+use std::alloc::{AllocError, Global};
+use std::marker::Model;
+use teco_base::{REGISTERS, Reg};
+use teco_poly::Poly;
+use teco_rules::Refusal;
+
+/// The positions where a search found, and where it failed.
+#[derive(Drop)]
+pub struct Answer {
+    pub(crate) found: Position,
+    pub(crate) failed: Position,
+}
+
+impl Model for Answer {
+    ghost use Rattle.teco_rules.specs.Facts as rules;
+
+    ghost Value = { rules.Answer };
+
+    ghost view = { λ a. record { found = a.found; failed = a.failed } };
+}
+
+impl Answer {
+    /// The positions of the two outcomes.
+    pub fn of(found: Position, failed: Position) -> Answer
+        ensures { result ≡ record { found = found; failed = failed } }
+    {
+        Answer { found, failed }
+    }
+
+    /// The same answer once more.
+    pub fn copied(&self) -> Answer
+        ensures { result ≡ self.now }
+    {
+        Answer {
+            found: self.found.copied(),
+            failed: self.failed.copied(),
+        }
+    }
+
+    /// Where it was found.
+    pub fn found(&self) -> Position
+        ensures { result ≡ self.now.found }
+    {
+        self.found.copied()
+    }
+
+    /// Where it failed.
+    pub fn failed(&self) -> Position
+        ensures { result ≡ self.now.failed }
+    {
+        self.failed.copied()
+    }
+}
+
+/// An open iteration: whether it has a count, and how many pairs were pushed at its <.
+#[derive(Clone, Copy)]
+pub struct Iteration {
+    pub counted: bool,
+    pub pushes: usize,
+}
+
+impl Model for Iteration {
+    ghost use Rattle.teco_rules.specs.Facts as rules;
+
+    ghost Value = { rules.Iteration };
+
+    ghost view = { λ i. record { counted = i.counted; pushes = i.pushes } };
+
+    ghost inverse = { λ i. record { counted = i.counted; pushes = i.pushes } };
+}
+
+/// A pair that was pushed since the entry.
+#[derive(Clone, Copy)]
+pub struct Pushed {
+    pub number: Range,
+    pub text: Poly,
+}
+
+impl Model for Pushed {
+    ghost use Rattle.teco_rules.specs.Facts as rules;
+
+    ghost Value = { rules.Pushed };
+
+    ghost view = { λ p. record { number = p.number; text = p.text } };
+
+    ghost inverse = { λ p. record { number = p.number; text = p.text } };
+}
+
+/// What is known before an element.
+#[derive(Drop)]
+pub struct Facts {
+    pub(crate) arguments: Arguments,
+    pub(crate) answer: Option<Answer>,
+    pub(crate) position: Position,
+    pub(crate) iterations: Few<Iteration>,
+    pub(crate) held: Poly,
+    pub(crate) numbers: [Range; REGISTERS],
+    pub(crate) texts: [Poly; REGISTERS],
+    pub(crate) pushes: Vec<Pushed>,
+}
+
+impl Model for Facts {
+    ghost use Rattle.std.specs.Prelude.{◌≡◌, reverse, length};
+    ghost use Rattle.teco_base.specs.declared.TheConstants.{REGISTERS};
+    ghost use Rattle.teco_rules.specs.Facts as rules;
+
+    ghost Value = { rules.Facts };
+
+    ghost view = { λ f. record { arguments = f.arguments; answer = f.answer; position = f.position; iterations = f.iterations; held = f.held; numbers = f.numbers; texts = f.texts; pushes = reverse f.pushes.items } };
+
+    ghost invariant = { λ f. (length f.numbers ≡ REGISTERS) × (length f.texts ≡ REGISTERS) };
+}
+
+// The same answer once more, if there is one.
+fn answer_copied(answer: &Option<Answer>) -> Option<Answer>
+    ensures { result ≡ answer.now }
+{
+    match answer {
+        None => None,
+        Some(answer) => Some(answer.copied()),
+    }
+}
+
+impl Facts {
+    /// Before the first element: nothing is pending, and N holds all.
+    pub fn entry(alloc: Global) -> Facts
+        ensures { result ≡ rules.entry_facts }
+    {
+        Facts {
+            arguments: Arguments::none(alloc),
+            answer: None,
+            position: Position::start(),
+            iterations: Few::empty(Iteration {
+                counted: false,
+                pushes: 0,
+            }),
+            held: Poly::variable(),
+            numbers: [Range::any(); REGISTERS],
+            texts: [Poly::variable(); REGISTERS],
+            pushes: Vec::new(alloc),
+        }
+    }
+
+    /// The same facts once more, if there is memory.
+    pub fn copied(&self) -> Result<Facts, AllocError>
+        ensures { IfOk result (λ copy. copy ≡ self.now) }
+    {
+        Ok(Facts {
+            arguments: self.arguments.copied()?,
+            answer: answer_copied(&self.answer),
+            position: self.position.copied(),
+            iterations: self.iterations.copied(),
+            held: self.held,
+            numbers: self.numbers,
+            texts: self.texts,
+            pushes: self.pushes.clone()?,
+        })
+    }
+
+    /// The distances of the pointer.
+    pub fn margins(&self) -> Margins
+        ensures { result ≡ self.now.position.distances }
+    {
+        self.position.margins()
+    }
+
+    /// The innermost level of the arguments.
+    pub fn level(&self) -> Level
+        ensures { result ≡ self.now.arguments.level }
+    {
+        self.arguments.level()
+    }
+
+    /// How much is held.
+    pub fn held(&self) -> Poly
+        ensures { result ≡ self.now.held }
+    {
+        self.held
+    }
+
+    /// How much is ahead.
+    pub fn ahead(&self) -> Poly
+        ensures { result ≡ self.now.position.ahead }
+    {
+        self.position.ahead()
+    }
+
+    /// The number of a register.
+    pub fn number_of(&self, register: Reg) -> Range
+        ensures { result ≡ rules.number_of register self.now }
+    {
+        self.numbers[register.index()]
+    }
+
+    /// The length of a register's text.
+    pub fn text_of(&self, register: Reg) -> Poly
+        ensures { result ≡ rules.text_of register self.now }
+    {
+        self.texts[register.index()]
+    }
+
+    /// Takes the search's answer out.
+    pub fn take_answer(&mut self) -> Option<Answer>
+        ensures value { result ≡ self.old.answer }
+        ensures left { self.new ≡ record self.old { answer = None } }
+    {
+        self.answer.take()
+    }
+
+    /// The facts with no search's answer.
+    pub fn without_answer(mut self) -> Facts
+        ensures { result ≡ record self { answer = None } }
+    {
+        self.answer = None;
+        self
+    }
+
+    /// The facts with no argument pending.
+    pub fn without_arguments(mut self) -> Facts
+        ensures { result ≡ rules.without_arguments self }
+    {
+        self.arguments.drop_all();
+        self.answer = None;
+        self
+    }
+
+    /// The facts where the innermost level is taken.
+    pub fn taking(mut self) -> Facts
+        ensures { result ≡ rules.with_arguments (arguments.levels_after_taking self.arguments) self }
+    {
+        self.arguments.take();
+        self.answer = None;
+        self
+    }
+
+    /// The facts with another innermost level.
+    pub fn with_level(mut self, level: Level) -> Facts
+        ensures { result ≡ rules.with_arguments (record self.arguments { level = level }) self }
+    {
+        self.arguments.put(level);
+        self.answer = None;
+        self
+    }
+
+    /// The facts at another position.
+    pub fn at_position(mut self, position: Position) -> Facts
+        ensures { result ≡ rules.at_position position self }
+    {
+        self.position = position;
+        self
+    }
+
+    /// The facts behind a shift.
+    pub fn shifted(mut self, shift: &Shift) -> Result<Facts, Refusal>
+        requires { AreSmall self.position.falls }
+        ensures { result ≡ shifts.shifted shift.now self }
+    {
+        let held = sum_of(&self.held, &shift.growth())?;
+        self.arguments.settle(self.position.margins());
+        self.position = self.position.after(shift, held);
+        self.held = held;
+        Ok(self)
+    }
+}
+
+/// What a command leaves and answers, as far as it is known.
+#[derive(Drop)]
+pub struct Foreseen {
+    facts: Facts,
+    answer: Option<Number>,
+}
+
+impl Model for Foreseen {
+    ghost use Rattle.teco_rules.specs.Shifts as shifts;
+
+    ghost Value = { shifts.Foreseen };
+
+    ghost view = { λ f. record { facts = f.facts; answer = f.answer } };
+}
+
+impl Foreseen {
+    /// With no answer.
+    pub fn silent(facts: Facts) -> Foreseen
+        ensures { result ≡ shifts.silent facts }
+    {
+        Foreseen {
+            facts,
+            answer: None,
+        }
+    }
+
+    /// With an answer of a range.
+    pub fn answering(range: Range, facts: Facts) -> Foreseen
+        ensures { result ≡ shifts.answering range facts }
+    {
+        Foreseen {
+            facts,
+            answer: Some(Number::within(range)),
+        }
+    }
+
+    /// With no answer, behind a shift.
+    pub fn behind(shift: &Shift, facts: Facts) -> Result<Foreseen, Refusal>
+        requires { AreSmall facts.position.falls }
+        ensures { result ≡ shifts.silent_behind shift.now facts }
+    {
+        let facts = facts.shifted(shift)?;
+        Ok(Foreseen::silent(facts))
+    }
+
+    /// The facts behind a command that took its arguments.
+    pub fn answered(self) -> Facts
+        ensures { result ≡ shifts.facts_answered self }
+    {
+        let mut facts = self.facts;
+        facts.arguments.answer(self.answer);
+        facts.answer = None;
+        facts
+    }
+}

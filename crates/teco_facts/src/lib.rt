@@ -1,0 +1,55 @@
+//! What the verifier knows before an element, and what each element does to it.
+#![tactic(auto)]
+
+mod arguments;
+mod arithmetic;
+mod body;
+mod covering;
+mod deletion;
+mod digits;
+mod edges;
+mod facts;
+mod falls;
+mod fault;
+mod few;
+mod flow;
+mod insertion;
+mod joining;
+mod level;
+mod margins;
+mod motion;
+mod number;
+mod pages;
+mod place;
+mod position;
+mod printed;
+mod query;
+mod range;
+mod search;
+mod shift;
+mod stack;
+mod storage;
+mod typing;
+mod ways;
+mod whole;
+
+pub use arguments::Arguments;
+pub use body::{Choice, body_start, growth_of, held_last};
+pub use edges::{Placed, transfer, transfer_return};
+pub use facts::{Answer, Facts, Foreseen, Iteration, Pushed};
+pub use falls::Falls;
+pub use fault::Fault;
+pub use few::Few;
+pub use flow::{Edges, turns};
+pub use level::{Level, Taken};
+pub use margins::Margins;
+pub use number::Number;
+pub use place::Place;
+pub use position::Position;
+pub use printed::{Needs, needs_of, steps};
+pub use range::Range;
+pub use shift::Shift;
+pub use whole::Whole;
+
+#[cfg(test)]
+mod tests;

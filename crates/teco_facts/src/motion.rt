@@ -1,0 +1,115 @@
+//! C, R, J and L.
+ghost use Rattle.std.specs.Prelude.{◌≡◌, IfSome};
+ghost use Rattle.teco_rules.specs.Motions as motions;
+ghost use Rattle.teco_facts.specs.Numbers.{IsNear, AreSmall};
+
+use crate::facts::{Facts, Foreseen};
+use crate::level::Taken;
+use crate::margins::Margins;
+use crate::number::Number;
+use crate::place::Place;
+use crate::range::Range;
+use crate::shift::Shift;
+use crate::whole::Whole;
+use teco_model::kind::Motion;
+use teco_rules::Refusal;
+
+/// The argument, 1 where there is none.
+pub fn or_one(value: Option<Number>) -> Number
+    ensures { result ≡ motions.or_one value }
+{
+    value.unwrap_or(Number::single(1))
+}
+
+/// The range of the argument.
+pub fn count_of(value: Option<Number>, margins: Margins) -> Range
+    ensures { result ≡ motions.count_of value margins }
+{
+    or_one(value).range(margins)
+}
+
+/// The answer of what may fail: -1 or 0.
+pub fn success() -> Range
+    ensures { result ≡ motions.success }
+{
+    Range::between(Whole::MINUS_ONE, Whole::ZERO)
+}
+
+// The place that the argument names.
+fn target(motion: Motion, n: Option<Number>) -> Place
+    ensures { result ≡ motions.target motion n }
+{
+    match motion {
+        Motion::Forward => Number::pointer().plus(or_one(n)),
+        Motion::Backward => Number::pointer().minus(or_one(n)),
+        Motion::To => n.unwrap_or(Number::single(0)).place(),
+        Motion::Lines => Number::pointer().place(),
+    }
+}
+
+// Whether nothing more can be ahead.
+fn goes_forward(motion: Motion, n: Range) -> bool
+    ensures { result ≡ motions.goes_forward motion n }
+{
+    match motion {
+        Motion::Forward => Whole::ZERO.at_most(n.lo()),
+        Motion::Backward => n.hi().at_most(Whole::ZERO),
+        Motion::To | Motion::Lines => false,
+    }
+}
+
+// Anywhere, with a colon.
+fn perhaps_forward(forward: bool) -> Shift
+    ensures { result ≡ motions.perhaps_forward forward }
+{
+    Shift::moving(0, 0, if forward { Some(Whole::ZERO) } else { None })
+}
+
+/// To a line place, or up to one: what is passed is no more behind, or no more ahead.
+pub fn shift_by_lines(back: Option<Whole>, margins: Margins, n: Range) -> Shift
+    requires { IfSome back IsNear }
+    ensures { result ≡ motions.shift_by_lines back margins n }
+{
+    if Whole::ONE.at_most(n.lo()) {
+        Shift::moving(u64::from(margins.back()), 0, Some(Whole::ZERO))
+    } else if n.hi().at_most(Whole::ZERO) {
+        Shift::moving(0, u64::from(margins.fore()), back)
+    } else {
+        Shift::moving(0, 0, back)
+    }
+}
+
+// To the place that the argument names; with a colon it may fail.
+fn motion_to(
+    motion: Motion,
+    colons: u8,
+    n: Option<Number>,
+    facts: Facts,
+) -> Result<Foreseen, Refusal>
+    requires { AreSmall facts.position.falls }
+    ensures { result ≡ motions.motion_to motion colons n facts }
+{
+    if colons == 0 {
+        let shift = Shift::to(target(motion, n), facts.margins())?;
+        Foreseen::behind(&shift, facts)
+    } else {
+        let forward = goes_forward(motion, count_of(n, facts.margins()));
+        let facts = facts.shifted(&perhaps_forward(forward))?;
+        Ok(Foreseen::answering(success(), facts))
+    }
+}
+
+/// A motion of the pointer.
+pub fn motion(motion: Motion, colons: u8, taken: Taken, facts: Facts) -> Result<Foreseen, Refusal>
+    requires { AreSmall facts.position.falls }
+    ensures { result ≡ motions.motion motion colons taken facts }
+{
+    match motion {
+        Motion::Lines => {
+            let margins = facts.margins();
+            let shift = shift_by_lines(None, margins, count_of(taken.value(), margins));
+            Foreseen::behind(&shift, facts)
+        }
+        motion => motion_to(motion, colons, taken.value(), facts),
+    }
+}

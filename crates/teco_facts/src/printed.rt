@@ -1,0 +1,124 @@
+//! What is printed of an element: how many steps it takes at most, and which files it needs.
+ghost use Rattle.std.specs.Prelude.{◌≡◌};
+ghost use Rattle.teco_rules.specs.Printed as printed;
+
+use crate::facts::Facts;
+use crate::flow::bound_of;
+use crate::level::Taken;
+use crate::motion::or_one;
+use crate::number::Number;
+use crate::position::sum_of;
+use std::marker::Model;
+use teco_model::Kind;
+use teco_model::kind::{Page, Search};
+use teco_poly::Poly;
+use teco_rules::Refusal;
+
+/// The files that must be open.
+#[derive(Clone, Copy, Debug, PartialEq, Eq)]
+pub struct Needs {
+    pub input: bool,
+    pub output: bool,
+}
+
+impl Model for Needs {
+    ghost use Rattle.teco_rules.specs.Printed as printed;
+
+    ghost Value = { printed.Needs };
+
+    ghost view = { λ n. record { input = n.input; output = n.output } };
+
+    ghost inverse = { λ n. record { input = n.input; output = n.output } };
+}
+
+// A step for each page, or one for a part.
+fn steps_of_pages(
+    first: Option<Number>,
+    value: Option<Number>,
+    facts: &Facts,
+) -> Result<Poly, Refusal>
+    ensures { result ≡ printed.steps_of_pages first value facts.now }
+{
+    if first.is_some() && value.is_some() {
+        Ok(Poly::number(1))
+    } else {
+        bound_of(or_one(value), facts)
+    }
+}
+
+// The steps of a command of pages.
+fn steps_of_page(page: Page, taken: Taken, facts: &Facts) -> Result<Poly, Refusal>
+    ensures { result ≡ printed.steps_of_page page taken facts.now }
+{
+    match page {
+        Page::Next | Page::Write => steps_of_pages(taken.first(), taken.value(), facts),
+        Page::Append | Page::Yank => Ok(Poly::number(1)),
+    }
+}
+
+// N and FN take a step for each page that is ahead, and one more.
+fn steps_of_search(search: Search, facts: &Facts) -> Result<Poly, Refusal>
+    ensures { result ≡ printed.steps_of_search search facts.now }
+{
+    match search {
+        Search::FindInPages | Search::ReplaceInPages => sum_of(&facts.ahead(), &Poly::number(1)),
+        Search::Find | Search::Replace => Ok(Poly::number(1)),
+    }
+}
+
+/// The most steps that an element takes.
+pub fn steps(kind: Kind, facts: &Facts) -> Result<Poly, Refusal>
+    ensures { result ≡ printed.steps kind facts.now }
+{
+    match kind {
+        Kind::Page(page) => {
+            let taken = facts.level().taken()?;
+            steps_of_page(page, taken, facts)
+        }
+        Kind::Search(search) => steps_of_search(search, facts),
+        _ => Ok(Poly::number(1)),
+    }
+}
+
+// A without n reads the input, and the others write to the output.
+fn needs_of_page(page: Page, value: Option<Number>) -> Needs
+    ensures { result ≡ printed.needs_of_page page value }
+{
+    match page {
+        Page::Append => Needs {
+            input: value.is_none(),
+            output: false,
+        },
+        _ => Needs {
+            input: false,
+            output: true,
+        },
+    }
+}
+
+// N and FN write to the output.
+fn needs_of_search(search: Search) -> Needs
+    ensures { result ≡ printed.needs_of_search search }
+{
+    Needs {
+        input: false,
+        output: matches!(search, Search::FindInPages | Search::ReplaceInPages),
+    }
+}
+
+/// The files that an element needs.
+pub fn needs_of(kind: Kind, facts: &Facts) -> Result<Needs, Refusal>
+    ensures { result ≡ printed.needs kind facts.now }
+{
+    match kind {
+        Kind::Page(page) => {
+            let taken = facts.level().taken()?;
+            Ok(needs_of_page(page, taken.value()))
+        }
+        Kind::Search(search) => Ok(needs_of_search(search)),
+        _ => Ok(Needs {
+            input: false,
+            output: false,
+        }),
+    }
+}

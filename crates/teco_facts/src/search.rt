@@ -1,0 +1,144 @@
+//! S, FS, N and FN: what is known where they found, and where they failed.
+ghost use Rattle.std.specs.Prelude.{◌≡◌, ◌≤◌, IfOk, length};
+ghost use Rattle.teco_base.specs.declared.TheConstants.{LIMIT};
+ghost use Rattle.teco_rules.specs.Arguments as arguments;
+ghost use Rattle.teco_rules.specs.Facts as known;
+ghost use Rattle.teco_rules.specs.Searches as searches;
+ghost use Rattle.teco_facts.specs.Numbers.{AreSmall};
+ghost use Rattle.teco_facts.specs.Searched as searched;
+
+use crate::facts::{Answer, Facts};
+use crate::level::Taken;
+use crate::margins::Margins;
+use crate::motion::{count_of, success};
+use crate::number::Number;
+use crate::position::Position;
+use crate::range::Range;
+use crate::shift::Shift;
+use crate::whole::Whole;
+use teco_find::minimum;
+use teco_model::kind::Search;
+use teco_poly::Poly;
+use teco_rules::Refusal;
+
+// A count that may be 0 may be refused, and one that may be negative is not verified.
+fn count_allowed(n: Range) -> Result<(), Refusal>
+    ensures { result ≡ searches.count_allowed n }
+{
+    if n.lo().at_most(Whole::ZERO) && Whole::ZERO.at_most(n.hi()) {
+        Err(Refusal::Argument)
+    } else if n.lo().is_below_one() {
+        Err(Refusal::Unverified)
+    } else {
+        Ok(())
+    }
+}
+
+// The count, and no first value.
+fn count_checked(taken: Taken, margins: Margins) -> Result<(), Refusal>
+    ensures { result ≡ searches.count_checked taken.first taken.value margins }
+{
+    match taken.first() {
+        None => count_allowed(count_of(taken.value(), margins)),
+        Some(_) => Err(Refusal::Argument),
+    }
+}
+
+// The minimum length of what is sought.
+fn minimum_of(text: &[u8]) -> Result<usize, Refusal>
+    requires { length text.now ≤ LIMIT }
+    ensures value { result ≡ searches.minimum_of text.now }
+    ensures within { IfOk result (λ n. n ≤ LIMIT) }
+{
+    if text.is_empty() {
+        return Err(Refusal::Unverified);
+    }
+    match minimum(text) {
+        Ok(Some(least)) => Ok(least),
+        Ok(None) => Err(Refusal::Unverified),
+        Err(_) => Err(Refusal::Fault),
+    }
+}
+
+// What is found lies ahead; the pointer goes behind it, or behind what replaces it.
+fn shift_found(search: Search, least: usize, new: usize, margins: Margins) -> Shift
+    requires within { least ≤ LIMIT }
+    requires new_within { new ≤ LIMIT }
+    ensures { result ≡ searches.shift_found search least new margins }
+{
+    let fall = Some(Whole::natural(least as u32));
+    let back = u64::from(margins.back());
+    let grown = Poly::number(new as u64);
+    match search {
+        Search::Find => Shift::moving(back + least as u64, 0, fall),
+        Search::Replace => Shift::of(back + new as u64, 0, fall, grown),
+        Search::FindInPages => Shift::moving(least as u64, 0, fall),
+        Search::ReplaceInPages => Shift::of(new as u64, 0, fall, grown),
+    }
+}
+
+// A failure goes to the begin of the buffer; with two colons nothing moves.
+fn position_failed_in(colons: u8, facts: &Facts) -> Position
+    requires { AreSmall facts.now.position.falls }
+    ensures { result ≡ searches.position_failed_in colons facts.now }
+{
+    if colons >= 2 {
+        return facts.position.copied();
+    }
+    let margins = facts.margins();
+    let fore = u64::from(margins.back()) + u64::from(margins.fore());
+    facts
+        .position
+        .after(&Shift::moving(0, fore, None), facts.held())
+}
+
+/// The position where a search failed.
+pub fn position_failed(search: Search, colons: u8, facts: &Facts) -> Position
+    requires { AreSmall facts.now.position.falls }
+    ensures { result ≡ searches.position_failed search colons facts.now }
+{
+    match search {
+        Search::FindInPages | Search::ReplaceInPages => facts
+            .position
+            .after(&Shift::moving(0, 0, None), facts.held()),
+        Search::Find | Search::Replace => position_failed_in(colons, facts),
+    }
+}
+
+/// The facts where it found a text, for which another is put in.
+pub fn facts_found(
+    search: Search,
+    text: &[u8],
+    second: &[u8],
+    facts: Facts,
+) -> Result<Facts, Refusal>
+    requires small { AreSmall facts.position.falls }
+    requires within { length text.now ≤ LIMIT }
+    requires second_within { length second.now ≤ LIMIT }
+    ensures { result ≡ searched.facts_found search text.now second.now facts }
+{
+    let least = minimum_of(text)?;
+    let shift = shift_found(search, least, second.len(), facts.margins());
+    facts.shifted(&shift)
+}
+
+/// The answer tells the outcomes apart.
+pub fn facts_of_answer(mut found: Facts, failed: Position) -> Result<Facts, Refusal>
+    ensures { result ≡ searched.facts_of_answer found failed }
+{
+    let position = found.position.joined(&failed)?;
+    found.arguments.answer(Some(Number::within(success())));
+    found.answer = Some(Answer::of(found.position.copied(), failed));
+    found.position = position;
+    Ok(found)
+}
+
+/// What is known before a search that took its arguments.
+pub fn facts_at_search(facts: Facts) -> Result<Facts, Refusal>
+    ensures value { result ≡ searches.facts_at_search facts }
+    ensures kept { IfOk result (λ taken. taken ≡ known.with_arguments (arguments.levels_after_taking facts.arguments) facts) }
+{
+    let taken = facts.level().taken()?;
+    count_checked(taken, facts.margins())?;
+    Ok(facts.taking())
+}
