@@ -1,1 +1,5 @@
 -- Lemmas of the laws.
+mod Lookup
+mod Counting
+mod Standing
+mod Reading

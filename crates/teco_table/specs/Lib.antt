@@ -4,3 +4,5 @@ pub mod Behind
 pub mod Written
 pub mod Closed
 pub mod Printed
+pub mod Turning
+pub mod Laws

@@ -1,1 +1,16 @@
 //! Laws of closed tables.
+ghost use Rattle.teco_table.specs.Laws.{CommandsAreSteps, TablesAreClosed};
+
+/// The printed number of commands is that of the table of numbers.
+pub fn commands_are_steps()
+    ensures { CommandsAreSteps }
+{}
+
+/// A closed table is closed as a table of numbers.
+pub fn tables_are_closed()
+    ensures { TablesAreClosed }
+{
+    teco_expand::laws::iterations_are_open();
+    teco_expand::laws::iterations_end();
+    teco_turns::laws::nodes_nest();
+}
