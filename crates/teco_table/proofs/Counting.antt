@@ -1,7 +1,7 @@
 -- The sum that is printed is the sum over the nodes.
 use Rattle.std.specs.Option.{option_map_or}
-use Rattle.std.proofs.Common.{◌≡◌, ℕ, zero, suc, ◌+◌, ◌*◌, ◌≤◌, refl, sym, ap, ◌∙◌, subst, arith, List, [], ◌∷◌, length, Option, Some, None, Result, Ok, Err, slice_get}
-use Rattle.teco_turns.specs.Table.{Table as Numbers, sum_below, product_by, weight_of}
+use Rattle.std.proofs.Common.{◌≡◌, ℕ, suc, ◌+◌, ◌*◌, refl, sym, ap, ◌∙◌, subst, arith, List, [], ◌∷◌, length, Option, Some, None, Result, Ok, Err, slice_get}
+use Rattle.teco_turns.specs.Table.{sum_below, product_by, weight_of}
 use Rattle.teco_expand.specs.Node.{Node, numbered}
 use Rattle.teco_poly.proofs.Lawful.{values_of_constants, value_of_sum, value_of_product}
 use Rattle.teco_poly.specs.Polynomial.{Polynomial, value, number, add, mul}
@@ -11,7 +11,7 @@ use Rattle.teco_rules.specs.Facts.{Facts, sum_of}
 use Rattle.teco_table.specs.Laws.{CommandsAreSteps}
 use Rattle.teco_table.specs.Printed.{at_node, turns_at, turns_round, product_of, steps_of, weight, counted_with, count_from, commands}
 use Rattle.teco_table.specs.Table.{Table, facts_at}
-use Rattle.teco_table.specs.Turning.{value_of, own_of, iterations_of, iterations_at, turning}
+use Rattle.teco_table.specs.Turning.{value_of, own_of, iterations_of, turning}
 use Rattle.teco_table.proofs.Lookup.{bound, given}
 
 numbers_have : (k n : ℕ) → value (number k) n ≡ k

@@ -3,3 +3,5 @@ mod Lookup
 mod Counting
 mod Standing
 mod Reading
+mod Entering
+mod Closing

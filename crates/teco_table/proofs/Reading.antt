@@ -1,10 +1,7 @@
 -- What a check that passed says at a node.
-use Rattle.std.proofs.Common.{◌≡◌, ℕ, zero, suc, ◌+◌, ◌≤◌, ◌<◌, refl, sym, ap, ◌∙◌, subst, arith, List, [], ◌∷◌, length, Bool, true, false, is_none, not, ◌&&◌, ◌||◌, if◌then◌else◌, Option, Some, None, Result, Ok, Err, slice_get}
+use Rattle.std.proofs.Common.{◌≡◌, ℕ, zero, suc, ◌+◌, refl, sym, ap, ◌∙◌, subst, arith, List, [], ◌∷◌, Bool, true, false, is_none, not, ◌||◌, if◌then◌else◌, Option, Some, None, Result, Ok, Err, slice_get}
 use Rattle.std.specs.Prelude.{IsTrue}
-use Rattle.std.specs.Option.{option_map_or}
-use Rattle.teco_model.specs.declared.arguments.Taken.{Taken}
 use Rattle.teco_model.specs.declared.kind.Flow.TheVariants as flow
-use Rattle.teco_model.specs.declared.kind.Kind.{Kind}
 use Rattle.teco_model.specs.declared.kind.Kind.TheVariants as kind
 use Rattle.teco_model.specs.Element.{Element}
 use Rattle.teco_expand.specs.Ends.{end_of}
@@ -16,7 +13,7 @@ use Rattle.teco_rules.specs.Bodies.{Choice, body_start, stands}
 use Rattle.teco_rules.specs.Facts.{Facts}
 use Rattle.teco_rules.specs.Flows.{Edges, turns}
 use Rattle.teco_table.specs.Behind.{edges_at}
-use Rattle.teco_table.specs.Closed.{say_same, is_entry, arrive, is_counted, body_stands, is_entered, turn_stands, turn_stands_by, turn_stands_at, closed_behind, begins_by_kind, begins_iteration, closed_where, closed_at, check_from, check}
+use Rattle.teco_table.specs.Closed.{say_same, is_entry, is_counted, body_stands, is_entered, turn_stands_by, turn_stands_at, closed_behind, begins_by_kind, begins_iteration, closed_where, closed_at, check_from, check}
 use Rattle.teco_table.specs.Table.{Table, facts_at, choice_at}
 use Rattle.teco_table.specs.Written.{written}
 

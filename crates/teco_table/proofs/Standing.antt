@@ -1,8 +1,7 @@
 -- The iterations round the nodes, as one pass over them tells.
-use Rattle.std.proofs.Common.{◌≡◌, ℕ, zero, suc, ◌+◌, ◌≤◌, ◌<◌, refl, sym, ap, ◌∙◌, subst, arith, List, [], ◌∷◌, drop, length, Bool, true, false, Option, Some, None, Result, Ok, Err}
+use Rattle.std.proofs.Common.{◌≡◌, ℕ, zero, suc, ◌≤◌, ◌<◌, refl, sym, ap, ◌∙◌, subst, arith, List, [], ◌∷◌, drop, length, true, false, Option, Some, None, Ok}
 use Rattle.std.specs.List.{AllByRecursion}
 use Rattle.std.specs.Option.{option_map_or}
-use Rattle.teco_turns.specs.Table.{Table as Numbers}
 use Rattle.teco_turns.specs.Nests.{Mark, Begin, End, Plain, onward, EndsInnermost, IsPassed}
 use Rattle.teco_model.specs.declared.kind.Flow.{Flow}
 use Rattle.teco_model.specs.declared.kind.Flow.TheVariants as flow
@@ -16,11 +15,11 @@ use Rattle.teco_expand.specs.Linked.{AreLinked}
 use Rattle.teco_expand.specs.Node.{Stand, Node, beginning, numbered}
 use Rattle.teco_expand.specs.Order.{stand_behind_kind, stand_behind}
 use Rattle.teco_expand.specs.Position.{Spot, Position}
-use Rattle.teco_expand.specs.Refusal.{Reason}
 use Rattle.teco_expand.specs.Ways.{end_ways, flow_ways, element_ways, ways_at}
 use Rattle.teco_table.specs.Table.{Table}
-use Rattle.teco_table.specs.Turning.{iterations_of, iterations_at, turning}
-use Rattle.teco_table.proofs.Lookup.{node_of, number_within, same_stand, same_number}
+use Rattle.teco_table.specs.Closed.{begins_by_kind, begins_iteration}
+use Rattle.teco_table.specs.Turning.{iterations_of, iterations_at, begins_of, turning}
+use Rattle.teco_table.proofs.Lookup.{node_of, same_stand, same_number}
 
 -- ---- what a node is
 abbrev pub mark_of_flow : Flow → Mark
@@ -41,6 +40,18 @@ mark_in node = mark_of node.element
 
 abbrev pub mark_at : List Node → ℕ → Mark
 mark_at nodes k = option_map_or mark_in (numbered nodes k) Plain
+
+begin_kind : (k : Kind) → begins_by_kind k ≡ true → mark_of_kind k ≡ Begin
+begin_kind (kind.Flow flow.Iterate) h = refl
+begin_kind k h = absurd (cc)
+
+begin_read : (read : Option Element) → begins_iteration read ≡ true → mark_of read ≡ Begin
+begin_read None h = absurd (cc)
+begin_read (Some e) h = begin_kind e.kind h
+
+pub begin_in : (o : Option Node) → option_map_or begins_of o false ≡ true → option_map_or mark_in o Plain ≡ Begin
+begin_in None h = absurd (cc)
+begin_in (Some node) h = begin_read node.element h
 
 -- ---- the iterations of what follows
 ended : (number : ℕ) (ls : List ℕ) → drop 1 ls ≡ onward End number ls
@@ -96,7 +107,7 @@ module _ (library : Library) (entry : ℕ) (nodes : List Node) (are : AreLinked 
         let here : EndsInnermost (turning nodes table n) (mark_of node.element) k node.stand.iterations = ends_read k node.element node.stand.iterations (λ e b outer reads is s. closed.only k node b at (ending node e b outer reads is s)) (λ e reads is z. not_empty k node e at reads is z) in
         subst (λ (o : Option Node). EndsInnermost (turning nodes table n) (option_map_or mark_in o Plain) k (option_map_or iterations_of o [])) (sym at) here
 
-    next_at : (k : ℕ) → suc k < suc (length nodes) → iterations_at nodes (suc k) ≡ onward (mark_at nodes k) k (iterations_at nodes k)
+    pub next_at : (k : ℕ) → suc k < suc (length nodes) → iterations_at nodes (suc k) ≡ onward (mark_at nodes k) k (iterations_at nodes k)
     next_at zero l =
         let first = node_of nodes 1 (omega arith) (omega arith) in
         iterations_are nodes 1 first.0 first.1 ∙ ap (λ (stand : Stand). stand.iterations) (same_stand nodes entry 1 first.0 (beginning entry) first.1 are.first)
