@@ -5,3 +5,6 @@ mod Standing
 mod Reading
 mod Entering
 mod Closing
+mod Leaving
+mod Passing
+mod Going

@@ -6,3 +6,5 @@ pub mod Closed
 pub mod Printed
 pub mod Turning
 pub mod Laws
+pub mod Following
+pub mod Moving

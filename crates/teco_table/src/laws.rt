@@ -1,5 +1,6 @@
 //! Laws of closed tables.
 ghost use Rattle.teco_table.specs.Laws.{CommandsAreSteps, TablesAreClosed};
+ghost use Rattle.teco_table.specs.Moving.{StepsMove};
 
 /// The printed number of commands is that of the table of numbers.
 pub fn commands_are_steps()
@@ -13,4 +14,14 @@ pub fn tables_are_closed()
     teco_expand::laws::iterations_are_open();
     teco_expand::laws::iterations_end();
     teco_turns::laws::nodes_nest();
+}
+
+/// A step from where a run is described is a move, to where it is described again.
+pub fn steps_move()
+    ensures { StepsMove }
+{
+    teco_expand::laws::iterations_are_open();
+    teco_expand::laws::iterations_end();
+    teco_expand::laws::left_have_ended();
+    teco_expand::laws::ways_lead();
 }
