@@ -55,7 +55,7 @@ module _ (nodes : List Node) (table : Table) (n : ℕ) where
   held_nowhere : (k : ℕ) → facts_at table (suc k) ≡ None → begins_at nodes k ≡ false → held_at nodes table n (suc k) ≡ 0
   held_nowhere k h b = held_unknown k h ∙ ap (λ b. held_if b (held_at nodes table n k)) b
 
-  turns_known : (begin : ℕ) (facts start : Facts) → facts_at table begin ≡ Some facts → facts_at table (suc begin) ≡ Some start → (most : Polynomial) → turns_where (Some facts) (Some start) ≡ Ok most → value_of n (turns_at table begin) ≡ value most n
+  pub turns_known : (begin : ℕ) (facts start : Facts) → facts_at table begin ≡ Some facts → facts_at table (suc begin) ≡ Some start → (most : Polynomial) → turns_where (Some facts) (Some start) ≡ Ok most → value_of n (turns_at table begin) ≡ value most n
   turns_known begin facts start h s most t = ap (value_of n) (ap (λ (o : Option Facts). turns_where o (facts_at table (suc begin))) h ∙ (ap (turns_where (Some facts)) s ∙ t))
 
   turns_nowhere : (begin : ℕ) → facts_at table (suc begin) ≡ None → value_of n (turns_at table begin) ≡ 1

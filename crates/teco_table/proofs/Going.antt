@@ -1,10 +1,10 @@
 -- A step along a way that begins no turn goes on.
-use Rattle.std.proofs.Common.{◌≡◌, ℕ, zero, suc, ◌+◌, ◌-◌, ◌≤◌, ◌<◌, refl, sym, ap, ◌∙◌, subst, arith, List, [], ◌∷◌, ◌++◌, map, take, drop, length, get_or, nat_lt, Bool, true, false, ◌&&◌, ◌||◌, if◌then◌else◌, pos, ℤ, Option, Some, None, Result, Ok, Err, is_some, slice_get}
+use Rattle.std.proofs.Common.{◌≡◌, ℕ, zero, suc, ◌+◌, ◌-◌, ◌≤◌, ◌<◌, refl, sym, ap, ◌∙◌, subst, arith, List, [], ◌∷◌, ◌++◌, map, take, drop, length, get_or, nat_lt, ◌==◌, Bool, true, false, ◌||◌, if◌then◌else◌, pos, Option, Some, None, Ok, is_some, slice_get}
 use Rattle.std.specs.Prelude.{IsTrue}
 use Rattle.std.specs.List.{AllByRecursion}
 use Rattle.std.specs.Option.{option_map_or}
-use Rattle.std.proofs.lemmas.Bool.{ltb-true, ltb-false}
-use Rattle.teco_turns.specs.Moves.{Move, Forward, Goes, still_open}
+use Rattle.std.proofs.lemmas.Bool.{ltb-true}
+use Rattle.teco_turns.specs.Moves.{Forward, Goes, FallFollows, still_open}
 use Rattle.teco_model.specs.declared.kind.Flow.{Flow}
 use Rattle.teco_model.specs.declared.kind.Flow.TheVariants as flow
 use Rattle.teco_model.specs.declared.kind.Kind.{Kind}
@@ -28,7 +28,6 @@ use Rattle.teco_rules.specs.Describes.{Run, run_behind, IsWhole, Describes}
 use Rattle.teco_rules.specs.Facts.{Facts}
 use Rattle.teco_rules.specs.Flows.{Edges}
 use Rattle.teco_rules.specs.SoundPages.{unread_of}
-use Rattle.teco_rules.specs.declared.refusal.Refusal.{Refusal}
 use Rattle.teco_table.specs.Behind.{open_of, open_at, left_by, edges_at, along, turns_by_flow, turns_by_kind, begins_turn}
 use Rattle.teco_table.specs.Closed.{is_covered, arrives, arrive, closed_behind, closed_where, check}
 use Rattle.teco_table.specs.Following.{OpenTurn, run_at, open_loops, AreOpened, IsDescribed, held_of, loops_of, shown}
@@ -164,5 +163,84 @@ module _ (laws : Laws) (library : Library) (entry : ℕ) (nodes : List Node) (ar
           ap (λ k. open_of here.node - k) (ap (open_at nodes) first ∙ ap (λ (o : Option Node). option_map_or open_of o 0) at)
 
       module _ (plain : begins_turn here.node.element goes.way ≡ false) where
-        left : ℕ
+        abbrev left : ℕ
         left = left_along here.node.element goes.way (left_by nodes here.node)
+
+        counted_there : goes.way ≡ 0 → left_by nodes here.node ≡ length (open_loops s) - length (open_loops t)
+        counted_there z = let b = between_is z in omega (arith, b, many_here.0, many_there)
+
+        is_ahead : Ahead left (place_at number here.node.stand) (place_at goes.target there.stand)
+        is_ahead = ahead (place_at number here.node.stand) (place_at goes.target there.stand) (left_by nodes here.node) here.node.element goes.way between_is leads_there plain
+
+        loops_there : open_loops t ≡ drop left (open_loops s)
+        loops_there = step_loops here.node.element goes.way s t (left_by nodes here.node) counted_there goes.was plain
+
+        abbrev later : List OpenTurn
+        later = drop left turns
+
+        described_there : Describes (run_at n below later) comes.next (unread_of t.world) t.world.kept t.arguments
+        described_there = subst (λ run. Describes run comes.next (unread_of t.world) t.world.kept t.arguments)
+            (run_behind_way here.node.element goes.way (left_by nodes here.node) s.world (run_at n below turns) plain ∙ run_dropped left n below turns)
+            comes.described
+
+        covered : Covered nodes table goes.target comes.next
+        covered = way_covered nodes table number here.node here.facts comes.next comes.edges goes.way goes.target passes here.at here.known comes.leads goes.taken plain comes.on_way (number_within nodes goes.target there at).1
+
+        described_again : Describes (run_at n below later) covered.facts (unread_of t.world) t.world.kept t.arguments
+        described_again = covers_are_sound (run_at n below later) covered.facts comes.next (unread_of t.world) t.world.kept t.arguments whole covered.covered described_there
+
+        held_there : held_at nodes table n goes.target ≡ value covered.facts.held n
+        held_there = held_known nodes table n goes.target covered.facts covered.known
+
+        held_more : value comes.next.held n ≤ value covered.facts.held n
+        held_more = values_compare comes.next.held covered.facts.held n (held_covered covered.facts comes.next covered.covered)
+
+        ended : AllByRecursion (λ b. end_of nodes b < goes.target) (take left here.node.stand.iterations)
+        ended = laws.left library entry nodes number goes.target left here.node there.stand are here.at (stand_of nodes entry goes.target there at) is_ahead.0 is_ahead.1
+
+        open_still : AllByRecursion (λ b. goes.target ≤ end_of nodes b) (drop left here.node.stand.iterations)
+        open_still = subst (AllByRecursion (λ b. goes.target ≤ end_of nodes b)) is_ahead.1 (closed.ahead goes.target there at)
+
+        reached : (k : ℕ) (facts : Facts) → facts_at table k ≡ Some facts → is_reached table k ≡ true
+        reached zero facts h = refl
+        reached (suc k) facts h = ap (λ (o : Option Facts). is_some o) h
+
+        falls : AllByRecursion (λ b. FallFollows (if number == suc b then Some (pos 0) else None) (if goes.target == suc b then Some (pos 0) else None) (held_of s.world) (held_of t.world)) there.stand.iterations
+        falls = subst (AllByRecursion (λ b. FallFollows (if number == suc b then Some (pos 0) else None) (if goes.target == suc b then Some (pos 0) else None) (held_of s.world) (held_of t.world))) (sym is_ahead.1)
+            (no_falls (λ b. if number == suc b then Some (pos 0) else None) goes.target (held_of s.world) (held_of t.world) number (drop left here.node.stand.iterations) is_ahead.0 (descend_dropped left number here.node.stand.iterations (closed.descend number here.node here.at)))
+
+        going : Goes (turning nodes table n) (shown number here.node.stand.iterations turns s.world) (shown goes.target there.stand.iterations later t.world)
+        going = record {
+          later = is_ahead.0;
+          inside = omega (arith, number_within nodes goes.target there at);
+          reached = reached goes.target covered.facts covered.known;
+          loops = iterations_are nodes goes.target there at ∙ (is_ahead.1 ∙ (numbers_still (λ b. end_of nodes b) goes.target left here.node.stand.iterations ended open_still ∙ ap (λ ls. still_open (λ b. end_of nodes b) goes.target ls) (sym (iterations_are nodes number here.node here.at))));
+          opened = ap (λ ls. loops_of ls later) is_ahead.1 ∙ loops_still (λ b. end_of nodes b) goes.target left here.node.stand.iterations turns many_here.1 ended open_still;
+          held = omega (arith, comes.grown, held_known nodes table n number here.facts here.known, held_there, held_more);
+          ahead = omega (arith, held_there, described_again.state.held);
+          falls = subst (λ ls. AllByRecursion (λ b. FallFollows (if number == suc b then Some (pos 0) else None) (if goes.target == suc b then Some (pos 0) else None) (held_of s.world) (held_of t.world)) ls) (sym (iterations_are nodes goes.target there at)) falls;
+        }
+
+        opened_there : AreOpened table n there.stand.iterations (open_loops t) later
+        opened_there = subst (λ ls. AreOpened table n ls (open_loops t) later) (sym is_ahead.1)
+            (subst (λ ls. AreOpened table n (drop left here.node.stand.iterations) ls later) (sym loops_there)
+            (opened_dropped table n left here.node.stand.iterations (open_loops s) turns here.opened))
+
+        pub goes_on : MovesOn library nodes table n below number here.node turns s goes.target t
+        goes_on = record {
+          there = there;
+          later = later;
+          move = Forward going;
+          held = λ few. record {
+            node = there;
+            facts = covered.facts;
+            at = at;
+            known = covered.known;
+            position = stands_there;
+            begins = goes.done;
+            loaded = loaded;
+            whole = whole;
+            opened = opened_there;
+            described = described_again;
+          };
+        }

@@ -8,3 +8,6 @@ mod Closing
 mod Leaving
 mod Passing
 mod Going
+mod Entered
+mod Returned
+mod Steps

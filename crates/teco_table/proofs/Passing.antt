@@ -1,5 +1,5 @@
 -- The numbers of the open iterations behind a way that begins no turn.
-use Rattle.std.proofs.Common.{◌≡◌, ℕ, zero, suc, ◌+◌, ◌-◌, ◌≤◌, ◌<◌, ◌==◌, ltb, refl, sym, ap, ◌∙◌, subst, arith, pos, ℤ, List, [], ◌∷◌, ◌++◌, map, take, drop, length, nat_lt, Bool, true, false, if◌then◌else◌, cond, Option, Some, None, eqb-true, length-append, length-drop}
+use Rattle.std.proofs.Common.{◌≡◌, ℕ, zero, suc, ◌+◌, ◌-◌, ◌≤◌, ◌<◌, ◌==◌, refl, sym, ap, ◌∙◌, arith, pos, ℤ, List, [], ◌∷◌, map, take, drop, length, nat_lt, Bool, true, false, if◌then◌else◌, Option, Some, None, eqb-true, length-append, length-drop}
 use Rattle.std.specs.List.{AllByRecursion}
 use Rattle.std.proofs.lemmas.Bool.{ltb-true, ltb-false}
 use Rattle.teco_turns.specs.Moves.{OpenLoop, still_open, FallFollows}
@@ -16,7 +16,7 @@ use Rattle.teco_expand.specs.Leading.{Place, LeadsByFlow, LeadsByKind, LeadsBy}
 use Rattle.teco_expand.specs.Node.{Node}
 use Rattle.teco_expand.specs.Position.{Spot, start_of, spot_of, starts_in}
 use Rattle.teco_table.specs.Behind.{turns_by_flow, turns_by_kind, begins_turn}
-use Rattle.teco_table.specs.Following.{OpenTurn, begun_of, loops_in, open_loops, IsOpened, AreOpened, loops_of}
+use Rattle.teco_table.specs.Following.{OpenTurn, begun_of, loops_in, open_loops, AreOpened, loops_of}
 use Rattle.teco_table.specs.Moving.{left_by_flow, left_by_kind, left_along}
 use Rattle.teco_table.specs.Table.{Table}
 

@@ -77,7 +77,7 @@ open_numbers nodes entry below text callers Rest (start ∷ outer) (n ∷ number
 pub iterations_are : (nodes : List Node) (k : ℕ) (node : Node) → numbered nodes k ≡ Some node → iterations_at nodes k ≡ node.stand.iterations
 iterations_are nodes k node at = ap (λ (o : Option Node). option_map_or iterations_of o []) at
 
-ending : (node : Node) (e : Element) (b : ℕ) (outer : List ℕ) → node.element ≡ Some e → e.kind ≡ kind.Flow flow.EndTurn → node.stand.iterations ≡ b ∷ outer → ends b node ≡ true
+pub ending : (node : Node) (e : Element) (b : ℕ) (outer : List ℕ) → node.element ≡ Some e → e.kind ≡ kind.Flow flow.EndTurn → node.stand.iterations ≡ b ∷ outer → ends b node ≡ true
 ending node e b outer reads is s =
     ap (λ (read : Option Element). ends_by b read node.stand.iterations) reads ∙ (ap (λ (c : Kind). ends_by_kind b c node.stand.iterations) is ∙ (ap (is_innermost b) s ∙ same_number b))
 
