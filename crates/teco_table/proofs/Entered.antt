@@ -24,6 +24,7 @@ use Rattle.teco_expand.specs.Linked.{AreLinked}
 use Rattle.teco_expand.specs.Node.{Node, stands, numbered, stand_at}
 use Rattle.teco_expand.specs.Position.{position_of}
 use Rattle.teco_expand.specs.Run.{GoesTo}
+use Rattle.teco_expand.specs.Steps.{is_long}
 use Rattle.teco_expand.specs.Turns as went
 use Rattle.teco_expand.specs.Was.{StepWas, ElementWas, Turns}
 use Rattle.teco_poly.specs.Polynomial.{Polynomial, value}
@@ -48,7 +49,7 @@ use Rattle.teco_rules.specs.declared.values.Value.{Value}
 use Rattle.teco_table.specs.Behind.{left_by, along, turns_by_flow, turns_by_kind, begins_turn}
 use Rattle.teco_table.specs.Closed.{say_same, is_counted, body_stands, is_entered, turn_stands_by, turn_stands_at, closed_behind, check}
 use Rattle.teco_table.specs.Following.{OpenTurn, begun_of, run_at, loops_in, open_loops, AreMore, IsOpened, AreOpened, IsDescribed, held_of, loops_of, shown}
-use Rattle.teco_table.specs.Moving.{run_by_kind, run_along, Comes, MovesOn}
+use Rattle.teco_table.specs.Moving.{run_by_kind, run_along, IsLong, IsLast, Alone, Again, Comes, MovesOn}
 use Rattle.teco_table.specs.Table.{Table, facts_at, choice_at}
 use Rattle.teco_table.specs.Printed.{turns_at}
 use Rattle.teco_table.specs.Turning.{value_of, is_reached, turning}
@@ -165,21 +166,28 @@ none_taken fore back r c known taken e f h none =
     (subst (λ c. Covers (IsTaken fore back) (Ok known) c) f (subst (λ r. Covers (IsTaken fore back) r c) e h)).value
 
 -- ---- the step
+short : (f : Flow) (k : Kind) → k ≡ kind.Flow f → is_long k ≡ true → ⊥
+short f k is long = let z : false ≡ true = sym (ap is_long is) ∙ long in absurd (cc)
+
+pub not_again : (f : Flow) (e : Element) (read : Option Element) (s last : State) → read ≡ Some e → e.kind ≡ kind.Flow f → IsLast read s last → last ≡ s
+not_again f e read s last reads is (Alone same) = same
+not_again f e read s last reads is (Again same long) = absurd (short f e.kind is (subst IsLong reads long))
+
 pub world_same : (f : Flow) (way : ℕ) (e : Element) (s t : State) → Turns f way e s t → t.world ≡ s.world
 world_same f way e s t w = ap (λ (t : State). t.world) w.gone
 
 module _ (laws : Laws) (library : Library) (entry : ℕ) (nodes : List Node) (are : AreLinked library entry nodes) (closed : AreClosed nodes) (table : Table) (n : ℕ) (below : List Pair) (passes : check nodes table ≡ Ok tt) where
-  module _ (number : ℕ) (turns : List OpenTurn) (s t : State) (here : IsDescribed library nodes table n below number turns s) (goes : GoesTo (stands nodes entry) number here.node s t) (comes : Comes nodes here.node here.facts goes.way (run_at n below turns) s t) (loaded : IsLoaded library t.world.kept) (whole : IsWhole t.world.kept) where
+  module _ (number : ℕ) (turns : List OpenTurn) (s last t : State) (here : IsDescribed library nodes table n below number turns s) (again : IsLast here.node.element s last) (goes : GoesTo (stands nodes entry) number here.node last t) (comes : Comes nodes here.node here.facts goes.way (run_at n below turns) s t) (loaded : IsLoaded library t.world.kept) (whole : IsWhole t.world.kept) where
     module _ (there : Node) (at : numbered nodes goes.target ≡ Some there) (stand : there.stand ≡ stand_at number here.node.stand (position_of t)) where
       module _ (e : Element) (reads : here.node.element ≡ Some e) (is : e.kind ≡ kind.Flow flow.Iterate) (first : goes.way ≡ 0) where
         was : Turns flow.Iterate zero e s t
-        was = subst (λ k. ElementWas k zero e s t) is (subst (λ way. StepWas (Some e) way s t) first (subst (λ read. StepWas read goes.way s t) reads goes.was))
+        was = subst (λ (last : State). Turns flow.Iterate zero e last t) (not_again flow.Iterate e here.node.element s last reads is again) (subst (λ k. ElementWas k zero e last t) is (subst (λ way. StepWas (Some e) way last t) first (subst (λ read. StepWas read goes.way last t) reads goes.was)))
 
         into : IsInside (place_at number here.node.stand) (place_at goes.target there.stand)
         into = subst (λ k. LeadsByKind k zero (place_at number here.node.stand) (place_at goes.target there.stand)) is
             (subst (λ way. LeadsBy (Some e) way (place_at number here.node.stand) (place_at goes.target there.stand)) first
             (subst (λ read. LeadsBy read goes.way (place_at number here.node.stand) (place_at goes.target there.stand)) reads
-            (leads_there laws library entry nodes are closed table n below passes number turns s t here goes comes loaded whole there at stand)))
+            (leads_there laws library entry nodes are closed table n below passes number turns s last t here again goes comes loaded whole there at stand)))
 
         on : comes.edges.on ≡ Some comes.next
         on = subst (λ k. along (Some (record e { kind = k })) zero comes.edges ≡ Some comes.next) is
@@ -289,7 +297,7 @@ module _ (laws : Laws) (library : Library) (entry : ℕ) (nodes : List Node) (ar
             facts = body.start;
             at = at;
             known = started_at;
-            position = stands_there laws library entry nodes are closed table n below passes number turns s t here goes comes loaded whole there at stand;
+            position = stands_there laws library entry nodes are closed table n below passes number turns s last t here again goes comes loaded whole there at stand;
             begins = goes.done;
             loaded = loaded;
             whole = whole;

@@ -11,7 +11,7 @@ use Rattle.teco_model.specs.declared.kind.Kind.{Kind}
 use Rattle.teco_model.specs.declared.kind.Kind.TheVariants as kind
 use Rattle.teco_model.specs.Element.{Element}
 use Rattle.teco_model.specs.Registers.{Pair}
-use Rattle.teco_model.specs.State.{World, State}
+use Rattle.teco_model.specs.State.{World, Frames, State}
 use Rattle.teco_expand.specs.Ends.{end_of, AreClosed, LeftHaveEnded}
 use Rattle.teco_expand.specs.Iterations.{AreOpen, IterationsAreOpen}
 use Rattle.teco_expand.specs.Leading.{LeadsBy, place_at, WaysLead}
@@ -30,8 +30,8 @@ use Rattle.teco_rules.specs.Flows.{Edges}
 use Rattle.teco_rules.specs.SoundPages.{unread_of}
 use Rattle.teco_table.specs.Behind.{open_of, open_at, left_by, edges_at, along, turns_by_flow, turns_by_kind, begins_turn}
 use Rattle.teco_table.specs.Closed.{is_covered, arrives, arrive, closed_behind, closed_where, check}
-use Rattle.teco_table.specs.Following.{OpenTurn, run_at, open_loops, AreOpened, IsDescribed, held_of, loops_of, shown}
-use Rattle.teco_table.specs.Moving.{left_by_flow, left_by_kind, left_along, run_by_flow, run_by_kind, run_along, Comes, MovesOn}
+use Rattle.teco_table.specs.Following.{OpenTurn, run_at, loops_in, open_loops, AreOpened, IsDescribed, held_of, loops_of, shown}
+use Rattle.teco_table.specs.Moving.{left_by_flow, left_by_kind, left_along, run_by_flow, run_by_kind, run_along, IsLast, Alone, Again, Comes, MovesOn}
 use Rattle.teco_table.specs.Table.{Table, facts_at}
 use Rattle.teco_table.specs.Turning.{is_reached, held_at, turning}
 use Rattle.teco_table.proofs.Closing.{held_covered, held_known}
@@ -90,7 +90,7 @@ module _ (nodes : List Node) (table : Table) where
       slice_get node.ways way ≡ Some target → begins_turn node.element way ≡ false → along node.element way edges ≡ Some next → target ≤ length nodes → Covered target next
   way_covered number node facts next edges way target passes at known leads taken turn on l =
       let behind : IsTrue (closed_behind nodes table number node facts (Ok edges)) = behind_checked number node facts edges passes at known leads in
-      let all = (and_both _ _ behind).1 in
+      let all : IsTrue (arrive nodes table node.element edges 0 node.ways) = (and_both _ _ behind).1 in
       let z : 0 + way ≡ way = omega arith in
       let this : IsTrue (begins_turn node.element way || arrives nodes table target (along node.element way edges)) = subst (λ k. IsTrue (begins_turn node.element k || arrives nodes table target (along node.element k edges))) z (arrive_at node.element edges 0 way node.ways target all taken) in
       let there : arrives nodes table target (along node.element way edges) ≡ true = or_false (begins_turn node.element way) _ turn this in
@@ -135,6 +135,11 @@ run_behind_way (Some e) way between world run h = run_kind e.kind way between wo
 run_dropped : (left n : ℕ) (below : List Pair) (turns : List OpenTurn) → run_behind left (run_at n below turns) ≡ run_at n below (drop left turns)
 run_dropped left n below turns = ap (λ (begun : List ℕ). record { n = n; turns = begun; below = below }) (begun_dropped left turns)
 
+-- the iterations that are open stay while an element goes on
+same_loops : (read : Option Element) (s last : State) → IsLast read s last → open_loops last ≡ open_loops s
+same_loops read s last (Alone e) = ap open_loops e
+same_loops read s last (Again e long) = ap (λ (frames : Frames). loops_in (frames.running ∷ frames.callers)) e
+
 -- ---- the step
 pub record Laws : Type 0 where
   pub open_at : IterationsAreOpen
@@ -142,7 +147,7 @@ pub record Laws : Type 0 where
   pub lead : WaysLead
 
 module _ (laws : Laws) (library : Library) (entry : ℕ) (nodes : List Node) (are : AreLinked library entry nodes) (closed : AreClosed nodes) (table : Table) (n : ℕ) (below : List Pair) (passes : check nodes table ≡ Ok tt) where
-  module _ (number : ℕ) (turns : List OpenTurn) (s t : State) (here : IsDescribed library nodes table n below number turns s) (goes : GoesTo (stands nodes entry) number here.node s t) (comes : Comes nodes here.node here.facts goes.way (run_at n below turns) s t) (loaded : IsLoaded library t.world.kept) (whole : IsWhole t.world.kept) where
+  module _ (number : ℕ) (turns : List OpenTurn) (s last t : State) (here : IsDescribed library nodes table n below number turns s) (again : IsLast here.node.element s last) (goes : GoesTo (stands nodes entry) number here.node last t) (comes : Comes nodes here.node here.facts goes.way (run_at n below turns) s t) (loaded : IsLoaded library t.world.kept) (whole : IsWhole t.world.kept) where
     module _ (there : Node) (at : numbered nodes goes.target ≡ Some there) (stand : there.stand ≡ stand_at number here.node.stand (position_of t)) where
       pub stands_there : there.stand.position ≡ position_of t
       stands_there = ap (λ (stand : Stand). stand.position) stand
@@ -166,14 +171,16 @@ module _ (laws : Laws) (library : Library) (entry : ℕ) (nodes : List Node) (ar
         abbrev left : ℕ
         left = left_along here.node.element goes.way (left_by nodes here.node)
 
-        counted_there : goes.way ≡ 0 → left_by nodes here.node ≡ length (open_loops s) - length (open_loops t)
-        counted_there z = let b = between_is z in omega (arith, b, many_here.0, many_there)
+        counted_there : goes.way ≡ 0 → left_by nodes here.node ≡ length (open_loops last) - length (open_loops t)
+        counted_there z = let b = between_is z in let l = ap length (same_loops here.node.element s last again) in omega (arith, b, l, many_here.0, many_there)
 
         is_ahead : Ahead left (place_at number here.node.stand) (place_at goes.target there.stand)
         is_ahead = ahead (place_at number here.node.stand) (place_at goes.target there.stand) (left_by nodes here.node) here.node.element goes.way between_is leads_there plain
 
         loops_there : open_loops t ≡ drop left (open_loops s)
-        loops_there = step_loops here.node.element goes.way s t (left_by nodes here.node) counted_there goes.was plain
+        loops_there =
+            step_loops here.node.element goes.way last t (left_by nodes here.node) counted_there goes.was plain
+            ∙ ap (drop left) (same_loops here.node.element s last again)
 
         abbrev later : List OpenTurn
         later = drop left turns

@@ -31,12 +31,12 @@ use Rattle.teco_rules.specs.Laws.{entered, IsCarried, BeginsAgain}
 use Rattle.teco_rules.specs.SoundPages.{unread_of}
 use Rattle.teco_table.specs.Closed.{is_counted, check}
 use Rattle.teco_table.specs.Following.{OpenTurn, begun_of, run_at, loops_in, open_loops, AreMore, IsOpened, AreOpened, IsDescribed, held_of, loops_of, shown}
-use Rattle.teco_table.specs.Moving.{Comes, MovesOn}
+use Rattle.teco_table.specs.Moving.{IsLast, Comes, MovesOn}
 use Rattle.teco_table.specs.Table.{Table, facts_at, choice_at}
 use Rattle.teco_table.specs.Turning.{is_reached, held_at, turning}
 use Rattle.teco_table.specs.Written.{written}
 use Rattle.teco_table.proofs.Closing.{held_known, held_same}
-use Rattle.teco_table.proofs.Entered.{counted_covered, world_same}
+use Rattle.teco_table.proofs.Entered.{counted_covered, not_again, world_same}
 use Rattle.teco_table.proofs.Entering.{Entering, enters}
 use Rattle.teco_table.proofs.Going.{Laws, stands_there, leads_there}
 use Rattle.teco_table.proofs.Reading.{Body, body_is}
@@ -78,17 +78,17 @@ returns_by choice written most entering end counted facts e h =
     (and_both _ _ (subst (λ (entering : Facts). IsTrue (choice_stands choice written (is_counted entering.iterations) most entering (Some end))) e h)).1
 
 module _ (laws : Laws) (library : Library) (entry : ℕ) (nodes : List Node) (are : AreLinked library entry nodes) (closed : AreClosed nodes) (table : Table) (n : ℕ) (below : List Pair) (passes : check nodes table ≡ Ok tt) where
-  module _ (number : ℕ) (turns : List OpenTurn) (s t : State) (here : IsDescribed library nodes table n below number turns s) (goes : GoesTo (stands nodes entry) number here.node s t) (comes : Comes nodes here.node here.facts goes.way (run_at n below turns) s t) (loaded : IsLoaded library t.world.kept) (whole : IsWhole t.world.kept) where
+  module _ (number : ℕ) (turns : List OpenTurn) (s last t : State) (here : IsDescribed library nodes table n below number turns s) (again : IsLast here.node.element s last) (goes : GoesTo (stands nodes entry) number here.node last t) (comes : Comes nodes here.node here.facts goes.way (run_at n below turns) s t) (loaded : IsLoaded library t.world.kept) (whole : IsWhole t.world.kept) where
     module _ (there : Node) (at : numbered nodes goes.target ≡ Some there) (stand : there.stand ≡ stand_at number here.node.stand (position_of t)) where
       module _ (e : Element) (reads : here.node.element ≡ Some e) (is : e.kind ≡ kind.Flow flow.EndTurn) (first : goes.way ≡ 0) where
         was : Turns flow.EndTurn zero e s t
-        was = subst (λ k. ElementWas k zero e s t) is (subst (λ way. StepWas (Some e) way s t) first (subst (λ read. StepWas read goes.way s t) reads goes.was))
+        was = subst (λ (last : State). Turns flow.EndTurn zero e last t) (not_again flow.EndTurn e here.node.element s last reads is again) (subst (λ k. ElementWas k zero e last t) is (subst (λ way. StepWas (Some e) way last t) first (subst (λ read. StepWas read goes.way last t) reads goes.was)))
 
         back : IsBack (place_at number here.node.stand) (place_at goes.target there.stand)
         back = subst (λ k. LeadsByKind k zero (place_at number here.node.stand) (place_at goes.target there.stand)) is
             (subst (λ way. LeadsBy (Some e) way (place_at number here.node.stand) (place_at goes.target there.stand)) first
             (subst (λ read. LeadsBy read goes.way (place_at number here.node.stand) (place_at goes.target there.stand)) reads
-            (leads_there laws library entry nodes are closed table n below passes number turns s t here goes comes loaded whole there at stand)))
+            (leads_there laws library entry nodes are closed table n below passes number turns s last t here again goes comes loaded whole there at stand)))
 
         same_world : t.world ≡ s.world
         same_world = world_same flow.EndTurn zero e s t was
@@ -190,8 +190,8 @@ module _ (laws : Laws) (library : Library) (entry : ℕ) (nodes : List Node) (ar
         held_start = ap (held_at nodes table n) target_is ∙ (held_known nodes table n (suc back.begin) opened.own.start opened.own.started ∙ held_same opened.own.start (body_start body.choice (written nodes back.begin) body.entering) n body.same)
 
         module _ (few : held_of t.world ≤ held_at nodes table n goes.target) where
-          again : BeginsAgain (run_at n below turns) body.facts (body_start body.choice (written nodes back.begin) (entered counted body.facts)) (unread_of s.world) s.world.kept body.choice.kept (map begun_of opened.outer)
-          again = returns_are_sound (run_at n below turns) body.facts here.facts (unread_of s.world) s.world.kept s.arguments body.choice (written nodes back.begin) counted body.most opened.turn.begun (map begun_of opened.outer)
+          next_turn : BeginsAgain (run_at n below turns) body.facts (body_start body.choice (written nodes back.begin) (entered counted body.facts)) (unread_of s.world) s.world.kept body.choice.kept (map begun_of opened.outer)
+          next_turn = returns_are_sound (run_at n below turns) body.facts here.facts (unread_of s.world) s.world.kept s.arguments body.choice (written nodes back.begin) counted body.most opened.turn.begun (map begun_of opened.outer)
               here.whole returning here.described begun_are (falls_many ∙ sym (length-map opened.outer begun_of))
               (let w : held_of t.world ≡ held_of s.world = ap held_of same_world in omega (arith, few, w, held_start)) carried
 
@@ -201,7 +201,7 @@ module _ (laws : Laws) (library : Library) (entry : ℕ) (nodes : List Node) (ar
           described_start : Describes (run_at n below later) opened.own.start (unread_of s.world) s.world.kept model.no_arguments
           described_start = covers_are_sound (run_at n below later) opened.own.start (body_start body.choice (written nodes back.begin) body.entering) (unread_of s.world) s.world.kept model.no_arguments here.whole (and_both _ _ body.same).0
               (subst (λ facts. Describes (run_at n below later) (body_start body.choice (written nodes back.begin) facts) (unread_of s.world) s.world.kept model.no_arguments) (sym entering.is)
-              (subst (λ run. Describes run (body_start body.choice (written nodes back.begin) (entered counted body.facts)) (unread_of s.world) s.world.kept model.no_arguments) run_is again.described))
+              (subst (λ run. Describes run (body_start body.choice (written nodes back.begin) (entered counted body.facts)) (unread_of s.world) s.world.kept model.no_arguments) run_is next_turn.described))
 
           arguments_are : t.arguments ≡ model.no_arguments
           arguments_are = ap (λ (t : State). t.arguments) was.gone ∙ ap (λ (turn : Turn). turn.arguments) was.went.gone
@@ -222,8 +222,8 @@ module _ (laws : Laws) (library : Library) (entry : ℕ) (nodes : List Node) (ar
                 chosen = body.chosen;
                 more = less.is;
                 falls = falls_many;
-                ahead = λ k. (again.carried k).ahead;
-                fallen = λ k. (again.carried k).falls;
+                ahead = λ k. (next_turn.carried k).ahead;
+                fallen = λ k. (next_turn.carried k).falls;
               } in
               subst (λ ls. AreOpened table n ls (open_loops t) later) (sym (back.same ∙ back.innermost)) (subst (λ ls. AreOpened table n (back.begin ∷ back.outer) ls later) (sym to) (own, opened.rest))
 
@@ -233,7 +233,7 @@ module _ (laws : Laws) (library : Library) (entry : ℕ) (nodes : List Node) (ar
             facts = opened.own.start;
             at = at;
             known = started_at;
-            position = stands_there laws library entry nodes are closed table n below passes number turns s t here goes comes loaded whole there at stand;
+            position = stands_there laws library entry nodes are closed table n below passes number turns s last t here again goes comes loaded whole there at stand;
             begins = goes.done;
             loaded = loaded;
             whole = whole;

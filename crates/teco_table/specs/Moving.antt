@@ -1,5 +1,5 @@
 -- A step from where a run is described is a move of the table of numbers, to where it is described again.
-use Rattle.std.specs.Prelude.{◌≡◌, ℕ, zero, suc, ◌+◌, ◌≤◌, List, Option, Some, None, Ok}
+use Rattle.std.specs.Prelude.{◌≡◌, ℕ, zero, suc, ◌+◌, ◌≤◌, List, true, Option, Some, None, Ok}
 use Rattle.teco_turns.specs.Moves.{Move}
 use Rattle.teco_model.specs.declared.kind.Kind.{Kind}
 use Rattle.teco_model.specs.declared.kind.Kind.TheVariants as kind
@@ -13,6 +13,7 @@ use Rattle.teco_expand.specs.Linked.{AreLinked}
 use Rattle.teco_expand.specs.Node.{Node, over, stands}
 use Rattle.teco_expand.specs.Position.{position_of}
 use Rattle.teco_expand.specs.Run.{GoesTo}
+use Rattle.teco_expand.specs.Steps.{is_long}
 use Rattle.teco_poly.specs.Polynomial.{value}
 use Rattle.teco_rules.specs.Describes.{Run, run_behind, run_in_turn, IsWhole, Describes}
 use Rattle.teco_rules.specs.Facts.{Facts}
@@ -54,8 +55,8 @@ abbrev pub run_along : Option Element → ℕ → ℕ → World → Run → Run
 run_along None way between world run = run
 run_along (Some e) way between world run = run_by_kind e.kind way between world run
 
--- What the laws of facts say of a step along a way: the way is reached, what is known on it describes what the step comes
--- to, and what is held grew by no more than that says.
+-- What the laws of facts say of an element whose last step goes along a way: the way is reached, what is known on it
+-- describes what the element comes to, and what is held grew by no more than that says.
 pub record Comes
     (nodes : List Node) (node : Node) (facts : Facts) (way : ℕ) (run : Run) (s t : State) : Type 0 where
   pub edges : Edges
@@ -67,7 +68,16 @@ pub record Comes
       t.arguments
   pub grown : held_of t.world + value facts.held run.n ≤ held_of s.world + value next.held run.n
 
--- A step came to a node by a move. It is described there if no more is held than the table has there.
+-- The last step of an element goes along a way. P, PW, N and FN may have taken others before, and stood where they began.
+abbrev pub IsLong : Option Element → Type 0
+IsLong None = ⊥
+IsLong (Some e) = is_long e.kind ≡ true
+
+pub data IsLast (read : Option Element) (s last : State) : Type 0 where
+  Alone : last ≡ s → IsLast read s last
+  Again : last.frames ≡ s.frames → IsLong read → IsLast read s last
+
+-- It came to a node by a move. It is described there if no more is held than the table has there.
 pub record MovesOn
     (library : Library) (nodes : List Node) (table : Table) (n : ℕ) (below : List Pair) (number : ℕ) (node : Node)
     (turns : List OpenTurn) (s : State) (target : ℕ) (t : State) : Type 0 where
@@ -92,10 +102,10 @@ pub data ComesOn
 abbrev pub StepsMove : Type 0
 StepsMove =
     (library : Library) (entry : ℕ) (nodes : List Node) (table : Table) (n : ℕ) (below : List Pair) (number : ℕ)
-    (turns : List OpenTurn) (s t : State)
+    (turns : List OpenTurn) (s last t : State)
     → AreLinked library entry nodes → check nodes table ≡ Ok tt
     → (here : IsDescribed library nodes table n below number turns s)
-    → (goes : GoesTo (stands nodes entry) number here.node s t)
+    → IsLast here.node.element s last → (goes : GoesTo (stands nodes entry) number here.node last t)
     → Comes nodes here.node here.facts goes.way (run_at n below turns) s t
     → IsLoaded library t.world.kept → IsWhole t.world.kept
     → ComesOn library entry nodes table n below number here.node turns s goes.target t
