@@ -290,6 +290,7 @@ module _ (laws : Laws) (library : Library) (entry : ℕ) (nodes : List Node) (ar
         pub begins_first : MovesOn library nodes table n below number here.node turns s goes.target t
         begins_first = record {
           there = there;
+          at = at;
           later = later;
           move = Into entering_it;
           held = λ few. record {

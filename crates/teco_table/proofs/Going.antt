@@ -29,7 +29,7 @@ use Rattle.teco_rules.specs.Facts.{Facts}
 use Rattle.teco_rules.specs.Flows.{Edges}
 use Rattle.teco_rules.specs.SoundPages.{unread_of}
 use Rattle.teco_table.specs.Behind.{open_of, open_at, left_by, edges_at, along, turns_by_flow, turns_by_kind, begins_turn}
-use Rattle.teco_table.specs.Closed.{is_covered, arrives, arrive, closed_behind, closed_where, check}
+use Rattle.teco_table.specs.Closed.{ends_run, is_covered, arrives, arrive, closed_behind, closed_where, check}
 use Rattle.teco_table.specs.Following.{OpenTurn, run_at, loops_in, open_loops, AreOpened, IsDescribed, held_of, loops_of, shown}
 use Rattle.teco_table.specs.Moving.{left_by_flow, left_by_kind, left_along, run_by_flow, run_by_kind, run_along, IsLast, Alone, Again, Comes, MovesOn}
 use Rattle.teco_table.specs.Table.{Table, facts_at}
@@ -52,16 +52,16 @@ or_false false b e h = h
 
 module _ (nodes : List Node) (table : Table) where
   arrive_at : (read : Option Element) (edges : Edges) (first way : ℕ) (ways : List ℕ) (target : ℕ) → IsTrue (arrive nodes table read edges first ways) → slice_get ways way ≡ Some target →
-      IsTrue (begins_turn read (first + way) || arrives nodes table target (along read (first + way) edges))
+      IsTrue (begins_turn read (first + way) || arrives nodes table read target (along read (first + way) edges))
   arrive_at read edges first way [] target h g = absurd (cc)
   arrive_at read edges first zero (x ∷ ways) target h g =
       let e : x ≡ target = cc in
       let z : first ≡ first + 0 = omega arith in
-      subst (λ k. IsTrue (begins_turn read k || arrives nodes table target (along read k edges))) z
-      (subst (λ x. IsTrue (begins_turn read first || arrives nodes table x (along read first edges))) e (and_both _ _ h).0)
+      subst (λ k. IsTrue (begins_turn read k || arrives nodes table read target (along read k edges))) z
+      (subst (λ x. IsTrue (begins_turn read first || arrives nodes table read x (along read first edges))) e (and_both _ _ h).0)
   arrive_at read edges first (suc way) (x ∷ ways) target h g =
       let z : suc first + way ≡ first + suc way = omega arith in
-      subst (λ k. IsTrue (begins_turn read k || arrives nodes table target (along read k edges))) z (arrive_at read edges (suc first) way ways target (and_both _ _ h).1 g)
+      subst (λ k. IsTrue (begins_turn read k || arrives nodes table read target (along read k edges))) z (arrive_at read edges (suc first) way ways target (and_both _ _ h).1 g)
 
   pub behind_checked : (number : ℕ) (node : Node) (facts : Facts) (edges : Edges) → check nodes table ≡ Ok tt → numbered nodes number ≡ Some node → facts_at table number ≡ Some facts → edges_at nodes node facts ≡ Ok edges →
       closed_behind nodes table number node facts (Ok edges) ≡ true
@@ -79,23 +79,24 @@ module _ (nodes : List Node) (table : Table) where
   covered_by target next None e h = absurd (cc)
   covered_by target next (Some facts) e h = record { facts = facts; known = e; covered = h }
 
-  not_behind : (target : ℕ) → target ≤ length nodes → nat_lt (length nodes) target ≡ false
-  not_behind target l = by_test _ refl
+  not_behind : (target : ℕ) → target ≤ length nodes → (read : Option Element) → ends_run nodes read target ≡ false
+  not_behind target l (Some e) = refl
+  not_behind target l None = by_test _ refl
     where
       by_test : (b : Bool) → nat_lt (length nodes) target ≡ b → nat_lt (length nodes) target ≡ false
       by_test false e = e
       by_test true e = absurd (omega (arith, l, ltb-true (length nodes) target e))
 
-  way_covered : (number : ℕ) (node : Node) (facts next : Facts) (edges : Edges) (way target : ℕ) → check nodes table ≡ Ok tt → numbered nodes number ≡ Some node → facts_at table number ≡ Some facts → edges_at nodes node facts ≡ Ok edges →
-      slice_get node.ways way ≡ Some target → begins_turn node.element way ≡ false → along node.element way edges ≡ Some next → target ≤ length nodes → Covered target next
+  pub way_covered : (number : ℕ) (node : Node) (facts next : Facts) (edges : Edges) (way target : ℕ) → check nodes table ≡ Ok tt → numbered nodes number ≡ Some node → facts_at table number ≡ Some facts → edges_at nodes node facts ≡ Ok edges →
+      slice_get node.ways way ≡ Some target → begins_turn node.element way ≡ false → along node.element way edges ≡ Some next → ((read : Option Element) → ends_run nodes read target ≡ false) → Covered target next
   way_covered number node facts next edges way target passes at known leads taken turn on l =
       let behind : IsTrue (closed_behind nodes table number node facts (Ok edges)) = behind_checked number node facts edges passes at known leads in
-      let all : IsTrue (arrive nodes table node.element edges 0 node.ways) = (and_both _ _ behind).1 in
       let z : 0 + way ≡ way = omega arith in
-      let this : IsTrue (begins_turn node.element way || arrives nodes table target (along node.element way edges)) = subst (λ k. IsTrue (begins_turn node.element k || arrives nodes table target (along node.element k edges))) z (arrive_at node.element edges 0 way node.ways target all taken) in
-      let there : arrives nodes table target (along node.element way edges) ≡ true = or_false (begins_turn node.element way) _ turn this in
-      let known_there : (nat_lt (length nodes) target || is_covered (facts_at table target) next) ≡ true = sym (ap (arrives nodes table target) on) ∙ there in
-      covered_by target next _ refl (or_false (nat_lt (length nodes) target) _ (not_behind target l) known_there)
+      let all : IsTrue (arrive nodes table node.element edges 0 node.ways) = (and_both _ _ behind).1 in
+      let this : IsTrue (begins_turn node.element way || arrives nodes table node.element target (along node.element way edges)) = subst (λ k. IsTrue (begins_turn node.element k || arrives nodes table node.element target (along node.element k edges))) z (arrive_at node.element edges 0 way node.ways target all taken) in
+      let there : arrives nodes table node.element target (along node.element way edges) ≡ true = or_false (begins_turn node.element way) _ turn this in
+      let known_there : (ends_run nodes node.element target || is_covered (facts_at table target) next) ≡ true = sym (ap (arrives nodes table node.element target) on) ∙ there in
+      covered_by target next _ refl (or_false (ends_run nodes node.element target) _ (l node.element) known_there)
 
 -- ---- where a step comes to
 pub data Target (nodes : List Node) (entry target : ℕ) (stand : Stand) : Type 0 where
@@ -191,7 +192,7 @@ module _ (laws : Laws) (library : Library) (entry : ℕ) (nodes : List Node) (ar
             comes.described
 
         covered : Covered nodes table goes.target comes.next
-        covered = way_covered nodes table number here.node here.facts comes.next comes.edges goes.way goes.target passes here.at here.known comes.leads goes.taken plain comes.on_way (number_within nodes goes.target there at).1
+        covered = way_covered nodes table number here.node here.facts comes.next comes.edges goes.way goes.target passes here.at here.known comes.leads goes.taken plain comes.on_way (not_behind nodes table goes.target (number_within nodes goes.target there at).1)
 
         described_again : Describes (run_at n below later) covered.facts (unread_of t.world) t.world.kept t.arguments
         described_again = covers_are_sound (run_at n below later) covered.facts comes.next (unread_of t.world) t.world.kept t.arguments whole covered.covered described_there
@@ -236,6 +237,7 @@ module _ (laws : Laws) (library : Library) (entry : ℕ) (nodes : List Node) (ar
         pub goes_on : MovesOn library nodes table n below number here.node turns s goes.target t
         goes_on = record {
           there = there;
+          at = at;
           later = later;
           move = Forward going;
           held = λ few. record {

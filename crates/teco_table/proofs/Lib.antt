@@ -11,3 +11,5 @@ mod Going
 mod Entered
 mod Returned
 mod Steps
+mod Walking
+mod Ending

@@ -242,4 +242,4 @@ module _ (laws : Laws) (library : Library) (entry : ℕ) (nodes : List Node) (ar
           }
 
         pub begins_further : MovesOn library nodes table n below number here.node turns s goes.target t
-        begins_further = record { there = there; later = later; move = Back returning_it; held = described_again }
+        begins_further = record { there = there; at = at; later = later; move = Back returning_it; held = described_again }

@@ -27,21 +27,26 @@ abbrev pub is_entry : Option Facts → Bool
 is_entry None = false
 is_entry (Some facts) = say_same facts entry_facts
 
--- An edge that begins no turn is covered where it leads; behind all nodes nothing is known.
+-- An edge that begins no turn is covered where it leads. The return of the entry leads behind all nodes, and there
+-- nothing is known.
+abbrev pub ends_run : List Node → Option Element → ℕ → Bool
+ends_run nodes None target = nat_lt (length nodes) target
+ends_run nodes (Some e) target = false
+
 abbrev pub is_covered : Option Facts → Facts → Bool
 is_covered None edge = false
 is_covered (Some facts) edge = covers facts edge
 
-abbrev pub arrives : List Node → Table → ℕ → Option Facts → Bool
-arrives nodes table target None = true
-arrives nodes table target (Some edge) = nat_lt (length nodes) target || is_covered (facts_at table target) edge
+abbrev pub arrives : List Node → Table → Option Element → ℕ → Option Facts → Bool
+arrives nodes table read target None = true
+arrives nodes table read target (Some edge) = ends_run nodes read target || is_covered (facts_at table target) edge
 
 -- so is each way of a node
 abbrev pub arrive : List Node → Table → Option Element → Edges → ℕ → List ℕ → Bool
-arrive nodes table e edges way [] = true
-arrive nodes table e edges way (target ∷ targets) =
-    (begins_turn e way || arrives nodes table target (along e way edges))
-    && arrive nodes table e edges (suc way) targets
+arrive nodes table read edges way [] = true
+arrive nodes table read edges way (target ∷ targets) =
+    (begins_turn read way || arrives nodes table read target (along read way edges))
+    && arrive nodes table read edges (suc way) targets
 
 -- The start of a body is what the choice makes of what enters it, and the choice stands.
 abbrev pub is_counted : List Iteration → Bool

@@ -8,3 +8,4 @@ pub mod Turning
 pub mod Laws
 pub mod Following
 pub mod Moving
+pub mod Ending

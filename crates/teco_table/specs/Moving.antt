@@ -10,7 +10,7 @@ use Rattle.teco_model.specs.Registers.{Pair}
 use Rattle.teco_model.specs.State.{World, State}
 use Rattle.teco_expand.specs.Library.{Library, IsLoaded}
 use Rattle.teco_expand.specs.Linked.{AreLinked}
-use Rattle.teco_expand.specs.Node.{Node, over, stands}
+use Rattle.teco_expand.specs.Node.{Node, over, stands, numbered}
 use Rattle.teco_expand.specs.Position.{position_of}
 use Rattle.teco_expand.specs.Run.{GoesTo}
 use Rattle.teco_expand.specs.Steps.{is_long}
@@ -82,6 +82,7 @@ pub record MovesOn
     (library : Library) (nodes : List Node) (table : Table) (n : ℕ) (below : List Pair) (number : ℕ) (node : Node)
     (turns : List OpenTurn) (s : State) (target : ℕ) (t : State) : Type 0 where
   pub there : Node
+  pub at : numbered nodes target ≡ Some there
   pub later : List OpenTurn
   pub move :
       Move (turning nodes table n) (shown number node.stand.iterations turns s.world)

@@ -1,4 +1,5 @@
 //! Laws of closed tables.
+ghost use Rattle.teco_table.specs.Ending.{RunsEndInTime};
 ghost use Rattle.teco_table.specs.Laws.{CommandsAreSteps, TablesAreClosed};
 ghost use Rattle.teco_table.specs.Moving.{StepsMove};
 
@@ -24,4 +25,16 @@ pub fn steps_move()
     teco_expand::laws::iterations_end();
     teco_expand::laws::left_have_ended();
     teco_expand::laws::ways_lead();
+}
+
+/// A run of a macro ends without a code within the printed number of commands, where each element does what the laws of
+/// facts say.
+pub fn runs_end_in_time()
+    ensures { RunsEndInTime }
+{
+    teco_turns::laws::runs_are_bounded();
+    teco_turns::laws::runs_are_covered();
+    teco_expand::laws::runs_end();
+    tables_are_closed();
+    steps_move();
 }
