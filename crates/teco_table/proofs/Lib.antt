@@ -13,3 +13,4 @@ mod Returned
 mod Steps
 mod Walking
 mod Ending
+mod Worked

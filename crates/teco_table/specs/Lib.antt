@@ -9,3 +9,5 @@ pub mod Laws
 pub mod Following
 pub mod Moving
 pub mod Ending
+pub mod Deriving
+pub mod Rows

@@ -2,6 +2,12 @@
 ghost use Rattle.teco_table.specs.Ending.{RunsEndInTime};
 ghost use Rattle.teco_table.specs.Laws.{CommandsAreSteps, TablesAreClosed};
 ghost use Rattle.teco_table.specs.Moving.{StepsMove};
+ghost use Rattle.teco_table.specs.Rows.{WorkedTables};
+
+/// The definition gives what is worked by hand.
+pub fn worked_tables()
+    ensures { WorkedTables }
+{}
 
 /// The printed number of commands is that of the table of numbers.
 pub fn commands_are_steps()
