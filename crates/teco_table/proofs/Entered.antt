@@ -47,7 +47,7 @@ use Rattle.teco_rules.specs.Values.{IsValue}
 use Rattle.teco_rules.specs.declared.refusal.Refusal.{Refusal}
 use Rattle.teco_rules.specs.declared.values.Value.{Value}
 use Rattle.teco_table.specs.Behind.{left_by, along, turns_by_flow, turns_by_kind, begins_turn}
-use Rattle.teco_table.specs.Closed.{say_same, is_counted, body_stands, is_entered, turn_stands_by, turn_stands_at, closed_behind, check}
+use Rattle.teco_table.specs.Closed.{say_same, is_counted, body_stands, is_entered, enters_by, enters_at, closed_behind, check}
 use Rattle.teco_table.specs.Following.{OpenTurn, begun_of, run_at, loops_in, open_loops, AreMore, IsOpened, AreOpened, IsDescribed, held_of, loops_of, shown}
 use Rattle.teco_table.specs.Moving.{run_by_kind, run_along, IsLong, IsLast, Alone, Again, Comes, MovesOn}
 use Rattle.teco_table.specs.Table.{Table, facts_at, choice_at}
@@ -144,25 +144,26 @@ later_is (pos zero) more h = absurd (cc)
 later_is (pos (suc m)) more h = let e : m ≡ more = cc in ap (λ k. pos (suc k)) e
 later_is (negsuc m) more h = absurd (cc)
 
-first_turn : (table : Table) (counted : Bool) (most ahead : ℕ) (value : Option ℤ) (left : Option ℕ) → went.Counts value left → AreTurns most ahead value → (value ≡ None → counted ≡ false) → First_turn table counted most ahead left
+first_turn : (table : Table) (counted : Bool) (most ahead : ℕ) (value : Option ℤ) (left : Option ℕ) → went.Counts value left → AreTurns most ahead value → (counted ≡ is_some value) → First_turn table counted most ahead left
 first_turn table counted most ahead None left counts are f =
-    record { more = ahead; is = subst (λ left. AreMore left counted (record { begun = ahead; more = ahead })) (sym counts) (f refl, omega arith); few = omega (arith, are) }
+    record { more = ahead; is = subst (λ left. AreMore left counted (record { begun = ahead; more = ahead })) (sym counts) (f, omega arith); few = omega (arith, are) }
 first_turn table counted most ahead (Some v) left counts are f =
-    record { more = counts.0; is = subst (λ left. AreMore left counted (record { begun = ahead; more = counts.0 })) (sym counts.1) refl; few = omega (arith, ints, are, later_is v counts.0 counts.2) }
+    record { more = counts.0; is = subst (λ left. AreMore left counted (record { begun = ahead; more = counts.0 })) (sym counts.1) (f, refl); few = omega (arith, ints, are, later_is v counts.0 counts.2) }
 
 taken_turns : (n a : ℕ) (r : Result Polynomial Refusal) (c : Result Taken Code) (p : Polynomial) (taken : Taken) → r ≡ Ok p → c ≡ Ok taken → Leads (λ edges. ⊤) (λ p (taken : Taken). AreTurns (value p n) a taken.value) r c → AreTurns (value p n) a taken.value
 taken_turns n a r c p taken e f h =
     (subst (λ c. Leads (λ edges. ⊤) (λ p (taken : Taken). AreTurns (value p n) a taken.value) (Ok p) c) f
     (subst (λ r. Leads (λ edges. ⊤) (λ p (taken : Taken). AreTurns (value p n) a taken.value) r c) e h)) tt
 
-none_optional : (fore back : ℕ) (known : Option Value) (v : Option ℤ) → v ≡ None → IsOptional (IsValue fore back) known v → is_some known ≡ false
-none_optional fore back None v e h = refl
-none_optional fore back (Some k) None e h = absurd h
-none_optional fore back (Some k) (Some v) e h = absurd (cc)
+both_optional : (fore back : ℕ) (known : Option Value) (v : Option ℤ) → IsOptional (IsValue fore back) known v → is_some known ≡ is_some v
+both_optional fore back None None h = refl
+both_optional fore back (Some k) (Some v) h = refl
+both_optional fore back None (Some v) h = absurd h
+both_optional fore back (Some k) None h = absurd h
 
-none_taken : (fore back : ℕ) (r : Result KnownTaken Refusal) (c : Result Taken Code) (known : KnownTaken) (taken : Taken) → r ≡ Ok known → c ≡ Ok taken → Covers (IsTaken fore back) r c → taken.value ≡ None → is_some known.value ≡ false
-none_taken fore back r c known taken e f h none =
-    none_optional fore back known.value taken.value none
+both_taken : (fore back : ℕ) (r : Result KnownTaken Refusal) (c : Result Taken Code) (known : KnownTaken) (taken : Taken) → r ≡ Ok known → c ≡ Ok taken → Covers (IsTaken fore back) r c → is_some known.value ≡ is_some taken.value
+both_taken fore back r c known taken e f h =
+    both_optional fore back known.value taken.value
     (subst (λ c. Covers (IsTaken fore back) (Ok known) c) f (subst (λ r. Covers (IsTaken fore back) r c) e h)).value
 
 -- ---- the step
@@ -206,8 +207,8 @@ module _ (laws : Laws) (library : Library) (entry : ℕ) (nodes : List Node) (ar
         entered_there : is_entered nodes table number here.facts comes.edges.on ≡ true
         entered_there =
             let behind : IsTrue (closed_behind nodes table number here.node here.facts (Ok comes.edges)) = behind_checked nodes table number here.node here.facts comes.edges passes here.at here.known comes.leads in
-            let stands_here : turn_stands_at nodes table number here.node here.facts comes.edges here.node.element ≡ true = (and_both _ _ behind).0 in
-            sym (ap (turn_stands_at nodes table number here.node here.facts comes.edges) reads ∙ ap (turn_stands_by nodes table number here.node here.facts comes.edges) is) ∙ stands_here
+            let stands_here : enters_at nodes table number here.facts comes.edges here.node.element ≡ true = (and_both _ _ behind).0 in
+            sym (ap (enters_at nodes table number here.facts comes.edges) reads ∙ ap (enters_by nodes table number here.facts comes.edges) is) ∙ stands_here
 
         body : Started nodes table number here.facts comes.next
         body = started_by nodes table number here.facts comes.next _ _ _ refl refl refl (sym (ap (is_entered nodes table number here.facts) on) ∙ entered_there)
@@ -220,8 +221,8 @@ module _ (laws : Laws) (library : Library) (entry : ℕ) (nodes : List Node) (ar
             (subst (λ v. AreTurns (value body.most n) begun v) was.went.took.value_is
             (taken_turns n begun (turns_of here.facts) (model.arguments_of s.arguments.level) body.most was.went.took.taken body.turns_are was.went.took.took
             (turns_are_sound (run_at n below turns) here.facts (unread_of s.world) s.world.kept s.arguments here.whole here.described)))
-            (λ none. counted ∙ none_taken (fore_of s.world.kept) (back_of s.world.kept) (arguments_of here.facts.arguments.level) (model.arguments_of s.arguments.level) entering.taken was.went.took.taken entering.took was.went.took.took
-            (taking_is (run_at n below turns) here.facts (unread_of s.world) s.world.kept s.arguments here.whole here.described) (was.went.took.value_is ∙ none))
+            (counted ∙ (both_taken (fore_of s.world.kept) (back_of s.world.kept) (arguments_of here.facts.arguments.level) (model.arguments_of s.arguments.level) entering.taken was.went.took.taken entering.took was.went.took.took
+            (taking_is (run_at n below turns) here.facts (unread_of s.world) s.world.kept s.arguments here.whole here.described) ∙ ap (λ v. is_some v) was.went.took.value_is))
 
         abbrev turn : OpenTurn
         turn = record { begun = begun; more = first_one.more }

@@ -29,7 +29,7 @@ use Rattle.teco_rules.specs.Facts.{Facts}
 use Rattle.teco_rules.specs.Flows.{Edges}
 use Rattle.teco_rules.specs.SoundPages.{unread_of}
 use Rattle.teco_table.specs.Behind.{open_of, open_at, left_by, edges_at, along, turns_by_flow, turns_by_kind, begins_turn}
-use Rattle.teco_table.specs.Closed.{ends_run, is_covered, arrives, arrive, closed_behind, closed_where, check}
+use Rattle.teco_table.specs.Closed.{ends_run, is_covered, arrives, arrive, is_known_in, closed_behind, closed_where, check}
 use Rattle.teco_table.specs.Following.{OpenTurn, run_at, loops_in, open_loops, AreOpened, IsDescribed, held_of, loops_of, shown}
 use Rattle.teco_table.specs.Moving.{left_by_flow, left_by_kind, left_along, run_by_flow, run_by_kind, run_along, IsLast, Alone, Again, Comes, MovesOn}
 use Rattle.teco_table.specs.Table.{Table, facts_at}
@@ -63,11 +63,18 @@ module _ (nodes : List Node) (table : Table) where
       let z : suc first + way ≡ first + suc way = omega arith in
       subst (λ k. IsTrue (begins_turn read k || arrives nodes table read target (along read k edges))) z (arrive_at read edges (suc first) way ways target (and_both _ _ h).1 g)
 
+  where_checked : (number : ℕ) (node : Node) (facts : Facts) → check nodes table ≡ Ok tt → numbered nodes number ≡ Some node → facts_at table number ≡ Some facts → IsTrue (is_known_in table node.stand.iterations facts) × IsTrue (closed_behind nodes table number node facts (edges_at nodes node facts))
+  where_checked number node facts passes at known =
+      let all : IsTrue (closed_where nodes table number node (Some facts)) = ap (closed_where nodes table number node) (sym known) ∙ node_checked nodes table number node passes at in
+      and_both _ _ all
+
+  pub known_in : (number : ℕ) (node : Node) (facts : Facts) → check nodes table ≡ Ok tt → numbered nodes number ≡ Some node → facts_at table number ≡ Some facts → IsTrue (is_known_in table node.stand.iterations facts)
+  known_in number node facts passes at known = (where_checked number node facts passes at known).0
+
   pub behind_checked : (number : ℕ) (node : Node) (facts : Facts) (edges : Edges) → check nodes table ≡ Ok tt → numbered nodes number ≡ Some node → facts_at table number ≡ Some facts → edges_at nodes node facts ≡ Ok edges →
       closed_behind nodes table number node facts (Ok edges) ≡ true
   behind_checked number node facts edges passes at known leads =
-      ap (closed_behind nodes table number node facts) (sym leads)
-      ∙ (ap (closed_where nodes table number node) (sym known) ∙ node_checked nodes table number node passes at)
+      ap (closed_behind nodes table number node facts) (sym leads) ∙ (where_checked number node facts passes at known).1
 
   -- an edge is covered where it leads
   pub record Covered (target : ℕ) (next : Facts) : Type 0 where

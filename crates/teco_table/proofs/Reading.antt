@@ -13,7 +13,7 @@ use Rattle.teco_rules.specs.Bodies.{Choice, body_start, stands}
 use Rattle.teco_rules.specs.Facts.{Facts}
 use Rattle.teco_rules.specs.Flows.{Edges, turns}
 use Rattle.teco_table.specs.Behind.{edges_at}
-use Rattle.teco_table.specs.Closed.{say_same, is_entry, is_counted, body_stands, is_entered, turn_stands_by, turn_stands_at, closed_behind, begins_by_kind, begins_iteration, closed_where, closed_at, check_from, check}
+use Rattle.teco_table.specs.Closed.{say_same, is_entry, is_counted, body_stands, is_entered, enters_by, enters_at, closed_behind, begins_by_kind, begins_iteration, closed_where, closed_at, check_from, check}
 use Rattle.teco_table.specs.Table.{Table, facts_at, choice_at}
 use Rattle.teco_table.specs.Written.{written}
 
@@ -87,8 +87,8 @@ module _ (nodes : List Node) (table : Table) where
       behind_body facts known (Err why) leads h = absurd (cc)
       behind_body facts known (Ok edges) leads h =
           let p = and_both _ _ h in
-          let one = ap (turn_stands_at nodes table begin node facts edges) reads in
-          let two = ap (turn_stands_by nodes table begin node facts edges) is in
+          let one = ap (enters_at nodes table begin facts edges) reads in
+          let two = ap (enters_by nodes table begin facts edges) is in
           on_body facts edges known leads edges.on refl (sym two ∙ (sym one ∙ p.0))
 
       where_body : (o : Option Facts) → facts_at table begin ≡ o → closed_where nodes table begin node o ≡ true → Body begin node start
@@ -96,7 +96,7 @@ module _ (nodes : List Node) (table : Table) where
           let one : begins_iteration node.element ≡ true = ap begins_iteration reads ∙ ap begins_by_kind is in
           let two : (not true || is_none (Some start)) ≡ true = ap (λ b. not b || is_none (Some start)) (sym one) ∙ (ap (λ (o : Option Facts). not (begins_iteration node.element) || is_none o) (sym there) ∙ h) in
           absurd (cc)
-      where_body (Some facts) known h = behind_body facts known _ refl h
+      where_body (Some facts) known h = behind_body facts known _ refl (and_both _ _ h).1
 
       pub body_is : check nodes table ≡ Ok tt → numbered nodes begin ≡ Some node → Body begin node start
       body_is h at = where_body _ refl (node_checked begin node h at)

@@ -69,8 +69,8 @@ fewer counted turn ahead None next are counts falls =
       is = subst (λ left. AreMore left counted (record { begun = ahead; more = turn.more - 1 })) (sym counts) (are.0, omega (arith, are.1, less));
     }
 fewer counted turn ahead (Some left) next are counts falls = record {
-  some = omega (arith, are, counts.2);
-  is = subst (λ left. AreMore left counted (record { begun = ahead; more = turn.more - 1 })) (sym counts.1) (omega (arith, are, counts.2));
+  some = omega (arith, are.1, counts.2);
+  is = subst (λ left. AreMore left counted (record { begun = ahead; more = turn.more - 1 })) (sym counts.1) (are.0, omega (arith, are.1, counts.2));
 }
 
 returns_by : (choice : Choice) (written : List Bool) (most : Polynomial) (entering end : Facts) (counted : Bool) (facts : Facts) → entering ≡ entered counted facts → IsTrue (choice_stands choice written (is_counted entering.iterations) most entering (Some end)) → IsTrue (returns choice written counted most (entered counted facts) end)

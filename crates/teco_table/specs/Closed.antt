@@ -66,35 +66,34 @@ is_entered nodes table begin facts (Some entering) =
     body_stands (written nodes begin) (facts_at table (end_of nodes begin)) entering (facts_at table (suc begin))
     (choice_at table begin) (turns facts)
 
--- > goes back to a body that is entered, in the iterations that are open there
-abbrev pub comes_back : Table → List ℕ → Facts → Bool
-comes_back table [] facts = false
-comes_back table (begin ∷ outer) facts =
-    option_map_or (λ (start : Facts). each_covers is_same_iteration start.iterations facts.iterations)
-    (facts_at table (suc begin)) false
+abbrev pub enters : List Node → Table → ℕ → Facts → Edges → Flow → Bool
+enters nodes table number facts edges flow.Iterate = is_entered nodes table number facts edges.on
+enters nodes table number facts edges f = true
 
--- turns begin behind < and > alone
-abbrev pub turn_stands : List Node → Table → ℕ → Node → Facts → Edges → Flow → Bool
-turn_stands nodes table number node facts edges flow.Iterate = is_entered nodes table number facts edges.on
-turn_stands nodes table number node facts edges flow.EndTurn = comes_back table node.stand.iterations facts
-turn_stands nodes table number node facts edges f = true
+abbrev pub enters_by : List Node → Table → ℕ → Facts → Edges → Kind → Bool
+enters_by nodes table number facts edges (kind.Flow f) = enters nodes table number facts edges f
+enters_by nodes table number facts edges k = true
 
-abbrev pub turn_stands_by : List Node → Table → ℕ → Node → Facts → Edges → Kind → Bool
-turn_stands_by nodes table number node facts edges (kind.Flow f) =
-    turn_stands nodes table number node facts edges f
-turn_stands_by nodes table number node facts edges k = true
+abbrev pub enters_at : List Node → Table → ℕ → Facts → Edges → Option Element → Bool
+enters_at nodes table number facts edges None = true
+enters_at nodes table number facts edges (Some e) = enters_by nodes table number facts edges e.kind
 
-abbrev pub turn_stands_at : List Node → Table → ℕ → Node → Facts → Edges → Option Element → Bool
-turn_stands_at nodes table number node facts edges None = true
-turn_stands_at nodes table number node facts edges (Some e) =
-    turn_stands_by nodes table number node facts edges e.kind
-
--- A node that is reached has edges, and both hold of them.
+-- A node that is reached has edges. What enters its body is so, and its ways arrive.
 abbrev pub closed_behind : List Node → Table → ℕ → Node → Facts → Result Edges Refusal → Bool
 closed_behind nodes table number node facts (Err why) = false
 closed_behind nodes table number node facts (Ok edges) =
-    turn_stands_at nodes table number node facts edges node.element
-    && arrive nodes table node.element edges 0 node.ways
+    enters_at nodes table number facts edges node.element && arrive nodes table node.element edges 0 node.ways
+
+-- What is known at a node is known of the iterations that are open there, as at the start of the innermost body.
+abbrev pub has_none : List Iteration → Bool
+has_none [] = true
+has_none (i ∷ outer) = false
+
+abbrev pub is_known_in : Table → List ℕ → Facts → Bool
+is_known_in table [] facts = has_none facts.iterations
+is_known_in table (begin ∷ outer) facts =
+    option_map_or (λ (start : Facts). each_covers is_same_iteration start.iterations facts.iterations)
+    (facts_at table (suc begin)) false
 
 -- Behind a < that is not reached nothing is known.
 abbrev pub begins_by_kind : Kind → Bool
@@ -109,7 +108,8 @@ abbrev pub closed_where : List Node → Table → ℕ → Node → Option Facts 
 closed_where nodes table number node None =
     not (begins_iteration node.element) || is_none (facts_at table (suc number))
 closed_where nodes table number node (Some facts) =
-    closed_behind nodes table number node facts (edges_at nodes node facts)
+    is_known_in table node.stand.iterations facts
+    && closed_behind nodes table number node facts (edges_at nodes node facts)
 
 abbrev pub closed_at : List Node → Table → ℕ → Node → Bool
 closed_at nodes table number node = closed_where nodes table number node (facts_at table number)

@@ -38,7 +38,7 @@ open_loops s = loops_in (s.frames.running ∷ s.frames.callers)
 -- With a count as many turns come after as are left, and without one no more than was ahead when the turn began.
 abbrev pub AreMore : Option ℕ → Bool → OpenTurn → Type 0
 AreMore None counted turn = (counted ≡ false) × (turn.begun ≤ turn.more)
-AreMore (Some left) counted turn = left ≡ turn.more
+AreMore (Some left) counted turn = (counted ≡ true) × (left ≡ turn.more)
 
 -- An open iteration was entered. If it is kept, its turn began with no more ahead than at its <, and with the falls
 -- outside that are known there.

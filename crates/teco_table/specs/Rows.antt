@@ -96,5 +96,5 @@ pub record WorkedTables : Type 0 where
       ≡ Printed (codes "24") (codes "10 + N") (codes "-")
   pub tested : verdict (only (codes ".-Z\"LC'")) [] ≡ Printed (codes "8") (codes "N") (codes "-")
   pub appended :
-      verdict (only (codes "H:XAH:XA")) [] ≡ Printed (codes "6") (codes "3*N") (codes "-")
+      verdict (only (codes "H:XBH:XB")) [] ≡ Printed (codes "6") (codes "3*N") (codes "-")
   pub refused : verdict (only (codes "2D")) [] ≡ NotDerived refusal.Deletion
