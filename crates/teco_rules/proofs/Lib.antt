@@ -24,3 +24,14 @@ pub mod Searching
 pub mod Library
 pub mod Paging
 pub mod Steppings
+pub mod Seeking
+pub mod Bytes
+pub mod Keeping
+pub mod Levels
+pub mod Reading
+pub mod Filing
+pub mod Stepped
+pub mod Going
+pub mod Onward
+pub mod Paged
+pub mod Stepping

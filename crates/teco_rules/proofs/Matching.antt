@@ -1,11 +1,13 @@
 -- Where a match lies, and the pattern of a search text that has a minimum length.
 use Rattle.std.proofs.Common.{◌≡◌, ℕ, zero, suc, ◌+◌, ◌-◌, ◌≤◌, ◌<◌, arith, refl, subst, ap, pos, List, [], ◌∷◌, length, Option, Some, None, Result, Ok, Err, IfSome, MatchOption, Bool}
 use Rattle.std.proofs.lemmas.Option.{slice_get_within}
-use Rattle.std.specs.Prelude.{flat_map, fold}
+use Rattle.std.specs.Option.{option_map_or}
+use Rattle.std.specs.Prelude.{flat_map, fold, ⊤}
 use Rattle.teco_base.specs.declared.code.Code.{Code}
 use Rattle.teco_model.proofs.Searches.{here_finds, forward_finds, none_is_shorter}
 use Rattle.teco_model.specs.Checked.{◌>>=◌}
 use Rattle.teco_model.specs.Match.{here, forward}
+use Rattle.teco_model.specs.Paging.{sought}
 use Rattle.teco_model.specs.Matching.{HasAt, Matches, InTurn, IsMatch, IsMatchAt, IsFirstFrom, IsNth}
 use Rattle.teco_model.specs.Pattern.{Pattern, pattern, minimum, parts, with_part, items_of}
 use Rattle.teco_model.specs.Registers.{Registers}
@@ -13,6 +15,8 @@ use Rattle.teco_model.specs.Search.{match_of}
 use Rattle.teco_model.specs.declared.pattern.Item.{Item}
 use Rattle.teco_model.specs.declared.pattern.Item.TheVariants as item
 use Rattle.teco_model.specs.declared.pattern.Part.{Part}
+use Rattle.teco_model.specs.declared.pattern.Sought.{Sought}
+use Rattle.teco_model.specs.declared.pattern.Sought.TheVariants.{Last, Wanted}
 use Rattle.teco_model.specs.declared.pattern.Span.{Span}
 
 -- ---- a match lies in the text
@@ -54,6 +58,11 @@ pub record LiesAhead (text : List ℕ) (pointer least : ℕ) (span : Span) : Typ
   pub long : span.start + least ≤ span.end
   pub within : span.end ≤ length text
 
+-- the last of so many, where it is found
+abbrev pub LastLies : List ℕ → ℕ → ℕ → Sought → Type 0
+LastLies text least at (Last span) = LiesAhead text at least span
+LastLies text least at (Wanted n) = ⊤
+
 module _ (p : Pattern) (text : List ℕ) (least : ℕ) (long : (span : Span) → IsMatch p text span → span.start + least ≤ span.end) where
   lies : (at : ℕ) (span : Span) → at ≤ span.start → IsMatch p text span → LiesAhead text at least span
   lies at span a m = record { ahead = a; long = long span m; within = match_within p text span m }
@@ -79,3 +88,21 @@ module _ (p : Pattern) (text : List ℕ) (least : ℕ) (long : (span : Span) →
   match_lies zero n at = forward_lies (suc n) at _ refl
   match_lies (suc zero) n at = forward_lies (suc n) at _ refl
   match_lies (suc (suc colons)) n at = here_lies at _ refl
+
+  -- and so does the last of so many
+  from_before : (at later : ℕ) (s : Sought) → at ≤ later → LastLies text least later s → LastLies text least at s
+  from_before at later (Last span) o l = record { ahead = omega (arith, l.ahead); long = l.long; within = l.within }
+  from_before at later (Wanted n) o l = tt
+
+  last_sought : (at : ℕ) (o : Option Span) → IfSome o (LiesAhead text at least) → LastLies text least at (option_map_or Last o (Wanted 1))
+  last_sought at None l = tt
+  last_sought at (Some span) l = l
+
+  more_sought : (n at : ℕ) (o : Option Span) → IfSome o (LiesAhead text at least) → ((later : ℕ) → LastLies text least later (sought p text later (suc n))) → LastLies text least at (option_map_or (λ (span : Span). sought p text span.end (suc n)) o (Wanted (suc (suc n))))
+  more_sought n at None l h = tt
+  more_sought n at (Some span) l h = from_before at span.end _ (omega (arith, l.ahead, l.long)) (h span.end)
+
+  pub sought_lies : (n at : ℕ) → LastLies text least at (sought p text at n)
+  sought_lies zero at = tt
+  sought_lies (suc zero) at = last_sought at _ (forward_lies 1 at _ refl)
+  sought_lies (suc (suc n)) at = more_sought n at _ (forward_lies 1 at _ refl) (sought_lies (suc n))

@@ -55,12 +55,12 @@ page_if : (b : Bool) (c : ℕ) (bytes : List ℕ) → length (before_form_feed b
 page_if true c bytes h = omega arith
 page_if false c bytes h = omega (arith, h)
 
-page_short : (bytes : List ℕ) → length (before_form_feed bytes) + length (behind_form_feed bytes) ≤ length bytes
+pub page_short : (bytes : List ℕ) → length (before_form_feed bytes) + length (behind_form_feed bytes) ≤ length bytes
 page_short [] = omega arith
 page_short (c ∷ bytes) = page_if (c == FF) c bytes (page_short bytes)
 
 -- what is unread behind a page
-rest_of : (files : Files) → unread (model.files_behind_page files) ≡ behind_form_feed (unread files)
+pub rest_of : (files : Files) → unread (model.files_behind_page files) ≡ behind_form_feed (unread files)
 rest_of files = by_input files.input where
   by_input : (o : Option Input) → option_map_or (λ (input : Input). input.unread) (option_map (λ (input : Input). record input { unread = behind_first_page input.unread }) o) [] ≡ behind_form_feed (option_map_or (λ (input : Input). input.unread) o [])
   by_input None = refl
@@ -83,10 +83,10 @@ module _ (run : Run) (facts : Facts) (u : ℕ) (kept : Kept) (h : Holds run fact
       }
 
 -- ---- a page that is turned
-abbrev turned_world : World → World
+abbrev pub turned_world : World → World
 turned_world world = model.world_after_writing (written_page (model.page_of_buffer world.kept)) (record { kept = model.kept_with_page (first_page (unread world.files)) world.kept; files = model.files_behind_page world.files })
 
-turned_to : (world : World) (b : Bool) → nat_le (length (before_form_feed (unread world.files))) LIMIT ≡ b → length (before_form_feed (unread world.files)) ≤ LIMIT → (P : World → Type 0) → P (turned_world world) → Succeeds P (((cond b (Ok (before_form_feed (unread world.files))) (Err code.Ful) >>>= λ text. Ok (model.kept_with_page (first_page (unread world.files)) world.kept)) >>>= λ kept. Ok (record { kept = kept; files = model.files_behind_page world.files })) >>>= λ turned. Ok (model.world_after_writing (written_page (model.page_of_buffer world.kept)) turned))
+pub turned_to : (world : World) (b : Bool) → nat_le (length (before_form_feed (unread world.files))) LIMIT ≡ b → length (before_form_feed (unread world.files)) ≤ LIMIT → (P : World → Type 0) → P (turned_world world) → Succeeds P (((cond b (Ok (before_form_feed (unread world.files))) (Err code.Ful) >>>= λ text. Ok (model.kept_with_page (first_page (unread world.files)) world.kept)) >>>= λ kept. Ok (record { kept = kept; files = model.files_behind_page world.files })) >>>= λ turned. Ok (model.world_after_writing (written_page (model.page_of_buffer world.kept)) turned))
 turned_to world true e short P h = h
 turned_to world false e short P h = absurd (grind (arith, nat_tests))
 
@@ -108,10 +108,10 @@ module _ (run : Run) (facts : Facts) (world : World) (h : Holds run facts (unrea
 
 -- ---- further pages
 module _ (run : Run) (facts : Facts) (world : World) (h : Holds run facts (unread_of world) world.kept) (here : facts.position.distances ≡ nowhere) where
-  again_rest : unread_of (turned_world world) ≡ length (behind_form_feed (unread world.files))
+  pub again_rest : unread_of (turned_world world) ≡ length (behind_form_feed (unread world.files))
   again_rest = ap length (rest_of world.files)
 
-  again_holds : Holds run facts (unread_of (turned_world world)) (turned_world world).kept
+  pub again_holds : Holds run facts (unread_of (turned_world world)) (turned_world world).kept
   again_holds =
       let p = page_short (unread world.files) in
       let r = again_rest in record {
@@ -314,15 +314,15 @@ module _ (run : Run) (facts : Facts) (world : World) (pending : arguments.Argume
   with_input held e fits input (Some i) q o = appended_comes held e fits i.unread (ap (λ o. option_map_or (λ (input : Input). input.unread) o []) q)
 
   abbrev AppendsBy : Option ℤ → Edges → Type 0
-  AppendsBy v edges = MatchOption v (Succeeds (Comes run facts.held world (arguments.levels_after_taking pending) edges) (model.append world)) (λ n. MatchOption edges.on ⊥ (λ next. Arrives run facts.held (unread_of world) world.kept next (after world.kept (arguments.levels_after_answer (Some (character n world.kept)) (arguments.levels_after_taking pending)))))
+  AppendsBy v edges = MatchOption v ((input : Input) → world.files.input ≡ Some input → Succeeds (Comes run facts.held world (arguments.levels_after_taking pending) edges) (model.append world)) (λ n. MatchOption edges.on ⊥ (λ next. Arrives run facts.held (unread_of world) world.kept next (after world.kept (arguments.levels_after_answer (Some (character n world.kept)) (arguments.levels_after_taking pending)))))
 
-  page_added : (input : Input) → world.files.input ≡ Some input → (sum : Result Polynomial Refusal) → IfOk sum (λ held. value held run.n ≡ value facts.held run.n + value (number 0) run.n) → FitsThen (AppendsBy None) (transfers.on (((sum >>= λ held. Ok (facts_behind (moving facts.position.distances (Some (pos 0))) held taking)) >>= λ known. Ok (silent known)) >>= λ known. Ok (facts_answered known)))
-  page_added input q (Err why) e = tt
-  page_added input q (Ok held) e = λ l. with_input held e l.buffer input world.files.input refl q
+  page_added : (sum : Result Polynomial Refusal) → IfOk sum (λ held. value held run.n ≡ value facts.held run.n + value (number 0) run.n) → FitsThen (AppendsBy None) (transfers.on (((sum >>= λ held. Ok (facts_behind (moving facts.position.distances (Some (pos 0))) held taking)) >>= λ known. Ok (silent known)) >>= λ known. Ok (facts_answered known)))
+  page_added (Err why) e = tt
+  page_added (Ok held) e = λ l input q. with_input held e l.buffer input world.files.input refl q
 
-  appends : (input : Input) → world.files.input ≡ Some input → (o : Option Value) (v : Option ℤ) → IsOptional (IsValue (fore_of world.kept) (back_of world.kept)) o v → FitsThen (AppendsBy v) (transfers.on (row.append o taking >>= λ known. Ok (facts_answered known)))
-  appends input q None None i = page_added input q _ (value-sum_of run.n facts.held (number 0))
-  appends input q (Some s) (Some n) i = λ l. record {
+  appends : (o : Option Value) (v : Option ℤ) → IsOptional (IsValue (fore_of world.kept) (back_of world.kept)) o v → FitsThen (AppendsBy v) (transfers.on (row.append o taking >>= λ known. Ok (facts_answered known)))
+  appends None None i = page_added _ (value-sum_of run.n facts.held (number 0))
+  appends (Some s) (Some n) i = λ l. record {
     described = record {
       state = pending_again run taking (unread_of world) world.kept taking_holds _;
       pending = record { level = record { first = tt; value = code_value (fore_of world.kept) (back_of world.kept) world.kept.text whole.bytes _; operator = refl }; outer = own_is.outer };
@@ -330,8 +330,8 @@ module _ (run : Run) (facts : Facts) (world : World) (pending : arguments.Argume
     };
     grown = omega arith;
   }
-  appends input q None (Some v) i = absurd i
-  appends input q (Some s) None i = absurd i
+  appends None (Some v) i = absurd i
+  appends (Some s) None i = absurd i
 
   -- what is taken
   taken_is : Covers (IsTaken (fore_of world.kept) (back_of world.kept)) (known.arguments_of facts.arguments.level) (arguments.arguments_of pending.level)
@@ -339,11 +339,11 @@ module _ (run : Run) (facts : Facts) (world : World) (pending : arguments.Argume
 
 pub appends_are_sound : AppendsAreSound
 unfolding transfer
-appends_are_sound run facts world pending x input whole d e q =
+appends_are_sound run facts world pending x whole d e =
     let n = without_answer run facts (unread_of world) world.kept pending d in
     subst (λ k. Leads (FitsOn run.n) (Appends run facts.held world pending) (transfers.edges_of k x (transfers.answer_for k facts) (transfers.without_answer facts)) (arguments.arguments_of pending.level)) (sym e)
     (taking_leads (FitsOn run.n) (Appends run facts.held world pending) (facts_taken (transfers.without_answer facts)) (λ k. row.append k.value (facts_taken (transfers.without_answer facts))) (IsTaken (fore_of world.kept) (back_of world.kept)) _ _ (taken_is run (transfers.without_answer facts) world pending whole n) (λ k t i.
-    as_leads run (transfers.without_answer facts) world pending whole n (Appends run facts.held world pending) t _ (appends run (transfers.without_answer facts) world pending whole n input q k.value t.value i.value)))
+    as_leads run (transfers.without_answer facts) world pending whole n (Appends run facts.held world pending) t _ (appends run (transfers.without_answer facts) world pending whole n k.value t.value i.value)))
 
 pub page_turns_are_sound : PageTurnsAreSound
 unfolding transfer

@@ -55,7 +55,7 @@ use Rattle.teco_rules.specs.declared.values.Interval.{Interval}
 use Rattle.teco_rules.specs.declared.values.Value.{Value}
 
 -- ---- the count is at least 1
-abbrev Counts : Option ℤ → Option ℤ → Type 0
+abbrev pub Counts : Option ℤ → Option ℤ → Type 0
 Counts first value = (m : ℕ) × (searching.count_of first value ≡ Ok (pos (suc m)))
 
 positive_count : (value : Option ℤ) (v : ℤ) → unwrap_or value (pos 1) ≡ v → pos 1 ≤ℤ v → Counts None value
@@ -77,7 +77,7 @@ module _ (run : Run) (facts : Facts) (unread : ℕ) (kept : Kept) (whole : IsWho
       let d = distances run facts unread kept whole h in
       interval_of_in _ facts.position.distances (fore_of kept) (back_of kept) _ d.least (omega (arith, d.within)) (omega (arith, d.within)) (or_single (fore_of kept) (back_of kept) o v (pos 1) i)
 
-  counted : (f o : Option Value) (m v : Option ℤ) → IsOptional (IsValue (fore_of kept) (back_of kept)) f m → IsOptional (IsValue (fore_of kept) (back_of kept)) o v → IfOk (row.count_checked f o facts.position.distances) (λ u. Counts m v)
+  pub counted : (f o : Option Value) (m v : Option ℤ) → IsOptional (IsValue (fore_of kept) (back_of kept)) f m → IsOptional (IsValue (fore_of kept) (back_of kept)) o v → IfOk (row.count_checked f o facts.position.distances) (λ u. Counts m v)
   counted None o None v i j = allowed_count _ _ _ (count_of o facts.position.distances) v refl refl refl (of_count o v j)
   counted (Some s) o m v i j = tt
   counted None o (Some m) v i j = absurd i

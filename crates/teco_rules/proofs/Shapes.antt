@@ -43,7 +43,7 @@ falls_after v (fall ∷ falls) (begun ∷ turns) before after h i = (fallen_afte
 falls_after v [] (begun ∷ turns) before after h i = absurd i
 falls_after v (fall ∷ falls) [] before after h i = absurd i
 
-more_unread : (v : Option ℤ) (before after unread : ℕ) → IfSome v (λ w. (pos after +ℤ w) ≤ℤ pos before) → IfSome v (λ w. (pos (after + unread) +ℤ w) ≤ℤ pos (before + unread))
+pub more_unread : (v : Option ℤ) (before after unread : ℕ) → IfSome v (λ w. (pos after +ℤ w) ≤ℤ pos before) → IfSome v (λ w. (pos (after + unread) +ℤ w) ≤ℤ pos (before + unread))
 more_unread None before after unread h = tt
 more_unread (Some v) before after unread h = omega (arith, ints)
 

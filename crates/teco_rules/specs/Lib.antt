@@ -26,3 +26,6 @@ pub mod SoundElements
 pub mod SoundFlow
 pub mod SoundSearches
 pub mod SoundPages
+pub mod SoundSeeking
+pub mod Wholeness
+pub mod SoundSteps

@@ -36,19 +36,20 @@ abbrev pub Comes : Run → Polynomial → World → Arguments → Edges → Worl
 Comes run held old arguments edges new =
     MatchOption edges.on ⊥ (λ next. ComesTo run held old next arguments new)
 
--- A adds a page behind the buffer; nA answers.
+-- A adds a page of an open input behind the buffer; nA answers.
 abbrev pub Appends : Run → Polynomial → World → Arguments → Edges → Taken → Type 0
 Appends run held world arguments edges taken =
     MatchOption taken.value
-    (Succeeds (Comes run held world (levels_after_taking arguments) edges) (append world))
+    ((input : Input) → world.files.input ≡ Some input
+    → Succeeds (Comes run held world (levels_after_taking arguments) edges) (append world))
     (λ n. MatchOption edges.on ⊥ (λ next. Arrives run held (unread_of world) world.kept next
     (after world.kept (levels_after_answer (Some (character n world.kept)) (levels_after_taking arguments)))))
 
 abbrev pub AppendsAreSound : Type 0
 AppendsAreSound =
-    (run : Run) (facts : Facts) (world : World) (arguments : Arguments) (x : Placed) (input : Input)
+    (run : Run) (facts : Facts) (world : World) (arguments : Arguments) (x : Placed)
     → IsWhole world.kept → Describes run facts (unread_of world) world.kept arguments
-    → x.element.kind ≡ kind.Page page.Append → world.files.input ≡ Some input
+    → x.element.kind ≡ kind.Page page.Append
     → Leads (FitsOn run.n) (Appends run facts.held world arguments) (transfer x facts) (arguments_of arguments.level)
 
 -- The first page of nP, and m,nP; and each page that follows.

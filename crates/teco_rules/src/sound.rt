@@ -4,6 +4,8 @@ ghost use Rattle.teco_rules.specs.SoundElements.{ArgumentsAreSound, ValuesAreSou
 ghost use Rattle.teco_rules.specs.SoundFlow.{TestsAreSound, LeavesAreSound, IterationsAreSound, TurnsAreSound, TurnEndsAreSound, TagsAreSound, OthersAreSound};
 ghost use Rattle.teco_rules.specs.SoundPages.{AppendsAreSound, PageTurnsAreSound, PageWritesAreSound, PageStepsAreBounded};
 ghost use Rattle.teco_rules.specs.SoundSearches.{SearchesAreSound};
+ghost use Rattle.teco_rules.specs.SoundSeeking.{PageSearchesAreSound, SearchStepsAreBounded};
+ghost use Rattle.teco_rules.specs.SoundSteps.{StepsAreSound, LaterStepsAreSound, ElementsAreSound};
 
 /// Digits, operators, parentheses, comma and ESC.
 pub fn arguments_are_sound()
@@ -70,6 +72,16 @@ pub fn searches_are_sound()
     ensures { SearchesAreSound }
 {}
 
+/// N and FN turn pages, and what is known of them is true where they found, and where no page was left.
+pub fn page_searches_are_sound()
+    ensures { PageSearchesAreSound }
+{}
+
+/// A search takes at most as many steps as are known.
+pub fn search_steps_are_bounded()
+    ensures { SearchStepsAreBounded }
+{}
+
 /// A adds a page behind the buffer, or answers.
 pub fn appends_are_sound()
     ensures { AppendsAreSound }
@@ -88,4 +100,19 @@ pub fn page_writes_are_sound()
 /// P and PW take at most as many steps as are known.
 pub fn page_steps_are_bounded()
     ensures { PageStepsAreBounded }
+{}
+
+/// The first step of any element comes to no code, and to the edge that it goes along, or leaves work to do.
+pub fn steps_are_sound()
+    ensures { StepsAreSound }
+{}
+
+/// So does each that follows.
+pub fn later_steps_are_sound()
+    ensures { LaterStepsAreSound }
+{}
+
+/// An element takes at most as many steps as are known, and then its edge's facts describe where it leads.
+pub fn elements_are_sound()
+    ensures { ElementsAreSound }
 {}
