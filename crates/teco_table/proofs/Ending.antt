@@ -1,12 +1,13 @@
 -- A run with a closed table ends in time.
-use Rattle.std.proofs.Common.{◌≡◌, ℕ, zero, suc, ◌+◌, ◌≤◌, ◌<◌, refl, sym, ap, ◌∙◌, subst, arith, List, [], true, Option, Some, None, Ok, is_some}
+use Rattle.std.proofs.Common.{◌≡◌, ◌⊎◌, inl, inr, ℕ, zero, suc, ◌+◌, ◌≤◌, ◌<◌, refl, sym, ap, ◌∙◌, subst, arith, List, [], true, Option, Some, None, Ok, is_some}
 use Rattle.std.specs.Prelude.{IsTrue}
 use Rattle.teco_turns.specs.Moves.{State as Shown, Move, Forward, FallFollows, IsStart, RunsAreBounded}
 use Rattle.teco_turns.specs.Table.{IsClosed}
 use Rattle.teco_turns.specs.Turns.{RunsAreCovered}
 use Rattle.teco_model.specs.Registers.{Pair}
 use Rattle.teco_model.specs.Run.{Reaches, run, go_on}
-use Rattle.teco_model.specs.State.{World, State, start}
+use Rattle.teco_model.specs.State.{World, State, End, start}
+use Rattle.teco_model.specs.Step.{step}
 use Rattle.teco_expand.specs.Library.{Library, IsLoaded}
 use Rattle.teco_expand.specs.Linked.{AreLinked}
 use Rattle.teco_expand.specs.Node.{Stand, Node, call_of, beginning, over, numbered}
@@ -62,10 +63,15 @@ module _ (laws : Laws) (library : Library) (entry : ℕ) (nodes : List Node) (ta
     here : IsDescribed library nodes table n below number turns s
     came : Came (turning nodes table n) moves zeroth total (shown number here.node.stand.iterations turns s.world)
 
-  module _ (number : ℕ) (turns : List OpenTurn) (s : State) (at : At number turns s) where
-    passing : Passes library entry nodes table n below number turns s at.here
-    passing = pass number turns at.total s at.reached at.here
+  ends_here : (number : ℕ) (turns : List OpenTurn) (s : State) (at : At number turns s) → step s ≡ End s.world → EndsWithin first (value printed n)
+  ends_here number turns s at e = record {
+    steps = at.total;
+    new = s.world;
+    few = let few = few_steps at.moves at.total 0 (shown number at.here.node.stand.iterations turns s.world) at.came (omega arith) in omega (arith, few);
+    ends = record { last = s; steps = at.reached; end = e };
+  }
 
+  module _ (number : ℕ) (turns : List OpenTurn) (s : State) (at : At number turns s) (passing : Passes library entry nodes table n below number turns s at.here) where
     own_there : suc passing.before ≤ own_of n (numbered nodes number) (facts_at table number)
     own_there = let e : own_of n (numbered nodes number) (facts_at table number) ≡ value_of n (steps_of at.here.node.element at.here.facts) = ap (λ (o : Option Node). own_of n o (facts_at table number)) at.here.at ∙ ap (own_of n (Some at.here.node)) at.here.known in omega (arith, e, passing.few)
 
@@ -102,15 +108,17 @@ module _ (laws : Laws) (library : Library) (entry : ℕ) (nodes : List Node) (ta
   walk zero number turns s at l =
       let few = few_steps at.moves at.total 0 (shown number at.here.node.stand.iterations turns s.world) at.came (omega arith) in
       absurd (omega (arith, few, l))
-  walk (suc fuel) number turns s at l =
-      let p = passing number turns s at in
-      by_end (laws.moves library entry nodes table n below number turns s p.last p.next are passes at.here p.again p.goes p.comes p.loaded p.whole)
-      (λ m. walk fuel p.goes.target m.later p.next (on_there number turns s at m) (omega (arith, l, more_there number turns s at m)))
+  walk (suc fuel) number turns s at l = go (pass number turns at.total s at.reached at.here) (λ p m. walk fuel p.goes.target m.later p.next (on_there number turns s at p m) (omega (arith, l, more_there number turns s at p m)))
     where
-      by_end : ComesOn library entry nodes table n below number at.here.node turns s (passing number turns s at).goes.target (passing number turns s at).next →
-          (MovesOn library nodes table n below number at.here.node turns s (passing number turns s at).goes.target (passing number turns s at).next → EndsWithin first (value printed n)) → EndsWithin first (value printed n)
-      by_end (Over o) on = ends_there number turns s at o
-      by_end (On m) on = on m
+      by_end : (p : Passes library entry nodes table n below number turns s at.here) → ComesOn library entry nodes table n below number at.here.node turns s p.goes.target p.next →
+          (MovesOn library nodes table n below number at.here.node turns s p.goes.target p.next → EndsWithin first (value printed n)) → EndsWithin first (value printed n)
+      by_end p (Over o) on = ends_there number turns s at p o
+      by_end p (On m) on = on m
+
+      go : (step s ≡ End s.world) ⊎ Passes library entry nodes table n below number turns s at.here →
+          ((p : Passes library entry nodes table n below number turns s at.here) → MovesOn library nodes table n below number at.here.node turns s p.goes.target p.next → EndsWithin first (value printed n)) → EndsWithin first (value printed n)
+      go (inl e) on = ends_here number turns s at e
+      go (inr p) on = by_end p (laws.moves library entry nodes table n below number turns s p.last p.next are passes at.here p.again p.goes p.comes p.loaded p.whole) (on p)
 
 -- ---- the start
 module _ (library : Library) (entry : ℕ) (nodes : List Node) (table : Table) (n : ℕ) (world : World) (are : AreLinked library entry nodes) (passes : check nodes table ≡ Ok tt) (loaded : IsLoaded library world.kept) (whole : IsWhole world.kept) (entering : IsEntry n (unread_of world) world.kept) where

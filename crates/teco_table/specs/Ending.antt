@@ -1,8 +1,8 @@
 -- A run of a macro, with a closed table, ends without a code within the printed number of commands.
-use Rattle.std.specs.Prelude.{◌≡◌, ℕ, suc, ◌≤◌, List, Ok}
+use Rattle.std.specs.Prelude.{◌≡◌, ◌⊎◌, ℕ, suc, ◌≤◌, List, Ok}
 use Rattle.teco_model.specs.Registers.{Pair}
 use Rattle.teco_model.specs.Run.{Reaches, Ends}
-use Rattle.teco_model.specs.State.{World, State, Next, start}
+use Rattle.teco_model.specs.State.{World, State, Next, End, start}
 use Rattle.teco_model.specs.Step.{step}
 use Rattle.teco_expand.specs.Library.{Library, IsLoaded}
 use Rattle.teco_expand.specs.Linked.{AreLinked}
@@ -37,12 +37,12 @@ pub record Passes
   pub loaded : IsLoaded library next.world.kept
   pub whole : IsWhole next.world.kept
 
--- so does each that a run comes to
+-- so does each that a run comes to, or the run ends there
 abbrev pub ElementsPass : Library → ℕ → List Node → Table → ℕ → List Pair → State → Type 0
 ElementsPass library entry nodes table n below first =
     (number : ℕ) (turns : List OpenTurn) (steps : ℕ) (s : State) → Reaches steps first s
     → (here : IsDescribed library nodes table n below number turns s)
-    → Passes library entry nodes table n below number turns s here
+    → (step s ≡ End s.world) ⊎ Passes library entry nodes table n below number turns s here
 
 -- the run comes to its end, after no more than so many steps
 pub record EndsWithin (s : State) (most : ℕ) : Type 0 where
