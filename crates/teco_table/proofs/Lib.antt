@@ -14,3 +14,4 @@ mod Steps
 mod Walking
 mod Ending
 mod Worked
+mod Coming
