@@ -29,7 +29,7 @@ use Rattle.teco_rules.specs.Facts.{Facts}
 use Rattle.teco_rules.specs.Flows.{Edges}
 use Rattle.teco_rules.specs.SoundPages.{unread_of}
 use Rattle.teco_table.specs.Behind.{open_of, open_at, left_by, edges_at, along, turns_by_flow, turns_by_kind, begins_turn}
-use Rattle.teco_table.specs.Closed.{ends_run, is_covered, arrives, arrive, is_known_in, closed_behind, closed_where, check}
+use Rattle.teco_table.specs.Closed.{is_return, is_covered, arrives, arrive, is_known_in, closed_behind, closed_where, check}
 use Rattle.teco_table.specs.Following.{OpenTurn, run_at, loops_in, open_loops, AreOpened, IsDescribed, held_of, loops_of, shown}
 use Rattle.teco_table.specs.Moving.{left_by_flow, left_by_kind, left_along, run_by_flow, run_by_kind, run_along, IsLast, Alone, Again, Comes, MovesOn}
 use Rattle.teco_table.specs.Table.{Table, facts_at}
@@ -86,24 +86,38 @@ module _ (nodes : List Node) (table : Table) where
   covered_by target next None e h = absurd (cc)
   covered_by target next (Some facts) e h = record { facts = facts; known = e; covered = h }
 
-  not_behind : (target : ℕ) → target ≤ length nodes → (read : Option Element) → ends_run nodes read target ≡ false
-  not_behind target l (Some e) = refl
-  not_behind target l None = by_test _ refl
+  not_behind : (target : ℕ) → target ≤ length nodes → nat_lt (length nodes) target ≡ false
+  not_behind target l = by_test _ refl
     where
       by_test : (b : Bool) → nat_lt (length nodes) target ≡ b → nat_lt (length nodes) target ≡ false
       by_test false e = e
       by_test true e = absurd (omega (arith, l, ltb-true (length nodes) target e))
 
-  pub way_covered : (number : ℕ) (node : Node) (facts next : Facts) (edges : Edges) (way target : ℕ) → check nodes table ≡ Ok tt → numbered nodes number ≡ Some node → facts_at table number ≡ Some facts → edges_at nodes node facts ≡ Ok edges →
-      slice_get node.ways way ≡ Some target → begins_turn node.element way ≡ false → along node.element way edges ≡ Some next → ((read : Option Element) → ends_run nodes read target ≡ false) → Covered target next
-  way_covered number node facts next edges way target passes at known leads taken turn on l =
+  way_arrives : (number : ℕ) (node : Node) (facts next : Facts) (edges : Edges) (way target : ℕ) → check nodes table ≡ Ok tt → numbered nodes number ≡ Some node → facts_at table number ≡ Some facts → edges_at nodes node facts ≡ Ok edges →
+      slice_get node.ways way ≡ Some target → begins_turn node.element way ≡ false → along node.element way edges ≡ Some next → (if nat_lt (length nodes) target then is_return node.element else is_covered (facts_at table target) next) ≡ true
+  way_arrives number node facts next edges way target passes at known leads taken turn on =
       let behind : IsTrue (closed_behind nodes table number node facts (Ok edges)) = behind_checked number node facts edges passes at known leads in
       let z : 0 + way ≡ way = omega arith in
       let all : IsTrue (arrive nodes table node.element edges 0 node.ways) = (and_both _ _ behind).1 in
       let this : IsTrue (begins_turn node.element way || arrives nodes table node.element target (along node.element way edges)) = subst (λ k. IsTrue (begins_turn node.element k || arrives nodes table node.element target (along node.element k edges))) z (arrive_at node.element edges 0 way node.ways target all taken) in
       let there : arrives nodes table node.element target (along node.element way edges) ≡ true = or_false (begins_turn node.element way) _ turn this in
-      let known_there : (ends_run nodes node.element target || is_covered (facts_at table target) next) ≡ true = sym (ap (arrives nodes table node.element target) on) ∙ there in
-      covered_by target next _ refl (or_false (ends_run nodes node.element target) _ (l node.element) known_there)
+      sym (ap (arrives nodes table node.element target) on) ∙ there
+
+  pub way_covered : (number : ℕ) (node : Node) (facts next : Facts) (edges : Edges) (way target : ℕ) → check nodes table ≡ Ok tt → numbered nodes number ≡ Some node → facts_at table number ≡ Some facts → edges_at nodes node facts ≡ Ok edges →
+      slice_get node.ways way ≡ Some target → begins_turn node.element way ≡ false → along node.element way edges ≡ Some next → nat_lt (length nodes) target ≡ false → Covered target next
+  way_covered number node facts next edges way target passes at known leads taken turn on l =
+      covered_by target next _ refl
+      (sym (ap (λ b. if b then is_return node.element else is_covered (facts_at table target) next) l) ∙ way_arrives number node facts next edges way target passes at known leads taken turn on)
+
+  -- the ways of elements lead to nodes
+  pub way_within : (number : ℕ) (node : Node) (e : Element) (facts next : Facts) (edges : Edges) (way target : ℕ) → node.element ≡ Some e → check nodes table ≡ Ok tt → numbered nodes number ≡ Some node → facts_at table number ≡ Some facts → edges_at nodes node facts ≡ Ok edges →
+      slice_get node.ways way ≡ Some target → begins_turn node.element way ≡ false → along node.element way edges ≡ Some next → nat_lt (length nodes) target ≡ false
+  way_within number node e facts next edges way target reads passes at known leads taken turn on = by_test _ refl
+    where
+      by_test : (b : Bool) → nat_lt (length nodes) target ≡ b → nat_lt (length nodes) target ≡ false
+      by_test false l = l
+      by_test true l =
+          let z : false ≡ true = sym (ap is_return reads) ∙ (sym (ap (λ b. if b then is_return node.element else is_covered (facts_at table target) next) l) ∙ way_arrives number node facts next edges way target passes at known leads taken turn on) in absurd (cc)
 
 -- ---- where a step comes to
 pub data Target (nodes : List Node) (entry target : ℕ) (stand : Stand) : Type 0 where

@@ -15,3 +15,5 @@ mod Walking
 mod Ending
 mod Worked
 mod Coming
+mod Fitting
+mod Leading

@@ -27,11 +27,11 @@ abbrev pub is_entry : Option Facts → Bool
 is_entry None = false
 is_entry (Some facts) = say_same facts entry_facts
 
--- An edge that begins no turn is covered where it leads. The return of the entry leads behind all nodes, and there
--- nothing is known.
-abbrev pub ends_run : List Node → Option Element → ℕ → Bool
-ends_run nodes None target = nat_lt (length nodes) target
-ends_run nodes (Some e) target = false
+-- An edge that begins no turn is covered where it leads. Behind all nodes nothing is known; the return of the entry alone
+-- leads there.
+abbrev pub is_return : Option Element → Bool
+is_return None = true
+is_return (Some e) = false
 
 abbrev pub is_covered : Option Facts → Facts → Bool
 is_covered None edge = false
@@ -39,7 +39,8 @@ is_covered (Some facts) edge = covers facts edge
 
 abbrev pub arrives : List Node → Table → Option Element → ℕ → Option Facts → Bool
 arrives nodes table read target None = true
-arrives nodes table read target (Some edge) = ends_run nodes read target || is_covered (facts_at table target) edge
+arrives nodes table read target (Some edge) =
+    if nat_lt (length nodes) target then is_return read else is_covered (facts_at table target) edge
 
 -- so is each way of a node
 abbrev pub arrive : List Node → Table → Option Element → Edges → ℕ → List ℕ → Bool
