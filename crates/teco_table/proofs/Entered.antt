@@ -90,12 +90,12 @@ begins_by None way h = absurd (cc)
 begins_by (Some e) way h = element_begins e (Some e) way refl (kind_begins e.kind way h)
 
 -- ---- what is counted, by facts that say the same
-truth_same : (a b : Bool) → IsTrue (is_same_truth a b) → a ≡ b
+pub truth_same : (a b : Bool) → IsTrue (is_same_truth a b) → a ≡ b
 truth_same true b h = sym h
 truth_same false true h = absurd (cc)
 truth_same false false h = refl
 
-counted_by : (is js : List Iteration) → IsTrue (each_covers is_same_iteration is js) → is_counted is ≡ is_counted js
+pub counted_by : (is js : List Iteration) → IsTrue (each_covers is_same_iteration is js) → is_counted is ≡ is_counted js
 counted_by [] [] h = refl
 counted_by [] (j ∷ js) h = absurd (cc)
 counted_by (i ∷ is) [] h = absurd (cc)

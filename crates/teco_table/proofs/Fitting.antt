@@ -125,7 +125,7 @@ texts_fit n (p ∷ texts) (q ∷ others) c h =
 texts_fit n [] (q ∷ others) c h = absurd (cc)
 texts_fit n (p ∷ texts) [] c h = absurd (cc)
 
-fits_covered : (n : ℕ) (facts next : Facts) → IsTrue (covers facts next) → Fits n facts → Fits n next
+pub fits_covered : (n : ℕ) (facts next : Facts) → IsTrue (covers facts next) → Fits n facts → Fits n next
 fits_covered n facts next c f =
     let p = and_both _ _ c in
     let held : value next.held n ≤ value facts.held n = values_compare next.held facts.held n (held_covered facts next c) in

@@ -63,7 +63,7 @@ module _ (nodes : List Node) (table : Table) where
       let z : suc first + way ≡ first + suc way = omega arith in
       subst (λ k. IsTrue (begins_turn read k || arrives nodes table read target (along read k edges))) z (arrive_at read edges (suc first) way ways target (and_both _ _ h).1 g)
 
-  where_checked : (number : ℕ) (node : Node) (facts : Facts) → check nodes table ≡ Ok tt → numbered nodes number ≡ Some node → facts_at table number ≡ Some facts → IsTrue (is_known_in table node.stand.iterations facts) × IsTrue (closed_behind nodes table number node facts (edges_at nodes node facts))
+  pub where_checked : (number : ℕ) (node : Node) (facts : Facts) → check nodes table ≡ Ok tt → numbered nodes number ≡ Some node → facts_at table number ≡ Some facts → IsTrue (is_known_in table node.stand.iterations facts) × IsTrue (closed_behind nodes table number node facts (edges_at nodes node facts))
   where_checked number node facts passes at known =
       let all : IsTrue (closed_where nodes table number node (Some facts)) = ap (closed_where nodes table number node) (sym known) ∙ node_checked nodes table number node passes at in
       and_both _ _ all

@@ -17,3 +17,7 @@ mod Worked
 mod Coming
 mod Fitting
 mod Leading
+mod Edging
+mod Inside
+mod Completing
+mod Verifying

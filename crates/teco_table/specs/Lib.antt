@@ -11,3 +11,4 @@ pub mod Moving
 pub mod Ending
 pub mod Deriving
 pub mod Rows
+pub mod Verified
