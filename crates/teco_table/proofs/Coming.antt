@@ -1,5 +1,5 @@
 -- What an element comes to by the laws of facts is what is known on the way that its last step goes.
-use Rattle.std.proofs.Common.{◌≡◌, ◌⊎◌, inl, inr, ℕ, ℤ, zero, suc, ◌+◌, ◌≤◌, refl, sym, ap, ◌∙◌, subst, arith, List, [], ◌∷◌, ◌++◌, drop, length, Bool, true, false, is_some, Option, Some, None, MatchOption, Result, Ok, Err, ok_or}
+use Rattle.std.proofs.Common.{◌≡◌, inl, inr, ℕ, ℤ, zero, suc, ◌+◌, ◌≤◌, refl, sym, ap, ◌∙◌, subst, arith, List, ◌∷◌, drop, length, Bool, true, false, is_some, Option, Some, None, MatchOption, Result, Ok, Err, ok_or}
 use Rattle.teco_base.specs.declared.code.Code.{Code}
 use Rattle.teco_base.specs.declared.code.Code.TheVariants as code
 use Rattle.teco_model.specs.declared.arguments.Taken.{Taken}
@@ -12,7 +12,7 @@ use Rattle.teco_model.specs.Arguments.{Arguments, arguments_of, no_arguments}
 use Rattle.teco_model.specs.Checked.{◌>>=◌}
 use Rattle.teco_model.specs.Effect.{needed_value}
 use Rattle.teco_model.specs.Element.{Element}
-use Rattle.teco_model.specs.Flow.{Turn, turn_to, turn_along, jump, later_turns, leaves}
+use Rattle.teco_model.specs.Flow.{Turn, turn_to, leaves}
 use Rattle.teco_model.specs.Condition.{holds}
 use Rattle.teco_model.specs.declared.kind.Search.{Search}
 use Rattle.teco_model.specs.declared.skip.Skip.{Skip}
@@ -20,12 +20,11 @@ use Rattle.teco_model.specs.Skip.{route_of, skip_on, skip_of}
 use Rattle.teco_model.specs.Ahead.{Whole, readings}
 use Rattle.teco_model.specs.State.{World, Frame, Frames, State}
 use Rattle.teco_expand.specs.Node.{Node}
-use Rattle.teco_expand.specs.Turns as went
 use Rattle.teco_expand.specs.Turns.{Went, Counts, CountsDown, Took}
 use Rattle.teco_expand.specs.Was as was
 use Rattle.teco_expand.specs.Was.{ElementWas, StepWas}
 use Rattle.teco_poly.specs.Polynomial.{Polynomial, value}
-use Rattle.teco_rules.specs.Describes.{Describes, Run, run_behind, run_in_turn}
+use Rattle.teco_rules.specs.Describes.{Describes, Run, run_behind}
 use Rattle.teco_rules.specs.Facts.{Facts}
 use Rattle.teco_rules.specs.Flows.{Edges}
 use Rattle.teco_rules.specs.SoundFlow.{number_needed}
@@ -152,7 +151,7 @@ same_frames : (read : Option Element) (s last : State) → IsLast read s last �
 same_frames read s last (Alone e) = ap (λ (s : State). s.frames) e
 same_frames read s last (Again e long) = e
 
-module _ (nodes : List Node) (node : Node) (facts : Facts) (edges : Edges) (run : Run) (s last t : State) (leads : edges_at nodes node facts ≡ Ok edges) (e : Element) (reads : node.element ≡ Some e) (again : IsLast node.element s last) (inside : (placed nodes node e).colon ≡ false → HasLoop s.frames.running) where
+module _ (nodes : List Node) (node : Node) (facts : Facts) (edges : Edges) (run : Run) (s last t : State) (leads : edges_at nodes node facts ≡ Ok edges) (e : Element) (reads : node.element ≡ Some e) (again : IsLast node.element s last) (inside : (q : Search) → e.kind ≡ kind.Search q → (placed nodes node e).colon ≡ false → HasLoop s.frames.running) where
   flow_comes : (f : Flow) (way : ℕ) → e.kind ≡ kind.Flow f → was.Turns f way e last t → sound.Turns f run facts.held (placed nodes node e) edges s t → Comes nodes node facts way run s t
   flow_comes f way is w ends =
       let v : was.Turns f way e s t = subst (λ (last : State). was.Turns f way e last t) (not_again f e node.element s last reads is again) w in
@@ -167,7 +166,7 @@ module _ (nodes : List Node) (node : Node) (facts : Facts) (edges : Edges) (run 
   -- a search that went on did not leave its iteration
   not_left : (q : Search) → e.kind ≡ kind.Search q → t.frames.running.loops ≡ last.frames.running.loops → (placed nodes node e).colon ≡ false → sound.LeavesFor run facts.held edges e s t → ⊥
   not_left q is same colon left =
-      let i = inside colon in
+      let i = inside q is colon in
       let gone : left.turn.frame.loops ≡ drop (skip_of s.frames.running.text (Whole e)).leaves s.frames.running.loops = jump_loops code.Utc no_arguments s.frames.running (skip_of s.frames.running.text (Whole e)) (skip_of s.frames.running.text (Whole e)).to left.turn left.jumps in
       let there : t.frames.running.loops ≡ left.turn.frame.loops = ap (λ (frames : Frames). frames.running.loops) left.frames in
       not_both s.frames.running.loops i.loop i.outer i.is (sym last_loops ∙ (sym same ∙ (there ∙ (gone ∙ ap (λ n. drop n s.frames.running.loops) (search_leaves e q s.frames.running.text is)))))

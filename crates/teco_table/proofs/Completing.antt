@@ -1,12 +1,10 @@
 -- An element that begins where a run is described passes, by the laws of facts.
-use Rattle.std.proofs.Common.{◌≡◌, ◌⊎◌, inl, inr, ℕ, zero, suc, ◌+◌, ◌≤◌, ◌<◌, refl, sym, ap, ◌∙◌, subst, arith, List, [], ◌∷◌, map, Bool, true, false, ◌||◌, option_map, Option, Some, None, Result, Ok, Err, IfOk, slice_get}
-use Rattle.std.specs.Prelude.{IsTrue, IsErr, ⊤}
+use Rattle.std.proofs.Common.{◌≡◌, ◌⊎◌, inl, inr, ℕ, zero, suc, ◌+◌, ◌≤◌, ◌<◌, refl, sym, ap, ◌∙◌, subst, arith, List, Bool, true, false, Option, Some, None, Result, Ok, Err}
+use Rattle.std.specs.Prelude.{IsErr}
 use Rattle.std.specs.Option.{option_map_or}
-use Rattle.teco_model.specs.declared.kind.Command.{Command}
 use Rattle.teco_model.specs.declared.kind.Command.TheVariants as command
 use Rattle.teco_model.specs.declared.kind.Storage.{Storage}
 use Rattle.teco_model.specs.declared.kind.Storage.TheVariants as storage
-use Rattle.teco_model.specs.declared.kind.Stack.{Stack}
 use Rattle.teco_model.specs.declared.kind.Stack.TheVariants as stack
 use Rattle.teco_model.specs.declared.kind.Kind.{Kind}
 use Rattle.teco_model.specs.declared.kind.Kind.TheVariants as kind
@@ -14,17 +12,17 @@ use Rattle.teco_model.specs.declared.kind.Page.{Page}
 use Rattle.teco_model.specs.declared.kind.Page.TheVariants as page
 use Rattle.teco_model.specs.declared.kind.Search.{Search}
 use Rattle.teco_model.specs.declared.kind.Search.TheVariants as search
-use Rattle.teco_model.specs.Element.{Element, element_at}
+use Rattle.teco_model.specs.Element.{Element}
 use Rattle.teco_model.specs.Registers.{Pair}
 use Rattle.teco_model.specs.Run.{Reaches, run, go_on}
-use Rattle.teco_model.specs.State.{World, Frames, State, Outcome, Next, End, Exit, Fail, Absent}
+use Rattle.teco_model.specs.State.{State, Outcome, Next, End, Exit, Fail, Absent}
 use Rattle.teco_model.specs.Step.{step}
 use Rattle.teco_expand.specs.Library.{Library, is_macro, IsLoaded}
 use Rattle.teco_expand.specs.Linked.{AreLinked}
 use Rattle.teco_expand.specs.Loaded.{StaysLoaded}
 use Rattle.teco_expand.specs.Names.{named_by, names_macro, written_by, writes_macro}
-use Rattle.teco_expand.specs.Node.{Node, stands, numbered}
-use Rattle.teco_expand.specs.Position.{Position, position_of, position_of_frames}
+use Rattle.teco_expand.specs.Node.{Node, stands}
+use Rattle.teco_expand.specs.Position.{position_of, position_of_frames}
 use Rattle.teco_expand.specs.Run.{GoesTo, MovesFrom, Went, Stayed, StepsGoAlongNodes}
 use Rattle.teco_expand.specs.Steps.{is_long, IsLeftAt}
 use Rattle.teco_expand.specs.Ways.{read_at}
@@ -34,7 +32,7 @@ use Rattle.teco_rules.specs.declared.refusal.Refusal.{Refusal}
 use Rattle.teco_rules.specs.Describes.{Run, IsWhole}
 use Rattle.teco_rules.specs.Facts.{Facts}
 use Rattle.teco_rules.specs.Flows.{Edges}
-use Rattle.teco_rules.specs.Laws.{WritesText, LibraryStays}
+use Rattle.teco_rules.specs.Laws.{WritesText}
 use Rattle.teco_rules.specs.Printed.{steps}
 use Rattle.teco_rules.specs.SoundElements.{FitsOn}
 use Rattle.teco_rules.specs.SoundPages.{IsTurnOrWrite}
@@ -44,12 +42,11 @@ use Rattle.teco_rules.specs.Transfer.{Placed, transfer}
 use Rattle.teco_table.specs.Behind.{placed, edges_behind, edges_at}
 use Rattle.teco_table.specs.Ending.{Passes}
 use Rattle.teco_table.specs.Following.{OpenTurn, run_at, IsDescribed}
-use Rattle.teco_table.specs.Moving.{IsLong, IsLast, Alone, Again, Comes}
+use Rattle.teco_table.specs.Moving.{IsLong, IsLast, Alone, Again}
 use Rattle.teco_table.specs.Printed.{steps_of}
 use Rattle.teco_table.specs.Table.{Table}
 use Rattle.teco_table.specs.Turning.{value_of}
 use Rattle.teco_table.proofs.Coming.{HasLoop, element_comes}
-use Rattle.teco_table.proofs.Walking.{reaches_on}
 
 -- ---- no register of the library is written
 one_named : (b : Bool) → (b ≡ true → ⊥) → b ≡ false
@@ -110,7 +107,7 @@ pub record Facts_laws : Type 0 where
   pub loaded : StaysLoaded
 
 module _ (laws : Facts_laws) (library : Library) (entry : ℕ) (nodes : List Node) (are : AreLinked library entry nodes) (table : Table) (n : ℕ) (below : List Pair) (number : ℕ) (turns : List OpenTurn) (s : State) (here : IsDescribed library nodes table n below number turns s) where
-  module _ (e : Element) (reads : here.node.element ≡ Some e) (edges : Edges) (leads : edges_at nodes here.node here.facts ≡ Ok edges) (most : Polynomial) (takes : steps e.kind here.facts ≡ Ok most) (fits : FitsOn n edges) (begins : BeginsAt (run_at n below turns) here.facts (placed nodes here.node e) s) (wholes : (k : ℕ) (u : State) → Reaches k s u → IsWhole u.world.kept) (inside : (placed nodes here.node e).colon ≡ false → HasLoop s.frames.running) where
+  module _ (e : Element) (reads : here.node.element ≡ Some e) (edges : Edges) (leads : edges_at nodes here.node here.facts ≡ Ok edges) (most : Polynomial) (takes : steps e.kind here.facts ≡ Ok most) (fits : FitsOn n edges) (begins : BeginsAt (run_at n below turns) here.facts (placed nodes here.node e) s) (wholes : (k : ℕ) (u : State) → Reaches k s u → IsWhole u.world.kept) (inside : (q : Search) → e.kind ≡ kind.Search q → (placed nodes here.node e).colon ≡ false → HasLoop s.frames.running) where
     abbrev run_here : Run
     run_here = run_at n below turns
 

@@ -1,33 +1,18 @@
 -- What is known at a node that is reached fits, where the printed size does, and so do the edges behind it.
-use Rattle.std.proofs.Common.{◌≡◌, ℕ, zero, suc, ◌+◌, ◌≤◌, refl, sym, ap, ◌∙◌, subst, arith, List, [], ◌∷◌, length, Bool, true, false, Option, Some, None, MatchOption, Result, Ok, Err, slice_get}
-use Rattle.std.specs.Prelude.{IsTrue, ⊤}
+use Rattle.std.proofs.Common.{◌≡◌, ℕ, zero, suc, ◌+◌, ◌≤◌, refl, sym, ap, ◌∙◌, subst, arith, List, [], ◌∷◌, Option, Some, None, Result, Ok, Err, slice_get}
+use Rattle.std.specs.Prelude.{IsTrue}
 use Rattle.std.specs.List.{AllByRecursion}
 use Rattle.teco_base.specs.declared.TheConstants.{LIMIT}
-use Rattle.teco_model.specs.declared.kind.Flow.{Flow}
-use Rattle.teco_model.specs.declared.kind.Flow.TheVariants as flow
-use Rattle.teco_model.specs.declared.kind.Kind.{Kind}
-use Rattle.teco_model.specs.declared.kind.Kind.TheVariants as kind
-use Rattle.teco_model.specs.declared.kind.Search.{Search}
-use Rattle.teco_model.specs.Element.{Element}
-use Rattle.teco_expand.specs.Library.{Library, macro}
-use Rattle.teco_expand.specs.Linked.{Lead, AreLinked}
-use Rattle.teco_expand.specs.Node.{Stand, Node, stands, numbered, base_of}
-use Rattle.teco_expand.specs.Position.{Position}
-use Rattle.teco_expand.specs.Refusal as expanding
-use Rattle.teco_expand.specs.Refusal.{Reason}
-use Rattle.teco_expand.specs.Ways.{jumped, end_ways, leave_ways, flow_ways, search_ways, call_ways, element_ways, ways_at}
+use Rattle.teco_expand.specs.Node.{Node, numbered}
 use Rattle.teco_poly.proofs.Lawful.{value_of_join, values_compare}
 use Rattle.teco_poly.specs.Polynomial.{Polynomial, value, join}
 use Rattle.teco_rules.proofs.Covering.{and_both}
 use Rattle.teco_rules.specs.declared.refusal.Refusal.{Refusal}
 use Rattle.teco_rules.specs.declared.refusal.Refusal.TheVariants as refusal
 use Rattle.teco_rules.specs.Covers.{each_covers, covers_length, covers}
-use Rattle.teco_rules.specs.Facts.{Facts, sum_of, join_of}
-use Rattle.teco_rules.specs.Flows.{Edges}
-use Rattle.teco_rules.specs.SoundElements.{Fits, FitsOn}
-use Rattle.teco_table.specs.Behind.{edges_at, along, begins_turn}
-use Rattle.teco_table.specs.Closed.{check}
-use Rattle.teco_table.specs.Printed.{at_node, turns_round, steps_of, weight, counted_with, count_from, commands, joined_with, sized_with, size_from, size}
+use Rattle.teco_rules.specs.Facts.{Facts, join_of}
+use Rattle.teco_rules.specs.SoundElements.{Fits}
+use Rattle.teco_table.specs.Printed.{at_node, steps_of, weight, counted_with, count_from, commands, joined_with, sized_with, size_from, size}
 use Rattle.teco_table.specs.Table.{Table, facts_at}
 use Rattle.teco_table.proofs.Closing.{held_covered}
 use Rattle.teco_table.proofs.Lookup.{bound, given}

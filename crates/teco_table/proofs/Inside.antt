@@ -1,6 +1,6 @@
 -- What is known of where an element stands: in which iteration, and where it jumps.
-use Rattle.std.proofs.Common.{◌≡◌, ℕ, zero, suc, ◌≤◌, ◌<◌, refl, sym, ap, ◌∙◌, subst, arith, List, [], ◌∷◌, ◌++◌, map, Bool, true, false, ◌&&◌, ◌||◌, if◌then◌else◌, Option, Some, None, Result, Ok, Err}
-use Rattle.std.specs.Prelude.{IsTrue, ⊤}
+use Rattle.std.proofs.Common.{◌≡◌, ℕ, ◌≤◌, ◌<◌, refl, sym, ap, ◌∙◌, subst, arith, List, [], ◌∷◌, ◌++◌, map, Bool, true, false, Option, Some, None, Ok}
+use Rattle.std.specs.Prelude.{IsTrue}
 use Rattle.std.specs.List.{AllByRecursion}
 use Rattle.std.specs.Option.{option_map_or}
 use Rattle.teco_model.specs.declared.flow.Loop.{Loop}
@@ -12,17 +12,15 @@ use Rattle.teco_model.specs.declared.kind.Search.{Search}
 use Rattle.teco_model.specs.Ahead.{Whole}
 use Rattle.teco_model.specs.Element.{Element}
 use Rattle.teco_model.specs.Registers.{Pair}
-use Rattle.teco_model.specs.Searching.{has_colon}
 use Rattle.teco_model.specs.Skip.{skip_of}
-use Rattle.teco_model.specs.State.{Frame, State, frame_of}
+use Rattle.teco_model.specs.State.{Frame, State}
 use Rattle.teco_expand.specs.Ends.{Descend, end_of, IsBegin, AreClosed}
 use Rattle.teco_expand.specs.Library.{Library}
 use Rattle.teco_expand.specs.Linked.{AreLinked}
-use Rattle.teco_expand.specs.Node.{Node, numbered}
+use Rattle.teco_expand.specs.Node.{Node}
 use Rattle.teco_expand.specs.Position.{Position, start_of}
-use Rattle.teco_expand.specs.Ways.{flow_ways, search_ways, element_ways, ways_at}
+use Rattle.teco_expand.specs.Ways.{search_ways, element_ways, ways_at}
 use Rattle.teco_rules.proofs.Covering.{and_both}
-use Rattle.teco_rules.specs.declared.refusal.Refusal.{Refusal}
 use Rattle.teco_rules.specs.Bodies.{body_start}
 use Rattle.teco_rules.specs.Covers.{each_covers, is_same_iteration, covers}
 use Rattle.teco_rules.specs.Facts.{Iteration, Facts}
@@ -32,8 +30,8 @@ use Rattle.teco_rules.specs.SoundSteps.{IsInside, LeadsAhead, FlowStands, KindSt
 use Rattle.teco_rules.specs.Transfer.{search_allowed, without_answer}
 use Rattle.teco_table.specs.Behind.{is_inside, placed, edges_at}
 use Rattle.teco_table.specs.Closed.{is_counted, is_known_in, check}
-use Rattle.teco_table.specs.Following.{OpenTurn, loops_in, open_loops, AreMore, IsOpened, AreOpened, IsDescribed}
-use Rattle.teco_table.specs.Table.{Table, facts_at}
+use Rattle.teco_table.specs.Following.{OpenTurn, loops_in, AreMore, IsOpened, AreOpened, IsDescribed}
+use Rattle.teco_table.specs.Table.{Table}
 use Rattle.teco_table.specs.Written.{written}
 use Rattle.teco_table.proofs.Coming.{HasLoop}
 use Rattle.teco_table.proofs.Entered.{counted_by}

@@ -1,11 +1,10 @@
 -- What the ways of a node say of where its element leads.
-use Rattle.std.proofs.Common.{◌≡◌, ℕ, zero, suc, refl, sym, ap, ◌∙◌, subst, List, [], ◌∷◌, drop, Bool, true, false, Option, Some, None, Result, Ok, Err, slice_get, ok_or}
+use Rattle.std.proofs.Common.{◌≡◌, ℕ, zero, suc, refl, subst, List, [], ◌∷◌, Bool, true, false, Option, Some, None, Result, Ok, Err, slice_get, ok_or}
 use Rattle.std.specs.Prelude.{⊤}
 use Rattle.teco_model.specs.declared.kind.Flow.{Flow}
 use Rattle.teco_model.specs.declared.kind.Flow.TheVariants as flow
 use Rattle.teco_model.specs.declared.kind.Kind.{Kind}
 use Rattle.teco_model.specs.declared.kind.Kind.TheVariants as kind
-use Rattle.teco_model.specs.declared.skip.Skip.{Skip}
 use Rattle.teco_model.specs.Ahead.{Whole}
 use Rattle.teco_model.specs.Element.{Element}
 use Rattle.teco_model.specs.Searching.{has_colon}
@@ -17,7 +16,7 @@ use Rattle.teco_expand.specs.Node.{Stand}
 use Rattle.teco_expand.specs.Position.{Position, moved_to}
 use Rattle.teco_expand.specs.Refusal as expanding
 use Rattle.teco_expand.specs.Refusal.{Reason, Unpaired}
-use Rattle.teco_expand.specs.Ways.{past, skipped, jumped, jump_way, way_or_jump, end_ways, leave_ways, flow_ways, search_ways, call_ways, element_ways, ways_at}
+use Rattle.teco_expand.specs.Ways.{past, jumped, jump_way, way_or_jump, end_ways, leave_ways, flow_ways, search_ways, call_ways, element_ways, ways_at}
 
 record Bound (X Y : Type 0) (r : Result X Reason) (f : X → Result Y Reason) (y : Y) : Type 0 where
   before : X

@@ -3,6 +3,7 @@ ghost use Rattle.teco_table.specs.Ending.{RunsEndInTime};
 ghost use Rattle.teco_table.specs.Laws.{CommandsAreSteps, TablesAreClosed};
 ghost use Rattle.teco_table.specs.Moving.{StepsMove};
 ghost use Rattle.teco_table.specs.Rows.{WorkedTables};
+ghost use Rattle.teco_table.specs.Verified.{RunsAreVerified};
 
 /// The definition gives what is worked by hand.
 pub fn worked_tables()
@@ -43,4 +44,19 @@ pub fn runs_end_in_time()
     teco_expand::laws::runs_end();
     tables_are_closed();
     steps_move();
+}
+
+/// A macro with a closed table runs to its end without a code, within the printed number of commands, while the files that
+/// it needs are open.
+pub fn runs_are_verified()
+    ensures { RunsAreVerified }
+{
+    teco_rules::sound::steps_are_sound();
+    teco_rules::sound::later_steps_are_sound();
+    teco_rules::laws::whole_is_kept();
+    teco_expand::laws::steps_go_along_nodes();
+    teco_expand::laws::stays_loaded();
+    teco_expand::laws::nodes_are_sound();
+    teco_expand::laws::iterations_end();
+    runs_end_in_time();
 }
