@@ -112,6 +112,7 @@ texts_fit n (p ∷ texts) [] c h = absurd (cc)
 
 pub fits_covered : (n : ℕ) (facts next : Facts) → IsTrue (covers facts next) → Fits n facts → Fits n next
 fits_covered n facts next c f =
-    let p = and_both _ _ c in
     let held : value next.held n ≤ value facts.held n = values_compare next.held facts.held n (held_covered facts next c) in
-    record { buffer = omega (arith, held, f.buffer); texts = texts_fit n facts.texts next.texts (and_both _ _ p.0).1 f.texts }
+    let buffer : value next.held n ≤ LIMIT = omega (arith, held, f.buffer) in
+    let p = and_both _ _ c in
+    record { buffer = buffer; texts = texts_fit n facts.texts next.texts (and_both _ _ p.0).1 f.texts }

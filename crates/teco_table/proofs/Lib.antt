@@ -21,3 +21,4 @@ mod Edging
 mod Inside
 mod Completing
 mod Verifying
+mod Naming

@@ -44,6 +44,7 @@ use Rattle.teco_table.proofs.Completing as completing
 use Rattle.teco_table.proofs.Edging.{edges_fit}
 use Rattle.teco_table.proofs.Fitting.{steps_known, facts_fit}
 use Rattle.teco_table.proofs.Going.{where_checked}
+use Rattle.teco_table.proofs.Naming.{registers_are_named}
 use Rattle.teco_table.proofs.Inside.{stands as stands_there, search_inside}
 
 -- ---- what is whole stays so
@@ -218,6 +219,6 @@ module _ (laws : Laws) (library : Library) (entry : ℕ) (nodes : List Node) (ar
     passes_here = by_read here.node.element refl
 
 pub runs_are_verified : Laws → IterationsEnd → RunsEndInTime → RunsAreVerified
-runs_are_verified laws ends in_time library entry nodes table commands_are size_is n world are printed ready names files =
+runs_are_verified laws ends in_time library entry nodes table commands_are size_is n world are printed ready files =
     in_time library entry nodes table commands_are n world are printed.closed printed.commands_are ready.loaded ready.whole.kept ready.begins
-    (λ number turns steps s reached here. passes_here laws library entry nodes are (ends library entry nodes are) table commands_are size_is n world.kept.registers.stack printed ready.small names (start (call_of entry) world) files (laws.whole.starts (call_of entry) world ready.call ready.whole) number turns steps s reached here)
+    (λ number turns steps s reached here. passes_here laws library entry nodes are (ends library entry nodes are) table commands_are size_is n world.kept.registers.stack printed ready.small registers_are_named (start (call_of entry) world) files (laws.whole.starts (call_of entry) world ready.call ready.whole) number turns steps s reached here)

@@ -47,5 +47,5 @@ RunsAreVerified =
     (library : Library) (entry : ℕ) (nodes : List Node) (table : Table) (steps most : Polynomial) (n : ℕ)
     (world : World)
     → AreLinked library entry nodes → IsPrinted nodes table steps most → IsReady library entry most n world
-    → RegistersAreNamed → FilesStayOpen nodes table (start (call_of entry) world)
+    → FilesStayOpen nodes table (start (call_of entry) world)
     → EndsWithin (start (call_of entry) world) (value steps n)
