@@ -1,0 +1,195 @@
+-- An element that begins where a run is described passes, by the laws of facts.
+use Rattle.std.proofs.Common.{◌≡◌, ◌⊎◌, inl, inr, ℕ, zero, suc, ◌+◌, ◌≤◌, ◌<◌, refl, sym, ap, ◌∙◌, subst, arith, List, Bool, true, false, Option, Some, None, Result, Ok, Err}
+use Rattle.std.specs.Prelude.{IsErr}
+use Rattle.std.specs.Option.{option_map_or}
+use Rattle.teco_model.specs.declared.kind.Command.TheVariants as command
+use Rattle.teco_model.specs.declared.kind.Storage.{Storage}
+use Rattle.teco_model.specs.declared.kind.Storage.TheVariants as storage
+use Rattle.teco_model.specs.declared.kind.Stack.TheVariants as stack
+use Rattle.teco_model.specs.declared.kind.Kind.{Kind}
+use Rattle.teco_model.specs.declared.kind.Kind.TheVariants as kind
+use Rattle.teco_model.specs.declared.kind.Page.{Page}
+use Rattle.teco_model.specs.declared.kind.Page.TheVariants as page
+use Rattle.teco_model.specs.declared.kind.Search.{Search}
+use Rattle.teco_model.specs.declared.kind.Search.TheVariants as search
+use Rattle.teco_model.specs.Element.{Element}
+use Rattle.teco_model.specs.Registers.{Pair}
+use Rattle.teco_model.specs.Run.{Reaches, run, go_on}
+use Rattle.teco_model.specs.State.{State, Outcome, Next, End, Exit, Fail, Absent}
+use Rattle.teco_model.specs.Step.{step}
+use Rattle.teco_expand.specs.Library.{Library, is_macro, IsLoaded}
+use Rattle.teco_expand.specs.Linked.{AreLinked}
+use Rattle.teco_expand.specs.Loaded.{StaysLoaded}
+use Rattle.teco_expand.specs.Names.{named_by, names_macro, written_by, writes_macro}
+use Rattle.teco_expand.specs.Node.{Node, stands}
+use Rattle.teco_expand.specs.Position.{position_of, position_of_frames}
+use Rattle.teco_expand.specs.Run.{GoesTo, MovesFrom, Went, Stayed, StepsGoAlongNodes}
+use Rattle.teco_expand.specs.Steps.{is_long, IsLeftAt}
+use Rattle.teco_expand.specs.Ways.{read_at}
+use Rattle.teco_poly.specs.Polynomial.{Polynomial, value}
+use Rattle.teco_rules.proofs.Library.{library_stays}
+use Rattle.teco_rules.specs.declared.refusal.Refusal.{Refusal}
+use Rattle.teco_rules.specs.Describes.{Run, IsWhole}
+use Rattle.teco_rules.specs.Facts.{Facts}
+use Rattle.teco_rules.specs.Flows.{Edges}
+use Rattle.teco_rules.specs.Laws.{WritesText}
+use Rattle.teco_rules.specs.Printed.{steps}
+use Rattle.teco_rules.specs.SoundElements.{FitsOn}
+use Rattle.teco_rules.specs.SoundPages.{IsTurnOrWrite}
+use Rattle.teco_rules.specs.SoundSeeking.{IsInPages}
+use Rattle.teco_rules.specs.SoundSteps.{BeginsAt, KindUnderway, IsUnderway, KindEnds, Proceeds, StepsAreSound, LaterStepsAreSound}
+use Rattle.teco_rules.specs.Transfer.{Placed, transfer}
+use Rattle.teco_table.specs.Behind.{placed, edges_behind, edges_at}
+use Rattle.teco_table.specs.Ending.{Passes}
+use Rattle.teco_table.specs.Following.{OpenTurn, run_at, IsDescribed}
+use Rattle.teco_table.specs.Moving.{IsLong, IsLast, Alone, Again}
+use Rattle.teco_table.specs.Printed.{steps_of}
+use Rattle.teco_table.specs.Table.{Table}
+use Rattle.teco_table.specs.Turning.{value_of}
+use Rattle.teco_table.proofs.Coming.{HasLoop, element_comes}
+
+-- ---- no register of the library is written
+one_named : (b : Bool) → (b ≡ true → ⊥) → b ≡ false
+one_named true h = absurd (h refl)
+one_named false h = refl
+
+storage_writes : (library : Library) (s : Storage) → (option_map_or (is_macro library) (named_by (kind.Command (command.Storage s))) false ≡ true → WritesText (kind.Command (command.Storage s)) → ⊥) → option_map_or (is_macro library) (written_by (kind.Command (command.Storage s))) false ≡ false
+storage_writes library (storage.Copy r) h = one_named _ (λ e. h e tt)
+storage_writes library (storage.SetText r) h = one_named _ (λ e. h e tt)
+storage_writes library s h = refl
+
+kind_writes : (library : Library) (k : Kind) → (option_map_or (is_macro library) (named_by k) false ≡ true → WritesText k → ⊥) → option_map_or (is_macro library) (written_by k) false ≡ false
+kind_writes library (kind.Stack (stack.Pop r)) h = one_named _ (λ e. h e tt)
+kind_writes library (kind.Command (command.Storage s)) h = storage_writes library s h
+kind_writes library k h = refl
+
+not_refused : (r : Result Edges Refusal) (edges : Edges) → r ≡ Ok edges → IsErr r → ⊥
+not_refused (Ok x) edges h e = absurd (cc)
+not_refused (Err why) edges h e = absurd (cc)
+
+pub writes_nothing : (library : Library) (x : Placed) (facts : Facts) (edges : Edges) → x.library ≡ names_macro library (Some x.element) → transfer x facts ≡ Ok edges → writes_macro library (Some x.element) ≡ false
+writes_nothing library x facts edges names h = kind_writes library x.element.kind (λ e writes. not_refused (transfer x facts) edges h (library_stays x facts (names ∙ e) writes))
+
+-- ---- an element that is underway is long
+page_long : (p : Page) → IsTurnOrWrite p → is_long (kind.Page p) ≡ true
+page_long page.Next h = refl
+page_long page.Write h = refl
+page_long p h = absurd h
+
+search_long : (q : Search) → IsInPages q → is_long (kind.Search q) ≡ true
+search_long search.FindInPages h = refl
+search_long search.ReplaceInPages h = refl
+search_long search.Find h = absurd h
+search_long search.Replace h = absurd h
+
+under_long : (k : Kind) (run : Run) (facts : Facts) (x : Placed) (edges : Edges) (old u : State) (rest : ℕ) → KindUnderway k run facts x edges old rest u → is_long k ≡ true
+under_long (kind.Page p) run facts x edges old u rest h = page_long p h.0
+under_long (kind.Search q) run facts x edges old u rest h = search_long q h.0
+under_long k run facts x edges old u rest h = absurd h
+
+left_long : (e : Element) (left : Option ℕ) → is_long e.kind ≡ true → IsLeftAt (Some e) left
+left_long e None h = tt
+left_long e (Some n) h = h
+
+-- ---- nothing is left where an element ends
+ends_done : (k : Kind) (run : Run) (facts : Facts) (x : Placed) (edges : Edges) (s new : State) → s.left ≡ None → KindEnds k run facts x edges s new → new.left ≡ None
+ends_done (kind.Flow f) run facts x edges s new none h = ap (λ (s : State). s.left) h.gone ∙ none
+ends_done (kind.Call c) run facts x edges s new none h = ap (λ (s : State). s.left) h.gone ∙ none
+ends_done (kind.Search q) run facts x edges s new none (inl h) = h.done
+ends_done (kind.Search q) run facts x edges s new none (inr h) = h.1.done
+ends_done k run facts x edges s new none h = h.done
+
+-- ---- the steps of an element
+pub record Facts_laws : Type 0 where
+  pub first : StepsAreSound
+  pub later : LaterStepsAreSound
+  pub along : StepsGoAlongNodes
+  pub loaded : StaysLoaded
+
+module _ (laws : Facts_laws) (library : Library) (entry : ℕ) (nodes : List Node) (are : AreLinked library entry nodes) (table : Table) (n : ℕ) (below : List Pair) (number : ℕ) (turns : List OpenTurn) (s : State) (here : IsDescribed library nodes table n below number turns s) where
+  module _ (e : Element) (reads : here.node.element ≡ Some e) (edges : Edges) (leads : edges_at nodes here.node here.facts ≡ Ok edges) (most : Polynomial) (takes : steps e.kind here.facts ≡ Ok most) (fits : FitsOn n edges) (begins : BeginsAt (run_at n below turns) here.facts (placed nodes here.node e) s) (wholes : (k : ℕ) (u : State) → Reaches k s u → IsWhole u.world.kept) (inside : (q : Search) → e.kind ≡ kind.Search q → (placed nodes here.node e).colon ≡ false → HasLoop s.frames.running) where
+    abbrev run_here : Run
+    run_here = run_at n below turns
+
+    abbrev x : Placed
+    x = placed nodes here.node e
+
+    knows : transfer x here.facts ≡ Ok edges
+    knows = ap (λ read. edges_behind nodes here.node read here.facts) (sym reads) ∙ leads
+
+    abbrev At : State → ℕ → Type 0
+    At u rest = (u ≡ s) ⊎ IsUnderway e.kind run_here here.facts x edges s rest u
+
+    frames_same : (u : State) (rest : ℕ) → At u rest → u.frames ≡ s.frames
+    frames_same u rest (inl same) = ap (λ (s : State). s.frames) same
+    frames_same u rest (inr under) = under.frames
+
+    last_of : (u : State) (rest : ℕ) → At u rest → IsLast here.node.element s u
+    last_of u rest (inl same) = Alone same
+    last_of u rest (inr under) = Again under.frames (subst IsLong (sym reads) (under_long e.kind run_here here.facts x edges s u rest under.work))
+
+    left_at : (u : State) (rest : ℕ) → At u rest → IsLeftAt here.node.element u.left
+    left_at u rest (inl same) = subst (λ left. IsLeftAt here.node.element left) (sym (ap (λ (s : State). s.left) same ∙ here.begins)) tt
+    left_at u rest (inr under) = subst (λ read. IsLeftAt read u.left) (sym reads) (left_long e u.left (under_long e.kind run_here here.facts x edges s u rest under.work))
+
+    position_is : (u : State) (rest : ℕ) → At u rest → here.node.stand.position ≡ position_of u
+    position_is u rest at = here.position ∙ ap position_of_frames (sym (frames_same u rest at))
+
+    loaded_next : (u new : State) (rest : ℕ) → At u rest → IsLoaded library u.world.kept → step u ≡ Next new → IsLoaded library new.world.kept
+    loaded_next u new rest at loaded goes =
+        let linked = are.each number here.node here.at in
+        laws.loaded library u new (Some e) loaded (writes_nothing library x here.facts edges (linked.names ∙ ap (names_macro library) reads) knows)
+        (ap read_at (sym (position_is u rest at)) ∙ (linked.reads ∙ ap Ok reads)) goes
+
+    -- the step that ends it
+    module _ (j : ℕ) (u new : State) (rest : ℕ) (at : At u rest) (came : Reaches j s u) (loaded : IsLoaded library u.world.kept) (goes : step u ≡ Next new) (few : suc j ≤ value most n) (ends : KindEnds e.kind run_here here.facts x edges s new) where
+      done : new.left ≡ None
+      done = ends_done e.kind run_here here.facts x edges s new here.begins ends
+
+      moved : MovesFrom (stands nodes entry) number here.node u new → GoesTo (stands nodes entry) number here.node u new
+      moved (Went g) = g
+      moved (Stayed st) = let z : None ≡ Some st.n = sym done ∙ st.left in absurd (cc)
+
+      went : GoesTo (stands nodes entry) number here.node u new
+      went = moved (laws.along library entry nodes number here.node u new are here.at (position_is u rest at) (left_at u rest at) loaded goes)
+
+      reached_next : Reaches (suc j) s new
+      unfolding run
+      reached_next = ap go_on came ∙ goes
+
+      ending : Passes library entry nodes table n below number turns s here
+      ending = record {
+        before = j;
+        last = u;
+        next = new;
+        reaches = came;
+        steps = goes;
+        few = let e2 : value_of n (steps_of here.node.element here.facts) ≡ value most n = ap (value_of n) (ap (λ read. steps_of read here.facts) reads ∙ takes) in omega (arith, e2, few);
+        again = last_of u rest at;
+        goes = went;
+        comes = element_comes nodes here.node here.facts edges run_here s u new leads e reads (last_of u rest at) inside went.way went.was ends;
+        loaded = loaded_next u new rest at loaded goes;
+        whole = wholes (suc j) new reached_next;
+      }
+
+    reached : (j : ℕ) (u new : State) → Reaches j s u → step u ≡ Next new → Reaches (suc j) s new
+    unfolding run
+    reached j u new came goes = ap go_on came ∙ goes
+
+    proceeding : (fuel j : ℕ) (u : State) (rest : ℕ) → At u rest → Reaches j s u → IsLoaded library u.world.kept → j + rest ≤ value most n → rest < fuel → (o : Outcome) → step u ≡ o → Proceeds e.kind run_here here.facts x edges s rest o → Passes library entry nodes table n below number turns s here
+    proceeding zero j u rest at came loaded few l o goes p = absurd (omega (arith, l))
+    proceeding (suc fuel) j u rest at came loaded few l (Next new) goes (inl p) = ending j u new rest at came loaded goes (omega (arith, p.0, few)) p.1
+    proceeding (suc fuel) j u rest at came loaded few l (Next new) goes (inr p) =
+        proceeding fuel (suc j) new p.0 (inr p.2) (reached j u new came goes) (loaded_next u new rest at loaded goes) (omega (arith, p.1, few)) (omega (arith, p.1, l)) (step new) refl
+        (laws.later run_here here.facts x edges most s new p.0 begins knows fits takes p.2)
+    proceeding (suc fuel) j u rest at came loaded few l (End world) goes p = absurd p
+    proceeding (suc fuel) j u rest at came loaded few l (Exit world) goes p = absurd p
+    proceeding (suc fuel) j u rest at came loaded few l (Fail c world) goes p = absurd p
+    proceeding (suc fuel) j u rest at came loaded few l (Absent world) goes p = absurd p
+
+    reached_here : Reaches 0 s s
+    unfolding run
+    reached_here = refl
+
+    pub passing : Passes library entry nodes table n below number turns s here
+    passing = proceeding (suc (value most n)) 0 s (value most n) (inl refl) reached_here here.loaded (omega arith) (omega arith) (step s) refl (laws.first run_here here.facts x edges most s begins knows fits takes)

@@ -1,0 +1,24 @@
+-- Lemmas of the laws.
+mod Lookup
+mod Counting
+mod Standing
+mod Reading
+mod Entering
+mod Closing
+mod Leaving
+mod Passing
+mod Going
+mod Entered
+mod Returned
+mod Steps
+mod Walking
+mod Ending
+mod Worked
+mod Coming
+mod Fitting
+mod Leading
+mod Edging
+mod Inside
+mod Completing
+mod Verifying
+mod Naming

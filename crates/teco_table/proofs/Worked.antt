@@ -1,0 +1,35 @@
+-- Tables worked by hand.
+use Rattle.std.proofs.Common.{refl}
+use Rattle.std.specs.Fmt.{digits}
+use Rattle.std.specs.Int.{int_wrap}
+use Rattle.teco_model.specs.Ahead.{reading_at, first_readings, readings}
+use Rattle.teco_model.specs.Element.{blank_len, element_from, element_at}
+use Rattle.teco_model.specs.Letters.{letters}
+use Rattle.teco_model.specs.Pattern.{part_at, parts_within, parts}
+use Rattle.teco_expand.specs.Ways.{read_at, flow_ways, ways_at}
+use Rattle.teco_expand.specs.Expansion.{next_visit, walk, way_numbers, node_at, nodes_at, expansion}
+use Rattle.teco_rules.specs.Transfer.{transfer}
+use Rattle.teco_table.specs.Closed.{check}
+use Rattle.teco_table.specs.Deriving.{derive}
+use Rattle.teco_table.specs.Printed.{commands, size, needs_in}
+use Rattle.teco_table.specs.Rows.{WorkedTables}
+use Rattle.teco_table.specs.Written.{written_in, written}
+
+pub worked_tables : WorkedTables
+unfolding digits int_wrap blank_len element_from element_at letters reading_at first_readings readings part_at parts_within parts read_at flow_ways ways_at next_visit walk way_numbers node_at nodes_at expansion transfer check derive commands size needs_in written_in written
+worked_tables = record {
+  marks = refl;
+  lost = refl;
+  more = refl;
+  too_little = refl;
+  none_chosen = refl;
+  counted = refl;
+  endless = refl;
+  replaced = refl;
+  copied = refl;
+  pages = refl;
+  repeated = refl;
+  tested = refl;
+  appended = refl;
+  refused = refl;
+}

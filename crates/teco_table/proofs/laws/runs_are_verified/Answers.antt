@@ -1,0 +1,14 @@
+use Rattle.teco_table.proofs.Verifying.{runs_are_verified}
+use Rattle.teco_table.proofs.laws.runs_are_verified.Goals as goal
+
+pub returns : goal.returns
+returns c = runs_are_verified (record {
+  steps = record {
+    first = c.steps_are_sound.ensures;
+    later = c.later_steps_are_sound.ensures;
+    along = c.steps_go_along_nodes.ensures;
+    loaded = c.stays_loaded.ensures;
+  };
+  sound = c.nodes_are_sound.ensures;
+  whole = c.whole_is_kept.ensures;
+}) c.iterations_end.ensures c.runs_end_in_time.ensures

@@ -1,0 +1,61 @@
+-- A run of a macro, with a closed table, ends without a code within the printed number of commands.
+use Rattle.std.specs.Prelude.{◌≡◌, ◌⊎◌, ℕ, suc, ◌≤◌, List, Ok}
+use Rattle.teco_model.specs.Registers.{Pair}
+use Rattle.teco_model.specs.Run.{Reaches, Ends}
+use Rattle.teco_model.specs.State.{World, State, Next, End, start}
+use Rattle.teco_model.specs.Step.{step}
+use Rattle.teco_expand.specs.Library.{Library, IsLoaded}
+use Rattle.teco_expand.specs.Linked.{AreLinked}
+use Rattle.teco_expand.specs.Node.{Node, call_of, stands}
+use Rattle.teco_expand.specs.Run.{GoesTo}
+use Rattle.teco_poly.specs.Polynomial.{Polynomial, value}
+use Rattle.teco_rules.specs.Describes.{IsWhole}
+use Rattle.teco_rules.specs.Laws.{IsEntry}
+use Rattle.teco_rules.specs.SoundPages.{unread_of}
+use Rattle.teco_table.specs.Closed.{check}
+use Rattle.teco_table.specs.Following.{OpenTurn, run_at, IsDescribed}
+use Rattle.teco_table.specs.Moving.{IsLast, Comes}
+use Rattle.teco_table.specs.Printed.{steps_of, commands}
+use Rattle.teco_table.specs.Table.{Table}
+use Rattle.teco_table.specs.Turning.{value_of}
+
+-- An element that begins where a run is described takes no more steps than are known, without a code; the last of them
+-- goes along a way, to a state that the facts on it describe.
+pub record Passes
+    (library : Library) (entry : ℕ) (nodes : List Node) (table : Table) (n : ℕ) (below : List Pair) (number : ℕ)
+    (turns : List OpenTurn) (s : State) (here : IsDescribed library nodes table n below number turns s) :
+    Type 0 where
+  pub before : ℕ
+  pub last : State
+  pub next : State
+  pub reaches : Reaches before s last
+  pub steps : step last ≡ Next next
+  pub few : suc before ≤ value_of n (steps_of here.node.element here.facts)
+  pub again : IsLast here.node.element s last
+  pub goes : GoesTo (stands nodes entry) number here.node last next
+  pub comes : Comes nodes here.node here.facts goes.way (run_at n below turns) s next
+  pub loaded : IsLoaded library next.world.kept
+  pub whole : IsWhole next.world.kept
+
+-- so does each that a run comes to, or the run ends there
+abbrev pub ElementsPass : Library → ℕ → List Node → Table → ℕ → List Pair → State → Type 0
+ElementsPass library entry nodes table n below first =
+    (number : ℕ) (turns : List OpenTurn) (steps : ℕ) (s : State) → Reaches steps first s
+    → (here : IsDescribed library nodes table n below number turns s)
+    → (step s ≡ End s.world) ⊎ Passes library entry nodes table n below number turns s here
+
+-- the run comes to its end, after no more than so many steps
+pub record EndsWithin (s : State) (most : ℕ) : Type 0 where
+  pub steps : ℕ
+  pub new : World
+  pub few : steps ≤ most
+  pub ends : Ends s steps new
+
+abbrev pub RunsEndInTime : Type 0
+RunsEndInTime =
+    (library : Library) (entry : ℕ) (nodes : List Node) (table : Table) (printed : Polynomial) (n : ℕ)
+    (world : World)
+    → AreLinked library entry nodes → check nodes table ≡ Ok tt → commands nodes table ≡ Ok printed
+    → IsLoaded library world.kept → IsWhole world.kept → IsEntry n (unread_of world) world.kept
+    → ElementsPass library entry nodes table n world.kept.registers.stack (start (call_of entry) world)
+    → EndsWithin (start (call_of entry) world) (value printed n)

@@ -1,0 +1,62 @@
+//! Laws of closed tables.
+ghost use Rattle.teco_table.specs.Ending.{RunsEndInTime};
+ghost use Rattle.teco_table.specs.Laws.{CommandsAreSteps, TablesAreClosed};
+ghost use Rattle.teco_table.specs.Moving.{StepsMove};
+ghost use Rattle.teco_table.specs.Rows.{WorkedTables};
+ghost use Rattle.teco_table.specs.Verified.{RunsAreVerified};
+
+/// The definition gives what is worked by hand.
+pub fn worked_tables()
+    ensures { WorkedTables }
+{}
+
+/// The printed number of commands is that of the table of numbers.
+pub fn commands_are_steps()
+    ensures { CommandsAreSteps }
+{}
+
+/// A closed table is closed as a table of numbers.
+pub fn tables_are_closed()
+    ensures { TablesAreClosed }
+{
+    teco_expand::laws::iterations_are_open();
+    teco_expand::laws::iterations_end();
+    teco_turns::laws::nodes_nest();
+}
+
+/// A step from where a run is described is a move, to where it is described again.
+pub fn steps_move()
+    ensures { StepsMove }
+{
+    teco_expand::laws::iterations_are_open();
+    teco_expand::laws::iterations_end();
+    teco_expand::laws::left_have_ended();
+    teco_expand::laws::ways_lead();
+}
+
+/// A run of a macro ends without a code within the printed number of commands, where each element does what the laws of
+/// facts say.
+pub fn runs_end_in_time()
+    ensures { RunsEndInTime }
+{
+    teco_turns::laws::runs_are_bounded();
+    teco_turns::laws::runs_are_covered();
+    teco_expand::laws::runs_end();
+    tables_are_closed();
+    steps_move();
+}
+
+/// A macro with a closed table runs to its end without a code, within the printed number of commands, while the files that
+/// it needs are open.
+pub fn runs_are_verified()
+    ensures { RunsAreVerified }
+{
+    teco_rules::sound::steps_are_sound();
+    teco_rules::sound::later_steps_are_sound();
+    teco_rules::laws::whole_is_kept();
+    teco_expand::laws::steps_go_along_nodes();
+    teco_expand::laws::stays_loaded();
+    teco_expand::laws::nodes_are_sound();
+    teco_expand::laws::iterations_end();
+    runs_end_in_time();
+}
