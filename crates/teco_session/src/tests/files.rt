@@ -145,15 +145,30 @@ fn expect_files(
     Ok(())
 }
 
+// The same over hosts that move one byte, two, and all that is asked for.
+fn expect_in_pieces(
+    rt: &impl Abort,
+    alloc: Global,
+    row: FileRow,
+    number: usize,
+) -> Result<(), AllocError> {
+    expect_files(rt, alloc, 1, row, number)?;
+    expect_files(rt, alloc, 2, row, number)?;
+    expect_files(rt, alloc, 4096, row, number)
+}
+
 #[test]
-fn files(rt: HostRuntime) -> Result<(), Fail> {
-    let tables: [&[FileRow]; 2] = [&PAGES, &NAMES];
-    for table in tables {
-        for (i, row) in table.iter().enumerate() {
-            expect_files(&rt, rt.alloc(), 1, *row, i)?;
-            expect_files(&rt, rt.alloc(), 2, *row, i)?;
-            expect_files(&rt, rt.alloc(), 4096, *row, i)?;
-        }
+fn pages(rt: HostRuntime) -> Result<(), Fail> {
+    for (i, row) in PAGES.iter().enumerate() {
+        expect_in_pieces(&rt, rt.alloc(), *row, i)?;
+    }
+    Ok(())
+}
+
+#[test]
+fn names(rt: HostRuntime) -> Result<(), Fail> {
+    for (i, row) in NAMES.iter().enumerate() {
+        expect_in_pieces(&rt, rt.alloc(), *row, i)?;
     }
     Ok(())
 }
