@@ -1,5 +1,5 @@
 -- An element that begins where a run is described passes, by the laws of facts.
-use Rattle.std.proofs.Common.{◌≡◌, ◌⊎◌, inl, inr, ℕ, zero, suc, ◌+◌, ◌≤◌, ◌<◌, refl, sym, ap, ◌∙◌, subst, arith, List, Bool, true, false, Option, Some, None, Result, Ok, Err}
+use Rattle.std.proofs.Common.{◌≡◌, ◌⊎◌, inl, inr, ℕ, zero, suc, ◌+◌, ◌≤◌, ◌<◌, refl, sym, ap, ◌∙◌, subst, arith, List, Bool, true, false, Option, Some, None, Result, Ok, Err, is_some}
 use Rattle.std.specs.Prelude.{IsErr}
 use Rattle.std.specs.Option.{option_map_or}
 use Rattle.teco_model.specs.declared.kind.Command.TheVariants as command
@@ -12,10 +12,11 @@ use Rattle.teco_model.specs.declared.kind.Page.{Page}
 use Rattle.teco_model.specs.declared.kind.Page.TheVariants as page
 use Rattle.teco_model.specs.declared.kind.Search.{Search}
 use Rattle.teco_model.specs.declared.kind.Search.TheVariants as search
-use Rattle.teco_model.specs.Element.{Element}
+use Rattle.teco_model.specs.Element.{Element, element_at}
+use Rattle.teco_model.specs.Files.{Files}
 use Rattle.teco_model.specs.Registers.{Pair}
 use Rattle.teco_model.specs.Run.{Reaches, run, go_on}
-use Rattle.teco_model.specs.State.{State, Outcome, Next, End, Exit, Fail, Absent}
+use Rattle.teco_model.specs.State.{Frames, State, Outcome, Next, End, Exit, Fail, Absent}
 use Rattle.teco_model.specs.Step.{step}
 use Rattle.teco_expand.specs.Library.{Library, is_macro, IsLoaded}
 use Rattle.teco_expand.specs.Linked.{AreLinked}
@@ -29,21 +30,25 @@ use Rattle.teco_expand.specs.Ways.{read_at}
 use Rattle.teco_poly.specs.Polynomial.{Polynomial, value}
 use Rattle.teco_rules.proofs.Library.{library_stays}
 use Rattle.teco_rules.specs.declared.refusal.Refusal.{Refusal}
+use Rattle.teco_rules.specs.declared.refusal.Refusal.TheVariants as refusal
+use Rattle.teco_rules.specs.Arguments.{KnownTaken, arguments_of}
+use Rattle.teco_rules.specs.Attempt.{◌>>=◌}
 use Rattle.teco_rules.specs.Describes.{Run, IsWhole}
-use Rattle.teco_rules.specs.Facts.{Facts}
+use Rattle.teco_rules.specs.Facts.{Answer, Facts}
 use Rattle.teco_rules.specs.Flows.{Edges}
 use Rattle.teco_rules.specs.Laws.{WritesText}
-use Rattle.teco_rules.specs.Printed.{steps}
+use Rattle.teco_rules.specs.Printed.{steps, Needs}
 use Rattle.teco_rules.specs.SoundElements.{FitsOn}
 use Rattle.teco_rules.specs.SoundPages.{IsTurnOrWrite}
 use Rattle.teco_rules.specs.SoundSeeking.{IsInPages}
-use Rattle.teco_rules.specs.SoundSteps.{BeginsAt, KindUnderway, IsUnderway, KindEnds, Proceeds, StepsAreSound, LaterStepsAreSound}
-use Rattle.teco_rules.specs.Transfer.{Placed, transfer}
+use Rattle.teco_rules.specs.SoundSteps.{AreOpen, BeginsAt, KindUnderway, IsUnderway, KindEnds, Proceeds, StepsAreSound, LaterStepsAreSound}
+use Rattle.teco_rules.specs.Transfer.{Placed, answer_for, without_answer, edges_of, transfer}
 use Rattle.teco_table.specs.Behind.{placed, edges_behind, edges_at}
 use Rattle.teco_table.specs.Ending.{Passes}
 use Rattle.teco_table.specs.Following.{OpenTurn, run_at, IsDescribed}
 use Rattle.teco_table.specs.Moving.{IsLong, IsLast, Alone, Again}
-use Rattle.teco_table.specs.Printed.{steps_of}
+use Rattle.teco_table.specs.Printed.{steps_of, needs_in}
+use Rattle.teco_table.specs.Staying.{is_of_files, AreAsOpen, FilesStayOpen}
 use Rattle.teco_table.specs.Table.{Table}
 use Rattle.teco_table.specs.Turning.{value_of}
 use Rattle.teco_table.proofs.Coming.{HasLoop, element_comes}
@@ -69,6 +74,29 @@ not_refused (Err why) edges h e = absurd (cc)
 
 pub writes_nothing : (library : Library) (x : Placed) (facts : Facts) (edges : Edges) → x.library ≡ names_macro library (Some x.element) → transfer x facts ≡ Ok edges → writes_macro library (Some x.element) ≡ false
 writes_nothing library x facts edges names h = kind_writes library x.element.kind (λ e writes. not_refused (transfer x facts) edges h (library_stays x facts (names ∙ e) writes))
+
+-- ---- no file is opened or closed
+never : (r : Result KnownTaken Refusal) (edges : Edges) → (r >>= (λ taken. Err refusal.Unverified)) ≡ Ok edges → ⊥
+never (Ok taken) edges h = absurd (cc)
+never (Err why) edges h = absurd (cc)
+
+kind_no_file : (k : Kind) (x : Placed) (answer : Option Answer) (facts : Facts) (edges : Edges) → edges_of k x answer facts ≡ Ok edges → is_of_files k ≡ false
+kind_no_file (kind.File f) x answer facts edges h = absurd (never (arguments_of facts.arguments.level) edges h)
+kind_no_file k x answer facts edges h = refl
+
+no_file : (x : Placed) (facts : Facts) (edges : Edges) → transfer x facts ≡ Ok edges → is_of_files x.element.kind ≡ false
+unfolding transfer
+no_file x facts edges h = kind_no_file x.element.kind x (answer_for x.element.kind facts) (without_answer facts) edges h
+
+some_there : {X : Type 0} (o : Option X) → is_some o ≡ true → (x : X) × (o ≡ Some x)
+some_there None h = absurd (cc)
+some_there (Some x) h = (x, refl)
+
+open_as_before : (need : Needs) (old new : Files) → AreAsOpen old new → AreOpen need old → AreOpen need new
+open_as_before need old new same files = record {
+  input = λ h. some_there new.input (same.input ∙ ap is_some (files.input h).1);
+  output = λ h. some_there new.output (same.output ∙ ap is_some (files.output h).1);
+}
 
 -- ---- an element that is underway is long
 page_long : (p : Page) → IsTurnOrWrite p → is_long (kind.Page p) ≡ true
@@ -105,6 +133,7 @@ pub record Facts_laws : Type 0 where
   pub later : LaterStepsAreSound
   pub along : StepsGoAlongNodes
   pub loaded : StaysLoaded
+  pub files : FilesStayOpen
 
 module _ (laws : Facts_laws) (library : Library) (entry : ℕ) (nodes : List Node) (are : AreLinked library entry nodes) (table : Table) (n : ℕ) (below : List Pair) (number : ℕ) (turns : List OpenTurn) (s : State) (here : IsDescribed library nodes table n below number turns s) where
   module _ (e : Element) (reads : here.node.element ≡ Some e) (edges : Edges) (leads : edges_at nodes here.node here.facts ≡ Ok edges) (most : Polynomial) (takes : steps e.kind here.facts ≡ Ok most) (fits : FitsOn n edges) (begins : BeginsAt (run_at n below turns) here.facts (placed nodes here.node e) s) (wholes : (k : ℕ) (u : State) → Reaches k s u → IsWhole u.world.kept) (inside : (q : Search) → e.kind ≡ kind.Search q → (placed nodes here.node e).colon ≡ false → HasLoop s.frames.running) where
@@ -141,8 +170,17 @@ module _ (laws : Facts_laws) (library : Library) (entry : ℕ) (nodes : List Nod
         laws.loaded library u new (Some e) loaded (writes_nothing library x here.facts edges (linked.names ∙ ap (names_macro library) reads) knows)
         (ap read_at (sym (position_is u rest at)) ∙ (linked.reads ∙ ap Ok reads)) goes
 
+    abbrev HasOpen : State → Type 0
+    HasOpen u = AreOpen (needs_in nodes table) u.world.files
+
+    open_next : (u new : State) (rest : ℕ) → At u rest → HasOpen u → step u ≡ Next new → HasOpen new
+    open_next u new rest at files goes =
+        open_as_before (needs_in nodes table) u.world.files new.world.files
+        (laws.files u new (Some e) (no_file x here.facts edges knows)
+        (ap (λ (frames : Frames). element_at frames.running.text frames.running.place) (frames_same u rest at) ∙ begins.read) goes) files
+
     -- the step that ends it
-    module _ (j : ℕ) (u new : State) (rest : ℕ) (at : At u rest) (came : Reaches j s u) (loaded : IsLoaded library u.world.kept) (goes : step u ≡ Next new) (few : suc j ≤ value most n) (ends : KindEnds e.kind run_here here.facts x edges s new) where
+    module _ (j : ℕ) (u new : State) (rest : ℕ) (at : At u rest) (came : Reaches j s u) (loaded : IsLoaded library u.world.kept) (files : HasOpen u) (goes : step u ≡ Next new) (few : suc j ≤ value most n) (ends : KindEnds e.kind run_here here.facts x edges s new) where
       done : new.left ≡ None
       done = ends_done e.kind run_here here.facts x edges s new here.begins ends
 
@@ -170,26 +208,27 @@ module _ (laws : Facts_laws) (library : Library) (entry : ℕ) (nodes : List Nod
         comes = element_comes nodes here.node here.facts edges run_here s u new leads e reads (last_of u rest at) inside went.way went.was ends;
         loaded = loaded_next u new rest at loaded goes;
         whole = wholes (suc j) new reached_next;
+        files = open_next u new rest at files goes;
       }
 
     reached : (j : ℕ) (u new : State) → Reaches j s u → step u ≡ Next new → Reaches (suc j) s new
     unfolding run
     reached j u new came goes = ap go_on came ∙ goes
 
-    proceeding : (fuel j : ℕ) (u : State) (rest : ℕ) → At u rest → Reaches j s u → IsLoaded library u.world.kept → j + rest ≤ value most n → rest < fuel → (o : Outcome) → step u ≡ o → Proceeds e.kind run_here here.facts x edges s rest o → Passes library entry nodes table n below number turns s here
-    proceeding zero j u rest at came loaded few l o goes p = absurd (omega (arith, l))
-    proceeding (suc fuel) j u rest at came loaded few l (Next new) goes (inl p) = ending j u new rest at came loaded goes (omega (arith, p.0, few)) p.1
-    proceeding (suc fuel) j u rest at came loaded few l (Next new) goes (inr p) =
-        proceeding fuel (suc j) new p.0 (inr p.2) (reached j u new came goes) (loaded_next u new rest at loaded goes) (omega (arith, p.1, few)) (omega (arith, p.1, l)) (step new) refl
+    proceeding : (fuel j : ℕ) (u : State) (rest : ℕ) → At u rest → Reaches j s u → IsLoaded library u.world.kept → HasOpen u → j + rest ≤ value most n → rest < fuel → (o : Outcome) → step u ≡ o → Proceeds e.kind run_here here.facts x edges s rest o → Passes library entry nodes table n below number turns s here
+    proceeding zero j u rest at came loaded files few l o goes p = absurd (omega (arith, l))
+    proceeding (suc fuel) j u rest at came loaded files few l (Next new) goes (inl p) = ending j u new rest at came loaded files goes (omega (arith, p.0, few)) p.1
+    proceeding (suc fuel) j u rest at came loaded files few l (Next new) goes (inr p) =
+        proceeding fuel (suc j) new p.0 (inr p.2) (reached j u new came goes) (loaded_next u new rest at loaded goes) (open_next u new rest at files goes) (omega (arith, p.1, few)) (omega (arith, p.1, l)) (step new) refl
         (laws.later run_here here.facts x edges most s new p.0 begins knows fits takes p.2)
-    proceeding (suc fuel) j u rest at came loaded few l (End world) goes p = absurd p
-    proceeding (suc fuel) j u rest at came loaded few l (Exit world) goes p = absurd p
-    proceeding (suc fuel) j u rest at came loaded few l (Fail c world) goes p = absurd p
-    proceeding (suc fuel) j u rest at came loaded few l (Absent world) goes p = absurd p
+    proceeding (suc fuel) j u rest at came loaded files few l (End world) goes p = absurd p
+    proceeding (suc fuel) j u rest at came loaded files few l (Exit world) goes p = absurd p
+    proceeding (suc fuel) j u rest at came loaded files few l (Fail c world) goes p = absurd p
+    proceeding (suc fuel) j u rest at came loaded files few l (Absent world) goes p = absurd p
 
     reached_here : Reaches 0 s s
     unfolding run
     reached_here = refl
 
-    pub passing : Passes library entry nodes table n below number turns s here
-    passing = proceeding (suc (value most n)) 0 s (value most n) (inl refl) reached_here here.loaded (omega arith) (omega arith) (step s) refl (laws.first run_here here.facts x edges most s begins knows fits takes)
+    pub passing : HasOpen s → Passes library entry nodes table n below number turns s here
+    passing files = proceeding (suc (value most n)) 0 s (value most n) (inl refl) reached_here here.loaded files (omega arith) (omega arith) (step s) refl (laws.first run_here here.facts x edges most s begins knows fits takes)

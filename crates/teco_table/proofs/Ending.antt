@@ -20,12 +20,13 @@ use Rattle.teco_rules.specs.Describes.{IsWhole}
 use Rattle.teco_rules.specs.Facts.{Facts, entry_facts}
 use Rattle.teco_rules.specs.Laws.{IsEntry}
 use Rattle.teco_rules.specs.SoundPages.{unread_of}
+use Rattle.teco_rules.specs.SoundSteps.{AreOpen}
 use Rattle.teco_table.specs.Closed.{say_same, is_entry, check}
 use Rattle.teco_table.specs.Ending.{Passes, ElementsPass, EndsWithin, RunsEndInTime}
 use Rattle.teco_table.specs.Following.{OpenTurn, run_at, AreOpened, IsDescribed, held_of, loops_of, shown}
 use Rattle.teco_table.specs.Laws.{TablesAreClosed}
 use Rattle.teco_table.specs.Moving.{MovesOn, ComesOn, Over, On, StepsMove}
-use Rattle.teco_table.specs.Printed.{steps_of, commands}
+use Rattle.teco_table.specs.Printed.{steps_of, commands, needs_in}
 use Rattle.teco_table.specs.Table.{Table, facts_at}
 use Rattle.teco_table.specs.Turning.{value_of, own_of, held_at, turning}
 use Rattle.teco_table.proofs.Counting.{commands_are_steps}
@@ -62,6 +63,7 @@ module _ (laws : Laws) (library : Library) (entry : ℕ) (nodes : List Node) (ta
     reached : Reaches total first s
     here : IsDescribed library nodes table n below number turns s
     came : Came (turning nodes table n) moves zeroth total (shown number here.node.stand.iterations turns s.world)
+    files : AreOpen (needs_in nodes table) s.world.files
 
   ends_here : (number : ℕ) (turns : List OpenTurn) (s : State) (at : At number turns s) → step s ≡ End s.world → EndsWithin first (value printed n)
   ends_here number turns s at e = record {
@@ -98,6 +100,7 @@ module _ (laws : Laws) (library : Library) (entry : ℕ) (nodes : List Node) (ta
           reached = reaches_next;
           here = next;
           came = subst (λ (node : Node). Came (turning nodes table n) (suc at.moves) zeroth (at.total + suc passing.before) (shown passing.goes.target node.stand.iterations m.later passing.next.world)) (same_node nodes passing.goes.target m.there next.node m.at next.at) came;
+          files = passing.files;
         }
 
     more_there : (m : MovesOn library nodes table n below number at.here.node turns s passing.goes.target passing.next) → at.total + 1 ≤ (on_there m).total
@@ -108,7 +111,7 @@ module _ (laws : Laws) (library : Library) (entry : ℕ) (nodes : List Node) (ta
   walk zero number turns s at l =
       let few = few_steps at.moves at.total 0 (shown number at.here.node.stand.iterations turns s.world) at.came (omega arith) in
       absurd (omega (arith, few, l))
-  walk (suc fuel) number turns s at l = go (pass number turns at.total s at.reached at.here) (λ p m. walk fuel p.goes.target m.later p.next (on_there number turns s at p m) (omega (arith, l, more_there number turns s at p m)))
+  walk (suc fuel) number turns s at l = go (pass number turns at.total s at.reached at.here at.files) (λ p m. walk fuel p.goes.target m.later p.next (on_there number turns s at p m) (omega (arith, l, more_there number turns s at p m)))
     where
       by_end : (p : Passes library entry nodes table n below number turns s at.here) → ComesOn library entry nodes table n below number at.here.node turns s p.goes.target p.next →
           (MovesOn library nodes table n below number at.here.node turns s p.goes.target p.next → EndsWithin first (value printed n)) → EndsWithin first (value printed n)
@@ -192,7 +195,7 @@ reached_first s = refl
 
 pub runs_end_in_time : Laws → RunsEndInTime
 unfolding described one
-runs_end_in_time laws library entry nodes table printed n world are passes print loaded whole entering pass =
+runs_end_in_time laws library entry nodes table printed n world are passes print loaded whole entering files pass =
     walk laws library entry nodes table printed n world.kept.registers.stack (start (call_of entry) world) (zeroth library entry nodes table n world are passes loaded whole entering) are passes print (begins library entry nodes table n world are passes loaded whole entering) pass
     (suc (value printed n)) 1 [] (start (call_of entry) world)
     (record {
@@ -201,4 +204,5 @@ runs_end_in_time laws library entry nodes table printed n world are passes print
       reached = reached_first (start (call_of entry) world);
       here = described library entry nodes table n world are passes loaded whole entering;
       came = came_first library entry nodes table n world are passes loaded whole entering;
+      files = files;
     }) (omega arith)

@@ -19,6 +19,7 @@ mod Fitting
 mod Leading
 mod Edging
 mod Inside
+mod Staying
 mod Completing
 mod Verifying
 mod Naming

@@ -39,7 +39,7 @@ use Rattle.teco_table.specs.Ending.{Passes, RunsEndInTime}
 use Rattle.teco_table.specs.Following.{OpenTurn, run_at, IsDescribed}
 use Rattle.teco_table.specs.Printed.{steps_of, needs_of, known_needs, needs_from, needs_in}
 use Rattle.teco_table.specs.Table.{Table, facts_at}
-use Rattle.teco_table.specs.Verified.{IsPrinted, RegistersAreNamed, FilesStayOpen, RunsAreVerified}
+use Rattle.teco_table.specs.Verified.{IsPrinted, RegistersAreNamed, RunsAreVerified}
 use Rattle.teco_table.proofs.Completing as completing
 use Rattle.teco_table.proofs.Edging.{edges_fit}
 use Rattle.teco_table.proofs.Fitting.{steps_known, facts_fit}
@@ -114,8 +114,8 @@ no_answer_needed run facts unread kept arguments d = record {
   answers = tt;
 }
 
-module _ (laws : Laws) (library : Library) (entry : ℕ) (nodes : List Node) (are : AreLinked library entry nodes) (closed : AreClosed nodes) (table : Table) (commands_are size_is : Polynomial) (n : ℕ) (below : List Pair) (printed : IsPrinted nodes table commands_are size_is) (small : value size_is n ≤ LIMIT) (names : RegistersAreNamed) (first : State) (files : FilesStayOpen nodes table first) (whole_first : IsWholeState first) where
-  module _ (number : ℕ) (turns : List OpenTurn) (taken : ℕ) (s : State) (reached : Reaches taken first s) (here : IsDescribed library nodes table n below number turns s) where
+module _ (laws : Laws) (library : Library) (entry : ℕ) (nodes : List Node) (are : AreLinked library entry nodes) (closed : AreClosed nodes) (table : Table) (commands_are size_is : Polynomial) (n : ℕ) (below : List Pair) (printed : IsPrinted nodes table commands_are size_is) (small : value size_is n ≤ LIMIT) (names : RegistersAreNamed) (first : State) (whole_first : IsWholeState first) where
+  module _ (number : ℕ) (turns : List OpenTurn) (taken : ℕ) (s : State) (reached : Reaches taken first s) (here : IsDescribed library nodes table n below number turns s) (files : AreOpen (needs_in nodes table) s.world.files) where
     read_here : element_at s.frames.running.text s.frames.running.place ≡ Ok here.node.element
     read_here = subst (λ (p : Position). element_at p.running.text p.running.place ≡ Ok here.node.element) here.position
         (laws.sound library (stands nodes entry) number here.node (are.each number here.node here.at)).0
@@ -137,7 +137,7 @@ module _ (laws : Laws) (library : Library) (entry : ℕ) (nodes : List Node) (ar
           colon = ap (λ (p : Position). has_colon e (frame_of p.running.text)) here.position;
           named = names s.frames.running.text s.frames.running.place e (read_here ∙ ap Ok reads);
           stands = stands_there library entry nodes table n below are closed printed.closed number turns s here e reads edges_here.0 edges_here.1;
-          files = open_for (needs e.kind here.facts) (needs_in nodes table) s.world.files (subst (λ read. Among (needs_of read here.facts) (needs_in nodes table)) reads (needs_in_all nodes table number here.node here.facts here.at here.known)) (files taken s reached);
+          files = open_for (needs e.kind here.facts) (needs_in nodes table) s.world.files (subst (λ read. Among (needs_of read here.facts) (needs_in nodes table)) reads (needs_in_all nodes table number here.node here.facts here.at here.known)) files;
         } in
         completing.passing laws.steps library entry nodes are table n below number turns s here e reads edges_here.0 edges_here.1 most.0
         (sym (ap (λ read. steps_of read here.facts) reads) ∙ most.1)
@@ -145,6 +145,7 @@ module _ (laws : Laws) (library : Library) (entry : ℕ) (nodes : List Node) (ar
         begins
         (λ k u r. (whole_there laws.whole k s u whole_here r).world.kept)
         (λ q is colon. search_inside library entry nodes table n below are closed printed.closed number turns s here e reads edges_here.0 edges_here.1 q is colon)
+        files
 
     -- the end of a text
     module _ (reads : here.node.element ≡ None) where
@@ -205,6 +206,7 @@ module _ (laws : Laws) (library : Library) (entry : ℕ) (nodes : List Node) (ar
           };
           loaded = here.loaded;
           whole = here.whole;
+          files = files;
         }
 
       return_by : (callers : List Frame) → s.frames.callers ≡ callers → (step s ≡ End s.world) ⊎ Passes library entry nodes table n below number turns s here
@@ -220,5 +222,5 @@ module _ (laws : Laws) (library : Library) (entry : ℕ) (nodes : List Node) (ar
 
 pub runs_are_verified : Laws → IterationsEnd → RunsEndInTime → RunsAreVerified
 runs_are_verified laws ends in_time library entry nodes table commands_are size_is n world are printed ready files =
-    in_time library entry nodes table commands_are n world are printed.closed printed.commands_are ready.loaded ready.whole.kept ready.begins
-    (λ number turns steps s reached here. passes_here laws library entry nodes are (ends library entry nodes are) table commands_are size_is n world.kept.registers.stack printed ready.small registers_are_named (start (call_of entry) world) files (laws.whole.starts (call_of entry) world ready.call ready.whole) number turns steps s reached here)
+    in_time library entry nodes table commands_are n world are printed.closed printed.commands_are ready.loaded ready.whole.kept ready.begins files
+    (λ number turns steps s reached here open_here. passes_here laws library entry nodes are (ends library entry nodes are) table commands_are size_is n world.kept.registers.stack printed ready.small registers_are_named (start (call_of entry) world) (laws.whole.starts (call_of entry) world ready.call ready.whole) number turns steps s reached here open_here)

@@ -12,15 +12,16 @@ use Rattle.teco_poly.specs.Polynomial.{Polynomial, value}
 use Rattle.teco_rules.specs.Describes.{IsWhole}
 use Rattle.teco_rules.specs.Laws.{IsEntry}
 use Rattle.teco_rules.specs.SoundPages.{unread_of}
+use Rattle.teco_rules.specs.SoundSteps.{AreOpen}
 use Rattle.teco_table.specs.Closed.{check}
 use Rattle.teco_table.specs.Following.{OpenTurn, run_at, IsDescribed}
 use Rattle.teco_table.specs.Moving.{IsLast, Comes}
-use Rattle.teco_table.specs.Printed.{steps_of, commands}
+use Rattle.teco_table.specs.Printed.{steps_of, commands, needs_in}
 use Rattle.teco_table.specs.Table.{Table}
 use Rattle.teco_table.specs.Turning.{value_of}
 
 -- An element that begins where a run is described takes no more steps than are known, without a code; the last of them
--- goes along a way, to a state that the facts on it describe.
+-- goes along a way, to a state that the facts on it describe, and leaves open the files that the nodes need.
 pub record Passes
     (library : Library) (entry : ℕ) (nodes : List Node) (table : Table) (n : ℕ) (below : List Pair) (number : ℕ)
     (turns : List OpenTurn) (s : State) (here : IsDescribed library nodes table n below number turns s) :
@@ -36,12 +37,13 @@ pub record Passes
   pub comes : Comes nodes here.node here.facts goes.way (run_at n below turns) s next
   pub loaded : IsLoaded library next.world.kept
   pub whole : IsWhole next.world.kept
+  pub files : AreOpen (needs_in nodes table) next.world.files
 
--- so does each that a run comes to, or the run ends there
+-- so does each that a run comes to with those files open, or the run ends there
 abbrev pub ElementsPass : Library → ℕ → List Node → Table → ℕ → List Pair → State → Type 0
 ElementsPass library entry nodes table n below first =
     (number : ℕ) (turns : List OpenTurn) (steps : ℕ) (s : State) → Reaches steps first s
-    → (here : IsDescribed library nodes table n below number turns s)
+    → (here : IsDescribed library nodes table n below number turns s) → AreOpen (needs_in nodes table) s.world.files
     → (step s ≡ End s.world) ⊎ Passes library entry nodes table n below number turns s here
 
 -- the run comes to its end, after no more than so many steps
@@ -57,5 +59,6 @@ RunsEndInTime =
     (world : World)
     → AreLinked library entry nodes → check nodes table ≡ Ok tt → commands nodes table ≡ Ok printed
     → IsLoaded library world.kept → IsWhole world.kept → IsEntry n (unread_of world) world.kept
+    → AreOpen (needs_in nodes table) world.files
     → ElementsPass library entry nodes table n world.kept.registers.stack (start (call_of entry) world)
     → EndsWithin (start (call_of entry) world) (value printed n)

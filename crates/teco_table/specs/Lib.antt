@@ -8,6 +8,7 @@ pub mod Turning
 pub mod Laws
 pub mod Following
 pub mod Moving
+pub mod Staying
 pub mod Ending
 pub mod Deriving
 pub mod Rows

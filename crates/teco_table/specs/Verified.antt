@@ -3,8 +3,7 @@
 use Rattle.std.specs.Prelude.{◌≡◌, ℕ, ◌≤◌, List, Some, Ok}
 use Rattle.teco_base.specs.declared.TheConstants.{LIMIT}
 use Rattle.teco_model.specs.Element.{Element, element_at}
-use Rattle.teco_model.specs.Run.{Reaches}
-use Rattle.teco_model.specs.State.{World, State, start}
+use Rattle.teco_model.specs.State.{World, start}
 use Rattle.teco_expand.specs.Library.{Library, IsLoaded}
 use Rattle.teco_expand.specs.Linked.{AreLinked}
 use Rattle.teco_expand.specs.Node.{Node, call_of}
@@ -37,15 +36,10 @@ pub record IsReady (library : Library) (entry : ℕ) (most : Polynomial) (n : �
 abbrev pub RegistersAreNamed : Type 0
 RegistersAreNamed = (text : List ℕ) (place : ℕ) (e : Element) → element_at text place ≡ Ok (Some e) → IsNamed e.kind
 
--- the needed files are open, and stay so
-abbrev pub FilesStayOpen : List Node → Table → State → Type 0
-FilesStayOpen nodes table first =
-    (steps : ℕ) (s : State) → Reaches steps first s → AreOpen (needs_in nodes table) s.world.files
-
 abbrev pub RunsAreVerified : Type 0
 RunsAreVerified =
     (library : Library) (entry : ℕ) (nodes : List Node) (table : Table) (steps most : Polynomial) (n : ℕ)
     (world : World)
     → AreLinked library entry nodes → IsPrinted nodes table steps most → IsReady library entry most n world
-    → FilesStayOpen nodes table (start (call_of entry) world)
+    → AreOpen (needs_in nodes table) world.files
     → EndsWithin (start (call_of entry) world) (value steps n)

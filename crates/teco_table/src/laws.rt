@@ -3,6 +3,7 @@ ghost use Rattle.teco_table.specs.Ending.{RunsEndInTime};
 ghost use Rattle.teco_table.specs.Laws.{CommandsAreSteps, TablesAreClosed};
 ghost use Rattle.teco_table.specs.Moving.{StepsMove};
 ghost use Rattle.teco_table.specs.Rows.{WorkedTables};
+ghost use Rattle.teco_table.specs.Staying.{FilesStayOpen};
 ghost use Rattle.teco_table.specs.Verified.{RunsAreVerified};
 
 /// The definition gives what is worked by hand.
@@ -34,6 +35,11 @@ pub fn steps_move()
     teco_expand::laws::ways_lead();
 }
 
+/// Files stay as open as they are, through each step whose element is no command of files.
+pub fn files_stay_open()
+    ensures { FilesStayOpen }
+{}
+
 /// A run of a macro ends without a code within the printed number of commands, where each element does what the laws of
 /// facts say.
 pub fn runs_end_in_time()
@@ -46,8 +52,8 @@ pub fn runs_end_in_time()
     steps_move();
 }
 
-/// A macro with a closed table runs to its end without a code, within the printed number of commands, while the files that
-/// it needs are open.
+/// A macro with a closed table runs to its end without a code, within the printed number of commands, where the files that
+/// it needs are open at the start.
 pub fn runs_are_verified()
     ensures { RunsAreVerified }
 {
@@ -58,5 +64,6 @@ pub fn runs_are_verified()
     teco_expand::laws::stays_loaded();
     teco_expand::laws::nodes_are_sound();
     teco_expand::laws::iterations_end();
+    files_stay_open();
     runs_end_in_time();
 }

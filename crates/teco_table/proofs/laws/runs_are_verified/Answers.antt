@@ -8,6 +8,7 @@ returns c = runs_are_verified (record {
     later = c.later_steps_are_sound.ensures;
     along = c.steps_go_along_nodes.ensures;
     loaded = c.stays_loaded.ensures;
+    files = c.files_stay_open.ensures;
   };
   sound = c.nodes_are_sound.ensures;
   whole = c.whole_is_kept.ensures;

@@ -1,0 +1,28 @@
+-- Files stay as open as they are, through each step whose element is no command of files.
+use Rattle.std.specs.Prelude.{◌≡◌, Bool, true, false, is_some, Option, Some, None, Ok}
+use Rattle.teco_model.specs.declared.kind.Kind.{Kind}
+use Rattle.teco_model.specs.declared.kind.Kind.TheVariants as kind
+use Rattle.teco_model.specs.Element.{Element, element_at}
+use Rattle.teco_model.specs.Files.{Files}
+use Rattle.teco_model.specs.State.{State, Next}
+use Rattle.teco_model.specs.Step.{step}
+
+-- ER, EW, EF, EK, EC and EX alone open and close
+abbrev pub is_of_files : Kind → Bool
+is_of_files (kind.File f) = true
+is_of_files k = false
+
+abbrev pub changes_files : Option Element → Bool
+changes_files None = false
+changes_files (Some e) = is_of_files e.kind
+
+-- An input is open after it just where one was before, and so is an output.
+pub record AreAsOpen (old new : Files) : Type 0 where
+  pub input : is_some new.input ≡ is_some old.input
+  pub output : is_some new.output ≡ is_some old.output
+
+abbrev pub FilesStayOpen : Type 0
+FilesStayOpen =
+    (s t : State) (read : Option Element)
+    → changes_files read ≡ false → element_at s.frames.running.text s.frames.running.place ≡ Ok read
+    → step s ≡ Next t → AreAsOpen s.world.files t.world.files
