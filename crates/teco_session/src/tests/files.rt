@@ -108,6 +108,31 @@ const NAMES: [FileRow; 6] = [
     ),
 ];
 
+/// The examples that edit files.
+const EXAMPLES: [FileRow; 3] = [
+    (
+        b"one fish\ntwo fish\n\x0cred fish\nblue cow\n",
+        b"!Every fish in the file in becomes a cat, in the file out!\nERin\x1b EWout\x1b Y\n<FNfish\x1bcat\x1b;>\nEC\x1b\x1b\n",
+        b"",
+        "done",
+        Some(b"one cat\ntwo cat\n\x0cred cat\nblue cow\n"),
+    ),
+    (
+        b"one fish\ntwo fish\n\x0cred fish\nblue cow\n",
+        b"!The pages of the file in become one page, in the file out!\nERin\x1b EWout\x1b Y\n<ZUA A QA-Z;>\nEC\x1b\x1b\n",
+        b"",
+        "done",
+        Some(b"one fish\ntwo fish\nred fish\nblue cow\n"),
+    ),
+    (
+        b"milk\nbread\n\x0cbuttermilk and milk\neggs\nmore milk",
+        b"!The lines of the file in with milk go to the file out!\nERin\x1b EWout\x1b Y\n<J <Smilk\x1b; 0L .UA L QA,.PW> HK Y -Z;>\nEF\x1b\x1b\n",
+        b"",
+        "done",
+        Some(b"milk\nbuttermilk and milk\nmore milk"),
+    ),
+];
+
 // A host that has the file `in`.
 fn host_with(alloc: Global, bytes: &[u8]) -> Result<MemHost, AllocError> {
     let mut mem = MemHost::new(alloc);
@@ -166,6 +191,14 @@ fn pages(rt: HostRuntime) -> Result<(), Fail> {
 }
 
 #[test]
+fn examples_with_files(rt: HostRuntime) -> Result<(), Fail> {
+    for (i, row) in EXAMPLES.iter().enumerate() {
+        expect_in_pieces(&rt, rt.alloc(), *row, i)?;
+    }
+    Ok(())
+}
+
+#[test]
 fn names(rt: HostRuntime) -> Result<(), Fail> {
     for (i, row) in NAMES.iter().enumerate() {
         expect_in_pieces(&rt, rt.alloc(), *row, i)?;
@@ -204,5 +237,94 @@ fn a_host_fails(rt: HostRuntime) -> Result<(), Fail> {
         assert_eq!(rt; host.mem().file(b"out"), out);
         assert_eq!(rt; host.mem().file(b"in"), Some(TWO_PAGES));
     }
+    Ok(())
+}
+
+// The code line for a call that fails.
+fn line_of(call: HostCall) -> &'static [u8] {
+    match call {
+        HostCall::OpenIn => b"?FNF\r\n",
+        HostCall::Read => b"?INP\r\n",
+        _ => b"?OUT\r\n",
+    }
+}
+
+// Is it a part of what is typed, from the front, and then a line?
+fn is_cut_short(written: &[u8], typed: &[u8], line: &[u8]) -> bool {
+    match written.strip_suffix(line) {
+        Some(front) => typed.starts_with(front),
+        None => false,
+    }
+}
+
+// Runs the session of a row, where a call of the host fails and a file `out` is there already. What is written is a part and a
+// code, and the file is as it was; or there are fewer calls of that kind, and all is as the row says.
+fn expect_failure(
+    rt: &impl Abort,
+    alloc: Global,
+    row: FileRow,
+    piece: usize,
+    call: HostCall,
+    nth: u64,
+) -> Result<(), AllocError>
+    requires { 0 < piece }
+{
+    let (bytes, input, typed, _, out) = row;
+    let mut mem = host_with(alloc, bytes)?;
+    mem.put(b"out", b"old")?;
+    let mut host = TestHost::new(mem, piece, call, nth);
+    let mut machine = Machine::new(alloc, VecText::new(alloc));
+    let mut reader = input;
+    let mut writer = Vec::new(alloc);
+    let done = session(
+        alloc,
+        &mut machine,
+        &mut reader,
+        &mut writer,
+        &mut host,
+        LIMIT,
+    );
+    if word(done) == "coded" {
+        assert!(rt; is_cut_short(&writer, typed, line_of(call)), "call {nth}");
+        assert_eq!(rt;
+            host.mem().file(b"out"),
+            Some(b"old".as_slice()),
+            "call {nth}"
+        );
+    } else {
+        assert_eq!(rt; writer.as_slice(), typed, "call {nth}");
+        assert_eq!(rt; host.mem().file(b"out"), out, "call {nth}");
+    }
+    assert_eq!(rt; host.mem().file(b"in"), Some(bytes), "call {nth}");
+    Ok(())
+}
+
+/// All kinds of calls.
+const CALLS: [HostCall; 6] = [
+    HostCall::OpenIn,
+    HostCall::Read,
+    HostCall::OpenOut,
+    HostCall::Write,
+    HostCall::CloseOut,
+    HostCall::DropOut,
+];
+
+// Each of the first calls of each kind fails in turn.
+fn expect_failures(rt: &impl Abort, alloc: Global, row: FileRow) -> Result<(), AllocError> {
+    for call in CALLS {
+        for nth in 1..=16 {
+            expect_failure(rt, alloc, row, 1, call, nth)?;
+            expect_failure(rt, alloc, row, 4096, call, nth)?;
+        }
+    }
+    Ok(())
+}
+
+#[test]
+fn every_call_fails_in_turn(rt: HostRuntime) -> Result<(), Fail> {
+    // pages that are turned, pages that are looked through, and a file that is copied
+    expect_failures(&rt, rt.alloc(), PAGES[0])?;
+    expect_failures(&rt, rt.alloc(), PAGES[5])?;
+    expect_failures(&rt, rt.alloc(), PAGES[1])?;
     Ok(())
 }
