@@ -83,5 +83,9 @@ fn rows_of_arguments(rt: HostRuntime) -> Result<(), Fail> {
     assert_eq!(rt; arguments.take_standing(), None);
     assert!(rt; arguments.value(3).is_ok());
     assert_eq!(rt; taken(&rt, &mut arguments, b""), Ok((None, Some(5))));
+    // an answer takes the place of what is pending
+    assert!(rt; arguments.op(Operator::Minus).is_ok());
+    arguments.answer(-1);
+    assert_eq!(rt; taken(&rt, &mut arguments, b""), Ok((None, Some(-1))));
     Ok(())
 }
