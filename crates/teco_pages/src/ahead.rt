@@ -9,6 +9,7 @@ ghost use Rattle.teco_pages.specs.declared.fault.Fault.TheVariants.{In as Cannot
 
 use crate::fault::{Failed, Fault};
 use crate::host::Host;
+use memchr::memchr;
 use std::marker::Model;
 use teco_base::LIMIT;
 use teco_base::bytes::FF;
@@ -157,5 +158,5 @@ fn find_end(bytes: &[u8]) -> PageEnd
 fn inner_len(bytes: &[u8]) -> usize
     ensures { result ≡ prefix_len is_inner bytes.now }
 {
-    bytes.iter().take_while(|b| **b != FF).count()
+    memchr(FF, bytes).unwrap_or(bytes.len())
 }
