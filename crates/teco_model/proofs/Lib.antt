@@ -7,3 +7,4 @@ pub mod SkipSteps
 pub mod Digits
 pub mod MatchWorked
 pub mod Searches
+mod Joined

@@ -15,6 +15,7 @@ pub mod Skip
 pub mod SkipRows
 pub mod Files
 pub mod State
+pub mod Whole
 pub mod Places
 pub mod Effect
 pub mod Character

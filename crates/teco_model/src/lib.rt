@@ -12,6 +12,7 @@ pub mod pattern;
 pub mod rows;
 pub mod skip;
 pub mod stop;
+mod whole;
 
 pub use arguments::{Level, Operator, Taken};
 pub use element::Element;
@@ -20,4 +21,5 @@ pub use head::{Head, OnRegister, Texts};
 pub use kind::Kind;
 pub use pattern::{Sought, Span};
 pub use skip::{Bracket, Pairs, Route, Skip};
+pub use whole::{are_bytes, fits, pieces_are_bytes};
 pub use stop::{HostFault, Stop};

@@ -1,9 +1,11 @@
 // What a register holds.
 ghost use Rattle.std.specs.Prelude.{◌≡◌, ◌+◌, ◌<◌, ◌^◌, ◌++◌, length, OnOk, OnErr, vec_len};
-ghost use Rattle.teco_model.specs.Registers.{empty_pair};
+ghost use Rattle.teco_model.specs.Registers.{IsWithinLimit, empty_pair};
+ghost use Rattle.teco_model.specs.Whole.{IsWholePair};
 
 use std::alloc::{AllocError, Global};
 use std::marker::Model;
+use teco_model::{are_bytes, fits};
 
 // A number and a text.
 #[derive(Drop)]
@@ -29,6 +31,15 @@ impl Pair {
             number: 0,
             text: Vec::new(alloc),
         }
+    }
+
+    // What always holds of a pair whose text is not too long.
+    pub fn is_whole(&self)
+        requires { IsWithinLimit self.now }
+        ensures { IsWholePair self.now }
+    {
+        fits(self.number);
+        are_bytes(&self.text);
     }
 }
 

@@ -1,8 +1,10 @@
 // The registers.
 ghost use Rattle.std.specs.Prelude.{◌≡◌, ◌≤◌, ◌<◌, ◌*◌, ◌^◌, ◌++◌, length, map, zip, sum_by, All, OnOk, OnErr, IfOk, Some, vec_len};
+ghost use Rattle.std.specs.List.{AllByRecursion};
 ghost use Rattle.teco_base.specs.declared.TheConstants.{LIMIT};
 ghost use Rattle.teco_model.specs.Registers.{AreWhole, IsWithinLimit, empty_registers, pair_of, with_number, with_text, with_own_text, with_texts, registers_after_push, registers_after_pop, held_length_of_pair, held_length_of_registers};
 ghost use Rattle.teco_model.specs.Registers as model;
+ghost use Rattle.teco_model.specs.Whole.{AreWholePairs, IsWholePair};
 ghost use Rattle.teco_regs.specs.Answers.{OkWithin, OkWhereNonEmpty, OkUnlessMemory};
 ghost use Rattle.teco_regs.specs.Texts.{IsTextWithinLimit, handed, owned};
 
@@ -54,6 +56,14 @@ impl Regs {
         ensures whole { AreWhole self.now }
     {
         &self.pairs[reg.index()]
+    }
+
+    /// What always holds: there are 36 registers, numbers fit 32 bits, and texts are of bytes and not too long.
+    pub fn is_whole(&self)
+        ensures { AreWholePairs self.now }
+    {
+        are_whole(&self.pairs);
+        are_whole(&self.stack);
     }
 
     /// The number of the register.
@@ -232,6 +242,16 @@ fn put_texts(pairs: &mut [Pair], texts: Vec<Option<Vec<u8>>>)
             let pair = &mut pairs[i];
             pair.text = own;
         }
+    }
+}
+
+// What always holds of pairs whose texts are not too long.
+fn are_whole(pairs: &[Pair])
+    requires { All IsWithinLimit pairs.now }
+    ensures { AllByRecursion IsWholePair pairs.now }
+{
+    for pair in pairs {
+        pair.is_whole();
     }
 }
 

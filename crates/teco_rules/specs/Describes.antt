@@ -8,6 +8,7 @@ use Rattle.teco_model.specs.declared.arguments.Taken.{Taken}
 use Rattle.teco_model.specs.Arguments.{Arguments, empty_level}
 use Rattle.teco_model.specs.Registers.{Pair}
 use Rattle.teco_model.specs.State.{Kept}
+pub use Rattle.teco_model.specs.Whole.{AreBytes, IsWholePair, IsWhole}
 use Rattle.teco_poly.specs.Polynomial.{Polynomial, value}
 use Rattle.teco_rules.specs.declared.values.Interval.{Interval}
 use Rattle.teco_rules.specs.Arguments.{KnownLevel, KnownArguments, KnownTaken}
@@ -20,26 +21,6 @@ back_of kept = kept.pointer
 
 abbrev pub fore_of : Kept → ℕ
 fore_of kept = length kept.text - kept.pointer
-
--- What always holds of what a machine keeps: the pointer is in the text, numbers fit 32 bits, characters are bytes,
--- and no text is longer than LIMIT.
-abbrev pub AreBytes : List ℕ → Type 0
-AreBytes text = AllByRecursion (λ c. c < 256) text
-
-pub record IsWholePair (pair : Pair) : Type 0 where
-  pub number : FitsSigned w32 pair.number
-  pub within : length pair.text ≤ LIMIT
-  pub bytes : AreBytes pair.text
-
-pub record IsWhole (kept : Kept) : Type 0 where
-  pub inside : kept.pointer ≤ length kept.text
-  pub within : length kept.text ≤ LIMIT
-  pub bytes : AreBytes kept.text
-  pub count : length kept.registers.pairs ≡ REGISTERS
-  pub pairs : AllByRecursion IsWholePair kept.registers.pairs
-  pub stack : AllByRecursion IsWholePair kept.registers.stack
-  pub last : kept.last_length ≤ LIMIT
-  pub mode : FitsSigned w32 kept.mode
 
 -- What a run is at that its facts speak of: the number that the polynomials are taken at, how much was ahead when the
 -- turns of the open iterations began, the innermost first, and the push-down list of the entry.

@@ -8,7 +8,7 @@ use Rattle.teco_model.specs.Run.{Reaches}
 use Rattle.teco_model.specs.State.{World, Frame, Frames, State, Outcome, Next, End, Exit, Fail, Absent, start}
 use Rattle.teco_model.specs.Step.{step}
 use Rattle.teco_model.specs.declared.arguments.Level.{Level}
-use Rattle.teco_rules.specs.Describes.{AreBytes, IsWhole}
+pub use Rattle.teco_model.specs.Whole.{AreBytes, IsWhole, AreWholeFiles, IsWholeWorld}
 
 -- pending numbers fit 32 bits
 pub record IsWholeLevel (level : Level) : Type 0 where
@@ -18,16 +18,6 @@ pub record IsWholeLevel (level : Level) : Type 0 where
 pub record AreWholeArguments (arguments : Arguments) : Type 0 where
   pub level : IsWholeLevel arguments.level
   pub outer : AllByRecursion IsWholeLevel arguments.outer
-
--- what is read and written, and what has a name, is of bytes
-pub record AreWholeFiles (files : Files) : Type 0 where
-  pub named : AllByRecursion (λ (file : File). AreBytes file.bytes) files.named
-  pub input : IfSome files.input (λ (input : Input). AreBytes input.unread)
-  pub output : IfSome files.output (λ (output : Output). AreBytes output.written)
-
-pub record IsWholeWorld (world : World) : Type 0 where
-  pub kept : IsWhole world.kept
-  pub files : AreWholeFiles world.files
 
 -- and so are the texts that are executed
 pub record AreWholeFrames (frames : Frames) : Type 0 where

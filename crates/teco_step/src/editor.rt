@@ -3,11 +3,13 @@ ghost use Rattle.teco_base.specs.declared.TheConstants.{LIMIT};
 ghost use Rattle.teco_model.specs.Registers.{with_texts};
 ghost use Rattle.teco_regs.specs.Texts.{handed, IsTextWithinLimit};
 ghost use Rattle.teco_model.specs.State.{kept_of_store, held_length};
+ghost use Rattle.teco_model.specs.Whole.{IsWhole};
 
 use std::alloc::{AllocError, Global};
 use std::marker::Model;
 use std::mem;
 use teco_base::REGISTERS;
+use teco_model::{fits, pieces_are_bytes};
 use teco_regs::Regs;
 use teco_text::TextStore;
 
@@ -62,6 +64,19 @@ impl<T: TextStore> Editor<T> {
             typed: Vec::new(alloc),
             alloc,
         }
+    }
+
+    /// What always holds: the pointer is in the text, numbers fit 32 bits, characters are bytes, and no text is longer than
+    /// `LIMIT`. It takes time by the depth of the push-down list.
+    pub fn is_whole(&self)
+        ensures { IsWhole self.now }
+    {
+        let (first, second) = self.store.slices();
+        pieces_are_bytes(first, second);
+        let _size = self.store.len();
+        let _dot = self.store.dot();
+        self.regs.is_whole();
+        fits(self.mode);
     }
 
     /// The text in two pieces, of which either may be empty.
