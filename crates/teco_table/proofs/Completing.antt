@@ -48,10 +48,11 @@ use Rattle.teco_table.specs.Ending.{Passes}
 use Rattle.teco_table.specs.Following.{OpenTurn, run_at, IsDescribed}
 use Rattle.teco_table.specs.Moving.{IsLong, IsLast, Alone, Again}
 use Rattle.teco_table.specs.Printed.{steps_of, needs_in}
-use Rattle.teco_table.specs.Staying.{is_of_files, AreAsOpen, FilesStayOpen}
+use Rattle.teco_table.specs.Staying.{is_of_files, ReadsNoFileCommand, NoFileCommands, AreAsOpen, FilesStayOpen}
 use Rattle.teco_table.specs.Table.{Table}
 use Rattle.teco_table.specs.Turning.{value_of}
 use Rattle.teco_table.proofs.Coming.{HasLoop, element_comes}
+use Rattle.teco_table.proofs.Walking.{reads_none, none_yet, none_more}
 
 -- ---- no register of the library is written
 one_named : (b : Bool) → (b ≡ true → ⊥) → b ≡ false
@@ -173,14 +174,19 @@ module _ (laws : Facts_laws) (library : Library) (entry : ℕ) (nodes : List Nod
     abbrev HasOpen : State → Type 0
     HasOpen u = AreOpen (needs_in nodes table) u.world.files
 
+    read_there : (u : State) (rest : ℕ) → At u rest → element_at u.frames.running.text u.frames.running.place ≡ Ok (Some e)
+    read_there u rest at = ap (λ (frames : Frames). element_at frames.running.text frames.running.place) (frames_same u rest at) ∙ begins.read
+
+    none_there : (u : State) (rest : ℕ) → At u rest → ReadsNoFileCommand u
+    none_there u rest at = reads_none u (Some e) (read_there u rest at) (no_file x here.facts edges knows)
+
     open_next : (u new : State) (rest : ℕ) → At u rest → HasOpen u → step u ≡ Next new → HasOpen new
     open_next u new rest at files goes =
         open_as_before (needs_in nodes table) u.world.files new.world.files
-        (laws.files u new (Some e) (no_file x here.facts edges knows)
-        (ap (λ (frames : Frames). element_at frames.running.text frames.running.place) (frames_same u rest at) ∙ begins.read) goes) files
+        (laws.files u new (Some e) (no_file x here.facts edges knows) (read_there u rest at) goes) files
 
     -- the step that ends it
-    module _ (j : ℕ) (u new : State) (rest : ℕ) (at : At u rest) (came : Reaches j s u) (loaded : IsLoaded library u.world.kept) (files : HasOpen u) (goes : step u ≡ Next new) (few : suc j ≤ value most n) (ends : KindEnds e.kind run_here here.facts x edges s new) where
+    module _ (j : ℕ) (u new : State) (rest : ℕ) (at : At u rest) (came : Reaches j s u) (none : NoFileCommands s j) (loaded : IsLoaded library u.world.kept) (files : HasOpen u) (goes : step u ≡ Next new) (few : suc j ≤ value most n) (ends : KindEnds e.kind run_here here.facts x edges s new) where
       done : new.left ≡ None
       done = ends_done e.kind run_here here.facts x edges s new here.begins ends
 
@@ -203,6 +209,7 @@ module _ (laws : Facts_laws) (library : Library) (entry : ℕ) (nodes : List Nod
         reaches = came;
         steps = goes;
         few = let e2 : value_of n (steps_of here.node.element here.facts) ≡ value most n = ap (value_of n) (ap (λ read. steps_of read here.facts) reads ∙ takes) in omega (arith, e2, few);
+        none = none_more j s u none came (none_there u rest at);
         again = last_of u rest at;
         goes = went;
         comes = element_comes nodes here.node here.facts edges run_here s u new leads e reads (last_of u rest at) inside went.way went.was ends;
@@ -215,20 +222,20 @@ module _ (laws : Facts_laws) (library : Library) (entry : ℕ) (nodes : List Nod
     unfolding run
     reached j u new came goes = ap go_on came ∙ goes
 
-    proceeding : (fuel j : ℕ) (u : State) (rest : ℕ) → At u rest → Reaches j s u → IsLoaded library u.world.kept → HasOpen u → j + rest ≤ value most n → rest < fuel → (o : Outcome) → step u ≡ o → Proceeds e.kind run_here here.facts x edges s rest o → Passes library entry nodes table n below number turns s here
-    proceeding zero j u rest at came loaded files few l o goes p = absurd (omega (arith, l))
-    proceeding (suc fuel) j u rest at came loaded files few l (Next new) goes (inl p) = ending j u new rest at came loaded files goes (omega (arith, p.0, few)) p.1
-    proceeding (suc fuel) j u rest at came loaded files few l (Next new) goes (inr p) =
-        proceeding fuel (suc j) new p.0 (inr p.2) (reached j u new came goes) (loaded_next u new rest at loaded goes) (open_next u new rest at files goes) (omega (arith, p.1, few)) (omega (arith, p.1, l)) (step new) refl
+    proceeding : (fuel j : ℕ) (u : State) (rest : ℕ) → At u rest → Reaches j s u → NoFileCommands s j → IsLoaded library u.world.kept → HasOpen u → j + rest ≤ value most n → rest < fuel → (o : Outcome) → step u ≡ o → Proceeds e.kind run_here here.facts x edges s rest o → Passes library entry nodes table n below number turns s here
+    proceeding zero j u rest at came none loaded files few l o goes p = absurd (omega (arith, l))
+    proceeding (suc fuel) j u rest at came none loaded files few l (Next new) goes (inl p) = ending j u new rest at came none loaded files goes (omega (arith, p.0, few)) p.1
+    proceeding (suc fuel) j u rest at came none loaded files few l (Next new) goes (inr p) =
+        proceeding fuel (suc j) new p.0 (inr p.2) (reached j u new came goes) (none_more j s u none came (none_there u rest at)) (loaded_next u new rest at loaded goes) (open_next u new rest at files goes) (omega (arith, p.1, few)) (omega (arith, p.1, l)) (step new) refl
         (laws.later run_here here.facts x edges most s new p.0 begins knows fits takes p.2)
-    proceeding (suc fuel) j u rest at came loaded files few l (End world) goes p = absurd p
-    proceeding (suc fuel) j u rest at came loaded files few l (Exit world) goes p = absurd p
-    proceeding (suc fuel) j u rest at came loaded files few l (Fail c world) goes p = absurd p
-    proceeding (suc fuel) j u rest at came loaded files few l (Absent world) goes p = absurd p
+    proceeding (suc fuel) j u rest at came none loaded files few l (End world) goes p = absurd p
+    proceeding (suc fuel) j u rest at came none loaded files few l (Exit world) goes p = absurd p
+    proceeding (suc fuel) j u rest at came none loaded files few l (Fail c world) goes p = absurd p
+    proceeding (suc fuel) j u rest at came none loaded files few l (Absent world) goes p = absurd p
 
     reached_here : Reaches 0 s s
     unfolding run
     reached_here = refl
 
     pub passing : HasOpen s → Passes library entry nodes table n below number turns s here
-    passing files = proceeding (suc (value most n)) 0 s (value most n) (inl refl) reached_here here.loaded files (omega arith) (omega arith) (step s) refl (laws.first run_here here.facts x edges most s begins knows fits takes)
+    passing files = proceeding (suc (value most n)) 0 s (value most n) (inl refl) reached_here (none_yet s) here.loaded files (omega arith) (omega arith) (step s) refl (laws.first run_here here.facts x edges most s begins knows fits takes)

@@ -27,6 +27,7 @@ use Rattle.teco_table.specs.Following.{OpenTurn, run_at, AreOpened, IsDescribed,
 use Rattle.teco_table.specs.Laws.{TablesAreClosed}
 use Rattle.teco_table.specs.Moving.{MovesOn, ComesOn, Over, On, StepsMove}
 use Rattle.teco_table.specs.Printed.{steps_of, commands, needs_in}
+use Rattle.teco_table.specs.Staying.{NoFileCommands}
 use Rattle.teco_table.specs.Table.{Table, facts_at}
 use Rattle.teco_table.specs.Turning.{value_of, own_of, held_at, turning}
 use Rattle.teco_table.proofs.Counting.{commands_are_steps}
@@ -38,7 +39,7 @@ use Rattle.teco_poly.proofs.Lawful.{values_of_constants}
 use Rattle.teco_model.specs.Arguments.{no_arguments}
 use Rattle.std.specs.List.{AllByRecursion}
 use Rattle.teco_table.proofs.Reading.{entry_checked}
-use Rattle.teco_table.proofs.Walking.{Came, came_on, came_takes, came_leads, reaches_on}
+use Rattle.teco_table.proofs.Walking.{Came, came_on, came_takes, came_leads, reaches_on, none_yet, none_on}
 
 pub record Laws : Type 0 where
   pub bounded : RunsAreBounded
@@ -64,12 +65,14 @@ module _ (laws : Laws) (library : Library) (entry : ℕ) (nodes : List Node) (ta
     here : IsDescribed library nodes table n below number turns s
     came : Came (turning nodes table n) moves zeroth total (shown number here.node.stand.iterations turns s.world)
     files : AreOpen (needs_in nodes table) s.world.files
+    none : NoFileCommands first total
 
   ends_here : (number : ℕ) (turns : List OpenTurn) (s : State) (at : At number turns s) → step s ≡ End s.world → EndsWithin first (value printed n)
   ends_here number turns s at e = record {
     steps = at.total;
     new = s.world;
     few = let few = few_steps at.moves at.total 0 (shown number at.here.node.stand.iterations turns s.world) at.came (omega arith) in omega (arith, few);
+    none = at.none;
     ends = record { last = s; steps = at.reached; end = e };
   }
 
@@ -81,11 +84,15 @@ module _ (laws : Laws) (library : Library) (entry : ℕ) (nodes : List Node) (ta
     unfolding run
     reaches_next = reaches_on at.total (suc passing.before) first s passing.next at.reached (ap go_on passing.reaches ∙ passing.steps)
 
+    none_next : NoFileCommands first (at.total + suc passing.before)
+    none_next = none_on at.total (suc passing.before) first s at.none at.reached passing.none
+
     ends_there : (over entry).position ≡ position_of passing.next → EndsWithin first (value printed n)
     ends_there o = record {
       steps = at.total + suc passing.before;
       new = passing.next.world;
       few = few_steps at.moves at.total (suc passing.before) _ at.came own_there;
+      none = none_next;
       ends = record { last = passing.next; steps = reaches_next; end = laws.over entry passing.next o };
     }
 
@@ -101,6 +108,7 @@ module _ (laws : Laws) (library : Library) (entry : ℕ) (nodes : List Node) (ta
           here = next;
           came = subst (λ (node : Node). Came (turning nodes table n) (suc at.moves) zeroth (at.total + suc passing.before) (shown passing.goes.target node.stand.iterations m.later passing.next.world)) (same_node nodes passing.goes.target m.there next.node m.at next.at) came;
           files = passing.files;
+          none = none_next;
         }
 
     more_there : (m : MovesOn library nodes table n below number at.here.node turns s passing.goes.target passing.next) → at.total + 1 ≤ (on_there m).total
@@ -205,4 +213,5 @@ runs_end_in_time laws library entry nodes table printed n world are passes print
       here = described library entry nodes table n world are passes loaded whole entering;
       came = came_first library entry nodes table n world are passes loaded whole entering;
       files = files;
+      none = none_yet (start (call_of entry) world);
     }) (omega arith)

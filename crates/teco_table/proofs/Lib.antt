@@ -23,3 +23,4 @@ mod Staying
 mod Completing
 mod Verifying
 mod Naming
+mod Sure

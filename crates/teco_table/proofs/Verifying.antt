@@ -38,6 +38,7 @@ use Rattle.teco_table.specs.Closed.{closed_behind}
 use Rattle.teco_table.specs.Ending.{Passes, RunsEndInTime}
 use Rattle.teco_table.specs.Following.{OpenTurn, run_at, IsDescribed}
 use Rattle.teco_table.specs.Printed.{steps_of, needs_of, known_needs, needs_from, needs_in}
+use Rattle.teco_table.specs.Staying.{changes_files, ReadsNoFileCommand}
 use Rattle.teco_table.specs.Table.{Table, facts_at}
 use Rattle.teco_table.specs.Verified.{IsPrinted, RegistersAreNamed, RunsAreVerified}
 use Rattle.teco_table.proofs.Completing as completing
@@ -46,6 +47,7 @@ use Rattle.teco_table.proofs.Fitting.{steps_known, facts_fit}
 use Rattle.teco_table.proofs.Going.{where_checked}
 use Rattle.teco_table.proofs.Naming.{registers_are_named}
 use Rattle.teco_table.proofs.Inside.{stands as stands_there, search_inside}
+use Rattle.teco_table.proofs.Walking.{reads_none, none_yet, none_more}
 
 -- ---- what is whole stays so
 whole_behind : (whole : WholeIsKept) (o : Outcome) → IsWholeOutcome o → IsWholeOutcome (go_on o)
@@ -186,6 +188,9 @@ module _ (laws : Laws) (library : Library) (entry : ℕ) (nodes : List Node) (ar
         unfolding run
         reached_here = refl
 
+        none_here : ReadsNoFileCommand s
+        none_here = reads_none s here.node.element read_here (ap changes_files reads)
+
         returning : Passes library entry nodes table n below number turns s here
         returning = record {
           before = 0;
@@ -194,6 +199,7 @@ module _ (laws : Laws) (library : Library) (entry : ℕ) (nodes : List Node) (ar
           reaches = reached_here;
           steps = goes_back;
           few = let one : value_of n (steps_of here.node.element here.facts) ≡ 1 = ap (value_of n) (ap (λ read. steps_of read here.facts) reads) ∙ (values_of_constants n 1).0 in omega (arith, one);
+          none = none_more 0 s s (none_yet s) reached_here none_here;
           again = Alone refl;
           goes = went;
           comes = record {

@@ -17,11 +17,13 @@ use Rattle.teco_table.specs.Closed.{check}
 use Rattle.teco_table.specs.Following.{OpenTurn, run_at, IsDescribed}
 use Rattle.teco_table.specs.Moving.{IsLast, Comes}
 use Rattle.teco_table.specs.Printed.{steps_of, commands, needs_in}
+use Rattle.teco_table.specs.Staying.{NoFileCommands}
 use Rattle.teco_table.specs.Table.{Table}
 use Rattle.teco_table.specs.Turning.{value_of}
 
--- An element that begins where a run is described takes no more steps than are known, without a code; the last of them
--- goes along a way, to a state that the facts on it describe, and leaves open the files that the nodes need.
+-- An element that begins where a run is described takes no more steps than are known, without a code, and none of them a
+-- command of files; the last goes along a way, to a state that the facts on it describe, and leaves open the files that the
+-- nodes need.
 pub record Passes
     (library : Library) (entry : ℕ) (nodes : List Node) (table : Table) (n : ℕ) (below : List Pair) (number : ℕ)
     (turns : List OpenTurn) (s : State) (here : IsDescribed library nodes table n below number turns s) :
@@ -32,6 +34,7 @@ pub record Passes
   pub reaches : Reaches before s last
   pub steps : step last ≡ Next next
   pub few : suc before ≤ value_of n (steps_of here.node.element here.facts)
+  pub none : NoFileCommands s (suc before)
   pub again : IsLast here.node.element s last
   pub goes : GoesTo (stands nodes entry) number here.node last next
   pub comes : Comes nodes here.node here.facts goes.way (run_at n below turns) s next
@@ -46,11 +49,12 @@ ElementsPass library entry nodes table n below first =
     → (here : IsDescribed library nodes table n below number turns s) → AreOpen (needs_in nodes table) s.world.files
     → (step s ≡ End s.world) ⊎ Passes library entry nodes table n below number turns s here
 
--- the run comes to its end, after no more than so many steps
+-- the run comes to its end, after no more than so many steps, none of them a command of files
 pub record EndsWithin (s : State) (most : ℕ) : Type 0 where
   pub steps : ℕ
   pub new : World
   pub few : steps ≤ most
+  pub none : NoFileCommands s steps
   pub ends : Ends s steps new
 
 abbrev pub RunsEndInTime : Type 0

@@ -13,3 +13,4 @@ pub mod Ending
 pub mod Deriving
 pub mod Rows
 pub mod Verified
+pub mod Sure

@@ -4,6 +4,7 @@ ghost use Rattle.teco_table.specs.Laws.{CommandsAreSteps, TablesAreClosed};
 ghost use Rattle.teco_table.specs.Moving.{StepsMove};
 ghost use Rattle.teco_table.specs.Rows.{WorkedTables};
 ghost use Rattle.teco_table.specs.Staying.{FilesStayOpen};
+ghost use Rattle.teco_table.specs.Sure.{RunsAreSure};
 ghost use Rattle.teco_table.specs.Verified.{RunsAreVerified};
 
 /// The definition gives what is worked by hand.
@@ -53,7 +54,7 @@ pub fn runs_end_in_time()
 }
 
 /// A macro with a closed table runs to its end without a code, within the printed number of commands, where the files that
-/// it needs are open at the start.
+/// it needs are open at the start; it opens and closes none.
 pub fn runs_are_verified()
     ensures { RunsAreVerified }
 {
@@ -67,3 +68,9 @@ pub fn runs_are_verified()
     files_stay_open();
     runs_end_in_time();
 }
+
+/// A run that ends within some steps, none of them a command of files, stops for nothing but its end, want of memory, or a
+/// fault of the host in reading or in writing.
+pub fn runs_are_sure()
+    ensures { RunsAreSure }
+{}
