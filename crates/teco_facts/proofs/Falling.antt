@@ -21,10 +21,10 @@ length_smaller [] two = omega arith
 length_smaller (v ∷ one) [] = omega arith
 length_smaller (v ∷ one) (w ∷ two) = let h = length_smaller one two in omega arith
 
-pub smaller_room : (one two falls : List (Option ℤ)) (n : ℕ) → falls ≡ smaller_falls (drop n one) (drop n two) → length one ≤ 6 → 0 < n → length falls < 6
+pub smaller_room : (one two falls : List (Option ℤ)) (n : ℕ) → falls ≡ smaller_falls (drop n one) (drop n two) → length one ≤ 7 → 0 < n → length falls < 7
 smaller_room one two falls n e l h = rw e (omega (arith, length_smaller (drop n one) (drop n two), length-drop n one))
 
-pub start_room : (kept : Bool) (falls start : List (Option ℤ)) → start ≡ map (fall_if kept) (drop 1 falls) → length falls ≤ 6 → length start < 6
+pub start_room : (kept : Bool) (falls start : List (Option ℤ)) → start ≡ map (fall_if kept) (drop 1 falls) → length falls ≤ 7 → length start < 7
 start_room kept falls start e l = rw (e, length-map, length-drop) (omega arith)
 
 pub start_is : (kept : Bool) (falls start : List (Option ℤ)) → start ≡ map (fall_if kept) (drop 1 falls) → ¬ (length falls ≡ 0) → Some (pos 0) ∷ start ≡ falls_at_start kept falls

@@ -7,3 +7,4 @@ pub mod Searched
 pub mod Popping
 pub mod Each
 pub mod Unknown
+pub mod Joins

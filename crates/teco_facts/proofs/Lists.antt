@@ -1,6 +1,7 @@
 -- Lists from their ends.
-use Rattle.std.proofs.Common.{◌≡◌, refl, sym, ap, ◌∙◌, ℕ, ◌-◌, ◌+◌, ◌<◌, ◌≤◌, List, [], ◌∷◌, ◌++◌, length, map, get_or, take, drop, reverse, ⊎_elim, length-take, length-drop, arith}
-use Rattle.std.proofs.lemmas.List.{take-append-drop, reverse-append, length-reverse, drop_at, drop_all, drop_more, take-take, take_all, map-append, append-nil}
+use Rattle.std.proofs.Common.{◌≡◌, refl, sym, ap, subst, suc, set, append_assoc, drop-cons, ◌∙◌, ℕ, ◌-◌, ◌+◌, ◌<◌, ◌≤◌, List, [], ◌∷◌, ◌++◌, length, map, get_or, take, drop, reverse, ⊎_elim, length-take, length-drop, arith}
+use Rattle.std.proofs.Math.Seq.{set-append_seam}
+use Rattle.std.proofs.lemmas.List.{set_split, take-append-drop, reverse-append, length-reverse, drop_at, drop_all, drop_more, take-take, take_all, map-append, append-nil}
 use Rattle.std.proofs.lemmas.Bool.{cases_lt}
 
 -- what is dropped at the front of a list that is turned round is cut off at the end of it
@@ -46,3 +47,17 @@ reverse-map f (x ∷ xs) =
 pub mapped_all : {X : Type 0} (f : X → X) (xs ys : List X) (n : ℕ) → ys ≡ map f (take n xs) ++ drop n xs → length xs ≤ n → reverse ys ≡ map f (reverse xs)
 mapped_all f xs ys n e h =
     ap reverse (e ∙ ap (λ zs. map f zs ++ drop n xs) (take_all n xs h) ∙ ap (λ zs. map f xs ++ zs) (drop_all n xs h) ∙ append-nil (map f xs)) ∙ reverse-map f xs
+
+-- an item that is put at a place counted from the end
+pub reverse-set : {X : Type 0} (xs : List X) (n i : ℕ) (x : X) → n ≡ length xs - 1 - i → i < length xs → reverse (set xs n x) ≡ set (reverse xs) i x
+reverse-set {X = X} xs n i x e h =
+    let within : n < length xs = omega arith in
+    let front = take n xs in
+    let back = drop (suc n) xs in
+    let behind : length (reverse back) ≡ i = rw (length-reverse, length-drop) (omega arith) in
+    let turned : (y : X) → reverse (front ++ y ∷ back) ≡ reverse back ++ y ∷ reverse front =
+    λ y. reverse-append front (y ∷ back) ∙ ap (λ zs. zs ++ reverse front) (reverse-cons y back) ∙ append_assoc (reverse back) (y ∷ []) (reverse front) in
+    let old : xs ≡ front ++ get_or xs n x ∷ back = sym (take-append-drop n xs) ∙ ap (λ zs. front ++ zs) (drop-cons xs n x within) in
+    let put : set (reverse back ++ get_or xs n x ∷ reverse front) i x ≡ reverse back ++ x ∷ reverse front =
+    subst (λ (k : ℕ). set (reverse back ++ get_or xs n x ∷ reverse front) k x ≡ reverse back ++ x ∷ reverse front) behind (set-append_seam (reverse back) (get_or xs n x) (reverse front) x) in
+    ap reverse (set_split xs n x within) ∙ turned x ∙ sym put ∙ ap (λ zs. set zs i x) (sym (ap reverse old ∙ turned (get_or xs n x)))

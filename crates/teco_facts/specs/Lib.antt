@@ -6,3 +6,4 @@ pub mod Searched
 pub mod Placed
 pub mod Room
 pub mod Chosen
+pub mod Joined

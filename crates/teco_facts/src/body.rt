@@ -1,5 +1,5 @@
 //! The body of an iteration: what is chosen for its start, and when a choice stands.
-ghost use Rattle.std.specs.Prelude.{◌≡◌, length};
+ghost use Rattle.std.specs.Prelude.{◌≡◌, length, option_copied};
 ghost use Rattle.teco_base.specs.declared.TheConstants.{REGISTERS};
 ghost use Rattle.teco_rules.specs.Bodies as bodies;
 ghost use Rattle.teco_facts.specs.Chosen as chosen;
@@ -63,6 +63,15 @@ impl Position {
             None => false,
             Some(fall) => Whole::natural(least).at_most(fall),
         }
+    }
+}
+
+impl Facts {
+    /// Whether the fall of the innermost iteration is known to be at least so much.
+    pub fn has_fallen(&self, least: u32) -> bool
+        ensures { result ≡ bodies.has_own_fall least self.now.position }
+    {
+        self.position.has_own_fall(least)
     }
 }
 
@@ -187,9 +196,9 @@ impl Choice {
         counted: bool,
         turns: &Poly,
         entering: &Facts,
-        end: &Option<Facts>,
+        end: Option<&Facts>,
     ) -> bool
-        ensures { result ≡ bodies.stands self.now written.now counted turns.now entering.now end.now }
+        ensures { result ≡ bodies.stands self.now written.now counted turns.now entering.now (option_copied end.entry) }
     {
         match end {
             None => self.begins(entering),

@@ -266,6 +266,13 @@ impl Answer {
 }
 
 impl Facts {
+    /// Whether the same iterations are open: with a count at the same ones, and as many pushes at each <.
+    pub fn has_iterations_of(&self, edge: &Facts) -> bool
+        ensures { result ≡ covers.each_covers covers.is_same_iteration self.now.iterations edge.now.iterations }
+    {
+        covers_iterations(&self.iterations, &edge.iterations)
+    }
+
     /// Whether what is known here covers what is known at the end of an edge: it says no more.
     pub fn covers(&self, edge: &Facts) -> bool
         ensures { result ≡ covers.covers self.now edge.now }

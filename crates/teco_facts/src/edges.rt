@@ -47,7 +47,7 @@ pub struct Placed<'a> {
     pub library: bool,
     pub inside: bool,
     pub colon: bool,
-    pub leaves: u32,
+    pub leaves: usize,
 }
 
 // Minus the length of a text.
@@ -253,7 +253,7 @@ fn search_edges(
 fn flow_edges(
     kind: Flow,
     colons: u8,
-    leaves: u32,
+    leaves: usize,
     answer: &Option<Answer>,
     facts: Facts,
     again: Facts,
@@ -269,7 +269,7 @@ fn flow_edges(
         Flow::Test(test) => flow::conditional(Numbers::holding(test), answer, facts, again),
         Flow::Otherwise => Ok(Edges::away(facts)),
         Flow::EndTest | Flow::Comment => Ok(Edges::on(facts)),
-        Flow::GoTo => flow::go_to(leaves as usize, facts),
+        Flow::GoTo => flow::go_to(leaves, facts),
     }
 }
 

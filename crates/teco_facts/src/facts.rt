@@ -1,10 +1,11 @@
 //! What is known before an element.
-ghost use Rattle.std.specs.Prelude.{◌≡◌, ◌∷◌, ◌<◌, IfOk};
+ghost use Rattle.std.specs.Prelude.{◌≡◌, ◌∷◌, ◌<◌, IfOk, length};
 ghost use Rattle.teco_base.specs.declared.TheConstants.{REGISTERS};
 ghost use Rattle.teco_rules.specs.Facts as rules;
 ghost use Rattle.teco_rules.specs.Shifts as shifts;
 ghost use Rattle.teco_rules.specs.Arguments as arguments;
 ghost use Rattle.teco_facts.specs.Numbers.{AreSmall};
+ghost use Rattle.teco_facts.specs.Room.{innermost};
 
 use crate::arguments::Arguments;
 use crate::few::Few;
@@ -213,6 +214,25 @@ impl Facts {
         ensures { result ≡ rules.text_of register self.now }
     {
         self.texts[register.index()]
+    }
+
+    /// The lengths of all registers' texts.
+    pub fn texts(&self) -> [Poly; REGISTERS]
+        ensures value { result ≡ self.now.texts }
+        ensures all { length result ≡ REGISTERS }
+    {
+        self.texts
+    }
+
+    /// The innermost open iteration.
+    pub fn innermost(&self) -> Option<Iteration>
+        ensures { result ≡ innermost self.now.iterations }
+    {
+        if self.iterations.len() == 0 {
+            None
+        } else {
+            Some(self.iterations.get(0))
+        }
     }
 
     /// Takes the search's answer out.

@@ -1,12 +1,12 @@
-//! Lists of at most six, as there are at most six open iterations.
+//! Lists of at most seven: at most six iterations are open, and where a seventh would begin there is one more.
 ghost use Rattle.std.specs.Prelude.{◌≡◌, ℕ, ◌<◌, ◌≤◌, [], ◌∷◌, length, drop, slice_index_or};
 
 use std::marker::Model;
 
-/// How many iterations may be open.
-pub const DEPTH: usize = 6;
+/// How many there may be.
+pub const DEPTH: usize = 7;
 
-/// A list of at most six; what is at its front stands last in the array.
+/// A list of at most seven; what is at its front stands last in the array.
 #[derive(Drop)]
 pub struct Few<T: Copy> {
     items: [T; DEPTH],

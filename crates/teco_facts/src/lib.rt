@@ -41,6 +41,7 @@ pub use falls::Falls;
 pub use fault::Fault;
 pub use few::Few;
 pub use flow::{Edges, turns};
+pub use joining::joined_lengths;
 pub use level::{Level, Taken};
 pub use margins::Margins;
 pub use number::Number;

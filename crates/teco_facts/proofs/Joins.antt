@@ -1,0 +1,149 @@
+-- Lists that are joined one after another, and joins by their parts.
+use Rattle.std.proofs.Common.{◌≡◌, refl, sym, ap, ◌∙◌, ℕ, zero, suc, ◌<◌, ◌≤◌, min, List, [], ◌∷◌, ◌++◌, length, take, drop, set, get_or, drop-cons, Result, Ok, Err, arith}
+use Rattle.std.proofs.lemmas.List.{take_all, drop_all, drop-set-lt, append-nil, length-set}
+use Rattle.teco_poly.specs.Polynomial.{Polynomial}
+use Rattle.teco_rules.specs.declared.values.Interval.{Interval}
+use Rattle.teco_rules.specs.declared.refusal.Refusal.{Refusal}
+use Rattle.teco_rules.specs.declared.refusal.Refusal.TheVariants as refusal
+use Rattle.teco_rules.specs.Attempt.{◌>>=◌}
+use Rattle.teco_rules.specs.Facts.{Position, Pushed, Facts, join_of, without_arguments}
+use Rattle.teco_rules.specs.Joins.{hull, hulls, joined_lengths, joined_pair, joined_pushes, joined_position, none_pending, joined}
+use Rattle.teco_facts.specs.Joined.{with_pushes_joined, with_rest_joined}
+
+-- of two lists the first ones are joined
+pub record AreJoined {A : Type 0} (join : List A → List A → Result (List A) Refusal) (xs ys zs : List A) (count : ℕ) : Type 0 where
+  pub front : join (take count xs) (take count ys) ≡ Ok (take count zs)
+  pub rest : drop count zs ≡ drop count xs
+  pub long : length zs ≡ length xs
+
+ok_of : {A B : Type 0} (r : Result A Refusal) (f : A → Result B Refusal) (b : B) → (r >>= f) ≡ Ok b → (a : A) × (r ≡ Ok a) × (f a ≡ Ok b)
+ok_of (Ok a) f b h = (a, refl, h)
+ok_of (Err why) f b h = absurd (cc)
+
+-- a join of lists that goes on by a join of their items
+pub record GoesOn {A : Type 0} (one : A → A → Result A Refusal) (all : List A → List A → Result (List A) Refusal) : Type 0 where
+  pub none : all [] [] ≡ Ok []
+  pub more : (x y : A) (xs ys : List A) → all (x ∷ xs) (y ∷ ys) ≡ (one x y >>= (λ z. all xs ys >>= (λ zs. Ok (z ∷ zs))))
+
+pub lengths_go_on : GoesOn join_of joined_lengths
+lengths_go_on = record { none = refl; more = λ x y xs ys. refl }
+
+pub pushes_go_on : GoesOn joined_pair joined_pushes
+pushes_go_on = record { none = refl; more = λ x y xs ys. refl }
+
+module _ {A : Type 0} (one : A → A → Result A Refusal) (all : List A → List A → Result (List A) Refusal) (law : GoesOn one all) where
+  pub joined_none : (xs ys : List A) → AreJoined all xs ys xs 0
+  joined_none xs ys = record { front = law.none; rest = refl; long = refl }
+
+  -- one more is joined
+  front_more : (xs ys zs : List A) (i : ℕ) (x y z : A) → i < length xs → i < length ys → i < length zs → x ≡ get_or xs i x → y ≡ get_or ys i y → one x y ≡ Ok z → all (take i xs) (take i ys) ≡ Ok (take i zs) → all (take (suc i) xs) (take (suc i) ys) ≡ Ok (take (suc i) (set zs i z))
+  front_more [] ys zs i x y z h k l d e f g = absurd (omega arith)
+  front_more (a ∷ xs) [] zs i x y z h k l d e f g = absurd (omega arith)
+  front_more (a ∷ xs) (b ∷ ys) [] i x y z h k l d e f g = absurd (omega arith)
+  front_more (a ∷ xs) (b ∷ ys) (c ∷ zs) zero x y z h k l d e f g =
+      rw (law.more a b [] [], law.none, ← d, ← e, f) refl
+  front_more (a ∷ xs) (b ∷ ys) (c ∷ zs) (suc i) x y z h k l d e f g =
+      let first = ok_of (one a b) _ _ (sym (law.more a b (take i xs) (take i ys)) ∙ g) in
+      let others = ok_of (all (take i xs) (take i ys)) _ _ first.2 in
+      let same : first.0 ∷ others.0 ≡ c ∷ take i zs = cc in
+      let head : first.0 ≡ c = cc in
+      let tail : others.0 ≡ take i zs = cc in
+      let more = front_more xs ys zs i x y z (omega arith) (omega arith) (omega arith) d e f (others.1 ∙ ap Ok tail) in
+      rw (law.more a b (take (suc i) xs) (take (suc i) ys), first.1, more, head) refl
+
+  rest_more : (xs zs : List A) (i : ℕ) (z : A) → i < length xs → i < length zs → drop i zs ≡ drop i xs → drop (suc i) (set zs i z) ≡ drop (suc i) xs
+  rest_more xs zs i z h k e =
+      let of_zs = drop-cons zs i z k in
+      let of_xs = drop-cons xs i z h in
+      let within : i < suc i = omega arith in
+      let same : drop (suc i) zs ≡ drop (suc i) xs = cc in
+      drop-set-lt (suc i) zs i z within ∙ same
+
+  pub joined_more : (xs ys zs : List A) (i : ℕ) (x y z : A) → i < length xs → i < length ys → x ≡ get_or xs i x → y ≡ get_or ys i y → one x y ≡ Ok z → AreJoined all xs ys zs i → AreJoined all xs ys (set zs i z) (suc i)
+  joined_more xs ys zs i x y z h k d e f j =
+      let long = j.long in
+      let within : i < length zs = omega arith in
+      record {
+        front = front_more xs ys zs i x y z h k within d e f j.front;
+        rest = rest_more xs zs i z h within j.rest;
+        long = length-set zs i z ∙ j.long;
+      }
+
+  pub joined_all : (xs ys zs : List A) (i : ℕ) → length xs ≤ i → length ys ≤ i → AreJoined all xs ys zs i → all xs ys ≡ Ok zs
+  joined_all xs ys zs i h k j =
+      let long = j.long in
+      let whole : length zs ≤ i = omega arith in
+      rw (take_all i xs h, take_all i ys k, take_all i zs whole) at j.front
+
+  refused_at : (xs ys ws : List A) (i : ℕ) (x y : A) (why : Refusal) → i < length xs → i < length ys → x ≡ get_or xs i x → y ≡ get_or ys i y → one x y ≡ Err why → all (take i xs) (take i ys) ≡ Ok ws → all xs ys ≡ Err why
+  refused_at [] ys ws i x y why h k d e f g = absurd (omega arith)
+  refused_at (a ∷ xs) [] ws i x y why h k d e f g = absurd (omega arith)
+  refused_at (a ∷ xs) (b ∷ ys) ws zero x y why h k d e f g = rw (law.more a b xs ys, ← d, ← e, f) refl
+  refused_at (a ∷ xs) (b ∷ ys) ws (suc i) x y why h k d e f g =
+      let first = ok_of (one a b) _ _ (sym (law.more a b (take i xs) (take i ys)) ∙ g) in
+      let others = ok_of (all (take i xs) (take i ys)) _ _ first.2 in
+      let later = refused_at xs ys others.0 i x y why (omega arith) (omega arith) d e f others.1 in
+      rw (law.more a b xs ys, first.1, later) refl
+
+  pub joined_refused : (xs ys zs : List A) (i : ℕ) (x y : A) (why : Refusal) → i < length xs → i < length ys → x ≡ get_or xs i x → y ≡ get_or ys i y → one x y ≡ Err why → AreJoined all xs ys zs i → all xs ys ≡ Err why
+  joined_refused xs ys zs i x y why h k d e f j = refused_at xs ys (take i zs) i x y why h k d e f j.front
+
+  -- what is not joined yet is as it was
+  pub joined_rest : (xs ys zs : List A) (i : ℕ) (x : A) → i < length xs → x ≡ get_or zs i x → AreJoined all xs ys zs i → x ≡ get_or xs i x
+  joined_rest xs ys zs i x h e j =
+      let long = j.long in
+      let within : i < length zs = omega arith in
+      let of_zs = drop-cons zs i x within in
+      let of_xs = drop-cons xs i x h in
+      let rest = j.rest in
+      cc
+
+-- where one list is longer
+short : (ss ts ws : List Pushed) (n : ℕ) → n ≡ min (length ss) (length ts) → ¬ (length ss ≡ length ts) → joined_pushes (take n ss) (take n ts) ≡ Ok ws → joined_pushes ss ts ≡ Err refusal.Pop
+short [] [] ws n e h g = absurd (h refl)
+short [] (t ∷ ts) ws n e h g = refl
+short (s ∷ ss) [] ws n e h g = refl
+short (s ∷ ss) (t ∷ ts) ws zero e h g = absurd (omega arith)
+short (s ∷ ss) (t ∷ ts) ws (suc n) e h g =
+    let first = ok_of (joined_pair s t) _ _ g in
+    let others = ok_of (joined_pushes (take n ss) (take n ts)) _ _ first.2 in
+    let later = short ss ts others.0 n (omega arith) (λ same. h (ap suc same)) others.1 in
+    rw (first.1, later) refl
+
+pub pushes_short : (ss ts zs : List Pushed) (n : ℕ) → n ≡ min (length ss) (length ts) → ¬ (length ss ≡ length ts) → AreJoined joined_pushes ss ts zs n → joined_pushes ss ts ≡ Err refusal.Pop
+pushes_short ss ts zs n e h j = short ss ts (take n zs) n e h j.front
+
+-- hulls of the first ones
+pub hulls_more : (xs ys : List Interval) (i : ℕ) (x y : Interval) → i < length xs → i < length ys → x ≡ get_or xs i x → y ≡ get_or ys i y → set (hulls (take i xs) (take i ys) ++ drop i xs) i (hull x y) ≡ hulls (take (suc i) xs) (take (suc i) ys) ++ drop (suc i) xs
+hulls_more [] ys i x y h k d e = absurd (omega arith)
+hulls_more (a ∷ xs) [] i x y h k d e = absurd (omega arith)
+hulls_more (a ∷ xs) (b ∷ ys) zero x y h k d e = rw (d, e) refl
+hulls_more (a ∷ xs) (b ∷ ys) (suc i) x y h k d e = ap (λ js. hull a b ∷ js) (hulls_more xs ys i x y (omega arith) (omega arith) d e)
+
+pub length-hulls : (xs ys : List Interval) → length xs ≡ length ys → length (hulls xs ys) ≡ length xs
+length-hulls [] ys e = refl
+length-hulls (x ∷ xs) [] e = absurd (omega arith)
+length-hulls (x ∷ xs) (y ∷ ys) e = ap suc (length-hulls xs ys (omega arith))
+
+pub hulls_all : (xs ys : List Interval) (i : ℕ) → length xs ≤ i → length ys ≤ i → hulls (take i xs) (take i ys) ++ drop i xs ≡ hulls xs ys
+hulls_all xs ys i h k = rw (take_all i xs h, take_all i ys k, drop_all i xs h, append-nil) refl
+
+-- a join by its steps
+by_parts : (one two : Result (Unit {0}) Refusal) (pushes : Result (List Pushed) Refusal) (position : Result Position Refusal) (held : Result Polynomial Refusal) (texts : Result (List Polynomial) Refusal) (numbers : List Interval) (facts : Facts)
+    → (one >>= (λ a. two >>= (λ b. pushes >>= (λ p. position >>= (λ q. held >>= (λ h. texts >>= (λ t. Ok (record (without_arguments facts) { position = q; held = h; numbers = numbers; texts = t; pushes = p }))))))))
+    ≡ (one >>= (λ a. two >>= (λ b. (pushes >>= (λ p. Ok (record facts { pushes = p }))) >>= (λ f. (position >>= (λ q. held >>= (λ h. texts >>= (λ t. Ok (record f { position = q; held = h; numbers = numbers; texts = t }))))) >>= (λ g. Ok (without_arguments g))))))
+by_parts (Err w) two pushes position held texts numbers facts = refl
+by_parts (Ok a) (Err w) pushes position held texts numbers facts = refl
+by_parts (Ok a) (Ok b) (Err w) position held texts numbers facts = refl
+by_parts (Ok a) (Ok b) (Ok p) (Err w) held texts numbers facts = refl
+by_parts (Ok a) (Ok b) (Ok p) (Ok q) (Err w) texts numbers facts = refl
+by_parts (Ok a) (Ok b) (Ok p) (Ok q) (Ok h) (Err w) numbers facts = refl
+by_parts (Ok a) (Ok b) (Ok p) (Ok q) (Ok h) (Ok t) numbers facts = refl
+
+-- where the rest is refused
+pub rest_refused : (facts others more : Facts) (why : Refusal) → none_pending facts.arguments ≡ Ok tt → none_pending others.arguments ≡ Ok tt → with_pushes_joined facts others ≡ Ok more → with_rest_joined more others ≡ Err why → joined facts others ≡ Err why
+rest_refused facts others more why d e f g =
+    let pairs = ok_of (joined_pushes facts.pushes others.pushes) _ more f in
+    let is : more ≡ record facts { pushes = pairs.0 } = cc in
+    let refused : with_rest_joined (record facts { pushes = pairs.0 }) others ≡ Err why = rw is at g in
+    by_parts (none_pending facts.arguments) (none_pending others.arguments) (joined_pushes facts.pushes others.pushes) (joined_position facts.position others.position) (join_of facts.held others.held) (joined_lengths facts.texts others.texts) (hulls facts.numbers others.numbers) facts ∙ rw (d, e, pairs.1, refused) refl
