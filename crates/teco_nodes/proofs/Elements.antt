@@ -1,0 +1,32 @@
+-- What is read of a text.
+use Rattle.std.proofs.Common.{◌≡◌, ℕ, ◌<◌, List, [], length, drop, true, Some, None, Ok, nat_le, refl, arith}
+use Rattle.std.proofs.lemmas.Bool.{le-leb}
+use Rattle.std.proofs.lemmas.List.{drop_all}
+use Rattle.teco_model.specs.Ahead.{Whole, reading_at}
+use Rattle.teco_model.specs.Element.{Element, blank_len, blank_end, element_at}
+use Rattle.teco_model.specs.Skip.{no_skip, skip_of, skip_at}
+
+-- behind the end nothing is read
+pub none_behind : (text : List ℕ) (at : ℕ) → length text < at → element_at text at ≡ Ok None
+unfolding element_at
+none_behind text at l =
+    let past : nat_le (length text) (blank_end text at) ≡ true = le-leb (length text) (blank_end text at) (omega arith) in
+    rw (element_at, past) refl
+
+-- nor are there blanks
+pub no_blanks_behind : (text : List ℕ) (at : ℕ) → length text < at → blank_end text at ≡ at
+unfolding blank_len
+no_blanks_behind text at l =
+    let none : drop at text ≡ [] = drop_all at text (omega arith) in
+    rw none (omega arith)
+
+pub no_skip_behind : (text : List ℕ) (at : ℕ) → length text < at → skip_at text at ≡ no_skip
+unfolding reading_at
+no_skip_behind text at l =
+    let none = none_behind text at l in
+    rw (reading_at, none) refl
+
+-- the skip at a place is that of the element there
+pub skip_of_element : (text : List ℕ) (at : ℕ) (e : Element) → element_at text at ≡ Ok (Some e) → skip_at text at ≡ skip_of text (Whole e)
+unfolding reading_at
+skip_of_element text at e h = rw (reading_at, h) refl

@@ -1,0 +1,14 @@
+mod Any
+mod Calls
+mod Comparing
+mod Depths
+mod Elements
+mod Finding
+mod Gathering
+mod Level
+mod Lists
+mod Numbered
+mod ShortTexts
+mod Stepping
+mod Two
+mod Walking

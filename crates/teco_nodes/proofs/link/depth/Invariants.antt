@@ -1,0 +1,11 @@
+use Rattle.std.proofs.Common.{◌≡◌, ◌+◌, ◌≤◌, ◌*◌}
+use Rattle.teco_expand.specs.Position.{depth}
+use Rattle.teco_nodes.specs.Few.{listed}
+use Rattle.teco_nodes.specs.Seen.{position_seen}
+use Rattle.teco_nodes.proofs.Depths.{left_from}
+use Rattle.teco_nodes.proofs.link.depth.Given as goal
+
+abbrev pub invariant-loop-at : goal.invariant-loop-at
+invariant-loop-at l =
+    (l.count + left_from l.texts (listed l.position.callers) l.at ≡ depth (position_seen l.texts l.position))
+    × (l.count ≤ 7 * (l.at + 1))

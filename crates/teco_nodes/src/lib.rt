@@ -1,0 +1,26 @@
+//! The expansion of a library from an entry, as nodes that a checker reads.
+#![tactic(auto)]
+
+mod few;
+mod gather;
+mod link;
+mod names;
+mod node;
+mod nodes;
+mod order;
+mod reading;
+mod refusal;
+mod same;
+mod spot;
+mod steps;
+mod texts;
+mod visit;
+mod walk;
+mod ways;
+
+pub use gather::expand;
+pub use nodes::Nodes;
+pub use refusal::{ExpandFault, Reason, Refusal};
+
+#[cfg(test)]
+mod tests;

@@ -1,0 +1,70 @@
+//! Where a run stands.
+ghost use Rattle.std.specs.Prelude.{◌≡◌};
+
+use crate::few::Few;
+
+/// A place in a text, and the starts of the iterations that are open in it, the innermost first. The text is that of a
+/// register, or the command string that calls the entry.
+#[derive(Clone, Copy)]
+pub struct Spot {
+    pub register: Option<usize>,
+    pub place: usize,
+    pub starts: Few<usize>,
+}
+
+/// The text that is executed, and those that wait for its end, the newest first.
+#[derive(Clone, Copy)]
+pub struct Position {
+    pub running: Spot,
+    pub callers: Few<Spot>,
+}
+
+/// A position, and the numbers of the `<` whose iterations are open there, the innermost first.
+#[derive(Clone, Copy)]
+pub struct Stand {
+    pub position: Position,
+    pub iterations: Few<usize>,
+}
+
+impl Spot {
+    ghost use Rattle.std.specs.Prelude.{[]};
+    ghost use Rattle.teco_expand.specs.Position as model;
+    ghost use Rattle.teco_nodes.specs.Seen.{spot_seen};
+    ghost use Rattle.teco_nodes.specs.Texts.{text_of};
+    ghost use Rattle.teco_nodes.specs.declared.texts.Texts.{Texts};
+
+    /// The beginning of a text.
+    pub fn beginning(register: Option<usize>) -> Spot
+        ensures { (texts : Texts) → spot_seen texts result ≡ model.spot_in (text_of texts register) }
+    {
+        Spot {
+            register,
+            place: 0,
+            starts: Few::empty(0),
+        }
+    }
+}
+
+impl Position {
+    ghost use Rattle.teco_model.specs.Element.{seen};
+    ghost use Rattle.teco_expand.specs.Position as model;
+    ghost use Rattle.teco_expand.specs.Ways as ways;
+    ghost use Rattle.teco_nodes.specs.Few.{listed};
+    ghost use Rattle.teco_nodes.specs.Seen.{position_seen};
+    ghost use Rattle.teco_nodes.specs.declared.texts.Texts.{Texts};
+
+    /// The running text at another place, with other iterations open.
+    pub fn moved_to(&self, place: usize, starts: Few<usize>) -> Position
+        ensures { (texts : Texts) → position_seen texts result
+            ≡ model.moved_to place (listed starts) (position_seen texts self.now) }
+    {
+        Position {
+            running: Spot {
+                register: self.running.register,
+                place,
+                starts,
+            },
+            callers: self.callers,
+        }
+    }
+}
