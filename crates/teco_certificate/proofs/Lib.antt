@@ -1,0 +1,4 @@
+pub mod Fronts
+pub mod Items
+pub mod Spelling
+pub mod Unique

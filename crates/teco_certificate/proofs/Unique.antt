@@ -1,0 +1,169 @@
+-- A text is that of one certificate: each part of it ends where it has to, and is the text of one value.
+use Rattle.std.proofs.Common.{◌≡◌, ℕ, ◌+◌, ◌-◌, ◌^◌, ◌<◌, Bool, true, false, cond, List, [], ◌∷◌, ◌++◌, sym, ap, ◌∙◌, refl, arith, append_assoc, ltb, flat_map, ◌||◌}
+use Rattle.std.proofs.lemmas.Bool.{ltb-false}
+use Rattle.std.proofs.lemmas.Fmt.{decimal_injective}
+use Rattle.std.proofs.lemmas.List.{append_cancel_left, append_cancel_right}
+use Rattle.std.specs.Char.{is_ascii_digit}
+use Rattle.std.specs.Fmt.{decimal}
+use Rattle.std.specs.List.{AllByRecursion}
+use Rattle.std.specs.Prelude.{codes, ◌==◌, ◌≢◌}
+use Rattle.teco_base.specs.Register.{register_name}
+use Rattle.teco_base.specs.declared.TheConstants.{REGISTERS}
+use Rattle.teco_base.specs.declared.bytes.TheConstants.{LF}
+use Rattle.teco_certificate.specs.Fields.{Fields}
+use Rattle.teco_certificate.specs.Front.{is_of_polynomial, EndsPolynomial}
+use Rattle.teco_certificate.specs.Text.{line, letters_of, needs_text, longer_text, longer_texts, behind_comma, kept_text, chosen_text, loop_line, certificate_text}
+use Rattle.teco_certificate.specs.WellFormed.{IsLongerText, IsChosen, HasText}
+use Rattle.teco_certificate.proofs.Fronts.{one_front, decimal_digits, ends_number, ends_polynomial, polynomial_passes, passes_append}
+use Rattle.teco_certificate.proofs.Items.{one_list}
+use Rattle.teco_certificate.proofs.Spelling.{other_byte, no_dash, ends_longer, ends_kept, parts_of_line, same_chosen, same_fields}
+use Rattle.teco_poly.specs.Laws.{OneText}
+use Rattle.teco_poly.specs.Polynomial.{Polynomial}
+use Rattle.teco_poly.specs.Reading.{IsPoly, EndsNumber}
+use Rattle.teco_poly.specs.Text.{text}
+use Rattle.teco_rules.specs.Printed.{Needs}
+use Rattle.teco_table.specs.Deriving.{LongerText, Chosen}
+
+first_byte : {c d : ℕ} {x y : List ℕ} → c ∷ x ≡ d ∷ y → c ≡ d
+first_byte e = cc
+
+other_bytes : {c d : ℕ} {x y : List ℕ} → c ∷ x ≡ d ∷ y → x ≡ y
+other_bytes e = cc
+
+-- a register's name is that of one
+one_register : (r s : ℕ) → r < REGISTERS → s < REGISTERS → register_name r ≡ register_name s → r ≡ s
+one_register r s small other e = by_tests (ltb r 26) (ltb s 26) refl refl e
+  where
+    by_tests : (a b : Bool) → ltb r 26 ≡ a → ltb s 26 ≡ b → cond a (65 + r) (48 + (r - 26)) ≡ cond b (65 + s) (48 + (s - 26)) → r ≡ s
+    by_tests true true p q e = omega arith
+    by_tests true false p q e = omega (arith, ltb-false s 26 q)
+    by_tests false true p q e = omega (arith, ltb-false r 26 p)
+    by_tests false false p q e = omega (arith, ltb-false r 26 p, ltb-false s 26 q)
+
+-- the files, by their letters
+abbrev has_input : List ℕ → Bool
+has_input [] = false
+has_input (c ∷ text) = c == 73
+
+abbrev has_output : List ℕ → Bool
+has_output [] = false
+has_output (c ∷ []) = c == 79
+has_output (c ∷ d ∷ text) = c == 79 || d == 79
+
+input_is : (i o : Bool) (rest : List ℕ) → has_input (letters_of i o ++ LF ∷ rest) ≡ i
+input_is true true rest = refl
+input_is true false rest = refl
+input_is false true rest = refl
+input_is false false rest = refl
+
+output_is : (i o : Bool) (rest : List ℕ) → has_output (letters_of i o ++ LF ∷ rest) ≡ o
+output_is true true rest = refl
+output_is true false rest = refl
+output_is false true rest = refl
+output_is false false rest = refl
+
+same_needs : (needs others : Needs) → needs.input ≡ others.input → needs.output ≡ others.output → needs ≡ others
+same_needs needs others i o = ap (λ b. record { input = b; output = needs.output }) i ∙ ap (λ b. record { input = others.input; output = b }) o
+
+one_needs : (needs others : Needs) (x y : List ℕ) → needs_text needs ++ LF ∷ x ≡ needs_text others ++ LF ∷ y → (needs ≡ others) × (x ≡ y)
+one_needs needs others x y e =
+    let same = same_needs needs others
+    (sym (input_is needs.input needs.output x) ∙ ap has_input e ∙ input_is others.input others.output y)
+    (sym (output_is needs.input needs.output x) ∙ ap has_output e ∙ output_is others.input others.output y) in
+    (same, other_bytes (append_cancel_left (needs_text others) (LF ∷ x) (LF ∷ y) (ap (λ n. needs_text n ++ LF ∷ x) (sym same) ∙ e)))
+
+-- whether it is kept, by the word
+abbrev has_kept : List ℕ → Bool
+has_kept [] = false
+has_kept (c ∷ text) = c == 107
+
+kept_is : (kept : Bool) (rest : List ℕ) → has_kept (kept_text kept ++ rest) ≡ kept
+kept_is true rest = refl
+kept_is false rest = refl
+
+one_kept : (kept other : Bool) (x y : List ℕ) → kept_text kept ++ x ≡ kept_text other ++ y → (kept ≡ other) × (x ≡ y)
+one_kept kept other x y e =
+    let same = sym (kept_is kept x) ∙ ap has_kept e ∙ kept_is other y in
+    (same, append_cancel_left (kept_text other) x y (ap (λ k. kept_text k ++ x) (sym same) ∙ e))
+
+one_number : (m n : ℕ) (x y : List ℕ) → m < 2 ^ 64 → n < 2 ^ 64 → EndsNumber x → EndsNumber y → decimal m ++ x ≡ decimal n ++ y → (m ≡ n) × (x ≡ y)
+one_number m n x y small other ends ended e =
+    let front = one_front is_ascii_digit (decimal m) (decimal n) x y (decimal_digits m small) (decimal_digits n other) (ends_number x ends) (ends_number y ended) e in
+    (decimal_injective m n small other front.0, front.1)
+
+module _ (one_text : OneText) where
+  one_polynomial : (p q : Polynomial) (x y : List ℕ) → IsPoly p → IsPoly q → EndsPolynomial x → EndsPolynomial y → text p ++ x ≡ text q ++ y → (p ≡ q) × (x ≡ y)
+  one_polynomial p q x y is other ends ended e =
+      let front = one_front is_of_polynomial (text p) (text q) x y (polynomial_passes p is) (polynomial_passes q other) (ends_polynomial x ends) (ends_polynomial y ended) e in
+      (one_text p q is other front.0, front.1)
+
+  -- a space behind it is no part of it
+  one_held : (p q : Polynomial) (x y : List ℕ) → IsPoly p → IsPoly q → EndsPolynomial x → EndsPolynomial y → text p ++ (codes " " ++ x) ≡ text q ++ (codes " " ++ y) → (p ≡ q) × (x ≡ y)
+  one_held p q x y is other ends ended e =
+      let front = one_front is_of_polynomial (text p ++ codes " ") (text q ++ codes " ") x y
+      (passes_append (text p) (codes " ") (polynomial_passes p is) refl) (passes_append (text q) (codes " ") (polynomial_passes q other) refl)
+      (ends_polynomial x ends) (ends_polynomial y ended) (append_assoc (text p) (codes " ") x ∙ e ∙ sym (append_assoc (text q) (codes " ") y)) in
+      (one_text p q is other (append_cancel_right (text p) (text q) (codes " ") front.0), front.1)
+
+  one_longer : (l m : LongerText) (x y : List ℕ) → IsLongerText l → IsLongerText m → EndsPolynomial x → EndsPolynomial y → longer_text l ++ x ≡ longer_text m ++ y → (l ≡ m) × (x ≡ y)
+  one_longer l m x y is other ends ended e =
+      let register = one_register l.register m.register is.register other.register (first_byte e) in
+      let poly = one_polynomial l.text m.text x y is.text other.text ends ended (other_bytes (other_bytes e)) in
+      (same register poly.0, poly.1)
+    where
+      same : l.register ≡ m.register → l.text ≡ m.text → l ≡ m
+      same r t = ap (λ q. record { register = q; text = l.text }) r ∙ ap (λ p. record { register = m.register; text = p }) t
+
+  one_others : (ls ms : List LongerText) (x y : List ℕ) → AllByRecursion IsLongerText ls → AllByRecursion IsLongerText ms → flat_map behind_comma ls ++ LF ∷ x ≡ flat_map behind_comma ms ++ LF ∷ y → (ls ≡ ms) × (LF ∷ x ≡ LF ∷ y)
+  one_others ls ms x y are others e =
+      one_list (codes ",") longer_text IsLongerText (LF ∷ x) (LF ∷ y) (no_comma x) (no_comma y)
+      (λ l m xs ys is other. one_longer l m (flat_map behind_comma xs ++ LF ∷ x) (flat_map behind_comma ys ++ LF ∷ y) is other (ends_longer xs x) (ends_longer ys y))
+      ls ms are others e
+    where
+      no_comma : (rest words : List ℕ) → LF ∷ rest ≢ codes "," ++ words
+      no_comma rest = other_byte (LF ∷ rest) [] rest 10 44 refl (λ (same : 10 ≡ 44). omega arith)
+
+  one_texts : (ls ms : List LongerText) (x y : List ℕ) → AllByRecursion IsLongerText ls → AllByRecursion IsLongerText ms → longer_texts ls ++ LF ∷ x ≡ longer_texts ms ++ LF ∷ y → (ls ≡ ms) × (x ≡ y)
+  one_texts [] [] x y are others e = (refl, other_bytes (other_bytes e))
+  one_texts [] (m ∷ ms) x y are others e = absurd (no_dash m.register (sym (first_byte e)))
+  one_texts (l ∷ ls) [] x y are others e = absurd (no_dash l.register (first_byte e))
+  one_texts (l ∷ ls) (m ∷ ms) x y are others e =
+      let first = one_longer l m (flat_map behind_comma ls ++ LF ∷ x) (flat_map behind_comma ms ++ LF ∷ y) are.0 others.0 (ends_longer ls x) (ends_longer ms y)
+      (sym (append_assoc (longer_text l) (flat_map behind_comma ls) (LF ∷ x)) ∙ e ∙ append_assoc (longer_text m) (flat_map behind_comma ms) (LF ∷ y)) in
+      let rest = one_others ls ms x y are.1 others.1 first.1 in
+      (ap (λ k. k ∷ ls) first.0 ∙ ap (λ ks. m ∷ ks) rest.0, other_bytes rest.1)
+
+  one_chosen : (c d : Chosen) (x y : List ℕ) → IsChosen c → IsChosen d → line (chosen_text c) ++ x ≡ line (chosen_text d) ++ y → (c ≡ d) × (x ≡ y)
+  one_chosen c d x y is other e =
+      let texts = λ (chosen : Chosen) (rest : List ℕ). codes " texts " ++ (longer_texts chosen.longer ++ LF ∷ rest) in
+      let behind_held = λ (chosen : Chosen) (rest : List ℕ). kept_text chosen.kept ++ texts chosen rest in
+      let behind_number = λ (chosen : Chosen) (rest : List ℕ). text chosen.held ++ (codes " " ++ behind_held chosen rest) in
+      let number = one_number c.begin d.begin (codes " held " ++ behind_number c x) (codes " held " ++ behind_number d y) is.begin other.begin refl refl (sym (parts_of_line c x) ∙ e ∙ parts_of_line d y) in
+      let held = one_held c.held d.held (behind_held c x) (behind_held d y) is.held other.held (ends_kept c.kept (texts c x)) (ends_kept d.kept (texts d y)) (append_cancel_left (codes " held ") (behind_number c x) (behind_number d y) number.1) in
+      let kept = one_kept c.kept d.kept (texts c x) (texts d y) held.1 in
+      let longer = one_texts c.longer d.longer x y is.longer other.longer (append_cancel_left (codes " texts ") (longer_texts c.longer ++ LF ∷ x) (longer_texts d.longer ++ LF ∷ y) kept.1) in
+      (same_chosen d number.0 held.0 kept.0 longer.0, longer.1)
+
+  one_loops : (cs ds : List Chosen) → AllByRecursion IsChosen cs → AllByRecursion IsChosen ds → flat_map loop_line cs ++ line (codes "end") ≡ flat_map loop_line ds ++ line (codes "end") → cs ≡ ds
+  one_loops cs ds are others e =
+      (one_list (codes "loop ") (λ (chosen : Chosen). line (chosen_text chosen)) IsChosen (line (codes "end")) (line (codes "end")) no_loop no_loop
+      (λ c d xs ys is other. one_chosen c d (flat_map loop_line xs ++ line (codes "end")) (flat_map loop_line ys ++ line (codes "end")) is other)
+      cs ds are others e).0
+    where
+      no_loop : (words : List ℕ) → line (codes "end") ≢ codes "loop " ++ words
+      no_loop = other_byte (line (codes "end")) (codes "oop ") (codes "nd" ++ LF ∷ []) 101 108 refl (λ (same : 101 ≡ 108). omega arith)
+
+  pub one_certificate : (f g : Fields) → HasText f → HasText g → certificate_text f ≡ certificate_text g → f ≡ g
+  one_certificate f g is other e =
+      let loops = λ (fields : Fields). flat_map loop_line fields.loops ++ line (codes "end") in
+      let sizes = λ (fields : Fields). line (codes "size " ++ text fields.size) ++ loops fields in
+      let commands = λ (fields : Fields). line (codes "commands " ++ text fields.commands) ++ sizes fields in
+      let needs = λ (fields : Fields). line (codes "needs " ++ needs_text fields.needs) ++ commands fields in
+      let at_entry = append_cancel_left (codes "TECO-CERT 1" ++ LF ∷ codes "entry ") (register_name f.entry ∷ LF ∷ needs f) (register_name g.entry ∷ LF ∷ needs g) e in
+      let at_needs = append_cancel_left (LF ∷ codes "needs ") ((needs_text f.needs ++ LF ∷ []) ++ commands f) ((needs_text g.needs ++ LF ∷ []) ++ commands g) (other_bytes at_entry) in
+      let need = one_needs f.needs g.needs (commands f) (commands g) (sym (append_assoc (needs_text f.needs) (LF ∷ []) (commands f)) ∙ at_needs ∙ append_assoc (needs_text g.needs) (LF ∷ []) (commands g)) in
+      let at_commands = append_cancel_left (codes "commands ") ((text f.commands ++ LF ∷ []) ++ sizes f) ((text g.commands ++ LF ∷ []) ++ sizes g) need.1 in
+      let most = one_polynomial f.commands g.commands (LF ∷ sizes f) (LF ∷ sizes g) is.commands other.commands refl refl (sym (append_assoc (text f.commands) (LF ∷ []) (sizes f)) ∙ at_commands ∙ append_assoc (text g.commands) (LF ∷ []) (sizes g)) in
+      let at_size = append_cancel_left (LF ∷ codes "size ") ((text f.size ++ LF ∷ []) ++ loops f) ((text g.size ++ LF ∷ []) ++ loops g) most.1 in
+      let size = one_polynomial f.size g.size (LF ∷ loops f) (LF ∷ loops g) is.size other.size refl refl (sym (append_assoc (text f.size) (LF ∷ []) (loops f)) ∙ at_size ∙ append_assoc (text g.size) (LF ∷ []) (loops g)) in
+      same_fields g (one_register f.entry g.entry is.entry other.entry (first_byte at_entry)) need.0 most.0 size.0 (one_loops f.loops g.loops is.loops other.loops (other_bytes size.1))

@@ -1,0 +1,147 @@
+//! Certificates.
+ghost use Rattle.std.specs.Prelude.{◌≡◌, IfOk, OnOk};
+ghost use Rattle.teco_certificate.specs.Reads.{Reads};
+ghost use Rattle.teco_certificate.specs.Text.{needs_text, certificate_text};
+ghost use Rattle.teco_certificate.specs.WellFormed.{HasText};
+
+use crate::fault::CertificateFault;
+use crate::order::is_in_order;
+use crate::printing::{name_of, push_line, push_loops};
+use crate::reading::certificate_in;
+use std::alloc::{AllocError, Global};
+use std::marker::Model;
+use teco_base::Reg;
+use teco_poly::Poly;
+
+/// The files that must be open.
+#[derive(Clone, Copy, Debug, PartialEq, Eq)]
+pub struct Needs {
+    pub input: bool,
+    pub output: bool,
+}
+
+impl Model for Needs {
+    ghost use Rattle.teco_rules.specs.Printed as printed;
+
+    ghost Value = { printed.Needs };
+
+    ghost view = { λ n. record { input = n.input; output = n.output } };
+
+    ghost inverse = { λ n. record { input = n.input; output = n.output } };
+}
+
+impl Needs {
+    // As a certificate has them.
+    fn letters(self) -> &'static str
+        ensures { result.now ≡ needs_text self }
+    {
+        match (self.input, self.output) {
+            (false, false) => "-",
+            (true, false) => "I",
+            (false, true) => "O",
+            (true, true) => "IO",
+        }
+    }
+}
+
+/// A register whose text may be longer in a body than before it, and the most that it has there.
+#[derive(Clone, Copy)]
+pub struct LongerText {
+    pub register: Reg,
+    pub text: Poly,
+}
+
+impl Model for LongerText {
+    ghost use Rattle.teco_table.specs.Deriving as choices;
+
+    ghost Value = { choices.LongerText };
+
+    ghost view = { λ l. record { register = l.register; text = l.text } };
+
+    ghost inverse = { λ l. record { register = l.register; text = l.text } };
+}
+
+/// What was chosen for the body of a `<`.
+#[derive(Drop)]
+pub struct LoopLine {
+    /// The number of the `<` among the expanded elements.
+    pub number: usize,
+    /// The most that is held where the body starts.
+    pub held: Poly,
+    /// Whether what is ahead, and the falls of the iterations outside, are there as at the `<`.
+    pub kept: bool,
+    /// The texts that may be longer, by their registers.
+    pub longer: Vec<LongerText>,
+}
+
+impl Model for LoopLine {
+    ghost use Rattle.teco_table.specs.Deriving as choices;
+
+    ghost Value = { choices.Chosen };
+
+    ghost view = { λ l. record { begin = l.number; held = l.held; kept = l.kept; longer = l.longer.items } };
+}
+
+/// What the verifier has found of a macro.
+#[derive(Drop)]
+pub struct Certificate {
+    /// The register that is called.
+    pub entry: Reg,
+    /// The files that must be open.
+    pub needs: Needs,
+    /// The most commands that a run takes.
+    pub commands: Poly,
+    /// The most that is held.
+    pub size: Poly,
+    /// What was chosen for the iterations, by their numbers.
+    pub loops: Vec<LoopLine>,
+}
+
+impl Model for Certificate {
+    ghost use Rattle.teco_certificate.specs.Fields as fields;
+
+    ghost Value = { fields.Fields };
+
+    ghost view = { λ c. record {
+      entry = c.entry;
+      needs = c.needs;
+      commands = c.commands;
+      size = c.size;
+      loops = c.loops.items;
+    } };
+}
+
+impl Certificate {
+    /// Its text.
+    pub fn print(&self, alloc: Global) -> Result<Vec<u8>, AllocError>
+        ensures text { IfOk result (λ text. text.items ≡ certificate_text self.now) }
+        // so the text is read again, if the loops are in order
+        ensures parts { OnOk result (HasText self.now) }
+    {
+        let mut text = Vec::new(alloc);
+        push_line(&mut text, b"TECO-CERT 1", b"")?;
+        push_line(&mut text, b"entry ", &[name_of(self.entry)])?;
+        push_line(&mut text, b"needs ", self.needs.letters().as_bytes())?;
+        let commands = self.commands.print(alloc)?;
+        push_line(&mut text, b"commands ", commands.as_bytes())?;
+        let size = self.size.print(alloc)?;
+        push_line(&mut text, b"size ", size.as_bytes())?;
+        push_loops(&mut text, alloc, &self.loops)?;
+        push_line(&mut text, b"end", b"")?;
+        Ok(text)
+    }
+
+    /// The certificate whose text this is; none where no certificate has it. Each has one text. It takes time by the
+    /// length of the text, and memory for what is read and for its text once more.
+    pub fn read(alloc: Global, bytes: &[u8]) -> Result<Certificate, CertificateFault>
+        ensures { Reads bytes.now result }
+    {
+        let certificate = certificate_in(alloc, bytes)?;
+        let printed = certificate.print(alloc)?;
+        if printed.as_slice() == bytes && is_in_order(&certificate.loops) {
+            Ok(certificate)
+        } else {
+            Err(CertificateFault::NotACertificate)
+        }
+    }
+}

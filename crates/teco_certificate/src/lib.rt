@@ -1,0 +1,15 @@
+//! Certificates: what the verifier has found, as a text that can be checked.
+#![tactic(auto)]
+
+mod certificate;
+mod fault;
+pub mod laws;
+mod order;
+mod printing;
+mod reading;
+
+pub use certificate::{Certificate, LongerText, LoopLine, Needs};
+pub use fault::CertificateFault;
+
+#[cfg(test)]
+mod tests;

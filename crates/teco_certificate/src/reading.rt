@@ -1,0 +1,256 @@
+// What a text says if it is that of a certificate. These functions judge nothing: of another text they read anything at
+// all, and who calls them has to see whether what was read has this text.
+ghost use Rattle.std.specs.Prelude.{◌≡◌, ◌++◌, ◌∷◌, ◌≤◌, ◌<◌, ◌^◌, ℕ, Bool, true, List, length, flat_map, codes, IfOk};
+ghost use Rattle.std.specs.List.{AllByRecursion, list_all, prefix_len};
+ghost use Rattle.std.specs.Char.{is_ascii_digit};
+ghost use Rattle.std.specs.Fmt.{decimal};
+ghost use Rattle.teco_base.specs.Register.{register_name};
+ghost use Rattle.teco_base.specs.declared.TheConstants.{REGISTERS};
+ghost use Rattle.teco_base.specs.declared.bytes.TheConstants.{LF};
+ghost use Rattle.teco_certificate.specs.Fields.{Fields};
+ghost use Rattle.teco_certificate.specs.Front as front;
+ghost use Rattle.teco_certificate.specs.Front.{EndsPolynomial, LooksFor};
+ghost use Rattle.teco_certificate.specs.Text.{needs_text, longer_text, longer_texts, behind_comma, kept_text, chosen_text, loop_line, certificate_text, line as line_of};
+ghost use Rattle.teco_certificate.specs.WellFormed.{IsLongerText, IsChosen, HasText};
+ghost use Rattle.teco_poly.specs.Polynomial.{Polynomial};
+ghost use Rattle.teco_poly.specs.Reading.{IsPoly, EndsNumber};
+ghost use Rattle.teco_poly.specs.Text.{text as poly_text};
+ghost use Rattle.teco_rules.specs.Printed.{Needs as NeedsOf};
+ghost use Rattle.teco_table.specs.Deriving.{LongerText as LongerTextOf, Chosen};
+
+use crate::certificate::{Certificate, LongerText, LoopLine, Needs};
+use std::alloc::{AllocError, Global};
+use std::str;
+use teco_base::Reg;
+use teco_poly::Poly;
+
+// Whether a word stands at the front of a text, and what comes behind it.
+fn word_at<'a>(text: &'a [u8], word: &[u8]) -> (bool, &'a [u8])
+    ensures word { LooksFor text.now word.now result.0 result.1.now }
+    ensures within { length result.1.now ≤ length text.now }
+{
+    match text.strip_prefix(word) {
+        Some(rest) => (true, rest),
+        None => (false, text),
+    }
+}
+
+// What comes behind a word.
+fn behind<'a>(text: &'a [u8], word: &[u8]) -> &'a [u8]
+    ensures word { (found : Bool) × LooksFor text.now word.now found result.now }
+    ensures within { length result.now ≤ length text.now }
+{
+    word_at(text, word).1
+}
+
+// The number of which these are the digits.
+fn number(digits: &[u8]) -> usize
+    ensures { (n : ℕ) → n < 2 ^ 64 → digits.now ≡ decimal n → result ≡ n }
+{
+    let Ok(digits) = str::from_utf8(digits) else {
+        return 0;
+    };
+    digits.parse().unwrap_or(0)
+}
+
+// How many digits a text begins with.
+fn digit_count(text: &[u8]) -> usize
+    ensures count { result ≡ prefix_len is_ascii_digit text.now }
+    ensures within { result ≤ length text.now }
+{
+    text.iter().take_while(|byte| byte.is_ascii_digit()).count()
+}
+
+// The number at the front of a text, and what comes behind it.
+fn number_at(text: &[u8]) -> (usize, &[u8])
+    ensures text { (n : ℕ) (rest : List ℕ) → n < 2 ^ 64 → EndsNumber rest → text.now ≡ decimal n ++ rest
+        → (result.0 ≡ n) × (result.1.now ≡ rest) }
+    ensures within { length result.1.now ≤ length text.now }
+{
+    let (digits, rest) = text.split_at(digit_count(text));
+    (number(digits), rest)
+}
+
+// Is it a byte that polynomials are written with?
+fn is_of_polynomial(byte: u8) -> bool
+    ensures { result ≡ front.is_of_polynomial byte }
+{
+    byte.is_ascii_digit() || matches!(byte, b' ' | b'+' | b'*' | b'N' | b'^')
+}
+
+// How many bytes that polynomials are written with a text begins with.
+fn polynomial_count(text: &[u8]) -> usize
+    ensures count { result ≡ prefix_len front.is_of_polynomial text.now }
+    ensures within { result ≤ length text.now }
+{
+    text.iter()
+        .take_while(|byte| is_of_polynomial(**byte))
+        .count()
+}
+
+// The polynomial that this is, or any.
+fn polynomial(words: &[u8]) -> Poly
+    ensures { (p : Polynomial) → IsPoly p → words.now ≡ poly_text p → result ≡ p }
+{
+    Poly::read(words).unwrap_or(Poly::number(0))
+}
+
+// The bytes at the front of a text that polynomials are written with, and what comes behind them.
+fn cut(text: &[u8]) -> (&[u8], &[u8])
+    ensures text { (words rest : List ℕ) → list_all front.is_of_polynomial words ≡ true → EndsPolynomial rest
+        → text.now ≡ words ++ rest → (result.0.now ≡ words) × (result.1.now ≡ rest) }
+    ensures within { length result.1.now ≤ length text.now }
+{
+    text.split_at(polynomial_count(text))
+}
+
+// The register at the front of a text, and what comes behind it.
+fn register_at(text: &[u8]) -> (Reg, &[u8])
+    ensures text { (r : ℕ) (rest : List ℕ) → r < REGISTERS → text.now ≡ register_name r ∷ rest
+        → (result.0 ≡ r) × (result.1.now ≡ rest) }
+    ensures within { length result.1.now ≤ length text.now }
+{
+    match text.split_first() {
+        Some((name, rest)) => (Reg::of(*name).unwrap_or_default(), rest),
+        None => (Reg::default(), text),
+    }
+}
+
+// The files at the front of a text, and what comes behind them.
+fn needs_at(text: &[u8]) -> (Needs, &[u8])
+    ensures { (needs : NeedsOf) (rest : List ℕ) → text.now ≡ needs_text needs ++ LF ∷ rest
+        → (result.0 ≡ needs) × (result.1.now ≡ LF ∷ rest) }
+{
+    let (input, rest) = word_at(text, b"I");
+    let (output, rest) = word_at(rest, b"O");
+    (Needs { input, output }, behind(rest, b"-"))
+}
+
+// Whether an iteration is kept, as the front of a text has it, and what comes behind that.
+fn kept_at(text: &[u8]) -> (bool, &[u8])
+    ensures text { (kept : Bool) (rest : List ℕ) → text.now ≡ kept_text kept ++ rest
+        → (result.0 ≡ kept) × (result.1.now ≡ rest) }
+    ensures within { length result.1.now ≤ length text.now }
+{
+    let (kept, rest) = word_at(text, b"kept");
+    if kept {
+        (true, rest)
+    } else {
+        (false, behind(rest, b"lost"))
+    }
+}
+
+// The polynomial at the front of a text, and what comes behind it.
+fn polynomial_at(text: &[u8]) -> (Poly, &[u8])
+    ensures text { (p : Polynomial) (rest : List ℕ) → IsPoly p → EndsPolynomial rest
+        → text.now ≡ poly_text p ++ rest → (result.0 ≡ p) × (result.1.now ≡ rest) }
+    ensures within { length result.1.now ≤ length text.now }
+{
+    let (words, rest) = cut(text);
+    (polynomial(words), rest)
+}
+
+// The polynomial behind which a space stands, and what comes behind both.
+fn held_at(text: &[u8]) -> (Poly, &[u8])
+    ensures text { (p : Polynomial) (rest : List ℕ) → IsPoly p → EndsPolynomial rest
+        → text.now ≡ poly_text p ++ (codes " " ++ rest) → (result.0 ≡ p) × (result.1.now ≡ rest) }
+    ensures within { length result.1.now ≤ length text.now }
+{
+    let (words, rest) = cut(text);
+    (polynomial(words.strip_suffix(b" ").unwrap_or(words)), rest)
+}
+
+// The register and the polynomial at the front of a text, and what comes behind them.
+fn longer_at(text: &[u8]) -> (LongerText, &[u8])
+    ensures text { (l : LongerTextOf) (rest : List ℕ) → IsLongerText l → EndsPolynomial rest
+        → text.now ≡ longer_text l ++ rest → (result.0 ≡ l) × (result.1.now ≡ rest) }
+    ensures within { length result.1.now ≤ length text.now }
+{
+    let (register, rest) = register_at(text);
+    let (text, rest) = polynomial_at(behind(rest, b"="));
+    (LongerText { register, text }, rest)
+}
+
+// Adds to `longer` the texts at the front of a text, each behind a comma. It is what comes behind them.
+fn others_at<'a>(longer: &mut Vec<LongerText>, text: &'a [u8]) -> Result<&'a [u8], AllocError>
+    ensures text { (ls : List LongerTextOf) (rest : List ℕ) → AllByRecursion IsLongerText ls
+        → text.now ≡ flat_map behind_comma ls ++ LF ∷ rest
+        → IfOk result (λ r. (longer.new.items ≡ longer.old.items ++ ls) × (r.now ≡ LF ∷ rest)) }
+    ensures within { IfOk result (λ r. length r.now ≤ length text.now) }
+{
+    let mut rest = text;
+    while let Some(words) = rest.strip_prefix(b",") {
+        let (other, behind) = longer_at(words);
+        longer.push(other)?;
+        rest = behind;
+    }
+    Ok(rest)
+}
+
+// The texts at the front of a text, and what comes behind them.
+fn texts_at(alloc: Global, text: &[u8]) -> Result<(Vec<LongerText>, &[u8]), AllocError>
+    ensures text { (ls : List LongerTextOf) (rest : List ℕ) → AllByRecursion IsLongerText ls
+        → text.now ≡ longer_texts ls ++ LF ∷ rest → IfOk result (λ r. (r.0.items ≡ ls) × (r.1.now ≡ LF ∷ rest)) }
+    ensures within { IfOk result (λ r. length r.1.now ≤ length text.now) }
+{
+    let mut longer = Vec::new(alloc);
+    if let Some(rest) = text.strip_prefix(b"-") {
+        return Ok((longer, rest));
+    }
+    let (first, others) = longer_at(text);
+    longer.push(first)?;
+    let rest = others_at(&mut longer, others)?;
+    Ok((longer, rest))
+}
+
+// What was chosen for an iteration, and the lines behind it.
+fn loop_at(alloc: Global, text: &[u8]) -> Result<(LoopLine, &[u8]), AllocError>
+    ensures text { (c : Chosen) (rest : List ℕ) → IsChosen c → text.now ≡ line_of (chosen_text c) ++ rest
+        → IfOk result (λ r. (r.0 ≡ c) × (r.1.now ≡ rest)) }
+    ensures within { IfOk result (λ r. length r.1.now ≤ length text.now) }
+{
+    let (number, rest) = number_at(text);
+    let (held, rest) = held_at(behind(rest, b" held "));
+    let (kept, rest) = kept_at(rest);
+    let (longer, rest) = texts_at(alloc, behind(rest, b" texts "))?;
+    let line = LoopLine {
+        number,
+        held,
+        kept,
+        longer,
+    };
+    Ok((line, behind(rest, b"\n")))
+}
+
+// The loops whose lines a text begins with.
+fn loops_at(alloc: Global, text: &[u8]) -> Result<Vec<LoopLine>, AllocError>
+    ensures { (cs : List Chosen) → AllByRecursion IsChosen cs
+        → text.now ≡ flat_map loop_line cs ++ line_of (codes "end") → IfOk result (λ r. r.items ≡ cs) }
+{
+    let mut loops = Vec::new(alloc);
+    let mut rest = text;
+    while let Some(words) = rest.strip_prefix(b"loop ") {
+        let (line, lines) = loop_at(alloc, words)?;
+        loops.push(line)?;
+        rest = lines;
+    }
+    Ok(loops)
+}
+
+/// The certificate whose text this is, or any.
+pub fn certificate_in(alloc: Global, text: &[u8]) -> Result<Certificate, AllocError>
+    ensures { (f : Fields) → HasText f → text.now ≡ certificate_text f → IfOk result (λ c. c ≡ f) }
+{
+    let (entry, rest) = register_at(behind(text, b"TECO-CERT 1\nentry "));
+    let (needs, rest) = needs_at(behind(rest, b"\nneeds "));
+    let (commands, rest) = polynomial_at(behind(rest, b"\ncommands "));
+    let (size, rest) = polynomial_at(behind(rest, b"\nsize "));
+    let loops = loops_at(alloc, behind(rest, b"\n"))?;
+    Ok(Certificate {
+        entry,
+        needs,
+        commands,
+        size,
+        loops,
+    })
+}

@@ -1,0 +1,241 @@
+// Certificates as the verifier's rules print them, and texts that differ from one. A call that is refused memory is made
+// once more, so that the rows also hold where one allocation fails.
+use super::*;
+use std::alloc::Global;
+use std::process::Abort;
+use std::test::*;
+use teco_base::Reg;
+use teco_poly::Poly;
+
+// Marks are put behind each occurrence of a word: one iteration.
+const MARK: &str = "TECO-CERT 1
+entry A
+needs -
+commands 8 + 4*N
+size 1 + 2*N
+loop 3 held 2*N kept texts -
+end
+";
+
+// What else may be the certificate of some macro.
+const CERTIFICATES: [&str; 7] = [
+    "TECO-CERT 1\nentry A\nneeds -\ncommands 8 + 4*N\nsize 1 + 3*N\nloop 3 held 3*N kept texts -\nend\n",
+    "TECO-CERT 1\nentry A\nneeds -\ncommands 6 + 3*N\nsize 1 + N\nloop 2 held N kept texts -\nend\n",
+    "TECO-CERT 1\nentry 0\nneeds IO\ncommands 2\nsize N\nend\n",
+    "TECO-CERT 1\nentry 9\nneeds I\ncommands 0\nsize 0\nend\n",
+    "TECO-CERT 1\nentry Z\nneeds O\ncommands 7 + 5*N + N^2\nsize 18446744073709551615*N^8\nend\n",
+    "TECO-CERT 1\nentry B\nneeds -\ncommands 9\nsize 4*N\nloop 5 held N lost texts A=0,B=3*N,Z=N,0=1 + N,9=N^2\nend\n",
+    "TECO-CERT 1\nentry B\nneeds -\ncommands 9\nsize 4*N\nloop 0 held 0 lost texts 9=7\nloop 9 held N kept texts -\n\
+     loop 10 held 1 + N kept texts A=N,B=N\nloop 18446744073709551615 held N lost texts -\nend\n",
+];
+
+// What stands in the place of a part of that for marks, and the part.
+const OTHERS: [(&str, &str); 40] = [
+    ("TECO-CERT 1\n", ""),
+    ("TECO-CERT 1\n", "TECO-CERT 2\n"),
+    ("TECO-CERT 1\n", "teco-cert 1\n"),
+    ("TECO-CERT 1\n", "TECO-CERT 1\n\n"),
+    ("TECO-CERT 1\n", "TECO-CERT 1\r\n"),
+    ("TECO-CERT 1\n", "TECO-CERT 1 \n"),
+    ("entry A\n", ""),
+    ("entry A\n", "entry \n"),
+    ("entry A\n", "entry a\n"),
+    ("entry A\n", "entry AA\n"),
+    ("entry A\n", "entry .\n"),
+    ("entry A\n", "entry A\nentry A\n"),
+    ("needs -\n", "needs \n"),
+    ("needs -\n", "needs OI\n"),
+    ("needs -\n", "needs I-\n"),
+    ("needs -\n", "needs II\n"),
+    ("8 + 4*N", "8 + 0*N"),
+    ("8 + 4*N", "08 + 4*N"),
+    ("8 + 4*N", "4*N + 8"),
+    ("8 + 4*N", "8 + 4*N "),
+    ("8 + 4*N", "8+4*N"),
+    ("8 + 4*N", "8 + 2*N + 2*N"),
+    ("1 + 2*N\n", "1 + 2*N\r\n"),
+    ("1 + 2*N\n", "1 + 2*N\ncommands 8 + 4*N\n"),
+    ("loop 3", "loop 03"),
+    ("loop 3", "loop +3"),
+    ("loop 3", "loop 18446744073709551616"),
+    ("loop 3", "loop "),
+    ("loop 3", "loop  3"),
+    ("held 2*N", "held 1*N"),
+    ("held 2*N", "held 2*N "),
+    ("kept", "keep"),
+    ("kept", "kept lost"),
+    ("texts -", "texts "),
+    ("texts -", "texts -,A=N"),
+    ("texts -", "texts B=N,A=N"),
+    ("texts -", "texts A=N,A=N"),
+    ("texts -", "texts A=N,"),
+    ("texts -", "texts 0=N,A=N"),
+    ("texts -", "texts a=N"),
+];
+
+// Lines in the place of that of the iteration.
+const LINES: [&str; 8] = [
+    "",
+    "loop 3 held 2*N kept texts -\nloop 3 held 2*N kept texts -\n",
+    "loop 4 held N kept texts -\nloop 3 held 2*N kept texts -\n",
+    "loop 3 held 2*N kept texts -\r\n",
+    "loop 3 held 2*N kept texts -\n\n",
+    "loop 3 held 2*N kept texts - \n",
+    " loop 3 held 2*N kept texts -\n",
+    "loop 3 held 2*N kept texts -",
+];
+
+// What is read of a text.
+fn read(alloc: Global, text: &[u8]) -> Result<Certificate, CertificateFault> {
+    match Certificate::read(alloc, text) {
+        Err(CertificateFault::Memory) => Certificate::read(alloc, text),
+        answer => answer,
+    }
+}
+
+// The text of a certificate.
+fn printed(rt: &impl Abort, alloc: Global, certificate: &Certificate) -> Vec<u8> {
+    match certificate.print(alloc) {
+        Ok(text) => text,
+        Err(_) => certificate.print(alloc).expect(rt, "memory"),
+    }
+}
+
+// A text with something in the place of a part.
+fn with_other(rt: &impl Abort, alloc: Global, before: &str, other: &str, after: &str) -> String {
+    match format!(in alloc; "{before}{other}{after}") {
+        Ok(text) => text,
+        Err(_) => format!(in alloc; "{before}{other}{after}").expect(rt, "memory"),
+    }
+}
+
+// Adds an item.
+fn push<T: Drop>(rt: &impl Abort, items: &mut Vec<T>, item: T) {
+    if let Err(refused) = items.push(item) {
+        let again = items.push(refused.value);
+        assert!(rt; again.is_ok());
+    }
+}
+
+// Whether it is read as a certificate that has this text.
+fn is_read(rt: &impl Abort, alloc: Global, text: &[u8]) -> bool {
+    match read(alloc, text) {
+        Ok(certificate) => printed(rt, alloc, &certificate).as_slice() == text,
+        Err(_) => false,
+    }
+}
+
+// Whether it is refused as no certificate.
+fn is_refused(alloc: Global, text: &[u8]) -> bool {
+    matches!(read(alloc, text), Err(CertificateFault::NotACertificate))
+}
+
+#[test]
+fn reads_the_fields(rt: HostRuntime) {
+    let certificate = read(rt.alloc(), MARK.as_bytes()).expect(&rt, "a certificate");
+    assert!(rt; certificate.entry.name() == b'A');
+    assert!(rt;
+        certificate.needs
+            == Needs {
+                input: false,
+                output: false
+            }
+    );
+    assert!(rt; Poly::read(b"8 + 4*N") == Some(certificate.commands));
+    assert!(rt; Poly::read(b"1 + 2*N") == Some(certificate.size));
+    assert!(rt; certificate.loops.len() == 1);
+    let line = &certificate.loops[0];
+    assert!(rt; line.number == 3 && line.kept && line.longer.is_empty());
+    assert!(rt; Poly::read(b"2*N") == Some(line.held));
+}
+
+#[test]
+fn prints_the_fields(rt: HostRuntime) {
+    let mut longer = Vec::new(rt.alloc());
+    for (name, text) in [(b'B', Poly::number(0)), (b'0', Poly::variable())] {
+        let register = Reg::of(name).expect(&rt, "a register");
+        push(&rt, &mut longer, LongerText { register, text });
+    }
+    let mut loops = Vec::new(rt.alloc());
+    let line = LoopLine {
+        number: 5,
+        held: Poly::variable(),
+        kept: false,
+        longer,
+    };
+    push(&rt, &mut loops, line);
+    let certificate = Certificate {
+        entry: Reg::default(),
+        needs: Needs {
+            input: true,
+            output: true,
+        },
+        commands: Poly::number(7),
+        size: Poly::variable(),
+        loops,
+    };
+    let text = printed(&rt, rt.alloc(), &certificate);
+    let want =
+        "TECO-CERT 1\nentry A\nneeds IO\ncommands 7\nsize N\nloop 5 held N lost texts B=0,0=N\nend\n";
+    assert!(rt; text.as_slice() == want.as_bytes());
+}
+
+#[test]
+fn reads_what_it_prints(rt: HostRuntime) {
+    assert!(rt; is_read(&rt, rt.alloc(), MARK.as_bytes()));
+    for text in CERTIFICATES {
+        assert!(rt; is_read(&rt, rt.alloc(), text.as_bytes()), "{text}");
+    }
+}
+
+#[test]
+fn refuses_other_spellings(rt: HostRuntime) {
+    for (part, other) in OTHERS {
+        let (before, after) = MARK.split_once(part).expect(&rt, "a part");
+        let text = with_other(&rt, rt.alloc(), before, other, after);
+        assert!(rt; is_refused(rt.alloc(), text.as_bytes()), "{text}");
+    }
+}
+
+#[test]
+fn refuses_other_lines(rt: HostRuntime) {
+    let (before, after) = MARK
+        .split_once("loop 3 held 2*N kept texts -\n")
+        .expect(&rt, "a line");
+    for lines in LINES {
+        let text = with_other(&rt, rt.alloc(), before, lines, after);
+        // one that has no iteration is that of another macro
+        let wanted = lines.is_empty();
+        assert!(rt;
+            is_read(&rt, rt.alloc(), text.as_bytes()) == wanted,
+            "{text}"
+        );
+    }
+}
+
+#[test]
+fn refuses_parts_and_more(rt: HostRuntime) {
+    for end in 0..MARK.len() {
+        assert!(rt; is_refused(rt.alloc(), &MARK.as_bytes()[..end]), "{end}");
+    }
+    for more in ["\n", " ", "end\n", "\0"] {
+        let text = with_other(&rt, rt.alloc(), MARK, more, "");
+        assert!(rt; is_refused(rt.alloc(), text.as_bytes()));
+    }
+}
+
+#[test]
+fn other_bytes_are_other_certificates_or_none(rt: HostRuntime) {
+    let mut text = Vec::new(rt.alloc());
+    for byte in MARK.as_bytes() {
+        push(&rt, &mut text, *byte);
+    }
+    for place in 0..text.len() {
+        let was = text[place];
+        for byte in 0..=u8::MAX {
+            text[place] = byte;
+            assert!(rt; is_read(&rt, rt.alloc(), &text) || is_refused(rt.alloc(), &text));
+        }
+        text[place] = was;
+    }
+}
