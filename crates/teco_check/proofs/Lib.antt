@@ -1,0 +1,7 @@
+-- What the proofs of the functions share.
+pub mod Numbered
+pub mod Ways
+pub mod Steps
+pub mod Writing
+pub mod Arriving
+pub mod Lines

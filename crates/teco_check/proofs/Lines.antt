@@ -1,0 +1,31 @@
+-- The lines of the nodes, one node further.
+use Rattle.std.proofs.Common.{◌≡◌, refl, sym, ap, ◌∙◌, ℕ, zero, suc, ◌+◌, ◌<◌, ◌≤◌, List, [], ◌∷◌, ◌++◌, length, drop, slice_get, unwrap_or, append_assoc, append-nil, Option, Some, None, arith}
+use Rattle.std.proofs.lemmas.List.{drop_all}
+use Rattle.teco_expand.specs.Node.{Node}
+use Rattle.teco_check.specs.Here.{no_node, node_at}
+use Rattle.teco_table.specs.Deriving.{Chosen}
+use Rattle.teco_table.specs.Table.{Table}
+use Rattle.teco_check.specs.Loops.{lines_at, lines_in, loops_from, loops_of}
+
+front : (nodes : List Node) (k : ℕ) → k < length nodes → drop k nodes ≡ unwrap_or (slice_get nodes k) no_node ∷ drop (suc k) nodes
+front [] k h = absurd (omega arith)
+front (node ∷ nodes) zero h = refl
+front (node ∷ nodes) (suc k) h = front nodes k (omega arith)
+
+-- what was found, and the lines of those from a number on
+module _ (nodes : List Node) (table : Table) (k : ℕ) (found : List Chosen) (whole : found ++ loops_from table (1 + k) (drop k nodes) ≡ loops_of nodes table) where
+  pub one_more : k < length nodes → (line : Option Chosen) → lines_in line ≡ lines_at table (k + 1) (node_at nodes (k + 1)) → (found ++ lines_in line) ++ loops_from table (1 + (k + 1)) (drop (k + 1) nodes) ≡ loops_of nodes table
+  unfolding node_at
+  one_more h line e =
+      let next : k + 1 ≡ suc k = omega arith in
+      let number : 1 + k ≡ suc k = omega arith in
+      let behind : 1 + (k + 1) ≡ suc (suc k) = omega arith in
+      let here : drop k nodes ≡ unwrap_or (slice_get nodes k) no_node ∷ drop (suc k) nodes = front nodes k h in
+      let is : lines_in line ≡ lines_at table (suc k) (unwrap_or (slice_get nodes k) no_node) = rw next at e in
+      let all : found ++ (lines_at table (suc k) (unwrap_or (slice_get nodes k) no_node) ++ loops_from table (suc (suc k)) (drop (suc k) nodes)) ≡ loops_of nodes table = rw (number, here) at whole in
+      rw (behind, next, is) (append_assoc found _ _ ∙ all)
+
+  pub no_more : length nodes ≤ k → found ≡ loops_of nodes table
+  no_more h =
+      let none : loops_from table (1 + k) [] ≡ [] = refl in
+      sym (append-nil found) ∙ ap (λ rest. found ++ loops_from table (1 + k) rest) (sym (drop_all k nodes h)) ∙ whole

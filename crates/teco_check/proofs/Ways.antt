@@ -1,0 +1,71 @@
+-- Ways by whether they are the first.
+use Rattle.std.proofs.Common.{Bool, ◌≡◌, refl, ℕ, zero, suc, ◌==◌, ◌&&◌, false, if◌then◌else◌, List, Option, Some, None, arith}
+use Rattle.std.proofs.lemmas.Bool.Decides.{nat_tests}
+use Rattle.teco_model.specs.declared.kind.Kind.{Kind}
+use Rattle.teco_model.specs.declared.kind.Kind.TheVariants as kind
+use Rattle.teco_model.specs.declared.kind.Flow.{Flow}
+use Rattle.teco_model.specs.declared.kind.Flow.TheVariants as flow
+use Rattle.teco_model.specs.Element.{Element}
+use Rattle.teco_rules.specs.Flows.{Edges}
+use Rattle.teco_table.specs.Behind.{along, along_kind, along_flow, begins_turn, turns_by_kind, turns_by_flow}
+use Rattle.teco_rules.specs.Bodies.{Choice}
+use Rattle.teco_table.specs.Closed.{begins_iteration, begins_by_kind}
+use Rattle.teco_table.specs.Deriving.{arriving, arriving_by_flow, start_of_body}
+use Rattle.teco_check.specs.Ways.{goes_on, goes_on_by_flow, turns, turns_of_flow, is_first}
+
+zero_is_first : (way : ℕ) → (way == 0) ≡ is_first way
+zero_is_first zero = refl
+zero_is_first (suc way) = not_zero
+  where
+    not_zero : (suc way == 0) ≡ false
+    not_zero = grind (arith, nat_tests)
+
+along_by_flow : (f : Flow) (way : ℕ) (edges : Edges) → along_flow f way edges ≡ (if goes_on_by_flow f (is_first way) then edges.on else edges.away)
+along_by_flow flow.EndTurn zero edges = refl
+along_by_flow flow.EndTurn (suc way) edges = refl
+along_by_flow flow.Otherwise way edges = refl
+along_by_flow flow.GoTo way edges = refl
+along_by_flow f zero edges = refl
+along_by_flow f (suc way) edges = refl
+
+along_by_kind : (k : Kind) (way : ℕ) (edges : Edges) → along_kind k way edges ≡ (if goes_on k (is_first way) then edges.on else edges.away)
+along_by_kind (kind.Flow f) way edges = along_by_flow f way edges
+along_by_kind k zero edges = refl
+along_by_kind k (suc way) edges = refl
+
+pub along_is : (e : Element) (way : ℕ) (edges : Edges) → along (Some e) way edges ≡ (if goes_on e.kind (way == 0) then edges.on else edges.away)
+along_is e way edges = rw (zero_is_first way) (along_by_kind e.kind way edges)
+
+turns_flow : (f : Flow) (way : ℕ) → turns_by_flow f way ≡ (is_first way && turns_of_flow f)
+turns_flow flow.Iterate zero = refl
+turns_flow flow.Iterate (suc way) = refl
+turns_flow flow.EndTurn zero = refl
+turns_flow flow.EndTurn (suc way) = refl
+turns_flow f zero = refl
+turns_flow f (suc way) = refl
+
+turns_kind : (k : Kind) (way : ℕ) → turns_by_kind k way ≡ (is_first way && turns k)
+turns_kind (kind.Flow f) way = turns_flow f way
+turns_kind k zero = refl
+turns_kind k (suc way) = refl
+
+pub begins_is : (e : Element) (way : ℕ) → begins_turn (Some e) way ≡ (way == 0 && turns e.kind)
+begins_is e way = rw (zero_is_first way) (turns_kind e.kind way)
+
+-- what arrives on a way
+arriving_flow : (writes : List Bool) (choice : Option Choice) (f : Flow) (way : ℕ) (edges : Edges) → arriving_by_flow writes choice f way edges ≡ (if turns_by_flow f way then (if begins_by_kind (kind.Flow f) then start_of_body writes choice (along_flow f way edges) else None) else along_flow f way edges)
+arriving_flow writes choice flow.Iterate zero edges = refl
+arriving_flow writes choice flow.Iterate (suc way) edges = refl
+arriving_flow writes choice flow.EndTurn zero edges = refl
+arriving_flow writes choice flow.EndTurn (suc way) edges = refl
+arriving_flow writes choice f zero edges = refl
+arriving_flow writes choice f (suc way) edges = refl
+
+arriving_of : (writes : List Bool) (choice : Option Choice) (e : Element) (k : Kind) (way : ℕ) (edges : Edges) → arriving writes choice (Some (record e { kind = k })) way edges ≡ (if turns_by_kind k way then (if begins_by_kind k then start_of_body writes choice (along_kind k way edges) else None) else along_kind k way edges)
+arriving_of writes choice e (kind.Flow f) way edges = arriving_flow writes choice f way edges
+arriving_of writes choice e k zero edges = refl
+arriving_of writes choice e k (suc way) edges = refl
+
+pub arriving_is : (writes : List Bool) (choice : Option Choice) (read : Option Element) (way : ℕ) (edges : Edges) → arriving writes choice read way edges ≡ (if begins_turn read way then (if begins_iteration read then start_of_body writes choice (along read way edges) else None) else along read way edges)
+arriving_is writes choice None way edges = refl
+arriving_is writes choice (Some e) way edges = arriving_of writes choice e e.kind way edges

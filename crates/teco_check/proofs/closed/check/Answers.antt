@@ -1,0 +1,24 @@
+use Rattle.std.proofs.Common.{◌≡◌, ◌<◌, ◌∙◌, length, Err, rules, arith}
+use Rattle.teco_table.specs.Closed.{check}
+use Rattle.teco_check.proofs.Steps.{check_more, says_of}
+use Rattle.teco_check.proofs.closed.check.Goals as goal
+
+pub returns-then-not-is_entry : goal.returns-then-not-is_entry
+unfolding check
+returns-then-not-is_entry c = search rules
+
+pub loop-at-init : goal.loop-at-init
+unfolding check
+loop-at-init c = search rules
+
+pub returns-in_err-check_at : goal.returns-in_err-check_at
+returns-in_err-check_at c =
+    let within : c.loop-at.at < length c.args.nodes.now = omega (arith, c.len-at-end.ensures) in
+    let said = says_of c.args.nodes.now c.args.table.now c.loop-at.at c.in_err-check_at.field-0.0 within c.loop-at.invariant (rw c.in_err-check_at.was at c.check_at.ensures) in
+    let is : c.from_residual.result ≡ Err c.in_err-check_at.field-0.0 = search rules in
+    rw is said
+
+pub loop-at-preserved : goal.loop-at-preserved
+loop-at-preserved c =
+    let within : c.loop-at.at < length c.args.nodes.now = omega (arith, c.len-at-end.ensures) in
+    c.loop-at.invariant ∙ check_more c.args.nodes.now c.args.table.now c.loop-at.at within (rw c.in_ok-check_at.was at c.check_at.ensures)

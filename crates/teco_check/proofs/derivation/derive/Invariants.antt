@@ -1,0 +1,6 @@
+use Rattle.teco_check.proofs.Arriving.{AreDerived}
+use Rattle.teco_check.proofs.derivation.derive.Given as goal
+
+-- the rows of the nodes before this one are derived
+abbrev pub invariant-loop-at : goal.invariant-loop-at
+invariant-loop-at l = AreDerived l.nodes l.chosen l.at l.arrived l.table

@@ -1,0 +1,8 @@
+use Rattle.std.proofs.Common.{◌≡◌, ◌-◌, take, drop}
+use Rattle.teco_base.specs.declared.TheConstants.{REGISTERS}
+use Rattle.teco_table.specs.Written.{written_in}
+use Rattle.teco_check.proofs.iterations.written.Given as goal
+
+-- what the nodes before this one write
+abbrev pub invariant-loop-at : goal.invariant-loop-at
+invariant-loop-at l = l.written ≡ written_in (take (l.at - l.begin) (drop l.begin l.nodes)) REGISTERS 0

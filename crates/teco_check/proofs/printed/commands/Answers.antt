@@ -1,0 +1,18 @@
+use Rattle.std.proofs.Common.{◌<◌, sym, ◌∙◌, length, refl, arith}
+use Rattle.teco_table.specs.Printed.{commands}
+use Rattle.teco_check.proofs.Steps.{count_more, count_fails}
+use Rattle.teco_check.proofs.printed.commands.Goals as goal
+
+pub loop-at-init : goal.loop-at-init
+unfolding commands
+loop-at-init c = rw c.number-total.ensures refl
+
+pub returns-in-Err : goal.returns-in-Err
+returns-in-Err c =
+    let within : c.loop-at.at < length c.args.nodes.now = omega (arith, c.len-at-end.ensures) in
+    c.loop-at.invariant ∙ count_fails c.args.nodes.now c.args.table.now c.loop-at.at c.loop-at.total c.in-Err.field-0 within (sym c.counted_with.ensures ∙ c.in-Err.is)
+
+pub loop-at-preserved : goal.loop-at-preserved
+loop-at-preserved c =
+    let within : c.loop-at.at < length c.args.nodes.now = omega (arith, c.len-at-end.ensures) in
+    c.loop-at.invariant ∙ count_more c.args.nodes.now c.args.table.now c.loop-at.at c.loop-at.total c.in-Ok.more within (sym c.counted_with.ensures ∙ c.in-Ok.is)

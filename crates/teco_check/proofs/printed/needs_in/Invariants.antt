@@ -1,0 +1,7 @@
+use Rattle.std.proofs.Common.{◌≡◌, suc, drop}
+use Rattle.teco_table.specs.Printed.{needs_from}
+use Rattle.teco_check.proofs.printed.needs_in.Given as goal
+
+-- the needs of the nodes behind
+abbrev pub invariant-loop-at : goal.invariant-loop-at
+invariant-loop-at l = l.needs ≡ needs_from l.table (suc l.at) (drop l.at l.nodes)

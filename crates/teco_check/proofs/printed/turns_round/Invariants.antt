@@ -1,0 +1,8 @@
+use Rattle.std.proofs.Common.{◌≡◌, Ok, drop}
+use Rattle.teco_table.specs.Printed.{turns_round}
+use Rattle.teco_check.specs.Here.{node_at}
+use Rattle.teco_check.proofs.printed.turns_round.Given as goal
+
+-- the turns of the iterations outside
+abbrev pub invariant-loop-at : goal.invariant-loop-at
+invariant-loop-at l = turns_round l.table (drop l.at (node_at l.nodes l.number).stand.iterations) ≡ Ok l.rounds

@@ -1,0 +1,20 @@
+-- The node of a number.
+use Rattle.std.specs.Prelude.{ℕ, List, [], false, None, unwrap_or}
+use Rattle.teco_expand.specs.Node.{Node, numbered}
+
+-- it reads nothing, and leads nowhere
+abbrev pub no_node : Node
+no_node = record {
+  stand = record {
+    position = record { running = record { text = []; place = 0; starts = [] }; callers = [] };
+    iterations = [];
+  };
+  register = 0;
+  element = None;
+  ways = [];
+  names_macro = false;
+}
+
+-- where there is none, it is that
+unfoldable pub node_at : List Node → ℕ → Node
+node_at nodes number = unwrap_or (numbered nodes number) no_node

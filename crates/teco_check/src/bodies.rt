@@ -1,0 +1,100 @@
+//! What enters the body of an iteration, and what is chosen for it.
+ghost use Rattle.std.specs.Prelude.{◌≡◌, ◌<◌, ◌≤◌, length, option_map, option_copied, Some, Ok};
+ghost use Rattle.teco_base.specs.declared.TheConstants.{REGISTERS};
+ghost use Rattle.teco_model.specs.Element as elements;
+ghost use Rattle.teco_table.specs.Closed as rules;
+ghost use Rattle.teco_check.specs.Here.{node_at};
+
+use crate::iterations::{end_of, written};
+use crate::same::say_same;
+use crate::table::Table;
+use teco_base::REGISTERS;
+use teco_facts::{Choice, Facts, body_start, turns};
+use teco_model::Element;
+use teco_model::kind::{Flow, Kind};
+use teco_nodes::Nodes;
+use teco_poly::Poly;
+use teco_rules::Refusal;
+
+/// Whether an element is a <.
+pub fn begins_iteration(read: &Option<Element<'_>>) -> bool
+    ensures { result ≡ rules.begins_iteration (option_map elements.seen read.now) }
+{
+    match read {
+        Some(element) => matches!(element.kind, Kind::Flow(Flow::Iterate)),
+        None => false,
+    }
+}
+
+// Whether the innermost iteration has a count.
+#[tactic(auto, using(crate::proofs::Numbered::counted_is))]
+fn is_counted(facts: &Facts) -> bool
+    ensures { result ≡ rules.is_counted facts.now.iterations }
+{
+    match facts.innermost() {
+        None => false,
+        Some(iteration) => iteration.counted,
+    }
+}
+
+// Whether the start of a body is what a choice makes of what enters it, and the choice stands.
+fn start_stands(
+    written: &[bool; REGISTERS],
+    end: Option<&Facts>,
+    entering: Facts,
+    start: &Facts,
+    choice: &Choice,
+    most: &Poly,
+) -> bool
+    ensures { result ≡ rules.body_stands written.now (option_copied end.entry) entering (Some start.now) (Some choice.now) (Ok most.now) }
+{
+    let stands = choice.stands(written, is_counted(&entering), most, &entering, end);
+    say_same(start, &body_start(choice, written, entering)) && stands
+}
+
+// The same where one of them may be absent.
+fn body_stands(
+    written: &[bool; REGISTERS],
+    end: Option<&Facts>,
+    entering: Facts,
+    start: Option<&Facts>,
+    choice: &Option<Choice>,
+    most: &Result<Poly, Refusal>,
+) -> bool
+    ensures { result ≡ rules.body_stands written.now (option_copied end.entry) entering (option_copied start.entry) choice.now most.now }
+{
+    match (start, choice, most) {
+        (Some(start), Some(choice), Ok(most)) => start_stands(
+            written, end, entering, start, choice, most,
+        ),
+        _ => false,
+    }
+}
+
+/// Whether what enters the body of a < is so; where nothing does, nothing is known at its start.
+pub fn is_entered(
+    nodes: &Nodes<'_>,
+    table: &Table,
+    number: usize,
+    facts: &Facts,
+    entering: Option<Facts>,
+) -> bool
+    ensures { result ≡ rules.is_entered nodes.now table.now number facts.now entering }
+{
+    let start = table.facts_behind(number);
+    match entering {
+        None => start.is_none(),
+        Some(entering) => {
+            let end = table.facts(end_of(nodes, number));
+            let written = written(nodes, number);
+            body_stands(
+                &written,
+                end,
+                entering,
+                start,
+                &table.choice(number),
+                &turns(facts),
+            )
+        }
+    }
+}

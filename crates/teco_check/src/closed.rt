@@ -1,0 +1,184 @@
+//! When a table is closed: what it says at each node follows from what it says at the others.
+ghost use Rattle.std.specs.Prelude.{◌≡◌, ◌<◌, ◌≤◌, ◌||◌, length, option_map, option_copied, Some, None, Ok};
+ghost use Rattle.teco_model.specs.Element as elements;
+ghost use Rattle.teco_table.specs.Behind as behind;
+ghost use Rattle.teco_table.specs.Closed as rules;
+ghost use Rattle.teco_check.specs.Here.{node_at};
+ghost use Rattle.teco_check.specs.Kept.{AreKept};
+ghost use Rattle.teco_check.specs.Known.{known_since};
+ghost use Rattle.teco_check.specs.Says.{Says, SaysAt};
+
+use crate::bad::Bad;
+use crate::behind::{along, begins_turn, edges_at};
+use crate::bodies::{begins_iteration, is_entered};
+use crate::node::{element, iteration, way, ways};
+use crate::same::{is_covered, is_entry};
+use crate::table::Table;
+use std::alloc::Global;
+use teco_facts::{Edges, Facts, Fault};
+use teco_model::Element;
+use teco_nodes::Nodes;
+
+// Whether an edge is covered where it leads. Behind all nodes nothing is known; the return of the entry alone leads there.
+fn arrives(
+    nodes: &Nodes<'_>,
+    table: &Table,
+    read: &Option<Element<'_>>,
+    target: usize,
+    edge: Option<&Facts>,
+) -> bool
+    ensures { result ≡ rules.arrives nodes.now table.now (option_map elements.seen read.now) target (option_copied edge.entry) }
+{
+    match edge {
+        None => true,
+        Some(edge) => {
+            if nodes.len() < target {
+                read.is_none()
+            } else {
+                is_covered(table.facts(target), edge)
+            }
+        }
+    }
+}
+
+// Whether a way begins a turn, or its edge is covered where it leads.
+fn arrives_on(
+    nodes: &Nodes<'_>,
+    table: &Table,
+    read: &Option<Element<'_>>,
+    way: usize,
+    target: usize,
+    edges: &Edges,
+) -> bool
+    ensures { let element = option_map elements.seen read.now in
+        result ≡ (behind.begins_turn element way || rules.arrives nodes.now table.now element target (behind.along element way edges.now)) }
+{
+    begins_turn(read, way) || arrives(nodes, table, read, target, along(read, way, edges))
+}
+
+// Whether so is each way of a node.
+fn arrive(
+    nodes: &Nodes<'_>,
+    table: &Table,
+    number: usize,
+    read: &Option<Element<'_>>,
+    edges: &Edges,
+) -> bool
+    requires one { 0 < number }
+    requires last { number ≤ length nodes.now }
+    ensures { result ≡ rules.arrive nodes.now table.now (option_map elements.seen read.now) edges.now 0 (node_at nodes.now number).ways }
+{
+    for at in 0..ways(nodes, number) {
+        if let Some(target) = way(nodes, number, at) {
+            if !arrives_on(nodes, table, read, at, target, edges) {
+                return false;
+            }
+        }
+    }
+    true
+}
+
+// Whether what enters a node's body is so, and its ways arrive.
+fn closed_behind(
+    nodes: &Nodes<'_>,
+    table: &Table,
+    number: usize,
+    facts: &Facts,
+    edges: Edges,
+) -> bool
+    requires one { 0 < number }
+    requires last { number ≤ length nodes.now }
+    ensures { result ≡ rules.closed_behind nodes.now table.now number (node_at nodes.now number) facts.now (Ok edges) }
+{
+    let read = element(nodes, number);
+    let arrive = arrive(nodes, table, number, &read, &edges);
+    let entered = !begins_iteration(&read) || is_entered(nodes, table, number, facts, edges.on);
+    entered && arrive
+}
+
+// Whether what is known at a node is known of the iterations that are open there.
+#[tactic(auto, using(crate::proofs::Numbered::known_none, crate::proofs::Numbered::known_some))]
+fn is_known(nodes: &Nodes<'_>, table: &Table, number: usize, facts: &Facts) -> bool
+    requires one { 0 < number }
+    requires last { number ≤ length nodes.now }
+    ensures { result ≡ rules.is_known_in table.now (node_at nodes.now number).stand.iterations facts.now }
+{
+    match iteration(nodes, number, 0) {
+        None => facts.open() == 0,
+        Some(begin) => is_known_since(table, begin, facts),
+    }
+}
+
+// Whether it is known of those at the start of a body.
+fn is_known_since(table: &Table, begin: usize, facts: &Facts) -> bool
+    ensures { result ≡ known_since table.now begin facts.now }
+{
+    match table.facts_behind(begin) {
+        None => false,
+        Some(start) => start.has_iterations_of(facts),
+    }
+}
+
+// Whether a node that is reached is closed.
+fn check_reached(nodes: &Nodes<'_>, table: &Table, number: usize, facts: &Facts) -> Result<(), Bad>
+    requires one { 0 < number }
+    requires last { number ≤ length nodes.now }
+    requires kept { AreKept facts.now }
+    ensures { SaysAt number (rules.closed_where nodes.now table.now number (node_at nodes.now number) (Some facts.now)) result }
+{
+    if !is_known(nodes, table, number, facts) {
+        return Err(Bad::Edge { node: number });
+    }
+    match edges_at(nodes, number, facts) {
+        Ok(edges) => {
+            if closed_behind(nodes, table, number, facts, edges) {
+                Ok(())
+            } else {
+                Err(Bad::Edge { node: number })
+            }
+        }
+        Err(Fault::Refused(_)) => Err(Bad::Edge { node: number }),
+        Err(Fault::Memory) => Err(Bad::Memory),
+    }
+}
+
+// Whether nothing is known behind a < that is not reached.
+fn is_unknown(nodes: &Nodes<'_>, table: &Table, number: usize) -> bool
+    requires one { 0 < number }
+    requires last { number ≤ length nodes.now }
+    ensures { result ≡ rules.closed_where nodes.now table.now number (node_at nodes.now number) None }
+{
+    !begins_iteration(&element(nodes, number)) || table.facts_behind(number).is_none()
+}
+
+// Whether a node is closed.
+fn check_at(nodes: &Nodes<'_>, table: &Table, number: usize) -> Result<(), Bad>
+    requires one { 0 < number }
+    requires last { number ≤ length nodes.now }
+    ensures { SaysAt number (rules.closed_at nodes.now table.now number (node_at nodes.now number)) result }
+{
+    match table.facts(number) {
+        Some(facts) => check_reached(nodes, table, number, facts),
+        None => {
+            if is_unknown(nodes, table, number) {
+                Ok(())
+            } else {
+                Err(Bad::Edge { node: number })
+            }
+        }
+    }
+}
+
+/// Whether a table is closed, or else the number of the first node at which a condition fails. It takes about as long as there
+/// are nodes and registers.
+pub fn check(alloc: Global, nodes: &Nodes<'_>, table: &Table) -> Result<(), Bad>
+    ensures { Says (rules.check nodes.now table.now) result }
+{
+    if !is_entry(alloc, table.facts(1)) {
+        return Err(Bad::Edge { node: 1 });
+    }
+    for at in 0..nodes.len() {
+        check_at(nodes, table, at + 1)?;
+    }
+    Ok(())
+}

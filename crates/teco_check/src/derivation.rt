@@ -1,0 +1,193 @@
+//! A table that is derived in one pass over the nodes, where what is chosen for the iterations is given.
+ghost use Rattle.std.specs.Prelude.{◌≡◌, ◌<◌, ◌≤◌, length, option_map, option_copied, IfOk, OnOk, Some};
+ghost use Rattle.teco_model.specs.Element as elements;
+ghost use Rattle.teco_table.specs.Deriving as rules;
+ghost use Rattle.teco_table.specs.Written as writing;
+ghost use Rattle.teco_check.specs.Derived.{arrived_all, Derives, DerivesFrom, DerivesRow};
+ghost use Rattle.teco_check.specs.Here.{node_at};
+
+use crate::arrived::Arrived;
+use crate::behind::{along, begins_turn, edges_at};
+use crate::bodies::begins_iteration;
+use crate::chosen::choice_for;
+use crate::iterations::written;
+use crate::node::{element, way, ways};
+use crate::table::{Row, Table, are_kept};
+use std::alloc::{AllocError, Global};
+use teco_certificate::LoopLine;
+use teco_facts::{Choice, Edges, Facts, Fault, body_start};
+use teco_model::Element;
+use teco_nodes::Nodes;
+use teco_rules::Refusal;
+
+/// Why no table is derived.
+#[derive(Clone, Copy)]
+pub enum NotDerived {
+    /// The rules refuse.
+    Refused(Refusal),
+    /// At the node of this number a fall is larger, or more iterations are open, than a table may have.
+    Large { node: usize },
+    /// A growth was refused.
+    Memory,
+}
+
+// The facts once more, if there are any and there is memory.
+fn copied(facts: Option<&Facts>) -> Result<Option<Facts>, AllocError>
+    ensures { IfOk result (λ copy. copy ≡ option_copied facts.entry) }
+{
+    match facts {
+        None => Ok(None),
+        Some(facts) => {
+            let copy = facts.copied()?;
+            Ok(Some(copy))
+        }
+    }
+}
+
+// The facts at the start of a body, where there is a choice for it and it is entered.
+fn start_of_body(
+    nodes: &Nodes<'_>,
+    number: usize,
+    choice: &Option<Choice>,
+    entering: Option<Facts>,
+) -> Option<Facts>
+    ensures { result ≡ rules.start_of_body (writing.written nodes.now number) choice.now entering }
+{
+    let Some(choice) = choice else {
+        return None;
+    };
+    match entering {
+        None => None,
+        Some(entering) => Some(body_start(choice, &written(nodes, number), entering)),
+    }
+}
+
+// What arrives on a way, if there is memory. The way into a body leads to its start, and the way back to what was derived already.
+#[tactic(auto, using(crate::proofs::Ways::arriving_is))]
+fn arriving(
+    nodes: &Nodes<'_>,
+    number: usize,
+    choice: &Option<Choice>,
+    read: &Option<Element<'_>>,
+    way: usize,
+    edges: &Edges,
+) -> Result<Option<Facts>, AllocError>
+    ensures { IfOk result (λ facts. facts ≡ rules.arriving (writing.written nodes.now number) choice.now (option_map elements.seen read.now) way edges.now) }
+{
+    let begins = begins_turn(read, way);
+    if begins && !begins_iteration(read) {
+        return Ok(None);
+    }
+    let facts = copied(along(read, way, edges))?;
+    if begins {
+        Ok(start_of_body(nodes, number, choice, facts))
+    } else {
+        Ok(facts)
+    }
+}
+
+// The edges behind a node arrive, if there is memory.
+fn arrive_behind(
+    nodes: &Nodes<'_>,
+    number: usize,
+    choice: &Option<Choice>,
+    edges: &Edges,
+    arrived: &mut Arrived,
+) -> Result<(), AllocError>
+    requires one { 0 < number }
+    requires last { number ≤ length nodes.now }
+    ensures { let node = node_at nodes.now number in
+        OnOk result (arrived.new ≡ arrived_all (rules.arrivals_behind (writing.written nodes.now number) choice.now node.element 0 node.ways edges.now) arrived.old) }
+{
+    let read = element(nodes, number);
+    for at in 0..ways(nodes, number) {
+        if let Some(target) = way(nodes, number, at) {
+            if let Some(facts) = arriving(nodes, number, choice, &read, at, edges)? {
+                arrived.put(target, facts);
+            }
+        }
+    }
+    Ok(())
+}
+
+// The row of a node that is reached.
+fn row_reached(
+    nodes: &Nodes<'_>,
+    chosen: &[LoopLine],
+    number: usize,
+    facts: Facts,
+    arrived: &mut Arrived,
+) -> Result<Row, NotDerived>
+    requires one { 0 < number }
+    requires last { number ≤ length nodes.now }
+    ensures { DerivesRow (rules.derived_at nodes.now chosen.now number (node_at nodes.now number) (Some facts)) arrived.old arrived.new result }
+{
+    if !are_kept(&facts) {
+        return Err(NotDerived::Large { node: number });
+    }
+    let edges = match edges_at(nodes, number, &facts) {
+        Ok(edges) => edges,
+        Err(Fault::Refused(why)) => return Err(NotDerived::Refused(why)),
+        Err(Fault::Memory) => return Err(NotDerived::Memory),
+    };
+    let choice = choice_for(number, chosen, &facts);
+    match arrive_behind(nodes, number, &choice, &edges, arrived) {
+        Ok(()) => Ok(Row::of(Some(facts), choice)),
+        Err(_) => Err(NotDerived::Memory),
+    }
+}
+
+// The row of a node, from what arrived there.
+fn row_of(
+    nodes: &Nodes<'_>,
+    chosen: &[LoopLine],
+    number: usize,
+    known: Option<Facts>,
+    arrived: &mut Arrived,
+) -> Result<Row, NotDerived>
+    requires one { 0 < number }
+    requires last { number ≤ length nodes.now }
+    ensures { DerivesRow (rules.derived_at nodes.now chosen.now number (node_at nodes.now number) known) arrived.old arrived.new result }
+{
+    match known {
+        None => Ok(Row::of(None, None)),
+        Some(facts) => row_reached(nodes, chosen, number, facts, arrived),
+    }
+}
+
+// The row of a node.
+fn row_at(
+    nodes: &Nodes<'_>,
+    chosen: &[LoopLine],
+    number: usize,
+    arrived: &mut Arrived,
+) -> Result<Row, NotDerived>
+    requires one { 0 < number }
+    requires last { number ≤ length nodes.now }
+    requires all { length arrived.old ≡ length nodes.now }
+    ensures { DerivesFrom nodes.now chosen.now number arrived.old arrived.new result }
+{
+    match arrived.take(number) {
+        Ok(known) => row_of(nodes, chosen, number, known, arrived),
+        Err(why) => Err(NotDerived::Refused(why)),
+    }
+}
+
+/// The table that is derived with these choices. It takes about as long as there are nodes and registers.
+pub fn derive(alloc: Global, nodes: &Nodes<'_>, chosen: &[LoopLine]) -> Result<Table, NotDerived>
+    ensures { Derives (rules.derive nodes.now chosen.now) result }
+{
+    let Ok(mut arrived) = Arrived::new(alloc, nodes.len()) else {
+        return Err(NotDerived::Memory);
+    };
+    arrived.put(1, Facts::entry(alloc));
+    let mut table = Table::new(alloc);
+    for at in 0..nodes.len() {
+        let row = row_at(nodes, chosen, at + 1, &mut arrived)?;
+        match table.push(row) {
+            Ok(()) => {}
+            Err(_) => return Err(NotDerived::Memory),
+        }
+    }
+    Ok(table)
+}

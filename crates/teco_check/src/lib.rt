@@ -1,0 +1,26 @@
+//! The verifier's tables in code: whether one is closed, what is printed of it, and how one is derived.
+#![tactic(auto)]
+
+mod arrived;
+mod bad;
+mod behind;
+mod bodies;
+mod chosen;
+mod closed;
+mod derivation;
+mod iterations;
+mod loops;
+mod node;
+mod printed;
+mod same;
+mod table;
+
+pub use bad::Bad;
+pub use behind::{along, begins_turn, edges_at};
+pub use bodies::begins_iteration;
+pub use closed::check;
+pub use derivation::{NotDerived, derive};
+pub use iterations::{end_of, written};
+pub use loops::{line_of, loops_of, register_at};
+pub use printed::{Overflow, commands, needs_in, size};
+pub use table::{Row, Table, are_kept};
