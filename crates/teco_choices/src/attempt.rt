@@ -1,0 +1,132 @@
+//! A try at the choice for the body of an iteration.
+
+use crate::unfit::Unfit;
+use std::alloc::Global;
+use teco_base::REGISTERS;
+use teco_certificate::LoopLine;
+use teco_check::line_of;
+use teco_facts::{Choice, Facts, body_start, growth_of, held_last, joined_lengths};
+use teco_poly::Poly;
+use teco_rules::Refusal;
+
+// How often a choice is tried.
+const TRIES: u8 = 3;
+
+/// A try at the choice for the body of an iteration.
+#[derive(Drop)]
+pub struct Attempt {
+    /// The number of its `<`.
+    pub begin: usize,
+    /// The number of its `>`.
+    pub end: usize,
+    /// How many edges were pending before its body.
+    pub pending: usize,
+    /// How many choices were found before its body.
+    pub found: usize,
+    tries: u8,
+    turns: Poly,
+    written: [bool; REGISTERS],
+    // what enters the body
+    entering: Facts,
+    choice: Choice,
+}
+
+/// What the facts at a `>` say of a try.
+pub enum Verdict {
+    /// The choice stands.
+    Stands,
+    /// Another one is to be tried.
+    Again,
+}
+
+impl Attempt {
+    /// The first try: the iteration is kept, and no more is held than at its `<`.
+    pub fn first(
+        begin: usize,
+        end: usize,
+        turns: Poly,
+        written: [bool; REGISTERS],
+        entering: Facts,
+    ) -> Attempt {
+        let choice = Choice {
+            held: entering.held(),
+            kept: true,
+            texts: entering.texts(),
+        };
+        Attempt {
+            begin,
+            end,
+            pending: 0,
+            found: 0,
+            tries: 1,
+            turns,
+            written,
+            entering,
+            choice,
+        }
+    }
+
+    /// The same, behind so many pending edges and found choices.
+    pub fn behind(mut self, pending: usize, found: usize) -> Attempt {
+        self.pending = pending;
+        self.found = found;
+        self
+    }
+
+    /// What is known at the start of the body.
+    pub fn start(&self) -> Result<Facts, Unfit> {
+        let entering = self.entering.copied()?;
+        Ok(body_start(&self.choice, &self.written, entering))
+    }
+
+    // Whether the iteration has a count.
+    fn is_counted(&self) -> bool {
+        match self.entering.innermost() {
+            None => false,
+            Some(iteration) => iteration.counted,
+        }
+    }
+
+    // The choice for the next try, from what is known at the `>`.
+    fn next_choice(&self, end: &Facts) -> Result<Choice, Refusal> {
+        let growth = growth_of(&self.choice.held, &end.held())?;
+        Ok(Choice {
+            held: held_last(&self.entering.held(), &self.turns, &growth)?,
+            kept: self.choice.kept && end.has_fallen(0),
+            texts: joined_lengths(&self.choice.texts, &end.texts())?,
+        })
+    }
+
+    // What is wrong for any choice.
+    fn fault(&self, end: &Facts) -> Option<Refusal> {
+        if !self.is_counted() && !end.has_fallen(1) {
+            Some(Refusal::Fall)
+        } else if end.pushed() != self.entering.pushed() {
+            Some(Refusal::Pop)
+        } else {
+            None
+        }
+    }
+
+    /// What the facts at the `>` say of this try. Where another choice is to be tried, it is made.
+    pub fn judged(&mut self, end: &Facts) -> Result<Verdict, Refusal> {
+        if let Some(why) = self.fault(end) {
+            return Err(why);
+        }
+        let counted = self.is_counted();
+        if self.choice.stands(&self.written, counted, &self.turns, &self.entering, Some(end)) {
+            return Ok(Verdict::Stands);
+        }
+        if self.tries >= TRIES {
+            return Err(Refusal::Bound);
+        }
+        self.tries += 1;
+        self.choice = self.next_choice(end)?;
+        Ok(Verdict::Again)
+    }
+
+    /// The choice, as a certificate has it.
+    pub fn line(&self, alloc: Global) -> Result<LoopLine, Unfit> {
+        Ok(line_of(alloc, self.begin, &self.entering, &self.choice)?)
+    }
+}

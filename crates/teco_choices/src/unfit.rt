@@ -1,0 +1,41 @@
+//! Why no choices are found.
+
+use std::alloc::{AllocError, AllocFailed};
+use teco_facts::Fault;
+use teco_rules::Refusal;
+
+/// Why no choices are found.
+#[derive(Clone, Copy)]
+pub enum Unfit {
+    /// The rules refuse at the node of this number.
+    Refused { why: Refusal, number: usize },
+    /// A growth was refused.
+    Memory,
+}
+
+impl Unfit {
+    // A refusal at a node.
+    pub fn at(why: Refusal, number: usize) -> Unfit {
+        Unfit::Refused { why, number }
+    }
+
+    // What a call on facts answers at a node.
+    pub fn by(fault: Fault, number: usize) -> Unfit {
+        match fault {
+            Fault::Refused(why) => Unfit::at(why, number),
+            Fault::Memory => Unfit::Memory,
+        }
+    }
+}
+
+impl From<AllocError> for Unfit {
+    fn from(_: AllocError) -> Unfit {
+        Unfit::Memory
+    }
+}
+
+impl<T: Drop> From<AllocFailed<T>> for Unfit {
+    fn from(_: AllocFailed<T>) -> Unfit {
+        Unfit::Memory
+    }
+}
