@@ -1,0 +1,24 @@
+-- What the verifier has found of a macro, and that it is so.
+use Rattle.std.specs.Prelude.{◌≡◌, ℕ, List, Ok}
+use Rattle.teco_certificate.specs.Fields.{Fields}
+use Rattle.teco_expand.specs.Expansion.{expansion}
+use Rattle.teco_expand.specs.Library.{Library}
+use Rattle.teco_expand.specs.Node.{Node}
+use Rattle.teco_table.specs.Printed.{needs_in}
+use Rattle.teco_table.specs.Table.{Table}
+use Rattle.teco_table.specs.Verified.{IsPrinted}
+use Rattle.teco_check.specs.Loops.{loops_of}
+
+-- The library's texts, and what the certificate says of the entry.
+pub record Finding : Type 0 where
+  pub library : Library
+  pub fields : Fields
+
+-- There is a closed table of the expansion, and the certificate's numbers, needs and choices are those of that table.
+pub record IsCertified (library : Library) (fields : Fields) : Type 0 where
+  pub nodes : List Node
+  pub table : Table
+  pub expanded : expansion library fields.entry ≡ Ok nodes
+  pub printed : IsPrinted nodes table fields.commands fields.size
+  pub needs_are : fields.needs ≡ needs_in nodes table
+  pub loops_are : fields.loops ≡ loops_of nodes table

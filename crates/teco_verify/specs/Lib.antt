@@ -1,0 +1,2 @@
+-- What is found of a macro.
+pub mod Finding

@@ -1,0 +1,75 @@
+//! What a closed table certifies.
+ghost use Rattle.std.specs.Prelude.{◌≡◌, IfOk, Ok};
+ghost use Rattle.teco_expand.specs.Expansion.{expansion};
+
+use crate::verified::Verified;
+use std::alloc::{AllocError, Global};
+use teco_base::Reg;
+use teco_certificate::{Certificate, Needs};
+use teco_check::{Bad, Overflow, Table, check, commands, loops_of, needs_in, size};
+use teco_library::Library;
+use teco_nodes::Nodes;
+
+/// Why a table certifies nothing.
+#[derive(Clone, Copy)]
+pub enum Flaw {
+    /// It is not closed at a node.
+    Open { number: usize },
+    /// A printed number overflows at a node.
+    Overflow { number: usize },
+    /// A growth was refused.
+    Memory,
+}
+
+impl From<AllocError> for Flaw {
+    fn from(_refused: AllocError) -> Flaw {
+        Flaw::Memory
+    }
+}
+
+impl From<Bad> for Flaw {
+    fn from(bad: Bad) -> Flaw {
+        match bad {
+            Bad::Edge { node } => Flaw::Open { number: node },
+            Bad::Memory => Flaw::Memory,
+        }
+    }
+}
+
+impl From<Overflow> for Flaw {
+    fn from(overflow: Overflow) -> Flaw {
+        Flaw::Overflow {
+            number: overflow.node,
+        }
+    }
+}
+
+/// What a table of a library's expansion certifies of the entry, where it is closed.
+pub fn certified<'l>(
+    alloc: Global,
+    library: &'l Library,
+    entry: Reg,
+    nodes: &Nodes<'_>,
+    table: &Table,
+) -> Result<Verified<'l>, Flaw>
+    requires { expansion library.now entry ≡ Ok nodes.now }
+    ensures library { IfOk result (λ verified. verified.library ≡ library.now) }
+    ensures entry { IfOk result (λ verified. verified.fields.entry ≡ entry) }
+{
+    check(alloc, nodes, table)?;
+    let needs = needs_in(nodes, table);
+    let certificate = Certificate {
+        entry,
+        needs: Needs {
+            input: needs.input,
+            output: needs.output,
+        },
+        commands: commands(nodes, table)?,
+        size: size(nodes, table)?,
+        loops: loops_of(alloc, nodes, table)?,
+    };
+    Ok(Verified {
+        library,
+        certificate,
+    })
+}

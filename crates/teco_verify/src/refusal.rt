@@ -1,0 +1,93 @@
+//! Why a macro or a certificate is refused.
+
+use std::alloc::AllocError;
+use teco_base::{REGISTERS, Reg};
+use teco_choices::Unfit;
+use teco_nodes::{ExpandFault, Nodes, Reason};
+use teco_rules::Refusal as Why;
+
+/// Why a macro or a certificate is refused.
+#[derive(Clone, Copy)]
+pub enum Refusal {
+    /// By the rules: the reason, and the text and the place of the element that it stands at.
+    No {
+        /// The reason.
+        why: Why,
+        /// The register of the text; none for a library file and a certificate.
+        register: Option<Reg>,
+        /// The place in it, of a library file, or 0.
+        place: usize,
+    },
+    /// A growth was refused.
+    Memory,
+}
+
+impl From<AllocError> for Refusal {
+    fn from(_refused: AllocError) -> Refusal {
+        Refusal::Memory
+    }
+}
+
+// The register at a place, if there is one.
+fn register_at(place: usize) -> Option<Reg> {
+    if place < REGISTERS {
+        Some(teco_check::register_at(place))
+    } else {
+        None
+    }
+}
+
+// Why an element is not expanded.
+fn why_of(reason: Reason) -> Why {
+    match reason {
+        Reason::Fault => Why::Fault,
+        Reason::Unpaired => Why::Partner,
+        Reason::NoMacro => Why::Missing,
+        Reason::Recursion => Why::Recursion,
+        Reason::TooLarge => Why::Size,
+    }
+}
+
+impl From<ExpandFault> for Refusal {
+    fn from(fault: ExpandFault) -> Refusal {
+        match fault {
+            ExpandFault::Refused(refusal) => Refusal::No {
+                why: why_of(refusal.reason),
+                register: register_at(refusal.register),
+                place: refusal.place,
+            },
+            ExpandFault::Memory => Refusal::Memory,
+        }
+    }
+}
+
+impl Refusal {
+    // At a node.
+    pub fn at(why: Why, nodes: &Nodes<'_>, number: usize) -> Refusal {
+        if number == 0 || number > nodes.len() {
+            return Refusal::certificate();
+        }
+        Refusal::No {
+            why,
+            register: register_at(nodes.register(number)),
+            place: nodes.place(number),
+        }
+    }
+
+    // Of a certificate.
+    pub fn certificate() -> Refusal {
+        Refusal::No {
+            why: Why::Certificate,
+            register: None,
+            place: 0,
+        }
+    }
+
+    // Where no choices are found.
+    pub fn unfit(unfit: Unfit, nodes: &Nodes<'_>) -> Refusal {
+        match unfit {
+            Unfit::Refused { why, number } => Refusal::at(why, nodes, number),
+            Unfit::Memory => Refusal::Memory,
+        }
+    }
+}

@@ -1,0 +1,88 @@
+//! Macros that were verified.
+ghost use Rattle.std.specs.Prelude.{◌≡◌, IfOk, slice_index_or, None};
+ghost use Rattle.std.specs.Option.{option_copied};
+ghost use Rattle.teco_certificate.specs.Text.{certificate_text};
+ghost use Rattle.teco_verify.specs.Finding.{IsCertified};
+
+use std::alloc::{AllocError, Global};
+use std::marker::Model;
+use teco_base::{REGISTERS, Reg};
+use teco_certificate::{Certificate, Needs};
+use teco_library::Library;
+use teco_poly::Poly;
+
+/// A macro of a library that was verified: what its certificate says is so. It is seen as the library's texts, and what that
+/// certificate says.
+#[derive(Drop)]
+pub struct Verified<'l> {
+    pub(crate) library: &'l Library,
+    pub(crate) certificate: Certificate,
+}
+
+impl<'l> Model for Verified<'l> {
+    ghost use Rattle.teco_verify.specs.Finding.{Finding, IsCertified};
+
+    ghost Value = { Finding };
+
+    ghost view = { λ v. record { library = v.library.now; fields = v.certificate } };
+
+    ghost invariant = { λ v. IsCertified v.library.now v.certificate };
+}
+
+impl<'l> Verified<'l> {
+    /// What always holds: the table that the certificate tells of is closed, and its numbers are that table's.
+    pub fn is_certified(&self)
+        ensures { IsCertified self.now.library self.now.fields }
+    {
+        let _ = &self.certificate;
+    }
+
+    /// The register that is called.
+    pub fn entry(&self) -> Reg
+        ensures { result ≡ self.now.fields.entry }
+    {
+        self.certificate.entry
+    }
+
+    /// The library.
+    pub fn library(&self) -> &'l Library
+        ensures { result.now ≡ self.now.library }
+    {
+        self.library
+    }
+
+    /// The text that the library gives to a register; `None` where it leaves it.
+    pub fn text(&self, register: Reg) -> Option<&[u8]>
+        ensures { option_copied result ≡ slice_index_or self.now.library register None }
+    {
+        self.library.text(register)
+    }
+
+    /// The most commands that a run takes.
+    pub fn commands(&self) -> Poly
+        ensures { result ≡ self.now.fields.commands }
+    {
+        self.certificate.commands
+    }
+
+    /// The most that is held, and the length of the longest text.
+    pub fn size(&self) -> Poly
+        ensures { result ≡ self.now.fields.size }
+    {
+        self.certificate.size
+    }
+
+    /// The files that must be open.
+    pub fn needs(&self) -> Needs
+        ensures { result ≡ self.now.fields.needs }
+    {
+        self.certificate.needs
+    }
+
+    /// The text of its certificate.
+    pub fn certificate(&self, alloc: Global) -> Result<Vec<u8>, AllocError>
+        ensures { IfOk result (λ text. text.items ≡ certificate_text self.now.fields) }
+    {
+        self.certificate.print(alloc)
+    }
+}
