@@ -1,0 +1,2 @@
+-- Lemmas of runs.
+mod Sure

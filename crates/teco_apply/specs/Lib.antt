@@ -1,0 +1,2 @@
+-- What the runs of verified macros do.
+pub mod Sure
