@@ -24,3 +24,6 @@ pub use iterations::{end_of, written};
 pub use loops::{line_of, loops_of, register_at};
 pub use printed::{Overflow, commands, needs_in, size};
 pub use table::{Row, Table, are_kept};
+
+#[cfg(test)]
+mod tests;

@@ -1,0 +1,123 @@
+// Small macros: a table is derived from a choice for their iteration, checked, and printed. A call that is refused memory is
+// made once more, so that the rows also hold where one allocation fails.
+use super::*;
+use std::alloc::Global;
+use std::process::Abort;
+use std::test::*;
+use teco_base::{LIMIT, Reg};
+use teco_certificate::LoopLine;
+use teco_library::Library;
+use teco_nodes::{ExpandFault, Nodes, expand};
+use teco_poly::Poly;
+
+// A library, the number of its `<` and what is held there at the start of a turn, or 0, commands and size.
+type Row = (
+    &'static [u8],
+    usize,
+    &'static [u8],
+    &'static [u8],
+    &'static [u8],
+);
+
+const ROWS: [Row; 5] = [
+    (b"@^UA/.-Z\"LC'/", 0, b"0", b"8", b"N"),
+    (b"@^UA/HXBGB/", 0, b"0", b"5", b"2*N"),
+    (b"@^UA/10<Ia\x1b>/", 3, b"9 + N", b"24", b"10 + N"),
+    (
+        b"@^UA/J<Sfoo\x1b;I!\x1b>/",
+        3,
+        b"2*N",
+        b"8 + 4*N",
+        b"1 + 2*N",
+    ),
+    (b"@^UA/HXB2<GB>/", 5, b"2*N", b"10", b"3*N"),
+];
+
+// The library of a file.
+fn library_of(rt: &impl Abort, alloc: Global, file: &[u8]) -> Library {
+    assert!(rt; file.len() <= LIMIT);
+    match Library::read(alloc, file) {
+        Ok(library) => library,
+        Err(_) => Library::read(alloc, file).expect(rt, "a library"),
+    }
+}
+
+// The nodes of its macro A.
+fn nodes_of<'l>(rt: &impl Abort, alloc: Global, library: &'l Library) -> Nodes<'l> {
+    let answer = match expand(alloc, library, Reg::default()) {
+        Err(ExpandFault::Memory) => expand(alloc, library, Reg::default()),
+        answer => answer,
+    };
+    match answer {
+        Ok(nodes) => nodes,
+        Err(_) => panic!(rt; "it is expanded"),
+    }
+}
+
+// One choice, or none.
+fn choices(rt: &impl Abort, alloc: Global, number: usize, held: &[u8]) -> Vec<LoopLine> {
+    let mut lines = Vec::new(alloc);
+    if number > 0 {
+        let line = LoopLine {
+            number,
+            held: Poly::read(held).expect(rt, "a polynomial"),
+            kept: true,
+            longer: Vec::new(alloc),
+        };
+        if let Err(refused) = lines.push(line) {
+            assert!(rt; lines.push(refused.value).is_ok());
+        }
+    }
+    lines
+}
+
+// The table of such choices.
+fn table_of(rt: &impl Abort, alloc: Global, nodes: &Nodes<'_>, lines: &[LoopLine]) -> Table {
+    let answer = match derive(alloc, nodes, lines) {
+        Err(NotDerived::Memory) => derive(alloc, nodes, lines),
+        answer => answer,
+    };
+    match answer {
+        Ok(table) => table,
+        Err(_) => panic!(rt; "it is derived"),
+    }
+}
+
+// What the checker says of a table.
+fn checked(alloc: Global, nodes: &Nodes<'_>, table: &Table) -> Result<(), Bad> {
+    match check(alloc, nodes, table) {
+        Err(Bad::Memory) => check(alloc, nodes, table),
+        answer => answer,
+    }
+}
+
+#[test]
+fn prints_what_is_closed(rt: HostRuntime) {
+    for (file, number, held, commands_text, size_text) in ROWS {
+        let library = library_of(&rt, rt.alloc(), file);
+        let nodes = nodes_of(&rt, rt.alloc(), &library);
+        let lines = choices(&rt, rt.alloc(), number, held);
+        let table = table_of(&rt, rt.alloc(), &nodes, &lines);
+        assert!(rt; table.len() == nodes.len());
+        assert!(rt; checked(rt.alloc(), &nodes, &table).is_ok());
+        assert!(rt; commands(&nodes, &table).ok() == Poly::read(commands_text));
+        assert!(rt; size(&nodes, &table).ok() == Poly::read(size_text));
+        let needs = needs_in(&nodes, &table);
+        assert!(rt; !needs.input && !needs.output);
+        if let Ok(printed) = loops_of(rt.alloc(), &nodes, &table) {
+            assert!(rt; printed.len() == lines.len());
+        }
+    }
+}
+
+#[test]
+fn refuses_too_small_a_choice(rt: HostRuntime) {
+    for (file, number, held) in [(ROWS[2].0, 3, b"N"), (ROWS[3].0, 3, b"N"), (ROWS[4].0, 5, b"N")] {
+        let library = library_of(&rt, rt.alloc(), file);
+        let nodes = nodes_of(&rt, rt.alloc(), &library);
+        let lines = choices(&rt, rt.alloc(), number, held);
+        let table = table_of(&rt, rt.alloc(), &nodes, &lines);
+        let wanted = Bad::Edge { node: number };
+        assert!(rt; checked(rt.alloc(), &nodes, &table) == Err(wanted));
+    }
+}
