@@ -1,23 +1,39 @@
-//! The program: sessions on standard input.
+//! The program: sessions on standard input, and verified macros.
 #![tactic(auto)]
 
+mod file;
+mod macros;
 #[cfg(test)]
 mod tests;
+mod verdict;
 mod words;
 
+use crate::macros::{apply_macro, check_macro, verify_macro};
 use std::alloc::Global;
 use std::process::ExitCode;
 use std::{env, io};
 use teco_gap::GapText;
 use teco_pages::{FileHost, Host};
 use teco_run::Machine;
-use teco_session::{SessionFault, session};
+use teco_session::{Done, SessionFault, session};
 
 /// A code was typed.
 const CODED: u8 = 1;
 
-/// The words are no command, or standard input, standard output or memory failed.
+/// The words are no command, or a file of macros, a certificate, standard input, standard output or memory failed.
 const FAILED: u8 = 2;
+
+/// A library or a certificate is refused.
+pub const REFUSED: u8 = 3;
+
+/// The status of what was done.
+pub fn status_of(done: Done) -> ExitCode {
+    if done.coded {
+        ExitCode::from(CODED)
+    } else {
+        ExitCode::SUCCESS
+    }
+}
 
 // Runs a session from standard input to standard output, over the files of a host.
 fn run<R: Input + Print, H: Host>(
@@ -30,11 +46,7 @@ fn run<R: Input + Print, H: Host>(
     let mut reader = rt.reader();
     let mut writer = io::writer(rt);
     let done = session(alloc, &mut machine, &mut reader, &mut writer, host, limit)?;
-    Ok(if done.coded {
-        ExitCode::from(CODED)
-    } else {
-        ExitCode::SUCCESS
-    })
+    Ok(status_of(done))
 }
 
 // Reads the words, and does what they say.
@@ -49,12 +61,33 @@ fn obey(rt: &HostRuntime) -> anyhow::Result<ExitCode> {
             return Ok(ExitCode::from(error.exit_code() as u8));
         }
     };
-    let limit = matches
-        .subcommand_matches("run")
-        .and_then(|run| run.get_one::<u32>("limit"))
-        .unwrap_or(u32::MAX);
     let mut host = FileHost::new(alloc, *rt);
-    Ok(run(rt, alloc, &mut host, u64::from(limit))?)
+    match matches.subcommand() {
+        Some(("run", given)) => Ok(run(rt, alloc, &mut host, u64::from(words::limit(given)))?),
+        Some(("verify", given)) => verify_macro(
+            rt,
+            alloc,
+            words::word(given, "LIB"),
+            words::register(given)?,
+        ),
+        Some(("check", given)) => check_macro(
+            rt,
+            alloc,
+            words::word(given, "LIB"),
+            words::register(given)?,
+            words::word(given, "CERT"),
+        ),
+        Some(("apply", given)) => apply_macro(
+            rt,
+            alloc,
+            words::word(given, "LIB"),
+            words::register(given)?,
+            words::file_name(given, "IN")?,
+            words::file_name(given, "OUT")?,
+            &mut host,
+        ),
+        _ => Ok(ExitCode::from(FAILED)),
+    }
 }
 
 fn main(rt: HostRuntime) -> ExitCode {

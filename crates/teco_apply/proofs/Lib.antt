@@ -1,2 +1,3 @@
 -- Lemmas of runs.
+mod Edits
 mod Sure

@@ -1,9 +1,11 @@
 //! Running verified macros.
 #![tactic(auto)]
 
+mod editing;
 mod ready;
 mod run;
 
+pub use editing::{NAME, apply};
 pub use ready::NotReady;
 pub use run::run_verified;
 

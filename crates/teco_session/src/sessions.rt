@@ -115,6 +115,21 @@ fn write_lines<W: Write>(
     write_code(writer, code)
 }
 
+/// Writes what a run typed and then the line of a code, if its stop is one, and says whether it is.
+pub fn write_stop<T: TextStore, W: Write>(
+    machine: &mut Machine<T>,
+    stop: Stop,
+    writer: &mut W,
+) -> Result<bool, SessionFault>
+    ensures lines { Writes (W.contents writer.old) (W.contents writer.new)
+        (machine.old.kept.typed ++ code_line (code_of stop)) result }
+    ensures told { IfOk result (λ line. line ≡ is_code (code_of stop)) }
+    ensures taken { machine.new ≡ record machine.old { kept = record machine.old.kept { typed = [] } } }
+{
+    let typed = machine.take_typed();
+    write_lines(writer, typed.as_slice(), code_of_stop(stop))
+}
+
 // What was done with a piece.
 fn said(line: Result<bool, SessionFault>, exit: bool) -> Result<Done, SessionFault>
     ensures { Said line exit result }
@@ -138,8 +153,7 @@ fn answer_command<T: TextStore, W: Write, H: Host>(
         machine.old machine.new (H.files host.old) (H.files host.new) }
 {
     let stop = machine.run(bytes, limit, host);
-    let typed = machine.take_typed();
-    let line = write_lines(writer, typed.as_slice(), code_of_stop(stop));
+    let line = write_stop(machine, stop, writer);
     said(line, is_exit(stop))
 }
 

@@ -1,0 +1,11 @@
+use Rattle.teco_apply.proofs.Edits.{goes_on}
+use Rattle.teco_apply.proofs.editing.finish.Goals as goal
+use Rattle.teco_apply.specs.Apply.{AnswersMacro, AnswersText, closing}
+
+pub returns-in-Ok-false : goal.returns-in-Ok-false
+returns-in-Ok-false g c =
+    goes_on (AnswersMacro c.args.verified.now) (AnswersText closing)
+    c.args.machine.now c.answer_macro.new.machine c.answer_text.new.machine
+    (g.H.Host.files c.args.host.now) (g.H.Host.files c.answer_macro.new.host) (g.H.Host.files c.answer_text.new.host)
+    (g.W.Write.contents c.args.writer.now) (g.W.Write.contents c.answer_macro.new.writer) (g.W.Write.contents c.answer_text.new.writer)
+    c.answer_text.result (rw c.in-Ok-false.field-0-test at c.in-Ok-false.ensures) c.answer_text.ensures

@@ -1,0 +1,178 @@
+//! Editing a file by a verified macro.
+ghost use Rattle.std.specs.Prelude.{◌≡◌, ◌≤◌, IfOk, length, false};
+ghost use Rattle.teco_apply.specs.Apply as edit;
+ghost use Rattle.teco_apply.specs.Apply.{AnswersMacro, AnswersText, Applied, DropsIfCoded, Edits, Finishes, MacroStops, opening};
+ghost use Rattle.teco_base.specs.declared.TheConstants.{LIMIT};
+ghost use Rattle.teco_run.specs.Holdings.{Joined};
+ghost use Rattle.teco_session.specs.Answers.{Said};
+
+#[cfg(test)]
+mod tests;
+
+use crate::ready::NotReady;
+use crate::run::run_verified;
+use std::alloc::{AllocError, Global};
+use std::io::Write;
+use teco_base::Code;
+use teco_base::bytes::ESC;
+use teco_model::Stop;
+use teco_pages::Host;
+use teco_run::Machine;
+use teco_session::{Done, SessionFault, write_stop};
+use teco_text::TextStore;
+use teco_verify::Verified;
+
+/// How many bytes the name of a file has, at most.
+pub const NAME: usize = 4096;
+
+// The command string that opens an input and an output, and reads the first page.
+fn opening(alloc: Global, source: &[u8], target: &[u8]) -> Result<Vec<u8>, AllocError>
+    ensures { IfOk result (λ text. text.items ≡ opening source.now target.now) }
+{
+    let mut text = Vec::new(alloc);
+    text.extend_from_slice(b"ER")?;
+    text.extend_from_slice(source)?;
+    text.extend_from_slice(&[ESC, b'E', b'W'])?;
+    text.extend_from_slice(target)?;
+    text.extend_from_slice(&[ESC, b'Y'])?;
+    Ok(text)
+}
+
+// What stops a macro that is not run.
+fn stop_of(not_ready: NotReady) -> Stop
+    ensures { result ≡ edit.stop_of not_ready }
+{
+    match not_ready {
+        NotReady::NoInput => Stop::Error(Code::Nfi),
+        NotReady::NoOutput => Stop::Error(Code::Nfo),
+        NotReady::Memory => Stop::Memory,
+    }
+}
+
+// Runs a verified macro.
+fn run_macro<T: TextStore, H: Host>(
+    machine: &mut Machine<T>,
+    verified: &Verified<'_>,
+    host: &mut H,
+) -> Stop
+    ensures { Joined (λ old new. MacroStops verified.now old result new)
+        machine.old machine.new (H.files host.old) (H.files host.new) }
+{
+    match run_verified(machine, verified, host) {
+        Ok(stop) => stop,
+        Err(not_ready) => stop_of(not_ready),
+    }
+}
+
+// Runs a verified macro, and writes what it types and its code line. Says whether there is such a line.
+fn answer_macro<T: TextStore, H: Host, W: Write>(
+    machine: &mut Machine<T>,
+    verified: &Verified<'_>,
+    host: &mut H,
+    writer: &mut W,
+) -> Result<bool, SessionFault>
+    ensures { Joined (λ old new. AnswersMacro verified.now old new (W.contents writer.old) (W.contents writer.new) result)
+        machine.old machine.new (H.files host.old) (H.files host.new) }
+{
+    let stop = run_macro(machine, verified, host);
+    write_stop(machine, stop, writer)
+}
+
+// Runs a command string, and writes what it types and its code line. Says whether there is such a line.
+fn answer_text<T: TextStore, H: Host, W: Write>(
+    machine: &mut Machine<T>,
+    text: &[u8],
+    host: &mut H,
+    writer: &mut W,
+) -> Result<bool, SessionFault>
+    requires { length text.now ≤ LIMIT }
+    ensures { Joined (λ old new. AnswersText text.now old new (W.contents writer.old) (W.contents writer.new) result)
+        machine.old machine.new (H.files host.old) (H.files host.new) }
+{
+    let stop = machine.run(text, u64::MAX, host);
+    write_stop(machine, stop, writer)
+}
+
+// Runs the macro and then, but behind a code, what closes the output; what they type is written. Says whether there is a code.
+fn finish<T: TextStore, H: Host, W: Write>(
+    machine: &mut Machine<T>,
+    verified: &Verified<'_>,
+    host: &mut H,
+    writer: &mut W,
+) -> Result<bool, SessionFault>
+    ensures { Joined (λ old new. Finishes verified.now old new (W.contents writer.old) (W.contents writer.new) result)
+        machine.old machine.new (H.files host.old) (H.files host.new) }
+{
+    match answer_macro(machine, verified, host, writer) {
+        Ok(false) => answer_text(machine, b"EC", host, writer),
+        stopped => stopped,
+    }
+}
+
+// Runs what opens the files and then, but behind a code, the macro and what closes the output. Says whether there is a code.
+fn edit<T: TextStore, H: Host, W: Write>(
+    machine: &mut Machine<T>,
+    verified: &Verified<'_>,
+    opening: &[u8],
+    host: &mut H,
+    writer: &mut W,
+) -> Result<bool, SessionFault>
+    requires { length opening.now ≤ LIMIT }
+    ensures { Joined (λ old new. Edits verified.now opening.now old new (W.contents writer.old) (W.contents writer.new) result)
+        machine.old machine.new (H.files host.old) (H.files host.new) }
+{
+    match answer_text(machine, opening, host, writer) {
+        Ok(false) => finish(machine, verified, host, writer),
+        stopped => stopped,
+    }
+}
+
+// Drops the output behind a code.
+fn drop_if_coded<T: TextStore, H: Host>(
+    machine: &mut Machine<T>,
+    line: Result<bool, SessionFault>,
+    host: &mut H,
+)
+    ensures { Joined (DropsIfCoded line) machine.old machine.new (H.files host.old) (H.files host.new) }
+{
+    if let Ok(true) = line {
+        let _ = machine.run(b"EK", u64::MAX, host);
+    }
+}
+
+// What was done.
+fn said(line: Result<bool, SessionFault>) -> Result<Done, SessionFault>
+    ensures { Said line false result }
+{
+    match line {
+        Ok(coded) => Ok(Done { coded, exit: false }),
+        Err(fault) => Err(fault),
+    }
+}
+
+/// Edits a file by a verified macro into another file, over the files of a host: both are opened and the first page is read,
+/// the macro is run, and the rest is copied and the output closed. What each of these runs types is written behind it, and its
+/// code line. After the first code no more is run, and the output is dropped.
+///
+/// Without memory for the first command string nothing is done. With a fault of writing, the run whose bytes were being
+/// written is the last: a part of what it writes is written.
+pub fn apply<T: TextStore, H: Host, W: Write>(
+    alloc: Global,
+    machine: &mut Machine<T>,
+    verified: &Verified<'_>,
+    source: &[u8],
+    target: &[u8],
+    host: &mut H,
+    writer: &mut W,
+) -> Result<Done, SessionFault>
+    requires source { length source.now ≤ NAME }
+    requires target { length target.now ≤ NAME }
+    ensures { Joined (λ old new. Applied verified.now (opening source.now target.now) old new
+        (W.contents writer.old) (W.contents writer.new) result)
+        machine.old machine.new (H.files host.old) (H.files host.new) }
+{
+    let opening = opening(alloc, source, target)?;
+    let line = edit(machine, verified, opening.as_slice(), host, writer);
+    drop_if_coded(machine, line, host);
+    said(line)
+}

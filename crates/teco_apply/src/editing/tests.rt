@@ -1,0 +1,122 @@
+//! Edits over files in memory.
+use super::apply;
+use std::alloc::Global;
+use std::process::Abort;
+use std::test::Fail;
+use teco_base::Reg;
+use teco_pages::{HostCall, MemHost, TestHost};
+use teco_run::Machine;
+use teco_session::{Done, SessionFault};
+use teco_text::{TextStore, VecText};
+use teco_verify::{Library, Verified, verify};
+
+/// Puts a mark behind each `foo` of the first page.
+const MARKS: &[u8] = b"@^UA/J<Sfoo\x1b;I!\x1b>/";
+
+/// What it edits: two pages.
+const INPUT: &[u8] = b"xfoo\x0cfoo";
+
+// The macro in A of a library file.
+fn macro_of<'l>(rt: &impl Abort, alloc: Global, library: &'l Library) -> Verified<'l> {
+    let Some(entry) = Reg::of(b'A') else {
+        panic!(rt; "a register");
+    };
+    let Ok(verified) = verify(alloc, library, entry) else {
+        panic!(rt; "refused");
+    };
+    verified
+}
+
+// Is the first page edited, and the pointer behind what was done?
+fn is_edited<T: TextStore>(machine: &Machine<T>, page: &[u8]) -> bool {
+    let (front, back) = machine.text();
+    page.starts_with(front)
+        && page.ends_with(back)
+        && front.len().checked_add(back.len()) == Some(page.len())
+}
+
+/// A library, how many bytes each call moves, which call fails, what is written, and what the file `out` has then.
+type Row = (
+    &'static [u8],
+    usize,
+    HostCall,
+    u64,
+    &'static [u8],
+    Option<&'static [u8]>,
+);
+
+const ROWS: [Row; 9] = [
+    (MARKS, 4096, HostCall::Read, 0, b"", Some(b"xfoo!\x0cfoo")),
+    (MARKS, 1, HostCall::Read, 0, b"", Some(b"xfoo!\x0cfoo")),
+    (b"@^UA/HT/", 4096, HostCall::Read, 0, b"xfoo", Some(INPUT)),
+    (b"@^UA/HTP/", 1, HostCall::Read, 0, b"xfoo", Some(INPUT)),
+    (MARKS, 4096, HostCall::OpenIn, 1, b"?FNF\r\n", None),
+    (MARKS, 4096, HostCall::Read, 1, b"?INP\r\n", None),
+    (MARKS, 4096, HostCall::OpenOut, 1, b"?OUT\r\n", None),
+    (MARKS, 1, HostCall::Write, 2, b"?OUT\r\n", None),
+    (
+        b"@^UA/HT/",
+        4096,
+        HostCall::CloseOut,
+        1,
+        b"xfoo?OUT\r\n",
+        None,
+    ),
+];
+
+#[test]
+fn files_are_edited(rt: HostRuntime) -> Result<(), Fail> {
+    let alloc = rt.alloc();
+    for (i, (file, piece, call, nth, written, out)) in ROWS.iter().enumerate() {
+        let Ok(library) = Library::read(alloc, file) else {
+            panic!(rt; "no library");
+        };
+        let verified = macro_of(&rt, alloc, &library);
+        let mut mem = MemHost::new(alloc);
+        mem.put(b"in", INPUT)?;
+        let mut host = TestHost::new(mem, *piece, *call, *nth);
+        let mut machine = Machine::new(alloc, VecText::new(alloc));
+        let mut writer = Vec::new(alloc);
+        let done = apply(
+            alloc,
+            &mut machine,
+            &verified,
+            b"in",
+            b"out",
+            &mut host,
+            &mut writer,
+        )?;
+        assert_eq!(rt; done.coded, out.is_none(), "row {i}");
+        assert!(rt; !done.exit, "row {i}");
+        assert_eq!(rt; writer.as_slice(), *written, "row {i}");
+        assert_eq!(rt; host.mem().file(b"out"), *out, "row {i}");
+        assert!(rt; !machine.has_output(), "row {i}");
+    }
+    Ok(())
+}
+
+#[test]
+fn an_edit_fails_in_writing(rt: HostRuntime) -> Result<(), Fail> {
+    let alloc = rt.alloc();
+    let Ok(library) = Library::read(alloc, MARKS) else {
+        panic!(rt; "no library");
+    };
+    let verified = macro_of(&rt, alloc, &library);
+    let mut mem = MemHost::new(alloc);
+    mem.put(b"in", INPUT)?;
+    let mut host = TestHost::new(mem, 1, HostCall::Write, 2);
+    let mut machine = Machine::new(alloc, VecText::new(alloc));
+    let mut writer = Vec::new(alloc);
+    let done = apply(
+        alloc,
+        &mut machine,
+        &verified,
+        b"in",
+        b"out",
+        &mut host,
+        &mut writer,
+    )?;
+    assert!(rt; done.coded);
+    assert!(rt; is_edited(&machine, b"xfoo!"));
+    Ok(())
+}
