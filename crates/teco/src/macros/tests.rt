@@ -2,7 +2,7 @@
 use super::{accept, certificate};
 use std::process::Abort;
 use std::test::Fail;
-use teco_base::Reg;
+use teco_base::{LIMIT, Reg};
 use teco_rules::Refusal as Why;
 use teco_verify::Refusal;
 
@@ -34,6 +34,7 @@ fn macros_are_refused(rt: HostRuntime) -> Result<(), Fail> {
         (MARKS, b'B', Why::Missing, Some(b'B'), 0),
     ];
     for (i, (file, name, _why, register, place)) in rows.iter().enumerate() {
+        assert!(rt; file.len() <= LIMIT);
         let Some(entry) = Reg::of(*name) else {
             panic!(rt; "a register");
         };
@@ -71,6 +72,7 @@ fn certificates_are_checked(rt: HostRuntime) -> Result<(), Fail> {
         ),
     ];
     for (i, (text, name, is_good)) in rows.iter().enumerate() {
+        assert!(rt; text.len() <= LIMIT);
         let Some(entry) = Reg::of(*name) else {
             panic!(rt; "a register");
         };

@@ -74,6 +74,7 @@ fn files_are_edited(rt: HostRuntime) -> Result<(), Fail> {
         let verified = macro_of(&rt, alloc, &library);
         let mut mem = MemHost::new(alloc);
         mem.put(b"in", INPUT)?;
+        assert!(rt; *piece > 0);
         let mut host = TestHost::new(mem, *piece, *call, *nth);
         let mut machine = Machine::new(alloc, VecText::new(alloc));
         let mut writer = Vec::new(alloc);
