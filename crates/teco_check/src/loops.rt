@@ -4,12 +4,12 @@ ghost use Rattle.teco_base.specs.declared.TheConstants.{REGISTERS};
 ghost use Rattle.teco_check.specs.Here.{node_at};
 ghost use Rattle.teco_check.specs.Loops as rules;
 
-use std::alloc::{AllocError, Global};
-use teco_base::{REGISTERS, Reg};
-use teco_certificate::{LongerText, LoopLine};
 use crate::bodies::begins_iteration;
 use crate::node::element;
 use crate::table::Table;
+use std::alloc::{AllocError, Global};
+use teco_base::{REGISTERS, Reg};
+use teco_certificate::{LongerText, LoopLine};
 use teco_facts::{Choice, Facts};
 use teco_nodes::Nodes;
 use teco_poly::Poly;
@@ -19,7 +19,11 @@ pub fn register_at(place: usize) -> Reg
     requires { place < REGISTERS }
     ensures { result ≡ place }
 {
-    let name = if place < 26 { b'A' + place as u8 } else { b'0' + (place - 26) as u8 };
+    let name = if place < 26 {
+        b'A' + place as u8
+    } else {
+        b'0' + (place - 26) as u8
+    };
     Reg::of(name).unwrap_or_default()
 }
 
@@ -92,7 +96,11 @@ fn add_line(loops: &mut Vec<LoopLine>, line: Option<LoopLine>) -> Result<(), All
 }
 
 /// The loop lines of a table: what is chosen for each `<` whose body is reached.
-pub fn loops_of(alloc: Global, nodes: &Nodes<'_>, table: &Table) -> Result<Vec<LoopLine>, AllocError>
+pub fn loops_of(
+    alloc: Global,
+    nodes: &Nodes<'_>,
+    table: &Table,
+) -> Result<Vec<LoopLine>, AllocError>
     ensures { IfOk result (λ loops. loops.items ≡ rules.loops_of nodes.now table.now) }
 {
     let mut loops = Vec::new(alloc);

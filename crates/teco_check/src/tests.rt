@@ -112,7 +112,11 @@ fn prints_what_is_closed(rt: HostRuntime) {
 
 #[test]
 fn refuses_too_small_a_choice(rt: HostRuntime) {
-    for (file, number, held) in [(ROWS[2].0, 3, b"N"), (ROWS[3].0, 3, b"N"), (ROWS[4].0, 5, b"N")] {
+    for (file, number, held) in [
+        (ROWS[2].0, 3, b"N"),
+        (ROWS[3].0, 3, b"N"),
+        (ROWS[4].0, 5, b"N"),
+    ] {
         let library = library_of(&rt, rt.alloc(), file);
         let nodes = nodes_of(&rt, rt.alloc(), &library);
         let lines = choices(&rt, rt.alloc(), number, held);

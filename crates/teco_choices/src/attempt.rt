@@ -114,7 +114,13 @@ impl Attempt {
             return Err(why);
         }
         let counted = self.is_counted();
-        if self.choice.stands(&self.written, counted, &self.turns, &self.entering, Some(end)) {
+        if self.choice.stands(
+            &self.written,
+            counted,
+            &self.turns,
+            &self.entering,
+            Some(end),
+        ) {
             return Ok(Verdict::Stands);
         }
         if self.tries >= TRIES {

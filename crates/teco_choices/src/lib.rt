@@ -9,4 +9,3 @@ mod unfit;
 
 pub use search::choose;
 pub use unfit::Unfit;
-

@@ -77,8 +77,10 @@ impl Search {
     ) -> Result<(), Unfit> {
         let turns = turns(facts).map_err(|why| Unfit::at(why, number))?;
         let end = end_of(nodes, number);
-        let attempt = Attempt::first(number, end, turns, written(nodes, number), entering)
-            .behind(self.pending.len(), self.found.len());
+        let attempt = Attempt::first(number, end, turns, written(nodes, number), entering).behind(
+            self.pending.len(),
+            self.found.len(),
+        );
         self.carried = Some(attempt.start()?);
         self.attempts.push(attempt)?;
         Ok(())
@@ -107,7 +109,8 @@ impl Search {
     // A choice is found; it stands before those for the iterations inside.
     fn settle(&mut self, attempt: &Attempt) -> Result<(), Unfit> {
         let line = attempt.line(self.alloc)?;
-        self.found.insert(attempt.found.min(self.found.len()), line)?;
+        self.found
+            .insert(attempt.found.min(self.found.len()), line)?;
         Ok(())
     }
 

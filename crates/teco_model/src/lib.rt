@@ -21,5 +21,5 @@ pub use head::{Head, OnRegister, Texts};
 pub use kind::Kind;
 pub use pattern::{Sought, Span};
 pub use skip::{Bracket, Pairs, Route, Skip};
-pub use whole::{are_bytes, fits, pieces_are_bytes};
 pub use stop::{HostFault, Stop};
+pub use whole::{are_bytes, fits, pieces_are_bytes};

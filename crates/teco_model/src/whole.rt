@@ -6,8 +6,7 @@ ghost use Rattle.teco_model.specs.Whole.{AreBytes};
 /// Characters are bytes.
 pub fn are_bytes(text: &[u8])
     ensures { AreBytes text.now }
-{
-}
+{}
 
 /// So are those of a text in two pieces.
 #[tactic(auto, using(crate::proofs::Joined::bytes_joined))]
@@ -21,5 +20,4 @@ pub fn pieces_are_bytes(first: &[u8], second: &[u8])
 /// Numbers fit 32 bits.
 pub fn fits(number: i32)
     ensures { FitsSigned w32 number }
-{
-}
+{}

@@ -14,7 +14,6 @@ All-from_reverse P xs all =
     let again : All P (reverse (reverse xs)) = All-permutation P (reverse xs) (reverse (reverse xs)) (IsPermutation-reverse (reverse xs)) all in
     rw (reverse-reverse xs) at again
 
-
 pub each_reversed : {X : Type 0} (P : X → Type 0) (xs : List X) → AllByRecursion P xs → AllByRecursion P (reverse xs)
 each_reversed P xs all =
     recursion_from_All P (reverse xs)
