@@ -1,3 +1,4 @@
+mod Always
 mod Anchored
 mod Marks
 mod Matches

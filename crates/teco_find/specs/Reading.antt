@@ -1,9 +1,10 @@
 -- What the calls that read a search text answer, beside the definition.
-use Rattle.std.specs.Prelude.{◌≡◌, ℕ, ◌<◌, List, [], ◌∷◌, length, Option, Some, None, Result, Ok, Err, IsOk}
+use Rattle.std.specs.Prelude.{◌≡◌, ℕ, ◌<◌, List, [], ◌∷◌, length, Bool, Option, Some, None, Result, Ok, Err, IsOk, IfOk, IsSome}
 use Rattle.teco_base.specs.declared.code.Code.{Code}
 use Rattle.teco_base.specs.declared.code.Code.TheVariants as code
 use Rattle.teco_model.specs.Checked.{◌>>=◌}
-use Rattle.teco_model.specs.Pattern.{parts}
+use Rattle.teco_model.specs.Pattern.{Pattern, minimum, parts, pattern}
+use Rattle.teco_model.specs.Registers.{Registers}
 use Rattle.teco_model.specs.declared.pattern.Part.{Part}
 use Rattle.teco_find.specs.declared.fault.FindFault.{FindFault}
 use Rattle.teco_find.specs.declared.fault.FindFault.TheVariants as fault
@@ -44,3 +45,11 @@ NextPart old new (Ok None) = parts old ≡ Ok []
 NextPart old new (Ok (Some p)) =
     (parts old ≡ (parts new >>= (λ ps. Ok (p ∷ ps)))) × (length new < length old)
 NextPart old new (Err f) = parts old ≡ Err (code_of f)
+
+-- a text that names no register: a match of it has a least length
+abbrev pub NamesNoRegister : List ℕ → Type 0
+NamesNoRegister text = IfOk (minimum text) IsSome
+
+-- a text says the same pattern whatever the registers have
+abbrev pub SaysAlways : Bool → List ℕ → Pattern → Type 0
+SaysAlways exact text said = (registers : Registers) → pattern registers exact text ≡ Ok said

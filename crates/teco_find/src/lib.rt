@@ -6,6 +6,7 @@ mod classes;
 mod fault;
 mod find;
 mod items;
+mod last_pattern;
 mod mark;
 mod needle;
 mod parts;
@@ -15,6 +16,7 @@ mod read;
 mod rests;
 
 pub use fault::FindFault;
+pub use last_pattern::LastPattern;
 pub use pattern::{Pattern, minimum};
 
 #[cfg(test)]

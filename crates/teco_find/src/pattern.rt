@@ -1,5 +1,5 @@
 // Patterns, and how they are read.
-ghost use Rattle.std.specs.Prelude.{◌≡◌, ◌+◌, ◌^◌, ◌<◌, length, IsOk, IfSome};
+ghost use Rattle.std.specs.Prelude.{◌≡◌, [], ◌+◌, ◌^◌, ◌<◌, length, IsOk, IfSome};
 ghost use Rattle.teco_model.specs.Pattern as model;
 ghost use Rattle.teco_find.specs.Reading.{Judges, Reads};
 
@@ -36,6 +36,17 @@ impl Model for Pattern {
 }
 
 impl Pattern {
+    // The pattern of an empty text.
+    pub(crate) fn empty(alloc: Global) -> Pattern
+        ensures { result ≡ [] }
+    {
+        Pattern {
+            items: Vec::new(alloc),
+            anchor: None,
+            needle: Needle::new(),
+        }
+    }
+
     /// The pattern that a search text says, with the texts that the registers have now. Letters
     /// are matched in either case unless it is `exact`. A fault of the text is told before any
     /// memory is wanted, and an empty text takes none.

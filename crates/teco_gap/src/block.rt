@@ -9,6 +9,7 @@ ghost use Rattle.teco_text.specs.Text.{range, text_after_replacement};
 use crate::moves::{move_gap, overwrite, widen};
 use std::alloc::{AllocError, Global};
 use std::marker::Model;
+use std::mem;
 use teco_base::LIMIT;
 
 // The text is what stands before the gap, and then what stands behind it, up to the vector's end. What is in the gap is
@@ -63,6 +64,19 @@ impl Block {
         ensures behind { result.1.now ≡ self.now.behind }
     {
         (&self.bytes[..self.gap_start], &self.bytes[self.gap_end..])
+    }
+
+    // What a vector holds becomes the text, with the gap behind it. The memory of the text before is handed back, empty.
+    pub(crate) fn exchange(&mut self, text: Vec<u8>) -> Vec<u8>
+        ensures before { self.new.before ≡ text.items }
+        ensures behind { self.new.behind ≡ [] }
+        ensures spare { result.items ≡ [] }
+    {
+        self.gap_start = text.len();
+        self.gap_end = text.len();
+        let mut spare = mem::replace(&mut self.bytes, text);
+        spare.clear();
+        spare
     }
 
     // Makes room for a text of `n` characters. Where there is less, it is doubled, up to `LIMIT`, or becomes `n` where

@@ -125,6 +125,11 @@ impl TextStore for GapText {
         Ok(())
     }
 
+    fn exchange(&mut self, text: Vec<u8>) -> Vec<u8> {
+        self.dot = 0;
+        self.block.exchange(text)
+    }
+
     fn slices(&self) -> (&[u8], &[u8]) {
         self.block.slices()
     }

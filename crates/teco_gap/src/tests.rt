@@ -3,8 +3,10 @@
 mod alike;
 
 use crate::GapText;
+use std::alloc::Global;
 use std::process::Abort;
 use std::test::Fail;
+use teco_base::LIMIT;
 use teco_text::{TextFault, TextStore, VecText};
 
 #[derive(Clone, Copy)]
@@ -101,4 +103,35 @@ fn calls_in_turn(rt: HostRuntime) -> Result<(), Fail> {
     expect_rows(&rt, &mut VecText::new(rt.alloc()), &rows, &mut out);
     expect_rows(&rt, &mut GapText::new(rt.alloc()), &rows, &mut out);
     Ok(())
+}
+
+// A vector becomes the text, and takes what is put in then.
+fn expect_exchange<T: TextStore>(
+    rt: &impl Abort,
+    alloc: Global,
+    store: &mut T,
+    out: &mut Vec<u8>,
+) {
+    let text = match Vec::from_slice(alloc, b"xyz") {
+        Ok(text) => text,
+        Err(_) => Vec::from_slice(alloc, b"xyz").expect(rt, "memory"),
+    };
+    assert!(rt; text.len() <= LIMIT);
+    assert!(rt; store.exchange(text).is_empty());
+    expect_state(rt, store, b"xyz", 0, out);
+    if answer(store, Call::Insert(b"--")) == "memory" {
+        assert_eq!(rt; answer(store, Call::Insert(b"--")), "ok");
+    }
+    expect_state(rt, store, b"--xyz", 2, out);
+}
+
+#[test]
+fn vectors_become_the_text(rt: HostRuntime) {
+    let mut out = Vec::new(rt.alloc());
+    let mut plain = VecText::new(rt.alloc());
+    let mut gap = GapText::new(rt.alloc());
+    for _ in 0..2 {
+        expect_exchange(&rt, rt.alloc(), &mut plain, &mut out);
+        expect_exchange(&rt, rt.alloc(), &mut gap, &mut out);
+    }
 }

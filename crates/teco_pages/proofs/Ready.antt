@@ -1,7 +1,7 @@
 -- The page that is ready is the first of what is unread.
 use Rattle.std.proofs.Common.{◌≡◌, ℕ, ◌+◌, ◌<◌, ◌≤◌, List, [], ◌∷◌, ◌++◌, length, Bool, true, false, not, Option, Some, None, ◌==◌, refl, sym, ap, subst, ◌∙◌, append_assoc, length-append, arith}
 use Rattle.std.proofs.lemmas.List.{append-nil}
-use Rattle.std.specs.Prelude.{Result, Ok, Err, is_some}
+use Rattle.std.specs.Prelude.{Result, Ok, Err, IsSome, is_some}
 use Rattle.teco_base.specs.declared.TheConstants.{LIMIT}
 use Rattle.teco_base.specs.declared.bytes.TheConstants.{FF}
 use Rattle.teco_model.specs.Pages.{Page, before_form_feed, has_form_feed, behind_form_feed, first_page}
@@ -138,6 +138,11 @@ readied-none i p (Some b) a0 end o k read a x y f g ff h e v s n = cc
 readied-none i p None a0 true o k read a x y f g ff h e v s n = cc
 readied-none i p None a0 false o k read a x y f g ff h e v s n =
     subst (λ k. Told (MakesReady (Ok tt) k (held i read (Some ff) a (not ff) o)) x y) v (readied i p a0 o read a x y f g ff s n)
+
+-- it is known whether a form feed ended the page that is ready
+pub is-ready : (p : List ℕ) (r : Option Bool) → IsSome (page_in p r) → is_some r ≡ true
+is-ready p None h = h
+is-ready p (Some ff) h = refl
 
 pub accepted-some : (i : Option (List ℕ)) (p : List ℕ) (r : Option Bool) (a : List ℕ) (end : Bool) (o : Option (List ℕ)) (k : Held) (cleared : List ℕ) → is_some r ≡ true → cleared ≡ [] → held i p r a end o ≡ k → IsWhole i p r a end → (f : HostFiles) → unread_bytes (held i cleared None a end o) f ≡ behind_form_feed (unread_bytes k f)
 accepted-some i p None a end o k cleared h e v w f = cc

@@ -15,6 +15,7 @@ use crate::host::Host;
 use crate::write::{copy_rest, write_all, write_both};
 use std::alloc::Global;
 use std::marker::Model;
+use std::mem;
 use teco_base::LIMIT;
 use teco_base::bytes::FF;
 
@@ -159,6 +160,7 @@ impl Pages {
         ensures page { Told (MakesReady result self.old self.new) (H.files host.old) (H.files host.new) }
         ensures no_input { OnOk result (self.old.input ≡ None → self.new.ready ≡ Some (first_page [])) }
         ensures ready { OnOk result (IsSome self.new.ready) }
+        ensures limit { IfSome self.new.ready (λ page. length page.text ≤ LIMIT) }
         ensures err { OnErr result (self.new.ready ≡ None) }
         ensures input { self.new.input ≡ self.old.input }
         ensures output { self.new.output ≡ self.old.output }
@@ -199,6 +201,29 @@ impl Pages {
         if self.ready.is_some() {
             self.page.clear();
             self.ready = None;
+        }
+    }
+
+    /// Hands out the page that is ready, and whether a form feed ended it, and accepts it. `None` where none is ready.
+    pub fn take_page(&mut self) -> Option<(Vec<u8>, bool)>
+        ensures value { option_map (λ taken. record { text = taken.0.items; ff = taken.1 }) result ≡ self.old.ready }
+        ensures limit { IfSome result (λ taken. length taken.0.items ≤ LIMIT) }
+        ensures accepted { self.new ≡ without_page self.old }
+        ensures rest { IsSome self.old.ready →
+            (files : HostFiles) → unread_bytes self.new files ≡ behind_first_page (unread_bytes self.old files) }
+    {
+        let ff = self.ready.take()?;
+        let spare = Vec::new(*self.page.allocator());
+        Some((mem::replace(&mut self.page, spare), ff))
+    }
+
+    /// Takes over memory that a page may be read into, unless there is more already. What it holds is dropped.
+    pub fn take_over(&mut self, mut spare: Vec<u8>)
+        ensures { self.new ≡ self.old }
+    {
+        if self.page.is_empty() && self.page.capacity() < spare.capacity() {
+            spare.clear();
+            self.page = spare;
         }
     }
 

@@ -29,11 +29,10 @@ pub fn yank<T: TextStore, H: Host>(
         return Err(Halt::Code(Code::Yca));
     }
     pages.next_page(host)?;
-    let Some((page, form_feed)) = pages.page() else {
+    let Some((page, form_feed)) = pages.take_page() else {
         unreachable!()
     };
-    editor.take_page(page, form_feed)?;
-    pages.accept_page();
+    pages.take_over(editor.take_page(page, form_feed));
     Ok(())
 }
 
@@ -112,11 +111,11 @@ pub fn turn_page<T: TextStore, H: Host>(
         return turn_to_nothing(editor, pages, text, host);
     }
     pages.next_page(host)?;
-    let Some((page, form_feed)) = pages.page() else {
+    editor.write_page(text, pages, host)?;
+    let Some((page, form_feed)) = pages.take_page() else {
         unreachable!()
     };
-    editor.turn_page(text, page, form_feed, pages, host)?;
-    pages.accept_page();
+    pages.take_over(editor.take_page(page, form_feed));
     Ok(())
 }
 

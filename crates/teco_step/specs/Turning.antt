@@ -1,4 +1,4 @@
--- What goes out to a host while a page comes in.
+-- What goes out to a host.
 use Rattle.std.specs.Prelude.{ℕ, ◌≡◌, ◌<◌, List, Option, Result, Ok, Err}
 use Rattle.teco_pages.specs.HostFiles.{HostFiles, Becomes, after_writing}
 use Rattle.teco_pages.specs.PageCalls.{WritesFront}

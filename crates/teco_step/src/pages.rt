@@ -1,6 +1,7 @@
 //! Pages that come into the buffer.
-ghost use Rattle.std.specs.Prelude.{◌≡◌, ◌++◌, true, Ok, Err, MatchResult};
-ghost use Rattle.teco_model.specs.Paging.{page_added, page_taken};
+ghost use Rattle.std.specs.Prelude.{◌≡◌, ◌≤◌, ◌++◌, [], length, true, Ok, Err, MatchResult};
+ghost use Rattle.teco_base.specs.declared.TheConstants.{LIMIT};
+ghost use Rattle.teco_model.specs.Paging.{kept_with_page, page_added};
 ghost use Rattle.teco_model.specs.Places.{text_between};
 ghost use Rattle.teco_step.specs.Does.{KeepsIfMemory};
 
@@ -28,16 +29,15 @@ impl<T: TextStore> Editor<T> {
         Ok(pieces(&self.store, start, end))
     }
 
-    /// A page becomes the buffer, with the pointer at its start. One longer than `LIMIT` is FUL.
-    pub fn take_page(&mut self, page: &[u8], form_feed: bool) -> Result<(), Stuck>
-        ensures { KeepsIfMemory true self.old self.new
-            (page_taken (record { text = page.now; ff = form_feed }) self.old) result }
+    /// A page becomes the buffer, with the pointer at its start. It is not copied, and the memory of the buffer before is handed
+    /// back, with nothing in it.
+    pub fn take_page(&mut self, page: Vec<u8>, form_feed: bool) -> Vec<u8>
+        requires { length page.items ≤ LIMIT }
+        ensures taken { self.new ≡ kept_with_page (record { text = page.items; ff = form_feed }) self.old }
+        ensures spare { result.items ≡ [] }
     {
-        self.store.replace(0, self.store.len(), page)?;
-        // the text has a start
-        let _ = self.store.set_dot(0);
         self.form_feed = form_feed;
-        Ok(())
+        self.store.exchange(page)
     }
 
     /// A page comes behind the buffer, and the pointer stays. A buffer that would be longer than `LIMIT` is FUL.

@@ -4,7 +4,7 @@ use super::*;
 use std::alloc::Global;
 use std::process::Abort;
 use std::test::Fail;
-use teco_base::{Code, Reg};
+use teco_base::{Code, LIMIT, Reg};
 use teco_model::kind::{Command, Insertion, Motion, Query, Radix, Stack, Storage, Typing, Unit};
 use teco_model::{Element, Kind, Span, Taken};
 use teco_pages::{MemHost, Pages};
@@ -491,16 +491,26 @@ fn searches_leave_their_text(rt: HostRuntime) -> Result<(), Fail> {
     Ok(())
 }
 
+// A page that was read.
+fn page(rt: &impl Abort, alloc: Global, text: &[u8]) -> Vec<u8> {
+    match Vec::from_slice(alloc, text) {
+        Ok(page) => page,
+        Err(_) => Vec::from_slice(alloc, text).expect(rt, "memory"),
+    }
+}
+
+// A page of two characters that a form feed ended becomes the buffer.
+fn take_page(rt: &impl Abort, alloc: Global, editor: &mut Editor<VecText>) {
+    let page = page(rt, alloc, b"ab");
+    assert!(rt; page.len() <= LIMIT);
+    assert!(rt; editor.take_page(page, true).is_empty());
+}
+
 #[test]
 fn pages_come_into_the_buffer(rt: HostRuntime) {
     let mut editor = Editor::new(rt.alloc(), VecText::new(rt.alloc()));
     assert!(rt; !editor.form_feed());
-    if editor.take_page(b"ab", true).is_err() {
-        editor
-            .take_page(b"ab", true)
-            .map_err(|_| ())
-            .expect(&rt, "memory");
-    }
+    take_page(&rt, rt.alloc(), &mut editor);
     expect_text(&rt, &editor, b"ab", 0);
     assert!(rt; editor.form_feed());
     editor.set_dot(1);
@@ -512,8 +522,8 @@ fn pages_come_into_the_buffer(rt: HostRuntime) {
     }
     expect_text(&rt, &editor, b"abcd", 1);
     assert!(rt; !editor.form_feed());
-    assert!(rt; editor.take_page(b"", false).is_ok());
-    expect_text(&rt, &editor, b"", 0);
+    take_page(&rt, rt.alloc(), &mut editor);
+    expect_text(&rt, &editor, b"ab", 0);
 }
 
 // A host with an open output.
@@ -533,27 +543,19 @@ fn pages_go_out_of_the_buffer(rt: HostRuntime) -> Result<(), Fail> {
     let mut editor = Editor::new(rt.alloc(), VecText::new(rt.alloc()));
     let mut pages = Pages::new(rt.alloc());
     let mut host = open_host(&rt, rt.alloc(), &mut pages);
-    if editor.take_page(b"ab", true).is_err() {
-        editor
-            .take_page(b"ab", true)
-            .map_err(|_| ())
-            .expect(&rt, "memory");
-    }
+    take_page(&rt, rt.alloc(), &mut editor);
     let (front, back) = editor
         .range_text(2, 1)
         .map_err(|_| ())
         .expect(&rt, "a range");
     assert_eq!(rt; (front, back), (&b"b"[..], &b""[..]));
     assert!(rt; matches!(editor.range_text(0, 3), Err(Code::Pop)));
-    if editor
-        .turn_page(b"q", b"cde", false, &pages, &mut host)
-        .is_err()
-    {
+    if editor.write_page(b"q", &pages, &mut host).is_err() {
         // a write may have been refused memory
         return Ok(());
     }
-    expect_text(&rt, &editor, b"cde", 0);
-    assert!(rt; !editor.form_feed());
+    expect_text(&rt, &editor, b"ab", 0);
+    assert!(rt; editor.form_feed());
     assert_eq!(rt; editor.search_text(), &b"q"[..]);
     if editor.look_through(b"", b"no", &pages, &mut host).is_err() {
         return Ok(());
@@ -564,19 +566,14 @@ fn pages_go_out_of_the_buffer(rt: HostRuntime) -> Result<(), Fail> {
     if pages.close_out(&mut host).is_err() {
         return Ok(());
     }
-    assert_eq!(rt; host.file(b"out"), Some(&b"ab\x0ccde"[..]));
+    assert_eq!(rt; host.file(b"out"), Some(&b"ab\x0cab\x0c"[..]));
     Ok(())
 }
 
 #[test]
 fn the_buffer_is_left(rt: HostRuntime) {
     let mut editor = Editor::new(rt.alloc(), VecText::new(rt.alloc()));
-    if editor.take_page(b"ab", true).is_err() {
-        editor
-            .take_page(b"ab", true)
-            .map_err(|_| ())
-            .expect(&rt, "memory");
-    }
+    take_page(&rt, rt.alloc(), &mut editor);
     editor.leave_page();
     expect_text(&rt, &editor, b"", 0);
     assert!(rt; !editor.form_feed());

@@ -1,5 +1,5 @@
 // What every store of a text promises.
-ghost use Rattle.std.specs.Prelude.{◌≡◌, ℕ, ◌+◌, ◌-◌, ◌≤◌, List, ◌++◌, length, slice_get, OnOk, OnErr, vec_len, vec_capacity};
+ghost use Rattle.std.specs.Prelude.{◌≡◌, ℕ, ◌+◌, ◌-◌, ◌≤◌, List, [], ◌++◌, length, slice_get, OnOk, OnErr, vec_len, vec_capacity};
 ghost use Rattle.teco_base.specs.Text.{range, text_after_replacement, text_after_deletion, text_after_insertion, pointer_after_deletion};
 ghost use Rattle.teco_base.specs.declared.TheConstants.{LIMIT};
 ghost use Rattle.teco_text.specs.Answers.{IsPart, OkWhere, OkWithin, OkWhereWithin, OkWhereSpare};
@@ -87,6 +87,14 @@ pub trait TextStore {
         ensures grows { room self.old ≤ room self.new }
         ensures list { list self.new ≡ list self.old }
         ensures pointer { pointer self.new ≡ pointer self.old };
+
+    /// What a vector holds, which is at most `LIMIT` characters, becomes the text, with the pointer at its start. Nothing is
+    /// copied and no memory is wanted; the memory of the text before is handed back, with nothing in it.
+    fn exchange(&mut self, text: Vec<u8>) -> Vec<u8>
+        requires { length text.items ≤ LIMIT }
+        ensures list { list self.new ≡ text.items }
+        ensures pointer { pointer self.new ≡ 0 }
+        ensures spare { result.items ≡ [] };
 
     /// The text in two pieces, of which either may be empty.
     fn slices(&self) -> (&[u8], &[u8])

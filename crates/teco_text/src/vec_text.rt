@@ -7,6 +7,7 @@ use crate::fault::TextFault;
 use crate::store::TextStore;
 use std::alloc::{AllocError, Global};
 use std::marker::Model;
+use std::mem;
 use teco_base::LIMIT;
 
 /// A text in one vector, with its pointer. An edit takes time by its own characters and by all those behind it.
@@ -116,6 +117,13 @@ impl TextStore for VecText {
         }
         self.bytes.reserve(n.saturating_sub(self.bytes.len()))?;
         Ok(())
+    }
+
+    fn exchange(&mut self, text: Vec<u8>) -> Vec<u8> {
+        let mut spare = mem::replace(&mut self.bytes, text);
+        spare.clear();
+        self.dot = 0;
+        spare
     }
 
     fn slices(&self) -> (&[u8], &[u8]) {

@@ -58,6 +58,12 @@ fn expect_pages(
         for page in want {
             turn(&mut pages, &mut host)?;
             assert_eq!(rt; pages.page(), Some(*page), "in pieces of {piece}");
+            let Some((text, ff)) = pages.take_page() else {
+                panic!(rt; "no page")
+            };
+            assert_eq!(rt; (text.as_slice(), ff), *page);
+            assert!(rt; pages.page().is_none());
+            pages.take_over(text);
         }
         // the end stays the end
         for _ in 0..2 {

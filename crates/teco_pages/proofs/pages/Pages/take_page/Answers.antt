@@ -1,0 +1,12 @@
+use Rattle.std.proofs.Common.{◌≡◌, ap, subst, sym, ◌∙◌, true, IsSome}
+use Rattle.std.specs.Prelude.{is_some}
+use Rattle.teco_pages.specs.Held.{name_in}
+use Rattle.teco_pages.proofs.Ready.{accepted-some, is-ready}
+use Rattle.teco_pages.proofs.pages.Pages.take_page.Goals as goal
+
+pub returns-clause-rest : goal.returns-clause-rest
+returns-clause-rest c h f =
+    let i = c.self.inside in
+    let yes : is_some i.ready ≡ true = is-ready i.page.items i.ready (subst (λ k. IsSome k.ready) (sym c.self.view_is) h) in
+    let left = ap (λ v. v.items) c.replace.ensures.after ∙ c.new-spare.ensures.items in
+    rw c.take.ensures.after (accepted-some (name_in i.input) i.page.items i.ready i.ahead i.end (name_in i.output) _ c.replace.new.dest.items yes left c.self.view_is c.self.invariant f)
