@@ -40,7 +40,7 @@ fn says_always(text: &[u8]) -> bool
 }
 
 impl LastPattern {
-    /// Nothing was read yet. It takes no memory.
+    /// Nothing was read yet. Its memory will come from `alloc`; it takes none yet.
     pub fn new(alloc: Global) -> LastPattern
         ensures { result ≡ [] }
     {
@@ -68,7 +68,7 @@ impl LastPattern {
 
     /// The pattern becomes the one that a search text says, as [`Pattern::read`] reads it. A refusal leaves it.
     #[tactic(auto, using(crate::proofs::Always::always))]
-    pub fn read(&mut self, alloc: Global, text: &[u8], regs: &Regs, exact: bool) -> Result<(), FindFault>
+    pub fn read(&mut self, text: &[u8], regs: &Regs, exact: bool) -> Result<(), FindFault>
         ensures ok { OnOk result (model.pattern regs.now exact text.now ≡ Ok self.new) }
         ensures err { IfErr result (λ fault. Reads (Err fault) (model.pattern regs.now exact text.now)) }
         ensures kept { OnErr result (self.new ≡ self.old) }
@@ -77,7 +77,7 @@ impl LastPattern {
         if self.is_of(text, exact) {
             return Ok(());
         }
-        let pattern = match Pattern::read(alloc, text, regs, exact) {
+        let pattern = match Pattern::read(*self.text.allocator(), text, regs, exact) {
             Ok(pattern) => pattern,
             Err(fault) => return Err(fault),
         };

@@ -345,3 +345,36 @@ fn least_lengths(rt: HostRuntime) {
         assert_eq!(rt; minimum(search).map_err(told), Ok(want));
     }
 }
+
+#[test]
+fn the_pattern_that_was_read_last(rt: HostRuntime) {
+    let mut regs = registers(&rt, rt.alloc());
+    let mut last = LastPattern::new(rt.alloc());
+    assert!(rt; find(last.pattern(), (b"xb.", b""), 0, Way::Here).is_none());
+    // a search text, its mode, and where it is found in `xBb.bc`: by then the register has another text
+    let rows: [(&[u8], bool, Option<usize>); 8] = [
+        (b"b", false, Some(1)),
+        (b"b", false, Some(1)),
+        (b"b", true, Some(2)),
+        (b"\x05QA", true, Some(2)),
+        (b"\x05QA", true, Some(4)),
+        (b"\x05", true, None),
+        (b"c", true, Some(5)),
+        (b"", true, None),
+    ];
+    for (text, exact, want) in rows {
+        if let Err(FindFault::Memory) = last.read(text, &regs, exact) {
+            assert!(rt; last.read(text, &regs, exact).is_ok());
+        }
+        let found = find(last.pattern(), (b"xBb", b".bc"), 0, Way::Forward(1));
+        if want.is_some() {
+            assert_eq!(rt; found.map(|span| span.start), want, "{text:?}");
+        }
+        if text.len() == 3 {
+            let a = Reg::of(b'A').expect(&rt, "a register");
+            if regs.set_text(a, b"bc").is_err() {
+                regs.set_text(a, b"bc").expect(&rt, "memory");
+            }
+        }
+    }
+}

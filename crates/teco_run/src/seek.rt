@@ -10,9 +10,9 @@ ghost use Rattle.teco_run.specs.Ways.{IsRead, FitsIn, is_into};
 use crate::flow::jump;
 use crate::frames::Frames;
 use crate::way::{self, Way};
-use std::alloc::Global;
 use teco_base::Code;
 use teco_expr::Args;
+use teco_find::LastPattern;
 use teco_lex::element;
 use teco_model::kind::{Flow, Search};
 use teco_model::{Element, Kind};
@@ -98,8 +98,8 @@ fn leave_by_miss<T: TextStore>(
 
 /// Looks for the text of a search in the buffer, and says how the running text goes on.
 pub fn seek<T: TextStore>(
-    alloc: Global,
     editor: &mut Editor<T>,
+    last: &mut LastPattern,
     kind: Search,
     element: &Element<'_>,
     frames: &Frames<'_>,
@@ -113,7 +113,7 @@ pub fn seek<T: TextStore>(
 {
     let colon = has_colon(element, frames);
     let taken = arguments.take()?;
-    let finding = match search(alloc, editor, kind, element, taken) {
+    let finding = match search(editor, last, kind, element, taken) {
         Ok(finding) => finding,
         Err(stuck) => return Err(stuck),
     };

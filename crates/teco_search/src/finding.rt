@@ -1,5 +1,5 @@
 // What S and FS do.
-ghost use Rattle.std.specs.Prelude.{◌≡◌, Some, ◌≤◌, ◌≢◌, length, pos, IfSome, IfOk};
+ghost use Rattle.std.specs.Prelude.{◌≡◌, Some, ◌≤◌, ◌≢◌, length, pos, IfSome, IfOk, IfErr, Ok, Err, OnOk};
 ghost use Rattle.teco_find.specs.Pieces.{joined};
 ghost use Rattle.teco_find.specs.Reading.{Reads};
 ghost use Rattle.teco_model.specs.Element.{seen};
@@ -8,9 +8,8 @@ ghost use Rattle.teco_model.specs.Search as model;
 ghost use Rattle.teco_search.specs.Searches.{Looks, Searches, Settles, stuck_by_pattern};
 ghost use Rattle.teco_text.specs.Answers.{IsPart};
 
-use std::alloc::Global;
 use teco_base::Code;
-use teco_find::{FindFault, Pattern};
+use teco_find::{FindFault, LastPattern, Pattern};
 use teco_model::kind::Search;
 use teco_model::{Element, Sought, Span, Taken};
 use teco_step::{Editor, Stuck};
@@ -63,20 +62,22 @@ fn find(pattern: &Pattern, text: (&[u8], &[u8]), dot: usize, colons: u8, n: i32)
     }
 }
 
-// The pattern that a search looks for: an empty text means the last one.
-fn pattern<T: TextStore>(
-    alloc: Global,
+// Reads the pattern that a search looks for: an empty text means the last one.
+fn read_pattern<T: TextStore>(
+    last: &mut LastPattern,
     editor: &Editor<T>,
     text: &[u8],
-) -> Result<Pattern, FindFault>
-    ensures { Reads result (model.pattern_of (model.search_text_of text.now editor.now) editor.now) }
+) -> Result<(), FindFault>
+    ensures ok { OnOk result (model.pattern_of (model.search_text_of text.now editor.now) editor.now ≡ Ok last.new) }
+    ensures err { IfErr result (λ fault. Reads (Err fault)
+        (model.pattern_of (model.search_text_of text.now editor.now) editor.now)) }
 {
     let text = if text.is_empty() {
         editor.search_text()
     } else {
         text
     };
-    Pattern::read(alloc, text, editor.regs(), editor.mode() != 0)
+    last.read(text, editor.regs(), editor.mode() != 0)
 }
 
 // Goes behind the match that was found, or replaces it; the search text becomes the last one.
@@ -105,10 +106,11 @@ fn settle<T: TextStore>(
 }
 
 /// `S` goes behind the match that it finds, and `FS` puts its second text in the place of the match; the search text is then
-/// the last one. A miss leaves all to the caller. It takes time by the text that it passes, and memory for the pattern.
+/// the last one. A miss leaves all to the caller. It takes time by the text that it passes, and memory for a pattern that is not
+/// the last one.
 pub fn search<T: TextStore>(
-    alloc: Global,
     editor: &mut Editor<T>,
+    last: &mut LastPattern,
     search: Search,
     element: &Element<'_>,
     taken: Taken,
@@ -117,11 +119,16 @@ pub fn search<T: TextStore>(
         (model.search search (seen element.now) taken editor.old) result }
 {
     let n = count(taken)?;
-    let pattern = match pattern(alloc, editor, element.text) {
-        Ok(pattern) => pattern,
-        Err(fault) => return Err(stuck(fault)),
-    };
-    match find(&pattern, editor.text(), editor.dot(), element.colons, n) {
+    if let Err(fault) = read_pattern(last, editor, element.text) {
+        return Err(stuck(fault));
+    }
+    match find(
+        last.pattern(),
+        editor.text(),
+        editor.dot(),
+        element.colons,
+        n,
+    ) {
         Some(found) => {
             settle(editor, search, element, element.text, found)?;
             Ok(Finding::Found)
@@ -133,8 +140,8 @@ pub fn search<T: TextStore>(
 /// `N` and `FN` look for the last of `n` matches from the pointer on, by a search text, where an empty one means the last, and
 /// settle there as `S` and `FS` do. Where the buffer has fewer it says how many more are wanted, and changes nothing.
 pub fn look<T: TextStore>(
-    alloc: Global,
     editor: &mut Editor<T>,
+    last: &mut LastPattern,
     search: Search,
     element: &Element<'_>,
     text: &[u8],
@@ -145,11 +152,10 @@ pub fn look<T: TextStore>(
         (record editor.old { search_text = model.search_text_of text.now editor.old })) result }
     ensures some { IfOk result (λ more. IfSome more (λ wanted. 1 ≤ wanted)) }
 {
-    let pattern = match pattern(alloc, editor, text) {
-        Ok(pattern) => pattern,
-        Err(fault) => return Err(stuck(fault)),
-    };
-    match pattern.seek(editor.text(), editor.dot(), n) {
+    if let Err(fault) = read_pattern(last, editor, text) {
+        return Err(stuck(fault));
+    }
+    match last.pattern().seek(editor.text(), editor.dot(), n) {
         Sought::Last(found) => {
             settle(editor, search, element, text, found)?;
             Ok(None)

@@ -6,6 +6,7 @@ use super::*;
 use std::alloc::Global;
 use std::process::Abort;
 use teco_base::Code;
+use teco_find::LastPattern;
 use teco_model::kind::Search;
 use teco_model::{Element, Kind, Taken};
 use teco_step::{Editor, Stuck};
@@ -30,19 +31,19 @@ fn editor(rt: &impl Abort, alloc: Global, text: &[u8], dot: usize) -> Editor<Vec
 }
 
 fn search_twice(
-    alloc: Global,
     editor: &mut Editor<VecText>,
+    last: &mut LastPattern,
     kind: Search,
     element: &Element<'_>,
     taken: Taken,
 ) -> Result<Finding, Stuck> {
-    match search(alloc, editor, kind, element, taken) {
-        Err(Stuck::Memory) => search(alloc, editor, kind, element, taken),
+    match search(editor, last, kind, element, taken) {
+        Err(Stuck::Memory) => search(editor, last, kind, element, taken),
         answer => answer,
     }
 }
 
-fn expect_row(rt: &impl Abort, alloc: Global, row: &Row) {
+fn expect_row(rt: &impl Abort, alloc: Global, last: &mut LastPattern, row: &Row) {
     let ((text, dot), (kind, colons, sought, second, count), want, (left, place)) = *row;
     let mut editor = editor(rt, alloc, text, dot);
     let element = Element {
@@ -58,7 +59,7 @@ fn expect_row(rt: &impl Abort, alloc: Global, row: &Row) {
         first: None,
         value: count,
     };
-    let answer = search_twice(alloc, &mut editor, kind, &element, taken);
+    let answer = search_twice(&mut editor, last, kind, &element, taken);
     let got = match answer {
         Ok(finding) => Ok(finding),
         Err(Stuck::Code(code)) => Err(code),
@@ -128,22 +129,24 @@ fn texts_are_found_or_missed(rt: HostRuntime) {
             (b"abcXYZ", 6),
         ),
     ];
+    // one of them all, so that each finds what the others left
+    let mut last = LastPattern::new(rt.alloc());
     for row in rows.iter() {
-        expect_row(&rt, rt.alloc(), row);
+        expect_row(&rt, rt.alloc(), &mut last, row);
     }
 }
 
 fn look_twice(
-    alloc: Global,
     editor: &mut Editor<VecText>,
+    last: &mut LastPattern,
     kind: Search,
     element: &Element<'_>,
     n: u32,
 ) -> Result<Option<u32>, Stuck>
     requires { 1 ≤ n }
 {
-    match look(alloc, editor, kind, element, element.text, n) {
-        Err(Stuck::Memory) => look(alloc, editor, kind, element, element.text, n),
+    match look(editor, last, kind, element, element.text, n) {
+        Err(Stuck::Memory) => look(editor, last, kind, element, element.text, n),
         answer => answer,
     }
 }
@@ -160,17 +163,18 @@ fn looks_for_the_last_of_some(rt: HostRuntime) {
         next: 1,
     };
     let mut buffer = editor(&rt, rt.alloc(), b"abcabc", 0);
+    let mut last = LastPattern::new(rt.alloc());
     // fewer are there, and nothing changes
-    let wanted = look_twice(rt.alloc(), &mut buffer, Search::FindInPages, &element, 3);
+    let wanted = look_twice(&mut buffer, &mut last, Search::FindInPages, &element, 3);
     assert!(rt; matches!(wanted, Ok(Some(1))));
     assert_eq!(rt; buffer.dot(), 0);
     assert_eq!(rt; buffer.search_text(), &b""[..]);
-    let found = look_twice(rt.alloc(), &mut buffer, Search::FindInPages, &element, 2);
+    let found = look_twice(&mut buffer, &mut last, Search::FindInPages, &element, 2);
     assert!(rt; matches!(found, Ok(None)));
     assert_eq!(rt; buffer.dot(), 5);
     assert_eq!(rt; buffer.search_text(), &b"ab"[..]);
     buffer.set_dot(0);
-    let replaced = look_twice(rt.alloc(), &mut buffer, Search::ReplaceInPages, &element, 1);
+    let replaced = look_twice(&mut buffer, &mut last, Search::ReplaceInPages, &element, 1);
     assert!(rt; matches!(replaced, Ok(None)));
     assert_eq!(rt; buffer.text().0, &b"xcabc"[..]);
     assert_eq!(rt; buffer.dot(), 1);
