@@ -257,6 +257,7 @@ pub fn along(found: Result<Way, Halt>) -> Result<Course, Halt>
 }
 
 /// A command of files.
+#[inline(never)]
 pub fn use_file<T: TextStore, H: Host>(
     desk: &mut Desk<T>,
     file: File,

@@ -167,6 +167,7 @@ fn go_to(element: &Element<'_>, frames: &Frames<'_>, arguments: &mut Args) -> Re
 }
 
 /// The way that the text goes behind a flow element.
+#[inline(always)]
 pub fn turn(
     flow: Flow,
     element: &Element<'_>,

@@ -246,6 +246,7 @@ fn find_in_buffer<T: TextStore, H: Host>(
 
 /// Looks for the text of a search, and says how the running text goes on. `N` and `FN` stay at their element while pages are
 /// left.
+#[inline(never)]
 pub fn find<T: TextStore, H: Host>(
     desk: &mut Desk<T>,
     search: Search,

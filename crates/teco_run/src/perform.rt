@@ -21,6 +21,7 @@ fn takes(query: &Query, colons: u8) -> bool
 }
 
 /// Takes the value that stands, or gives one.
+#[inline(always)]
 pub fn ask<T: TextStore>(
     editor: &mut Editor<T>,
     query: Query,
@@ -51,6 +52,7 @@ pub fn ask<T: TextStore>(
 }
 
 // Executes a command with the arguments that it took.
+#[inline(never)]
 fn command_done<T: TextStore>(
     editor: &mut Editor<T>,
     command: Command,
@@ -69,7 +71,25 @@ fn command_done<T: TextStore>(
     }
 }
 
+// The same at the place of the call where it works on a register, as counting does.
+#[inline(always)]
+fn done<T: TextStore>(
+    editor: &mut Editor<T>,
+    command: Command,
+    element: &Element<'_>,
+    taken: Taken,
+) -> Result<Option<i32>, Stuck>
+    ensures { DoesIfMemory (command_grows command) editor.old editor.new
+        (model.execution command (seen element.now) taken editor.old) result }
+{
+    match command {
+        Command::Storage(storage) => editor.storage(storage, element, taken),
+        _ => command_done(editor, command, element, taken),
+    }
+}
+
 /// Takes the arguments, executes the command, and gives what it answers.
+#[inline(always)]
 pub fn execute<T: TextStore>(
     editor: &mut Editor<T>,
     command: Command,
@@ -80,7 +100,7 @@ pub fn execute<T: TextStore>(
         (model.after_command command (seen element.now) editor.old arguments.old) result }
 {
     let taken = arguments.take()?;
-    if let Some(answer) = command_done(editor, command, element, taken)? {
+    if let Some(answer) = done(editor, command, element, taken)? {
         arguments.value(answer)?;
     }
     Ok(())
