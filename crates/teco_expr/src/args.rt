@@ -97,6 +97,7 @@ impl Args {
     }
 
     /// Gives a value.
+    #[inline(always)]
     pub fn value(&mut self, value: i32) -> Result<(), ArgFault>
         ensures { Does self.old self.new
             (with_level self.old (model.level_with value self.old.level)) result }
@@ -118,6 +119,7 @@ impl Args {
 
     /// Takes the value that stands in the innermost level, with no operator behind it, and what else is pending there; `None`
     /// where none stands, and then nothing changes.
+    #[inline(always)]
     pub fn take_standing(&mut self) -> Option<i32>
         ensures value { result ≡ model.standing_value self.old.level }
         ensures taken { OnSome result (self.new ≡ model.levels_after_taking self.old) }
@@ -132,6 +134,7 @@ impl Args {
     }
 
     /// Takes the arguments of the innermost level.
+    #[inline(always)]
     pub fn take(&mut self) -> Result<Taken, ArgFault>
         ensures { Takes self.old self.new result }
     {
@@ -141,6 +144,7 @@ impl Args {
     }
 
     /// Drops all arguments, and all open parentheses.
+    #[inline(always)]
     pub fn drop_all(&mut self)
         ensures { self.new ≡ model.no_arguments }
     {

@@ -41,6 +41,7 @@ pub fn applied(operator: Operator, x: i32, y: i32) -> Result<i32, Code>
 }
 
 /// The level with a value given to it.
+#[inline(always)]
 pub fn give(value: i32, level: Level) -> Result<Level, Code>
     ensures { result ≡ model.level_with value level }
 {

@@ -14,7 +14,6 @@ use teco_step::{Editor, Stuck};
 use teco_text::TextStore;
 
 /// Changes the arguments as an element of this kind does.
-#[inline(always)]
 pub fn argue(argument: Argument, text: &[u8], arguments: &mut Args) -> Result<(), Stuck>
     ensures { Argues (grows (kind.Argument argument)) arguments.new
         (model.levels_after argument text.now arguments.old) result }

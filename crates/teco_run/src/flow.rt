@@ -19,6 +19,7 @@ use teco_model::{Element, Loop};
 use teco_step::Stuck;
 
 /// The way that the skip of an element leads; `code` where it leads nowhere.
+#[inline(always)]
 pub fn jump(element: &Element<'_>, frames: &Frames<'_>, code: Code) -> Result<Way, Code>
     requires { IsRead element.now frames.now }
     ensures way { GoesAlways frames.now.running (λ arguments.
@@ -70,6 +71,7 @@ fn later_turns(n: i32) -> Option<u32>
 }
 
 // `<` begins an iteration, or skips it.
+#[inline(always)]
 fn iterate(element: &Element<'_>, frames: &Frames<'_>, n: Option<i32>) -> Result<Way, Code>
     requires { IsRead element.now frames.now }
     ensures way { GoesAlways frames.now.running (λ arguments.
@@ -87,6 +89,7 @@ fn iterate(element: &Element<'_>, frames: &Frames<'_>, n: Option<i32>) -> Result
 }
 
 // `>` goes back to the start of the iteration while turns are left, and else on.
+#[inline(always)]
 fn end_turn(element: &Element<'_>, frames: &Frames<'_>) -> Result<Way, Code>
     requires { IsRead element.now frames.now }
     ensures way { Goes frames.now.running no_arguments
@@ -109,6 +112,7 @@ fn end_turn(element: &Element<'_>, frames: &Frames<'_>) -> Result<Way, Code>
 }
 
 // `;` leaves the iteration, or goes on.
+#[inline(always)]
 fn leave(element: &Element<'_>, frames: &Frames<'_>, arguments: &mut Args) -> Result<Way, Stuck>
     requires { IsRead element.now frames.now }
     ensures way { Turns frames.now.running arguments.new
@@ -129,6 +133,7 @@ fn leave(element: &Element<'_>, frames: &Frames<'_>, arguments: &mut Args) -> Re
 }
 
 // A conditional goes on where its test holds, and else skips its first branch.
+#[inline(always)]
 fn decide(
     test: Test,
     element: &Element<'_>,

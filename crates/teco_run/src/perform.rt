@@ -21,7 +21,6 @@ fn takes(query: &Query, colons: u8) -> bool
 }
 
 /// Takes the value that stands, or gives one.
-#[inline(always)]
 pub fn ask<T: TextStore>(
     editor: &mut Editor<T>,
     query: Query,
