@@ -1,18 +1,21 @@
 -- What has arrived at each node, and a table that is derived row by row.
-use Rattle.std.proofs.Common.{◌≡◌, ◌⊎◌, inl, inr, subst, refl, sym, ◌∙◌, ap, ℕ, zero, suc, ◌+◌, ◌-◌, ◌<◌, ◌≤◌, ◌==◌, Bool, true, false, List, [], ◌∷◌, ◌++◌, append_assoc, length, set, get_or, drop, replicate, Option, None, Result, Ok, Err, if◌then◌else◌, add-one, arith}
+use Rattle.std.proofs.Common.{◌≡◌, ◌⊎◌, inl, inr, subst, refl, sym, ◌∙◌, ap, ℕ, zero, suc, ◌+◌, ◌-◌, ◌<◌, ◌≤◌, ◌==◌, Bool, true, false, List, [], ◌∷◌, ◌++◌, append_assoc, length, set, get_or, drop, replicate, Option, Some, None, Result, Ok, Err, if◌then◌else◌, slice_get, length-append, add-one, arith}
 use Rattle.std.proofs.lemmas.List.{drop_all, append-nil, length-set, length-replicate}
 use Rattle.std.proofs.lemmas.Bool.{cases_eq}
 use Rattle.std.proofs.lemmas.Bool.Decides.{nat_tests}
+use Rattle.std.specs.Option.{option_and_then}
 use Rattle.teco_expand.specs.Node.{Node}
 use Rattle.teco_rules.specs.declared.refusal.Refusal.{Refusal}
 use Rattle.teco_rules.specs.Attempt.{◌>>=◌}
 use Rattle.teco_rules.specs.Facts.{Facts, entry_facts}
-use Rattle.teco_table.specs.Deriving.{Chosen, Arrival, met, met_with, derived_at, derive, derive_from}
-use Rattle.teco_table.specs.Table.{Row, Table}
+use Rattle.teco_table.specs.Behind.{edges_at}
+use Rattle.teco_table.specs.Deriving.{Chosen, Arrival, Derived, met, met_with, derived_at, derive, derive_from}
+use Rattle.teco_table.specs.Table.{Row, Table, facts_in, facts_at}
 use Rattle.teco_check.specs.declared.derivation.NotDerived.{NotDerived}
 use Rattle.teco_check.specs.declared.derivation.NotDerived.TheVariants as fault
-use Rattle.teco_check.specs.Derived.{Derives, DerivesFrom, Slots, met_more, arrived_at, arrived_all, arrivals_of, derived_from, DerivesTo}
+use Rattle.teco_check.specs.Derived.{AreLarge, HasLarge, Derives, DerivesFrom, Slots, met_more, arrived_at, arrived_all, arrivals_of, derived_from, DerivesTo}
 use Rattle.teco_check.specs.Here.{node_at}
+use Rattle.teco_check.specs.Kept.{AreKept}
 use Rattle.teco_check.proofs.Steps.{nodes_from}
 
 -- steps one after another
@@ -144,12 +147,14 @@ arrivals_before nodes chosen (suc k) =
 pub record AreDerived (nodes : List Node) (chosen : List Chosen) (k : ℕ) (slots : Slots) (table : Table) : Type 0 where
   pub met : AreMet slots (arrivals_before nodes chosen k) k (length nodes)
   pub derived : derive nodes chosen ≡ (derive_from nodes chosen (suc k) (drop k nodes) (arrivals_before nodes chosen k) >>= (λ rows. Ok (table ++ rows)))
+  pub rows : length table ≡ k
 
 pub begun : (nodes : List Node) (chosen : List Chosen) (slots : Slots) → slots ≡ arrived_at 1 entry_facts (replicate (length nodes) (Ok None)) → AreDerived nodes chosen 0 slots []
 unfolding arrivals_before derive
 begun nodes chosen slots e = record {
   met = rw e (met_one (replicate (length nodes) (Ok None)) [] 0 (length nodes) 1 entry_facts (record { long = length-replicate (length nodes) (Ok None); each = λ k h l. nothing_at (length nodes) k l }));
   derived = sym (done (derive_from nodes chosen 1 nodes (record { target = 1; facts = entry_facts } ∷ [])));
+  rows = refl;
 }
 
 -- what is derived at the node behind a number
@@ -185,6 +190,7 @@ row_more nodes chosen k slots new table row h a d =
     rw add-one (record {
       met = rw (d.arrived, is, same) (met_all (set slots k (Ok None)) before _ (suc k) (length nodes) (met_behind slots before k (length nodes) a.met));
       derived = a.derived ∙ rw (from_node nodes chosen k before row _ h derived) (rows_more _ row table);
+      rows = length-append table (row ∷ []) ∙ ap (λ n. n + 1) a.rows ∙ add-one k;
     })
 
 -- a row that is refused
@@ -195,8 +201,46 @@ row_refused nodes chosen k slots table why h a e =
 pub all_derived : (nodes : List Node) (chosen : List Chosen) (k : ℕ) (slots : Slots) (table : Table) → length nodes ≤ k → AreDerived nodes chosen k slots table → derive nodes chosen ≡ Ok table
 all_derived nodes chosen k slots table h a = a.derived ∙ rw (drop_all k nodes h, append-nil) refl
 
+-- what the row of a node that is reached says
+facts_of : Result Derived Refusal → Option Facts
+facts_of (Ok derived) = derived.row.facts
+facts_of (Err why) = None
+
+pub large_here : (nodes : List Node) (chosen : List Chosen) (number : ℕ) (node : Node) (facts : Facts) → ¬ AreKept facts → HasLarge (derived_at nodes chosen number node (Some facts)) number number
+unfolding facts_of ok_of
+large_here nodes chosen number node facts large = record {
+  here = refl;
+  large = λ derived e.
+      let edges = ok_of (edges_at nodes node facts) _ derived e in
+      subst AreLarge (ap facts_of edges.2) large;
+}
+
+row_there : (table : Table) (k : ℕ) (row : Row) (rest : Table) → length table ≡ k → slice_get (table ++ row ∷ rest) k ≡ Some row
+row_there [] zero row rest h = refl
+row_there [] (suc k) row rest h = absurd (omega (arith, h))
+row_there (first ∷ table) zero row rest h = absurd (omega (arith, h))
+row_there (first ∷ table) (suc k) row rest h = row_there table k row rest (omega (arith, h))
+
+table_of : Result Table Refusal → Table
+table_of (Ok table) = table
+table_of (Err why) = []
+
+large_in : (nodes : List Node) (chosen : List Chosen) (k : ℕ) (slots : Slots) (table : Table) → k < length nodes → AreDerived nodes chosen k slots table → HasLarge (derived_from nodes chosen (k + 1) slots) (k + 1) (k + 1) → (whole : Table) → derive nodes chosen ≡ Ok whole → AreLarge (facts_at whole (k + 1))
+unfolding ok_of table_of
+large_in nodes chosen k slots table h a l whole e =
+    let before = arrivals_before nodes chosen k in
+    let rows = ok_of (derive_from nodes chosen (suc k) (drop k nodes) before) _ whole (sym a.derived ∙ e) in
+    let known = ok_of (met (suc k) before None) _ rows.0 (ap (λ nodes_here. derive_from nodes chosen (suc k) nodes_here before) (sym (nodes_from nodes k h)) ∙ rows.1) in
+    let here = ok_of (derived_at nodes chosen (suc k) (node_at nodes (suc k)) known.0) _ rows.0 known.2 in
+    let rest = ok_of (derive_from nodes chosen (suc (suc k)) (drop (suc k) nodes) (before ++ here.0.arrivals)) _ rows.0 here.2 in
+    let is : derived_from nodes chosen (k + 1) slots ≡ Ok here.0 = derived_is nodes chosen k slots h a.met ∙ (ap (λ r. r >>= derived_at nodes chosen (suc k) (node_at nodes (suc k))) known.1 ∙ here.1) in
+    let same : table ++ here.0.row ∷ rest.0 ≡ whole = ap (λ more. table ++ more) (ap table_of rest.2) ∙ ap table_of rows.2 in
+    let there : facts_at whole (suc k) ≡ here.0.row.facts = ap (λ t. facts_at t (suc k)) (sym same) ∙ ap (option_and_then facts_in) (row_there table k here.0.row rest.0 a.rows) in
+    subst (λ n. AreLarge (facts_at whole n)) (sym (add-one k)) (subst AreLarge (sym there) (l.large here.0 is))
+
 -- what is said of a row is said of the whole
 pub row_said : (nodes : List Node) (chosen : List Chosen) (k : ℕ) (slots new : Slots) (table : Table) (why : NotDerived) → k < length nodes → AreDerived nodes chosen k slots table → DerivesFrom nodes chosen (k + 1) slots new (Err why) → Derives (derive nodes chosen) (Err why)
 row_said nodes chosen k slots new table (fault.Refused why) h a e = row_refused nodes chosen k slots table why h a e
-row_said nodes chosen k slots new table (fault.Large node) h a e = tt
+row_said nodes chosen k slots new table (fault.Large node) h a e =
+    subst (λ n. (whole : Table) → derive nodes chosen ≡ Ok whole → AreLarge (facts_at whole n)) (sym e.here) (large_in nodes chosen k slots table h a (record { here = refl; large = e.large }))
 row_said nodes chosen k slots new table fault.Memory h a e = tt

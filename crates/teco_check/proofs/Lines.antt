@@ -1,11 +1,12 @@
 -- The lines of the nodes, one node further.
-use Rattle.std.proofs.Common.{◌≡◌, refl, sym, ap, ◌∙◌, ℕ, zero, suc, ◌+◌, ◌<◌, ◌≤◌, List, [], ◌∷◌, ◌++◌, length, drop, slice_get, unwrap_or, append_assoc, append-nil, Option, Some, None, arith}
+use Rattle.std.proofs.Common.{◌≡◌, refl, sym, ap, ◌∙◌, ℕ, zero, suc, ◌+◌, ◌<◌, ◌≤◌, List, [], ◌∷◌, ◌++◌, length, drop, slice_get, unwrap_or, append_assoc, append-nil, true, false, ◌||◌, Option, Some, None, arith}
 use Rattle.std.proofs.lemmas.List.{drop_all}
+use Rattle.std.specs.List.{list_any}
 use Rattle.teco_expand.specs.Node.{Node}
 use Rattle.teco_check.specs.Here.{no_node, node_at}
 use Rattle.teco_table.specs.Deriving.{Chosen}
 use Rattle.teco_table.specs.Table.{Table}
-use Rattle.teco_check.specs.Loops.{lines_at, lines_in, loops_from, loops_of}
+use Rattle.teco_check.specs.Loops.{begins, lines_at, lines_in, loops_from, loops_of}
 
 front : (nodes : List Node) (k : ℕ) → k < length nodes → drop k nodes ≡ unwrap_or (slice_get nodes k) no_node ∷ drop (suc k) nodes
 front [] k h = absurd (omega arith)
@@ -29,3 +30,20 @@ module _ (nodes : List Node) (table : Table) (k : ℕ) (found : List Chosen) (wh
   no_more h =
       let none : loops_from table (1 + k) [] ≡ [] = refl in
       sym (append-nil found) ∙ ap (λ rest. found ++ loops_from table (1 + k) rest) (sym (drop_all k nodes h)) ∙ whole
+
+-- whether any node from one on begins an iteration
+module _ (nodes : List Node) (k : ℕ) (h : k < length nodes) where
+  front_any : list_any begins (drop k nodes) ≡ (begins (node_at nodes (k + 1)) || list_any begins (drop (k + 1) nodes))
+  unfolding node_at
+  front_any =
+      let next : k + 1 ≡ suc k = omega arith in
+      rw next (ap (list_any begins) (front nodes k h))
+
+  pub any_here : begins (node_at nodes (k + 1)) ≡ true → list_any begins (drop k nodes) ≡ true
+  any_here e = front_any ∙ ap (λ b. b || list_any begins (drop (k + 1) nodes)) e
+
+  pub any_behind : begins (node_at nodes (k + 1)) ≡ false → list_any begins (drop (k + 1) nodes) ≡ list_any begins (drop k nodes)
+  any_behind e = sym (front_any ∙ ap (λ b. b || list_any begins (drop (k + 1) nodes)) e)
+
+pub any_in_none : (nodes : List Node) (k : ℕ) → length nodes ≤ k → list_any begins (drop k nodes) ≡ false
+any_in_none nodes k h = rw (drop_all k nodes h) refl

@@ -1,12 +1,13 @@
 -- How a table is derived where what arrives at each node is kept, in place of all that arrived anywhere.
-use Rattle.std.specs.Prelude.{◌≡◌, ℕ, zero, suc, ◌-◌, List, [], ◌∷◌, slice_set, slice_index_or, Option, None, Result, Ok, Err}
+use Rattle.std.specs.Prelude.{◌≡◌, ℕ, zero, suc, ◌-◌, List, [], ◌∷◌, slice_set, slice_index_or, Option, Some, None, Result, Ok, Err}
 use Rattle.teco_rules.specs.declared.refusal.Refusal.{Refusal}
 use Rattle.teco_rules.specs.Attempt.{◌>>=◌}
 use Rattle.teco_rules.specs.Facts.{Facts}
 use Rattle.teco_table.specs.Deriving.{Chosen, Arrival, Derived, met_with, derived_at}
-use Rattle.teco_table.specs.Table.{Row, Table}
+use Rattle.teco_table.specs.Table.{Row, Table, facts_at}
 use Rattle.teco_expand.specs.Node.{Node}
 use Rattle.teco_check.specs.Here.{node_at}
+use Rattle.teco_check.specs.Kept.{AreKept}
 use Rattle.teco_check.specs.declared.derivation.NotDerived.{NotDerived}
 use Rattle.teco_check.specs.declared.derivation.NotDerived.TheVariants as fault
 
@@ -37,11 +38,21 @@ pub record DerivesTo (defined : Result Derived Refusal) (old new : Slots) (row :
   pub derived : defined ≡ Ok (record { row = row; arrivals = arrivals_of defined })
   pub arrived : new ≡ arrived_all (arrivals_of defined) old
 
-abbrev pub DerivesRow : Result Derived Refusal → Slots → Slots → Result Row NotDerived → Type 0
-DerivesRow defined old new (Ok row) = DerivesTo defined old new row
-DerivesRow defined old new (Err (fault.Refused why)) = defined ≡ Err why
-DerivesRow defined old new (Err (fault.Large node)) = Unit {0}
-DerivesRow defined old new (Err fault.Memory) = Unit {0}
+-- facts that no table may have
+abbrev pub AreLarge : Option Facts → Type 0
+AreLarge None = ⊥
+AreLarge (Some facts) = ¬ AreKept facts
+
+-- the row of this node, if there is one, has facts that no table may have
+pub record HasLarge (defined : Result Derived Refusal) (number node : ℕ) : Type 0 where
+  pub here : node ≡ number
+  pub large : (derived : Derived) → defined ≡ Ok derived → AreLarge derived.row.facts
+
+abbrev pub DerivesRow : ℕ → Result Derived Refusal → Slots → Slots → Result Row NotDerived → Type 0
+DerivesRow number defined old new (Ok row) = DerivesTo defined old new row
+DerivesRow number defined old new (Err (fault.Refused why)) = defined ≡ Err why
+DerivesRow number defined old new (Err (fault.Large node)) = HasLarge defined number node
+DerivesRow number defined old new (Err fault.Memory) = Unit {0}
 
 -- so is that of the node of a number, from what arrived there
 abbrev pub derived_from : List Node → List Chosen → ℕ → Slots → Result Derived Refusal
@@ -50,11 +61,12 @@ derived_from nodes chosen number slots =
 
 abbrev pub DerivesFrom : List Node → List Chosen → ℕ → Slots → Slots → Result Row NotDerived → Type 0
 DerivesFrom nodes chosen number old new result =
-    DerivesRow (derived_from nodes chosen number old) (slice_set old (number - 1) (Ok None)) new result
+    DerivesRow number (derived_from nodes chosen number old) (slice_set old (number - 1) (Ok None)) new result
 
--- it is the definition's table, or its refusal; of facts that no table has, and where memory was refused, nothing is said
+-- it is the definition's table, or its refusal; or the definition's table, if there is one, has facts at a node that no
+-- table may have; where memory was refused nothing is said
 abbrev pub Derives : Result Table Refusal → Result Table NotDerived → Type 0
 Derives defined (Ok table) = defined ≡ Ok table
 Derives defined (Err (fault.Refused why)) = defined ≡ Err why
-Derives defined (Err (fault.Large node)) = Unit {0}
+Derives defined (Err (fault.Large node)) = (table : Table) → defined ≡ Ok table → AreLarge (facts_at table node)
 Derives defined (Err fault.Memory) = Unit {0}

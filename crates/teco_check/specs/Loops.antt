@@ -1,5 +1,5 @@
 -- The loop lines of a table: what is chosen for each < whose body is reached.
-use Rattle.std.specs.Prelude.{ℕ, suc, List, [], ◌∷◌, ◌++◌, bytes_eq, is_some, ◌&&◌, if◌then◌else◌, Option, Some, None}
+use Rattle.std.specs.Prelude.{ℕ, suc, List, [], ◌∷◌, ◌++◌, bytes_eq, is_some, ◌&&◌, if◌then◌else◌, Bool, Option, Some, None}
 use Rattle.teco_expand.specs.Node.{Node}
 use Rattle.teco_poly.specs.Polynomial.{Polynomial}
 use Rattle.teco_rules.specs.Bodies.{Choice}
@@ -28,10 +28,14 @@ abbrev pub line_between : ℕ → Option Facts → Option Choice → List Chosen
 line_between number (Some facts) (Some choice) = line_of number facts choice ∷ []
 line_between number facts choice = []
 
+-- an iteration begins at a node
+abbrev pub begins : Node → Bool
+begins node = begins_iteration node.element
+
 -- A < has a line where the start of its body is reached.
 abbrev pub lines_at : Table → ℕ → Node → List Chosen
 lines_at table number node =
-    if begins_iteration node.element && is_some (facts_at table (suc number))
+    if begins node && is_some (facts_at table (suc number))
     then line_between number (facts_at table number) (choice_at table number) else []
 
 abbrev pub loops_from : Table → ℕ → List Node → List Chosen

@@ -120,7 +120,7 @@ fn row_reached(
 ) -> Result<Row, NotDerived>
     requires one { 0 < number }
     requires last { number ≤ length nodes.now }
-    ensures { DerivesRow (rules.derived_at nodes.now chosen.now number (node_at nodes.now number) (Some facts)) arrived.old arrived.new result }
+    ensures { DerivesRow number (rules.derived_at nodes.now chosen.now number (node_at nodes.now number) (Some facts)) arrived.old arrived.new result }
 {
     if !are_kept(&facts) {
         return Err(NotDerived::Large { node: number });
@@ -147,7 +147,7 @@ fn row_of(
 ) -> Result<Row, NotDerived>
     requires one { 0 < number }
     requires last { number ≤ length nodes.now }
-    ensures { DerivesRow (rules.derived_at nodes.now chosen.now number (node_at nodes.now number) known) arrived.old arrived.new result }
+    ensures { DerivesRow number (rules.derived_at nodes.now chosen.now number (node_at nodes.now number) known) arrived.old arrived.new result }
 {
     match known {
         None => Ok(Row::of(None, None)),

@@ -21,7 +21,7 @@ pub use bodies::begins_iteration;
 pub use closed::check;
 pub use derivation::{NotDerived, derive};
 pub use iterations::{end_of, written};
-pub use loops::{line_of, loops_of, register_at};
+pub use loops::{has_iterations, line_of, loops_of, register_at};
 pub use printed::{Overflow, commands, needs_in, size};
 pub use table::{Row, Table, are_kept};
 

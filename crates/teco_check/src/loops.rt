@@ -1,5 +1,6 @@
 //! The loop lines of a table.
 ghost use Rattle.std.specs.Prelude.{◌≡◌, ◌<◌, ◌≤◌, ◌++◌, length, IfOk, OnOk};
+ghost use Rattle.std.specs.List.{list_any};
 ghost use Rattle.teco_base.specs.declared.TheConstants.{REGISTERS};
 ghost use Rattle.teco_check.specs.Here.{node_at};
 ghost use Rattle.teco_check.specs.Loops as rules;
@@ -93,6 +94,18 @@ fn add_line(loops: &mut Vec<LoopLine>, line: Option<LoopLine>) -> Result<(), All
         loops.push(line)?;
     }
     Ok(())
+}
+
+/// Whether an iteration begins at a node.
+pub fn has_iterations(nodes: &Nodes<'_>) -> bool
+    ensures { result ≡ list_any rules.begins nodes.now }
+{
+    for at in 0..nodes.len() {
+        if begins_iteration(&element(nodes, at + 1)) {
+            return true;
+        }
+    }
+    false
 }
 
 /// The loop lines of a table: what is chosen for each `<` whose body is reached.

@@ -1,11 +1,19 @@
 -- Straight text is accepted.
-use Rattle.teco_straight.specs.Accepted.{StraightTextsAreAccepted}
-use Rattle.teco_straight.specs.Facts.{straight_table}
+use Rattle.std.proofs.Common.{ℕ, ◌+◌, List, [], ◌∷◌, refl}
+use Rattle.std.specs.List.{AllByRecursion}
+use Rattle.teco_model.specs.Element.{Element}
+use Rattle.teco_straight.specs.Accepted.{RowIsOutside, StraightTextsAreAccepted}
+use Rattle.teco_straight.specs.Facts.{rows_in_text, straight_table}
+use Rattle.teco_straight.specs.Straight.{inserted_by}
 use Rattle.teco_straight.specs.Nodes.{straight_nodes}
 use Rattle.teco_straight.proofs.Closing.{straight_tables_are_closed}
 use Rattle.teco_straight.proofs.Deriving.{straight_tables_are_derived}
 use Rattle.teco_straight.proofs.Expanding.{straight_texts_are_expanded}
 use Rattle.teco_straight.proofs.Printing.{straight_tables_print}
+
+rows_outside : (count : ℕ) (elements : List Element) → AllByRecursion RowIsOutside (rows_in_text count elements)
+rows_outside count [] = ((refl, refl), tt)
+rows_outside count (e ∷ elements) = ((refl, refl), rows_outside (count + inserted_by e) elements)
 
 pub straight_texts_are_accepted : StraightTextsAreAccepted
 straight_texts_are_accepted library entry text elements is l = record {
@@ -15,4 +23,5 @@ straight_texts_are_accepted library entry text elements is l = record {
   derived = straight_tables_are_derived library entry text elements is l;
   closed = straight_tables_are_closed library entry text elements is l;
   prints = straight_tables_print library entry text elements is l;
+  outside = ((refl, refl), rows_outside 0 elements);
 }

@@ -1,5 +1,5 @@
 -- Straight text is accepted: what the verifier makes of it, with nothing chosen.
-use Rattle.std.specs.Prelude.{◌≡◌, ℕ, ◌+◌, ◌≤◌, List, [], length, false, Ok}
+use Rattle.std.specs.Prelude.{◌≡◌, ℕ, ◌+◌, ◌≤◌, List, [], length, false, Option, Some, None, Ok, ⊤}
 use Rattle.std.specs.List.{AllByRecursion}
 use Rattle.teco_base.specs.declared.TheConstants.{LIMIT}
 use Rattle.teco_model.specs.Element.{Element}
@@ -8,11 +8,12 @@ use Rattle.teco_expand.specs.Library.{Library}
 use Rattle.teco_expand.specs.Node.{Node}
 use Rattle.teco_poly.specs.Polynomial.{Polynomial, number}
 use Rattle.teco_poly.specs.Reading.{IsPoly}
+use Rattle.teco_rules.specs.Facts.{Facts}
 use Rattle.teco_rules.specs.Printed.{no_needs}
 use Rattle.teco_table.specs.Closed.{begins_iteration, check}
 use Rattle.teco_table.specs.Deriving.{derive}
 use Rattle.teco_table.specs.Printed.{commands, size, needs_in}
-use Rattle.teco_table.specs.Table.{Table}
+use Rattle.teco_table.specs.Table.{Row, Table}
 use Rattle.teco_straight.specs.Facts.{and_more, straight_table}
 use Rattle.teco_straight.specs.Nodes.{straight_nodes}
 use Rattle.teco_straight.specs.Straight.{inserted, IsStraight}
@@ -46,7 +47,16 @@ StraightTablesPrint =
     → Prints (straight_nodes entry text elements) (straight_table elements)
     (number (2 + length elements)) (and_more (inserted elements))
 
--- A library is expanded from an entry, its table is derived with nothing chosen and is closed, and so much is printed.
+-- no iteration is known to be open
+abbrev pub IsOutside : Option Facts → Type 0
+IsOutside None = ⊤
+IsOutside (Some facts) = (facts.position.falls ≡ []) × (facts.iterations ≡ [])
+
+abbrev pub RowIsOutside : Row → Type 0
+RowIsOutside row = IsOutside row.facts
+
+-- A library is expanded from an entry, its table is derived with nothing chosen and is closed, and so much is printed. No
+-- row knows of an iteration.
 pub record IsAccepted (library : Library) (entry : ℕ) (steps most : Polynomial) : Type 0 where
   pub nodes : List Node
   pub table : Table
@@ -54,6 +64,7 @@ pub record IsAccepted (library : Library) (entry : ℕ) (steps most : Polynomial
   pub derived : derive nodes [] ≡ Ok table
   pub closed : check nodes table ≡ Ok tt
   pub prints : Prints nodes table steps most
+  pub outside : AllByRecursion RowIsOutside table
 
 abbrev pub StraightTextsAreAccepted : Type 0
 StraightTextsAreAccepted =

@@ -1,5 +1,5 @@
 -- What the verifier has found of a macro, and that it is so.
-use Rattle.std.specs.Prelude.{◌≡◌, ℕ, List, Ok}
+use Rattle.std.specs.Prelude.{◌≡◌, List, Ok}
 use Rattle.teco_certificate.specs.Fields.{Fields}
 use Rattle.teco_expand.specs.Expansion.{expansion}
 use Rattle.teco_expand.specs.Library.{Library}

@@ -1,6 +1,8 @@
 //! What a closed table certifies.
 ghost use Rattle.std.specs.Prelude.{◌≡◌, IfOk, Ok};
 ghost use Rattle.teco_expand.specs.Expansion.{expansion};
+ghost use Rattle.teco_verify.specs.Certifying.{flaw_by, Certifies};
+ghost use Rattle.teco_verify.specs.declared.certifying.Flaw.TheVariants as flaw;
 
 use crate::verified::Verified;
 use std::alloc::{AllocError, Global};
@@ -22,12 +24,16 @@ pub enum Flaw {
 }
 
 impl From<AllocError> for Flaw {
+    ghost from_gives = { λ _ why. why ≡ flaw.Memory };
+
     fn from(_refused: AllocError) -> Flaw {
         Flaw::Memory
     }
 }
 
 impl From<Bad> for Flaw {
+    ghost from_gives = { λ bad why. why ≡ flaw_by bad };
+
     fn from(bad: Bad) -> Flaw {
         match bad {
             Bad::Edge { node } => Flaw::Open { number: node },
@@ -37,6 +43,8 @@ impl From<Bad> for Flaw {
 }
 
 impl From<Overflow> for Flaw {
+    ghost from_gives = { λ overflow why. why ≡ flaw.Overflow overflow.node };
+
     fn from(overflow: Overflow) -> Flaw {
         Flaw::Overflow {
             number: overflow.node,
@@ -55,6 +63,7 @@ pub fn certified<'l>(
     requires { expansion library.now entry ≡ Ok nodes.now }
     ensures library { IfOk result (λ verified. verified.library ≡ library.now) }
     ensures entry { IfOk result (λ verified. verified.fields.entry ≡ entry) }
+    ensures value { Certifies nodes.now table.now entry result }
 {
     check(alloc, nodes, table)?;
     let needs = needs_in(nodes, table);

@@ -1,4 +1,7 @@
 //! Why a macro or a certificate is refused.
+ghost use Rattle.std.specs.Prelude.{◌≡◌};
+ghost use Rattle.teco_nodes.specs.declared.refusal.ExpandFault.TheVariants as fault;
+ghost use Rattle.teco_verify.specs.declared.refusal.Refusal.TheVariants as refusal;
 
 use std::alloc::AllocError;
 use teco_base::{REGISTERS, Reg};
@@ -23,6 +26,8 @@ pub enum Refusal {
 }
 
 impl From<AllocError> for Refusal {
+    ghost from_gives = { λ _ why. why ≡ refusal.Memory };
+
     fn from(_refused: AllocError) -> Refusal {
         Refusal::Memory
     }
@@ -49,6 +54,8 @@ fn why_of(reason: Reason) -> Why {
 }
 
 impl From<ExpandFault> for Refusal {
+    ghost from_gives = { λ why refused. why ≡ fault.Memory → refused ≡ refusal.Memory };
+
     fn from(fault: ExpandFault) -> Refusal {
         match fault {
             ExpandFault::Refused(refusal) => Refusal::No {

@@ -23,8 +23,12 @@ const TWICE: &[u8] = b"@^UA/HXB2<GB>/";
 
 const FILL: &[u8] = b"@^UA/<Ia\x1b1;>/";
 
-const ACCEPTED: [(&[u8], &str); 9] = [
+const ACCEPTED: [(&[u8], &str); 10] = [
     (MARK, MARK_CERTIFICATE),
+    (
+        b"@^UA/!a! Iab\x1b\x1bIc\x1b/",
+        "TECO-CERT 1\nentry A\nneeds -\ncommands 6\nsize 3 + N\nend\n",
+    ),
     (
         b"@^UA/10<Ia\x1b>/",
         "TECO-CERT 1\nentry A\nneeds -\ncommands 24\nsize 10 + N\nloop 3 held 9 + N kept texts -\nend\n",
@@ -235,6 +239,14 @@ fn accepts_what_it_certifies(rt: HostRuntime) {
             Err(_) => panic!(rt; "{text}"),
         }
     }
+}
+
+// Those that accept straight text alone would refuse this.
+#[test]
+fn straight_text_alone(rt: HostRuntime) {
+    let library = library_of(&rt, rt.alloc(), MARK);
+    assert!(rt; verdict(rt.alloc(), &library).is_ok());
+    assert!(rt; checked(&rt, rt.alloc(), &library, MARK_CERTIFICATE.as_bytes()).is_ok());
 }
 
 #[test]

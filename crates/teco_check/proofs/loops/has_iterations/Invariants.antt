@@ -1,0 +1,8 @@
+use Rattle.std.proofs.Common.{◌≡◌, drop}
+use Rattle.std.specs.List.{list_any}
+use Rattle.teco_check.specs.Loops.{begins}
+use Rattle.teco_check.proofs.loops.has_iterations.Given as goal
+
+-- the nodes before this one begin none
+abbrev pub invariant-loop-at : goal.invariant-loop-at
+invariant-loop-at l = list_any begins (drop l.at l.nodes) ≡ list_any begins l.nodes

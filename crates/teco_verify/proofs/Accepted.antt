@@ -1,0 +1,115 @@
+-- Where a library is accepted with nothing chosen, nothing is refused.
+use Rattle.std.proofs.Common.{◌≡◌, subst, refl, sym, ap, ◌∙◌, ℕ, zero, suc, ◌<◌, ◌≤◌, List, [], ◌∷◌, length, map, false, Option, Some, None, Result, Ok, Err, slice_index_or, Bor, All, arith}
+use Rattle.std.proofs.lemmas.List.Elements.{All-nil}
+use Rattle.std.specs.List.{AllByRecursion, list_any}
+use Rattle.std.specs.Option.{option_copied, ForSome}
+use Rattle.teco_base.specs.declared.TheConstants.{LIMIT, REGISTERS}
+use Rattle.teco_certificate.specs.Fields.{Fields}
+use Rattle.teco_certificate.specs.WellFormed.{IsWellFormed}
+use Rattle.teco_check.specs.Derived.{AreLarge}
+use Rattle.teco_check.specs.Kept.{AreKept}
+use Rattle.teco_check.specs.Loops.{begins, loops_from, loops_of}
+use Rattle.teco_expand.specs.Expansion.{expansion}
+use Rattle.teco_expand.specs.Library.{Library}
+use Rattle.teco_expand.specs.Node.{Node}
+use Rattle.teco_expand.specs.Refusal as expanding
+use Rattle.teco_facts.specs.Numbers.{AreSmall, IsSmallFall}
+use Rattle.teco_facts.specs.declared.few.TheConstants.{DEPTH}
+use Rattle.teco_poly.specs.Polynomial.{Polynomial}
+use Rattle.teco_rules.specs.declared.refusal.Refusal.{Refusal}
+use Rattle.teco_rules.specs.Facts.{Facts}
+use Rattle.teco_straight.specs.Accepted.{BeginsNoIteration, Prints, RowIsOutside, IsAccepted}
+use Rattle.teco_table.specs.Closed.{check}
+use Rattle.teco_table.specs.Deriving.{Chosen, derive}
+use Rattle.teco_table.specs.Table.{Table, facts_at}
+use Rattle.teco_verify.specs.Certifying.{AreFieldsOf}
+use Rattle.teco_verify.specs.Straight.{plain_fields}
+
+-- the texts of a library
+pub within : (texts : List (Option (Bor (List ℕ)))) (r : ℕ) (text : List ℕ) → All (λ text. ForSome text (λ shown. length shown.now ≤ LIMIT)) texts → slice_index_or (map option_copied texts) r None ≡ Some text → length text ≤ LIMIT
+within [] r text a e = absurd cc
+within (None ∷ texts) zero text a e = absurd cc
+within (Some shown ∷ texts) zero text a e =
+    let same : shown.now ≡ text = cc in
+    subst (λ (t : List ℕ). length t ≤ LIMIT) same (a 0 None (omega arith) shown refl)
+within (shown ∷ texts) (suc r) text a e = within texts r text (λ k d h. a (suc k) d (omega (arith, h))) e
+
+-- where no iteration begins, nothing is chosen and there are no lines
+none_from : (table : Table) (number : ℕ) (nodes : List Node) → AllByRecursion BeginsNoIteration nodes → loops_from table number nodes ≡ []
+none_from table number [] a = refl
+none_from table number (node ∷ nodes) a = rw a.0 (none_from table (suc number) nodes a.1)
+
+no_lines : (nodes : List Node) (table : Table) → AllByRecursion BeginsNoIteration nodes → loops_of nodes table ≡ []
+unfolding loops_of
+no_lines nodes table a = none_from table 1 nodes a
+
+none_begins : (nodes : List Node) → AllByRecursion BeginsNoIteration nodes → list_any begins nodes ≡ false
+none_begins [] a = refl
+none_begins (node ∷ nodes) a = rw a.0 (none_begins nodes a.1)
+
+-- what is known outside of iterations is kept
+kept : (facts : Facts) → facts.position.falls ≡ [] → facts.iterations ≡ [] → AreKept facts
+kept facts falls iterations = record {
+  small = subst AreSmall (sym falls) (All-nil IsSmallFall);
+  room = record { falls = subst (λ fs. length fs < DEPTH) (sym falls) (omega arith); iterations = subst (λ is. length is < DEPTH) (sym iterations) (omega arith) };
+}
+
+not_large : (known : Option Facts) (table : Table) → RowIsOutside (record { facts = known; choice = None }) → AreLarge known → ⊥
+not_large None table o l = l
+not_large (Some facts) table o l = l (kept facts o.0 o.1)
+
+none_large : (table : Table) (node : ℕ) → AllByRecursion RowIsOutside table → AreLarge (facts_at table node) → ⊥
+none_large table zero o l = l
+none_large [] (suc k) o l = l
+none_large (row ∷ table) (suc zero) o l = not_large row.facts table o.0 l
+none_large (row ∷ table) (suc (suc k)) o l = none_large table (suc k) o.1 l
+
+nodes_of : Result (List Node) expanding.Refusal → List Node
+nodes_of (Ok nodes) = nodes
+nodes_of (Err why) = []
+
+table_of : Result Table Refusal → Table
+table_of (Ok table) = table
+table_of (Err why) = []
+
+-- the same of these nodes
+record AcceptsNodes (nodes : List Node) (table : Table) (steps most : Polynomial) : Type 0 where
+  derived : derive nodes [] ≡ Ok table
+  closed : check nodes table ≡ Ok tt
+  prints : Prints nodes table steps most
+  outside : AllByRecursion RowIsOutside table
+
+module _ (library : Library) (entry : ℕ) (steps most : Polynomial) (accepted : IsAccepted library entry steps most) where
+  pub is_well_formed : entry < REGISTERS → IsWellFormed (plain_fields entry steps most)
+  is_well_formed h = record {
+    parts = record { entry = h; commands = accepted.prints.steps_fit; size = accepted.prints.most_fits; loops = tt };
+    order = record { numbers = λ k d h. absurd (omega (arith, h)); registers = tt };
+  }
+
+  module _ (nodes : List Node) (expanded : expansion library entry ≡ Ok nodes) where
+    these : AcceptsNodes nodes accepted.table steps most
+    unfolding nodes_of
+    these = subst (λ ns. AcceptsNodes ns accepted.table steps most) (ap nodes_of (sym accepted.expanded ∙ expanded)) (record { derived = accepted.derived; closed = accepted.closed; prints = accepted.prints; outside = accepted.outside })
+
+    pub begins_none : list_any begins nodes ≡ false
+    begins_none = none_begins nodes these.prints.has_no_lines
+
+    module _ (chosen : List Chosen) (nothing : chosen ≡ []) where
+      derived : derive nodes chosen ≡ Ok accepted.table
+      derived = subst (λ c. derive nodes c ≡ Ok accepted.table) (sym nothing) these.derived
+
+      pub is_kept : (node : ℕ) → ((table : Table) → derive nodes chosen ≡ Ok table → AreLarge (facts_at table node)) → ⊥
+      is_kept node l = none_large accepted.table node these.outside (l accepted.table derived)
+
+      module _ (table : Table) (is : derive nodes chosen ≡ Ok table) where
+        here : AcceptsNodes nodes table steps most
+        unfolding table_of
+        here = subst (λ t. AcceptsNodes nodes t steps most) (ap table_of (sym derived ∙ is)) these
+
+        pub is_certified : (fields : Fields) → AreFieldsOf nodes table entry fields → fields ≡ plain_fields entry steps most
+        is_certified fields f =
+            let first : fields.commands ≡ steps = let e : Ok fields.commands ≡ Ok steps = sym f.commands_are ∙ here.prints.commands_are in cc in
+            let second : fields.size ≡ most = let e : Ok fields.size ≡ Ok most = sym f.size_is ∙ here.prints.size_is in cc in
+            let needs = f.needs_are ∙ here.prints.needs_nothing in
+            let loops = f.loops_are ∙ no_lines nodes table here.prints.has_no_lines in
+            rw (← f.entry_is, ← first, ← second, ← needs, ← loops) refl

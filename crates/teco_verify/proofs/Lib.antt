@@ -1,0 +1,3 @@
+-- Lemmas of straight text.
+mod Accepted
+mod Refused
