@@ -1,3 +1,4 @@
 -- Lemmas of runs.
 mod Edits
+mod Opening
 mod Sure

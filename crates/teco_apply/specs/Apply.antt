@@ -1,6 +1,7 @@
 -- What editing a file by a verified macro does.
-use Rattle.std.specs.Prelude.{⊤, ◌≡◌, ◌≢◌, ◌⊎◌, ℕ, List, ◌∷◌, ◌++◌, codes, Bool, true, false, Option, Result, Ok, Err, IfOk}
+use Rattle.std.specs.Prelude.{⊤, ◌≡◌, ◌≢◌, ◌≤◌, ◌⊎◌, ℕ, List, ◌∷◌, ◌++◌, codes, Bool, true, false, not, ◌&&◌, ◌==◌, Option, Result, Ok, Err, IfOk, IsSome}
 use Rattle.std.specs.Io.KnownBytes.{Keeps}
+use Rattle.std.specs.List.{list_any}
 use Rattle.teco_base.specs.declared.bytes.TheConstants.{ESC}
 use Rattle.teco_base.specs.declared.code.Code.TheVariants as code
 use Rattle.teco_model.specs.Files.{Files}
@@ -10,6 +11,7 @@ use Rattle.teco_model.specs.State.{World, start}
 use Rattle.teco_model.specs.declared.stop.Stop.{Stop}
 use Rattle.teco_model.specs.declared.stop.Stop.TheVariants as stop
 use Rattle.teco_rules.specs.Printed.{Needs}
+use Rattle.teco_run.specs.Counts.{StopCounts}
 use Rattle.teco_session.specs.Answers.{Said}
 use Rattle.teco_session.specs.Output.{Writes}
 use Rattle.teco_session.specs.declared.fault.SessionFault.{SessionFault}
@@ -24,6 +26,13 @@ use Rattle.teco_apply.specs.declared.ready.NotReady.TheVariants.{NoInput, NoOutp
 -- what opens the input and the output, and reads the first page
 abbrev pub opening : List ℕ → List ℕ → List ℕ
 opening source target = (((codes "ER" ++ source) ++ ESC ∷ codes "EW") ++ target) ++ ESC ∷ codes "Y"
+
+-- names that it opens as they are: ESC would end one
+abbrev pub has_esc : List ℕ → Bool
+has_esc name = list_any (λ b. b == ESC) name
+
+abbrev pub are_plain : List ℕ → List ℕ → Bool
+are_plain source target = not (has_esc source) && not (has_esc target)
 
 -- what writes the rest and closes the output, and what drops it
 abbrev pub closing : List ℕ
@@ -45,6 +54,11 @@ Lacks needs files NoInput = IsMissing needs.input files.input
 Lacks needs files NoOutput = IsMissing needs.output files.output
 Lacks needs files Memory = ⊤
 
+-- an input and an output are open
+pub record BothOpen (files : Files) : Type 0 where
+  pub input : IsSome files.input
+  pub output : IsSome files.output
+
 -- the macro is not run
 pub record IsNotRun (needs : Needs) (old : World) (stop : Stop) (new : World) : Type 0 where
   pub why : NotReady
@@ -52,70 +66,106 @@ pub record IsNotRun (needs : Needs) (old : World) (stop : Stop) (new : World) : 
   pub lacks : Lacks needs old.files why
   pub stays : new ≡ old
 
+-- the macro is not run, as memory for its library's texts is refused
+pub record WantsMemory (old : World) (answer : Stop) (new : World) : Type 0 where
+  pub stopped : answer ≡ stop.Memory
+  pub stays : new ≡ old
+
 -- a command string is run
 abbrev pub TextStops : List ℕ → World → Stop → World → Type 0
 TextStops text old stop new = Stops (start text old) MOST stop new
 
--- the macro is run, or it is not
-abbrev pub MacroStops : Finding → World → Stop → World → Type 0
-MacroStops found old stop new = Runs found stop old new ⊎ IsNotRun found.fields.needs old stop new
+-- The macro is run, or it is not; where both files are known to be open, only want of memory keeps it from that.
+abbrev pub MacroStops : Bool → Finding → World → Stop → World → Type 0
+MacroStops true found old stop new = Runs found stop old new ⊎ WantsMemory old stop new
+MacroStops false found old stop new = Runs found stop old new ⊎ IsNotRun found.fields.needs old stop new
 
--- What a run types is written, and its code line; or with a fault a part of that. Says whether there is a code line.
-pub record RunWrites (Ran : Stop → World → Type 0) (new : World) (sink sunk : Option (List ℕ))
+-- What a run types is written, and its code line; or with a fault a part of that. Says whether there is a code line. The host's
+-- count of failures goes from f to g: it rises where the host stops the run, and nowhere else.
+pub record RunWrites (Ran : Stop → World → Type 0) (new : World) (f g : ℕ) (sink sunk : Option (List ℕ))
     (result : Result Bool SessionFault) : Type 0 where
   pub stop : Stop
   pub after : World
   pub ran : Ran stop after
+  pub counted : StopCounts stop f g
   pub stays : new ≡ without_typed after
   pub writes : Writes sink sunk (lines_of stop after) result
   pub told : IfOk result (λ coded. coded ≡ is_code (code_of stop))
 
-abbrev pub AnswersText : List ℕ → World → World → Option (List ℕ) → Option (List ℕ) → Result Bool SessionFault → Type 0
-AnswersText text old new sink sunk result = RunWrites (TextStops text old) new sink sunk result
+-- what some runs do to what stays, to the host's count of failures and to what is written
+abbrev pub Course : Type 1
+Course = World → World → ℕ → ℕ → Option (List ℕ) → Option (List ℕ) → Result Bool SessionFault → Type 0
 
-abbrev pub AnswersMacro : Finding → World → World → Option (List ℕ) → Option (List ℕ) → Result Bool SessionFault → Type 0
-AnswersMacro found old new sink sunk result = RunWrites (MacroStops found old) new sink sunk result
+abbrev pub AnswersText : List ℕ → Course
+AnswersText text old new f g sink sunk result = RunWrites (TextStops text old) new f g sink sunk result
+
+abbrev pub AnswersMacro : Bool → Finding → Course
+AnswersMacro opened found old new f g sink sunk result = RunWrites (MacroStops opened found old) new f g sink sunk result
 
 -- ---- one after another
 -- one run, and another behind it where it is no code and all is written
-pub data Then (First Next : World → World → Option (List ℕ) → Option (List ℕ) → Result Bool SessionFault → Type 0)
-    (old new : World) (sink sunk : Option (List ℕ)) (result : Result Bool SessionFault) : Type 0 where
-  stops : result ≢ Ok false → First old new sink sunk result → Then First Next old new sink sunk result
+pub data Then (First Next : Course) (old new : World) (f g : ℕ) (sink sunk : Option (List ℕ))
+    (result : Result Bool SessionFault) : Type 0 where
+  stops : result ≢ Ok false → First old new f g sink sunk result → Then First Next old new f g sink sunk result
   goes_on :
-      (mid : World) (written : Option (List ℕ)) →
-      First old mid sink written (Ok false) → Next mid new written sunk result →
-      Then First Next old new sink sunk result
+      (mid : World) (count : ℕ) (written : Option (List ℕ)) →
+      First old mid f count sink written (Ok false) → Next mid new count g written sunk result →
+      Then First Next old new f g sink sunk result
 
 -- the macro is run, and the output is closed
-abbrev pub Finishes : Finding → World → World → Option (List ℕ) → Option (List ℕ) → Result Bool SessionFault → Type 0
-Finishes found old new sink sunk result = Then (AnswersMacro found) (AnswersText closing) old new sink sunk result
+abbrev pub Finishes : Bool → Finding → Course
+Finishes opened found = Then (AnswersMacro opened found) (AnswersText closing)
 
 -- the files are opened before
-abbrev pub Edits : Finding → List ℕ → World → World → Option (List ℕ) → Option (List ℕ) → Result Bool SessionFault → Type 0
-Edits found text old new sink sunk result =
-    Then (AnswersText text) (Finishes found) old new sink sunk result
+abbrev pub Edits : Bool → Finding → List ℕ → Course
+Edits opened found text = Then (AnswersText text) (Finishes opened found)
 
 -- behind a code the output is dropped, and what stops that is not told
-pub record DropsOutput (old new : World) : Type 0 where
+pub record DropsOutput (old new : World) (f g : ℕ) : Type 0 where
   pub stop : Stop
   pub stops : TextStops dropping old stop new
+  pub counted : StopCounts stop f g
 
-abbrev pub DropsIfCoded : Result Bool SessionFault → World → World → Type 0
-DropsIfCoded (Ok true) old new = DropsOutput old new
-DropsIfCoded (Ok false) old new = new ≡ old
-DropsIfCoded (Err cannot) old new = new ≡ old
+abbrev pub DropsIfCoded : Result Bool SessionFault → World → World → ℕ → ℕ → Type 0
+DropsIfCoded (Ok true) old new f g = DropsOutput old new f g
+DropsIfCoded (Ok false) old new f g = (new ≡ old) × (g ≡ f)
+DropsIfCoded (Err cannot) old new f g = (new ≡ old) × (g ≡ f)
 
-pub record Applies (found : Finding) (text : List ℕ) (old new : World) (sink sunk : Option (List ℕ))
+-- The edit of one file into another. Where no name has an ESC, both are open when the macro is to be run.
+pub record Applies (found : Finding) (source target : List ℕ) (old new : World) (f g : ℕ) (sink sunk : Option (List ℕ))
     (result : Result Done SessionFault) : Type 0 where
   pub edited : World
+  pub count : ℕ
   pub line : Result Bool SessionFault
-  pub edits : Edits found text old edited sink sunk line
-  pub drops : DropsIfCoded line edited new
+  pub edits : Edits (are_plain source target) found (opening source target) old edited f count sink sunk line
+  pub drops : DropsIfCoded line edited new count g
   pub said : Said line false result
 
 -- What comes of it. Without memory for the first command string nothing is done.
-abbrev pub Applied : Finding → List ℕ → World → World → Option (List ℕ) → Option (List ℕ) → Result Done SessionFault → Type 0
-Applied found text old new sink sunk (Ok done) = Applies found text old new sink sunk (Ok done)
-Applied found text old new sink sunk (Err fault.Write) = Applies found text old new sink sunk (Err fault.Write)
-Applied found text old new sink sunk (Err fault.Memory) = (new ≡ old) × Keeps sink sunk
-Applied found text old new sink sunk (Err fault.Read) = ⊥
+abbrev pub Applied : Finding → List ℕ → List ℕ → World → World → ℕ → ℕ → Option (List ℕ) → Option (List ℕ) → Result Done SessionFault → Type 0
+Applied found source target old new f g sink sunk (Ok done) = Applies found source target old new f g sink sunk (Ok done)
+Applied found source target old new f g sink sunk (Err fault.Write) = Applies found source target old new f g sink sunk (Err fault.Write)
+Applied found source target old new f g sink sunk (Err fault.Memory) = (new ≡ old) × Keeps sink sunk
+Applied found source target old new f g sink sunk (Err fault.Read) = ⊥
+
+-- ---- counts, for every host
+-- The host's count of failures rises only in runs of which one is a code, or whose bytes cannot be written; no other fault comes.
+abbrev pub LineCounts : Result Bool SessionFault → ℕ → ℕ → Type 0
+LineCounts (Ok true) f g = f ≤ g
+LineCounts (Ok false) f g = g ≡ f
+LineCounts (Err fault.Write) f g = f ≤ g
+LineCounts (Err fault.Memory) f g = ⊥
+LineCounts (Err fault.Read) f g = ⊥
+
+-- Dropping the output comes behind a code alone.
+abbrev pub DropCounts : Result Bool SessionFault → ℕ → ℕ → Type 0
+DropCounts (Ok true) f g = f ≤ g
+DropCounts (Ok false) f g = g ≡ f
+DropCounts (Err cannot) f g = g ≡ f
+
+-- The same of the whole: without memory for the first command string no call of the host is made.
+abbrev pub EditCounts : Result Done SessionFault → ℕ → ℕ → Type 0
+EditCounts (Ok done) f g = LineCounts (Ok done.coded) f g
+EditCounts (Err fault.Write) f g = f ≤ g
+EditCounts (Err fault.Memory) f g = g ≡ f
+EditCounts (Err fault.Read) f g = ⊥

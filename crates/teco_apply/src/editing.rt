@@ -1,8 +1,9 @@
 //! Editing a file by a verified macro.
 ghost use Rattle.std.specs.Prelude.{◌≡◌, ◌≤◌, IfOk, length, false};
 ghost use Rattle.teco_apply.specs.Apply as edit;
-ghost use Rattle.teco_apply.specs.Apply.{AnswersMacro, AnswersText, Applied, DropsIfCoded, Edits, Finishes, MacroStops, opening};
+ghost use Rattle.teco_apply.specs.Apply.{AnswersMacro, AnswersText, Applied, DropCounts, DropsIfCoded, EditCounts, Edits, Finishes, LineCounts, MacroStops, opening};
 ghost use Rattle.teco_base.specs.declared.TheConstants.{LIMIT};
+ghost use Rattle.teco_run.specs.Counts.{StopCounts};
 ghost use Rattle.teco_run.specs.Holdings.{Joined};
 ghost use Rattle.teco_session.specs.Answers.{Said};
 
@@ -55,8 +56,9 @@ fn run_macro<T: TextStore, H: Host>(
     verified: &Verified<'_>,
     host: &mut H,
 ) -> Stop
-    ensures { Joined (λ old new. MacroStops verified.now old result new)
+    ensures stops { Joined (λ old new. MacroStops false verified.now old result new)
         machine.old machine.new (H.files host.old) (H.files host.new) }
+    ensures counted { StopCounts result (H.failures host.old) (H.failures host.new) }
 {
     match run_verified(machine, verified, host) {
         Ok(stop) => stop,
@@ -71,8 +73,10 @@ fn answer_macro<T: TextStore, H: Host, W: Write>(
     host: &mut H,
     writer: &mut W,
 ) -> Result<bool, SessionFault>
-    ensures { Joined (λ old new. AnswersMacro verified.now old new (W.contents writer.old) (W.contents writer.new) result)
+    ensures answers { Joined (λ old new. AnswersMacro false verified.now old new (H.failures host.old) (H.failures host.new)
+        (W.contents writer.old) (W.contents writer.new) result)
         machine.old machine.new (H.files host.old) (H.files host.new) }
+    ensures counted { LineCounts result (H.failures host.old) (H.failures host.new) }
 {
     let stop = run_macro(machine, verified, host);
     write_stop(machine, stop, writer)
@@ -86,8 +90,10 @@ fn answer_text<T: TextStore, H: Host, W: Write>(
     writer: &mut W,
 ) -> Result<bool, SessionFault>
     requires { length text.now ≤ LIMIT }
-    ensures { Joined (λ old new. AnswersText text.now old new (W.contents writer.old) (W.contents writer.new) result)
+    ensures answers { Joined (λ old new. AnswersText text.now old new (H.failures host.old) (H.failures host.new)
+        (W.contents writer.old) (W.contents writer.new) result)
         machine.old machine.new (H.files host.old) (H.files host.new) }
+    ensures counted { LineCounts result (H.failures host.old) (H.failures host.new) }
 {
     let stop = machine.run(text, u64::MAX, host);
     write_stop(machine, stop, writer)
@@ -100,8 +106,10 @@ fn finish<T: TextStore, H: Host, W: Write>(
     host: &mut H,
     writer: &mut W,
 ) -> Result<bool, SessionFault>
-    ensures { Joined (λ old new. Finishes verified.now old new (W.contents writer.old) (W.contents writer.new) result)
+    ensures answers { Joined (λ old new. Finishes false verified.now old new (H.failures host.old) (H.failures host.new)
+        (W.contents writer.old) (W.contents writer.new) result)
         machine.old machine.new (H.files host.old) (H.files host.new) }
+    ensures counted { LineCounts result (H.failures host.old) (H.failures host.new) }
 {
     match answer_macro(machine, verified, host, writer) {
         Ok(false) => answer_text(machine, b"EC", host, writer),
@@ -118,8 +126,10 @@ fn edit<T: TextStore, H: Host, W: Write>(
     writer: &mut W,
 ) -> Result<bool, SessionFault>
     requires { length opening.now ≤ LIMIT }
-    ensures { Joined (λ old new. Edits verified.now opening.now old new (W.contents writer.old) (W.contents writer.new) result)
+    ensures answers { Joined (λ old new. Edits false verified.now opening.now old new (H.failures host.old) (H.failures host.new)
+        (W.contents writer.old) (W.contents writer.new) result)
         machine.old machine.new (H.files host.old) (H.files host.new) }
+    ensures counted { LineCounts result (H.failures host.old) (H.failures host.new) }
 {
     match answer_text(machine, opening, host, writer) {
         Ok(false) => finish(machine, verified, host, writer),
@@ -133,7 +143,9 @@ fn drop_if_coded<T: TextStore, H: Host>(
     line: Result<bool, SessionFault>,
     host: &mut H,
 )
-    ensures { Joined (DropsIfCoded line) machine.old machine.new (H.files host.old) (H.files host.new) }
+    ensures drops { Joined (λ old new. DropsIfCoded line old new (H.failures host.old) (H.failures host.new))
+        machine.old machine.new (H.files host.old) (H.files host.new) }
+    ensures counted { DropCounts line (H.failures host.old) (H.failures host.new) }
 {
     if let Ok(true) = line {
         let _ = machine.run(b"EK", u64::MAX, host);
@@ -167,9 +179,10 @@ pub fn apply<T: TextStore, H: Host, W: Write>(
 ) -> Result<Done, SessionFault>
     requires source { length source.now ≤ NAME }
     requires target { length target.now ≤ NAME }
-    ensures { Joined (λ old new. Applied verified.now (opening source.now target.now) old new
-        (W.contents writer.old) (W.contents writer.new) result)
+    ensures edits { Joined (λ old new. Applied verified.now source.now target.now old new
+        (H.failures host.old) (H.failures host.new) (W.contents writer.old) (W.contents writer.new) result)
         machine.old machine.new (H.files host.old) (H.files host.new) }
+    ensures counted { EditCounts result (H.failures host.old) (H.failures host.new) }
 {
     let opening = opening(alloc, source, target)?;
     let line = edit(machine, verified, opening.as_slice(), host, writer);

@@ -1,5 +1,9 @@
 // Verified macros on machines that a command string made ready: how the run stops, and the text that it leaves. A call that is
 // refused memory is made once more, so that the rows also hold where one allocation fails.
+mod certificates;
+mod examples;
+mod verdicts;
+
 use super::*;
 use std::alloc::Global;
 use std::process::Abort;
@@ -7,9 +11,10 @@ use std::test::*;
 use teco_base::{LIMIT, Reg};
 use teco_model::Stop;
 use teco_pages::MemHost;
+use teco_rules::Refusal as Why;
 use teco_run::Machine;
 use teco_text::VecText;
-use teco_verify::{Library, Refusal, Verified, verify};
+use teco_verify::{Library, Refusal, Verified, check_certificate, verify};
 
 // A library, a command string before its macro A, the steps of that macro, and the text that it leaves.
 type Row = (&'static [u8], &'static [u8], u64, &'static [u8]);
@@ -48,15 +53,60 @@ fn library_of(rt: &impl Abort, alloc: Global, file: &[u8]) -> Library {
     }
 }
 
-// Its verified macro A.
-fn verified_of<'l>(rt: &impl Abort, alloc: Global, library: &'l Library) -> Verified<'l> {
-    let answer = match verify(alloc, library, Reg::default()) {
+// What the verifier says of its macro A.
+fn verdict<'l>(alloc: Global, library: &'l Library) -> Result<Verified<'l>, Refusal> {
+    match verify(alloc, library, Reg::default()) {
         Err(Refusal::Memory) => verify(alloc, library, Reg::default()),
         answer => answer,
-    };
-    match answer {
+    }
+}
+
+// Its verified macro A.
+fn verified_of<'l>(rt: &impl Abort, alloc: Global, library: &'l Library) -> Verified<'l> {
+    match verdict(alloc, library) {
         Ok(verified) => verified,
         Err(_) => panic!(rt; "accepted"),
+    }
+}
+
+// What the checker says of a certificate.
+fn checked<'l>(
+    rt: &impl Abort,
+    alloc: Global,
+    library: &'l Library,
+    text: &[u8],
+) -> Result<Verified<'l>, Refusal> {
+    assert!(rt; text.len() <= LIMIT);
+    match check_certificate(alloc, library, text) {
+        Err(Refusal::Memory) => check_certificate(alloc, library, text),
+        answer => answer,
+    }
+}
+
+// Whether it accepts a text, and that is the certificate's.
+fn is_accepted(rt: &impl Abort, alloc: Global, library: &Library, text: &[u8]) -> bool {
+    match checked(rt, alloc, library, text) {
+        Ok(verified) => match verified.certificate(alloc) {
+            Ok(printed) => printed.as_slice() == text,
+            Err(_) => false,
+        },
+        Err(_) => false,
+    }
+}
+
+// The length of its text.
+fn length_of(verified: &Verified<'_>) -> u64 {
+    match verified.text(verified.entry()) {
+        Some(text) => text.len() as u64,
+        None => 0,
+    }
+}
+
+// Whether so many steps are no more than it may take at N.
+fn is_within(verified: &Verified<'_>, n: u64, steps: u64) -> bool {
+    match verified.commands().at(n) {
+        Some(most) => steps <= most,
+        None => false,
     }
 }
 

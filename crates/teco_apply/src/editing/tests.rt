@@ -4,9 +4,9 @@ use std::alloc::Global;
 use std::process::Abort;
 use std::test::Fail;
 use teco_base::Reg;
-use teco_pages::{HostCall, MemHost, TestHost};
+use teco_pages::{Host, HostCall, MemHost, TestHost};
 use teco_run::Machine;
-use teco_session::{Done, SessionFault};
+use teco_session::SessionFault;
 use teco_text::{TextStore, VecText};
 use teco_verify::{Library, Verified, verify};
 
@@ -25,6 +25,20 @@ fn macro_of<'l>(rt: &impl Abort, alloc: Global, library: &'l Library) -> Verifie
         panic!(rt; "refused");
     };
     verified
+}
+
+// Edits the file `in` into the file `out`, and tells whether a code was written.
+fn is_coded<H: Host>(
+    rt: &impl Abort,
+    alloc: Global,
+    verified: &Verified<'_>,
+    machine: &mut Machine<VecText>,
+    host: &mut H,
+    writer: &mut Vec<u8>,
+) -> Result<bool, SessionFault> {
+    let done = apply(alloc, machine, verified, b"in", b"out", host, writer)?;
+    assert!(rt; !done.exit);
+    Ok(done.coded)
 }
 
 // Is the first page edited, and the pointer behind what was done?
@@ -78,17 +92,8 @@ fn files_are_edited(rt: HostRuntime) -> Result<(), Fail> {
         let mut host = TestHost::new(mem, *piece, *call, *nth);
         let mut machine = Machine::new(alloc, VecText::new(alloc));
         let mut writer = Vec::new(alloc);
-        let done = apply(
-            alloc,
-            &mut machine,
-            &verified,
-            b"in",
-            b"out",
-            &mut host,
-            &mut writer,
-        )?;
-        assert_eq!(rt; done.coded, out.is_none(), "row {i}");
-        assert!(rt; !done.exit, "row {i}");
+        let coded = is_coded(&rt, alloc, &verified, &mut machine, &mut host, &mut writer)?;
+        assert_eq!(rt; coded, out.is_none(), "row {i}");
         assert_eq!(rt; writer.as_slice(), *written, "row {i}");
         assert_eq!(rt; host.mem().file(b"out"), *out, "row {i}");
         assert!(rt; !machine.has_output(), "row {i}");
@@ -108,16 +113,7 @@ fn an_edit_fails_in_writing(rt: HostRuntime) -> Result<(), Fail> {
     let mut host = TestHost::new(mem, 1, HostCall::Write, 2);
     let mut machine = Machine::new(alloc, VecText::new(alloc));
     let mut writer = Vec::new(alloc);
-    let done = apply(
-        alloc,
-        &mut machine,
-        &verified,
-        b"in",
-        b"out",
-        &mut host,
-        &mut writer,
-    )?;
-    assert!(rt; done.coded);
+    assert!(rt; is_coded(&rt, alloc, &verified, &mut machine, &mut host, &mut writer)?);
     assert!(rt; is_edited(&machine, b"xfoo!"));
     Ok(())
 }

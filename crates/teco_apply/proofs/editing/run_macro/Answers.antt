@@ -1,5 +1,5 @@
 use Rattle.teco_apply.proofs.Edits.{not_run}
 use Rattle.teco_apply.proofs.editing.run_macro.Goals as goal
 
-pub returns-in-Err : goal.returns-in-Err
-returns-in-Err g c = rw (c.stop_of.ensures, c.in-Err.ensures.machine, c.in-Err.ensures.host) (not_run c.args.verified.now c.args.machine.now (g.H.Host.files c.args.host.now) c.in-Err.not_ready c.in-Err.ensures.answer)
+pub returns-in-Err-clause-stops : goal.returns-in-Err-clause-stops
+returns-in-Err-clause-stops g c = rw (c.stop_of.ensures, c.in-Err.ensures.machine, c.in-Err.ensures.host) (not_run c.args.verified.now c.args.machine.now (g.H.Host.files c.args.host.now) c.in-Err.not_ready c.in-Err.ensures.answer)
