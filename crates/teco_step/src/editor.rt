@@ -79,6 +79,14 @@ impl<T: TextStore> Editor<T> {
         fits(self.mode);
     }
 
+    /// The store of the text.
+    pub fn store(&self) -> &T
+        ensures list { T.list result.now ≡ self.now.text }
+        ensures pointer { T.pointer result.now ≡ self.now.pointer }
+    {
+        &self.store
+    }
+
     /// The text in two pieces, of which either may be empty.
     pub fn text(&self) -> (&[u8], &[u8])
         ensures { result.0.now ++ result.1.now ≡ self.now.text }
