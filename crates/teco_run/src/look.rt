@@ -171,7 +171,14 @@ fn look_on<T: TextStore, H: Host>(
     ensures out { IfOk result (λ way. is_into way ≡ false) }
 {
     let colon = has_colon(element, frames);
-    if let Some(wanted) = look(&mut desk.editor, &mut desk.last, search, element, text, wanted)? {
+    if let Some(wanted) = look(
+        &mut desk.editor,
+        &mut desk.last,
+        search,
+        element,
+        text,
+        wanted,
+    )? {
         need_output(&desk.pages)?;
         return look_behind(desk, wanted, text, element, frames, pending, host);
     }
