@@ -240,7 +240,7 @@ large_in nodes chosen k slots table h a l whole e =
 
 -- what is said of a row is said of the whole
 pub row_said : (nodes : List Node) (chosen : List Chosen) (k : ℕ) (slots new : Slots) (table : Table) (why : NotDerived) → k < length nodes → AreDerived nodes chosen k slots table → DerivesFrom nodes chosen (k + 1) slots new (Err why) → Derives (derive nodes chosen) (Err why)
-row_said nodes chosen k slots new table (fault.Refused why) h a e = row_refused nodes chosen k slots table why h a e
+row_said nodes chosen k slots new table (fault.Refused why node) h a e = row_refused nodes chosen k slots table why h a e
 row_said nodes chosen k slots new table (fault.Large node) h a e =
     subst (λ n. (whole : Table) → derive nodes chosen ≡ Ok whole → AreLarge (facts_at whole n)) (sym e.here) (large_in nodes chosen k slots table h a (record { here = refl; large = e.large }))
 row_said nodes chosen k slots new table fault.Memory h a e = tt

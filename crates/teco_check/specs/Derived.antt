@@ -50,7 +50,7 @@ pub record HasLarge (defined : Result Derived Refusal) (number node : ℕ) : Typ
 
 abbrev pub DerivesRow : ℕ → Result Derived Refusal → Slots → Slots → Result Row NotDerived → Type 0
 DerivesRow number defined old new (Ok row) = DerivesTo defined old new row
-DerivesRow number defined old new (Err (fault.Refused why)) = defined ≡ Err why
+DerivesRow number defined old new (Err (fault.Refused why node)) = defined ≡ Err why
 DerivesRow number defined old new (Err (fault.Large node)) = HasLarge defined number node
 DerivesRow number defined old new (Err fault.Memory) = Unit {0}
 
@@ -67,6 +67,6 @@ DerivesFrom nodes chosen number old new result =
 -- table may have; where memory was refused nothing is said
 abbrev pub Derives : Result Table Refusal → Result Table NotDerived → Type 0
 Derives defined (Ok table) = defined ≡ Ok table
-Derives defined (Err (fault.Refused why)) = defined ≡ Err why
+Derives defined (Err (fault.Refused why node)) = defined ≡ Err why
 Derives defined (Err (fault.Large node)) = (table : Table) → defined ≡ Ok table → AreLarge (facts_at table node)
 Derives defined (Err fault.Memory) = Unit {0}

@@ -23,8 +23,8 @@ use teco_rules::Refusal;
 /// Why no table is derived.
 #[derive(Clone, Copy)]
 pub enum NotDerived {
-    /// The rules refuse.
-    Refused(Refusal),
+    /// The rules refuse what is known at the node of this number, or behind it.
+    Refused { why: Refusal, node: usize },
     /// At the node of this number a fall is larger, or more iterations are open, than a table may have.
     Large { node: usize },
     /// A growth was refused.
@@ -127,7 +127,7 @@ fn row_reached(
     }
     let edges = match edges_at(nodes, number, &facts) {
         Ok(edges) => edges,
-        Err(Fault::Refused(why)) => return Err(NotDerived::Refused(why)),
+        Err(Fault::Refused(why)) => return Err(NotDerived::Refused { why, node: number }),
         Err(Fault::Memory) => return Err(NotDerived::Memory),
     };
     let choice = choice_for(number, chosen, &facts);
@@ -169,7 +169,7 @@ fn row_at(
 {
     match arrived.take(number) {
         Ok(known) => row_of(nodes, chosen, number, known, arrived),
-        Err(why) => Err(NotDerived::Refused(why)),
+        Err(why) => Err(NotDerived::Refused { why, node: number }),
     }
 }
 

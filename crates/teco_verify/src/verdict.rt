@@ -59,7 +59,7 @@ fn certified_with<'l>(
     let table = match derive(alloc, nodes, chosen) {
         Ok(table) => table,
         Err(NotDerived::Memory) => return Err(Refusal::Memory),
-        Err(NotDerived::Refused(why)) => return Err(Refusal::at(why, nodes, 1)),
+        Err(NotDerived::Refused { why, node }) => return Err(Refusal::at(why, nodes, node)),
         Err(NotDerived::Large { node }) => return Err(Refusal::at(Why::Bound, nodes, node)),
     };
     match certified(alloc, library, entry, nodes, &table) {
