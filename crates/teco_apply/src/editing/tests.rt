@@ -3,7 +3,7 @@ use super::apply;
 use std::alloc::Global;
 use std::process::Abort;
 use std::test::Fail;
-use teco_base::Reg;
+use teco_base::{LIMIT, Reg};
 use teco_pages::{Host, HostCall, MemHost, TestHost};
 use teco_run::Machine;
 use teco_session::SessionFault;
@@ -78,25 +78,37 @@ const ROWS: [Row; 9] = [
     ),
 ];
 
+// Edits what is edited, over a host that fails as the row says.
+fn expect_edit(
+    rt: &impl Abort,
+    alloc: Global,
+    row: Row,
+    number: usize,
+) -> Result<(), SessionFault> {
+    let (file, piece, call, nth, written, out) = row;
+    assert!(rt; file.len() <= LIMIT);
+    let Ok(library) = Library::read(alloc, file) else {
+        panic!(rt; "no library");
+    };
+    let verified = macro_of(rt, alloc, &library);
+    let mut mem = MemHost::new(alloc);
+    mem.put(b"in", INPUT)?;
+    assert!(rt; piece > 0);
+    let mut host = TestHost::new(mem, piece, call, nth);
+    let mut machine = Machine::new(alloc, VecText::new(alloc));
+    let mut writer = Vec::new(alloc);
+    let coded = is_coded(rt, alloc, &verified, &mut machine, &mut host, &mut writer)?;
+    assert_eq!(rt; coded, out.is_none(), "row {number}");
+    assert_eq!(rt; writer.as_slice(), written, "row {number}");
+    assert_eq!(rt; host.mem().file(b"out"), out, "row {number}");
+    assert!(rt; !machine.has_output(), "row {number}");
+    Ok(())
+}
+
 #[test]
 fn files_are_edited(rt: HostRuntime) -> Result<(), Fail> {
-    let alloc = rt.alloc();
-    for (i, (file, piece, call, nth, written, out)) in ROWS.iter().enumerate() {
-        let Ok(library) = Library::read(alloc, file) else {
-            panic!(rt; "no library");
-        };
-        let verified = macro_of(&rt, alloc, &library);
-        let mut mem = MemHost::new(alloc);
-        mem.put(b"in", INPUT)?;
-        assert!(rt; *piece > 0);
-        let mut host = TestHost::new(mem, *piece, *call, *nth);
-        let mut machine = Machine::new(alloc, VecText::new(alloc));
-        let mut writer = Vec::new(alloc);
-        let coded = is_coded(&rt, alloc, &verified, &mut machine, &mut host, &mut writer)?;
-        assert_eq!(rt; coded, out.is_none(), "row {i}");
-        assert_eq!(rt; writer.as_slice(), *written, "row {i}");
-        assert_eq!(rt; host.mem().file(b"out"), *out, "row {i}");
-        assert!(rt; !machine.has_output(), "row {i}");
+    for (i, row) in ROWS.iter().enumerate() {
+        expect_edit(&rt, rt.alloc(), *row, i)?;
     }
     Ok(())
 }
