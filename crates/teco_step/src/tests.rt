@@ -513,6 +513,7 @@ fn pages_come_into_the_buffer(rt: HostRuntime) {
     take_page(&rt, rt.alloc(), &mut editor);
     expect_text(&rt, &editor, b"ab", 0);
     assert!(rt; editor.form_feed());
+    assert_eq!(rt; editor.size(), 2);
     editor.set_dot(1);
     if editor.add_page(b"cd", false).is_err() {
         editor
