@@ -1,5 +1,5 @@
 -- Bytes that go to an output one after the other.
-use Rattle.std.proofs.Common.{◌≡◌, ℕ, List, [], ◌++◌, Option, Some, None, Result, Ok, Err, append_assoc, refl, sym, ap, ◌∙◌}
+use Rattle.std.proofs.Common.{◌≡◌, ℕ, List, [], ◌++◌, Option, Some, None, Result, Ok, Err, append_assoc, refl, ap, ◌∙◌}
 use Rattle.std.proofs.lemmas.List.{append-nil}
 use Rattle.teco_model.specs.Files.{Output, with_written}
 use Rattle.teco_model.specs.Pages.{written_page}
@@ -8,7 +8,7 @@ use Rattle.teco_model.specs.State.{Kept}
 use Rattle.teco_pages.specs.Held.{Held, files_of}
 use Rattle.teco_pages.specs.HostFiles.{HostFiles, Told, Becomes, after_writing}
 use Rattle.teco_pages.specs.declared.fault.Fault.{Fault}
-use Rattle.teco_paging.specs.Files.{WritesAll, WritesUnread, bytes_of_all}
+use Rattle.teco_paging.specs.Files.{WritesAll, WritesUnread}
 
 -- nothing is written
 pub with_written-nil : (output : Option Output) → with_written [] output ≡ output

@@ -1,5 +1,5 @@
 -- What stays with an editor and its host together, and what a command of pages did to it, beside its definition.
-use Rattle.std.specs.Prelude.{ℕ, ◌≡◌, ◌<◌, ⊤, List, [], ◌++◌, length, Bool, true, false, Option, Some, None, Result, Ok, Err, IsOk, ◌⊎◌}
+use Rattle.std.specs.Prelude.{ℕ, ◌≡◌, ◌<◌, List, [], length, Bool, true, false, Option, Result, Ok, Err, IsOk, ◌⊎◌}
 use Rattle.teco_base.specs.declared.TheConstants.{LIMIT}
 use Rattle.teco_base.specs.declared.code.Code as base
 use Rattle.teco_base.specs.declared.code.Code.TheVariants as code

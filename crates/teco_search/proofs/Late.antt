@@ -1,5 +1,5 @@
 -- The codes that a search can tell only when it has its pattern.
-use Rattle.std.proofs.Common.{◌≡◌, ◌⊎◌, inl, inr, ℕ, ℤ, Bool, true, false, Result, Ok, Err, Option, Some, None, length, nat_le, refl}
+use Rattle.std.proofs.Common.{◌≡◌, inl, inr, ℕ, ℤ, Bool, true, false, Result, Ok, Err, Option, Some, None, length, nat_le, refl}
 use Rattle.std.specs.Prelude.{IsOk, if◌then◌else◌}
 use Rattle.teco_base.specs.Text.{text_after_replacement}
 use Rattle.teco_base.specs.declared.TheConstants.{LIMIT}
