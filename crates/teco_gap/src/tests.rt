@@ -106,12 +106,7 @@ fn calls_in_turn(rt: HostRuntime) -> Result<(), Fail> {
 }
 
 // A vector becomes the text, and takes what is put in then.
-fn expect_exchange<T: TextStore>(
-    rt: &impl Abort,
-    alloc: Global,
-    store: &mut T,
-    out: &mut Vec<u8>,
-) {
+fn expect_exchange<T: TextStore>(rt: &impl Abort, alloc: Global, store: &mut T, out: &mut Vec<u8>) {
     let text = match Vec::from_slice(alloc, b"xyz") {
         Ok(text) => text,
         Err(_) => Vec::from_slice(alloc, b"xyz").expect(rt, "memory"),
