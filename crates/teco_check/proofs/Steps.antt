@@ -16,7 +16,7 @@ use Rattle.teco_table.specs.Printed.{count_from, counted_with, size_from, sized_
 use Rattle.teco_table.specs.Table.{Table, facts_at}
 use Rattle.teco_check.specs.declared.bad.Bad.{Bad}
 use Rattle.teco_check.specs.declared.bad.Bad.TheVariants as bad
-use Rattle.teco_rules.specs.Bodies.{Choice}
+use Rattle.teco_rules.specs.Bodies.{Choice, Changes}
 use Rattle.teco_table.specs.Deriving.{arriving, arrivals_behind}
 use Rattle.teco_check.specs.Derived.{Slots, arrived_at, arrived_all}
 use Rattle.teco_check.specs.Here.{no_node, node_at}
@@ -139,9 +139,9 @@ says_of nodes table k (bad.Edge node) h e s = e ∙ check_fails nodes table k h 
 says_of nodes table k bad.Memory h e s = tt
 
 -- edges that arrive
-module _ (writes : List Bool) (choice : Option Choice) (read : Option Element) (edges : Edges) (k target : ℕ) (ways : List ℕ) (slots : Slots) (is : slice_get ways k ≡ Some target) where
-  pub some_arrives : (facts : Facts) → arriving writes choice read k edges ≡ Some facts → arrived_all (arrivals_behind writes choice read k (drop k ways) edges) slots ≡ arrived_all (arrivals_behind writes choice read (k + 1) (drop (k + 1) ways) edges) (arrived_at target facts slots)
+module _ (changes : Changes) (choice : Option Choice) (read : Option Element) (edges : Edges) (k target : ℕ) (ways : List ℕ) (slots : Slots) (is : slice_get ways k ≡ Some target) where
+  pub some_arrives : (facts : Facts) → arriving changes choice read k edges ≡ Some facts → arrived_all (arrivals_behind changes choice read k (drop k ways) edges) slots ≡ arrived_all (arrivals_behind changes choice read (k + 1) (drop (k + 1) ways) edges) (arrived_at target facts slots)
   some_arrives facts e = rw (behind ways k target is, e, add-one) refl
 
-  pub none_arrives : arriving writes choice read k edges ≡ None → arrived_all (arrivals_behind writes choice read k (drop k ways) edges) slots ≡ arrived_all (arrivals_behind writes choice read (k + 1) (drop (k + 1) ways) edges) slots
+  pub none_arrives : arriving changes choice read k edges ≡ None → arrived_all (arrivals_behind changes choice read k (drop k ways) edges) slots ≡ arrived_all (arrivals_behind changes choice read (k + 1) (drop (k + 1) ways) edges) slots
   none_arrives e = rw (behind ways k target is, e, add-one) refl

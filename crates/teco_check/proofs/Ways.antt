@@ -8,7 +8,7 @@ use Rattle.teco_model.specs.declared.kind.Flow.TheVariants as flow
 use Rattle.teco_model.specs.Element.{Element}
 use Rattle.teco_rules.specs.Flows.{Edges}
 use Rattle.teco_table.specs.Behind.{along, along_kind, along_flow, begins_turn, turns_by_kind, turns_by_flow}
-use Rattle.teco_rules.specs.Bodies.{Choice}
+use Rattle.teco_rules.specs.Bodies.{Choice, Changes}
 use Rattle.teco_table.specs.Closed.{begins_iteration, begins_by_kind}
 use Rattle.teco_table.specs.Deriving.{arriving, arriving_by_flow, start_of_body}
 use Rattle.teco_check.specs.Ways.{goes_on, goes_on_by_flow, turns, turns_of_flow, is_first}
@@ -25,6 +25,7 @@ along_by_flow flow.EndTurn zero edges = refl
 along_by_flow flow.EndTurn (suc way) edges = refl
 along_by_flow flow.Otherwise way edges = refl
 along_by_flow flow.GoTo way edges = refl
+along_by_flow (flow.GoAhead g) way edges = refl
 along_by_flow f zero edges = refl
 along_by_flow f (suc way) edges = refl
 
@@ -53,19 +54,19 @@ pub begins_is : (e : Element) (way : ℕ) → begins_turn (Some e) way ≡ (way 
 begins_is e way = rw (zero_is_first way) (turns_kind e.kind way)
 
 -- what arrives on a way
-arriving_flow : (writes : List Bool) (choice : Option Choice) (f : Flow) (way : ℕ) (edges : Edges) → arriving_by_flow writes choice f way edges ≡ (if turns_by_flow f way then (if begins_by_kind (kind.Flow f) then start_of_body writes choice (along_flow f way edges) else None) else along_flow f way edges)
-arriving_flow writes choice flow.Iterate zero edges = refl
-arriving_flow writes choice flow.Iterate (suc way) edges = refl
-arriving_flow writes choice flow.EndTurn zero edges = refl
-arriving_flow writes choice flow.EndTurn (suc way) edges = refl
-arriving_flow writes choice f zero edges = refl
-arriving_flow writes choice f (suc way) edges = refl
+arriving_flow : (changes : Changes) (choice : Option Choice) (f : Flow) (way : ℕ) (edges : Edges) → arriving_by_flow changes choice f way edges ≡ (if turns_by_flow f way then (if begins_by_kind (kind.Flow f) then start_of_body changes choice (along_flow f way edges) else None) else along_flow f way edges)
+arriving_flow changes choice flow.Iterate zero edges = refl
+arriving_flow changes choice flow.Iterate (suc way) edges = refl
+arriving_flow changes choice flow.EndTurn zero edges = refl
+arriving_flow changes choice flow.EndTurn (suc way) edges = refl
+arriving_flow changes choice f zero edges = refl
+arriving_flow changes choice f (suc way) edges = refl
 
-arriving_of : (writes : List Bool) (choice : Option Choice) (e : Element) (k : Kind) (way : ℕ) (edges : Edges) → arriving writes choice (Some (record e { kind = k })) way edges ≡ (if turns_by_kind k way then (if begins_by_kind k then start_of_body writes choice (along_kind k way edges) else None) else along_kind k way edges)
-arriving_of writes choice e (kind.Flow f) way edges = arriving_flow writes choice f way edges
-arriving_of writes choice e k zero edges = refl
-arriving_of writes choice e k (suc way) edges = refl
+arriving_of : (changes : Changes) (choice : Option Choice) (e : Element) (k : Kind) (way : ℕ) (edges : Edges) → arriving changes choice (Some (record e { kind = k })) way edges ≡ (if turns_by_kind k way then (if begins_by_kind k then start_of_body changes choice (along_kind k way edges) else None) else along_kind k way edges)
+arriving_of changes choice e (kind.Flow f) way edges = arriving_flow changes choice f way edges
+arriving_of changes choice e k zero edges = refl
+arriving_of changes choice e k (suc way) edges = refl
 
-pub arriving_is : (writes : List Bool) (choice : Option Choice) (read : Option Element) (way : ℕ) (edges : Edges) → arriving writes choice read way edges ≡ (if begins_turn read way then (if begins_iteration read then start_of_body writes choice (along read way edges) else None) else along read way edges)
-arriving_is writes choice None way edges = refl
-arriving_is writes choice (Some e) way edges = arriving_of writes choice e e.kind way edges
+pub arriving_is : (changes : Changes) (choice : Option Choice) (read : Option Element) (way : ℕ) (edges : Edges) → arriving changes choice read way edges ≡ (if begins_turn read way then (if begins_iteration read then start_of_body changes choice (along read way edges) else None) else along read way edges)
+arriving_is changes choice None way edges = refl
+arriving_is changes choice (Some e) way edges = arriving_of changes choice e e.kind way edges

@@ -1,11 +1,11 @@
--- Which registers are written, node after node.
+-- What a body changes, node after node.
 use Rattle.std.proofs.Common.{◌≡◌, refl, sym, ◌∙◌, ap, ℕ, zero, suc, ◌+◌, ◌-◌, ◌<◌, ◌≤◌, Bool, true, false, ◌==◌, ◌||◌, List, [], ◌∷◌, ◌++◌, length, take, drop, set, Option, Some, None, unwrap_or, slice_get, length-drop, replicate, add-one, add-zero, zero-add, arith}
 use Rattle.std.specs.List.{list_any}
 use Rattle.std.proofs.lemmas.List.Folds.{list_any-append}
 use Rattle.std.proofs.lemmas.Bool.Decides.{nat_tests}
 use Rattle.teco_model.specs.Element.{Element}
 use Rattle.teco_expand.specs.Node.{Node}
-use Rattle.teco_table.specs.Written.{sets, written_in}
+use Rattle.teco_table.specs.Written.{sets, ends_saved, written_in}
 use Rattle.teco_check.specs.Here.{no_node, node_at}
 use Rattle.teco_check.specs.Writes.{set_at}
 
@@ -40,6 +40,16 @@ differs s r h = grind (arith, nat_tests)
 
 same : (s : ℕ) → (s == s) ≡ true
 same s = grind (arith, nat_tests)
+
+-- whether one node more ends all that is saved
+ends_with : (body : List Node) (node : Node) → list_any (λ (n : Node). ends_saved n.element) (body ++ node ∷ []) ≡ (list_any (λ (n : Node). ends_saved n.element) body || ends_saved node.element)
+ends_with body node = list_any-append (λ (n : Node). ends_saved n.element) body (node ∷ []) ∙ ap (λ b. list_any (λ (n : Node). ends_saved n.element) body || b) (or_false (ends_saved node.element))
+
+pub ends_here : (body : List Node) (node : Node) → ends_saved node.element ≡ true → list_any (λ (n : Node). ends_saved n.element) (body ++ node ∷ []) ≡ true
+ends_here body node e = ends_with body node ∙ ap (λ b. list_any (λ (n : Node). ends_saved n.element) body || b) e ∙ or_true (list_any (λ (n : Node). ends_saved n.element) body)
+
+pub ends_later : (body : List Node) (node : Node) → ends_saved node.element ≡ false → list_any (λ (n : Node). ends_saved n.element) (body ++ node ∷ []) ≡ list_any (λ (n : Node). ends_saved n.element) body
+ends_later body node e = ends_with body node ∙ ap (λ b. list_any (λ (n : Node). ends_saved n.element) body || b) e ∙ or_false (list_any (λ (n : Node). ends_saved n.element) body)
 
 -- none of these registers is written
 kept_in : (body : List Node) (node : Node) (count r : ℕ) → ((k : ℕ) → r ≤ k → sets k node.element ≡ false) → written_in (body ++ node ∷ []) count r ≡ written_in body count r

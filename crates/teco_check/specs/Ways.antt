@@ -9,6 +9,7 @@ abbrev pub goes_on_by_flow : Flow → Bool → Bool
 goes_on_by_flow flow.EndTurn first = not first
 goes_on_by_flow flow.Otherwise first = false
 goes_on_by_flow flow.GoTo first = false
+goes_on_by_flow (flow.GoAhead g) first = false
 goes_on_by_flow f first = first
 
 abbrev pub goes_on : Kind → Bool → Bool

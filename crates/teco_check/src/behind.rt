@@ -74,7 +74,7 @@ fn goes_on_by_flow(flow: Flow, first: bool) -> bool
 {
     match flow {
         Flow::EndTurn => !first,
-        Flow::Otherwise | Flow::GoTo => false,
+        Flow::Otherwise | Flow::GoTo | Flow::GoAhead(_) => false,
         _ => first,
     }
 }

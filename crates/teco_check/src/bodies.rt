@@ -1,15 +1,13 @@
 //! What enters the body of an iteration, and what is chosen for it.
 ghost use Rattle.std.specs.Prelude.{◌≡◌, ◌<◌, ◌≤◌, length, option_map, option_copied, Some, Ok};
-ghost use Rattle.teco_base.specs.declared.TheConstants.{REGISTERS};
 ghost use Rattle.teco_model.specs.Element as elements;
 ghost use Rattle.teco_table.specs.Closed as rules;
 ghost use Rattle.teco_check.specs.Here.{node_at};
 
-use crate::iterations::{end_of, written};
+use crate::iterations::{changes_in, end_of};
 use crate::same::say_same;
 use crate::table::Table;
-use teco_base::REGISTERS;
-use teco_facts::{Choice, Facts, body_start, turns};
+use teco_facts::{Changes, Choice, Facts, body_start, turns};
 use teco_model::Element;
 use teco_model::kind::{Flow, Kind};
 use teco_nodes::Nodes;
@@ -39,33 +37,33 @@ fn is_counted(facts: &Facts) -> bool
 
 // Whether the start of a body is what a choice makes of what enters it, and the choice stands.
 fn start_stands(
-    written: &[bool; REGISTERS],
+    changes: &Changes,
     end: Option<&Facts>,
     entering: Facts,
     start: &Facts,
     choice: &Choice,
     most: &Poly,
 ) -> bool
-    ensures { result ≡ rules.body_stands written.now (option_copied end.entry) entering (Some start.now) (Some choice.now) (Ok most.now) }
+    ensures { result ≡ rules.body_stands changes.now (option_copied end.entry) entering (Some start.now) (Some choice.now) (Ok most.now) }
 {
-    let stands = choice.stands(written, is_counted(&entering), most, &entering, end);
-    say_same(start, &body_start(choice, written, entering)) && stands
+    let stands = choice.stands(changes, is_counted(&entering), most, &entering, end);
+    say_same(start, &body_start(choice, changes, entering)) && stands
 }
 
 // The same where one of them may be absent.
 fn body_stands(
-    written: &[bool; REGISTERS],
+    changes: &Changes,
     end: Option<&Facts>,
     entering: Facts,
     start: Option<&Facts>,
     choice: &Option<Choice>,
     most: &Result<Poly, Refusal>,
 ) -> bool
-    ensures { result ≡ rules.body_stands written.now (option_copied end.entry) entering (option_copied start.entry) choice.now most.now }
+    ensures { result ≡ rules.body_stands changes.now (option_copied end.entry) entering (option_copied start.entry) choice.now most.now }
 {
     match (start, choice, most) {
         (Some(start), Some(choice), Ok(most)) => start_stands(
-            written, end, entering, start, choice, most,
+            changes, end, entering, start, choice, most,
         ),
         _ => false,
     }
@@ -86,9 +84,9 @@ pub fn is_entered(
         None => start.is_none(),
         Some(entering) => {
             let end = table.facts(end_of(nodes, number));
-            let written = written(nodes, number);
+            let changes = changes_in(nodes, number);
             body_stands(
-                &written,
+                &changes,
                 end,
                 entering,
                 start,

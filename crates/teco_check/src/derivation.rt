@@ -10,7 +10,7 @@ use crate::arrived::Arrived;
 use crate::behind::{along, begins_turn, edges_at};
 use crate::bodies::begins_iteration;
 use crate::chosen::choice_for;
-use crate::iterations::written;
+use crate::iterations::changes_in;
 use crate::node::{element, way, ways};
 use crate::table::{Row, Table, are_kept};
 use std::alloc::{AllocError, Global};
@@ -51,14 +51,14 @@ fn start_of_body(
     choice: &Option<Choice>,
     entering: Option<Facts>,
 ) -> Option<Facts>
-    ensures { result ≡ rules.start_of_body (writing.written nodes.now number) choice.now entering }
+    ensures { result ≡ rules.start_of_body (writing.changes_in nodes.now number) choice.now entering }
 {
     let Some(choice) = choice else {
         return None;
     };
     match entering {
         None => None,
-        Some(entering) => Some(body_start(choice, &written(nodes, number), entering)),
+        Some(entering) => Some(body_start(choice, &changes_in(nodes, number), entering)),
     }
 }
 
@@ -72,7 +72,7 @@ fn arriving(
     way: usize,
     edges: &Edges,
 ) -> Result<Option<Facts>, AllocError>
-    ensures { IfOk result (λ facts. facts ≡ rules.arriving (writing.written nodes.now number) choice.now (option_map elements.seen read.now) way edges.now) }
+    ensures { IfOk result (λ facts. facts ≡ rules.arriving (writing.changes_in nodes.now number) choice.now (option_map elements.seen read.now) way edges.now) }
 {
     let begins = begins_turn(read, way);
     if begins && !begins_iteration(read) {
@@ -97,7 +97,7 @@ fn arrive_behind(
     requires one { 0 < number }
     requires last { number ≤ length nodes.now }
     ensures { let node = node_at nodes.now number in
-        OnOk result (arrived.new ≡ arrived_all (rules.arrivals_behind (writing.written nodes.now number) choice.now node.element 0 node.ways edges.now) arrived.old) }
+        OnOk result (arrived.new ≡ arrived_all (rules.arrivals_behind (writing.changes_in nodes.now number) choice.now node.element 0 node.ways edges.now) arrived.old) }
 {
     let read = element(nodes, number);
     for at in 0..ways(nodes, number) {

@@ -1,4 +1,4 @@
-//! Where iterations end, and which registers' numbers their bodies write.
+//! Where iterations end, and what their bodies change.
 ghost use Rattle.std.specs.Prelude.{◌≡◌, ◌<◌, ◌≤◌, length, IfSome};
 ghost use Rattle.teco_base.specs.declared.TheConstants.{REGISTERS};
 ghost use Rattle.teco_expand.specs.Ends as ends;
@@ -8,7 +8,8 @@ ghost use Rattle.teco_check.specs.Writes as writes;
 
 use crate::node::{element, iteration};
 use teco_base::REGISTERS;
-use teco_model::kind::{Command, Flow, Kind, Stack, Storage};
+use teco_facts::Changes;
+use teco_model::kind::{Command, Flow, Kind, Page, Search, Stack, Storage};
 use teco_nodes::Nodes;
 
 // Whether the innermost iteration began at a number.
@@ -90,8 +91,8 @@ fn set_at(nodes: &Nodes<'_>, number: usize) -> Option<usize>
     }
 }
 
-/// Which registers' numbers the body of a < writes.
-pub fn written(nodes: &Nodes<'_>, begin: usize) -> [bool; REGISTERS]
+// Which registers' numbers the body of a < writes.
+fn written(nodes: &Nodes<'_>, begin: usize) -> [bool; REGISTERS]
     ensures value { result ≡ rules.written nodes.now begin }
     ensures all { length result ≡ REGISTERS }
 {
@@ -102,4 +103,51 @@ pub fn written(nodes: &Nodes<'_>, begin: usize) -> [bool; REGISTERS]
         }
     }
     written
+}
+
+// Whether an element ends all that is saved: D, K, FS, N, FN and P do.
+fn ends_by(kind: &Kind) -> bool
+    ensures { result ≡ rules.ends_by kind.now }
+{
+    match kind {
+        Kind::Command(Command::Deletion(_)) => true,
+        Kind::Page(Page::Next) => true,
+        Kind::Search(search) => !matches!(search, Search::Find),
+        _ => false,
+    }
+}
+
+// The same of what is read at a node.
+fn ends_saved(nodes: &Nodes<'_>, number: usize) -> bool
+    requires one { 0 < number }
+    requires last { number ≤ length nodes.now }
+    ensures { result ≡ rules.ends_saved (node_at nodes.now number).element }
+{
+    match element(nodes, number) {
+        Some(element) => ends_by(&element.kind),
+        None => false,
+    }
+}
+
+// Whether the body of a < ends all that is saved.
+fn ends_in(nodes: &Nodes<'_>, begin: usize) -> bool
+    ensures { result ≡ rules.ends_in nodes.now begin }
+{
+    let mut ended = false;
+    for at in begin..end_of(nodes, begin) {
+        if ends_saved(nodes, at + 1) {
+            ended = true;
+        }
+    }
+    ended
+}
+
+/// What the body of a < changes.
+pub fn changes_in(nodes: &Nodes<'_>, begin: usize) -> Changes
+    ensures { result ≡ rules.changes_in nodes.now begin }
+{
+    Changes {
+        written: written(nodes, begin),
+        ends: ends_in(nodes, begin),
+    }
 }

@@ -20,7 +20,7 @@ pub use behind::{along, begins_turn, edges_at};
 pub use bodies::begins_iteration;
 pub use closed::check;
 pub use derivation::{NotDerived, derive};
-pub use iterations::{end_of, written};
+pub use iterations::{changes_in, end_of};
 pub use loops::{has_iterations, line_of, loops_of, register_at};
 pub use printed::{Overflow, commands, needs_in, size};
 pub use table::{Row, Table, are_kept};

@@ -2,10 +2,9 @@
 
 use crate::unfit::Unfit;
 use std::alloc::Global;
-use teco_base::REGISTERS;
 use teco_certificate::LoopLine;
 use teco_check::line_of;
-use teco_facts::{Choice, Facts, body_start, growth_of, held_last, joined_lengths};
+use teco_facts::{Changes, Choice, Facts, body_start, growth_of, held_last, joined_lengths};
 use teco_poly::Poly;
 use teco_rules::Refusal;
 
@@ -25,7 +24,7 @@ pub struct Attempt {
     pub found: usize,
     tries: u8,
     turns: Poly,
-    written: [bool; REGISTERS],
+    changes: Changes,
     // what enters the body
     entering: Facts,
     choice: Choice,
@@ -45,7 +44,7 @@ impl Attempt {
         begin: usize,
         end: usize,
         turns: Poly,
-        written: [bool; REGISTERS],
+        changes: Changes,
         entering: Facts,
     ) -> Attempt {
         let choice = Choice {
@@ -60,7 +59,7 @@ impl Attempt {
             found: 0,
             tries: 1,
             turns,
-            written,
+            changes,
             entering,
             choice,
         }
@@ -76,7 +75,7 @@ impl Attempt {
     /// What is known at the start of the body.
     pub fn start(&self) -> Result<Facts, Unfit> {
         let entering = self.entering.copied()?;
-        Ok(body_start(&self.choice, &self.written, entering))
+        Ok(body_start(&self.choice, &self.changes, entering))
     }
 
     // Whether the iteration has a count.
@@ -115,7 +114,7 @@ impl Attempt {
         }
         let counted = self.is_counted();
         if self.choice.stands(
-            &self.written,
+            &self.changes,
             counted,
             &self.turns,
             &self.entering,

@@ -5,7 +5,7 @@ use crate::attempt::{Attempt, Verdict};
 use crate::unfit::Unfit;
 use std::alloc::Global;
 use teco_certificate::LoopLine;
-use teco_check::{along, are_kept, begins_iteration, begins_turn, edges_at, end_of, written};
+use teco_check::{along, are_kept, begins_iteration, begins_turn, changes_in, edges_at, end_of};
 use teco_facts::{Edges, Facts, turns};
 use teco_nodes::Nodes;
 use teco_rules::Refusal;
@@ -77,7 +77,7 @@ impl Search {
     ) -> Result<(), Unfit> {
         let turns = turns(facts).map_err(|why| Unfit::at(why, number))?;
         let end = end_of(nodes, number);
-        let attempt = Attempt::first(number, end, turns, written(nodes, number), entering).behind(
+        let attempt = Attempt::first(number, end, turns, changes_in(nodes, number), entering).behind(
             self.pending.len(),
             self.found.len(),
         );

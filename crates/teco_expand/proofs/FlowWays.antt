@@ -4,6 +4,8 @@ use Rattle.std.specs.Option.{ok_or}
 use Rattle.std.proofs.lemmas.List.{drop-map}
 use Rattle.teco_model.specs.declared.kind.Flow.{Flow}
 use Rattle.teco_model.specs.declared.kind.Flow.TheVariants as flow
+use Rattle.teco_model.specs.declared.kind.Goal.{Goal}
+use Rattle.teco_model.specs.declared.kind.Goal.TheVariants as goal
 use Rattle.teco_model.specs.Ahead.{Whole}
 use Rattle.teco_model.specs.Arguments.{Arguments}
 use Rattle.teco_model.specs.Element.{Element}
@@ -12,7 +14,7 @@ use Rattle.teco_model.specs.Skip.{skip_of}
 use Rattle.teco_model.specs.State.{Frame}
 use Rattle.teco_expand.specs.Refusal.{Reason, Unpaired, ◌>>=◌}
 use Rattle.teco_expand.specs.Position.{Position, position_of_frames, start_of, moved_to}
-use Rattle.teco_expand.specs.Ways.{past, jumped, jump_way, way_or_jump, leave_ways, flow_ways}
+use Rattle.teco_expand.specs.Ways.{past, jumped, jump_way, way_or_jump, leave_ways, ahead_ways, flow_ways}
 use Rattle.teco_expand.specs.Turns.{Jumps, Went}
 use Rattle.teco_expand.proofs.Checks.{ok, bound_way}
 
@@ -54,6 +56,12 @@ leaves_leads : (q : Position) (starts : List ℕ) (e : Element) (p : Position) (
 leaves_leads q [] e p ways j h = absurd (cc)
 leaves_leads q (start ∷ outer) e p ways j h = second_way (past e p) q e p ways j h
 
+pub ahead_way : (g : Goal) (starts : List ℕ) (e : Element) (p : Position) (ways : List Position) → ahead_ways g starts e p ≡ Ok ways → jump_way e p ≡ Ok ways
+ahead_way goal.EndTurn [] e p ways h = absurd (cc)
+ahead_way goal.EndTurn (start ∷ outer) e p ways h = h
+ahead_way goal.EndTest starts e p ways h = h
+ahead_way goal.Otherwise starts e p ways h = h
+
 pub way_leads : (f : Flow) (way : ℕ) (e : Element) (a : Arguments) (frame : Frame) (callers : List Frame) (turn : Turn) (ways : List Position) → Went f way e a frame turn →
     flow_ways f e (position_in frame callers) ≡ Ok ways → slice_get ways way ≡ Some (position_in turn.frame callers)
 unfolding flow_ways
@@ -71,4 +79,6 @@ way_leads flow.Otherwise zero e a frame callers turn ways g h = one_jump _ e (po
 way_leads flow.GoTo zero e a frame callers turn ways g h = one_jump _ e (position_in frame callers) ways (jump_leads g.left e _ frame callers turn g.jumps) h
 way_leads flow.EndTest zero e a frame callers turn ways g h = only _ ways h ∙ there callers turn _ g
 way_leads flow.Comment zero e a frame callers turn ways g h = only _ ways h ∙ there callers turn _ g
+way_leads (flow.GoAhead to) zero e a frame callers turn ways g h =
+    one_jump _ e (position_in frame callers) ways (jump_leads 0 e a frame callers turn g) (ahead_way to (map start_of frame.loops) e (position_in frame callers) ways h)
 way_leads f way e a frame callers turn ways g h = absurd g

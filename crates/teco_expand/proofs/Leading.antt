@@ -24,7 +24,8 @@ use Rattle.teco_expand.specs.Refusal.{Reason, Unpaired}
 use Rattle.teco_expand.specs.Ways.{past, jumped, jump_way, way_or_jump, end_ways, leave_ways, flow_ways, search_ways, called, call_ways, return_ways, element_ways, ways_at}
 use Rattle.teco_expand.proofs.Checks.{ok, bound_way}
 use Rattle.teco_expand.proofs.Iterations.{iterations_are_open}
-use Rattle.teco_expand.proofs.Turns.{leaves_by_kind}
+use Rattle.teco_expand.proofs.FlowWays.{ahead_way}
+use Rattle.teco_expand.proofs.Turns.{leaves_by_kind, leaves_none}
 
 -- iterations by depth
 same_iterations : (number : ℕ) (numbers : List ℕ) (before after : ℕ) → before ≡ after → iterations_at number numbers before after ≡ numbers
@@ -267,6 +268,12 @@ module _ (library : Library) (entry : ℕ) (nodes : List Node) (number : ℕ) (n
   flow_leads flow.GoTo e (suc way) targets q target stand r g w h n s = no_other_jump q e node.stand.position way targets w h
   flow_leads flow.Comment e zero targets q target stand r g w h n s = plain 0 (past e node.stand.position) q targets target stand w h refl (of_kind (kind.Flow flow.Comment) e r g) n s
   flow_leads flow.Comment e (suc way) targets q target stand r g w h n s = no_second_way (past e node.stand.position) q way targets w h
+  flow_leads (flow.GoAhead to) e zero targets q target stand r g w h n s =
+      let p = node.stand.position in
+      let jump : jump_way e p ≡ Ok targets = ahead_way to p.running.starts e p targets w in
+      ahead q 0 target stand (jump_depth 0 e p q (jump_of q e p targets jump h) (leaves_none to e p.running.text g) (omega arith)) n s
+  flow_leads (flow.GoAhead to) e (suc way) targets q target stand r g w h n s =
+      let p = node.stand.position in no_other_jump q e p way targets (ahead_way to p.running.starts e p targets w) h
 
   search_leads : (colon : Bool) (starts : List ℕ) (x : Search) (e : Element) (way : ℕ) (targets : List Position) (q : Position) (target : ℕ) (stand : Stand) → node.element ≡ Some e → e.kind ≡ kind.Search x → node.stand.position.running.starts ≡ starts →
       search_ways colon starts e node.stand.position ≡ Ok targets → slice_get targets way ≡ Some q →

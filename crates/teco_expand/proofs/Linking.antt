@@ -15,7 +15,7 @@ use Rattle.teco_model.specs.Element.{Element, blank_len, element_from, element_a
 use Rattle.teco_model.specs.Letters.{letters}
 use Rattle.teco_expand.specs.Refusal.{Reason, Unpaired, Recursion, TooLarge, Refusal, unless}
 use Rattle.teco_expand.specs.Library.{Library, macro}
-use Rattle.teco_expand.specs.Position.{Spot, Position, spot_in, starts_in, depth}
+use Rattle.teco_expand.specs.Position.{Spot, Position, spot_at, starts_in, depth}
 use Rattle.teco_expand.specs.Ways.{past, read_at, end_ways, call_ways, flow_ways, return_ways, element_ways, ways_at}
 use Rattle.teco_expand.specs.Node.{Stand, Node, call_of, beginning, over, stand_of_node, stands, numbered, stand_at, base_of}
 use Rattle.teco_expand.specs.Order.{position_in_text, position_behind_call, stand_behind_kind, stand_behind}
@@ -318,7 +318,7 @@ called_waits entry (Some text) e [] stand targets r c w =
     let same : e ≡ first.element = (let s : Some e ≡ Some first.element = first.reads in cc) in
     let next : e.next ≡ 2 = ap (λ (e : Element). e.next) same ∙ first.next in
     ap (λ (stand : Stand). (past e stand.position).running ∷ stand.position.callers) w
-    ∙ ap (λ place. record (spot_in (call_of entry)) { place = place } ∷ []) next
+    ∙ ap (λ place. spot_at (call_of entry) place [] ∷ []) next
 called_waits entry (Some text) e (r' ∷ registers) stand targets r c w = w
 
 waits_kind : (library : Library) (entry number : ℕ) (k : Kind) (e : Element) (registers : List ℕ) (stand : Stand) (targets : List Position) → read_at stand.position ≡ Ok (Some e) → e.kind ≡ k → element_ways library k e stand.position ≡ Ok targets →

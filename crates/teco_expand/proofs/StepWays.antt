@@ -15,7 +15,7 @@ use Rattle.teco_model.specs.declared.kind.Page.TheVariants as page
 use Rattle.teco_model.specs.declared.kind.Search.{Search}
 use Rattle.teco_model.specs.declared.kind.Search.TheVariants as search_kind
 use Rattle.teco_model.specs.Arguments.{Arguments, no_arguments, levels_after_answer}
-use Rattle.teco_model.specs.Element.{Element, element_at}
+use Rattle.teco_model.specs.Element.{Element, blank_end, element_at}
 use Rattle.teco_model.specs.Flow.{Turn, turn_of, jump}
 use Rattle.teco_model.specs.Going.{After, frames_at, frames_in, outcome_behind, world_keeping, taking, with_nothing_left}
 use Rattle.teco_model.specs.Outside.{world_outcome, pages_outcome, pages_behind, pages_done, pages_outcome_of, append_outcome, character_outcome, opened_outcome, exit_outcome, page_outcome, file_outcome}
@@ -24,6 +24,7 @@ use Rattle.teco_model.specs.Search.{Finding, Found, Missed}
 use Rattle.teco_model.specs.Searching.{has_colon, answer_where, search_behind, kept_by_miss, finding, looking, leaving_outcome, missed_outcome, miss_outcome, search_outcome, looked_outcome, looked_outcome_of, outcome_of_search}
 use Rattle.teco_model.specs.State.{Kept, World, Frame, Frames, State, Next, End}
 use Rattle.teco_model.specs.Step.{flow_outcome, call_outcome, outcome_of, end_of_text, outcome_at, step}
+use Rattle.teco_model.proofs.Ahead.{element_at-again}
 use Rattle.teco_expand.specs.Refusal.{◌>>=◌}
 use Rattle.teco_expand.specs.Library.{Library, macro, IsLoaded}
 use Rattle.teco_expand.specs.Position.{Position, position_of, position_of_frames, start_of, spot_of}
@@ -45,7 +46,9 @@ read_is (Err c) read h = absurd (cc)
 
 pub as_read : (s : State) (read : Option Element) → read_at (position_of s) ≡ Ok read → step s ≡ outcome_at s (Ok read)
 unfolding step read_at
-as_read s read h = ap (outcome_at s) (read_is (element_at s.frames.running.text s.frames.running.place) read h)
+as_read s read h =
+    let frame = s.frames.running in
+    ap (outcome_at s) (sym (element_at-again frame.text frame.place) ∙ read_is (element_at frame.text (blank_end frame.text frame.place)) read h)
 
 -- no work is left where the element is not long
 nothing_left : (k : Kind) (e : Element) (left : Option ℕ) → e.kind ≡ k → is_long k ≡ false → IsLeftAt (Some e) left → left ≡ None

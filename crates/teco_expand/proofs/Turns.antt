@@ -7,13 +7,15 @@ use Rattle.teco_model.specs.declared.kind.Kind.{Kind}
 use Rattle.teco_model.specs.declared.kind.Kind.TheVariants as kind
 use Rattle.teco_model.specs.declared.kind.Flow.{Flow}
 use Rattle.teco_model.specs.declared.kind.Flow.TheVariants as flow
+use Rattle.teco_model.specs.declared.kind.Goal.{Goal}
+use Rattle.teco_model.specs.declared.kind.Goal.TheVariants as goal
 use Rattle.teco_model.specs.declared.kind.Test.{Test}
-use Rattle.teco_model.specs.Ahead.{Whole, readings}
+use Rattle.teco_model.specs.Ahead.{Reading, Whole, readings}
 use Rattle.teco_model.specs.Arguments.{Arguments, no_arguments, arguments_of, levels_after_taking}
 use Rattle.teco_model.specs.Condition.{holds}
 use Rattle.teco_model.specs.Effect.{needed_value}
 use Rattle.teco_model.specs.Element.{Element}
-use Rattle.teco_model.specs.Flow.{Turn, turn_of, turn_to, jump, iteration, counted_iteration, later_turns, turn_end, leaves, leaving, leaving_where, conditional, without_value}
+use Rattle.teco_model.specs.Flow.{Turn, turn_of, turn_to, jump, iteration, counted_iteration, later_turns, turn_end, leaves, leaving, leaving_where, conditional, to_turn_end, going_ahead, without_value}
 use Rattle.teco_model.specs.Skip.{route_of, skip_on, skip_of}
 use Rattle.teco_model.specs.State.{Frame}
 use Rattle.teco_expand.specs.Turns.{Took, Jumps, Went}
@@ -89,6 +91,24 @@ reached (Some n) e a frame there turn took j h = absurd (cc)
 reached None e a frame there turn took j h =
     record { way = 0; went = record { took = took; left = (skip_of frame.text (Whole e)).leaves; jumps = jumped code.Tag (skip_of frame.text (Whole e)).leaves e no_arguments frame turn refl (j ∙ h) } }
 
+-- F>, F' and F| jump, and leave no iteration
+ahead_leaves : (g : Goal) (tag : List ℕ) (rest : List Reading) → (skip_on (route_of (kind.Flow (flow.GoAhead g))) tag rest).leaves ≡ 0
+ahead_leaves goal.EndTurn tag rest = refl
+ahead_leaves goal.EndTest tag rest = refl
+ahead_leaves goal.Otherwise tag rest = refl
+
+pub leaves_none : (g : Goal) (e : Element) (text : List ℕ) → e.kind ≡ kind.Flow (flow.GoAhead g) → (skip_of text (Whole e)).leaves ≡ 0
+leaves_none g e text k = leaves_by_kind (kind.Flow (flow.GoAhead g)) e text k ∙ ahead_leaves g e.text (readings text e.next)
+
+inside_jumps : (loops : List Loop) (e : Element) (a : Arguments) (frame : Frame) (turn : Turn) → to_turn_end e loops a frame ≡ Ok turn → jump code.Utc e a frame ≡ Ok turn
+inside_jumps [] e a frame turn h = absurd (cc)
+inside_jumps (loop ∷ outer) e a frame turn h = h
+
+ahead_jumps : (g : Goal) (e : Element) (a : Arguments) (frame : Frame) (turn : Turn) → going_ahead g e a frame ≡ Ok turn → jump code.Utc e a frame ≡ Ok turn
+ahead_jumps goal.EndTurn e a frame turn h = inside_jumps frame.loops e a frame turn h
+ahead_jumps goal.EndTest e a frame turn h = h
+ahead_jumps goal.Otherwise e a frame turn h = h
+
 pub turn_goes : (f : Flow) (e : Element) (a : Arguments) (frame : Frame) (turn : Turn) → e.kind ≡ kind.Flow f → turn_of f e a frame ≡ Ok turn → Goes f e a frame turn
 turn_goes flow.Iterate e a frame turn k h =
     let own = bound (arguments_of a.level) _ turn h in
@@ -106,3 +126,4 @@ turn_goes flow.GoTo e a frame turn k h =
     let there = bound (jump code.Tag e no_arguments frame) _ turn own.gives in
     reached own.before.value e a frame there.before turn (record { taken = own.before; took = own.was; value_is = refl }) there.was there.gives
 turn_goes flow.Comment e a frame turn k h = record { way = 0; went = sym (ok _ turn h) }
+turn_goes (flow.GoAhead g) e a frame turn k h = record { way = 0; went = jumped code.Utc 0 e a frame turn (leaves_none g e frame.text k) (ahead_jumps g e a frame turn h) }

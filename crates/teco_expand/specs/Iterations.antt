@@ -6,7 +6,7 @@ use Rattle.teco_model.specs.Element.{Element}
 use Rattle.teco_expand.specs.Library.{Library}
 use Rattle.teco_expand.specs.Linked.{AreLinked}
 use Rattle.teco_expand.specs.Node.{Stand, Node, stands, numbered}
-use Rattle.teco_expand.specs.Position.{Spot}
+use Rattle.teco_expand.specs.Position.{Spot, spot_at}
 
 -- A number below another is that of a <, and behind it the body stands.
 pub record Begins (nodes : List Node) (entry below number : ℕ) (body : Stand) : Type 0 where
@@ -22,7 +22,7 @@ pub record Begins (nodes : List Node) (entry below number : ℕ) (body : Stand) 
 abbrev pub body_at : List ℕ → List Spot → ℕ → List ℕ → List ℕ → Stand
 body_at text callers start outer numbers = record {
   position = record {
-    running = record { text = text; place = start; starts = start ∷ outer };
+    running = spot_at text start (start ∷ outer);
     callers = callers;
   };
   iterations = numbers;

@@ -55,6 +55,7 @@ LeadsByFlow flow.Otherwise zero from to = IsAhead 0 from to
 LeadsByFlow flow.EndTest zero from to = IsBehind from to
 LeadsByFlow flow.GoTo zero from to = IsAheadSomewhere from to
 LeadsByFlow flow.Comment zero from to = IsBehind from to
+LeadsByFlow (flow.GoAhead g) zero from to = IsAhead 0 from to
 LeadsByFlow f way from to = ⊥
 
 abbrev pub LeadsByKind : Kind → ℕ → Place → Place → Type 0

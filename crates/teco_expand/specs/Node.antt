@@ -5,7 +5,7 @@ use Rattle.teco_model.specs.declared.kind.Kind.{Kind}
 use Rattle.teco_model.specs.declared.kind.Kind.TheVariants as kind
 use Rattle.teco_model.specs.declared.kind.Flow.TheVariants as flow
 use Rattle.teco_model.specs.Element.{Element}
-use Rattle.teco_expand.specs.Position.{Position, spot_in, depth, place_at}
+use Rattle.teco_expand.specs.Position.{Position, spot_at, spot_in, depth, place_at}
 
 -- where a run stands among nodes: its position, and the numbers of the < whose iterations are open, the innermost first
 pub record Stand : Type 0 where
@@ -38,7 +38,7 @@ beginning entry = record {
 -- behind that call the run is over
 abbrev pub over : ℕ → Stand
 over entry = record {
-  position = record { running = record (spot_in (call_of entry)) { place = 2 }; callers = [] };
+  position = record { running = spot_at (call_of entry) 2 []; callers = [] };
   iterations = [];
 }
 

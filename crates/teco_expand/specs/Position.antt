@@ -5,11 +5,16 @@ use Rattle.teco_model.specs.declared.flow.Loop.{Loop}
 use Rattle.teco_model.specs.Element.{blank_end}
 use Rattle.teco_model.specs.State.{Frame, Frames, State}
 
--- a place in a text, and where the bodies of the iterations start that are open in it, the innermost first
+-- the place of an element in a text, and where the bodies of the iterations start that are open in it, the innermost
+-- first; a return stands at the length of its text
 pub record Spot : Type 0 where
   pub text : List ℕ
   pub place : ℕ
   pub starts : List ℕ
+
+-- where a text goes on, behind the blanks at a place
+abbrev pub spot_at : List ℕ → ℕ → List ℕ → Spot
+spot_at text place starts = record { text = text; place = blank_end text place; starts = starts }
 
 -- the text that is executed, and those that wait for its end, the newest first
 pub record Position : Type 0 where
@@ -20,8 +25,7 @@ abbrev pub start_of : Loop → ℕ
 start_of loop = loop.start
 
 abbrev pub spot_of : Frame → Spot
-spot_of frame =
-    record { text = frame.text; place = frame.place; starts = map start_of frame.loops }
+spot_of frame = spot_at frame.text frame.place (map start_of frame.loops)
 
 abbrev pub position_of_frames : Frames → Position
 position_of_frames frames =
@@ -33,12 +37,11 @@ position_of s = position_of_frames s.frames
 
 -- a text at its beginning
 abbrev pub spot_in : List ℕ → Spot
-spot_in text = record { text = text; place = 0; starts = [] }
+spot_in text = spot_at text 0 []
 
 -- the running text at another place, with other iterations open
 abbrev pub moved_to : ℕ → List ℕ → Position → Position
-moved_to place starts p =
-    record p { running = record p.running { place = place; starts = starts } }
+moved_to place starts p = record p { running = spot_at p.running.text place starts }
 
 -- the starts of all open iterations, of the texts that wait too, and how many there are
 abbrev pub starts_in : List Spot → List ℕ
@@ -51,6 +54,6 @@ open_starts p = starts_in (p.running ∷ p.callers)
 abbrev pub depth : Position → ℕ
 depth p = length (open_starts p)
 
--- where the element at a position begins, behind the blanks; a return stands at the length of its text
+-- the place of the element at a position
 abbrev pub place_at : Position → ℕ
-place_at p = blank_end p.running.text p.running.place
+place_at p = p.running.place

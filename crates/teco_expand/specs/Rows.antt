@@ -78,6 +78,15 @@ pub record WorkedExpansions : Type 0 where
       told place_and_ways jumps_out
       ≡ Ok ((0, 2 ∷ []) ∷ (0, 3 ∷ 6 ∷ []) ∷ (1, 4 ∷ []) ∷ (3, 7 ∷ []) ∷ (8, 3 ∷ 6 ∷ []) ∷ (9, 7 ∷ [])
       ∷ (14, 8 ∷ []) ∷ [])
+  -- F> goes to its >, blanks before that or not, F| past the | of its level, and F' past its '
+  pub to_turn_end :
+      told place_and_ways (only (codes "3<F>= >"))
+      ≡ Ok ((0, 2 ∷ []) ∷ (0, 3 ∷ []) ∷ (1, 4 ∷ 7 ∷ []) ∷ (2, 6 ∷ []) ∷ (4, 6 ∷ []) ∷ (6, 4 ∷ 7 ∷ [])
+      ∷ (7, 8 ∷ []) ∷ [])
+  pub past_branches :
+      told place_and_ways (only (codes "0\"EF|F'| ='"))
+      ≡ Ok ((0, 2 ∷ []) ∷ (0, 3 ∷ []) ∷ (1, 4 ∷ 7 ∷ []) ∷ (3, 7 ∷ []) ∷ (5, 9 ∷ []) ∷ (7, 9 ∷ []) ∷ (9, 8 ∷ [])
+      ∷ (10, 9 ∷ []) ∷ (11, 10 ∷ []) ∷ [])
   -- a search without a colon leaves its iteration where it misses
   pub search_alone :
       told place_and_ways (only (then (codes "<Sa") (codes ">")))
@@ -93,9 +102,12 @@ pub record WorkedExpansions : Type 0 where
   pub iteration_without_end : Refuses (only (codes "1\"N<'")) Unpaired 0 3
   pub end_without_iteration : Refuses (only (codes "1=>")) Unpaired 0 2
   pub leaves_the_callers : Refuses (pair (codes "3<MB>") (codes "1;")) Unpaired 1 1
+  pub ahead_of_no_iteration : Refuses (only (codes "1=F>>")) Unpaired 0 2
+  pub ahead_without_end : Refuses (only (codes "1<F'>")) Unpaired 0 2
   pub no_tag : Refuses (only (then (codes "1=Oa") [])) Unpaired 0 2
   pub overlap : Refuses (only (codes "2<0\"N>'")) Unpaired 0 3
   pub overlap_of_end : Refuses (only (codes "1\"N2<'>")) Unpaired 0 1
+  pub overlap_of_ahead : Refuses (only (codes "0\"E1<F'>'")) Unpaired 0 5
   pub overlap_before_fault : Refuses (only (codes "2<0\"N>'?")) Unpaired 0 3
   pub fault_within : Refuses (only (codes "1<?>")) Fault 0 2
   -- calls

@@ -120,4 +120,5 @@ Went flow.Otherwise zero e a frame turn = Jumps 0 e a frame turn
 Went flow.GoTo zero e a frame turn = GoesTo e a frame turn
 Went flow.EndTest zero e a frame turn = turn ≡ turn_past e a frame
 Went flow.Comment zero e a frame turn = turn ≡ turn_past e a frame
+Went (flow.GoAhead g) zero e a frame turn = Jumps 0 e a frame turn
 Went f way e a frame turn = ⊥

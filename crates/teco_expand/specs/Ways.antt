@@ -7,6 +7,8 @@ use Rattle.teco_model.specs.declared.kind.Kind.{Kind}
 use Rattle.teco_model.specs.declared.kind.Kind.TheVariants as kind
 use Rattle.teco_model.specs.declared.kind.Flow.{Flow}
 use Rattle.teco_model.specs.declared.kind.Flow.TheVariants as flow
+use Rattle.teco_model.specs.declared.kind.Goal.{Goal}
+use Rattle.teco_model.specs.declared.kind.Goal.TheVariants as goal
 use Rattle.teco_model.specs.declared.pattern.Part.{Part}
 use Rattle.teco_model.specs.declared.skip.Skip.{Skip}
 use Rattle.teco_model.specs.Ahead.{Whole}
@@ -80,6 +82,11 @@ abbrev pub leave_ways : List ℕ → Element → Position → Result (List Posit
 leave_ways [] e p = Err Unpaired
 leave_ways (start ∷ outer) e p = way_or_jump (past e p) e p
 
+-- F>, F' and F| go ahead; F> is refused so, too.
+abbrev pub ahead_ways : Goal → List ℕ → Element → Position → Result (List Position) Reason
+ahead_ways goal.EndTurn [] e p = Err Unpaired
+ahead_ways g starts e p = jump_way e p
+
 unfoldable pub flow_ways : Flow → Element → Position → Result (List Position) Reason
 flow_ways flow.Iterate e p = way_or_jump (moved_to e.next (e.next ∷ p.running.starts) p) e p
 flow_ways flow.EndTurn e p = end_ways p.running.starts e p
@@ -89,6 +96,7 @@ flow_ways flow.Otherwise e p = jump_way e p
 flow_ways flow.EndTest e p = one_way (past e p)
 flow_ways flow.GoTo e p = jump_way e p
 flow_ways flow.Comment e p = one_way (past e p)
+flow_ways (flow.GoAhead g) e p = ahead_ways g p.running.starts e p
 
 -- A search without a colon that misses leaves the innermost iteration of its text, if one is open.
 abbrev pub search_ways : Bool → List ℕ → Element → Position → Result (List Position) Reason

@@ -1,5 +1,5 @@
 -- Lists that are joined one after another, and joins by their parts.
-use Rattle.std.proofs.Common.{◌≡◌, refl, sym, ap, ◌∙◌, ℕ, zero, suc, ◌<◌, ◌≤◌, min, List, [], ◌∷◌, ◌++◌, length, take, drop, set, get_or, drop-cons, Result, Ok, Err, arith}
+use Rattle.std.proofs.Common.{◌≡◌, refl, sym, ap, ◌∙◌, ℕ, zero, suc, ◌<◌, ◌≤◌, min, Bool, ◌&&◌, List, [], ◌∷◌, ◌++◌, length, take, drop, set, get_or, drop-cons, Result, Ok, Err, arith}
 use Rattle.std.proofs.lemmas.List.{take_all, drop_all, drop-set-lt, append-nil, length-set}
 use Rattle.teco_poly.specs.Polynomial.{Polynomial}
 use Rattle.teco_rules.specs.declared.values.Interval.{Interval}
@@ -7,7 +7,7 @@ use Rattle.teco_rules.specs.declared.refusal.Refusal.{Refusal}
 use Rattle.teco_rules.specs.declared.refusal.Refusal.TheVariants as refusal
 use Rattle.teco_rules.specs.Attempt.{◌>>=◌}
 use Rattle.teco_rules.specs.Facts.{Position, Pushed, Facts, join_of, without_arguments}
-use Rattle.teco_rules.specs.Joins.{hull, hulls, joined_lengths, joined_pair, joined_pushes, joined_position, none_pending, joined}
+use Rattle.teco_rules.specs.Joins.{hull, hulls, joined_saved, joined_lengths, joined_pair, joined_pushes, joined_position, none_pending, joined}
 use Rattle.teco_facts.specs.Joined.{with_pushes_joined, with_rest_joined}
 
 -- of two lists the first ones are joined
@@ -113,20 +113,52 @@ short (s ∷ ss) (t ∷ ts) ws (suc n) e h g =
 pub pushes_short : (ss ts zs : List Pushed) (n : ℕ) → n ≡ min (length ss) (length ts) → ¬ (length ss ≡ length ts) → AreJoined joined_pushes ss ts zs n → joined_pushes ss ts ≡ Err refusal.Pop
 pushes_short ss ts zs n e h j = short ss ts (take n zs) n e h j.front
 
--- hulls of the first ones
+-- two lists of which items are made one of
+record Zips {A : Type 0} (one : A → A → A) (all : List A → List A → List A) : Type 0 where
+  none : (ys : List A) → all [] ys ≡ []
+  more : (x y : A) (xs ys : List A) → all (x ∷ xs) (y ∷ ys) ≡ one x y ∷ all xs ys
+
+module _ {A : Type 0} (one : A → A → A) (all : List A → List A → List A) (law : Zips one all) where
+  -- of the first ones
+  zipped_more : (xs ys : List A) (i : ℕ) (x y : A) → i < length xs → i < length ys → x ≡ get_or xs i x → y ≡ get_or ys i y → set (all (take i xs) (take i ys) ++ drop i xs) i (one x y) ≡ all (take (suc i) xs) (take (suc i) ys) ++ drop (suc i) xs
+  zipped_more [] ys i x y h k d e = absurd (omega arith)
+  zipped_more (a ∷ xs) [] i x y h k d e = absurd (omega arith)
+  zipped_more (a ∷ xs) (b ∷ ys) zero x y h k d e = rw (d, e, law.none [], law.more a b [] [], law.none []) refl
+  zipped_more (a ∷ xs) (b ∷ ys) (suc i) x y h k d e =
+      rw (law.more a b (take i xs) (take i ys), law.more a b (take (suc i) xs) (take (suc i) ys))
+      (ap (λ others. one a b ∷ others) (zipped_more xs ys i x y (omega arith) (omega arith) d e))
+
+  length-zipped : (xs ys : List A) → length xs ≡ length ys → length (all xs ys) ≡ length xs
+  length-zipped [] ys e = ap length (law.none ys)
+  length-zipped (x ∷ xs) [] e = absurd (omega arith)
+  length-zipped (x ∷ xs) (y ∷ ys) e = rw (law.more x y xs ys) (ap suc (length-zipped xs ys (omega arith)))
+
+  zipped_all : (xs ys : List A) (i : ℕ) → length xs ≤ i → length ys ≤ i → all (take i xs) (take i ys) ++ drop i xs ≡ all xs ys
+  zipped_all xs ys i h k = rw (take_all i xs h, take_all i ys k, drop_all i xs h, append-nil) refl
+
+hulls_zip : Zips hull hulls
+hulls_zip = record { none = λ ys. refl; more = λ x y xs ys. refl }
+
+saved_zip : Zips (λ s t. s && t) joined_saved
+saved_zip = record { none = λ ys. refl; more = λ x y xs ys. refl }
+
 pub hulls_more : (xs ys : List Interval) (i : ℕ) (x y : Interval) → i < length xs → i < length ys → x ≡ get_or xs i x → y ≡ get_or ys i y → set (hulls (take i xs) (take i ys) ++ drop i xs) i (hull x y) ≡ hulls (take (suc i) xs) (take (suc i) ys) ++ drop (suc i) xs
-hulls_more [] ys i x y h k d e = absurd (omega arith)
-hulls_more (a ∷ xs) [] i x y h k d e = absurd (omega arith)
-hulls_more (a ∷ xs) (b ∷ ys) zero x y h k d e = rw (d, e) refl
-hulls_more (a ∷ xs) (b ∷ ys) (suc i) x y h k d e = ap (λ js. hull a b ∷ js) (hulls_more xs ys i x y (omega arith) (omega arith) d e)
+hulls_more = zipped_more hull hulls hulls_zip
 
 pub length-hulls : (xs ys : List Interval) → length xs ≡ length ys → length (hulls xs ys) ≡ length xs
-length-hulls [] ys e = refl
-length-hulls (x ∷ xs) [] e = absurd (omega arith)
-length-hulls (x ∷ xs) (y ∷ ys) e = ap suc (length-hulls xs ys (omega arith))
+length-hulls = length-zipped hull hulls hulls_zip
 
 pub hulls_all : (xs ys : List Interval) (i : ℕ) → length xs ≤ i → length ys ≤ i → hulls (take i xs) (take i ys) ++ drop i xs ≡ hulls xs ys
-hulls_all xs ys i h k = rw (take_all i xs h, take_all i ys k, drop_all i xs h, append-nil) refl
+hulls_all = zipped_all hull hulls hulls_zip
+
+pub saved_more : (xs ys : List Bool) (i : ℕ) (x y : Bool) → i < length xs → i < length ys → x ≡ get_or xs i x → y ≡ get_or ys i y → set (joined_saved (take i xs) (take i ys) ++ drop i xs) i (x && y) ≡ joined_saved (take (suc i) xs) (take (suc i) ys) ++ drop (suc i) xs
+saved_more = zipped_more (λ s t. s && t) joined_saved saved_zip
+
+pub length-saved : (xs ys : List Bool) → length xs ≡ length ys → length (joined_saved xs ys) ≡ length xs
+length-saved = length-zipped (λ s t. s && t) joined_saved saved_zip
+
+pub saved_all : (xs ys : List Bool) (i : ℕ) → length xs ≤ i → length ys ≤ i → joined_saved (take i xs) (take i ys) ++ drop i xs ≡ joined_saved xs ys
+saved_all = zipped_all (λ s t. s && t) joined_saved saved_zip
 
 -- a join by its steps
 by_parts : (one two : Result (Unit {0}) Refusal) (pushes : Result (List Pushed) Refusal) (position : Result Position Refusal) (held : Result Polynomial Refusal) (texts : Result (List Polynomial) Refusal) (numbers : List Interval) (facts : Facts)

@@ -29,7 +29,7 @@ one_few : (c : ℤ) → IsSign c → (negsuc 268435455 ≤ℤ least_share 0 c) �
 one_few (pos c) s = (omega (arith, ints), omega (arith, ints))
 one_few (negsuc c) s = (omega (arith, ints), omega (arith, ints))
 
-pub linear_is_number : (a b lo hi : ℤ) → is_linear (record { ahead = a; behind = b; lo = lo; hi = hi }) ≡ true → lo ≤ℤ hi → IsNumber a b lo hi
+pub linear_is_number : (a b lo hi : ℤ) → is_linear (record { ahead = a; behind = b; lo = lo; hi = hi; saved = false }) ≡ true → lo ≤ℤ hi → IsNumber a b lo hi
 linear_is_number a b lo hi h ordered =
     let signs = is_sign a && is_sign (b -ℤ a) in
     let single = int_le hi lo in

@@ -107,14 +107,15 @@ impl Arguments {
         }
     }
 
-    /// Lets linear values become intervals, where Z or the pointer may change.
-    pub fn settle(&mut self, margins: Margins)
-        ensures { self.new ≡ rules.settled margins self.old }
+    /// Lets linear values become intervals, where Z or the pointer may change, and saved values too, where all that is saved
+    /// is ended.
+    pub fn settle(&mut self, margins: Margins, ends: bool)
+        ensures { self.new ≡ rules.settled margins ends self.old }
     {
-        self.level = self.level.settled(margins);
+        self.level = self.level.settled(margins, ends);
         for at in 0..self.outer.len() {
             let level = self.outer[at];
-            self.outer[at] = level.settled(margins);
+            self.outer[at] = level.settled(margins, ends);
         }
     }
 

@@ -1,5 +1,5 @@
 //! What distances count in numbers.
-ghost use Rattle.std.specs.Prelude.{◌≡◌, IfSome, pos, negsuc, neg_ℤ, ◌+ℤ◌, ◌*ℤ◌, ◌≤ℤ◌, ◌≤◌, ◌^◌, ◌-◌, FitsSigned};
+ghost use Rattle.std.specs.Prelude.{◌≡◌, IfSome, false, pos, negsuc, neg_ℤ, ◌+ℤ◌, ◌*ℤ◌, ◌≤ℤ◌, ◌≤◌, ◌^◌, ◌-◌, FitsSigned};
 ghost use Rattle.std.specs.Int.{int_min, int_max, w32};
 ghost use Rattle.teco_base.specs.declared.TheConstants.{LIMIT};
 ghost use Rattle.teco_rules.specs.Values as values;
@@ -59,7 +59,7 @@ fn most_share(least: u32, times: Whole) -> Whole
 // The range of a number.
 pub fn range_of(margins: Margins, ahead: Whole, behind: Whole, lo: Whole, hi: Whole) -> Range
     requires { IsNumber ahead behind lo hi }
-    ensures { result ≡ values.interval_of margins (record { ahead = ahead; behind = behind; lo = lo; hi = hi }) }
+    ensures { result ≡ values.interval_of margins (record { ahead = ahead; behind = behind; lo = lo; hi = hi; saved = false }) }
 {
     let back = margins.back();
     let fore = margins.fore();
@@ -85,7 +85,7 @@ pub fn least_of(
     requires behind_small { IsSmall behind }
     requires low { negsuc (2 ^ 35) ≤ℤ lo }
     requires high { lo ≤ℤ pos (2 ^ 35) }
-    ensures value { result ≡ values.least (record { ahead = ahead; behind = behind; lo = lo; hi = hi }) margins }
+    ensures value { result ≡ values.least (record { ahead = ahead; behind = behind; lo = lo; hi = hi; saved = false }) margins }
     ensures near { IfSome result IsNear }
 {
     if ahead.is_negative() || behind.is_negative() {

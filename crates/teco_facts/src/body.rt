@@ -2,6 +2,7 @@
 ghost use Rattle.std.specs.Prelude.{◌≡◌, length, option_copied};
 ghost use Rattle.teco_base.specs.declared.TheConstants.{REGISTERS};
 ghost use Rattle.teco_rules.specs.Bodies as bodies;
+ghost use Rattle.teco_rules.specs.Shifts as shifts;
 ghost use Rattle.teco_facts.specs.Chosen as chosen;
 
 use crate::covering::{covers_lengths, covers_numbers, covers_pushes};
@@ -10,6 +11,7 @@ use crate::falls::falls_at_start;
 use crate::margins::Margins;
 use crate::position::{Position, sum_of};
 use crate::range::Range;
+use crate::saved::Saved;
 use crate::whole::Whole;
 use std::marker::Model;
 use teco_base::REGISTERS;
@@ -40,15 +42,47 @@ impl Model for Choice {
     ghost invariant = { λ c. length c.texts ≡ REGISTERS };
 }
 
+/// What a body changes, called texts included: the numbers of which registers it writes, and whether it ends all that is
+/// saved.
+#[derive(Clone, Copy)]
+pub struct Changes {
+    pub written: [bool; REGISTERS],
+    pub ends: bool,
+}
+
+impl Model for Changes {
+    ghost use Rattle.std.specs.Prelude.{◌≡◌, length};
+    ghost use Rattle.teco_base.specs.declared.TheConstants.{REGISTERS};
+    ghost use Rattle.teco_rules.specs.Bodies as bodies;
+
+    ghost Value = { bodies.Changes };
+
+    ghost view = { λ c. record { written = c.written; ends = c.ends } };
+
+    ghost inverse = { λ c. record { written = c.written; ends = c.ends } };
+
+    ghost invariant = { λ c. length c.written ≡ REGISTERS };
+}
+
 impl Position {
+    // Which registers are saved at the start of a body.
+    fn saved_at_start(&self, changes: &Changes) -> Saved
+        ensures { result ≡ shifts.saved_after changes.now.ends (bodies.unsaved_where changes.now.written self.now.saved) }
+    {
+        self.saved
+            .unless_written(&changes.written)
+            .after(changes.ends)
+    }
+
     // The position at the start of a body.
-    fn at_start(&self, choice: &Choice) -> Position
-        ensures { result ≡ bodies.position_at_start choice.now self.now }
+    fn at_start(&self, choice: &Choice, changes: &Changes) -> Position
+        ensures { result ≡ bodies.position_at_start choice.now changes.now self.now }
     {
         Position {
             margins: Margins::nowhere(),
             falls: falls_at_start(choice.kept, &self.falls),
             ahead: if choice.kept { self.ahead } else { choice.held },
+            saved: self.saved_at_start(changes),
         }
     }
 
@@ -151,59 +185,61 @@ fn unknown_where(written: &[bool; REGISTERS], numbers: &[Range; REGISTERS]) -> [
 }
 
 /// The facts at the start of a body, from those that enter it.
-pub fn body_start(choice: &Choice, written: &[bool; REGISTERS], mut entering: Facts) -> Facts
-    ensures { result ≡ bodies.body_start choice.now written.now entering }
+pub fn body_start(choice: &Choice, changes: &Changes, mut entering: Facts) -> Facts
+    ensures { result ≡ bodies.body_start choice.now changes.now entering }
 {
-    entering.position = entering.position.at_start(choice);
+    entering.position = entering.position.at_start(choice, changes);
     entering.held = choice.held;
-    entering.numbers = unknown_where(written, &entering.numbers);
+    entering.numbers = unknown_where(&changes.written, &entering.numbers);
     entering.texts = choice.texts;
     entering
 }
 
 // Whether a turn that ends leaves what the next one may begin with.
-fn begins_again(choice: &Choice, written: &[bool; REGISTERS], entering: &Facts, end: &Facts) -> bool
-    ensures { result ≡ bodies.begins_again (bodies.body_start choice.now written.now entering.now) end.now }
+fn begins_again(choice: &Choice, changes: &Changes, entering: &Facts, end: &Facts) -> bool
+    ensures { result ≡ bodies.begins_again (bodies.body_start choice.now changes.now entering.now) end.now }
 {
-    let numbers = unknown_where(written, &entering.numbers);
+    let numbers = unknown_where(&changes.written, &entering.numbers);
+    let saved = entering.position.saved_at_start(changes);
     covers_numbers(&numbers, &end.numbers)
         && covers_lengths(&choice.texts, &end.texts)
         && covers_pushes(entering, end)
+        && saved.covers(end.position.saved())
 }
 
 impl Choice {
     // Whether the next turn may begin where one ends.
     fn returns(
         &self,
-        written: &[bool; REGISTERS],
+        changes: &Changes,
         counted: bool,
         turns: &Poly,
         entering: &Facts,
         end: &Facts,
     ) -> bool
-        ensures { result ≡ bodies.returns self.now written.now counted turns.now entering.now end.now }
+        ensures { result ≡ bodies.returns self.now changes.now counted turns.now entering.now end.now }
     {
         counts(counted, &end.position)
             && keeps(self.kept, &end.position)
             && has_room(self, turns, entering, end)
-            && begins_again(self, written, entering, end)
+            && begins_again(self, changes, entering, end)
     }
 
     /// Whether the choice stands: it begins and, if the > is reached, the next turn may begin there.
     pub fn stands(
         &self,
-        written: &[bool; REGISTERS],
+        changes: &Changes,
         counted: bool,
         turns: &Poly,
         entering: &Facts,
         end: Option<&Facts>,
     ) -> bool
-        ensures { result ≡ bodies.stands self.now written.now counted turns.now entering.now (option_copied end.entry) }
+        ensures { result ≡ bodies.stands self.now changes.now counted turns.now entering.now (option_copied end.entry) }
     {
         match end {
             None => self.begins(entering),
             Some(end) => {
-                self.begins(entering) && self.returns(written, counted, turns, entering, end)
+                self.begins(entering) && self.returns(changes, counted, turns, entering, end)
             }
         }
     }

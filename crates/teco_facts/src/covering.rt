@@ -11,6 +11,7 @@ use crate::margins::Margins;
 use crate::number::Number;
 use crate::position::Position;
 use crate::range::Range;
+use crate::saved::covers_saved;
 use crate::whole::Whole;
 use teco_model::Operator;
 use teco_poly::Poly;
@@ -29,9 +30,9 @@ fn are_equal(one: Whole, two: Whole) -> bool
     one.at_most(two) && two.at_most(one)
 }
 
-/// Whether a linear number is the same, or a range has all that the other number may be.
-pub fn covers_number(margins: Margins, one: Number, edge: Number) -> bool
-    ensures { result ≡ covers.covers_value margins one edge }
+// Whether a linear number is the same, or a range has all that the other number may be.
+fn covers_number(margins: Margins, one: Number, edge: Number) -> bool
+    ensures { result ≡ covers.covers_number margins one edge }
 {
     let (ahead, behind, lo, hi) = one.parts();
     let (edge_ahead, edge_behind, edge_lo, edge_hi) = edge.parts();
@@ -46,13 +47,20 @@ pub fn covers_number(margins: Margins, one: Number, edge: Number) -> bool
     }
 }
 
+// Whether that is so, and what is saved is saved on the edge.
+fn covers_value(margins: Margins, one: Number, edge: Number) -> bool
+    ensures { result ≡ covers.covers_value margins one edge }
+{
+    covers_saved(one.is_saved(), edge.is_saved()) && covers_number(margins, one, edge)
+}
+
 // The same of numbers that may be absent.
 fn covers_if_any(margins: Margins, one: Option<Number>, edge: Option<Number>) -> bool
     ensures { result ≡ covers.both_cover (covers.covers_value margins) one edge }
 {
     match (one, edge) {
         (None, None) => true,
-        (Some(one), Some(edge)) => covers_number(margins, one, edge),
+        (Some(one), Some(edge)) => covers_value(margins, one, edge),
         _ => false,
     }
 }
@@ -242,6 +250,7 @@ impl Position {
         self.margins.covers(edge.margins)
             && covers_falls(&self.falls, &edge.falls)
             && edge.ahead.le(&self.ahead)
+            && self.saved.covers(edge.saved)
     }
 }
 

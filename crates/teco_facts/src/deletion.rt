@@ -1,4 +1,4 @@
-//! D and K.
+//! D and K. Whatever is deleted, what was saved may lie behind the end of the buffer.
 ghost use Rattle.std.specs.Prelude.{◌≡◌};
 ghost use Rattle.teco_model.specs.declared.kind.Unit.TheVariants.{Characters};
 ghost use Rattle.teco_rules.specs.Deletions as deletions;
@@ -52,11 +52,11 @@ fn part_deletion(
     match (first, value) {
         (Some(m), Some(n)) => {
             let shift = range_deletion(m, n, margins)?;
-            Foreseen::behind(&shift, facts)
+            Foreseen::behind(&shift.ending(), facts)
         }
         (_, value) => {
             let shift = shift_by_lines(Some(Whole::ZERO), margins, count_of(value, margins));
-            Foreseen::behind(&shift, facts)
+            Foreseen::behind(&shift.ending(), facts)
         }
     }
 }
@@ -75,7 +75,7 @@ fn deletion_of_characters(
     }
     let margins = facts.margins();
     let shift = character_deletion(margins, count_of(value, margins))?;
-    Foreseen::behind(&shift, facts)
+    Foreseen::behind(&shift.ending(), facts)
 }
 
 /// A deletion.

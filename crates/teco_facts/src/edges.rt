@@ -267,7 +267,7 @@ fn flow_edges(
         Flow::EndTurn => flow::turn_end(facts, again),
         Flow::Leave => flow::leave(colons, answer, facts, again),
         Flow::Test(test) => flow::conditional(Numbers::holding(test), answer, facts, again),
-        Flow::Otherwise => Ok(Edges::away(facts)),
+        Flow::Otherwise | Flow::GoAhead(_) => Ok(Edges::away(facts)),
         Flow::EndTest | Flow::Comment => Ok(Edges::on(facts)),
         Flow::GoTo => flow::go_to(leaves, facts),
     }

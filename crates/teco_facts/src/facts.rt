@@ -209,6 +209,13 @@ impl Facts {
         self.numbers[register.index()]
     }
 
+    /// Whether the number of a register is saved.
+    pub fn is_saved(&self, register: Reg) -> bool
+        ensures { result ≡ rules.is_saved register self.now }
+    {
+        self.position.saved().has(register)
+    }
+
     /// The length of a register's text.
     pub fn text_of(&self, register: Reg) -> Poly
         ensures { result ≡ rules.text_of register self.now }
@@ -292,7 +299,7 @@ impl Facts {
         ensures { result ≡ shifts.shifted shift.now self }
     {
         let held = sum_of(&self.held, &shift.growth())?;
-        self.arguments.settle(self.position.margins());
+        self.arguments.settle(self.position.margins(), shift.ends());
         self.position = self.position.after(shift, held);
         self.held = held;
         Ok(self)

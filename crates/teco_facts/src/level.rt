@@ -228,13 +228,14 @@ impl Level {
         }
     }
 
-    /// The level where Z or the pointer may change: linear values become intervals.
-    pub fn settled(self, margins: Margins) -> Level
-        ensures { result ≡ rules.settled_level margins self }
+    /// The level where Z or the pointer may change: linear values become intervals, and where all that is saved is ended,
+    /// saved values too.
+    pub fn settled(self, margins: Margins, ends: bool) -> Level
+        ensures { result ≡ rules.settled_level margins ends self }
     {
         Level {
-            first: settled(self.first, margins),
-            value: settled(self.value, margins),
+            first: settled(self.first, margins, ends),
+            value: settled(self.value, margins, ends),
             operator: self.operator,
         }
     }
@@ -264,11 +265,14 @@ fn first_value(value: Option<Number>, margins: Margins) -> Result<Number, Refusa
 }
 
 // The value as an interval.
-fn settled(value: Option<Number>, margins: Margins) -> Option<Number>
-    ensures { result ≡ rules.settled_value margins value }
+fn settled(value: Option<Number>, margins: Margins, ends: bool) -> Option<Number>
+    ensures { result ≡ rules.settled_value margins ends value }
 {
     match value {
         None => None,
-        Some(value) => Some(Number::within(value.range(margins))),
+        Some(value) => {
+            let saved = if ends { false } else { value.is_saved() };
+            Some(Number::saved_within(value.range(margins), saved))
+        }
     }
 }

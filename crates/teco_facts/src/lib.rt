@@ -25,6 +25,7 @@ mod position;
 mod printed;
 mod query;
 mod range;
+mod saved;
 mod search;
 mod shift;
 mod stack;
@@ -34,7 +35,7 @@ mod ways;
 mod whole;
 
 pub use arguments::Arguments;
-pub use body::{Choice, body_start, growth_of, held_last};
+pub use body::{Changes, Choice, body_start, growth_of, held_last};
 pub use edges::{Placed, transfer, transfer_return};
 pub use facts::{Answer, Facts, Foreseen, Iteration, Pushed};
 pub use falls::Falls;
@@ -49,6 +50,7 @@ pub use place::Place;
 pub use position::Position;
 pub use printed::{Needs, needs_of, steps};
 pub use range::Range;
+pub use saved::Saved;
 pub use shift::Shift;
 pub use whole::Whole;
 

@@ -1,6 +1,7 @@
 //! C, R, J and L.
 ghost use Rattle.std.specs.Prelude.{◌≡◌, IfSome};
 ghost use Rattle.teco_rules.specs.Motions as motions;
+ghost use Rattle.teco_rules.specs.Shifts as shifts;
 ghost use Rattle.teco_facts.specs.Numbers.{IsNear, AreSmall};
 
 use crate::facts::{Facts, Foreseen};
@@ -79,6 +80,28 @@ pub fn shift_by_lines(back: Option<Whole>, margins: Margins, n: Range) -> Shift
     }
 }
 
+// Whether J goes to a saved place.
+fn goes_to_saved(motion: Motion, n: &Option<Number>) -> bool
+    ensures { result ≡ motions.goes_to_saved motion n.now }
+{
+    match (motion, n) {
+        (Motion::To, Some(n)) => n.is_saved(),
+        _ => false,
+    }
+}
+
+// To a place that is known to lie in the buffer; a saved one is somewhere in it.
+fn shift_for(motion: Motion, n: Option<Number>, margins: Margins) -> Result<Shift, Refusal>
+    ensures { result ≡ motions.shift_or_saved (motions.goes_to_saved motion n) (shifts.shift_to (motions.target motion n) margins) }
+{
+    let saved = goes_to_saved(motion, &n);
+    match Shift::to(target(motion, n), margins) {
+        Ok(shift) => Ok(shift),
+        Err(_) if saved => Ok(Shift::moving(0, 0, None)),
+        Err(why) => Err(why),
+    }
+}
+
 // To the place that the argument names; with a colon it may fail.
 fn motion_to(
     motion: Motion,
@@ -90,7 +113,7 @@ fn motion_to(
     ensures { result ≡ motions.motion_to motion colons n facts }
 {
     if colons == 0 {
-        let shift = Shift::to(target(motion, n), facts.margins())?;
+        let shift = shift_for(motion, n, facts.margins())?;
         Foreseen::behind(&shift, facts)
     } else {
         let forward = goes_forward(motion, count_of(n, facts.margins()));

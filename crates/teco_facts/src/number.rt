@@ -14,13 +14,15 @@ use crate::whole::Whole;
 use std::marker::Model;
 use teco_rules::Refusal;
 
-/// A number that is pending: so often each distance of the pointer, and something of a range.
+/// A number that is pending: so often each distance of the pointer, and something of a range; where it is saved, it is a
+/// place of the buffer.
 #[derive(Clone, Copy)]
 pub struct Number {
     ahead: Whole,
     behind: Whole,
     lo: Whole,
     hi: Whole,
+    saved: bool,
 }
 
 impl Model for Number {
@@ -29,9 +31,9 @@ impl Model for Number {
 
     ghost Value = { Told };
 
-    ghost view = { λ n. record { ahead = n.ahead; behind = n.behind; lo = n.lo; hi = n.hi } };
+    ghost view = { λ n. record { ahead = n.ahead; behind = n.behind; lo = n.lo; hi = n.hi; saved = n.saved } };
 
-    ghost inverse = { λ s. record { ahead = s.ahead; behind = s.behind; lo = s.lo; hi = s.hi } };
+    ghost inverse = { λ s. record { ahead = s.ahead; behind = s.behind; lo = s.lo; hi = s.hi; saved = s.saved } };
 
     ghost invariant = { λ n. IsNumber n.ahead n.behind n.lo n.hi };
 }
@@ -54,6 +56,7 @@ impl Number {
             behind: Whole::ZERO,
             lo: k,
             hi: k,
+            saved: false,
         }
     }
 
@@ -61,12 +64,27 @@ impl Number {
     pub fn within(range: Range) -> Number
         ensures { result ≡ values.value_in range }
     {
+        Number::saved_within(range, false)
+    }
+
+    /// The same, which may be a place of the buffer.
+    pub fn saved_within(range: Range, saved: bool) -> Number
+        ensures { result ≡ record (values.value_in range) { saved = saved } }
+    {
         Number {
             ahead: Whole::ZERO,
             behind: Whole::ZERO,
             lo: range.lo(),
             hi: range.hi(),
+            saved,
         }
+    }
+
+    /// Whether it is known to be a place of the buffer.
+    pub fn is_saved(self) -> bool
+        ensures { result ≡ self.saved }
+    {
+        self.saved
     }
 
     /// Z.
@@ -78,6 +96,7 @@ impl Number {
             behind: Whole::ONE,
             lo: Whole::ZERO,
             hi: Whole::ZERO,
+            saved: false,
         }
     }
 
@@ -90,6 +109,7 @@ impl Number {
             behind: Whole::ONE,
             lo: Whole::ZERO,
             hi: Whole::ZERO,
+            saved: false,
         }
     }
 
@@ -136,7 +156,7 @@ impl Number {
     pub fn place(self) -> Place
         ensures { result ≡ self }
     {
-        Place::of(self.ahead, self.behind, self.lo, self.hi)
+        Place::of(self.ahead, self.behind, self.lo, self.hi).saved(self.saved)
     }
 
     /// The number that a place is, where that is linear, and else one of a range.
@@ -150,6 +170,7 @@ impl Number {
                 behind,
                 lo,
                 hi,
+                saved: exact.is_saved(),
             }
         } else {
             Number::within(range)

@@ -43,7 +43,7 @@ fn append(value: Option<Number>, facts: Facts) -> Result<Foreseen, Refusal>
     Foreseen::behind(&shift, facts)
 }
 
-// To the begin of another page; a part is written.
+// To the begin of another page, where nothing is saved; a part is written.
 fn turning(first: Option<Number>, value: Option<Number>, facts: Facts) -> Result<Foreseen, Refusal>
     requires { AreSmall facts.position.falls }
     ensures { result ≡ pages.turning first value facts }
@@ -53,7 +53,7 @@ fn turning(first: Option<Number>, value: Option<Number>, facts: Facts) -> Result
         return Ok(Foreseen::silent(facts));
     }
     some_pages(count_of(value, facts.margins()))?;
-    Foreseen::behind(&Shift::moving(0, 0, Some(Whole::ZERO)), facts)
+    Foreseen::behind(&Shift::moving(0, 0, Some(Whole::ZERO)).ending(), facts)
 }
 
 // Pages or a part are written.

@@ -1,5 +1,5 @@
 //! Sums and differences of numbers, without a limit.
-ghost use Rattle.std.specs.Prelude.{◌≡◌, ◌≤ℤ◌, IfSome};
+ghost use Rattle.std.specs.Prelude.{◌≡◌, ◌≤ℤ◌, false, IfSome};
 ghost use Rattle.teco_rules.specs.Values as values;
 ghost use Rattle.teco_facts.specs.Numbers.{IsPlace, IsNear};
 
@@ -12,13 +12,14 @@ const LEAST: i64 = -536_870_912;
 
 const MOST: i64 = 536_870_912;
 
-/// A sum or a difference, which may be a place in the buffer.
+/// A number, a sum or a difference, which may be a place in the buffer.
 #[derive(Clone, Copy)]
 pub struct Place {
     ahead: Whole,
     behind: Whole,
     lo: Whole,
     hi: Whole,
+    saved: bool,
 }
 
 impl Model for Place {
@@ -27,9 +28,9 @@ impl Model for Place {
 
     ghost Value = { Told };
 
-    ghost view = { λ p. record { ahead = p.ahead; behind = p.behind; lo = p.lo; hi = p.hi } };
+    ghost view = { λ p. record { ahead = p.ahead; behind = p.behind; lo = p.lo; hi = p.hi; saved = p.saved } };
 
-    ghost inverse = { λ s. record { ahead = s.ahead; behind = s.behind; lo = s.lo; hi = s.hi } };
+    ghost inverse = { λ s. record { ahead = s.ahead; behind = s.behind; lo = s.lo; hi = s.hi; saved = s.saved } };
 
     ghost invariant = { λ p. IsPlace p.ahead p.behind p.lo p.hi };
 }
@@ -45,14 +46,30 @@ impl Place {
     /// So often each distance, and something of a range.
     pub fn of(ahead: Whole, behind: Whole, lo: Whole, hi: Whole) -> Place
         requires { IsPlace ahead behind lo hi }
-        ensures { result ≡ record { ahead = ahead; behind = behind; lo = lo; hi = hi } }
+        ensures { result ≡ record { ahead = ahead; behind = behind; lo = lo; hi = hi; saved = false } }
     {
         Place {
             ahead,
             behind,
             lo,
             hi,
+            saved: false,
         }
+    }
+
+    /// The same, which is saved or not.
+    pub fn saved(mut self, saved: bool) -> Place
+        ensures { result ≡ record self { saved = saved } }
+    {
+        self.saved = saved;
+        self
+    }
+
+    /// Whether it is saved.
+    pub fn is_saved(self) -> bool
+        ensures { result ≡ self.saved }
+    {
+        self.saved
     }
 
     /// How often each distance counts, and the range of what else there is.

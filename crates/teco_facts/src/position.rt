@@ -1,5 +1,5 @@
 //! Where the pointer is, and how much is ahead of it.
-ghost use Rattle.std.specs.Prelude.{◌≡◌, IfSome, map, drop, ◌∷◌, Some, Ok, pos, length, ◌<◌};
+ghost use Rattle.std.specs.Prelude.{◌≡◌, IfSome, map, drop, slice_set, ◌∷◌, Some, Ok, pos, length, ◌<◌};
 ghost use Rattle.teco_rules.specs.Facts as facts;
 ghost use Rattle.teco_rules.specs.Flows as flows;
 ghost use Rattle.teco_rules.specs.Joins as joins;
@@ -10,18 +10,22 @@ ghost use Rattle.teco_facts.specs.declared.few.TheConstants.{DEPTH};
 use crate::falls::{self, Falls};
 use crate::few::Few;
 use crate::margins::Margins;
+use crate::saved::Saved;
 use crate::shift::Shift;
 use crate::whole::Whole;
 use std::marker::Model;
+use teco_base::Reg;
 use teco_poly::Poly;
 use teco_rules::Refusal;
 
-/// The least distances of the pointer, the least fall of each open iteration, and how much is ahead.
+/// The least distances of the pointer, the least fall of each open iteration, how much is ahead, and which registers are
+/// saved.
 #[derive(Drop)]
 pub struct Position {
     pub(crate) margins: Margins,
     pub(crate) falls: Falls,
     pub(crate) ahead: Poly,
+    pub(crate) saved: Saved,
 }
 
 impl Model for Position {
@@ -29,7 +33,7 @@ impl Model for Position {
 
     ghost Value = { facts.Position };
 
-    ghost view = { λ p. record { distances = p.margins; falls = p.falls; ahead = p.ahead } };
+    ghost view = { λ p. record { distances = p.margins; falls = p.falls; ahead = p.ahead; saved = p.saved } };
 }
 
 /// The sum, where it does not overflow.
@@ -65,6 +69,7 @@ impl Position {
             margins: Margins::nowhere(),
             falls: Few::empty(None),
             ahead: Poly::variable(),
+            saved: Saved::none(),
         }
     }
 
@@ -76,6 +81,7 @@ impl Position {
             margins: self.margins,
             falls: self.falls.copied(),
             ahead: self.ahead,
+            saved: self.saved,
         }
     }
 
@@ -93,6 +99,25 @@ impl Position {
         self.ahead
     }
 
+    /// Which registers are saved.
+    pub fn saved(&self) -> Saved
+        ensures { result ≡ self.now.saved }
+    {
+        self.saved
+    }
+
+    /// The position where a register is saved, or is not.
+    pub fn saving(&self, register: Reg, saved: bool) -> Position
+        ensures { result ≡ record self.now { saved = slice_set self.now.saved register saved } }
+    {
+        Position {
+            margins: self.margins,
+            falls: self.falls.copied(),
+            ahead: self.ahead,
+            saved: self.saved.with(register, saved),
+        }
+    }
+
     /// The position with other distances.
     pub fn at(&self, margins: Margins) -> Position
         ensures { result ≡ record self.now { distances = margins } }
@@ -101,6 +126,7 @@ impl Position {
             margins,
             falls: self.falls.copied(),
             ahead: self.ahead,
+            saved: self.saved,
         }
     }
 
@@ -114,6 +140,7 @@ impl Position {
             margins: shift.margins(),
             falls: falls::falls_after(&fall, &self.falls),
             ahead: ahead_after(fall, held, self.ahead),
+            saved: self.saved.after(shift.ends()),
         }
     }
 
@@ -126,6 +153,7 @@ impl Position {
             margins: self.margins.nearer(other.margins),
             falls: falls::smaller_falls(&self.falls, &other.falls),
             ahead,
+            saved: self.saved.joined(other.saved),
         })
     }
 
@@ -139,6 +167,7 @@ impl Position {
             margins: self.margins,
             falls,
             ahead: self.ahead,
+            saved: self.saved,
         }
     }
 
@@ -153,6 +182,7 @@ impl Position {
             margins: self.margins,
             falls,
             ahead: self.ahead,
+            saved: self.saved,
         }
     }
 
@@ -167,6 +197,7 @@ impl Position {
             margins: self.margins,
             falls,
             ahead: self.ahead,
+            saved: self.saved,
         }
     }
 }

@@ -31,19 +31,19 @@ fn text_length() -> Range
 }
 
 impl Facts {
-    // What is given where nothing is taken.
-    fn queried(&self, query: &Query, colons: u8) -> Range
+    // What is given where nothing is taken: the number of a saved register is saved, too.
+    fn queried(&self, query: &Query, colons: u8) -> Number
         ensures { result ≡ queries.query query.now colons self.now }
     {
         match *query {
             Query::Number(register) => {
                 if colons == 0 {
-                    self.number_of(register)
+                    Number::saved_within(self.number_of(register), self.is_saved(register))
                 } else {
-                    text_length()
+                    Number::within(text_length())
                 }
             }
-            Query::Mode | Query::Conversion => Range::any(),
+            Query::Mode | Query::Conversion => Number::within(Range::any()),
         }
     }
 }
@@ -97,10 +97,10 @@ fn facts_given(query: Query, colons: u8, facts: Facts) -> Result<Facts, Refusal>
     requires { AreSmall facts.position.falls }
     ensures { result ≡ queries.facts_after_query query colons None facts }
 {
-    let range = facts.queried(&query, colons);
+    let given = facts.queried(&query, colons);
     let known = facts_at_query(query, facts)?;
     let margins = known.margins();
-    let level = known.level().given(Number::within(range), margins)?;
+    let level = known.level().given(given, margins)?;
     Ok(known.with_level(level))
 }
 

@@ -60,7 +60,8 @@ fn minimum_of(text: &[u8]) -> Result<usize, Refusal>
     }
 }
 
-// What is found lies ahead; the pointer goes behind it, or behind what replaces it.
+// What is found lies ahead; the pointer goes behind it, or behind what replaces it. A shorter buffer, and another page, end all
+// that is saved.
 fn shift_found(search: Search, least: usize, new: usize, margins: Margins) -> Shift
     requires within { least ≤ LIMIT }
     requires new_within { new ≤ LIMIT }
@@ -71,9 +72,9 @@ fn shift_found(search: Search, least: usize, new: usize, margins: Margins) -> Sh
     let grown = Poly::number(new as u64);
     match search {
         Search::Find => Shift::moving(back + least as u64, 0, fall),
-        Search::Replace => Shift::of(back + new as u64, 0, fall, grown),
-        Search::FindInPages => Shift::moving(least as u64, 0, fall),
-        Search::ReplaceInPages => Shift::of(new as u64, 0, fall, grown),
+        Search::Replace => Shift::replacing(back + new as u64, 0, fall, grown),
+        Search::FindInPages => Shift::moving(least as u64, 0, fall).ending(),
+        Search::ReplaceInPages => Shift::replacing(new as u64, 0, fall, grown),
     }
 }
 
@@ -100,7 +101,7 @@ pub fn position_failed(search: Search, colons: u8, facts: &Facts) -> Position
     match search {
         Search::FindInPages | Search::ReplaceInPages => facts
             .position
-            .after(&Shift::moving(0, 0, None), facts.held()),
+            .after(&Shift::moving(0, 0, None).ending(), facts.held()),
         Search::Find | Search::Replace => position_failed_in(colons, facts),
     }
 }

@@ -1,5 +1,5 @@
 //! What elements that move the pointer, or edit the buffer, do to what is known of the position.
-ghost use Rattle.std.specs.Prelude.{◌≡◌, ◌≤◌, ◌^◌, IfSome};
+ghost use Rattle.std.specs.Prelude.{◌≡◌, ◌≤◌, ◌^◌, true, IfSome};
 ghost use Rattle.teco_rules.specs.Deletions as deletions;
 ghost use Rattle.teco_rules.specs.Shifts as shifts;
 ghost use Rattle.teco_rules.specs.Insertions as insertions;
@@ -13,14 +13,15 @@ use std::marker::Model;
 use teco_poly::Poly;
 use teco_rules::Refusal;
 
-/// The least distances afterwards, how much ahead falls at the least, if that is known, and how much the buffer grows at the
-/// most.
+/// The least distances afterwards, how much ahead falls at the least, if that is known, how much the buffer grows at the
+/// most, and whether what is saved may be no place any more.
 #[derive(Clone, Copy)]
 pub struct Shift {
     back: u64,
     fore: u64,
     fall: Option<Whole>,
     growth: Poly,
+    ends: bool,
 }
 
 impl Model for Shift {
@@ -30,9 +31,9 @@ impl Model for Shift {
 
     ghost Value = { shifts.Shift };
 
-    ghost view = { λ s. record { distances = record { back = s.back; fore = s.fore }; fall = s.fall; growth = s.growth } };
+    ghost view = { λ s. record { distances = record { back = s.back; fore = s.fore }; fall = s.fall; growth = s.growth; ends = s.ends } };
 
-    ghost inverse = { λ s. record { back = s.distances.back; fore = s.distances.fore; fall = s.fall; growth = s.growth } };
+    ghost inverse = { λ s. record { back = s.distances.back; fore = s.distances.fore; fall = s.fall; growth = s.growth; ends = s.ends } };
 
     ghost invariant = { λ s. IfSome s.fall IsNear };
 }
@@ -60,17 +61,33 @@ impl Shift {
         self.growth
     }
 
-    /// A shift.
-    pub fn of(back: u64, fore: u64, fall: Option<Whole>, growth: Poly) -> Shift
+    /// Whether what is saved may be no place any more.
+    pub fn ends(&self) -> bool
+        ensures { result ≡ self.now.ends }
+    {
+        self.ends
+    }
+
+    /// Another text takes the place of one: the buffer grows, and what is saved ends.
+    pub fn replacing(back: u64, fore: u64, fall: Option<Whole>, growth: Poly) -> Shift
         requires { IfSome fall IsNear }
-        ensures { result ≡ record { distances = record { back = back; fore = fore }; fall = fall; growth = growth } }
+        ensures { result ≡ record { distances = record { back = back; fore = fore }; fall = fall; growth = growth; ends = true } }
     {
         Shift {
             back,
             fore,
             fall,
             growth,
+            ends: true,
         }
+    }
+
+    /// The same shift, which ends all that is saved.
+    pub fn ending(mut self) -> Shift
+        ensures { result ≡ shifts.ending self }
+    {
+        self.ends = true;
+        self
     }
 
     /// A shift that is no growth.
@@ -83,6 +100,7 @@ impl Shift {
             fore,
             fall,
             growth: Poly::number(0),
+            ends: false,
         }
     }
 
@@ -96,6 +114,7 @@ impl Shift {
             fore: u64::from(margins.fore()),
             fall: Some(Whole::ZERO),
             growth,
+            ends: false,
         }
     }
 

@@ -68,7 +68,7 @@ fn with_popped(register: Reg, mut facts: Facts) -> Result<Facts, Refusal>
         None => Err(Refusal::Pop),
         Some(pair) => {
             if above {
-                let facts = with_number(register, pair.number, facts);
+                let facts = with_number(register, pair.number, false, facts);
                 Ok(with_text(register, pair.text, facts))
             } else {
                 Err(Refusal::Pop)

@@ -1,11 +1,13 @@
 //! Registers and the push-down list.
 ghost use Rattle.std.specs.Prelude.{◌≡◌, OnOk};
+ghost use Rattle.teco_rules.specs.Shifts as shifts;
 ghost use Rattle.teco_rules.specs.Storages as storages;
 ghost use Rattle.teco_facts.specs.Numbers.{AreSmall};
 
 use crate::arithmetic;
 use crate::facts::{Facts, Foreseen};
 use crate::level::Taken;
+use crate::margins::Margins;
 use crate::motion::count_of;
 use crate::number::Number;
 use crate::position::sum_of;
@@ -17,11 +19,12 @@ use teco_model::kind::Storage;
 use teco_poly::Poly;
 use teco_rules::Refusal;
 
-/// The number of a register is of a range.
-pub fn with_number(register: Reg, number: Range, mut facts: Facts) -> Facts
-    ensures { result ≡ storages.with_number register number facts }
+/// The number of a register is of a range, and saved or not.
+pub fn with_number(register: Reg, number: Range, saved: bool, mut facts: Facts) -> Facts
+    ensures { result ≡ storages.with_number register number saved facts }
 {
     facts.numbers[register.index()] = number;
+    facts.position = facts.position.saving(register, saved);
     facts
 }
 
@@ -33,12 +36,12 @@ pub fn with_text(register: Reg, length: Poly, mut facts: Facts) -> Facts
     facts
 }
 
-// n%q answers the sum.
+// n%q answers the sum, which is not saved.
 fn addition(register: Reg, n: Option<Number>, facts: Facts) -> Foreseen
     ensures { result ≡ storages.addition register n facts }
 {
     let sum = arithmetic::sum_of(facts.number_of(register), count_of(n, facts.margins()));
-    Foreseen::answering(sum, with_number(register, sum, facts))
+    Foreseen::answering(sum, with_number(register, sum, false, facts))
 }
 
 /// A text of the library is not written.
@@ -111,6 +114,13 @@ fn retrieval(colons: u8, register: Reg, facts: Facts) -> Result<Foreseen, Refusa
     }
 }
 
+// Whether a number is known to be a place of the buffer: it is saved, or its distances tell it.
+fn is_place(n: Number, margins: Margins) -> bool
+    ensures { result ≡ shifts.is_place n margins }
+{
+    n.is_saved() || Shift::to(n.place(), margins).is_ok()
+}
+
 /// What is done with a register.
 pub fn storage(
     storage: Storage,
@@ -126,8 +136,9 @@ pub fn storage(
     match storage {
         Storage::SetNumber(register) => {
             let n = needed_value(taken.value())?;
-            let range = n.range(facts.margins());
-            Ok(Foreseen::silent(with_number(register, range, facts)))
+            let margins = facts.margins();
+            let saved = is_place(n, margins);
+            Ok(Foreseen::silent(with_number(register, n.range(margins), saved, facts)))
         }
         Storage::Add(register) => Ok(addition(register, taken.value(), facts)),
         Storage::Copy(register) => copy(library, colons, register, taken, facts),

@@ -8,7 +8,7 @@ ghost use Rattle.teco_lex.specs.Reading.{SecondByte};
 use teco_base::Code;
 use teco_base::bytes::{ESC, QUOTE, TAB, control, is_digit, to_upper};
 use teco_model::kind::{
-    Argument, Command, File, Flow, Insertion, Kind, Motion, Page, Query, Radix, Search, Test,
+    Argument, Command, File, Flow, Goal, Insertion, Kind, Motion, Page, Query, Radix, Search, Test,
     Typing, Unit, Value,
 };
 use teco_model::{Head, OnRegister, Operator};
@@ -129,15 +129,19 @@ fn file_letter(letter: u8) -> Option<Head>
     Some(Head::Kind(Kind::File(file)))
 }
 
-/// What the letter after `F` names.
-fn replace_letter(letter: u8) -> Option<Head>
-    ensures { result ≡ table.replace_letter letter }
+/// What the letter or bracket after `F` names.
+fn replace_or_flow(b: u8) -> Option<Head>
+    ensures { result ≡ table.replace_or_flow b }
 {
-    match letter {
-        b'N' => Some(Head::Kind(Kind::Search(Search::ReplaceInPages))),
-        b'S' => Some(Head::Kind(Kind::Search(Search::Replace))),
-        _ => None,
-    }
+    let kind = match b {
+        b'N' => Kind::Search(Search::ReplaceInPages),
+        b'S' => Kind::Search(Search::Replace),
+        b'\'' => Kind::Flow(Flow::GoAhead(Goal::EndTest)),
+        b'>' => Kind::Flow(Flow::GoAhead(Goal::EndTurn)),
+        b'|' => Kind::Flow(Flow::GoAhead(Goal::Otherwise)),
+        _ => return None,
+    };
+    Some(Head::Kind(kind))
 }
 
 /// What the letter after `"` asks.
@@ -264,7 +268,7 @@ pub fn letters(text: &[u8]) -> Result<(Head, usize), Code>
         b'^' => caret(rest),
         b => match to_upper(b) {
             b'E' => second_byte(file_letter, rest),
-            b'F' => second_byte(replace_letter, rest),
+            b'F' => second_byte(replace_or_flow, rest),
             b'P' => Ok(page_letters(rest)),
             _ => head_of(one_byte(b), 1),
         },

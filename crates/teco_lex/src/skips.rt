@@ -1,12 +1,13 @@
 //! Skips over a text.
-ghost use Rattle.std.specs.Prelude.{◌≡◌, ◌+◌, ◌<◌, ◌≤◌, length, IfSome};
+ghost use Rattle.std.specs.Prelude.{◌≡◌, ◌+◌, ◌<◌, ◌≤◌, length, option_map, IfSome};
 ghost use Rattle.teco_base.specs.declared.TheConstants.{LIMIT};
 ghost use Rattle.teco_model.specs.Ahead.{readings};
+ghost use Rattle.teco_model.specs.Element.{seen};
 ghost use Rattle.teco_model.specs.Skip as model;
 
 use crate::ahead::{Reading, read_ahead};
 use crate::readings::Readings;
-use teco_model::kind::Flow;
+use teco_model::kind::{Flow, Goal};
 use teco_model::{Bracket, Element, Kind, Pairs, Route, Skip};
 
 /// What an element is to a skip.
@@ -49,13 +50,16 @@ pub fn route_of(kind: &Kind) -> Route
             pairs: Pairs::Iterations,
             leaves: 1,
         },
-        Kind::Flow(Flow::Test(_)) => Route::Past {
+        Kind::Flow(Flow::Test(_) | Flow::GoAhead(Goal::Otherwise)) => Route::Past {
             pairs: Pairs::Branches,
             leaves: 0,
         },
-        Kind::Flow(Flow::Otherwise) => Route::Past {
+        Kind::Flow(Flow::Otherwise | Flow::GoAhead(Goal::EndTest)) => Route::Past {
             pairs: Pairs::Tests,
             leaves: 0,
+        },
+        Kind::Flow(Flow::GoAhead(Goal::EndTurn)) => Route::To {
+            pairs: Pairs::Iterations,
         },
         Kind::Flow(Flow::GoTo) => Route::ToTag,
         _ => Route::Nowhere,
@@ -76,11 +80,11 @@ fn inner_behind(bracket: Bracket, inner: usize) -> Option<usize>
     }
 }
 
-/// The place behind the end of the pair that a place stands in, or behind a stop in it.
-fn pair_end(pairs: Pairs, text: &[u8], at: usize) -> Option<usize>
+/// What ends the pair that a place stands in, or is a stop in it.
+fn pair_end<'t>(pairs: Pairs, text: &'t [u8], at: usize) -> Option<Element<'t>>
     requires { at ≤ length text.now }
-    ensures value { result ≡ model.pair_end pairs 0 (readings text.now at) }
-    ensures within { IfSome result (λ to. to ≤ length text.now) }
+    ensures value { option_map seen result ≡ model.pair_end pairs 0 (readings text.now at) }
+    ensures within { IfSome result (λ end. (end.place < end.next) × (end.next ≤ length text.now)) }
 {
     let mut ahead = Readings::from(text, at);
     let mut inner = 0;
@@ -88,11 +92,35 @@ fn pair_end(pairs: Pairs, text: &[u8], at: usize) -> Option<usize>
         if let Reading::Whole(element) = reading {
             match inner_behind(bracket(pairs, &element.kind), inner) {
                 Some(behind) => inner = behind,
-                None => return Some(element.next),
+                None => return Some(element),
             }
         }
     }
     None
+}
+
+/// Past the end of the pair that a place stands in, or past a stop in it.
+fn past_end(pairs: Pairs, text: &[u8], at: usize) -> Option<usize>
+    requires { at ≤ length text.now }
+    ensures value { result ≡ option_map (λ end. end.next) (model.pair_end pairs 0 (readings text.now at)) }
+    ensures within { IfSome result (λ to. to ≤ length text.now) }
+{
+    let Some(end) = pair_end(pairs, text, at) else {
+        return None;
+    };
+    Some(end.next)
+}
+
+/// To the end of the pair that a place stands in, or to a stop in it.
+fn to_end(pairs: Pairs, text: &[u8], at: usize) -> Option<usize>
+    requires { at ≤ length text.now }
+    ensures value { result ≡ option_map (λ end. end.place) (model.pair_end pairs 0 (readings text.now at)) }
+    ensures within { IfSome result (λ to. to ≤ length text.now) }
+{
+    let Some(end) = pair_end(pairs, text, at) else {
+        return None;
+    };
+    Some(end.place)
 }
 
 /// Past the next tag that stands in no iteration opened on the way.
@@ -142,8 +170,12 @@ pub fn skip(text: &[u8], at: usize) -> Skip
             leaves: 0,
         },
         Route::Past { pairs, leaves } => Skip {
-            to: pair_end(pairs, text, element.next),
+            to: past_end(pairs, text, element.next),
             leaves,
+        },
+        Route::To { pairs } => Skip {
+            to: to_end(pairs, text, element.next),
+            leaves: 0,
         },
         Route::ToTag => tag_skip(element.text, text, element.next),
     }

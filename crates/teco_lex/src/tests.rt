@@ -3,8 +3,8 @@ use std::test::*;
 use teco_base::{Code, LIMIT};
 use teco_model::Kind;
 use teco_model::kind::{
-    Argument, Command, File, Flow, Insertion, Motion, Page, Query, Radix, Search, Stack, Storage,
-    Test, Typing,
+    Argument, Command, File, Flow, Goal, Insertion, Motion, Page, Query, Radix, Search, Stack,
+    Storage, Test, Typing,
 };
 
 /// What a row writes for a command.
@@ -36,6 +36,9 @@ fn label(kind: &Kind) -> &'static [u8] {
         Kind::Command(command) => label_of_command(command),
         Kind::Flow(Flow::Comment) => b"!",
         Kind::Flow(Flow::Test(Test::Positive)) => b"\">",
+        Kind::Flow(Flow::GoAhead(Goal::EndTurn)) => b"F>",
+        Kind::Flow(Flow::GoAhead(Goal::EndTest)) => b"F'",
+        Kind::Flow(Flow::GoAhead(Goal::Otherwise)) => b"F|",
         _ => b"another",
     }
 }
@@ -69,7 +72,7 @@ type Row = (
     (usize, usize),
 );
 
-const FOUND: [Row; 26] = [
+const FOUND: [Row; 29] = [
     (b"Iab\x1b", 0, b"I", (0, false), b' ', (b"ab", b""), (0, 4)),
     (
         b"\tab\x1b",
@@ -144,6 +147,9 @@ const FOUND: [Row; 26] = [
     (b":@^u7/x/C", 0, b"^U", (1, true), b'7', (b"x", b""), (0, 8)),
     (b"\">C", 0, b"\">", (0, false), b' ', (b"", b""), (0, 2)),
     (b"erf\x1bC", 0, b"ER", (0, false), b' ', (b"f", b""), (0, 4)),
+    (b" F>>", 0, b"F>", (0, false), b' ', (b"", b""), (1, 3)),
+    (b"F'1", 0, b"F'", (0, false), b' ', (b"", b""), (0, 2)),
+    (b"f|\x1b", 0, b"F|", (0, false), b' ', (b"", b""), (0, 2)),
 ];
 
 fn is_found(row: Row) -> bool {
@@ -170,7 +176,7 @@ fn elements_are_found(rt: HostRuntime) {
 }
 
 /// A command string that begins with no element, and its code, if it has one.
-const REFUSED: [(&[u8], Option<Code>); 25] = [
+const REFUSED: [(&[u8], Option<Code>); 28] = [
     (b"", None),
     (b" \r\n^M^j", None),
     (b"::=", Some(Code::Ill)),
@@ -196,6 +202,9 @@ const REFUSED: [(&[u8], Option<Code>); 25] = [
     (b"@@Sa\x1b", Some(Code::Ill)),
     (b":::Sa\x1b", Some(Code::Ill)),
     (b"@\ta\x1b", Some(Code::Ill)),
+    (b":F>", Some(Code::Ill)),
+    (b"@F'/a/", Some(Code::Ill)),
+    (b"F", Some(Code::Utc)),
 ];
 
 fn is_refused(text: &[u8], code: Option<Code>) -> bool {
@@ -214,7 +223,7 @@ fn others_are_refused(rt: HostRuntime) {
 }
 
 /// A text and the place of an element; then where that jumps ahead, and how many iterations it leaves.
-const SKIPS: [(&[u8], usize, Option<usize>, u32); 30] = [
+const SKIPS: [(&[u8], usize, Option<usize>, u32); 38] = [
     (b"1\"G2=|3='", 1, Some(6), 0),
     (b"1\"G2=|3='", 5, Some(9), 0),
     (b"0\"N(?@I/'/'3=", 1, Some(11), 0),
@@ -245,6 +254,14 @@ const SKIPS: [(&[u8], usize, Option<usize>, u32); 30] = [
     (b" \r<1>", 0, Some(5), 0),
     (b"  ", 0, None, 0),
     (b"'", 0, None, 0),
+    (b"3<1=F>2= >", 4, Some(9), 0),
+    (b"<F>F?<>\"N> >", 1, Some(9), 0),
+    (b"0<F>>", 1, Some(5), 0),
+    (b"0\"EF'1\"N|'2|3'", 3, Some(14), 0),
+    (b"0\"EF|1\"N|'2|3'", 3, Some(12), 0),
+    (b"0\"EF|>'", 3, Some(7), 0),
+    (b"F>'", 0, None, 0),
+    (b"F'|>", 0, None, 0),
 ];
 
 fn is_skip(text: &[u8], at: usize, to: Option<usize>, leaves: u32) -> bool {

@@ -10,7 +10,7 @@ use Rattle.teco_model.specs.Element.{Element}
 use Rattle.teco_model.specs.Skip.{bracket, tag_bracket, inner_behind, pair_end, tag_skip}
 use Rattle.teco_model.proofs.Ahead.{readings-some, readings-none}
 
--- the end of a pair, by what is read next
+-- what ends a pair, by what is read next
 pub pair_end-none : (pairs : Pairs) (inner : ℕ) (text : List ℕ) (at : ℕ) → reading_at text at ≡ None →
     pair_end pairs inner (readings text at) ≡ None
 pair_end-none pairs inner text at h = rw (readings-none text at h) refl
@@ -20,7 +20,7 @@ pub pair_end-faulty : (pairs : Pairs) (inner : ℕ) (text : List ℕ) (at : ℕ)
 pair_end-faulty pairs inner text at c place next h = rw (readings-some text at _ h) refl
 
 pub pair_end-ends : (pairs : Pairs) (inner : ℕ) (text : List ℕ) (at : ℕ) (e : Element) → reading_at text at ≡ Some (Whole e) →
-    inner_behind (bracket pairs e.kind) inner ≡ None → pair_end pairs inner (readings text at) ≡ Some e.next
+    inner_behind (bracket pairs e.kind) inner ≡ None → pair_end pairs inner (readings text at) ≡ Some e
 pair_end-ends pairs inner text at e h b = rw (readings-some text at _ h) (rw (b, pair_end) refl)
 
 pub pair_end-goes_on : (pairs : Pairs) (inner behind : ℕ) (text : List ℕ) (at : ℕ) (e : Element) → reading_at text at ≡ Some (Whole e) →

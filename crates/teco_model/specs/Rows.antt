@@ -126,6 +126,12 @@ pub record WorkedRows : Type 0 where
   pub leaves_by_a_tag :
       after 9 (then (codes "3<%A=Oout") (codes ">!out!QA="))
       ≡ End (with_number_of_A (pos 1) (world_with [] 0 0 (line (codes "1") ++ line (codes "1"))))
+  pub goes_to_turn_end : after 18 (codes "3<1=F>2=>3=") ≡ End (world_with [] 0 0 (line (codes "1") ++ line (codes "1") ++ line (codes "1") ++ line (codes "3")))
+  pub goes_past_test_end : after 9 (codes "0\"E1=F'2=|3='4=") ≡ End (world_with [] 0 0 (line (codes "1") ++ line (codes "4")))
+  pub goes_to_otherwise : after 12 (codes "0\"E1=F|2=|3='4=") ≡ End (world_with [] 0 0 (line (codes "1") ++ line (codes "3") ++ line (codes "4")))
+  pub no_turn_end : after 0 (codes "F>") ≡ Fail code.Bni (world_with [] 0 0 [])
+  pub no_test_end : after 0 (codes "F'") ≡ Fail code.Utc (world_with [] 0 0 [])
+  pub no_bracket : after 6 (codes "0<F>>1=") ≡ End (world_with [] 0 0 (line (codes "1")))
   pub outside_an_iteration : after 0 (codes ">") ≡ Fail code.Bni (world_with [] 0 0 [])
   pub no_tag_ahead : after 1 (codes "!a!Oa") ≡ Fail code.Tag (world_with [] 0 0 [])
   pub open_at_the_end : after 5 (codes "<1=") ≡ Fail code.Utc (world_with [] 0 0 (line (codes "1")))

@@ -18,6 +18,11 @@ pub record SkipRows : Type 0 where
   -- an iteration that is skipped stays outside of those that are left
   pub iteration : skip_at (codes "5+(0<>3)=") 4 ≡ past (Some 6) 0
   pub inner_pairs : skip_at (codes "<<>1;>2=") 4 ≡ past (Some 6) 1
+  -- F> goes to its >, behind blanks too, F' past its ', and F| past the | of its level
+  pub to_turn_end : skip_at (codes "3<1=F>2= >") 4 ≡ past (Some 9) 0
+  pub past_test_end : skip_at (codes "0\"EF'2|3'") 3 ≡ past (Some 9) 0
+  pub past_otherwise : skip_at (codes "0\"EF|2|3'") 3 ≡ past (Some 7) 0
+  pub no_bracket : skip_at (codes "0<F>>") 1 ≡ past (Some 5) 0
   -- only its own brackets count
   pub own_brackets : skip_at (codes "2<0\"N>'") 3 ≡ past (Some 7) 0
   -- a tag, and the iteration that it leaves; in an iteration opened on the way it is not seen

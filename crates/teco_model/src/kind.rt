@@ -207,6 +207,19 @@ pub enum Flow {
     GoTo,
     /// `!` begins a tag or comment.
     Comment,
+    /// `F>`, `F'` and `F|` go ahead in the pair that they stand in.
+    GoAhead(Goal),
+}
+
+/// Where `F` and a bracket go.
+#[derive(Clone, Copy)]
+pub enum Goal {
+    /// `F>`: to the `>` of the iteration, which is executed next.
+    EndTurn,
+    /// `F'`: past the `'` of the conditional.
+    EndTest,
+    /// `F|`: past the pipe of the conditional, or past its `'`.
+    Otherwise,
 }
 
 /// What a conditional asks of its argument.

@@ -31,6 +31,8 @@ pub enum Route {
     Nowhere,
     /// Past the end of the pair that it stands in, which may leave that iteration.
     Past { pairs: Pairs, leaves: u32 },
+    /// To the end of the pair that it stands in.
+    To { pairs: Pairs },
     /// Past a tag.
     ToTag,
 }

@@ -9,7 +9,6 @@ ghost use Rattle.teco_nodes.specs.Room.{HasRoom};
 ghost use Rattle.teco_nodes.specs.Seen.{stand_seen, visit_seen, node_seen};
 ghost use Rattle.teco_nodes.specs.Texts.{library_of};
 ghost use Rattle.teco_nodes.specs.Walks.{walk_seen};
-ghost use Rattle.teco_nodes.specs.declared.texts.Texts.{Texts};
 
 use crate::few::Few;
 use crate::link::{base_of, way_numbers};
@@ -29,11 +28,10 @@ use teco_base::Reg;
 use teco_library::Library;
 
 // Behind the call of the entry the run is over.
-fn over() -> Stand
-    ensures { (texts : Texts) → stand_seen texts result ≡ node.over texts.entry }
+fn over(texts: &Texts<'_>) -> Stand
+    ensures { stand_seen texts.now result ≡ node.over texts.now.entry }
 {
-    let mut spot = Spot::beginning(None);
-    spot.place = 2;
+    let spot = Spot::at(texts, None, 2, Few::empty(0));
     Stand {
         position: Position {
             running: spot,
@@ -51,7 +49,7 @@ fn stands_of(alloc: Global, texts: &Texts<'_>, walk: &Walk) -> Result<Vec<Stand>
     for visit in &walk.visits {
         stands.push(visit.stand)?;
     }
-    stands.push(over())?;
+    stands.push(over(texts))?;
     Ok(stands)
 }
 

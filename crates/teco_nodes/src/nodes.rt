@@ -9,7 +9,7 @@ ghost use Rattle.teco_nodes.specs.Seen.{node_seen};
 ghost use Rattle.teco_expand.specs.Node.{numbered, place_of};
 
 use crate::node::Node;
-use crate::reading::{colon_at, place_behind_blanks, read_element};
+use crate::reading::{colon_at, read_element};
 use crate::texts::Texts;
 use std::marker::Model;
 use teco_model::Element;
@@ -82,15 +82,14 @@ impl<'a> Nodes<'a> {
         node_of(&self.nodes, number).register
     }
 
-    /// The place of its element in that text, behind the blanks.
+    /// The place of its element in that text.
     #[tactic(auto, using(crate::proofs::Numbered::seen_at))]
     pub fn place(&self, number: usize) -> usize
         requires one { 0 < number }
         requires last { number ≤ length self.now }
         ensures { (node : model.Node) → numbered self.now number ≡ Some node → result ≡ place_of node }
     {
-        let spot = &node_of(&self.nodes, number).stand.position.running;
-        place_behind_blanks(self.texts.text(spot.register), spot.place)
+        node_of(&self.nodes, number).stand.position.running.place
     }
 
     /// How many iterations are open there, in the texts that wait too.

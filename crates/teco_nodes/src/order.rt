@@ -26,25 +26,25 @@ fn stand_with(position: Position, from: &Stand) -> Stand
 }
 
 // `<` is followed by its body.
-fn stand_inside(number: usize, element: &Element<'_>, from: &Stand) -> Stand
+fn stand_inside(texts: &Texts<'_>, number: usize, element: &Element<'_>, from: &Stand) -> Stand
     requires starts { length (listed from.now.position.running.starts) < ROOM }
     requires iterations { length (listed from.now.iterations) < ROOM }
-    ensures { (texts : Texts) → stand_seen texts result ≡ order.stand_inside number (seen element.now) (stand_seen texts from.now) }
+    ensures { stand_seen texts.now result ≡ order.stand_inside number (seen element.now) (stand_seen texts.now from.now) }
 {
     let starts = from.position.running.starts.with(element.next);
     Stand {
-        position: from.position.moved_to(element.next, starts),
+        position: from.position.moved_to(texts, element.next, starts),
         iterations: from.iterations.with(number),
     }
 }
 
 // `>` is followed by what is outside of its iteration.
-fn stand_outside(element: &Element<'_>, from: &Stand) -> Stand
-    ensures { (texts : Texts) → stand_seen texts result ≡ order.stand_outside (seen element.now) (stand_seen texts from.now) }
+fn stand_outside(texts: &Texts<'_>, element: &Element<'_>, from: &Stand) -> Stand
+    ensures { stand_seen texts.now result ≡ order.stand_outside (seen element.now) (stand_seen texts.now from.now) }
 {
     let starts = from.position.running.starts.without(1);
     Stand {
-        position: from.position.moved_to(element.next, starts),
+        position: from.position.moved_to(texts, element.next, starts),
         iterations: from.iterations.without(1),
     }
 }
@@ -61,9 +61,9 @@ fn position_in_text(
         ≡ order.position_in_text (macro (library_of texts.now) register) (seen element.now) (position_seen texts.now position.now) }
 {
     if texts.contains(register) {
-        called(register, element, position)
+        called(register, texts, element, position)
     } else {
-        past(element, position)
+        past(texts, element, position)
     }
 }
 
@@ -99,9 +99,9 @@ fn stand_behind_element(
             let position = position_in_text(call.register.index(), texts, element, &from.position);
             stand_with(position, from)
         }
-        Kind::Flow(Flow::Iterate) => stand_inside(number, element, from),
-        Kind::Flow(Flow::EndTurn) => stand_outside(element, from),
-        _ => stand_with(past(element, &from.position), from),
+        Kind::Flow(Flow::Iterate) => stand_inside(texts, number, element, from),
+        Kind::Flow(Flow::EndTurn) => stand_outside(texts, element, from),
+        _ => stand_with(past(texts, element, &from.position), from),
     }
 }
 

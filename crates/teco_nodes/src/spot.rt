@@ -2,9 +2,11 @@
 ghost use Rattle.std.specs.Prelude.{◌≡◌};
 
 use crate::few::Few;
+use crate::reading::place_behind_blanks;
+use crate::texts::Texts;
 
-/// A place in a text, and the starts of the iterations that are open in it, the innermost first. The text is that of a
-/// register, or the command string that calls the entry.
+/// The place of an element in a text, and the starts of the iterations that are open in it, the innermost first. The text
+/// is that of a register, or the command string that calls the entry.
 #[derive(Clone, Copy)]
 pub struct Spot {
     pub register: Option<usize>,
@@ -27,21 +29,27 @@ pub struct Stand {
 }
 
 impl Spot {
-    ghost use Rattle.std.specs.Prelude.{[]};
     ghost use Rattle.teco_expand.specs.Position as model;
+    ghost use Rattle.teco_nodes.specs.Few.{listed};
     ghost use Rattle.teco_nodes.specs.Seen.{spot_seen};
     ghost use Rattle.teco_nodes.specs.Texts.{text_of};
-    ghost use Rattle.teco_nodes.specs.declared.texts.Texts.{Texts};
 
-    /// The beginning of a text.
-    pub fn beginning(register: Option<usize>) -> Spot
-        ensures { (texts : Texts) → spot_seen texts result ≡ model.spot_in (text_of texts register) }
+    /// Where a text goes on, behind the blanks at a place.
+    pub fn at(texts: &Texts<'_>, register: Option<usize>, place: usize, starts: Few<usize>) -> Spot
+        ensures { spot_seen texts.now result ≡ model.spot_at (text_of texts.now register) place (listed starts) }
     {
         Spot {
             register,
-            place: 0,
-            starts: Few::empty(0),
+            place: place_behind_blanks(texts.text(register), place),
+            starts,
         }
+    }
+
+    /// The beginning of a text.
+    pub fn beginning(texts: &Texts<'_>, register: Option<usize>) -> Spot
+        ensures { spot_seen texts.now result ≡ model.spot_in (text_of texts.now register) }
+    {
+        Spot::at(texts, register, 0, Few::empty(0))
     }
 }
 
@@ -51,19 +59,14 @@ impl Position {
     ghost use Rattle.teco_expand.specs.Ways as ways;
     ghost use Rattle.teco_nodes.specs.Few.{listed};
     ghost use Rattle.teco_nodes.specs.Seen.{position_seen};
-    ghost use Rattle.teco_nodes.specs.declared.texts.Texts.{Texts};
 
     /// The running text at another place, with other iterations open.
-    pub fn moved_to(&self, place: usize, starts: Few<usize>) -> Position
-        ensures { (texts : Texts) → position_seen texts result
-            ≡ model.moved_to place (listed starts) (position_seen texts self.now) }
+    pub fn moved_to(&self, texts: &Texts<'_>, place: usize, starts: Few<usize>) -> Position
+        ensures { position_seen texts.now result
+            ≡ model.moved_to place (listed starts) (position_seen texts.now self.now) }
     {
         Position {
-            running: Spot {
-                register: self.running.register,
-                place,
-                starts,
-            },
+            running: Spot::at(texts, self.running.register, place, starts),
             callers: self.callers,
         }
     }

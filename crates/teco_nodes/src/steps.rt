@@ -13,7 +13,7 @@ ghost use Rattle.teco_nodes.specs.declared.texts.Texts.{Texts};
 
 use crate::few::Few;
 use crate::order::stand_behind;
-use crate::reading::{place_behind_blanks, read_at};
+use crate::reading::read_at;
 use crate::refusal::{Reason, Refusal};
 use crate::spot::{Position, Spot, Stand};
 use crate::texts::Texts;
@@ -129,11 +129,12 @@ pub fn next_visit(texts: &Texts<'_>, number: usize, visit: &Visit) -> Result<Vis
 pub fn first_visit(texts: &Texts<'_>) -> Visit
     ensures { visit_seen texts.now result ≡ model.first_visit texts.now.entry }
 {
+    let start = Spot::beginning(texts, None);
     Visit {
         stand: Stand {
             position: Position {
-                running: Spot::beginning(None),
-                callers: Few::empty(Spot::beginning(None)),
+                running: start,
+                callers: Few::empty(start),
             },
             iterations: Few::empty(0),
         },
@@ -155,10 +156,9 @@ pub fn register_at(texts: &Texts<'_>, visit: &Visit) -> usize
 pub fn refusal_at(texts: &Texts<'_>, visit: &Visit, reason: Reason) -> Refusal
     ensures { refusal_seen result ≡ model.refusal_at texts.now.entry (visit_seen texts.now visit.now) (reason_seen reason) }
 {
-    let spot = &visit.stand.position.running;
     Refusal {
         reason,
         register: register_at(texts, visit),
-        place: place_behind_blanks(texts.text(spot.register), spot.place),
+        place: visit.stand.position.running.place,
     }
 }

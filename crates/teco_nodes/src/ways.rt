@@ -19,7 +19,7 @@ use crate::reading::{has_colon, skip_from};
 use crate::refusal::Reason;
 use crate::spot::{Position, Spot};
 use crate::texts::Texts;
-use teco_model::kind::{Flow, Kind};
+use teco_model::kind::{Flow, Goal, Kind};
 use teco_model::{Element, Skip};
 
 /// Where the machine may stand next: nowhere behind the command string, and else at one of two positions at the most.
@@ -31,10 +31,10 @@ pub enum Ways {
 }
 
 /// Behind an element.
-pub fn past(element: &Element<'_>, position: &Position) -> Position
-    ensures { (texts : Texts) → position_seen texts result ≡ model.past (seen element.now) (position_seen texts position.now) }
+pub fn past(texts: &Texts<'_>, element: &Element<'_>, position: &Position) -> Position
+    ensures { position_seen texts.now result ≡ model.past (seen element.now) (position_seen texts.now position.now) }
 {
-    position.moved_to(element.next, position.running.starts)
+    position.moved_to(texts, element.next, position.running.starts)
 }
 
 // The skip of an element that is read at a spot.
@@ -55,7 +55,7 @@ fn jumped(texts: &Texts<'_>, element: &Element<'_>, position: &Position) -> Resu
         None => Err(Reason::Unpaired),
         Some(place) => {
             let starts = position.running.starts.without(skip.leaves as usize);
-            Ok(position.moved_to(place, starts))
+            Ok(position.moved_to(texts, place, starts))
         }
     }
 }
@@ -76,16 +76,16 @@ fn way_or_jump(
 }
 
 // `>` goes back to the start of its iteration, or on.
-fn end_ways(element: &Element<'_>, position: &Position) -> Result<Ways, Reason>
-    ensures { (texts : Texts) → Gives (ways_seen texts) result
-        (model.end_ways (listed position.now.running.starts) (seen element.now) (position_seen texts position.now)) }
+fn end_ways(texts: &Texts<'_>, element: &Element<'_>, position: &Position) -> Result<Ways, Reason>
+    ensures { Gives (ways_seen texts.now) result
+        (model.end_ways (listed position.now.running.starts) (seen element.now) (position_seen texts.now position.now)) }
 {
     let starts = position.running.starts;
     match starts.get(0) {
         None => Err(Reason::Unpaired),
         Some(start) => Ok(Ways::Two(
-            position.moved_to(start, starts),
-            position.moved_to(element.next, starts.without(1)),
+            position.moved_to(texts, start, starts),
+            position.moved_to(texts, element.next, starts.without(1)),
         )),
     }
 }
@@ -99,7 +99,24 @@ fn leave_ways(texts: &Texts<'_>, element: &Element<'_>, position: &Position) -> 
     if position.running.starts.len() == 0 {
         return Err(Reason::Unpaired);
     }
-    way_or_jump(texts, past(element, position), element, position)
+    way_or_jump(texts, past(texts, element, position), element, position)
+}
+
+// `F>` stands in an iteration of its own text.
+fn ahead_ways(
+    goal: Goal,
+    texts: &Texts<'_>,
+    element: &Element<'_>,
+    position: &Position,
+) -> Result<Ways, Reason>
+    requires { element_at (text_of texts.now position.now.running.register) position.now.running.place ≡ Ok (Some (seen element.now)) }
+    ensures { Gives (ways_seen texts.now) result
+        (model.ahead_ways goal (listed position.now.running.starts) (seen element.now) (position_seen texts.now position.now)) }
+{
+    if matches!(goal, Goal::EndTurn) && position.running.starts.len() == 0 {
+        return Err(Reason::Unpaired);
+    }
+    Ok(Ways::One(jumped(texts, element, position)?))
 }
 
 #[tactic(auto, unfolding(teco_expand::specs::Ways::flow_ways))]
@@ -116,14 +133,15 @@ fn flow_ways(
     match flow {
         Flow::Iterate => {
             let starts = position.running.starts.with(element.next);
-            let body = position.moved_to(element.next, starts);
+            let body = position.moved_to(texts, element.next, starts);
             way_or_jump(texts, body, element, position)
         }
-        Flow::EndTurn => end_ways(element, position),
+        Flow::EndTurn => end_ways(texts, element, position),
         Flow::Leave => leave_ways(texts, element, position),
-        Flow::Test(_) => way_or_jump(texts, past(element, position), element, position),
+        Flow::Test(_) => way_or_jump(texts, past(texts, element, position), element, position),
         Flow::Otherwise | Flow::GoTo => Ok(Ways::One(jumped(texts, element, position)?)),
-        Flow::EndTest | Flow::Comment => Ok(Ways::One(past(element, position))),
+        Flow::EndTest | Flow::Comment => Ok(Ways::One(past(texts, element, position))),
+        Flow::GoAhead(goal) => ahead_ways(goal, texts, element, position),
     }
 }
 
@@ -140,20 +158,25 @@ fn search_ways(
 {
     let spot = &position.running;
     if has_colon(element, texts.text(spot.register)) || spot.starts.len() == 0 {
-        return Ok(Ways::One(past(element, position)));
+        return Ok(Ways::One(past(texts, element, position)));
     }
-    way_or_jump(texts, past(element, position), element, position)
+    way_or_jump(texts, past(texts, element, position), element, position)
 }
 
 /// The beginning of a register's text, with what stands behind the element that calls it waiting.
-pub fn called(register: usize, element: &Element<'_>, position: &Position) -> Position
+pub fn called(
+    register: usize,
+    texts: &Texts<'_>,
+    element: &Element<'_>,
+    position: &Position,
+) -> Position
     requires { length (listed position.now.callers) < ROOM }
-    ensures { (texts : Texts) → position_seen texts result
-        ≡ model.called (text_of texts (Some register)) (seen element.now) (position_seen texts position.now) }
+    ensures { position_seen texts.now result
+        ≡ model.called (text_of texts.now (Some register)) (seen element.now) (position_seen texts.now position.now) }
 {
-    let waiting = past(element, position).running;
+    let waiting = past(texts, element, position).running;
     Position {
-        running: Spot::beginning(Some(register)),
+        running: Spot::beginning(texts, Some(register)),
         callers: position.callers.with(waiting),
     }
 }
@@ -172,7 +195,7 @@ fn call_ways(
     if !texts.contains(register) {
         return Err(Reason::NoMacro);
     }
-    Ok(Ways::One(called(register, element, position)))
+    Ok(Ways::One(called(register, texts, element, position)))
 }
 
 // The end of a text goes back to the text that waits, if there is one.
@@ -207,7 +230,7 @@ fn element_ways(
         Kind::Call(call) => call_ways(call.register.index(), texts, element, position),
         Kind::Flow(flow) => flow_ways(flow, texts, element, position),
         Kind::Search(_) => search_ways(texts, element, position),
-        _ => Ok(Ways::One(past(element, position))),
+        _ => Ok(Ways::One(past(texts, element, position))),
     }
 }
 

@@ -21,9 +21,10 @@ use Rattle.teco_rules.proofs.Moving.{pointer_at}
 use Rattle.teco_rules.proofs.Near.{empty_whole}
 use Rattle.teco_rules.proofs.Numbers.{value_in_in, any_within}
 use Rattle.teco_rules.proofs.Registers.{number_at as known_number_at, untouched}
+use Rattle.teco_rules.proofs.Saved.{saved_at}
 use Rattle.teco_rules.proofs.Shapes.{Shifts, Foretells, value-number, done_with}
 use Rattle.teco_rules.specs.Describes.{Run, IsWhole, IsWholePair, AreBytes, Holds, fore_of, back_of}
-use Rattle.teco_rules.specs.Facts.{Facts}
+use Rattle.teco_rules.specs.Facts.{Facts, number_of}
 use Rattle.teco_rules.specs.Queries as row
 use Rattle.teco_rules.specs.Values.{IsWithin, IsValue, value_in, any_number}
 use Rattle.teco_rules.specs.declared.values.Interval.{Interval}
@@ -44,7 +45,7 @@ code_within text h (negsuc n) = record { low = omega (arith, ints); high = omega
 
 -- a number of an interval that fits may be pending
 pub interval_value : (fore back : ℕ) (i : Interval) (v : ℤ) → IsWithin i v → FitsSigned w32 v → IsValue fore back (value_in i) v
-interval_value fore back i v w f = record { is = value_in_in i fore back v w; fits = f }
+interval_value fore back i v w f = record { is = value_in_in i fore back v w; fits = f; saved = tt }
 
 pub code_value : (fore back : ℕ) (text : List ℕ) → AreBytes text → (z : ℤ) → IsValue fore back (value_in row.character) (code_at text z)
 code_value fore back text h z = let w = code_within text h z in interval_value fore back row.character _ w (omega (arith, ints, w))
@@ -96,8 +97,10 @@ module _ (run : Run) (facts : Facts) (unread : ℕ) (kept : Kept) (whole : IsWho
   query_foretold Conversion v f = let d = decimal_length v f in inserted_foretold run facts unread kept whole h 1 (number 11) (decimal v) d.0 (omega (arith, d.1, value-number 11 run.n))
 
   -- without one, where the pointer stays
-  pub number_is : (r : ℕ) → IsValue (fore_of kept) (back_of kept) (value_in (row.query (Number r) 0 facts)) (number_in r kept)
-  number_is r = interval_value _ _ _ _ (known_number_at run facts.numbers facts.texts kept.registers.pairs h.registers r) (pair_whole r).number
+  pub number_is : (r : ℕ) → IsValue (fore_of kept) (back_of kept) (row.query (Number r) 0 facts) (number_in r kept)
+  number_is r =
+      let i = value_in_in (number_of r facts) (fore_of kept) (back_of kept) _ (known_number_at run facts.numbers facts.texts kept.registers.pairs h.registers r) in
+      record { is = record { low = i.low; high = i.high }; fits = (pair_whole r).number; saved = saved_at (fore_of kept) (back_of kept) facts.position.saved kept.registers.pairs h.position.saved r }
 
   pub length_is : (r : ℕ) → IsValue (fore_of kept) (back_of kept) (value_in row.text_length) (pos (length (text_in r kept)))
   length_is r = let p = (pair_whole r).within in interval_value _ _ _ _ (record { low = omega (arith, ints); high = omega (arith, ints, p) }) (omega (arith, ints, p))

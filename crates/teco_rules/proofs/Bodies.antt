@@ -10,13 +10,14 @@ use Rattle.teco_model.specs.Registers.{Pair, empty_pair}
 use Rattle.teco_poly.proofs.Lawful.{values_compare, value_of_difference, value_of_product, value_of_one_less, value_of_sum, values_of_constants}
 use Rattle.teco_poly.specs.Polynomial.{Polynomial, value, variable, sub, mul, add, one_less}
 use Rattle.teco_rules.proofs.Numbers.{any_within}
-use Rattle.teco_rules.proofs.Covering.{and_both, each_covered, interval_covered, length_covered, pushed_covered, le_holds}
+use Rattle.teco_rules.proofs.Covering.{and_both, each_covered, interval_covered, length_covered, pushed_covered, saved_covered, le_holds}
 use Rattle.teco_rules.proofs.Each.{each_length, all_at}
 use Rattle.teco_rules.proofs.Near.{empty_whole}
+use Rattle.teco_rules.proofs.Saved.{none_are, saved_after_are, unsaved_are}
 use Rattle.teco_rules.specs.Attempt.{◌>>=◌}
 use Rattle.teco_rules.specs.Bodies.{Choice, unknown_where, fall_if, has_own_fall, own_fall, keeps, held_last, is_within}
 use Rattle.teco_rules.specs.Covers.{covers_interval, covers_length}
-use Rattle.teco_rules.specs.Describes.{IsWholePair, AreEach, HasFallen, fore_of}
+use Rattle.teco_rules.specs.Describes.{IsWholePair, AreEach, HasFallen, fore_of, back_of}
 use Rattle.teco_rules.specs.Facts.{Position, Facts, sum_of}
 use Rattle.teco_rules.specs.Flows.{entering}
 use Rattle.teco_rules.specs.Laws.{BodyStartsAreSound, IsCarried, ReturnsAreSound, TurnsFall, HasRoom, RoomIsSound, EntryIsSound}
@@ -48,7 +49,7 @@ ahead_if true n ahead p held h i = h refl
 ahead_if false n ahead p held h i = i
 
 pub body_starts_are_sound : BodyStartsAreSound
-body_starts_are_sound run facts unread kept arguments choice written counted whole b d =
+body_starts_are_sound run facts unread kept arguments choice changes counted whole b d =
     let p = and_both _ _ b in
     let h = d.state in
     let held = values_compare facts.held choice.held run.n p.0 in record {
@@ -58,10 +59,11 @@ body_starts_are_sound run facts unread kept arguments choice written counted who
           end = omega arith;
           fallen = (omega (arith, ints), falls_if choice.kept (fore_of kept + unread) facts.position.falls run.turns (each_length (HasFallen (fore_of kept + unread)) facts.position.falls run.turns h.position.fallen.1) (λ e. h.position.fallen.1));
           ahead = ahead_if choice.kept run.n _ facts.position.ahead choice.held (λ e. h.position.ahead) (omega (arith, held, h.held));
+          saved = saved_after_are changes.ends (fore_of kept) (back_of kept) (fore_of kept) (back_of kept) _ kept.registers.pairs whole.count (λ e. omega arith) (unsaved_are (fore_of kept) (back_of kept) changes.written facts.position.saved kept.registers.pairs h.position.saved);
         };
         held = omega (arith, held, h.held);
         registers = record {
-          numbers = unknown_are written facts.numbers kept.registers.pairs whole.pairs h.registers.numbers;
+          numbers = unknown_are changes.written facts.numbers kept.registers.pairs whole.pairs h.registers.numbers;
           texts = each_covered covers_length (λ most (pair : Pair). length pair.text ≤ value most run.n) (λ most (pair : Pair). length pair.text ≤ value most run.n) (length_covered run.n) choice.texts facts.texts kept.registers.pairs p.1 h.registers.texts;
         };
         pushed = h.pushed;
@@ -86,7 +88,7 @@ kept_falls true position ahead begun outer t h e = omega (arith, own_falls 0 pos
 kept_falls false position ahead begun outer t h e = absurd (cc)
 
 pub turns_fall : TurnsFall
-turns_fall run end unread kept arguments choice written turns entering begun outer c d e =
+turns_fall run end unread kept arguments choice changes turns entering begun outer c d e =
     let p = and_both _ _ c in
     let q = and_both _ _ p.0 in
     let r = and_both _ _ q.0 in
@@ -101,11 +103,12 @@ falls_carried ahead begun [] (start ∷ outer) l h = absurd h
 falls_carried ahead begun (fall ∷ falls) [] l h = absurd h
 
 pub returns_are_sound : ReturnsAreSound
-returns_are_sound run facts end unread kept arguments choice written counted turns begun outer whole c d e l room carried =
+returns_are_sound run facts end unread kept arguments choice changes counted turns begun outer whole c d e l room carried =
     let p = and_both _ _ c in
     let q = and_both _ _ p.0 in
     let r = and_both _ _ q.0 in
-    let s = and_both _ _ p.1 in
+    let o = and_both _ _ p.1 in
+    let s = and_both _ _ o.0 in
     let t = and_both _ _ s.0 in
     let h = d.state in
     let fallen = subst (λ turns. AreEach (HasFallen (fore_of kept + unread)) end.position.falls turns) e h.position.fallen in
@@ -119,10 +122,11 @@ returns_are_sound run facts end unread kept arguments choice written counted tur
             end = omega arith;
             fallen = subst (λ turns. AreEach (HasFallen (fore_of kept + unread)) (Some (pos 0) ∷ map (fall_if choice.kept) facts.position.falls) ((fore_of kept + unread) ∷ drop 1 turns)) (sym e) (omega (arith, ints), falls_if choice.kept (fore_of kept + unread) facts.position.falls outer l (λ k. (again k).falls));
             ahead = ahead_if choice.kept run.n _ facts.position.ahead choice.held (λ k. (again k).ahead) (omega (arith, room));
+            saved = saved_covered (fore_of kept) (back_of kept) _ end.position.saved kept.registers.pairs o.1 h.position.saved;
           };
           held = room;
           registers = record {
-            numbers = each_covered covers_interval (λ i (pair : Pair). IsWithin i pair.number) (λ i (pair : Pair). IsWithin i pair.number) (λ i j pair. interval_covered i j pair.number) (unknown_where written facts.numbers) end.numbers kept.registers.pairs t.0 h.registers.numbers;
+            numbers = each_covered covers_interval (λ i (pair : Pair). IsWithin i pair.number) (λ i (pair : Pair). IsWithin i pair.number) (λ i j pair. interval_covered i j pair.number) (unknown_where changes.written facts.numbers) end.numbers kept.registers.pairs t.0 h.registers.numbers;
             texts = each_covered covers_length (λ most (pair : Pair). length pair.text ≤ value most run.n) (λ most (pair : Pair). length pair.text ≤ value most run.n) (length_covered run.n) choice.texts end.texts kept.registers.pairs t.1 h.registers.texts;
           };
           pushed = pushed_covered run.n run.below facts.pushes end.pushes kept.registers.stack s.1 h.pushed;
@@ -172,7 +176,7 @@ pub entry_is_sound : EntryIsSound
 entry_is_sound n unread kept whole i =
     let all = (values_of_constants n 0).1 in record {
       state = record {
-        position = record { begin = omega arith; end = omega arith; fallen = tt; ahead = omega (arith, all, i.held, whole.inside) };
+        position = record { begin = omega arith; end = omega arith; fallen = tt; ahead = omega (arith, all, i.held, whole.inside); saved = none_are (fore_of kept) (back_of kept) kept.registers.pairs whole.count };
         held = omega (arith, all, i.held);
         registers = record {
           numbers = each_replicated (λ i (pair : Pair). IsWithin i pair.number) REGISTERS any_number kept.registers.pairs whole.count (λ pair r e. subst (λ (p : Pair). IsWithin any_number p.number) e (any_within _ (all_at IsWholePair kept.registers.pairs empty_pair whole.pairs empty_whole r).number));

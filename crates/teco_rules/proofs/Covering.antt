@@ -12,9 +12,10 @@ use Rattle.teco_poly.proofs.Lawful.{values_compare}
 use Rattle.teco_poly.specs.Polynomial.{Polynomial, value}
 use Rattle.teco_rules.proofs.Numbers.{AreDistances, interval_of_in}
 use Rattle.teco_rules.proofs.Near.{distances}
+use Rattle.teco_rules.proofs.Saved.{IsSaved, place_covered}
 use Rattle.teco_rules.specs.Arguments.{KnownLevel, KnownArguments}
-use Rattle.teco_rules.specs.Covers.{each_covers, both_cover, covers_interval, are_equal, is_interval, is_same, covers_value, is_same_operator, covers_level, covers_arguments, covers_fall, covers_position, covers_answer, covers_length, covers_pushed, covers}
-use Rattle.teco_rules.specs.Describes.{Run, IsAt, Answers, ArePushed, IsLevel, ArePending, IsOptional, AreEach, HasFallen, fore_of, back_of}
+use Rattle.teco_rules.specs.Covers.{each_covers, both_cover, covers_interval, are_equal, is_interval, is_same, covers_value, is_same_operator, covers_level, covers_arguments, covers_saved, covers_fall, covers_position, covers_answer, covers_length, covers_pushed, covers}
+use Rattle.teco_rules.specs.Describes.{Run, IsAt, AreSaved, Answers, ArePushed, IsLevel, ArePending, IsOptional, AreEach, HasFallen, fore_of, back_of}
 use Rattle.teco_rules.specs.Facts.{Position, Answer, Pushed}
 use Rattle.teco_rules.specs.Laws.{CoversAreSound}
 use Rattle.teco_rules.specs.Values.{IsIn, IsValue, IsWithin, interval_of}
@@ -75,7 +76,7 @@ module _ (d : Distances) (fore back : ℕ) (b : AreDistances d fore back) where
       record { low = rw (ahead, behind, lo) i.low; high = rw (ahead, behind, hi) i.high }
 
   value_covered : (s t : Value) (v : ℤ) → IsTrue (covers_value d s t) → IsValue fore back t v → IsValue fore back s v
-  value_covered s t v c i = record { is = value_by _ s t v refl c i.is; fits = i.fits }
+  value_covered s t v c i = let p = and_both _ _ c in record { is = value_by _ s t v refl p.1 i.is; fits = i.fits; saved = place_covered s.saved t.saved fore back v p.0 i.saved }
 
   optional_covered : (s t : Option Value) (v : Option ℤ) → IsTrue (both_cover (covers_value d) s t) → IsOptional (IsValue fore back) t v → IsOptional (IsValue fore back) s v
   optional_covered None None None c i = tt
@@ -117,9 +118,13 @@ fall_covered ahead None edge begun c h = tt
 fall_covered ahead (Some v) (Some w) begun c h = omega (arith, ints, le_holds v w c)
 fall_covered ahead (Some v) None begun c h = absurd (cc)
 
-pub position_covered : (run : Run) (position edge : Position) (fore back unread : ℕ) → IsTrue (covers_position position edge) → IsAt run edge fore back unread → IsAt run position fore back unread
-position_covered run position edge fore back unread c h =
-    let p = and_both _ _ c in
+pub saved_covered : (fore back : ℕ) (saved edge : List Bool) (pairs : List Pair) → IsTrue (each_covers covers_saved saved edge) → AreSaved fore back edge pairs → AreSaved fore back saved pairs
+saved_covered fore back saved edge pairs c h = each_covered covers_saved (IsSaved fore back) (IsSaved fore back) (λ s e pair. place_covered s e fore back pair.number) saved edge pairs c h
+
+pub position_covered : (run : Run) (position edge : Position) (fore back unread : ℕ) (pairs : List Pair) → IsTrue (covers_position position edge) → IsAt run edge fore back unread pairs → IsAt run position fore back unread pairs
+position_covered run position edge fore back unread pairs c h =
+    let o = and_both _ _ c in
+    let p = and_both _ _ o.0 in
     let q = and_both _ _ p.0 in
     let r = and_both _ _ q.0 in
     record {
@@ -127,14 +132,15 @@ position_covered run position edge fore back unread c h =
       end = omega (arith, nat_le_holds position.distances.fore edge.distances.fore r.1, h.end);
       fallen = each_covered covers_fall (HasFallen (fore + unread)) (HasFallen (fore + unread)) (fall_covered (fore + unread)) position.falls edge.falls run.turns q.1 h.fallen;
       ahead = omega (arith, values_compare edge.ahead position.ahead run.n p.1, h.ahead);
+      saved = saved_covered fore back position.saved edge.saved pairs o.1 h.saved;
     }
 
-answers_covered : (run : Run) (answer edge : Option Answer) (fore back unread : ℕ) (level : Level) → IsTrue (covers_answer answer edge) → Answers run edge fore back unread level → Answers run answer fore back unread level
-answers_covered run None edge fore back unread level c h = tt
-answers_covered run (Some answer) (Some edge) fore back unread level c (v, e, i) =
+answers_covered : (run : Run) (answer edge : Option Answer) (fore back unread : ℕ) (pairs : List Pair) (level : Level) → IsTrue (covers_answer answer edge) → Answers run edge fore back unread pairs level → Answers run answer fore back unread pairs level
+answers_covered run None edge fore back unread pairs level c h = tt
+answers_covered run (Some answer) (Some edge) fore back unread pairs level c (v, e, i) =
     let p = and_both _ _ c in
-    (v, e, record { either = i.either; found = λ q. position_covered run answer.found edge.found fore back unread p.0 (i.found q); failed = λ q. position_covered run answer.failed edge.failed fore back unread p.1 (i.failed q) })
-answers_covered run (Some answer) None fore back unread level c h = absurd (cc)
+    (v, e, record { either = i.either; found = λ q. position_covered run answer.found edge.found fore back unread pairs p.0 (i.found q); failed = λ q. position_covered run answer.failed edge.failed fore back unread pairs p.1 (i.failed q) })
+answers_covered run (Some answer) None fore back unread pairs level c h = absurd (cc)
 
 -- ---- registers
 pub length_covered : (n : ℕ) (most edge : Polynomial) (pair : Pair) → IsTrue (covers_length most edge) → length pair.text ≤ value edge n → length pair.text ≤ value most n
@@ -162,7 +168,7 @@ covers_are_sound run facts edge unread kept arguments whole c d =
     let h = d.state in
     record {
       state = record {
-        position = position_covered run facts.position edge.position (fore_of kept) (back_of kept) unread u.1 h.position;
+        position = position_covered run facts.position edge.position (fore_of kept) (back_of kept) unread kept.registers.pairs u.1 h.position;
         held = omega (arith, values_compare edge.held facts.held run.n s.1, h.held);
         registers = record {
           numbers = each_covered covers_interval (λ i (pair : Pair). IsWithin i pair.number) (λ i (pair : Pair). IsWithin i pair.number) (λ i j pair. interval_covered i j pair.number) facts.numbers edge.numbers kept.registers.pairs r.1 h.registers.numbers;
@@ -171,5 +177,5 @@ covers_are_sound run facts edge unread kept arguments whole c d =
         pushed = pushed_covered run.n run.below facts.pushes edge.pushes kept.registers.stack p.1 h.pushed;
       };
       pending = pending_covered edge.position.distances (fore_of kept) (back_of kept) (distances run edge unread kept whole h) facts.arguments edge.arguments arguments v.0 d.pending;
-      answers = answers_covered run facts.answer edge.answer (fore_of kept) (back_of kept) unread arguments.level v.1 d.answers;
+      answers = answers_covered run facts.answer edge.answer (fore_of kept) (back_of kept) unread kept.registers.pairs arguments.level v.1 d.answers;
     }

@@ -13,6 +13,7 @@ use Rattle.teco_model.specs.declared.arguments.Taken.{Taken}
 use Rattle.teco_model.specs.declared.kind.Test.{Test}
 use Rattle.teco_model.specs.declared.kind.Test.TheVariants as test
 use Rattle.teco_poly.specs.Polynomial.{Polynomial, value, number}
+use Rattle.teco_model.specs.Registers.{Pair}
 use Rattle.teco_rules.proofs.Numbers.{AreDistances, interval_of_in, scaled_le}
 use Rattle.teco_rules.proofs.Pending.{taken_covers, empty_is, nothing_is, needed_covers}
 use Rattle.teco_rules.proofs.Near.{distances}
@@ -72,10 +73,10 @@ each_dropped P (suc count) (x ∷ xs) [] h = absurd h
 abbrev number_in : Level → Result ℤ Code
 number_in level = model.arguments_of level >>>= λ taken. effect.needed_value taken.value
 
-told_by : (run : Run) (o : Option Answer) (fore back unread : ℕ) (level : Level) (r : Result Value Refusal) → Answers run o fore back unread level → Covers (IsValue fore back) r (number_in level) → Covers (λ s v. IsTold run o s fore back unread v) r (number_in level)
-told_by run None fore back unread level r a c = weaker (IsValue fore back) _ r (number_in level) (λ s v i. i.is) c
-told_by run (Some answer) fore back unread level r (v, e, i) c =
-    subst (λ level. Covers (λ (s : Value) v. IsTold run (Some answer) s fore back unread v) r (number_in level)) (sym e) (always _ r v (λ s. i))
+told_by : (run : Run) (o : Option Answer) (fore back unread : ℕ) (pairs : List Pair) (level : Level) (r : Result Value Refusal) → Answers run o fore back unread pairs level → Covers (IsValue fore back) r (number_in level) → Covers (λ s v. IsTold run o s fore back unread pairs v) r (number_in level)
+told_by run None fore back unread pairs level r a c = weaker (IsValue fore back) _ r (number_in level) (λ s v i. i.is) c
+told_by run (Some answer) fore back unread pairs level r (v, e, i) c =
+    subst (λ level. Covers (λ (s : Value) v. IsTold run (Some answer) s fore back unread pairs v) r (number_in level)) (sym e) (always _ r v (λ s. i))
 
 module _ (run : Run) (facts : Facts) (unread : ℕ) (kept : Kept) (arguments : model.Arguments) (whole : IsWhole kept) (d : Describes run facts unread kept arguments) where
   now : AreDistances facts.position.distances (fore_of kept) (back_of kept)
@@ -84,21 +85,21 @@ module _ (run : Run) (facts : Facts) (unread : ℕ) (kept : Kept) (arguments : m
   pub taking_is : Covers (IsTaken (fore_of kept) (back_of kept)) (known.arguments_of facts.arguments.level) (model.arguments_of arguments.level)
   taking_is = taken_covers facts.position.distances (fore_of kept) (back_of kept) now facts.arguments.level arguments.level d.pending.level
 
-  number_told : Covers (λ s v. IsTold run facts.answer s (fore_of kept) (back_of kept) unread v) (needed_taken facts) (number_in arguments.level)
-  number_told = told_by run facts.answer (fore_of kept) (back_of kept) unread arguments.level _ d.answers (needed_covers facts.position.distances (fore_of kept) (back_of kept) now facts.arguments.level arguments.level d.pending.level)
+  number_told : Covers (λ s v. IsTold run facts.answer s (fore_of kept) (back_of kept) unread kept.registers.pairs v) (needed_taken facts) (number_in arguments.level)
+  number_told = told_by run facts.answer (fore_of kept) (back_of kept) unread kept.registers.pairs arguments.level _ d.answers (needed_covers facts.position.distances (fore_of kept) (back_of kept) now facts.arguments.level arguments.level d.pending.level)
 
   pub taken_are : ArePending (fore_of kept) (back_of kept) (facts_taken facts).arguments (model.levels_after_taking arguments)
   taken_are = record { level = empty_is facts.position.distances (fore_of kept) (back_of kept) now; outer = d.pending.outer }
 
   -- ---- ways
-  reached : (o : Option Position) → IsOn run (fore_of kept) (back_of kept) unread o → IsReached run (option_map (λ p. at_position p (facts_taken facts)) o) unread kept (model.levels_after_taking arguments)
+  reached : (o : Option Position) → IsOn run (fore_of kept) (back_of kept) unread kept.registers.pairs o → IsReached run (option_map (λ p. at_position p (facts_taken facts)) o) unread kept (model.levels_after_taking arguments)
   reached None i = i
   reached (Some p) i = let h = d.state in record { state = record { position = i; held = h.held; registers = h.registers; pushed = h.pushed }; pending = taken_are; answers = tt }
 
-  pub behind : (count : ℕ) (p : Position) (state : Facts) → IsAt run p (fore_of kept) (back_of kept) unread → state.held ≡ facts.held → state.numbers ≡ facts.numbers → state.texts ≡ facts.texts → state.pushes ≡ facts.pushes → Describes (run_behind count run) (leaving count (at_position p state)) unread kept model.no_arguments
+  pub behind : (count : ℕ) (p : Position) (state : Facts) → IsAt run p (fore_of kept) (back_of kept) unread kept.registers.pairs → state.held ≡ facts.held → state.numbers ≡ facts.numbers → state.texts ≡ facts.texts → state.pushes ≡ facts.pushes → Describes (run_behind count run) (leaving count (at_position p state)) unread kept model.no_arguments
   behind count p state i e f g k = let h = d.state in record {
     state = record {
-      position = record { begin = i.begin; end = i.end; fallen = each_dropped (HasFallen (fore_of kept + unread)) count p.falls run.turns i.fallen; ahead = i.ahead };
+      position = record { begin = i.begin; end = i.end; fallen = each_dropped (HasFallen (fore_of kept + unread)) count p.falls run.turns i.fallen; ahead = i.ahead; saved = i.saved };
       held = rw e h.held;
       registers = let r = h.registers in record { numbers = rw f r.numbers; texts = rw g r.texts };
       pushed = rw k h.pushed;
@@ -107,11 +108,11 @@ module _ (run : Run) (facts : Facts) (unread : ℕ) (kept : Kept) (arguments : m
     answers = tt;
   }
 
-  left_behind : (o : Option Position) → IsOn run (fore_of kept) (back_of kept) unread o → IsReached (run_behind 1 run) (option_map (leaving 1) (option_map (λ p. at_position p (facts_taken facts)) o)) unread kept model.no_arguments
+  left_behind : (o : Option Position) → IsOn run (fore_of kept) (back_of kept) unread kept.registers.pairs o → IsReached (run_behind 1 run) (option_map (leaving 1) (option_map (λ p. at_position p (facts_taken facts)) o)) unread kept model.no_arguments
   left_behind None i = i
   left_behind (Some p) i = behind 1 p (facts_taken facts) i refl refl refl refl
 
-  told : (n : Numbers) (s : Value) (v : ℤ) → IsTold run facts.answer s (fore_of kept) (back_of kept) unread v → Takes n v → IsOn run (fore_of kept) (back_of kept) unread (position_by n facts.answer s facts.position)
+  told : (n : Numbers) (s : Value) (v : ℤ) → IsTold run facts.answer s (fore_of kept) (back_of kept) unread kept.registers.pairs v → Takes n v → IsOn run (fore_of kept) (back_of kept) unread kept.registers.pairs (position_by n facts.answer s facts.position)
   told n s v i t = told_on run facts unread kept n facts.answer s v whole d.state i t
 
   -- a test
@@ -151,12 +152,12 @@ module _ (run : Run) (facts : Facts) (unread : ℕ) (kept : Kept) (arguments : m
   holding_takes test.Upper v true e = tt
   holding_takes test.Upper v false e = tt
 
-  tested : (t : Test) (s : Value) (v : ℤ) (b : Bool) → holds t v ≡ b → IsTold run facts.answer s (fore_of kept) (back_of kept) unread v → IsReached run (cond b (way (holding t) facts.answer s (facts_taken facts)) (way (other (holding t)) facts.answer s (facts_taken facts))) unread kept (model.levels_after_taking arguments)
+  tested : (t : Test) (s : Value) (v : ℤ) (b : Bool) → holds t v ≡ b → IsTold run facts.answer s (fore_of kept) (back_of kept) unread kept.registers.pairs v → IsReached run (cond b (way (holding t) facts.answer s (facts_taken facts)) (way (other (holding t)) facts.answer s (facts_taken facts))) unread kept (model.levels_after_taking arguments)
   tested t s v true e i = reached _ (told (holding t) s v i (holding_takes t v true e))
   tested t s v false e i = reached _ (told (other (holding t)) s v i (holding_takes t v false e))
 
   conditioned : (t : Test) → Tells (λ (edges : Edges) v. IsReached run (cond (holds t v) edges.on edges.away) unread kept (model.levels_after_taking arguments)) (needed_taken facts >>= λ n. Ok (record { on = way (holding t) facts.answer n (facts_taken facts); away = way (other (holding t)) facts.answer n (facts_taken facts) })) (number_in arguments.level)
-  conditioned t = tells_then (λ s v. IsTold run facts.answer s (fore_of kept) (back_of kept) unread v) _ _ _ _ number_told (λ s v i l. tested t s v _ refl i)
+  conditioned t = tells_then (λ s v. IsTold run facts.answer s (fore_of kept) (back_of kept) unread kept.registers.pairs v) _ _ _ _ number_told (λ s v i l. tested t s v _ refl i)
 
   -- ; and :;
   leaving_takes : (colons : ℕ) (v : ℤ) (b : Bool) → leaves colons v ≡ b → Takes (cond b (leaving_numbers colons) (other (leaving_numbers colons))) v
@@ -169,12 +170,12 @@ module _ (run : Run) (facts : Facts) (unread : ℕ) (kept : Kept) (arguments : m
   leaving_takes (suc colons) (negsuc n) true e = omega (arith, ints)
   leaving_takes (suc colons) (negsuc n) false e = absurd (cc)
 
-  leaves_or : (colons : ℕ) (s : Value) (v : ℤ) (b : Bool) → leaves colons v ≡ b → IsTold run facts.answer s (fore_of kept) (back_of kept) unread v → LeavingOr run unread kept arguments b (record { on = way (other (leaving_numbers colons)) facts.answer s (facts_taken facts); away = option_map (leaving 1) (way (leaving_numbers colons) facts.answer s (facts_taken facts)) })
+  leaves_or : (colons : ℕ) (s : Value) (v : ℤ) (b : Bool) → leaves colons v ≡ b → IsTold run facts.answer s (fore_of kept) (back_of kept) unread kept.registers.pairs v → LeavingOr run unread kept arguments b (record { on = way (other (leaving_numbers colons)) facts.answer s (facts_taken facts); away = option_map (leaving 1) (way (leaving_numbers colons) facts.answer s (facts_taken facts)) })
   leaves_or colons s v true e i = left_behind _ (told (leaving_numbers colons) s v i (leaving_takes colons v true e))
   leaves_or colons s v false e i = reached _ (told (other (leaving_numbers colons)) s v i (leaving_takes colons v false e))
 
   left : (colons : ℕ) → Tells (λ (edges : Edges) v. LeavingOr run unread kept arguments (leaves colons v) edges) (needed_taken facts >>= λ n. Ok (record { on = way (other (leaving_numbers colons)) facts.answer n (facts_taken facts); away = option_map (leaving 1) (way (leaving_numbers colons) facts.answer n (facts_taken facts)) })) (number_in arguments.level)
-  left colons = tells_then (λ s v. IsTold run facts.answer s (fore_of kept) (back_of kept) unread v) _ _ _ _ number_told (λ s v i l. leaves_or colons s v _ refl i)
+  left colons = tells_then (λ s v. IsTold run facts.answer s (fore_of kept) (back_of kept) unread kept.registers.pairs v) _ _ _ _ number_told (λ s v i l. leaves_or colons s v _ refl i)
 
   -- <
   abbrev taken_facts : Facts
@@ -194,7 +195,7 @@ module _ (run : Run) (facts : Facts) (unread : ℕ) (kept : Kept) (arguments : m
   entered : (counted : Bool) → NoneLeft → Describes (run_in_turn unread kept run) (entering counted taken_facts) unread kept (model.levels_after_taking arguments)
   entered counted none = let h = d.state in record {
     state = record {
-      position = record { begin = h.position.begin; end = h.position.end; fallen = (omega (arith, ints), h.position.fallen); ahead = h.position.ahead };
+      position = record { begin = h.position.begin; end = h.position.end; fallen = (omega (arith, ints), h.position.fallen); ahead = h.position.ahead; saved = h.position.saved };
       held = h.held;
       registers = let r = h.registers in record { numbers = r.numbers; texts = r.texts };
       pushed = h.pushed;
@@ -250,18 +251,18 @@ module _ (run : Run) (facts : Facts) (unread : ℕ) (kept : Kept) (arguments : m
   by_signs false y s v p q i = by_interval s v i
 
   -- the coefficients, the constant and the interval of a value, by themselves
-  abbrev parts : ℤ → ℤ → ℤ → ℤ → Value
-  parts a b lo hi = record { ahead = a; behind = b; lo = lo; hi = hi }
+  abbrev parts : ℤ → ℤ → ℤ → ℤ → Bool → Value
+  parts a b lo hi saved = record { ahead = a; behind = b; lo = lo; hi = hi; saved = saved }
 
-  bounded_by : (a b lo hi v : ℤ) → IsValue (fore_of kept) (back_of kept) (parts a b lo hi) v → IfOk (bound_by a b (positive hi) (positive (interval_of facts.position.distances (parts a b lo hi)).hi) facts) (λ most. v ≤ℤ pos (value most run.n))
-  bounded_by (pos (suc zero)) (pos (suc zero)) lo hi v i = bounded_sum facts.held (positive hi) v (omega (arith, ints, i.is.high, up_to_positive hi, d.state.held, whole.inside))
-  bounded_by (pos zero) (pos (suc zero)) lo hi v i = bounded_sum facts.held (positive hi) v (omega (arith, ints, i.is.high, up_to_positive hi, d.state.held, whole.inside))
-  bounded_by (pos (suc zero)) (pos zero) lo hi v i = bounded_sum facts.position.ahead (positive hi) v (omega (arith, ints, i.is.high, up_to_positive hi, d.state.position.ahead, whole.inside))
-  bounded_by (pos (suc zero)) (pos (suc (suc zero))) lo hi v i = bounded_both (positive hi) v (omega (arith, ints, i.is.high, up_to_positive hi, d.state.held, whole.inside))
-  bounded_by a b lo hi v i = by_signs _ _ (parts a b lo hi) v refl refl i
+  bounded_by : (a b lo hi : ℤ) (saved : Bool) (v : ℤ) → IsValue (fore_of kept) (back_of kept) (parts a b lo hi saved) v → IfOk (bound_by a b (positive hi) (positive (interval_of facts.position.distances (parts a b lo hi saved)).hi) facts) (λ most. v ≤ℤ pos (value most run.n))
+  bounded_by (pos (suc zero)) (pos (suc zero)) lo hi saved v i = bounded_sum facts.held (positive hi) v (omega (arith, ints, i.is.high, up_to_positive hi, d.state.held, whole.inside))
+  bounded_by (pos zero) (pos (suc zero)) lo hi saved v i = bounded_sum facts.held (positive hi) v (omega (arith, ints, i.is.high, up_to_positive hi, d.state.held, whole.inside))
+  bounded_by (pos (suc zero)) (pos zero) lo hi saved v i = bounded_sum facts.position.ahead (positive hi) v (omega (arith, ints, i.is.high, up_to_positive hi, d.state.position.ahead, whole.inside))
+  bounded_by (pos (suc zero)) (pos (suc (suc zero))) lo hi saved v i = bounded_both (positive hi) v (omega (arith, ints, i.is.high, up_to_positive hi, d.state.held, whole.inside))
+  bounded_by a b lo hi saved v i = by_signs _ _ (parts a b lo hi saved) v refl refl i
 
   pub bound_is : (s : Value) (v : ℤ) → IsValue (fore_of kept) (back_of kept) s v → IfOk (bound_of s facts) (λ most. v ≤ℤ pos (value most run.n))
-  bound_is s v i = bounded_by s.ahead s.behind s.lo s.hi v i
+  bound_is s v i = bounded_by s.ahead s.behind s.lo s.hi s.saved v i
 
   ahead_and_one : IfOk (sum_of facts.position.ahead (number 1)) (λ most. fore_of kept + unread + 1 ≤ value most run.n)
   ahead_and_one = on_sum _ (value-sum_of run.n facts.position.ahead (number 1)) where
@@ -290,7 +291,7 @@ module _ (run : Run) (facts : Facts) (unread : ℕ) (kept : Kept) (arguments : m
   at_end i outer = let h = d.state in record {
     back = record {
       state = record {
-        position = record { begin = h.position.begin; end = h.position.end; fallen = (omega (arith, ints), each_dropped (HasFallen (fore_of kept + unread)) 1 facts.position.falls run.turns h.position.fallen); ahead = h.position.ahead };
+        position = record { begin = h.position.begin; end = h.position.end; fallen = (omega (arith, ints), each_dropped (HasFallen (fore_of kept + unread)) 1 facts.position.falls run.turns h.position.fallen); ahead = h.position.ahead; saved = h.position.saved };
         held = h.held;
         registers = let r = h.registers in record { numbers = r.numbers; texts = r.texts };
         pushed = h.pushed;
@@ -354,6 +355,7 @@ unfolding transfer
 others_are_sound run facts unread kept arguments x d =
     let n = without_answer run facts unread kept arguments d in record {
       otherwise = λ e. subst (λ k. IfOk (transfers.edges_of k x (transfers.answer_for k facts) (transfers.without_answer facts)) (λ (edges : Edges). IsReached run edges.away unread kept arguments)) (sym e) n;
+      ahead = λ g e. subst (λ k. IfOk (transfers.edges_of k x (transfers.answer_for k facts) (transfers.without_answer facts)) (λ (edges : Edges). IsReached run edges.away unread kept arguments)) (sym e) n;
       end = λ e. subst (λ k. IfOk (transfers.edges_of k x (transfers.answer_for k facts) (transfers.without_answer facts)) (λ (edges : Edges). IsReached run edges.on unread kept arguments)) (sym e) n;
       comment = λ e. subst (λ k. IfOk (transfers.edges_of k x (transfers.answer_for k facts) (transfers.without_answer facts)) (λ (edges : Edges). IsReached run edges.on unread kept arguments)) (sym e) n;
       call = λ c e. subst (λ k. IfOk (transfers.edges_of k x (transfers.answer_for k facts) (transfers.without_answer facts)) (λ (edges : Edges). IsReached run edges.on unread kept arguments)) (sym e) n;

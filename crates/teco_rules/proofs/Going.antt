@@ -17,6 +17,8 @@ use Rattle.teco_model.specs.Step as stepping
 use Rattle.teco_model.specs.declared.flow.Loop.{Loop}
 use Rattle.teco_model.specs.declared.kind.Flow.{Flow}
 use Rattle.teco_model.specs.declared.kind.Flow.TheVariants as flow
+use Rattle.teco_model.specs.declared.kind.Goal.{Goal}
+use Rattle.teco_model.specs.declared.kind.Goal.TheVariants as goal
 use Rattle.teco_model.specs.declared.kind.Kind.TheVariants as kind
 use Rattle.teco_model.specs.declared.kind.Test.{Test}
 use Rattle.teco_model.specs.Effect.{needed_value}
@@ -124,6 +126,7 @@ flow_held flow.Otherwise colons leaves answer facts = (tt, refl)
 flow_held flow.EndTest colons leaves answer facts = (refl, tt)
 flow_held flow.GoTo colons leaves answer facts = ok_always (KeepsHeld facts) (taking.arguments_of facts.arguments.level) _ (λ taken. gone_held leaves facts (edge.without_value taken.value))
 flow_held flow.Comment colons leaves answer facts = (refl, tt)
+flow_held (flow.GoAhead g) colons leaves answer facts = (tt, refl)
 
 pub held_kept : (x : Placed) (facts : Facts) (f : Flow) → x.element.kind ≡ kind.Flow f → IfOk (transfer x facts) (KeepsHeld facts)
 unfolding transfer
@@ -238,6 +241,22 @@ module _ (run : Run) (facts : Facts) (x : Placed) (edges : Edges) (s : State) (h
   pub otherwise_goes : x.element.kind ≡ kind.Flow flow.Otherwise → LeadsAhead x.element frame → Succeeds (FlowGoes flow.Otherwise run facts.held x edges s) (flows.turn_of flow.Otherwise x.element s.arguments frame)
   otherwise_goes e ahead = jumped (FlowGoes flow.Otherwise run facts.held x edges s) code.Utc s.arguments ahead (λ place. away_edge flow.Otherwise e run s.arguments refl (ok_at (λ edges. IsReached run edges.away u kept s.arguments) (transfer x facts) edges t ((others_are_sound run facts u kept s.arguments x h.described).otherwise e)))
 
+  goes_ahead : (g : Goal) → x.element.kind ≡ kind.Flow (flow.GoAhead g) → LeadsAhead x.element frame →
+      Succeeds (FlowGoes (flow.GoAhead g) run facts.held x edges s) (flows.jump code.Utc x.element s.arguments frame)
+  goes_ahead g e ahead = jumped (FlowGoes (flow.GoAhead g) run facts.held x edges s) code.Utc s.arguments ahead (λ place. away_edge (flow.GoAhead g) e run s.arguments refl (ok_at (λ edges. IsReached run edges.away u kept s.arguments) (transfer x facts) edges t ((others_are_sound run facts u kept s.arguments x h.described).ahead g e)))
+
+  -- F> stands in an iteration
+  module _ (e : x.element.kind ≡ kind.Flow (flow.GoAhead goal.EndTurn)) (inside : IsInside facts frame) (ahead : LeadsAhead x.element frame) where
+    to_turn_end : (loops : List Loop) → loops ≡ inside.loop ∷ inside.outer → Succeeds (FlowGoes (flow.GoAhead goal.EndTurn) run facts.held x edges s) (flows.to_turn_end x.element loops s.arguments frame)
+    to_turn_end [] l = absurd (cc)
+    to_turn_end (loop ∷ outer) l = goes_ahead goal.EndTurn e ahead
+
+  ahead_goes : (g : Goal) → x.element.kind ≡ kind.Flow (flow.GoAhead g) → FlowStands (flow.GoAhead g) facts x frame →
+      Succeeds (FlowGoes (flow.GoAhead g) run facts.held x edges s) (flows.turn_of (flow.GoAhead g) x.element s.arguments frame)
+  ahead_goes goal.EndTurn e k = to_turn_end e k.0 k.1 frame.loops k.0.loops
+  ahead_goes goal.EndTest e k = goes_ahead goal.EndTest e k
+  ahead_goes goal.Otherwise e k = goes_ahead goal.Otherwise e k
+
   pub test_end_goes : x.element.kind ≡ kind.Flow flow.EndTest → Succeeds (FlowGoes flow.EndTest run facts.held x edges s) (flows.turn_of flow.EndTest x.element s.arguments frame)
   test_end_goes e = on_edge flow.EndTest e run s.arguments refl (ok_at (λ edges. IsReached run edges.on u kept s.arguments) (transfer x facts) edges t ((others_are_sound run facts u kept s.arguments x h.described).end e))
 
@@ -261,3 +280,4 @@ module _ (run : Run) (facts : Facts) (x : Placed) (edges : Edges) (s : State) (h
   flow_goes flow.EndTest e k = test_end_goes e
   flow_goes flow.GoTo e k = tag_goes e k
   flow_goes flow.Comment e k = comment_goes e
+  flow_goes (flow.GoAhead g) e k = ahead_goes g e k

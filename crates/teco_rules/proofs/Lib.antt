@@ -4,6 +4,7 @@ pub mod Numbers
 pub mod Quotients
 pub mod Pending
 pub mod Near
+pub mod Saved
 pub mod Each
 pub mod Ways
 pub mod Covering

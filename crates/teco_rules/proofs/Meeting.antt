@@ -6,12 +6,13 @@ use Rattle.teco_poly.specs.Polynomial.{Polynomial, value, join}
 use Rattle.teco_rules.specs.Attempt.{◌>>=◌}
 use Rattle.teco_rules.specs.Describes.{Run, IsAt, AreEach, HasFallen, ArePushed, ArePending, fore_of, back_of}
 use Rattle.teco_rules.specs.Facts.{Position, Pushed, Facts, join_of, without_arguments}
-use Rattle.teco_rules.specs.Joins.{smaller_fall, smaller_falls, nearer_of, joined_position, hull, hulls, joined_lengths, joined_pushes, none_pending}
+use Rattle.teco_rules.specs.Joins.{smaller_fall, smaller_falls, nearer_of, joined_saved, joined_position, hull, hulls, joined_lengths, joined_pushes, none_pending}
 use Rattle.teco_rules.specs.Laws.{MayMeet, MeetsBoth, JoinsAreSound}
 use Rattle.teco_rules.specs.declared.values.Interval.{Interval}
 use Rattle.teco_rules.specs.declared.values.Value.{Value}
 use Rattle.teco_rules.specs.Arguments.{KnownLevel, KnownArguments, no_arguments}
 use Rattle.teco_rules.proofs.Each.{IsNumber, IsText}
+use Rattle.teco_rules.proofs.Saved.{saved_left, saved_right}
 use Rattle.teco_rules.proofs.Steps.{given_then}
 use Rattle.teco_model.specs.Arguments.{Arguments}
 use Rattle.teco_model.specs.Registers.{Pair}
@@ -58,18 +59,18 @@ falls_right ahead (v ∷ vs) [] turns l h = absurd (omega arith)
 
 -- ---- positions
 pub record IsJoin (run : Run) (p q j : Position) : Type 0 where
-  pub left : (fore back unread : ℕ) → IsAt run p fore back unread → IsAt run j fore back unread
-  pub right : (fore back unread : ℕ) → IsAt run q fore back unread → IsAt run j fore back unread
+  pub left : (fore back unread : ℕ) (pairs : List Pair) → IsAt run p fore back unread pairs → IsAt run j fore back unread pairs
+  pub right : (fore back unread : ℕ) (pairs : List Pair) → IsAt run q fore back unread pairs → IsAt run j fore back unread pairs
 
-position_with : (run : Run) (p q : Position) → length p.falls ≡ length q.falls → (r : Result Polynomial Refusal) → IfOk r (IsAbove run.n p.ahead q.ahead) → IfOk (r >>= λ ahead. Ok (record { distances = nearer_of p.distances q.distances; falls = smaller_falls p.falls q.falls; ahead = ahead })) (IsJoin run p q)
-position_with run p q l (Err why) a = tt
-position_with run p q l (Ok ahead) a = record {
-  left = λ fore back unread h. record { begin = omega (arith, h.begin); end = omega (arith, h.end); fallen = falls_left (fore + unread) p.falls q.falls run.turns l h.fallen; ahead = omega (arith, a.left, h.ahead) };
-  right = λ fore back unread h. record { begin = omega (arith, h.begin); end = omega (arith, h.end); fallen = falls_right (fore + unread) p.falls q.falls run.turns l h.fallen; ahead = omega (arith, a.right, h.ahead) };
+position_with : (run : Run) (p q : Position) → length p.falls ≡ length q.falls → length p.saved ≡ length q.saved → (r : Result Polynomial Refusal) → IfOk r (IsAbove run.n p.ahead q.ahead) → IfOk (r >>= λ ahead. Ok (record { distances = nearer_of p.distances q.distances; falls = smaller_falls p.falls q.falls; ahead = ahead; saved = joined_saved p.saved q.saved })) (IsJoin run p q)
+position_with run p q l k (Err why) a = tt
+position_with run p q l k (Ok ahead) a = record {
+  left = λ fore back unread pairs h. record { begin = omega (arith, h.begin); end = omega (arith, h.end); fallen = falls_left (fore + unread) p.falls q.falls run.turns l h.fallen; ahead = omega (arith, a.left, h.ahead); saved = saved_left fore back p.saved q.saved pairs k h.saved };
+  right = λ fore back unread pairs h. record { begin = omega (arith, h.begin); end = omega (arith, h.end); fallen = falls_right (fore + unread) p.falls q.falls run.turns l h.fallen; ahead = omega (arith, a.right, h.ahead); saved = saved_right fore back p.saved q.saved pairs k h.saved };
 }
 
-pub position_joined : (run : Run) (p q : Position) → length p.falls ≡ length q.falls → IfOk (joined_position p q) (IsJoin run p q)
-position_joined run p q l = position_with run p q l _ (value-join_of run.n p.ahead q.ahead)
+pub position_joined : (run : Run) (p q : Position) → length p.falls ≡ length q.falls → length p.saved ≡ length q.saved → IfOk (joined_position p q) (IsJoin run p q)
+position_joined run p q l k = position_with run p q l k _ (value-join_of run.n p.ahead q.ahead)
 
 -- ---- registers
 hulls_left : (is js : List Interval) (pairs : List Pair) → length is ≡ length js → AreEach IsNumber is pairs → AreEach IsNumber (hulls is js) pairs
@@ -151,7 +152,7 @@ met : (facts others : Facts) → MayMeet facts others → IsNone facts.arguments
 met facts others m p q pushes s position j held a texts t = record {
   one = λ run unread kept arguments d. let h = d.state in record {
     state = record {
-      position = (j run).left (fore_of kept) (back_of kept) unread h.position;
+      position = (j run).left (fore_of kept) (back_of kept) unread kept.registers.pairs h.position;
       held = omega (arith, (a run.n).left, h.held);
       registers = record { numbers = hulls_left facts.numbers others.numbers kept.registers.pairs m.numbers h.registers.numbers; texts = t.left run.n kept.registers.pairs h.registers.texts };
       pushed = s.left run.n run.below kept.registers.stack h.pushed;
@@ -161,7 +162,7 @@ met facts others m p q pushes s position j held a texts t = record {
   };
   other = λ run unread kept arguments d. let h = d.state in record {
     state = record {
-      position = (j run).right (fore_of kept) (back_of kept) unread h.position;
+      position = (j run).right (fore_of kept) (back_of kept) unread kept.registers.pairs h.position;
       held = omega (arith, (a run.n).right, h.held);
       registers = record { numbers = hulls_right facts.numbers others.numbers kept.registers.pairs m.numbers h.registers.numbers; texts = t.right run.n kept.registers.pairs h.registers.texts };
       pushed = s.right run.n run.below kept.registers.stack h.pushed;
@@ -184,7 +185,7 @@ joins_are_sound facts others m =
     given_then (λ (u : Unit {0}). IsNone facts.arguments) (MeetsBoth facts others) _ _ (none_is facts.arguments) (λ one p.
     given_then (λ (u : Unit {0}). IsNone others.arguments) (MeetsBoth facts others) _ _ (none_is others.arguments) (λ two q.
     given_then (ArePushedBoth facts.pushes others.pushes) (MeetsBoth facts others) _ _ (pushes_both facts.pushes others.pushes) (λ pushes s.
-    given_then (λ j. (run : Run) → IsJoin run facts.position others.position j) (MeetsBoth facts others) _ _ (all_joins _ _ _ (λ run. position_joined run facts.position others.position m.falls)) (λ position j.
+    given_then (λ j. (run : Run) → IsJoin run facts.position others.position j) (MeetsBoth facts others) _ _ (all_joins _ _ _ (λ run. position_joined run facts.position others.position m.falls m.saved)) (λ position j.
     given_then (λ r. (n : ℕ) → IsAbove n facts.held others.held r) (MeetsBoth facts others) _ _ (all_above _ _ _ (λ n. value-join_of n facts.held others.held)) (λ held a.
     given_then (AreAbove facts.texts others.texts) (MeetsBoth facts others) _ _ (lengths_above facts.texts others.texts m.texts) (λ texts t.
     met facts others m p q pushes s position j held a texts t))))))

@@ -1,5 +1,5 @@
 -- C, R, J and L.
-use Rattle.std.proofs.Common.{◌≡◌, ℕ, zero, suc, ◌+◌, ◌-◌, ◌≤◌, arith, refl, ℤ, pos, negsuc, ◌+ℤ◌, ◌-ℤ◌, ◌≤ℤ◌, int_le, int_lt, unsigned_abs, min, length, Option, Some, None, Ok, IfSome, IfOk, Bool, true, false, cond, nat_le}
+use Rattle.std.proofs.Common.{◌≡◌, ℕ, zero, suc, ◌+◌, ◌-◌, ◌≤◌, arith, refl, ℤ, pos, negsuc, ◌+ℤ◌, ◌-ℤ◌, ◌≤ℤ◌, int_le, int_lt, unsigned_abs, min, length, Option, Some, None, Result, Ok, Err, is_ok, IfSome, IfOk, Bool, true, false, ◌||◌, cond, nat_le}
 use Rattle.std.specs.Prelude.{unwrap_or}
 use Rattle.std.proofs.lemmas.Int.{ints}
 use Rattle.std.proofs.lemmas.Bool.Decides.{nat_tests}
@@ -26,7 +26,7 @@ use Rattle.teco_rules.specs.Facts.{Facts, nowhere}
 use Rattle.teco_rules.specs.Motions as row
 use Rattle.teco_rules.specs.Shifts as shifts
 use Rattle.teco_rules.specs.Shifts.{Shift, moving}
-use Rattle.teco_rules.specs.Values.{IsIn, IsWithin, single, size, pointer, minus, least, distance_of, IsValue, value_in}
+use Rattle.teco_rules.specs.Values.{IsIn, IsWithin, IsPlaceIf, single, size, pointer, minus, least, distance_of, IsValue, value_in}
 use Rattle.teco_rules.specs.declared.refusal.Refusal.{Refusal}
 use Rattle.teco_rules.specs.declared.refusal.Refusal.TheVariants as refusal
 use Rattle.teco_rules.specs.declared.values.Distances.{Distances}
@@ -80,16 +80,30 @@ module _ (run : Run) (facts : Facts) (unread : ℕ) (kept : Kept) (whole : IsWho
       given_then (λ m. pos m ≤ℤ (pos (length kept.text) -ℤ z)) (IsPlaced z) _ _ (distance_at refusal.Place (minus size p) facts.position.distances (fore_of kept) (back_of kept) _ b from_end) (λ fore high.
       record { begin = low; end = omega (arith, ints, high); fall = fall_to _ z (least_in (minus p pointer) facts.position.distances (fore_of kept) (back_of kept) _ b from_here); growth = refl }))
 
+  -- a saved place is one of the buffer
+  placed_or_saved : (b : Bool) (r : Result Shift Refusal) (z : ℤ) → IfOk r (IsPlaced z) → IsPlaceIf b (fore_of kept) (back_of kept) z → IfOk (row.shift_or_saved b r) (IsPlaced z)
+  placed_or_saved b (Ok shift) z p i = p
+  placed_or_saved true (Err why) z p i = record { begin = i.0; end = omega (arith, ints, i.1, whole.inside); fall = tt; growth = refl }
+  placed_or_saved false (Err why) z p i = tt
+
+  -- and so is what is known as a place
+  pub place_known : (s : Value) (z : ℤ) → IsValue (fore_of kept) (back_of kept) s z → IsPlaceIf (shifts.is_place s facts.position.distances) (fore_of kept) (back_of kept) z
+  place_known s z i = known_place s.saved _ i.saved (placed_is s z i.is) where
+    known_place : (b : Bool) (r : Result Shift Refusal) → IsPlaceIf b (fore_of kept) (back_of kept) z → IfOk r (IsPlaced z) → IsPlaceIf (b || is_ok r) (fore_of kept) (back_of kept) z
+    known_place true r q p = q
+    known_place false (Ok shift) q p = (omega (arith, ints, p.begin), omega (arith, ints, p.end, whole.inside))
+    known_place false (Err why) q p = tt
+
   fallen_to : (o : Option ℤ) (m : ℕ) → m ≤ length kept.text → IfSome o (λ v. (v +ℤ pos kept.pointer) ≤ℤ pos m) → IfSome o (λ v. (pos (length kept.text - m) +ℤ v) ≤ℤ pos (fore_of kept))
   fallen_to None m w i = tt
   fallen_to (Some v) m w i = omega (arith, ints, whole.inside)
 
   -- the shape of all that moves the pointer
   pub pointer_at : (shift : Shift) (m : ℕ) → shift.distances.back ≤ m → shift.distances.fore + m ≤ length kept.text → IfSome shift.fall (λ v. (pos (length kept.text - m) +ℤ v) ≤ℤ pos (fore_of kept)) → Shifts run.n shift kept (record kept { pointer = m })
-  pointer_at shift m behind ahead fallen = record { registers = refl; behind = behind; ahead = ahead; grown = omega arith; fallen = fallen }
+  pointer_at shift m behind ahead fallen = record { registers = refl; behind = behind; ahead = ahead; grown = omega arith; fallen = fallen; wider = λ e. omega (arith, whole.inside) }
 
   answer_in : (fore back : ℕ) (v : ℤ) → negsuc 0 ≤ℤ v → v ≤ℤ pos 0 → IsValue fore back (value_in row.success) v
-  answer_in fore back v l u = record { is = record { low = omega (arith, ints); high = omega (arith, ints) }; fits = omega (arith, ints) }
+  answer_in fore back v l u = record { is = record { low = omega (arith, ints); high = omega (arith, ints) }; fits = omega (arith, ints); saved = tt }
 
   at_place : (shift : Shift) (m : ℕ) (b : Bool) → nat_le m (length kept.text) ≡ b → IsPlaced (pos m) shift → Moves run.n shift kept None (model.motion_to 0 (cond b (Some m) None) kept)
   at_place shift m false e p = absurd (grind (arith, ints, nat_tests, p.end))
@@ -156,9 +170,17 @@ module _ (run : Run) (facts : Facts) (unread : ℕ) (kept : Kept) (whole : IsWho
       let d = distances run facts unread kept whole h in
       interval_of_in _ facts.position.distances (fore_of kept) (back_of kept) _ d.least (omega (arith, d.within)) (omega (arith, d.within)) (or_single (fore_of kept) (back_of kept) o v (pos 1) i)
 
+  saved_in : (m : Motion) (o : Option Value) (v : Option ℤ) → IsOptional (IsValue (fore_of kept) (back_of kept)) o v → IsPlaceIf (row.goes_to_saved m o) (fore_of kept) (back_of kept) (model.target m kept.pointer v)
+  saved_in To (Some s) (Some v) i = i.saved
+  saved_in To (Some s) None i = absurd i
+  saved_in To None v i = tt
+  saved_in Forward o v i = tt
+  saved_in Backward o v i = tt
+  saved_in Lines o v i = tt
+
   motion_to_foretold : (m : Motion) (colons : ℕ) (o : Option Value) (v : Option ℤ) → IsOptional (IsValue (fore_of kept) (back_of kept)) o v → Foretells run facts unread kept (row.motion_to m colons o facts) (model.motion_to colons (place_in kept.text (model.target m kept.pointer v)) kept)
   motion_to_foretold m zero o v i =
-      leads_given (IsPlaced (model.target m kept.pointer v)) _ (IsDone run facts unread kept) _ _ _ (placed_is _ _ (target_in m o v i)) (λ shift p.
+      leads_given (IsPlaced (model.target m kept.pointer v)) _ (IsDone run facts unread kept) _ _ _ (placed_or_saved _ _ _ (placed_is _ _ (target_in m o v i)) (saved_in m o v i)) (λ shift p.
       shift_leads run facts unread kept whole h shift None _ (λ l. place_moves shift _ p))
   motion_to_foretold m (suc colons) o v i =
       shift_leads run facts unread kept whole h _ (Some (value_in row.success)) _ (λ l. colon_moves _ (model.target m kept.pointer v) colons (goes_on_is m _ v (count_within o v i)))

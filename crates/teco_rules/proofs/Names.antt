@@ -24,6 +24,7 @@ use Rattle.teco_model.specs.declared.kind.Kind.{Kind}
 use Rattle.teco_model.specs.declared.kind.Kind.TheVariants as kind
 use Rattle.teco_model.specs.declared.kind.File.{File}
 use Rattle.teco_model.specs.declared.kind.Flow.TheVariants as flow
+use Rattle.teco_model.specs.declared.kind.Goal.{Goal}
 use Rattle.teco_model.specs.declared.kind.Query.TheVariants as query
 use Rattle.teco_model.specs.declared.kind.Search.{Search}
 use Rattle.teco_model.specs.declared.kind.Test.{Test}
@@ -115,6 +116,11 @@ page_so : (bytes : List ℕ) → IsPlain (letter.page_letters bytes).0
 page_so [] = tt
 page_so (b ∷ rest) = of_either (λ (h : Head × ℕ). IsPlain h.0) (is_among (to_upper b) (codes "W")) _ _ tt tt
 
+replace_so : (b : ℕ) → IfSome (letter.replace_or_flow b) IsPlain
+replace_so b =
+    or_so (letter.replace_letter b) _ (mapped_so (λ (s : Search). head.Kind (kind.Search s)) (λ s. tt) _)
+    (mapped_so (λ (g : Goal). head.Kind (kind.Flow (flow.GoAhead g))) (λ g. tt) _)
+
 letters_so : (bytes : List ℕ) → IfOk (letters bytes) (λ h. IsPlain h.0)
 unfolding letters
 letters_so [] = tt
@@ -123,7 +129,7 @@ letters_so (b ∷ rest) =
     of_either Q (is_digit b) _ _ tt
     (of_either Q (is_among b (codes "=")) _ _ tt
     (of_either Q (is_among (to_upper b) (codes "E")) _ _ (second_so letter.file_letter (λ b. mapped_so (λ (f : File). head.Kind (kind.File f)) (λ f. tt) _) rest)
-    (of_either Q (is_among (to_upper b) (codes "F")) _ _ (second_so letter.replace_letter (λ b. mapped_so (λ (s : Search). head.Kind (kind.Search s)) (λ s. tt) _) rest)
+    (of_either Q (is_among (to_upper b) (codes "F")) _ _ (second_so letter.replace_or_flow replace_so rest)
     (of_either Q (b == QUOTE) _ _ (second_so letter.test_letter (λ b. mapped_so (λ (t : Test). head.Kind (kind.Flow (flow.Test t))) (λ t. tt) _) rest)
     (of_either Q (is_among b (codes "^")) _ _ (caret_so rest)
     (of_either Q (is_among (to_upper b) (codes "P")) _ _ (page_so rest) (head_so _ 1 (one_so b))))))))

@@ -4,7 +4,7 @@ use Rattle.std.specs.Prelude.{unwrap_or, ⊤}
 use Rattle.std.specs.Option.{option_map_or}
 use Rattle.std.proofs.lemmas.Int.{ints}
 use Rattle.std.proofs.lemmas.Bool.Decides.{nat_tests}
-use Rattle.teco_base.specs.declared.TheConstants.{LIMIT}
+use Rattle.teco_base.specs.declared.TheConstants.{LIMIT, REGISTERS}
 use Rattle.teco_base.specs.declared.bytes.TheConstants.{FF}
 use Rattle.teco_base.specs.declared.code.Code.{Code}
 use Rattle.teco_base.specs.declared.code.Code.TheVariants as code
@@ -42,10 +42,11 @@ use Rattle.teco_model.specs.Paging as model
 use Rattle.teco_model.specs.Paging.{unread}
 use Rattle.teco_model.specs.State.{Kept, World}
 use Rattle.teco_poly.specs.Polynomial.{Polynomial, value, number}
+use Rattle.teco_rules.proofs.Saved.{Widens, none_again, saved_after_are}
 use Rattle.teco_rules.proofs.Shapes.{falls_after, ahead_most, value-sum_of}
 use Rattle.teco_rules.specs.Describes.{Run, IsWhole, Holds, Describes, IsTaken, IsOptional, ArePending, fore_of, back_of}
-use Rattle.teco_rules.specs.Facts.{Facts, nowhere}
-use Rattle.teco_rules.specs.Shifts.{moving, facts_behind, Foreseen, facts_answered, silent}
+use Rattle.teco_rules.specs.Facts.{Facts, nowhere, none_saved}
+use Rattle.teco_rules.specs.Shifts.{moving, ending, facts_behind, Foreseen, facts_answered, silent}
 use Rattle.teco_rules.specs.SoundElements.{Succeeds, Leads, FitsOn, Arrives}
 use Rattle.teco_rules.specs.SoundPages.{unread_of, ComesTo, Comes, TurnsPages, Appends, AppendsAreSound, PageTurnsAreSound, PageWritesAreSound}
 use Rattle.teco_rules.specs.declared.values.Distances.{Distances}
@@ -68,14 +69,15 @@ rest_of files = by_input files.input where
 
 -- ---- what holds where pages went by
 module _ (run : Run) (facts : Facts) (u : ℕ) (kept : Kept) (h : Holds run facts u kept) where
-  pub paged_holds : (d : Distances) (held : Polynomial) (new : Kept) (v : ℕ) → new.registers ≡ kept.registers → d.back ≤ new.pointer → d.fore + new.pointer ≤ length new.text → fore_of new + v ≤ fore_of kept + u → length new.text + v ≤ length kept.text + u → value held run.n ≡ value facts.held run.n + value (number 0) run.n → Holds run (facts_behind (moving d (Some (pos 0))) held facts) v new
-  paged_holds d held new v r back fore ahead most e =
+  pub paged_holds : (d : Distances) (ends : Bool) (held : Polynomial) (new : Kept) (v : ℕ) → length kept.registers.pairs ≡ REGISTERS → Widens ends (fore_of kept) (back_of kept) (fore_of new) (back_of new) → new.registers ≡ kept.registers → d.back ≤ new.pointer → d.fore + new.pointer ≤ length new.text → fore_of new + v ≤ fore_of kept + u → length new.text + v ≤ length kept.text + u → value held run.n ≡ value facts.held run.n + value (number 0) run.n → Holds run (facts_behind (record (moving d (Some (pos 0))) { ends = ends }) held facts) v new
+  paged_holds d ends held new v count wider r back fore ahead most e =
       let all : length new.text + v ≤ value held run.n = omega (arith, e, most, h.held) in record {
         position = record {
           begin = omega (arith, back);
           end = omega (arith, fore);
           fallen = falls_after (Some (pos 0)) facts.position.falls run.turns (fore_of kept + u) (fore_of new + v) (omega (arith, ints, ahead)) h.position.fallen;
           ahead = ahead_most (Some (pos 0)) run.n (fore_of kept + u) (fore_of new + v) held facts.position.ahead (omega (arith, ints, ahead)) h.position.ahead (omega (arith, all));
+          saved = rw r (saved_after_are ends (fore_of kept) (back_of kept) (fore_of new) (back_of new) facts.position.saved kept.registers.pairs count wider h.position.saved);
         };
         held = all;
         registers = rw r h.registers;
@@ -94,11 +96,11 @@ module _ (run : Run) (facts : Facts) (world : World) (h : Holds run facts (unrea
   rest : unread_of (turned_world world) ≡ length (behind_form_feed (unread world.files))
   rest = ap length (rest_of world.files)
 
-  turned_holds : Holds run (facts_behind (moving nowhere (Some (pos 0))) held facts) (unread_of (turned_world world)) (turned_world world).kept
-  turned_holds =
+  turned_holds : length world.kept.registers.pairs ≡ REGISTERS → Holds run (facts_behind (ending (moving nowhere (Some (pos 0)))) held facts) (unread_of (turned_world world)) (turned_world world).kept
+  turned_holds count =
       let p = page_short (unread world.files) in
       let r = rest in
-      paged_holds run facts (unread_of world) world.kept h nowhere held (turned_world world).kept (unread_of (turned_world world)) refl (omega arith) (omega arith) (omega arith) (omega arith) e
+      paged_holds run facts (unread_of world) world.kept h nowhere true held (turned_world world).kept (unread_of (turned_world world)) count (λ e. absurd (cc)) refl (omega arith) (omega arith) (omega arith) (omega arith) e
 
   turned_less : length (turned_world world).kept.text + unread_of (turned_world world) ≤ length world.kept.text + unread_of world
   turned_less = let p = page_short (unread world.files) in let r = rest in omega arith
@@ -107,7 +109,7 @@ module _ (run : Run) (facts : Facts) (world : World) (h : Holds run facts (unrea
   turned_short f = let p = page_short (unread world.files) in omega (arith, e, h.held)
 
 -- ---- further pages
-module _ (run : Run) (facts : Facts) (world : World) (h : Holds run facts (unread_of world) world.kept) (here : facts.position.distances ≡ nowhere) where
+module _ (run : Run) (facts : Facts) (world : World) (h : Holds run facts (unread_of world) world.kept) (here : facts.position.distances ≡ nowhere) (none : facts.position.saved ≡ none_saved) where
   pub again_rest : unread_of (turned_world world) ≡ length (behind_form_feed (unread world.files))
   again_rest = ap length (rest_of world.files)
 
@@ -120,6 +122,7 @@ module _ (run : Run) (facts : Facts) (world : World) (h : Holds run facts (unrea
           end = rw here (omega arith);
           fallen = falls_carried (fore_of (turned_world world).kept + unread_of (turned_world world)) (fore_of world.kept + unread_of world) facts.position.falls run.turns (omega arith) h.position.fallen;
           ahead = omega (arith, h.position.ahead);
+          saved = none_again (fore_of world.kept) (back_of world.kept) (fore_of (turned_world world).kept) (back_of (turned_world world).kept) facts.position.saved world.kept.registers.pairs none h.position.saved;
         };
         held = omega (arith, h.held);
         registers = record { numbers = h.registers.numbers; texts = h.registers.texts };
@@ -142,19 +145,19 @@ module _ (run : Run) (facts : Facts) (world : World) (pending : arguments.Argume
   own_is : ArePending (fore_of world.kept) (back_of world.kept) taking.arguments (arguments.levels_after_taking pending)
   own_is = taken_are run facts (unread_of world) world.kept pending whole d
 
-  anywhere : (fore back : ℕ) → ArePending fore back (known.settled facts.position.distances taking.arguments) (arguments.levels_after_taking pending)
-  anywhere fore back = settled_are facts.position.distances (fore_of world.kept) (back_of world.kept) fore back (distances run facts (unread_of world) world.kept whole d.state) taking.arguments (arguments.levels_after_taking pending) own_is
+  settled_at : (ends : Bool) (fore back : ℕ) → Widens ends (fore_of world.kept) (back_of world.kept) fore back → ArePending fore back (known.settled facts.position.distances ends taking.arguments) (arguments.levels_after_taking pending)
+  settled_at ends fore back w = settled_are facts.position.distances ends (fore_of world.kept) (back_of world.kept) fore back (distances run facts (unread_of world) world.kept whole d.state) w taking.arguments (arguments.levels_after_taking pending) own_is
 
   -- a page that is turned, and what is known behind it
   abbrev page_behind : Polynomial → Facts
-  page_behind held = facts_answered (silent (facts_behind (moving nowhere (Some (pos 0))) held taking))
+  page_behind held = facts_answered (silent (facts_behind (ending (moving nowhere (Some (pos 0)))) held taking))
 
   module _ (held : Polynomial) (e : value held run.n ≡ value facts.held run.n + value (number 0) run.n) (fits : value held run.n ≤ LIMIT) where
     page_comes : ComesTo run facts.held world (page_behind held) (arguments.levels_after_taking pending) (turned_world world)
     page_comes = record {
       described = record {
-        state = pending_again run _ _ _ (turned_holds run taking world taking_holds held e) _;
-        pending = anywhere (fore_of (turned_world world).kept) (back_of (turned_world world).kept);
+        state = pending_again run _ _ _ (turned_holds run taking world taking_holds held e whole.count) _;
+        pending = settled_at true (fore_of (turned_world world).kept) (back_of (turned_world world).kept) (λ e. absurd (cc));
         answers = tt;
       };
       grown = let t = turned_less run taking world taking_holds held e in omega (arith, e);
@@ -168,11 +171,11 @@ module _ (run : Run) (facts : Facts) (world : World) (pending : arguments.Argume
     page_again later c =
         let h = c.described.state in
         let p = page_short (unread later.files) in
-        let r = again_rest run (page_behind held) later h refl in
+        let r = again_rest run (page_behind held) later h refl refl in
         turned_to later _ refl (omega (arith, p, h.held, fits)) (ComesTo run facts.held world (page_behind held) (arguments.levels_after_taking pending)) (record {
           described = record {
-            state = again_holds run (page_behind held) later h refl;
-            pending = anywhere (fore_of (turned_world later).kept) (back_of (turned_world later).kept);
+            state = again_holds run (page_behind held) later h refl refl;
+            pending = settled_at true (fore_of (turned_world later).kept) (back_of (turned_world later).kept) (λ e. absurd (cc));
             answers = tt;
           };
           grown = omega (arith, c.grown);
@@ -227,7 +230,7 @@ module _ (run : Run) (facts : Facts) (world : World) (pending : arguments.Argume
       more = λ later none c. absurd (cc);
     }
 
-    counted_turns : (m v : Option ℤ) (as_counted : (P : model.Progress → Type 0) → Succeeds P (model.page_count (unwrap_or v (pos 1)) >>>= λ n. model.one_page_of model.page_turned n world) → Succeeds P (model.pages_of model.page_turned m v world)) (r : Result (Unit {0}) Refusal) → IfOk r (λ u. pos 1 ≤ℤ unwrap_or v (pos 1)) → (sum : Result Polynomial Refusal) → IfOk sum (λ held. value held run.n ≡ value facts.held run.n + value (number 0) run.n) → FitsThen (Turns m v) (transfers.on ((r >>= λ some. (sum >>= λ held. Ok (facts_behind (moving nowhere (Some (pos 0))) held taking)) >>= λ known. Ok (silent known)) >>= λ known. Ok (facts_answered known)))
+    counted_turns : (m v : Option ℤ) (as_counted : (P : model.Progress → Type 0) → Succeeds P (model.page_count (unwrap_or v (pos 1)) >>>= λ n. model.one_page_of model.page_turned n world) → Succeeds P (model.pages_of model.page_turned m v world)) (r : Result (Unit {0}) Refusal) → IfOk r (λ u. pos 1 ≤ℤ unwrap_or v (pos 1)) → (sum : Result Polynomial Refusal) → IfOk sum (λ held. value held run.n ≡ value facts.held run.n + value (number 0) run.n) → FitsThen (Turns m v) (transfers.on ((r >>= λ some. (sum >>= λ held. Ok (facts_behind (ending (moving nowhere (Some (pos 0)))) held taking)) >>= λ known. Ok (silent known)) >>= λ known. Ok (facts_answered known)))
     counted_turns m v c (Err why) h sum e = tt
     counted_turns m v c (Ok u) h (Err why) e = tt
     counted_turns m v c (Ok u) h (Ok held) e = λ l. record {
@@ -280,8 +283,8 @@ module _ (run : Run) (facts : Facts) (world : World) (pending : arguments.Argume
         let l = length-append world.kept.text (before_form_feed (unread world.files)) in
         let h = d.state in record {
           described = record {
-            state = pending_again run _ _ _ (paged_holds run taking (unread_of world) world.kept taking_holds facts.position.distances held grown_world.kept (unread_of grown_world) refl h.position.begin (omega (arith, h.position.end, whole.inside)) (omega (arith, whole.inside)) (omega arith) e) _;
-            pending = anywhere (fore_of grown_world.kept) (back_of grown_world.kept);
+            state = pending_again run _ _ _ (paged_holds run taking (unread_of world) world.kept taking_holds facts.position.distances false held grown_world.kept (unread_of grown_world) whole.count (λ e. omega (arith, l, whole.inside)) refl h.position.begin (omega (arith, h.position.end, whole.inside)) (omega (arith, whole.inside)) (omega arith) e) _;
+            pending = settled_at false (fore_of grown_world.kept) (back_of grown_world.kept) (λ e. omega (arith, l, whole.inside));
             answers = tt;
           };
           grown = omega (arith, e);
@@ -290,8 +293,8 @@ module _ (run : Run) (facts : Facts) (world : World) (pending : arguments.Argume
     ended_comes : ComesTo run facts.held world (grown_behind held) (arguments.levels_after_taking pending) world
     ended_comes = let h = d.state in record {
       described = record {
-        state = pending_again run _ _ _ (paged_holds run taking (unread_of world) world.kept taking_holds facts.position.distances held world.kept (unread_of world) refl h.position.begin (omega (arith, h.position.end, whole.inside)) (omega arith) (omega arith) e) _;
-        pending = anywhere (fore_of world.kept) (back_of world.kept);
+        state = pending_again run _ _ _ (paged_holds run taking (unread_of world) world.kept taking_holds facts.position.distances false held world.kept (unread_of world) whole.count (λ e. omega arith) refl h.position.begin (omega (arith, h.position.end, whole.inside)) (omega arith) (omega arith) e) _;
+        pending = settled_at false (fore_of world.kept) (back_of world.kept) (λ e. omega arith);
         answers = tt;
       };
       grown = omega (arith, e);

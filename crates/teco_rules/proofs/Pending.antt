@@ -13,25 +13,32 @@ use Rattle.teco_model.specs.declared.arguments.Operator.{Operator}
 use Rattle.teco_model.specs.declared.arguments.Operator.TheVariants.{Plus, Minus, Times, Over, And, Or}
 use Rattle.teco_rules.proofs.Numbers.{AreDistances, interval_of_in, value_in_in, sum_in, difference_in, product_in}
 use Rattle.teco_rules.proofs.Quotients.{divided_covers, bitwise_in, and_fits, or_fits}
+use Rattle.teco_rules.proofs.Saved.{Widens, place_after}
 use Rattle.teco_rules.proofs.Steps.{Covers, covers_then}
 use Rattle.teco_rules.specs.Arguments as known
 use Rattle.teco_rules.specs.Attempt.{◌>>=◌}
 use Rattle.teco_rules.specs.Arguments.{KnownLevel, KnownArguments}
 use Rattle.teco_rules.specs.Describes.{IsOptional, IsLevel, ArePending, AreEach, IsTaken}
-use Rattle.teco_rules.specs.Values.{single, interval_of, IsValue}
+use Rattle.teco_rules.specs.Values.{single, value_in, plus, minus, interval_of, IsValue, IsPlaceIf}
 use Rattle.teco_rules.specs.declared.refusal.Refusal.{Refusal}
 use Rattle.teco_rules.specs.declared.refusal.Refusal.TheVariants as refusal
 use Rattle.teco_rules.specs.declared.values.Distances.{Distances}
+use Rattle.teco_rules.specs.declared.values.Interval.{Interval}
 use Rattle.teco_rules.specs.declared.values.Value.{Value}
 
 module _ (distances : Distances) (fore back : ℕ) (b : AreDistances distances fore back) where
   pub single_in : (v : ℤ) → FitsSigned w32 v → IsValue fore back (single v) v
-  single_in v f = record { is = record { low = omega (arith, ints); high = omega (arith, ints) }; fits = f }
+  single_in v f = record { is = record { low = omega (arith, ints); high = omega (arith, ints) }; fits = f; saved = tt }
+
+  -- a result is not saved
+  unsaved : (x : Bool) (exact : Value) (i : Interval) (v : ℤ) → exact.saved ≡ false → IsPlaceIf (cond x exact (value_in i)).saved fore back v
+  unsaved true exact i v e = rw e tt
+  unsaved false exact i v e = tt
 
   applied_covers : (operator : Operator) (s t : Value) (v w : ℤ) → IsValue fore back s v → IsValue fore back t w → Covers (IsValue fore back) (known.result_of distances operator s t) (model.result_of operator v w)
-  applied_covers Plus s t v w h i = record { is = sum_in distances s t fore back v w b h.is i.is; fits = SFits-int_wrap w32 _ }
-  applied_covers Minus s t v w h i = record { is = difference_in distances s t fore back v w b h.is i.is; fits = SFits-int_wrap w32 _ }
-  applied_covers Times s t v w h i = record { is = product_in distances s t fore back v w b h.is i.is; fits = SFits-int_wrap w32 _ }
+  applied_covers Plus s t v w h i = record { is = sum_in distances s t fore back v w b h.is i.is; fits = SFits-int_wrap w32 _; saved = unsaved _ (plus s t) _ _ refl }
+  applied_covers Minus s t v w h i = record { is = difference_in distances s t fore back v w b h.is i.is; fits = SFits-int_wrap w32 _; saved = unsaved _ (minus s t) _ _ refl }
+  applied_covers Times s t v w h i = record { is = product_in distances s t fore back v w b h.is i.is; fits = SFits-int_wrap w32 _; saved = tt }
   applied_covers Over s t v w h i = divided_covers distances fore back b s t v w h i
   applied_covers And s t v w h i = bitwise_in distances fore back b s t v w h i and and_fits
   applied_covers Or s t v w h i = bitwise_in distances fore back b s t v w h i or or_fits
@@ -150,22 +157,24 @@ module _ (distances : Distances) (fore back : ℕ) (b : AreDistances distances f
   pub needed_covers : (k : KnownLevel) (level : Level) → IsLevel fore back k level → Covers (IsValue fore back) (known.arguments_of k >>= λ taken. known.needed_value taken.value) (model.arguments_of level >>>= λ taken. needed_value taken.value)
   needed_covers k level i = covers_then (IsTaken fore back) (IsValue fore back) _ _ _ _ (taken_covers k level i) (λ known taken j. the_value known.value taken.value j.value)
 
--- Intervals are true wherever the pointer is.
-module _ (distances : Distances) (fore back fore' back' : ℕ) (b : AreDistances distances fore back) where
-  settled_value_is : (value : Option Value) (n : Option ℤ) → IsOptional (IsValue fore back) value n → IsOptional (IsValue fore' back') (known.settled_value distances value) n
+-- Intervals are true wherever the pointer is, and what is saved is still a place.
+module _ (distances : Distances) (ends : Bool) (fore back fore' back' : ℕ) (b : AreDistances distances fore back) (wider : Widens ends fore back fore' back') where
+  settled_value_is : (value : Option Value) (n : Option ℤ) → IsOptional (IsValue fore back) value n → IsOptional (IsValue fore' back') (known.settled_value distances ends value) n
   settled_value_is None None h = tt
-  settled_value_is (Some s) (Some v) h = record { is = value_in_in (interval_of distances s) fore' back' v (interval_of_in s distances fore back v b.least (omega arith) (omega arith) h.is); fits = h.fits }
+  settled_value_is (Some s) (Some v) h =
+      let i = value_in_in (interval_of distances s) fore' back' v (interval_of_in s distances fore back v b.least (omega arith) (omega arith) h.is) in
+      record { is = record { low = i.low; high = i.high }; fits = h.fits; saved = place_after ends s.saved fore back fore' back' v wider h.saved }
   settled_value_is None (Some v) h = absurd h
   settled_value_is (Some s) None h = absurd h
 
-  settled_level_is : (k : KnownLevel) (level : Level) → IsLevel fore back k level → IsLevel fore' back' (known.settled_level distances k) level
+  settled_level_is : (k : KnownLevel) (level : Level) → IsLevel fore back k level → IsLevel fore' back' (known.settled_level distances ends k) level
   settled_level_is k level i = record { first = settled_value_is k.first level.first i.first; value = settled_value_is k.value level.value i.value; operator = i.operator }
 
-  settled_levels_are : (ks : List KnownLevel) (levels : List Level) → AreEach (IsLevel fore back) ks levels → AreEach (IsLevel fore' back') (map (known.settled_level distances) ks) levels
+  settled_levels_are : (ks : List KnownLevel) (levels : List Level) → AreEach (IsLevel fore back) ks levels → AreEach (IsLevel fore' back') (map (known.settled_level distances ends) ks) levels
   settled_levels_are [] [] h = tt
   settled_levels_are (k ∷ ks) (level ∷ levels) h = (settled_level_is k level h.0, settled_levels_are ks levels h.1)
   settled_levels_are [] (level ∷ levels) h = absurd h
   settled_levels_are (k ∷ ks) [] h = absurd h
 
-  pub settled_are : (pending : KnownArguments) (arguments : model.Arguments) → ArePending fore back pending arguments → ArePending fore' back' (known.settled distances pending) arguments
+  pub settled_are : (pending : KnownArguments) (arguments : model.Arguments) → ArePending fore back pending arguments → ArePending fore' back' (known.settled distances ends pending) arguments
   settled_are pending arguments h = record { level = settled_level_is pending.level arguments.level h.level; outer = settled_levels_are pending.outer arguments.outer h.outer }

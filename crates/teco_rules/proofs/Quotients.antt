@@ -74,7 +74,7 @@ quotient_within r s x y apart h i =
       not_zero (inr a) l u = omega (arith, ints)
 
 pub any_number_is : (fore back : ℕ) (v : ℤ) → FitsSigned w32 v → IsValue fore back (value_in any_number) v
-any_number_is fore back v f = record { is = record { low = omega (arith, ints, f); high = omega (arith, ints, f) }; fits = f }
+any_number_is fore back v f = record { is = record { low = omega (arith, ints, f); high = omega (arith, ints, f) }; fits = f; saved = tt }
 
 pub and_fits : (x y : ℤ) → FitsSigned w32 (and x y)
 and_fits x y = omega (arith, ints)
@@ -91,7 +91,7 @@ module _ (distances : Distances) (fore back : ℕ) (b : AreDistances distances f
   of_divisor = interval_of_in t distances fore back w b.least (omega (arith, b.within)) (omega (arith, b.within)) i.is
 
   quotient_in : (pos 1 ≤ℤ (interval_of distances t).lo) ⊎ ((interval_of distances t).hi ≤ℤ negsuc 0) → IsValue fore back (quotient distances s t) (in_32_bits (int_div v w))
-  quotient_in apart = record { is = value_in_in _ fore back _ (kept_in_32_bits_in _ (int_div v w) (quotient_within (interval_of distances s) (interval_of distances t) v w apart of_dividend of_divisor)); fits = SFits-int_wrap w32 _ }
+  quotient_in apart = record { is = value_in_in _ fore back _ (kept_in_32_bits_in _ (int_div v w) (quotient_within (interval_of distances s) (interval_of distances t) v w apart of_dividend of_divisor)); fits = SFits-int_wrap w32 _; saved = tt }
 
   is_divided : (w : ℤ) → (w ≡ pos 0 → ⊥) → IsValue fore back (quotient distances s t) (in_32_bits (int_div v w)) → Covers (IsValue fore back) (Ok (quotient distances s t)) (ok_or (div v w) code.Div)
   is_divided (pos zero) n q = absurd (n refl)
@@ -116,7 +116,7 @@ module _ (distances : Distances) (fore back : ℕ) (b : AreDistances distances f
       let e = of_divisor in
       let l : (interval_of distances s).lo ≡ v = omega (arith, ints) in
       let r : (interval_of distances t).lo ≡ w = omega (arith, ints) in
-      rw (l, r) (record { is = record { low = omega (arith, ints); high = omega (arith, ints) }; fits = f v w })
+      rw (l, r) (record { is = record { low = omega (arith, ints); high = omega (arith, ints) }; fits = f v w; saved = tt })
   bitwise_if op f true false p q = any_number_is fore back (op v w) (f v w)
   bitwise_if op f false y p q = any_number_is fore back (op v w) (f v w)
 

@@ -21,23 +21,24 @@ use Rattle.teco_model.specs.declared.kind.Typing.{Typing}
 use Rattle.teco_model.specs.declared.kind.Typing.TheVariants as typing_kind
 use Rattle.teco_model.specs.declared.pattern.Span.{Span as Part}
 use Rattle.teco_poly.specs.Polynomial.{Polynomial, value}
+use Rattle.teco_rules.proofs.Saved.{IsSaved, saved_at}
 use Rattle.teco_rules.proofs.Each.{IsNumber, IsText, each_at, each_set, each_kept, each_length, all_set}
 use Rattle.teco_rules.proofs.Editing.{inserted_foretold, parts_lead}
-use Rattle.teco_rules.proofs.Moving.{count_within}
+use Rattle.teco_rules.proofs.Moving.{place_known, count_within}
 use Rattle.teco_rules.proofs.Numbers.{interval_of_in, value_in_in, kept_in_32_bits_in}
 use Rattle.teco_rules.proofs.Near.{distances}
 use Rattle.teco_rules.proofs.Shapes.{IsDone, Foretells, value-sum_of, value-number, done_with}
 use Rattle.teco_rules.specs.Arguments.{KnownTaken}
 use Rattle.teco_rules.specs.Arguments as known
 use Rattle.teco_rules.specs.Attempt.{◌>>=◌}
-use Rattle.teco_rules.specs.Describes.{Run, IsWhole, Holds, AreRegisters, IsPushed, ArePushed, IsTaken, IsOptional, fore_of, back_of}
+use Rattle.teco_rules.specs.Describes.{Run, IsWhole, Holds, IsAt, AreRegisters, IsPushed, ArePushed, IsTaken, IsOptional, fore_of, back_of}
 use Rattle.teco_rules.specs.Facts.{Facts, Pushed, number_of, text_of}
 use Rattle.teco_rules.specs.Motions.{count_of}
-use Rattle.teco_rules.specs.Shifts.{Foreseen, silent}
+use Rattle.teco_rules.specs.Shifts.{Foreseen, is_place, silent}
 use Rattle.teco_rules.specs.SoundElements.{Succeeds, Fits, IsNamedByStorage}
 use Rattle.teco_rules.specs.Storages as row
 use Rattle.teco_rules.specs.Typings as typings
-use Rattle.teco_rules.specs.Values.{IsWithin, any_number, interval_of, interval_sum, kept_in_32_bits, IsValue, value_in}
+use Rattle.teco_rules.specs.Values.{IsWithin, IsPlaceIf, any_number, interval_of, interval_sum, kept_in_32_bits, IsValue, value_in}
 use Rattle.teco_rules.specs.declared.refusal.Refusal.{Refusal}
 use Rattle.teco_rules.specs.declared.values.Interval.{Interval}
 use Rattle.teco_rules.specs.declared.values.Value.{Value}
@@ -72,8 +73,12 @@ module _ (run : Run) (facts : Facts) (unread : ℕ) (kept : Kept) (whole : IsWho
   pub untouched : (mode : ℤ) (typed : List ℕ) → IsDone run facts unread kept (silent facts) (no_answer (record kept { mode = mode; typed = typed }))
   untouched mode typed = done_with run facts unread kept whole h facts _ None (record { position = h.position; held = h.held; registers = h.registers; pushed = h.pushed }) refl refl refl refl tt
 
-  with_number : (r : ℕ) (i : Interval) (v : ℤ) → IsWithin i v → Holds run (row.with_number r i facts) unread (model.kept_with_number r v kept)
-  with_number r i v p = record { position = h.position; held = h.held; registers = number_set run facts.numbers facts.texts kept.registers.pairs h.registers r i v p; pushed = h.pushed }
+  -- the position where a number is set, saved or not
+  renumbered : (r : ℕ) (saved : Bool) (pair : Pair) → IsPlaceIf saved (fore_of kept) (back_of kept) pair.number → IsAt run (record facts.position { saved = set facts.position.saved r saved }) (fore_of kept) (back_of kept) unread (set kept.registers.pairs r pair)
+  renumbered r saved pair p = let i = h.position in record { begin = i.begin; end = i.end; fallen = i.fallen; ahead = i.ahead; saved = each_set (IsSaved (fore_of kept) (back_of kept)) facts.position.saved kept.registers.pairs r saved pair i.saved p }
+
+  with_number : (r : ℕ) (i : Interval) (saved : Bool) (v : ℤ) → IsWithin i v → IsPlaceIf saved (fore_of kept) (back_of kept) v → Holds run (row.with_number r i saved facts) unread (model.kept_with_number r v kept)
+  with_number r i saved v p q = record { position = renumbered r saved _ q; held = h.held; registers = number_set run facts.numbers facts.texts kept.registers.pairs h.registers r i v p; pushed = h.pushed }
 
   of_value : (s : Value) (v : ℤ) → IsValue (fore_of kept) (back_of kept) s v → IsWithin (interval_of facts.position.distances s) v
   of_value s v i =
@@ -81,9 +86,9 @@ module _ (run : Run) (facts : Facts) (unread : ℕ) (kept : Kept) (whole : IsWho
       interval_of_in s facts.position.distances (fore_of kept) (back_of kept) v d.least (omega (arith, d.within)) (omega (arith, d.within)) i.is
 
   -- U and %
-  set_foretold : (r : ℕ) (o : Option Value) (v : Option ℤ) → IsOptional (IsValue (fore_of kept) (back_of kept)) o v → Foretells run facts unread kept (known.needed_value o >>= λ n. Ok (silent (row.with_number r (interval_of facts.position.distances n) facts))) (needed_value v >>>= λ n. Ok (no_answer (model.kept_with_number r n kept)))
+  set_foretold : (r : ℕ) (o : Option Value) (v : Option ℤ) → IsOptional (IsValue (fore_of kept) (back_of kept)) o v → Foretells run facts unread kept (known.needed_value o >>= λ n. Ok (silent (row.with_number r (interval_of facts.position.distances n) (is_place n facts.position.distances) facts))) (needed_value v >>>= λ n. Ok (no_answer (model.kept_with_number r n kept)))
   set_foretold r None None i = tt
-  set_foretold r (Some s) (Some v) i = λ l. done_with run facts unread kept whole h _ _ None (with_number r _ v (of_value s v i)) refl refl refl refl tt
+  set_foretold r (Some s) (Some v) i = λ l. done_with run facts unread kept whole h _ _ None (with_number r _ _ v (of_value s v i) (place_known run facts unread kept whole h s v i)) refl refl refl refl tt
   set_foretold r (Some s) None i = absurd i
   set_foretold r None (Some v) i = absurd i
 
@@ -92,11 +97,15 @@ module _ (run : Run) (facts : Facts) (unread : ℕ) (kept : Kept) (whole : IsWho
       let now = number_at run facts.numbers facts.texts kept.registers.pairs h.registers r in
       let more = count_within run facts unread kept whole h o v i in
       let new = kept_in_32_bits_in (interval_sum (number_of r facts) (count_of o facts.position.distances)) (model.number_in r kept +ℤ unwrap_or v (pos 1)) (record { low = omega (arith, ints, now, more); high = omega (arith, ints, now, more) }) in
-      done_with run facts unread kept whole h _ _ (Some (value_in (kept_in_32_bits (interval_sum (number_of r facts) (count_of o facts.position.distances))))) (with_number r _ _ new) refl refl refl refl (record { is = value_in_in _ (fore_of kept) (back_of kept) _ new; fits = SFits-int_wrap w32 _ })
+      done_with run facts unread kept whole h _ _ (Some (value_in (kept_in_32_bits (interval_sum (number_of r facts) (count_of o facts.position.distances))))) (with_number r _ false _ new tt) refl refl refl refl (record { is = value_in_in _ (fore_of kept) (back_of kept) _ new; fits = SFits-int_wrap w32 _; saved = tt })
+
+  -- the position where a text is set
+  retexted : (r : ℕ) (text : List ℕ) → IsAt run facts.position (fore_of kept) (back_of kept) unread (with_text r text kept.registers).pairs
+  retexted r text = let i = h.position in record { begin = i.begin; end = i.end; fallen = i.fallen; ahead = i.ahead; saved = each_kept (IsSaved (fore_of kept) (back_of kept)) facts.position.saved kept.registers.pairs false r _ i.saved (saved_at (fore_of kept) (back_of kept) facts.position.saved kept.registers.pairs i.saved r) }
 
   -- the shape of all that stores a text
   stored_at : (r : ℕ) (most : Polynomial) (text : List ℕ) (b : Bool) → nat_le (length text) LIMIT ≡ b → r < REGISTERS → length text ≤ value most run.n → Fits run.n (row.with_text r most facts) → Succeeds (IsDone run facts unread kept (silent (row.with_text r most facts))) (cond b (Ok (no_answer (record kept { registers = with_text r text kept.registers }))) (Err code.Ful))
-  stored_at r most text true e w l f = done_with run facts unread kept whole h _ _ None (record { position = h.position; held = h.held; registers = text_set run facts.numbers facts.texts kept.registers.pairs h.registers r most text l; pushed = h.pushed }) refl refl refl refl tt
+  stored_at r most text true e w l f = done_with run facts unread kept whole h _ _ None (record { position = retexted r text; held = h.held; registers = text_set run facts.numbers facts.texts kept.registers.pairs h.registers r most text l; pushed = h.pushed }) refl refl refl refl tt
   stored_at r most text false e w l f =
       let count = each_length (IsText run.n) facts.texts kept.registers.pairs h.registers.texts in
       let fits = all_set (λ most. value most run.n ≤ LIMIT) facts.texts r most (omega (arith, whole.count)) f.texts in
@@ -151,5 +160,5 @@ module _ (run : Run) (facts : Facts) (unread : ℕ) (kept : Kept) (whole : IsWho
   pub pushed_holds : (r : ℕ) → Holds run (row.push r facts) unread (model.push r kept)
   pushed_holds r = record { position = h.position; held = h.held; registers = h.registers; pushed = (record { number = number_at run facts.numbers facts.texts kept.registers.pairs h.registers r; text = text_at run facts.numbers facts.texts kept.registers.pairs h.registers r }, h.pushed) }
 
-  pub popped_holds : (r : ℕ) (s : Pushed) (pushes : List Pushed) (pair : Pair) (rest : List Pair) → IsPushed run.n s pair → ArePushed run.n run.below pushes rest → Holds run (record (row.with_text r s.text (row.with_number r s.number facts)) { pushes = pushes }) unread (record kept { registers = record (with_pair r pair kept.registers) { stack = rest } })
-  popped_holds r s pushes pair rest i p = record { position = h.position; held = h.held; registers = pair_set run facts.numbers facts.texts kept.registers.pairs h.registers r s.number s.text pair i.number i.text; pushed = p }
+  pub popped_holds : (r : ℕ) (s : Pushed) (pushes : List Pushed) (pair : Pair) (rest : List Pair) → IsPushed run.n s pair → ArePushed run.n run.below pushes rest → Holds run (record (row.with_text r s.text (row.with_number r s.number false facts)) { pushes = pushes }) unread (record kept { registers = record (with_pair r pair kept.registers) { stack = rest } })
+  popped_holds r s pushes pair rest i p = record { position = renumbered r false pair tt; held = h.held; registers = pair_set run facts.numbers facts.texts kept.registers.pairs h.registers r s.number s.text pair i.number i.text; pushed = p }

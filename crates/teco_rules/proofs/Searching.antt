@@ -1,10 +1,10 @@
 -- S and FS: what is known of both outcomes is true.
-use Rattle.std.proofs.Common.{◌≡◌, ℕ, zero, suc, ◌+◌, ◌-◌, ◌≤◌, arith, refl, sym, subst, ap, ℤ, pos, negsuc, ◌≤ℤ◌, int_le, int_lt, List, [], ◌∷◌, map, length, Bool, true, false, cond, nat_le, ◌&&◌, Option, Some, None, Result, Ok, Err, IfOk, IfSome, inl, inr}
+use Rattle.std.proofs.Common.{◌≡◌, ℕ, zero, suc, ◌+◌, ◌-◌, ◌≤◌, arith, refl, sym, subst, ap, ◌∙◌, ℤ, pos, negsuc, ◌≤ℤ◌, int_le, int_lt, List, [], ◌∷◌, map, length, Bool, true, false, cond, nat_le, ◌&&◌, Option, Some, None, Result, Ok, Err, IfOk, IfSome, inl, inr}
 use Rattle.std.specs.Prelude.{unwrap_or, not}
 use Rattle.std.proofs.lemmas.Int.{ints}
 use Rattle.std.proofs.lemmas.List.{length-map}
 use Rattle.std.proofs.lemmas.Bool.Decides.{nat_tests}
-use Rattle.teco_base.specs.declared.TheConstants.{LIMIT}
+use Rattle.teco_base.specs.declared.TheConstants.{LIMIT, REGISTERS}
 use Rattle.teco_base.specs.declared.code.Code.{Code}
 use Rattle.teco_base.specs.declared.code.Code.TheVariants as code
 use Rattle.teco_base.specs.Text.{text_after_replacement}
@@ -32,6 +32,7 @@ use Rattle.teco_rules.proofs.Moving.{or_single}
 use Rattle.teco_rules.proofs.Numbers.{AreDistances, interval_of_in}
 use Rattle.teco_rules.proofs.Pending.{settled_are, taken_covers}
 use Rattle.teco_rules.proofs.Near.{distances}
+use Rattle.teco_rules.proofs.Saved.{Widens, saved_count, length_after}
 use Rattle.teco_rules.proofs.Shapes.{Shifts, shifted_at, shifted_holds, value-sum_of, value-number}
 use Rattle.teco_rules.proofs.Steps.{Covers}
 use Rattle.teco_rules.proofs.Transfers.{without_answer, pending_again}
@@ -43,7 +44,7 @@ use Rattle.teco_rules.specs.Facts.{Position, Facts}
 use Rattle.teco_rules.specs.Flows.{Edges, leaving, facts_taken}
 use Rattle.teco_rules.specs.Motions.{count_of, success}
 use Rattle.teco_rules.specs.Searches as row
-use Rattle.teco_rules.specs.Shifts.{Shift, shifted, facts_behind, position_after, fall_after}
+use Rattle.teco_rules.specs.Shifts.{Shift, shifted, facts_behind, position_after, saved_after, fall_after}
 use Rattle.teco_rules.specs.SoundElements.{Succeeds, Leads, Arrives, FitsOn, ArrivesOn}
 use Rattle.teco_rules.specs.SoundSearches.{IsInBuffer, MissArrives, SearchArrives, SearchesAreSound, finding}
 use Rattle.teco_rules.specs.Transfer as transfers
@@ -84,34 +85,34 @@ module _ (run : Run) (facts : Facts) (unread : ℕ) (kept : Kept) (whole : IsWho
 
   -- what is found
   found_at : (s : Search) → IsInBuffer s → (e : Element) (least : ℕ) (span : Span) (last : List ℕ) → LiesAhead kept.text kept.pointer least span → value facts.held run.n + value (row.shift_found s least (length e.second) facts.position.distances).growth run.n ≤ LIMIT → Succeeds (λ new. Shifts run.n (row.shift_found s least (length e.second) facts.position.distances) kept new) (searching.kept_after s e span (record kept { search_text = last }))
-  found_at Find b e least span last l f = record { registers = refl; behind = omega (arith, h.position.begin, l.ahead, l.long); ahead = omega (arith, l.within); grown = omega arith; fallen = omega (arith, ints, l.ahead, l.long, l.within, whole.inside) }
+  found_at Find b e least span last l f = record { registers = refl; behind = omega (arith, h.position.begin, l.ahead, l.long); ahead = omega (arith, l.within); grown = omega arith; fallen = omega (arith, ints, l.ahead, l.long, l.within, whole.inside); wider = λ e. omega (arith, l.within, whole.inside) }
   found_at Replace b e least span last l f = put_at _ refl
     where
       within : length (text_after_replacement kept.text span.start span.end e.second) ≤ LIMIT
       within = replaced_within run facts unread kept whole h span.start span.end (length e.second) e.second (omega (arith, l.long)) l.within (omega arith) (omega (arith, f, value-number (length e.second) run.n))
 
       shifts : Shifts run.n (row.shift_found Replace least (length e.second) facts.position.distances) kept (record kept { text = text_after_replacement kept.text span.start span.end e.second; pointer = span.start + length e.second; last_length = length e.second })
-      shifts = replaced_at run facts unread kept whole h (row.shift_found Replace least (length e.second) facts.position.distances) span.start span.end e.second (omega (arith, l.long)) l.within (omega (arith, h.position.begin, l.ahead)) (omega (arith, l.within)) (omega (arith, value-number (length e.second) run.n)) (omega (arith, ints, l.ahead, l.long, l.within, whole.inside))
+      shifts = replaced_at run facts unread kept whole h (row.shift_found Replace least (length e.second) facts.position.distances) span.start span.end e.second (omega (arith, l.long)) l.within (omega (arith, h.position.begin, l.ahead)) (omega (arith, l.within)) (omega (arith, value-number (length e.second) run.n)) (omega (arith, ints, l.ahead, l.long, l.within, whole.inside)) (λ e. absurd (cc))
 
       put_at : (b : Bool) → nat_le (length (text_after_replacement kept.text span.start span.end e.second)) LIMIT ≡ b → Succeeds (λ new. Shifts run.n (row.shift_found Replace least (length e.second) facts.position.distances) kept new) (cond b (Ok (record kept { text = text_after_replacement kept.text span.start span.end e.second; pointer = span.start + length e.second; last_length = length e.second; search_text = last })) (Err code.Ful))
-      put_at true p = record { registers = refl; behind = shifts.behind; ahead = shifts.ahead; grown = shifts.grown; fallen = shifts.fallen }
+      put_at true p = record { registers = refl; behind = shifts.behind; ahead = shifts.ahead; grown = shifts.grown; fallen = shifts.fallen; wider = shifts.wider }
       put_at false p = absurd (grind (arith, nat_tests, within))
   found_at FindInPages b e least span last l f = absurd b
   found_at ReplaceInPages b e least span last l f = absurd b
 
   -- and what is missed
   to_begin : Shifts run.n (row.shift_to_begin facts.position.distances) kept (record kept { pointer = 0 })
-  to_begin = record { registers = refl; behind = omega arith; ahead = omega (arith, h.position.begin, h.position.end, whole.inside); grown = omega arith; fallen = tt }
+  to_begin = record { registers = refl; behind = omega arith; ahead = omega (arith, h.position.begin, h.position.end, whole.inside); grown = omega arith; fallen = tt; wider = λ e. omega (arith, whole.inside) }
 
-  failed_at_begin : IsAt run (position_after (row.shift_to_begin facts.position.distances) facts.held facts.position) (length kept.text - 0) 0 unread
+  failed_at_begin : IsAt run (position_after (row.shift_to_begin facts.position.distances) facts.held facts.position) (length kept.text - 0) 0 unread kept.registers.pairs
   failed_at_begin = shifted_at run facts unread kept whole h (row.shift_to_begin facts.position.distances) (record kept { pointer = 0 }) facts.held to_begin h.held
 
-  failed_in : (colons : ℕ) (last : List ℕ) → let new = kept_by_miss colons (record kept { search_text = last }) in IsAt run (row.position_failed_in colons facts) (fore_of new) (back_of new) unread
+  failed_in : (colons : ℕ) (last : List ℕ) → let new = kept_by_miss colons (record kept { search_text = last }) in IsAt run (row.position_failed_in colons facts) (fore_of new) (back_of new) unread new.registers.pairs
   failed_in zero last = failed_at_begin
   failed_in (suc zero) last = failed_at_begin
   failed_in (suc (suc colons)) last = h.position
 
-  failed_at : (s : Search) → IsInBuffer s → (colons : ℕ) (last : List ℕ) → let new = kept_by_miss colons (record kept { search_text = last }) in IsAt run (row.position_failed s colons facts) (fore_of new) (back_of new) unread
+  failed_at : (s : Search) → IsInBuffer s → (colons : ℕ) (last : List ℕ) → let new = kept_by_miss colons (record kept { search_text = last }) in IsAt run (row.position_failed s colons facts) (fore_of new) (back_of new) unread new.registers.pairs
   failed_at Find b colons last = failed_in colons last
   failed_at Replace b colons last = failed_in colons last
   failed_at FindInPages b colons last = absurd b
@@ -126,6 +127,28 @@ module _ (run : Run) (facts : Facts) (unread : ℕ) (kept : Kept) (whole : IsWho
   falls_alike Replace b (suc (suc colons)) v = omega (arith, length-map facts.position.falls (fall_after v))
   falls_alike FindInPages b colons v = absurd b
   falls_alike ReplaceInPages b colons v = absurd b
+
+  -- a miss leaves the buffer as it is
+  missed_wider : (colons : ℕ) (last : List ℕ) → let new = kept_by_miss colons (record kept { search_text = last }) in fore_of kept + back_of kept ≤ fore_of new + back_of new
+  missed_wider zero last = omega (arith, whole.inside)
+  missed_wider (suc zero) last = omega (arith, whole.inside)
+  missed_wider (suc (suc colons)) last = omega arith
+
+  -- and what was saved
+  missed_saved : (s : Search) → IsInBuffer s → (colons : ℕ) → (row.position_failed s colons facts).saved ≡ facts.position.saved
+  missed_saved Find b zero = refl
+  missed_saved Find b (suc zero) = refl
+  missed_saved Find b (suc (suc colons)) = refl
+  missed_saved Replace b zero = refl
+  missed_saved Replace b (suc zero) = refl
+  missed_saved Replace b (suc (suc colons)) = refl
+  missed_saved FindInPages b colons = absurd b
+  missed_saved ReplaceInPages b colons = absurd b
+
+  saved_alike : (s : Search) → IsInBuffer s → (colons : ℕ) (ends : Bool) → length (saved_after ends facts.position.saved) ≡ length (row.position_failed s colons facts).saved
+  saved_alike s b colons ends =
+      let l : length facts.position.saved ≡ REGISTERS = saved_count (fore_of kept) (back_of kept) facts.position.saved kept.registers.pairs h.position.saved ∙ whole.count in
+      length_after ends facts.position.saved l ∙ (sym l ∙ sym (ap length (missed_saved s b colons)))
 
 -- ---- steps
 pub succeeds_then : {X Y : Type 0} (P : X → Type 0) (Q : Y → Type 0) (r : Result X Code) (f : X → Y) → ((x : X) → P x → Q (f x)) → Succeeds P r → Succeeds Q (r >>>= λ x. Ok (f x))
@@ -161,14 +184,14 @@ module _ (run : Run) (facts : Facts) (unread : ℕ) (kept : Kept) (arguments : m
   taking_are = taken_are run facts unread kept arguments whole d
 
   -- what is pending at another place
-  settled_at : (fore back : ℕ) → ArePending fore back (known.settled facts.position.distances taking.arguments) (model.levels_after_taking arguments)
-  settled_at fore back = settled_are facts.position.distances (fore_of kept) (back_of kept) fore back now taking.arguments (model.levels_after_taking arguments) taking_are
+  settled_at : (ends : Bool) (fore back : ℕ) → Widens ends (fore_of kept) (back_of kept) fore back → ArePending fore back (known.settled facts.position.distances ends taking.arguments) (model.levels_after_taking arguments)
+  settled_at ends fore back w = settled_are facts.position.distances ends (fore_of kept) (back_of kept) fore back now w taking.arguments (model.levels_after_taking arguments) taking_are
 
   abbrev failed : Position
   failed = row.position_failed s x.element.colons taking
 
   success_is : (fore back : ℕ) (v : ℤ) → negsuc 0 ≤ℤ v → v ≤ℤ pos 0 → IsValue fore back (value_in success) v
-  success_is fore back v l u = record { is = record { low = omega (arith, ints); high = omega (arith, ints) }; fits = omega (arith, ints) }
+  success_is fore back v l u = record { is = record { low = omega (arith, ints); high = omega (arith, ints) }; fits = omega (arith, ints); saved = tt }
 
   module _ (least : ℕ) (held : Polynomial) (more : value held run.n ≡ value facts.held run.n + value (row.shift_found s least (length x.element.second) facts.position.distances).growth run.n) where
     abbrev shift : Shift
@@ -184,13 +207,13 @@ module _ (run : Run) (facts : Facts) (unread : ℕ) (kept : Kept) (arguments : m
     answered position = record found { arguments = known.levels_after_answer (Some (value_in success)) found.arguments; answer = Some (record { found = found.position; failed = failed }); position = position }
 
     found_arrives : (new : Kept) → Shifts run.n shift kept new → Arrives run facts.held unread kept found (after new (model.levels_after_taking arguments))
-    found_arrives new sh = record { described = record { state = found_holds new sh; pending = settled_at (fore_of new) (back_of new); answers = tt }; grown = omega (arith, more, sh.grown) }
+    found_arrives new sh = record { described = record { state = found_holds new sh; pending = settled_at shift.ends (fore_of new) (back_of new) sh.wider; answers = tt }; grown = omega (arith, more, sh.grown) }
 
     found_answers : (position : Position) → IsJoin run found.position failed position → (new : Kept) → Shifts run.n shift kept new → Arrives run facts.held unread kept (answered position) (after new (model.levels_after_answer (Some (negsuc 0)) (model.levels_after_taking arguments)))
     found_answers position j new sh = let h = found_holds new sh in record {
       described = record {
-        state = record { position = j.left (fore_of new) (back_of new) unread h.position; held = h.held; registers = h.registers; pushed = h.pushed };
-        pending = record { level = record { first = tt; value = success_is (fore_of new) (back_of new) (negsuc 0) (omega (arith, ints)) (omega (arith, ints)); operator = refl }; outer = (settled_at (fore_of new) (back_of new)).outer };
+        state = record { position = j.left (fore_of new) (back_of new) unread new.registers.pairs h.position; held = h.held; registers = h.registers; pushed = h.pushed };
+        pending = record { level = record { first = tt; value = success_is (fore_of new) (back_of new) (negsuc 0) (omega (arith, ints)) (omega (arith, ints)); operator = refl }; outer = (settled_at shift.ends (fore_of new) (back_of new) sh.wider).outer };
         answers = (negsuc 0, refl, record { either = inl refl; found = λ e. h.position; failed = λ e. absurd (cc) });
       };
       grown = omega (arith, more, sh.grown);
@@ -214,8 +237,8 @@ module _ (run : Run) (facts : Facts) (unread : ℕ) (kept : Kept) (arguments : m
         let i = failed_at run taking unread kept whole taking_holds s inside_buffer x.element.colons last in
         let text : length new.text ≡ length kept.text = ap length (missed_text x.element.colons last) in record {
           described = record {
-            state = record { position = j.right (fore_of new) (back_of new) unread i; held = omega (arith, text, more, h.held); registers = rw (missed_registers x.element.colons last) (record { numbers = h.registers.numbers; texts = h.registers.texts }); pushed = rw (missed_registers x.element.colons last) h.pushed };
-            pending = record { level = record { first = tt; value = success_is (fore_of new) (back_of new) (pos 0) (omega (arith, ints)) (omega (arith, ints)); operator = refl }; outer = (settled_at (fore_of new) (back_of new)).outer };
+            state = record { position = j.right (fore_of new) (back_of new) unread new.registers.pairs i; held = omega (arith, text, more, h.held); registers = rw (missed_registers x.element.colons last) (record { numbers = h.registers.numbers; texts = h.registers.texts }); pushed = rw (missed_registers x.element.colons last) h.pushed };
+            pending = record { level = record { first = tt; value = success_is (fore_of new) (back_of new) (pos 0) (omega (arith, ints)) (omega (arith, ints)); operator = refl }; outer = (settled_at shift.ends (fore_of new) (back_of new) (λ e. missed_wider run taking unread kept whole taking_holds x.element.colons last)).outer };
             answers = (pos 0, refl, record { either = inr refl; found = λ e. absurd (cc); failed = λ e. i });
           };
           grown = omega (arith, text, more);
@@ -224,10 +247,10 @@ module _ (run : Run) (facts : Facts) (unread : ℕ) (kept : Kept) (arguments : m
     missed_leaves : x.element.colons ≡ 0 → (last typed : List ℕ) → Arrives (run_behind 1 run) facts.held unread kept (leaving 1 (row.facts_failed s x.element.colons taking)) (after (record (at_start (record kept { search_text = last })) { typed = typed }) model.no_arguments)
     missed_leaves none last typed =
         let h = d.state in
-        let i : IsAt run failed (length kept.text - 0) 0 unread = subst (λ colons. IsAt run (row.position_failed s colons taking) (length kept.text - 0) 0 unread) (sym none) (failed_at run taking unread kept whole taking_holds s inside_buffer 0 last) in record {
+        let i : IsAt run failed (length kept.text - 0) 0 unread kept.registers.pairs = subst (λ colons. IsAt run (row.position_failed s colons taking) (length kept.text - 0) 0 unread kept.registers.pairs) (sym none) (failed_at run taking unread kept whole taking_holds s inside_buffer 0 last) in record {
           described = record {
             state = record {
-              position = record { begin = i.begin; end = i.end; fallen = each_dropped (HasFallen (length kept.text - 0 + unread)) 1 failed.falls run.turns i.fallen; ahead = i.ahead };
+              position = record { begin = i.begin; end = i.end; fallen = each_dropped (HasFallen (length kept.text - 0 + unread)) 1 failed.falls run.turns i.fallen; ahead = i.ahead; saved = i.saved };
               held = h.held;
               registers = record { numbers = h.registers.numbers; texts = h.registers.texts };
               pushed = h.pushed;
@@ -252,7 +275,7 @@ module _ (run : Run) (facts : Facts) (unread : ℕ) (kept : Kept) (arguments : m
     answered_by (Ok position) j (Some span) l last = λ fits. span_found span last l fits.buffer (ArrivesBy true (record { on = Some (answered position); away = None })) (found_answers position j)
 
     outcome_leads : (colon : Bool) → (colon ≡ false → x.element.colons ≡ 0) → (o : Option Span) → IfSome o (LiesAhead kept.text kept.pointer least) → (last : List ℕ) → Leads (FitsOn run.n) (ArrivesBy colon) (transfers.search_outcomes colon found (row.facts_failed s x.element.colons taking)) (searching.finding_of s x.element o (record kept { search_text = last }))
-    outcome_leads true c o l last = answered_by _ (position_joined run found.position failed (falls_alike run taking unread kept whole taking_holds s inside_buffer x.element.colons shift.fall)) o l last
+    outcome_leads true c o l last = answered_by _ (position_joined run found.position failed (falls_alike run taking unread kept whole taking_holds s inside_buffer x.element.colons shift.fall) (saved_alike run taking unread kept whole taking_holds s inside_buffer x.element.colons shift.ends)) o l last
     outcome_leads false c None l last = λ fits typed. missed_leaves (c refl) last typed
     outcome_leads false c (Some span) l last = λ fits. span_found span last l fits.buffer (ArrivesBy false (record { on = Some found; away = Some (leaving 1 (row.facts_failed s x.element.colons taking)) })) found_arrives
 

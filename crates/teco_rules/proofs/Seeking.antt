@@ -1,10 +1,10 @@
 -- N and FN: page after page goes by, and what is known is true where they find, and where no page is left.
-use Rattle.std.proofs.Common.{◌≡◌, ℕ, zero, suc, ◌+◌, ◌-◌, ◌≤◌, arith, refl, sym, subst, ℤ, pos, negsuc, ◌≤ℤ◌, List, [], ◌∷◌, length, ◌++◌, length-append, length-take, length-drop, map, Bool, true, false, cond, nat_le, ◌==◌, Option, Some, None, Result, Ok, Err, IfOk, inl, inr, ok_or}
+use Rattle.std.proofs.Common.{◌∙◌, ◌≡◌, ℕ, zero, suc, ◌+◌, ◌-◌, ◌≤◌, arith, refl, sym, subst, ℤ, pos, negsuc, ◌≤ℤ◌, List, [], ◌∷◌, length, ◌++◌, length-append, length-take, length-drop, map, Bool, true, false, cond, nat_le, ◌==◌, Option, Some, None, Result, Ok, Err, IfOk, inl, inr, ok_or}
 use Rattle.std.specs.Prelude.{unwrap_or, not, ⊤}
 use Rattle.std.proofs.lemmas.Int.{ints}
 use Rattle.std.proofs.lemmas.List.{length-map}
 use Rattle.std.proofs.lemmas.Bool.Decides.{nat_tests}
-use Rattle.teco_base.specs.declared.TheConstants.{LIMIT}
+use Rattle.teco_base.specs.declared.TheConstants.{LIMIT, REGISTERS}
 use Rattle.teco_base.specs.declared.bytes.TheConstants.{FF}
 use Rattle.teco_base.specs.declared.code.Code.{Code}
 use Rattle.teco_base.specs.declared.code.Code.TheVariants as code
@@ -28,6 +28,7 @@ use Rattle.teco_model.specs.declared.pattern.Sought.{Sought}
 use Rattle.teco_model.specs.declared.pattern.Sought.TheVariants.{Last, Wanted}
 use Rattle.teco_model.specs.declared.pattern.Span.{Span}
 use Rattle.teco_poly.specs.Polynomial.{Polynomial, value, number}
+use Rattle.teco_rules.proofs.Saved.{none_are, none_again, saved_count, length_after}
 use Rattle.teco_rules.proofs.Flowing.{each_dropped, taken_are, taking_is}
 use Rattle.teco_rules.proofs.Matching.{pattern_with, LiesAhead, LastLies, sought_lies}
 use Rattle.teco_rules.proofs.Meeting.{IsJoin, position_joined}
@@ -41,13 +42,13 @@ use Rattle.teco_rules.proofs.Transfers.{without_answer}
 use Rattle.teco_rules.specs.Arguments as known
 use Rattle.teco_rules.specs.Arguments.{KnownTaken}
 use Rattle.teco_rules.specs.Attempt.{◌>>=◌}
-use Rattle.teco_rules.specs.Describes.{Run, run_behind, IsWhole, Holds, IsAt, Describes, HasFallen, IsTaken, ArePending, fore_of, back_of}
-use Rattle.teco_rules.specs.Facts.{Position, Facts}
+use Rattle.teco_rules.specs.Describes.{AreSaved, Run, run_behind, IsWhole, Holds, IsAt, Describes, HasFallen, IsTaken, ArePending, fore_of, back_of}
+use Rattle.teco_rules.specs.Facts.{none_saved, Position, Facts}
 use Rattle.teco_rules.specs.Flows.{Edges, leaving, facts_taken}
 use Rattle.teco_rules.specs.Motions.{success}
 use Rattle.teco_rules.specs.Printed.{steps_of_search}
 use Rattle.teco_rules.specs.Searches as row
-use Rattle.teco_rules.specs.Shifts.{Shift, shifted, facts_behind, fall_after}
+use Rattle.teco_rules.specs.Shifts.{saved_after, Shift, shifted, facts_behind, fall_after}
 use Rattle.teco_rules.specs.SoundElements.{Succeeds, Leads, FitsOn}
 use Rattle.teco_rules.specs.SoundPages.{unread_of, ComesTo, Comes}
 use Rattle.teco_rules.specs.SoundSeeking.{IsInPages, facts_seeking, IsSeeking, MissComes, LooksOn, Seeks, PageSearchesAreSound, SearchStepsAreBounded}
@@ -101,6 +102,7 @@ module _ (n : ℕ) (kept : Kept) (e : Element) (least : ℕ) (distances : Distan
     ahead = omega (arith, r);
     grown = omega (arith, r, l.long, l.within, value-number (length e.second) n);
     fallen = omega (arith, ints, r, l.ahead, l.long, l.within);
+    wider = λ e. absurd (cc);
   }
 
   replaced_if : (b : Bool) → nat_le (length (text_after_replacement kept.text span.start span.end e.second)) LIMIT ≡ b → length kept.text + length e.second ≤ LIMIT → Succeeds (Shifts n (row.shift_found ReplaceInPages least (length e.second) distances) kept) (cond b (Ok (record kept { text = text_after_replacement kept.text span.start span.end e.second; pointer = span.start + length e.second; last_length = length e.second })) (Err code.Ful))
@@ -108,7 +110,7 @@ module _ (n : ℕ) (kept : Kept) (e : Element) (least : ℕ) (distances : Distan
   replaced_if false p short = let r = replaced_length in let s : length (text_after_replacement kept.text span.start span.end e.second) ≤ LIMIT = omega (arith, l.long, l.within) in absurd (grind (arith, nat_tests, s))
 
   found_in : (s : Search) → IsInPages s → length kept.text + value (row.shift_found s least (length e.second) distances).growth n ≤ LIMIT → Succeeds (Shifts n (row.shift_found s least (length e.second) distances) kept) (searching.kept_after s e span kept)
-  found_in FindInPages b short = record { registers = refl; behind = omega (arith, l.long); ahead = omega (arith, l.within); grown = omega arith; fallen = omega (arith, ints, l.ahead, l.long, l.within) }
+  found_in FindInPages b short = record { registers = refl; behind = omega (arith, l.long); ahead = omega (arith, l.within); grown = omega arith; fallen = omega (arith, ints, l.ahead, l.long, l.within); wider = λ e. absurd (cc) }
   found_in ReplaceInPages b short = replaced_if _ refl (omega (arith, short, value-number (length e.second) n))
   found_in Find b short = absurd b
   found_in Replace b short = absurd b
@@ -136,14 +138,14 @@ module _ (run : Run) (facts : Facts) (world : World) (pending : model.Arguments)
 
   -- what is pending at any place
   anywhere : (fore back : ℕ) → ArePending fore back seeking.arguments (model.levels_after_taking pending)
-  anywhere fore back = settled_are facts.position.distances (fore_of world.kept) (back_of world.kept) fore back (distances run facts (unread_of world) world.kept whole d.state) (facts_taken facts).arguments (model.levels_after_taking pending) (taken_are run facts (unread_of world) world.kept pending whole d)
+  anywhere fore back = settled_are facts.position.distances true (fore_of world.kept) (back_of world.kept) fore back (distances run facts (unread_of world) world.kept whole d.state) (λ e. absurd (cc)) (facts_taken facts).arguments (model.levels_after_taking pending) (taken_are run facts (unread_of world) world.kept pending whole d)
 
   seeks_first : (output : Output) → world.files.output ≡ Some output → ((kept : Kept) → searching.search_text_of x.element.text kept ≡ x.element.text) → Seeking (paging.world_seeking x.element.text world)
   seeks_first output out own = let h = d.state in record {
     comes = record {
       described = record {
         state = record {
-          position = record { begin = omega arith; end = omega arith; fallen = h.position.fallen; ahead = h.position.ahead };
+          position = record { begin = omega arith; end = omega arith; fallen = h.position.fallen; ahead = h.position.ahead; saved = none_are (fore_of world.kept) (back_of world.kept) world.kept.registers.pairs whole.count };
           held = h.held;
           registers = record { numbers = h.registers.numbers; texts = h.registers.texts };
           pushed = h.pushed;
@@ -162,10 +164,10 @@ module _ (run : Run) (facts : Facts) (world : World) (pending : model.Arguments)
   seeks_again now k =
       let h = k.comes.described.state in
       let p = page_short (unread now.files) in
-      let r = again_rest run seeking now h refl in record {
+      let r = again_rest run seeking now h refl refl in record {
         comes = record {
           described = record {
-            state = again_holds run seeking now h refl;
+            state = again_holds run seeking now h refl refl;
             pending = anywhere (fore_of (turned_world now).kept) (back_of (turned_world now).kept);
             answers = tt;
           };
@@ -177,15 +179,12 @@ module _ (run : Run) (facts : Facts) (world : World) (pending : model.Arguments)
 
   seeks_less : (now : World) → Seeking now → (c : ℕ) (bytes : List ℕ) → unread now.files ≡ c ∷ bytes → unread_of (turned_world now) + 1 ≤ unread_of now
   seeks_less now k c bytes e =
-      let r = again_rest run seeking now k.comes.described.state refl in
+      let r = again_rest run seeking now k.comes.described.state refl refl in
       let l : length (behind_form_feed (unread now.files)) + 1 ≤ length (unread now.files) = rw e (page_shorter c bytes) in
       omega arith
 
   success_is : (fore back : ℕ) (v : ℤ) → negsuc 0 ≤ℤ v → v ≤ℤ pos 0 → IsValue fore back (value_in success) v
-  success_is fore back v l u = record { is = record { low = omega (arith, ints); high = omega (arith, ints) }; fits = omega (arith, ints) }
-
-  answer_is : (fore back : ℕ) (v : ℤ) → negsuc 0 ≤ℤ v → v ≤ℤ pos 0 → ArePending fore back (known.levels_after_answer (Some (value_in success)) seeking.arguments) (model.levels_after_answer (Some v) (model.levels_after_taking pending))
-  answer_is fore back v l u = record { level = record { first = tt; value = success_is fore back v l u; operator = refl }; outer = (anywhere fore back).outer }
+  success_is fore back v l u = record { is = record { low = omega (arith, ints); high = omega (arith, ints) }; fits = omega (arith, ints); saved = tt }
 
   module _ (s : Search) (in_pages : IsInPages s) where
     -- ---- where no page is left, the buffer is empty
@@ -195,19 +194,20 @@ module _ (run : Run) (facts : Facts) (world : World) (pending : model.Arguments)
     emptied : World → World
     emptied now = paging.looked_through now
 
-    failed_at_end : (now : World) → Seeking now → unread now.files ≡ [] → (u : ℕ) → u ≤ unread_of now → IsAt run failed 0 0 u
+    failed_at_end : (now : World) → Seeking now → unread now.files ≡ [] → (u : ℕ) → u ≤ unread_of now → IsAt run failed 0 0 u now.kept.registers.pairs
     failed_at_end now k e u l = by_search s in_pages where
-      at_end : IsAt run (row.position_failed FindInPages 0 (facts_taken facts)) 0 0 u
+      at_end : IsAt run (row.position_failed FindInPages 0 (facts_taken facts)) 0 0 u now.kept.registers.pairs
       at_end = let h = k.comes.described.state in record {
         begin = omega arith;
         end = omega arith;
         fallen = falls_after None facts.position.falls run.turns (fore_of now.kept + unread_of now) (0 + u) tt h.position.fallen;
         ahead = omega (arith, h.held, l);
+        saved = none_again (fore_of now.kept) (back_of now.kept) 0 0 none_saved now.kept.registers.pairs refl h.position.saved;
       }
 
-      by_search : (s : Search) → IsInPages s → IsAt run (row.position_failed s x.element.colons (facts_taken facts)) 0 0 u
-      by_search FindInPages b = record { begin = at_end.begin; end = at_end.end; fallen = at_end.fallen; ahead = at_end.ahead }
-      by_search ReplaceInPages b = record { begin = at_end.begin; end = at_end.end; fallen = at_end.fallen; ahead = at_end.ahead }
+      by_search : (s : Search) → IsInPages s → IsAt run (row.position_failed s x.element.colons (facts_taken facts)) 0 0 u now.kept.registers.pairs
+      by_search FindInPages b = record { begin = at_end.begin; end = at_end.end; fallen = at_end.fallen; ahead = at_end.ahead; saved = at_end.saved }
+      by_search ReplaceInPages b = record { begin = at_end.begin; end = at_end.end; fallen = at_end.fallen; ahead = at_end.ahead; saved = at_end.saved }
       by_search Find b = absurd b
       by_search Replace b = absurd b
 
@@ -216,6 +216,26 @@ module _ (run : Run) (facts : Facts) (world : World) (pending : model.Arguments)
       by_search : (s : Search) → IsInPages s → length (map (fall_after v) facts.position.falls) ≡ length (row.position_failed s x.element.colons (facts_taken facts)).falls
       by_search FindInPages b = omega (arith, length-map facts.position.falls (fall_after v), length-map facts.position.falls (fall_after None))
       by_search ReplaceInPages b = omega (arith, length-map facts.position.falls (fall_after v), length-map facts.position.falls (fall_after None))
+      by_search Find b = absurd b
+      by_search Replace b = absurd b
+
+    -- nothing is saved in either outcome
+    saved_alike : (ends : Bool) → length (saved_after ends facts.position.saved) ≡ length failed.saved
+    saved_alike ends = by_search s in_pages where
+      all : length facts.position.saved ≡ REGISTERS
+      all = saved_count (fore_of world.kept) (back_of world.kept) facts.position.saved world.kept.registers.pairs d.state.position.saved ∙ whole.count
+
+      by_search : (s : Search) → IsInPages s → length (saved_after ends facts.position.saved) ≡ length (row.position_failed s x.element.colons (facts_taken facts)).saved
+      by_search FindInPages b = length_after ends facts.position.saved all ∙ sym (length_after true facts.position.saved all)
+      by_search ReplaceInPages b = length_after ends facts.position.saved all ∙ sym (length_after true facts.position.saved all)
+      by_search Find b = absurd b
+      by_search Replace b = absurd b
+
+    ends_found : (least new : ℕ) (distances : Distances) → (row.shift_found s least new distances).ends ≡ true
+    ends_found least new distances = by_search s in_pages where
+      by_search : (s : Search) → IsInPages s → (row.shift_found s least new distances).ends ≡ true
+      by_search FindInPages b = refl
+      by_search ReplaceInPages b = refl
       by_search Find b = absurd b
       by_search Replace b = absurd b
 
@@ -229,6 +249,15 @@ module _ (run : Run) (facts : Facts) (world : World) (pending : model.Arguments)
       abbrev answered : Position → Facts
       answered position = record found { arguments = known.levels_after_answer (Some (value_in success)) found.arguments; answer = Some (record { found = found.position; failed = failed }); position = position }
 
+      ends : shift.ends ≡ true
+      ends = ends_found least (length x.element.second) facts.position.distances
+
+      found_are : (fore back : ℕ) → ArePending fore back found.arguments (model.levels_after_taking pending)
+      found_are fore back = subst (λ ends. ArePending fore back (known.settled facts.position.distances ends (facts_taken facts).arguments) (model.levels_after_taking pending)) (sym ends) (anywhere fore back)
+
+      answer_is : (fore back : ℕ) (v : ℤ) → negsuc 0 ≤ℤ v → v ≤ℤ pos 0 → ArePending fore back (known.levels_after_answer (Some (value_in success)) found.arguments) (model.levels_after_answer (Some v) (model.levels_after_taking pending))
+      answer_is fore back v l u = record { level = record { first = tt; value = success_is fore back v l u; operator = refl }; outer = (found_are fore back).outer }
+
       found_holds : (now : World) → Seeking now → (new : Kept) → Shifts run.n shift now.kept new → Holds run found (unread_of now) new
       found_holds now k new sh =
           let h = k.comes.described.state in
@@ -239,6 +268,7 @@ module _ (run : Run) (facts : Facts) (world : World) (pending : model.Arguments)
               end = omega (arith, sh.ahead);
               fallen = falls_after shift.fall facts.position.falls run.turns (fore_of now.kept + unread_of now) (fore_of new + unread_of now) fell h.position.fallen;
               ahead = ahead_most shift.fall run.n (fore_of now.kept + unread_of now) (fore_of new + unread_of now) held facts.position.ahead fell h.position.ahead (omega (arith, all));
+              saved = rw sh.registers (subst (λ ends. AreSaved (fore_of new) (back_of new) (saved_after ends facts.position.saved) now.kept.registers.pairs) (sym ends) (none_again (fore_of now.kept) (back_of now.kept) (fore_of new) (back_of new) none_saved now.kept.registers.pairs refl h.position.saved));
             };
             held = all;
             registers = rw sh.registers (record { numbers = h.registers.numbers; texts = h.registers.texts });
@@ -248,14 +278,14 @@ module _ (run : Run) (facts : Facts) (world : World) (pending : model.Arguments)
       -- what is known where it found
       found_comes : (now : World) → Seeking now → (new : Kept) → Shifts run.n shift now.kept new → ComesTo run facts.held world found (model.levels_after_taking pending) (record now { kept = new })
       found_comes now k new sh = record {
-        described = record { state = found_holds now k new sh; pending = anywhere (fore_of new) (back_of new); answers = tt };
+        described = record { state = found_holds now k new sh; pending = found_are (fore_of new) (back_of new); answers = tt };
         grown = omega (arith, more, sh.grown, k.comes.grown);
       }
 
       found_answers : (position : Position) → IsJoin run found.position failed position → (now : World) → Seeking now → (new : Kept) → Shifts run.n shift now.kept new → ComesTo run facts.held world (answered position) (model.levels_after_answer (Some (negsuc 0)) (model.levels_after_taking pending)) (record now { kept = new })
       found_answers position j now k new sh = let h = found_holds now k new sh in record {
         described = record {
-          state = record { position = j.left (fore_of new) (back_of new) (unread_of now) h.position; held = h.held; registers = record { numbers = h.registers.numbers; texts = h.registers.texts }; pushed = h.pushed };
+          state = record { position = j.left (fore_of new) (back_of new) (unread_of now) new.registers.pairs h.position; held = h.held; registers = record { numbers = h.registers.numbers; texts = h.registers.texts }; pushed = h.pushed };
           pending = answer_is (fore_of new) (back_of new) (negsuc 0) (omega (arith, ints)) (omega (arith, ints));
           answers = (negsuc 0, refl, record { either = inl refl; found = λ e. h.position; failed = λ e. absurd (cc) });
         };
@@ -268,7 +298,7 @@ module _ (run : Run) (facts : Facts) (world : World) (pending : model.Arguments)
           let h = k.comes.described.state in
           let i = failed_at_end now k e (unread_of now) (omega arith) in record {
             described = record {
-              state = record { position = j.right 0 0 (unread_of now) i; held = omega (arith, more, h.held); registers = record { numbers = h.registers.numbers; texts = h.registers.texts }; pushed = h.pushed };
+              state = record { position = j.right 0 0 (unread_of now) now.kept.registers.pairs i; held = omega (arith, more, h.held); registers = record { numbers = h.registers.numbers; texts = h.registers.texts }; pushed = h.pushed };
               pending = answer_is 0 0 (pos 0) (omega (arith, ints)) (omega (arith, ints));
               answers = (pos 0, refl, record { either = inr refl; found = λ e. absurd (cc); failed = λ e. i });
             };
@@ -281,7 +311,7 @@ module _ (run : Run) (facts : Facts) (world : World) (pending : model.Arguments)
           let i = failed_at_end now k e (unread_of now) (omega arith) in record {
             described = record {
               state = record {
-                position = record { begin = i.begin; end = i.end; fallen = each_dropped (HasFallen (0 + unread_of now)) 1 failed.falls run.turns i.fallen; ahead = i.ahead };
+                position = record { begin = i.begin; end = i.end; fallen = each_dropped (HasFallen (0 + unread_of now)) 1 failed.falls run.turns i.fallen; ahead = i.ahead; saved = i.saved };
                 held = omega (arith, h.held);
                 registers = record { numbers = h.registers.numbers; texts = h.registers.texts };
                 pushed = h.pushed;
@@ -333,7 +363,7 @@ module _ (run : Run) (facts : Facts) (world : World) (pending : model.Arguments)
         leaves_seek b = λ l. seeks l.buffer _ (record { met = rw b found_comes; missed = rw b missed_leaves }) output out t c
 
         outcomes_seek : (colon : Bool) → x.colon ≡ colon → IfOk (transfers.search_outcomes colon found (row.facts_failed s x.element.colons (facts_taken facts))) (SeeksWith output t)
-        outcomes_seek true b = answers_seek b _ (position_joined run found.position failed (falls_alike shift.fall))
+        outcomes_seek true b = answers_seek b _ (position_joined run found.position failed (falls_alike shift.fall) (saved_alike shift.ends))
         outcomes_seek false b = leaves_seek b
 
     -- ---- through what is checked first

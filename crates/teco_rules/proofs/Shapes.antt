@@ -10,6 +10,7 @@ use Rattle.teco_poly.proofs.Lawful.{value_of_sum, values_of_constants}
 use Rattle.teco_poly.specs.Polynomial.{Polynomial, value, number, add}
 use Rattle.teco_rules.proofs.Near.{distances}
 use Rattle.teco_rules.proofs.Pending.{settled_are}
+use Rattle.teco_rules.proofs.Saved.{Widens, saved_after_are}
 use Rattle.teco_rules.specs.Attempt.{◌>>=◌}
 use Rattle.teco_rules.specs.Describes.{Run, IsWhole, Holds, IsAt, IsOptional, AreEach, HasFallen, ArePending, fore_of, back_of}
 use Rattle.teco_rules.specs.Facts.{Facts, sum_of}
@@ -60,6 +61,7 @@ pub record Shifts (n : ℕ) (shift : Shift) (old new : Kept) : Type 0 where
   pub ahead : shift.distances.fore + new.pointer ≤ length new.text
   pub grown : length new.text ≤ length old.text + value shift.growth n
   pub fallen : IfSome shift.fall (λ v. (pos (fore_of new) +ℤ v) ≤ℤ pos (fore_of old))
+  pub wider : Widens shift.ends (fore_of old) (back_of old) (fore_of new) (back_of new)
 
 -- a command that comes to its end does what is known of it
 pub record IsDone (run : Run) (facts : Facts) (unread : ℕ) (kept : Kept) (known : Foreseen) (effect : Effect) : Type 0 where
@@ -78,7 +80,7 @@ Foretells run facts unread kept = Leads (λ (known : Foreseen). Fits run.n known
 
 module _ (run : Run) (facts : Facts) (unread : ℕ) (kept : Kept) (w : IsWhole kept) (h : Holds run facts unread kept) where
   -- the position behind a shift
-  pub shifted_at : (shift : Shift) (new : Kept) (held : Polynomial) → Shifts run.n shift kept new → length new.text + unread ≤ value held run.n → IsAt run (facts_behind shift held facts).position (fore_of new) (back_of new) unread
+  pub shifted_at : (shift : Shift) (new : Kept) (held : Polynomial) → Shifts run.n shift kept new → length new.text + unread ≤ value held run.n → IsAt run (facts_behind shift held facts).position (fore_of new) (back_of new) unread new.registers.pairs
   shifted_at shift new held s held_now =
       let unread_too = more_unread shift.fall (fore_of kept) (fore_of new) unread s.fallen in
       record {
@@ -86,6 +88,7 @@ module _ (run : Run) (facts : Facts) (unread : ℕ) (kept : Kept) (w : IsWhole k
         end = omega (arith, s.ahead);
         fallen = falls_after shift.fall facts.position.falls run.turns (fore_of kept + unread) (fore_of new + unread) unread_too h.position.fallen;
         ahead = ahead_most shift.fall run.n (fore_of kept + unread) (fore_of new + unread) held facts.position.ahead unread_too h.position.ahead (omega (arith, held_now));
+        saved = rw s.registers (saved_after_are shift.ends (fore_of kept) (back_of kept) (fore_of new) (back_of new) facts.position.saved kept.registers.pairs w.count s.wider h.position.saved);
       }
 
   -- what holds behind it
@@ -102,7 +105,7 @@ module _ (run : Run) (facts : Facts) (unread : ℕ) (kept : Kept) (w : IsWhole k
   done_after : (shift : Shift) (effect : Effect) (answer : Option Value) (held : Polynomial) → Shifts run.n shift kept effect.kept → IsOptional (IsValue (fore_of effect.kept) (back_of effect.kept)) answer effect.answer → value held run.n ≡ value facts.held run.n + value shift.growth run.n → IsDone run facts unread kept (record { facts = facts_behind shift held facts; answer = answer }) effect
   done_after shift effect answer held s i e = record {
     state = shifted_holds shift effect.kept held s e;
-    pending = λ arguments p. settled_are facts.position.distances (fore_of kept) (back_of kept) (fore_of effect.kept) (back_of effect.kept) (distances run facts unread kept w h) facts.arguments arguments p;
+    pending = λ arguments p. settled_are facts.position.distances shift.ends (fore_of kept) (back_of kept) (fore_of effect.kept) (back_of effect.kept) (distances run facts unread kept w h) s.wider facts.arguments arguments p;
     answer = i;
     grown = omega (arith, s.grown, e);
   }

@@ -40,6 +40,7 @@ use Rattle.teco_model.specs.declared.kind.File.{File}
 use Rattle.teco_model.specs.declared.kind.File.TheVariants as file
 use Rattle.teco_model.specs.declared.kind.Flow.{Flow}
 use Rattle.teco_model.specs.declared.kind.Flow.TheVariants as flow
+use Rattle.teco_model.specs.declared.kind.Goal.TheVariants as goal
 use Rattle.teco_model.specs.declared.kind.Kind.{Kind}
 use Rattle.teco_model.specs.declared.kind.Kind.TheVariants as kind
 use Rattle.teco_model.specs.declared.kind.Page.{Page}
@@ -218,6 +219,10 @@ module _ (e : Element) (frame : Frame) (b : AreBytes frame.text) where
   without None turn h = h
   without (Some n) turn h = tt
 
+  to_end : (loops : List Loop) (arguments : Arguments) → AreWholeArguments arguments → IfOk (flows.to_turn_end e loops arguments frame) IsWholeTurn
+  to_end [] arguments h = tt
+  to_end (loop ∷ outer) arguments h = jumped code.Utc arguments h
+
   turn_whole : (f : Flow) (arguments : Arguments) → AreWholeArguments arguments → IfOk (flows.turn_of f e arguments frame) IsWholeTurn
   turn_whole flow.Iterate arguments h = ok_any IsWholeTurn (arguments_of arguments.level) _ (λ taken. iterated taken.value _ (taking_whole arguments h))
   turn_whole flow.EndTurn arguments h = ended frame.loops
@@ -227,6 +232,9 @@ module _ (e : Element) (frame : Frame) (b : AreBytes frame.text) where
   turn_whole flow.EndTest arguments h = past arguments h
   turn_whole flow.GoTo arguments h = ok_any IsWholeTurn (arguments_of arguments.level) _ (λ taken. ok_then IsWholeTurn IsWholeTurn (flows.jump code.Tag e no_arguments frame) _ (jumped code.Tag no_arguments none_whole) (λ turn t. without taken.value turn t))
   turn_whole flow.Comment arguments h = past arguments h
+  turn_whole (flow.GoAhead goal.EndTurn) arguments h = to_end frame.loops arguments h
+  turn_whole (flow.GoAhead goal.EndTest) arguments h = jumped code.Utc arguments h
+  turn_whole (flow.GoAhead goal.Otherwise) arguments h = jumped code.Utc arguments h
 
 -- ---- outcomes
 record IsWholeAfter (done : After) : Type 0 where

@@ -18,7 +18,7 @@ use Rattle.teco_rules.specs.Motions.{or_one}
 use Rattle.teco_rules.specs.Printed.{steps_of_pages, steps_of_page}
 use Rattle.teco_rules.specs.SoundFlow.{Tells}
 use Rattle.teco_rules.specs.SoundPages.{PagesAtMost, IsTurnOrWrite, PageStepsAreBounded}
-use Rattle.teco_rules.specs.Values.{IsValue}
+use Rattle.teco_rules.specs.Values.{IsValue, IsPlaceIf}
 use Rattle.teco_rules.specs.declared.refusal.Refusal.{Refusal}
 use Rattle.teco_rules.specs.declared.values.Value.{Value}
 
@@ -28,9 +28,14 @@ one_fits fore back (Some s) (Some v) i = i.fits
 one_fits fore back None (Some v) i = absurd i
 one_fits fore back (Some s) None i = absurd i
 
+one_saved : (fore back : ℕ) (o : Option Value) (v : Option ℤ) → IsOptional (IsValue fore back) o v → IsPlaceIf (or_one o).saved fore back (unwrap_or v (pos 1))
+one_saved fore back None v i = tt
+one_saved fore back (Some s) (Some v) i = i.saved
+one_saved fore back (Some s) None i = absurd i
+
 module _ (run : Run) (facts : Facts) (unread : ℕ) (kept : Kept) (arguments : model.Arguments) (whole : IsWhole kept) (d : Describes run facts unread kept arguments) where
   counted_steps : (o : Option Value) (v : Option ℤ) → IsOptional (IsValue (fore_of kept) (back_of kept)) o v → IfOk (steps_of_pages None o facts) (λ most. unwrap_or v (pos 1) ≤ℤ pos (value most run.n))
-  counted_steps o v i = bound_is run facts unread kept arguments whole d (or_one o) (unwrap_or v (pos 1)) (record { is = or_single (fore_of kept) (back_of kept) o v (pos 1) i; fits = one_fits (fore_of kept) (back_of kept) o v i })
+  counted_steps o v i = bound_is run facts unread kept arguments whole d (or_one o) (unwrap_or v (pos 1)) (record { is = or_single (fore_of kept) (back_of kept) o v (pos 1) i; saved = one_saved (fore_of kept) (back_of kept) o v i; fits = one_fits (fore_of kept) (back_of kept) o v i })
 
   pages_most : (f o : Option Value) (m v : Option ℤ) → IsOptional (IsValue (fore_of kept) (back_of kept)) f m → IsOptional (IsValue (fore_of kept) (back_of kept)) o v → IfOk (steps_of_pages f o facts) (λ most. PagesAtMost (value most run.n) m v)
   pages_most (Some s) (Some t) (Some v) (Some w) i j = omega (arith, value-number 1 run.n)

@@ -95,7 +95,7 @@ module _ (run : Run) (facts : Facts) (unread : ℕ) (kept : Kept) (arguments : m
   zero_is = single_in facts.position.distances (fore_of kept) (back_of kept) now (pos 0) (omega (arith, ints))
 
   size_is : IsValue (fore_of kept) (back_of kept) size (pos (length kept.text))
-  size_is = record { is = size_in run facts unread kept whole d.state; fits = omega (arith, ints, whole.within) }
+  size_is = record { is = size_in run facts unread kept whole d.state; fits = omega (arith, ints, whole.within); saved = tt }
 
   last_is : IsValue (fore_of kept) (back_of kept) (value_in transfers.last_length) (neg_ℤ (pos kept.last_length))
   last_is = interval_value _ _ _ _ (record { low = omega (arith, ints, whole.last); high = omega (arith, ints) }) (omega (arith, ints, whole.last))
@@ -103,7 +103,7 @@ module _ (run : Run) (facts : Facts) (unread : ℕ) (kept : Kept) (arguments : m
   valued : (v : Given) → Covers (IsLevel (fore_of kept) (back_of kept)) (transfers.level_with_value v facts.position.distances facts.arguments.level) (step.level_with_value v kept arguments.level)
   valued Begin = gives _ _ zero_is
   valued Size = gives _ _ size_is
-  valued Pointer = gives _ _ (record { is = pointer_in run facts unread kept whole d.state; fits = omega (arith, ints, whole.within, whole.inside) })
+  valued Pointer = gives _ _ (record { is = pointer_in run facts unread kept whole d.state; fits = omega (arith, ints, whole.within, whole.inside); saved = tt })
   valued Whole = give_both_covers facts.position.distances (fore_of kept) (back_of kept) now _ _ _ _ facts.arguments.level arguments.level zero_is size_is d.pending.level
   valued LastLength = gives _ _ last_is
   valued LastText = tt
@@ -178,7 +178,7 @@ module _ (run : Run) (facts : Facts) (unread : ℕ) (kept : Kept) (arguments : m
       let p = past run facts unread kept whole d.state in
       let here : Describes run (transfers.without_answer read) unread behind_number arguments = record {
         state = pending_again run read unread behind_number (shifted_holds run facts unread kept whole d.state (row.past_number facts.position.distances) behind_number held p h) _;
-        pending = settled_are facts.position.distances (fore_of kept) (back_of kept) (fore_of behind_number) (back_of behind_number) (distances run facts unread kept whole d.state) facts.arguments arguments d.pending;
+        pending = settled_are facts.position.distances false (fore_of kept) (back_of kept) (fore_of behind_number) (back_of behind_number) (distances run facts unread kept whole d.state) p.wider facts.arguments arguments d.pending;
         answers = tt;
       } in
       let fits = number_fits (drop kept.pointer kept.text) in
@@ -197,19 +197,19 @@ module _ (run : Run) (facts : Facts) (unread : ℕ) (kept : Kept) (arguments : m
   asked_for q colons (Some s) None i = absurd i
 
   -- ---- [ and ]
-  popped_if : (b : Bool) (r : ℕ) (s : Pushed) (pushes : List Pushed) (top : List Pair) → ArePushed run.n run.below (s ∷ pushes) top → Leads (Fits run.n) (Arrives run facts.held unread kept) (cond b (Ok (record (storages.with_text r s.text (storages.with_number r s.number facts)) { pushes = pushes })) (Err refusal.Pop)) ((ok_or (registers_without_top r top kept.registers) code.Pes >>>= λ registers. Ok (record kept { registers = registers })) >>>= λ changed. Ok (after changed arguments))
-  popped_if false r s pushes top i = tt
-  popped_if true r s pushes [] i = absurd i
-  popped_if true r s pushes (pair ∷ rest) i = λ l. record { described = record { state = popped_holds run facts unread kept whole d.state r s pushes pair rest i.0 i.1; pending = d.pending; answers = d.answers }; grown = omega arith }
+  popped_if : facts.answer ≡ None → (b : Bool) (r : ℕ) (s : Pushed) (pushes : List Pushed) (top : List Pair) → ArePushed run.n run.below (s ∷ pushes) top → Leads (Fits run.n) (Arrives run facts.held unread kept) (cond b (Ok (record (storages.with_text r s.text (storages.with_number r s.number false facts)) { pushes = pushes })) (Err refusal.Pop)) ((ok_or (registers_without_top r top kept.registers) code.Pes >>>= λ registers. Ok (record kept { registers = registers })) >>>= λ changed. Ok (after changed arguments))
+  popped_if none false r s pushes top i = tt
+  popped_if none true r s pushes [] i = absurd i
+  popped_if none true r s pushes (pair ∷ rest) i = λ l. record { described = record { state = popped_holds run facts unread kept whole d.state r s pushes pair rest i.0 i.1; pending = d.pending; answers = rw none tt }; grown = omega arith }
 
-  popped : (library : Bool) (r : ℕ) (pushes : List Pushed) → ArePushed run.n run.below pushes kept.registers.stack → Leads (Fits run.n) (Arrives run facts.held unread kept) (storages.not_of_library library >>= λ free. storages.with_popped r pushes facts) (step.after_stack (stack.Pop r) kept arguments)
-  popped true r pushes i = tt
-  popped false r [] i = tt
-  popped false r (s ∷ pushes) i = popped_if _ r s pushes kept.registers.stack i
+  popped : facts.answer ≡ None → (library : Bool) (r : ℕ) (pushes : List Pushed) → ArePushed run.n run.below pushes kept.registers.stack → Leads (Fits run.n) (Arrives run facts.held unread kept) (storages.not_of_library library >>= λ free. storages.with_popped r pushes facts) (step.after_stack (stack.Pop r) kept arguments)
+  popped none true r pushes i = tt
+  popped none false r [] i = tt
+  popped none false r (s ∷ pushes) i = popped_if none _ r s pushes kept.registers.stack i
 
-  stacked : (s : Stack) (library : Bool) → Leads (Fits run.n) (Arrives run facts.held unread kept) (storages.stack s library facts) (step.after_stack s kept arguments)
-  stacked (stack.Push r) library = λ l. record { described = record { state = pushed_holds run facts unread kept whole d.state r; pending = d.pending; answers = d.answers }; grown = omega arith }
-  stacked (stack.Pop r) library = popped library r facts.pushes d.state.pushed
+  stacked : facts.answer ≡ None → (s : Stack) (library : Bool) → Leads (Fits run.n) (Arrives run facts.held unread kept) (storages.stack s library facts) (step.after_stack s kept arguments)
+  stacked none (stack.Push r) library = λ l. record { described = record { state = pushed_holds run facts unread kept whole d.state r; pending = d.pending; answers = d.answers }; grown = omega arith }
+  stacked none (stack.Pop r) library = popped none library r facts.pushes d.state.pushed
 
 -- ---- the laws
 pub arguments_are_sound : ArgumentsAreSound
@@ -245,4 +245,4 @@ unfolding transfer
 stacks_are_sound run facts unread kept arguments x s whole d e named =
     let n = without_answer run facts unread kept arguments d in
     subst (λ k. Leads (FitsOn run.n) (ArrivesOn run facts.held unread kept) (transfers.edges_of k x (transfers.answer_for k facts) (transfers.without_answer facts)) (step.after_stack s kept arguments)) (sym e)
-    (on_leads run facts unread kept _ _ (stacked run (transfers.without_answer facts) unread kept arguments whole n s x.library))
+    (on_leads run facts unread kept _ _ (stacked run (transfers.without_answer facts) unread kept arguments whole n refl s x.library))

@@ -1,7 +1,8 @@
 -- The way that a number takes is reached, and what is known on it holds.
-use Rattle.std.proofs.Common.{◌≡◌, ℕ, zero, suc, ◌+◌, ◌≤◌, arith, refl, subst, ℤ, pos, negsuc, neg_ℤ, ◌+ℤ◌, ◌-ℤ◌, ◌≤ℤ◌, ◌*ℤ◌, int_le, Bool, true, false, ◌&&◌, not, cond, Option, Some, None, option_map, MatchOption, inl, inr}
+use Rattle.std.proofs.Common.{List, ◌≡◌, ℕ, zero, suc, ◌+◌, ◌≤◌, arith, refl, subst, ℤ, pos, negsuc, neg_ℤ, ◌+ℤ◌, ◌-ℤ◌, ◌≤ℤ◌, ◌*ℤ◌, int_le, Bool, true, false, ◌&&◌, not, cond, Option, Some, None, option_map, MatchOption, inl, inr}
 use Rattle.std.proofs.lemmas.Int.{ints}
 use Rattle.teco_model.specs.State.{Kept}
+use Rattle.teco_model.specs.Registers.{Pair}
 use Rattle.teco_rules.proofs.Numbers.{AreDistances, interval_of_in}
 use Rattle.teco_rules.proofs.Near.{distances}
 use Rattle.teco_rules.specs.Deletions.{positive}
@@ -70,45 +71,45 @@ within_may NotPositive r v i t = le_true r.lo (pos 0) (omega (arith, ints))
 within_may All r v i t = refl
 
 -- a position is reached, and what is known of it holds
-abbrev pub IsOn : Run → ℕ → ℕ → ℕ → Option Position → Type 0
-IsOn run fore back unread position = MatchOption position ⊥ (λ p. IsAt run p fore back unread)
+abbrev pub IsOn : Run → ℕ → ℕ → ℕ → List Pair → Option Position → Type 0
+IsOn run fore back unread pairs position = MatchOption position ⊥ (λ p. IsAt run p fore back unread pairs)
 
-module _ (run : Run) (position : Position) (fore back unread : ℕ) (near : AreDistances position.distances fore back) (h : IsAt run position fore back unread) where
+module _ (run : Run) (position : Position) (fore back unread : ℕ) (pairs : List Pair) (near : AreDistances position.distances fore back) (h : IsAt run position fore back unread pairs) where
   abbrev with_distances : Distances → Position
   with_distances d = record position { distances = d }
 
-  bounded : (d : Distances) → d.back ≤ back → d.fore ≤ fore → IsAt run (with_distances d) fore back unread
-  bounded d b f = record { begin = b; end = f; fallen = h.fallen; ahead = h.ahead }
+  bounded : (d : Distances) → d.back ≤ back → d.fore ≤ fore → IsAt run (with_distances d) fore back unread pairs
+  bounded d b f = record { begin = b; end = f; fallen = h.fallen; ahead = h.ahead; saved = h.saved }
 
-  fore_raised : (o : Option ℕ) → IsUpTo o fore → IsOn run fore back unread (option_map with_distances (option_map (with_fore position.distances) o))
+  fore_raised : (o : Option ℕ) → IsUpTo o fore → IsOn run fore back unread pairs (option_map with_distances (option_map (with_fore position.distances) o))
   fore_raised None i = i
   fore_raised (Some m) i = bounded _ (omega (arith, h.begin)) (omega arith)
 
-  back_raised : (o : Option ℕ) → IsUpTo o back → IsOn run fore back unread (option_map with_distances (option_map (with_back position.distances) o))
+  back_raised : (o : Option ℕ) → IsUpTo o back → IsOn run fore back unread pairs (option_map with_distances (option_map (with_back position.distances) o))
   back_raised None i = i
   back_raised (Some m) i = bounded _ (omega arith) (omega (arith, h.end))
 
-  same : IsAt run (with_distances position.distances) fore back unread
+  same : IsAt run (with_distances position.distances) fore back unread pairs
   same = bounded position.distances h.begin h.end
 
-  raised_is : (n : Numbers) (a b k v : ℤ) → (pos fore *ℤ a +ℤ pos back *ℤ b +ℤ k) ≡ v → Takes n v → IsOn run fore back unread (option_map with_distances (raised_by n a b k position.distances))
+  raised_is : (n : Numbers) (a b k v : ℤ) → (pos fore *ℤ a +ℤ pos back *ℤ b +ℤ k) ≡ v → Takes n v → IsOn run fore back unread pairs (option_map with_distances (raised_by n a b k position.distances))
   raised_is n (pos (suc zero)) (pos zero) k v e t = fore_raised _ (least_is n position.distances.fore fore k h.end (subst (Takes n) (omega (arith, ints)) t))
   raised_is n (negsuc zero) (pos zero) k v e t = fore_raised _ (least_is (opposite n) position.distances.fore fore (neg_ℤ k) h.end (subst (Takes (opposite n)) (omega (arith, ints)) (takes_opposite n v t)))
   raised_is n (pos zero) (pos (suc zero)) k v e t = back_raised _ (least_is n position.distances.back back k h.begin (subst (Takes n) (omega (arith, ints)) t))
   raised_is n (pos zero) (negsuc zero) k v e t = back_raised _ (least_is (opposite n) position.distances.back back (neg_ℤ k) h.begin (subst (Takes (opposite n)) (omega (arith, ints)) (takes_opposite n v t)))
   raised_is n a b k v e t = same
 
-  raised_on : (x : Bool) (n : Numbers) (s : Value) (v : ℤ) → int_le s.hi s.lo ≡ x → IsIn s fore back v → Takes n v → IsOn run fore back unread (option_map with_distances (cond x (raised_by n s.ahead s.behind s.lo position.distances) (Some position.distances)))
+  raised_on : (x : Bool) (n : Numbers) (s : Value) (v : ℤ) → int_le s.hi s.lo ≡ x → IsIn s fore back v → Takes n v → IsOn run fore back unread pairs (option_map with_distances (cond x (raised_by n s.ahead s.behind s.lo position.distances) (Some position.distances)))
   raised_on true n s v e i t = raised_is n s.ahead s.behind s.lo v (omega (arith, ints)) t
   raised_on false n s v e i t = same
 
-  position_is : (n : Numbers) (s : Value) (v : ℤ) → IsIn s fore back v → Takes n v → IsOn run fore back unread (position_on n s position)
+  position_is : (n : Numbers) (s : Value) (v : ℤ) → IsIn s fore back v → Takes n v → IsOn run fore back unread pairs (position_on n s position)
   position_is n s v i t =
       rw (within_may n (interval_of position.distances s) v (interval_of_in s position.distances fore back v near.least (omega (arith, near.within)) (omega (arith, near.within)) i) t)
       (raised_on _ n s v refl i t)
 
   -- the outcome that an answer tells
-  outcome_is : (n : Numbers) (answer : Answer) (v : ℤ) → IsAnswer run answer fore back unread v → Takes n v → IsOn run fore back unread (position_of n answer position)
+  outcome_is : (n : Numbers) (answer : Answer) (v : ℤ) → IsAnswer run answer fore back unread pairs v → Takes n v → IsOn run fore back unread pairs (position_of n answer position)
   outcome_is Zero answer v i t = i.failed t
   outcome_is NotZero answer v i t = elim i.either [ inl e ↦ i.found e | inr e ↦ absurd (t e) ]
   outcome_is Negative answer v i t = elim i.either [ inl e ↦ i.found e | inr e ↦ absurd (omega (arith, ints)) ]
@@ -117,13 +118,13 @@ module _ (run : Run) (position : Position) (fore back unread : ℕ) (near : AreD
   outcome_is NotPositive answer v i t = h
   outcome_is All answer v i t = h
 
-pub at_another : (run : Run) (facts : Facts) (unread : ℕ) (kept : Kept) → Holds run facts unread kept → (o : Option Position) → IsOn run (fore_of kept) (back_of kept) unread o → MatchOption (option_map (λ p. at_position p facts) o) ⊥ (λ next. Holds run next unread kept)
+pub at_another : (run : Run) (facts : Facts) (unread : ℕ) (kept : Kept) → Holds run facts unread kept → (o : Option Position) → IsOn run (fore_of kept) (back_of kept) unread kept.registers.pairs o → MatchOption (option_map (λ p. at_position p facts) o) ⊥ (λ next. Holds run next unread kept)
 at_another run facts unread kept h None i = i
 at_another run facts unread kept h (Some p) i = record { position = i; held = h.held; registers = h.registers; pushed = h.pushed }
 
-pub told_on : (run : Run) (facts : Facts) (unread : ℕ) (kept : Kept) (numbers : Numbers) (answer : Option Answer) (s : Value) (v : ℤ) → IsWhole kept → Holds run facts unread kept → IsTold run answer s (fore_of kept) (back_of kept) unread v → Takes numbers v → IsOn run (fore_of kept) (back_of kept) unread (position_by numbers answer s facts.position)
-told_on run facts unread kept numbers None s v whole h i t = position_is run facts.position (fore_of kept) (back_of kept) unread (distances run facts unread kept whole h) h.position numbers s v i t
-told_on run facts unread kept numbers (Some answer) s v whole h i t = outcome_is run facts.position (fore_of kept) (back_of kept) unread (distances run facts unread kept whole h) h.position numbers answer v i t
+pub told_on : (run : Run) (facts : Facts) (unread : ℕ) (kept : Kept) (numbers : Numbers) (answer : Option Answer) (s : Value) (v : ℤ) → IsWhole kept → Holds run facts unread kept → IsTold run answer s (fore_of kept) (back_of kept) unread kept.registers.pairs v → Takes numbers v → IsOn run (fore_of kept) (back_of kept) unread kept.registers.pairs (position_by numbers answer s facts.position)
+told_on run facts unread kept numbers None s v whole h i t = position_is run facts.position (fore_of kept) (back_of kept) unread kept.registers.pairs (distances run facts unread kept whole h) h.position numbers s v i t
+told_on run facts unread kept numbers (Some answer) s v whole h i t = outcome_is run facts.position (fore_of kept) (back_of kept) unread kept.registers.pairs (distances run facts unread kept whole h) h.position numbers answer v i t
 
 pub ways_are_sound : WaysAreSound
 ways_are_sound run facts unread kept numbers answer s v whole h i t = at_another run facts unread kept h _ (told_on run facts unread kept numbers answer s v whole h i t)

@@ -1,5 +1,5 @@
 -- What is known of the pending arguments, and what elements do to it: the rules of the machine's arguments, on values.
-use Rattle.std.specs.Prelude.{pos, negsuc, List, [], ◌∷◌, map, Option, Some, None, Result, Ok, Err, unwrap_or, int_le, int_lt, ◌||◌, if◌then◌else◌}
+use Rattle.std.specs.Prelude.{pos, negsuc, List, [], ◌∷◌, map, Bool, false, Option, Some, None, Result, Ok, Err, unwrap_or, int_le, int_lt, ◌||◌, if◌then◌else◌}
 use Rattle.std.specs.Option.{ok_or}
 use Rattle.teco_base.specs.Arithmetic.{and, or}
 use Rattle.teco_model.specs.declared.arguments.Operator.{Operator}
@@ -157,20 +157,22 @@ standing_value level = value_beside level.operator level.value
 abbrev pub needed_value : Option Value → Result Value Refusal
 needed_value value = ok_or value refusal.Argument
 
--- Where Z or the pointer may change, linear values that are pending become intervals.
-abbrev pub settled_value : Distances → Option Value → Option Value
-settled_value distances None = None
-settled_value distances (Some s) = Some (value_in (interval_of distances s))
+-- Where Z or the pointer may change, linear values that are pending become intervals; where all that is saved is ended,
+-- so do saved values.
+abbrev pub settled_value : Distances → Bool → Option Value → Option Value
+settled_value distances ends None = None
+settled_value distances ends (Some s) =
+    Some (record (value_in (interval_of distances s)) { saved = if ends then false else s.saved })
 
-abbrev pub settled_level : Distances → KnownLevel → KnownLevel
-settled_level distances level = record {
-  first = settled_value distances level.first;
-  value = settled_value distances level.value;
+abbrev pub settled_level : Distances → Bool → KnownLevel → KnownLevel
+settled_level distances ends level = record {
+  first = settled_value distances ends level.first;
+  value = settled_value distances ends level.value;
   operator = level.operator;
 }
 
-abbrev pub settled : Distances → KnownArguments → KnownArguments
-settled distances arguments = record {
-  level = settled_level distances arguments.level;
-  outer = map (settled_level distances) arguments.outer;
+abbrev pub settled : Distances → Bool → KnownArguments → KnownArguments
+settled distances ends arguments = record {
+  level = settled_level distances ends arguments.level;
+  outer = map (settled_level distances ends) arguments.outer;
 }

@@ -6,8 +6,9 @@ use Rattle.teco_rules.specs.declared.values.Interval.{Interval}
 use Rattle.teco_rules.specs.declared.refusal.Refusal.{Refusal}
 use Rattle.teco_rules.specs.declared.refusal.Refusal.TheVariants as refusal
 use Rattle.teco_rules.specs.Attempt.{◌>>=◌}
-use Rattle.teco_rules.specs.Covers.{each_covers, covers_interval, covers_length, covers_pushed}
+use Rattle.teco_rules.specs.Covers.{each_covers, covers_interval, covers_length, covers_pushed, covers_saved}
 use Rattle.teco_rules.specs.Facts.{Position, Facts, nowhere, sum_of}
+use Rattle.teco_rules.specs.Shifts.{saved_after}
 use Rattle.teco_rules.specs.Values.{any_number}
 
 -- What is chosen: how much is held at most at the start of each turn, how long the texts are at most, and whether the
@@ -17,11 +18,23 @@ pub record Choice : Type 0 where
   pub kept : Bool
   pub texts : List Polynomial
 
+-- What a body changes, called texts included, whether its elements are reached or not: the numbers of which registers it
+-- writes, and whether it ends all that is saved.
+pub record Changes : Type 0 where
+  pub written : List Bool
+  pub ends : Bool
+
 -- the number of a register that the body writes is unknown
 abbrev pub unknown_where : List Bool → List Interval → List Interval
 unknown_where (written ∷ others) (i ∷ numbers) = (if written then any_number else i) ∷ unknown_where others numbers
 unknown_where [] numbers = numbers
 unknown_where (written ∷ others) [] = []
+
+-- and it is not saved
+abbrev pub unsaved_where : List Bool → List Bool → List Bool
+unsaved_where (written ∷ others) (s ∷ saved) = (if written then false else s) ∷ unsaved_where others saved
+unsaved_where [] saved = saved
+unsaved_where (written ∷ others) [] = []
 
 -- an outer fall is that at the <, or unknown
 abbrev pub fall_if : Bool → Option ℤ → Option ℤ
@@ -32,19 +45,20 @@ abbrev pub falls_at_start : Bool → List (Option ℤ) → List (Option ℤ)
 falls_at_start kept [] = []
 falls_at_start kept (own ∷ outer) = Some (pos 0) ∷ map (fall_if kept) outer
 
-abbrev pub position_at_start : Choice → Position → Position
-position_at_start choice position = record {
+abbrev pub position_at_start : Choice → Changes → Position → Position
+position_at_start choice changes position = record {
   distances = nowhere;
   falls = falls_at_start choice.kept position.falls;
   ahead = if choice.kept then position.ahead else choice.held;
+  saved = saved_after changes.ends (unsaved_where changes.written position.saved);
 }
 
 -- The facts at the start of a body, from those that enter it.
-abbrev pub body_start : Choice → List Bool → Facts → Facts
-body_start choice written entering = record entering {
-  position = position_at_start choice entering.position;
+abbrev pub body_start : Choice → Changes → Facts → Facts
+body_start choice changes entering = record entering {
+  position = position_at_start choice changes entering.position;
   held = choice.held;
-  numbers = unknown_where written entering.numbers;
+  numbers = unknown_where changes.written entering.numbers;
   texts = choice.texts;
 }
 
@@ -87,22 +101,24 @@ abbrev pub has_room : Choice → Polynomial → Facts → Facts → Bool
 has_room choice turns entering end =
     is_within choice.held (growth_of choice.held end.held >>= held_last entering.held turns)
 
--- A turn that ends leaves what the next one may begin with: numbers, texts and pushes that those at the start cover.
+-- A turn that ends leaves what the next one may begin with: numbers, texts, pushes and saved registers that those at the
+-- start cover.
 abbrev pub begins_again : Facts → Facts → Bool
 begins_again start end =
     each_covers covers_interval start.numbers end.numbers
     && each_covers covers_length start.texts end.texts
     && each_covers covers_pushed start.pushes end.pushes
+    && each_covers covers_saved start.position.saved end.position.saved
 
-abbrev pub returns : Choice → List Bool → Bool → Polynomial → Facts → Facts → Bool
-returns choice written counted turns entering end =
+abbrev pub returns : Choice → Changes → Bool → Polynomial → Facts → Facts → Bool
+returns choice changes counted turns entering end =
     counts counted end.position
     && keeps choice.kept end.position
     && has_room choice turns entering end
-    && begins_again (body_start choice written entering) end
+    && begins_again (body_start choice changes entering) end
 
 -- A choice stands where it begins and, if the > is reached, returns.
-abbrev pub stands : Choice → List Bool → Bool → Polynomial → Facts → Option Facts → Bool
-stands choice written counted turns entering None = begins choice entering
-stands choice written counted turns entering (Some end) =
-    begins choice entering && returns choice written counted turns entering end
+abbrev pub stands : Choice → Changes → Bool → Polynomial → Facts → Option Facts → Bool
+stands choice changes counted turns entering None = begins choice entering
+stands choice changes counted turns entering (Some end) =
+    begins choice entering && returns choice changes counted turns entering end

@@ -28,6 +28,11 @@ both_cover covers (Some x) None = false
 abbrev pub covers_interval : Interval → Interval → Bool
 covers_interval i j = int_le i.lo j.lo && int_le j.hi i.hi
 
+-- what is saved at the target is saved on the edge
+abbrev pub covers_saved : Bool → Bool → Bool
+covers_saved true edge = edge
+covers_saved false edge = true
+
 -- A linear value covers itself alone; an interval covers each value whose numbers it has.
 abbrev pub are_equal : ℤ → ℤ → Bool
 are_equal v w = int_le v w && int_le w v
@@ -38,9 +43,12 @@ is_interval s = are_equal s.ahead (pos 0) && are_equal s.behind (pos 0)
 abbrev pub is_same : Value → Value → Bool
 is_same s t = are_equal s.ahead t.ahead && are_equal s.behind t.behind && are_equal s.lo t.lo && are_equal s.hi t.hi
 
-abbrev pub covers_value : Distances → Value → Value → Bool
-covers_value distances s t =
+abbrev pub covers_number : Distances → Value → Value → Bool
+covers_number distances s t =
     if is_interval s then covers_interval (record { lo = s.lo; hi = s.hi }) (interval_of distances t) else is_same s t
+
+abbrev pub covers_value : Distances → Value → Value → Bool
+covers_value distances s t = covers_saved s.saved t.saved && covers_number distances s t
 
 -- levels have the same shape
 abbrev pub is_same_operator : Operator → Operator → Bool
@@ -77,6 +85,7 @@ covers_position position edge =
     covers_distances position.distances edge.distances
     && each_covers covers_fall position.falls edge.falls
     && is_at_most edge.ahead position.ahead
+    && each_covers covers_saved position.saved edge.saved
 
 -- an answer is there only where the edge has one, whose outcomes are covered
 abbrev pub covers_answer : Option Answer → Option Answer → Bool

@@ -1,4 +1,4 @@
--- D and K.
+-- D and K. Whatever is deleted, what was saved may lie behind the end of the buffer.
 use Rattle.std.specs.Prelude.{ℕ, ℤ, pos, negsuc, neg_ℤ, ◌-◌, min, nat_le, ◌&&◌, Option, Some, None, Result, Ok, Err, if◌then◌else◌}
 use Rattle.std.specs.Int.{int_max}
 use Rattle.teco_model.specs.declared.kind.Unit.{Unit as Counted}
@@ -12,7 +12,7 @@ use Rattle.teco_rules.specs.Arguments.{KnownTaken}
 use Rattle.teco_rules.specs.Attempt.{◌>>=◌}
 use Rattle.teco_rules.specs.Facts.{Facts}
 use Rattle.teco_rules.specs.Motions.{count_of, shift_by_lines}
-use Rattle.teco_rules.specs.Shifts.{Shift, moving, shift_to, Foreseen, silent_behind}
+use Rattle.teco_rules.specs.Shifts.{Shift, moving, ending, shift_to, Foreseen, silent_behind}
 
 -- a number, and 0 for a negative one
 abbrev pub positive : ℤ → ℕ
@@ -54,17 +54,17 @@ range_deletion m n distances = do
 abbrev pub part_deletion : Option Value → Option Value → Facts → Result Foreseen Refusal
 part_deletion (Some m) (Some n) facts = do
   shift ← range_deletion m n facts.position.distances
-  silent_behind shift facts
+  silent_behind (ending shift) facts
 part_deletion first value facts =
     let n = count_of value facts.position.distances in
-    silent_behind (shift_by_lines (Some (pos 0)) facts.position.distances n) facts
+    silent_behind (ending (shift_by_lines (Some (pos 0)) facts.position.distances n)) facts
 
 -- m,nD is m,nK
 abbrev pub deletion_of : Counted → Option Value → Option Value → Facts → Result Foreseen Refusal
 deletion_of Characters (Some m) (Some n) facts = part_deletion (Some m) (Some n) facts
 deletion_of Characters first value facts = do
   shift ← character_deletion facts.position.distances (count_of value facts.position.distances)
-  silent_behind shift facts
+  silent_behind (ending shift) facts
 deletion_of Lines first value facts = part_deletion first value facts
 
 abbrev pub deletion : Counted → KnownTaken → Facts → Result Foreseen Refusal

@@ -1,5 +1,5 @@
 -- What it means that facts describe a state of the machine.
-use Rattle.std.specs.Prelude.{◌≡◌, ◌⊎◌, ℕ, ℤ, pos, negsuc, ◌+◌, ◌-◌, ◌<◌, ◌≤◌, ◌+ℤ◌, ◌≤ℤ◌, ⊤, List, [], ◌∷◌, length, drop, Option, Some, None, MatchOption, FitsSigned}
+use Rattle.std.specs.Prelude.{◌≡◌, ◌⊎◌, ℕ, ℤ, pos, negsuc, ◌+◌, ◌-◌, ◌<◌, ◌≤◌, ◌+ℤ◌, ◌≤ℤ◌, ⊤, List, [], ◌∷◌, length, drop, Bool, Option, Some, None, MatchOption, FitsSigned}
 use Rattle.std.specs.Int.{w32}
 use Rattle.std.specs.List.{AllByRecursion}
 use Rattle.teco_base.specs.declared.TheConstants.{LIMIT, REGISTERS}
@@ -13,7 +13,7 @@ use Rattle.teco_poly.specs.Polynomial.{Polynomial, value}
 use Rattle.teco_rules.specs.declared.values.Interval.{Interval}
 use Rattle.teco_rules.specs.Arguments.{KnownLevel, KnownArguments, KnownTaken}
 use Rattle.teco_rules.specs.Facts.{Position, Answer, Pushed, Facts}
-use Rattle.teco_rules.specs.Values.{IsValue, IsWithin}
+use Rattle.teco_rules.specs.Values.{IsValue, IsWithin, IsPlaceIf}
 
 -- the pointer's distances from the begin and from the end
 abbrev pub back_of : Kept → ℕ
@@ -68,24 +68,31 @@ pub record IsTaken (fore back : ℕ) (known : KnownTaken) (taken : Taken) : Type
 abbrev pub HasFallen : ℕ → Option ℤ → ℕ → Type 0
 HasFallen ahead fall begun = MatchOption fall ⊤ (λ v. (pos ahead +ℤ v) ≤ℤ pos begun)
 
--- The pointer is at least so far from either end; no more is ahead than is known, nor has less of it fallen.
-pub record IsAt (run : Run) (position : Position) (fore back unread : ℕ) : Type 0 where
+-- the number of a register that is saved is a place of the buffer
+abbrev pub AreSaved : ℕ → ℕ → List Bool → List Pair → Type 0
+AreSaved fore back saved pairs = AreEach (λ s (pair : Pair). IsPlaceIf s fore back pair.number) saved pairs
+
+-- The pointer is at least so far from either end; no more is ahead than is known, nor has less of it fallen; and what is
+-- saved of the registers is so.
+pub record IsAt (run : Run) (position : Position) (fore back unread : ℕ) (pairs : List Pair) : Type 0 where
   pub begin : position.distances.back ≤ back
   pub end : position.distances.fore ≤ fore
   pub fallen : AreEach (HasFallen (fore + unread)) position.falls run.turns
   pub ahead : fore + unread ≤ value position.ahead run.n
+  pub saved : AreSaved fore back position.saved pairs
 
 -- an answer tells which outcome's position it is
-pub record IsAnswer (run : Run) (answer : Answer) (fore back unread : ℕ) (v : ℤ) : Type 0 where
+pub record IsAnswer
+    (run : Run) (answer : Answer) (fore back unread : ℕ) (pairs : List Pair) (v : ℤ) : Type 0 where
   pub either : (v ≡ negsuc 0) ⊎ (v ≡ pos 0)
-  pub found : v ≡ negsuc 0 → IsAt run answer.found fore back unread
-  pub failed : v ≡ pos 0 → IsAt run answer.failed fore back unread
+  pub found : v ≡ negsuc 0 → IsAt run answer.found fore back unread pairs
+  pub failed : v ≡ pos 0 → IsAt run answer.failed fore back unread pairs
 
 -- Where one is known it is all that the innermost level holds.
-abbrev pub Answers : Run → Option Answer → ℕ → ℕ → ℕ → Level → Type 0
-Answers run answer fore back unread level =
+abbrev pub Answers : Run → Option Answer → ℕ → ℕ → ℕ → List Pair → Level → Type 0
+Answers run answer fore back unread pairs level =
     MatchOption answer ⊤
-    (λ a. (v : ℤ) × (level ≡ record empty_level { value = Some v }) × IsAnswer run a fore back unread v)
+    (λ a. (v : ℤ) × (level ≡ record empty_level { value = Some v }) × IsAnswer run a fore back unread pairs v)
 
 -- each register's number is of its interval, and its text no longer than is known
 pub record AreRegisters
@@ -105,7 +112,7 @@ ArePushed n below (known ∷ pushes) (pair ∷ stack) = IsPushed n known pair ×
 
 -- The facts describe what is kept, and how much of the input is unread.
 pub record Holds (run : Run) (facts : Facts) (unread : ℕ) (kept : Kept) : Type 0 where
-  pub position : IsAt run facts.position (fore_of kept) (back_of kept) unread
+  pub position : IsAt run facts.position (fore_of kept) (back_of kept) unread kept.registers.pairs
   pub held : length kept.text + unread ≤ value facts.held run.n
   pub registers : AreRegisters run facts.numbers facts.texts kept.registers.pairs
   pub pushed : ArePushed run.n run.below facts.pushes kept.registers.stack
@@ -114,4 +121,5 @@ pub record Holds (run : Run) (facts : Facts) (unread : ℕ) (kept : Kept) : Type
 pub record Describes (run : Run) (facts : Facts) (unread : ℕ) (kept : Kept) (arguments : Arguments) : Type 0 where
   pub state : Holds run facts unread kept
   pub pending : ArePending (fore_of kept) (back_of kept) facts.arguments arguments
-  pub answers : Answers run facts.answer (fore_of kept) (back_of kept) unread arguments.level
+  pub answers :
+      Answers run facts.answer (fore_of kept) (back_of kept) unread kept.registers.pairs arguments.level

@@ -1,5 +1,5 @@
 -- What is known before an element.
-use Rattle.std.specs.Prelude.{ℕ, ℤ, List, [], replicate, slice_index_or, Bool, Option, None, Result}
+use Rattle.std.specs.Prelude.{ℕ, ℤ, List, [], replicate, slice_index_or, Bool, false, Option, None, Result}
 use Rattle.std.specs.Option.{ok_or}
 use Rattle.teco_base.specs.declared.TheConstants.{REGISTERS}
 use Rattle.teco_poly.specs.Polynomial.{Polynomial, variable, add, join}
@@ -14,11 +14,13 @@ use Rattle.teco_rules.specs.Values.{any_number}
 -- may be is told by polynomials in N.
 
 -- Where the pointer is: its least distances, for each open iteration the least fall of what is ahead since its turn
--- began, if it is known, the innermost first, and how much is ahead.
+-- began, if it is known, the innermost first, and how much is ahead; and which registers are saved, in their order: their
+-- numbers are places of the buffer.
 pub record Position : Type 0 where
   pub distances : Distances
   pub falls : List (Option ℤ)
   pub ahead : Polynomial
+  pub saved : List Bool
 
 -- a search's answer, -1 or 0, with what is known of the position where it was found, and where it failed
 pub record Answer : Type 0 where
@@ -57,12 +59,16 @@ join_of p q = ok_or (join p q) refusal.Overflow
 abbrev pub nowhere : Distances
 nowhere = record { back = 0; fore = 0 }
 
+-- no register is saved
+abbrev pub none_saved : List Bool
+none_saved = replicate REGISTERS false
+
 -- what is known before the first element: nothing is pending, and N holds all
 abbrev pub entry_facts : Facts
 entry_facts = record {
   arguments = no_arguments;
   answer = None;
-  position = record { distances = nowhere; falls = []; ahead = variable };
+  position = record { distances = nowhere; falls = []; ahead = variable; saved = none_saved };
   iterations = [];
   held = variable;
   numbers = replicate REGISTERS any_number;
@@ -73,6 +79,9 @@ entry_facts = record {
 -- what is known of a register
 abbrev pub number_of : ℕ → Facts → Interval
 number_of r facts = slice_index_or facts.numbers r any_number
+
+abbrev pub is_saved : ℕ → Facts → Bool
+is_saved r facts = slice_index_or facts.position.saved r false
 
 abbrev pub text_of : ℕ → Facts → Polynomial
 text_of r facts = slice_index_or facts.texts r []

@@ -146,3 +146,4 @@ flow_edges flow.Otherwise colons leaves answer facts = Ok (goes_away facts)
 flow_edges flow.EndTest colons leaves answer facts = Ok (goes_on facts)
 flow_edges flow.GoTo colons leaves answer facts = go_to leaves facts
 flow_edges flow.Comment colons leaves answer facts = Ok (goes_on facts)
+flow_edges (flow.GoAhead g) colons leaves answer facts = Ok (goes_away facts)

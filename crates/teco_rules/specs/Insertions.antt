@@ -10,12 +10,12 @@ use Rattle.teco_rules.specs.declared.refusal.Refusal.{Refusal}
 use Rattle.teco_rules.specs.declared.refusal.Refusal.TheVariants as refusal
 use Rattle.teco_rules.specs.Arguments.{KnownTaken}
 use Rattle.teco_rules.specs.Facts.{Facts}
-use Rattle.teco_rules.specs.Shifts.{Shift, Foreseen, silent_behind}
+use Rattle.teco_rules.specs.Shifts.{Shift, moving, Foreseen, silent_behind}
 
 -- an insertion before the pointer of m characters at least, and at most as many as a polynomial says
 abbrev pub insertion_of : ℕ → Polynomial → Distances → Shift
 insertion_of m growth distances =
-    record { distances = record distances { back = distances.back + m }; fall = Some (pos 0); growth = growth }
+    record (moving (record distances { back = distances.back + m }) (Some (pos 0))) { growth = growth }
 
 -- of exactly n
 abbrev pub insertion_of_length : ℕ → Facts → Result Foreseen Refusal

@@ -28,6 +28,12 @@ smaller_falls (v ∷ falls) (w ∷ others) = smaller_fall v w ∷ smaller_falls 
 smaller_falls [] others = []
 smaller_falls (v ∷ falls) [] = []
 
+-- a register that is saved on both
+abbrev pub joined_saved : List Bool → List Bool → List Bool
+joined_saved (s ∷ saved) (t ∷ others) = (s && t) ∷ joined_saved saved others
+joined_saved [] others = []
+joined_saved (s ∷ saved) [] = []
+
 -- two positions
 abbrev pub joined_position : Position → Position → Result Position Refusal
 joined_position p q = do
@@ -36,6 +42,7 @@ joined_position p q = do
     distances = nearer_of p.distances q.distances;
     falls = smaller_falls p.falls q.falls;
     ahead = ahead;
+    saved = joined_saved p.saved q.saved;
   })
 
 -- of each register

@@ -2,7 +2,7 @@
 -- the start of a body and its turns.
 use Rattle.std.specs.Prelude.{◌≡◌, ℕ, ℤ, ◌+◌, ◌-◌, ◌*◌, ◌≤◌, IsTrue, length, List, [], ◌∷◌, Bool, true, false, Option, MatchOption, IfOk, IsErr, ⊤}
 use Rattle.teco_model.specs.Arguments.{Arguments, no_arguments}
-use Rattle.teco_model.specs.Registers.{pair_of}
+use Rattle.teco_model.specs.Registers.{Pair, pair_of}
 use Rattle.teco_model.specs.declared.kind.Command.TheVariants as command
 use Rattle.teco_model.specs.declared.kind.Kind.{Kind}
 use Rattle.teco_model.specs.declared.kind.Kind.TheVariants as kind
@@ -10,7 +10,7 @@ use Rattle.teco_model.specs.declared.kind.Stack.TheVariants as stack
 use Rattle.teco_model.specs.declared.kind.Storage.TheVariants as storage
 use Rattle.teco_model.specs.State.{Kept}
 use Rattle.teco_poly.specs.Polynomial.{Polynomial, value}
-use Rattle.teco_rules.specs.Bodies.{Choice, body_start, begins, returns, has_room}
+use Rattle.teco_rules.specs.Bodies.{Choice, Changes, body_start, begins, returns, has_room}
 use Rattle.teco_rules.specs.Covers.{covers}
 use Rattle.teco_rules.specs.Describes.{Run, run_behind, run_in_turn, IsWhole, Holds, IsAnswer, Describes, AreEach, HasFallen, fore_of, back_of}
 use Rattle.teco_rules.specs.Facts.{Answer, Facts, entry_facts, without_arguments}
@@ -33,9 +33,9 @@ LibraryStays =
     (x : Placed) (facts : Facts) → x.library ≡ true → WritesText x.element.kind → IsErr (transfer x facts)
 
 -- a number is told: it is of a value, or it is an answer
-abbrev pub IsTold : Run → Option Answer → Value → ℕ → ℕ → ℕ → ℤ → Type 0
-IsTold run answer s fore back unread v =
-    MatchOption answer (IsIn s fore back v) (λ a. IsAnswer run a fore back unread v)
+abbrev pub IsTold : Run → Option Answer → Value → ℕ → ℕ → ℕ → List Pair → ℤ → Type 0
+IsTold run answer s fore back unread pairs v =
+    MatchOption answer (IsIn s fore back v) (λ a. IsAnswer run a fore back unread pairs v)
 
 -- The way that a number takes is reached, and what is known on it holds.
 abbrev pub WaysAreSound : Type 0
@@ -43,7 +43,7 @@ WaysAreSound =
     (run : Run) (facts : Facts) (unread : ℕ) (kept : Kept)
     (numbers : Numbers) (answer : Option Answer) (s : Value) (v : ℤ)
     → IsWhole kept → Holds run facts unread kept
-    → IsTold run answer s (fore_of kept) (back_of kept) unread v → Takes numbers v
+    → IsTold run answer s (fore_of kept) (back_of kept) unread kept.registers.pairs v → Takes numbers v
     → MatchOption (way numbers answer s facts) ⊥ (λ next. Holds run next unread kept)
 
 -- What covers facts that describe a state describes it.
@@ -58,6 +58,7 @@ pub record MayMeet (facts others : Facts) : Type 0 where
   pub falls : length facts.position.falls ≡ length others.position.falls
   pub numbers : length facts.numbers ≡ length others.numbers
   pub texts : length facts.texts ≡ length others.texts
+  pub saved : length facts.position.saved ≡ length others.position.saved
 
 -- Where ways meet, what is known of both describes what either describes.
 pub record MeetsBoth (facts others join : Facts) : Type 0 where
@@ -90,10 +91,10 @@ entered counted facts = entering counted (without_arguments facts)
 abbrev pub BodyStartsAreSound : Type 0
 BodyStartsAreSound =
     (run : Run) (facts : Facts) (unread : ℕ) (kept : Kept) (arguments : Arguments)
-    (choice : Choice) (written : List Bool) (counted : Bool)
+    (choice : Choice) (changes : Changes) (counted : Bool)
     → IsWhole kept → IsTrue (begins choice (entered counted facts))
     → Describes (run_in_turn unread kept run) (entered counted facts) unread kept arguments
-    → Describes (run_in_turn unread kept run) (body_start choice written (entered counted facts)) unread kept arguments
+    → Describes (run_in_turn unread kept run) (body_start choice changes (entered counted facts)) unread kept arguments
 
 -- What is carried from turn to turn: a kept iteration began its turn with no more ahead than was at its <, and with
 -- falls of those outside as they were there.
@@ -111,20 +112,20 @@ pub record BeginsAgain
 abbrev pub ReturnsAreSound : Type 0
 ReturnsAreSound =
     (run : Run) (facts end : Facts) (unread : ℕ) (kept : Kept) (arguments : Arguments)
-    (choice : Choice) (written : List Bool) (counted : Bool) (turns : Polynomial) (begun : ℕ) (outer : List ℕ)
-    → IsWhole kept → IsTrue (returns choice written counted turns (entered counted facts) end)
+    (choice : Choice) (changes : Changes) (counted : Bool) (turns : Polynomial) (begun : ℕ) (outer : List ℕ)
+    → IsWhole kept → IsTrue (returns choice changes counted turns (entered counted facts) end)
     → Describes run end unread kept arguments → run.turns ≡ begun ∷ outer
     → length facts.position.falls ≡ length outer
     → length kept.text + unread ≤ value choice.held run.n
     → (choice.kept ≡ true → IsCarried run facts begun outer)
-    → BeginsAgain run facts (body_start choice written (entered counted facts)) unread kept choice.kept outer
+    → BeginsAgain run facts (body_start choice changes (entered counted facts)) unread kept choice.kept outer
 
 -- Without a count less is ahead behind each turn than at its begin.
 abbrev pub TurnsFall : Type 0
 TurnsFall =
     (run : Run) (end : Facts) (unread : ℕ) (kept : Kept) (arguments : Arguments)
-    (choice : Choice) (written : List Bool) (turns : Polynomial) (entering : Facts) (begun : ℕ) (outer : List ℕ)
-    → IsTrue (returns choice written false turns entering end)
+    (choice : Choice) (changes : Changes) (turns : Polynomial) (entering : Facts) (begun : ℕ) (outer : List ℕ)
+    → IsTrue (returns choice changes false turns entering end)
     → Describes run end unread kept arguments → run.turns ≡ begun ∷ outer
     → fore_of kept + unread + 1 ≤ begun
 

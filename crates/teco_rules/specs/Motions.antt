@@ -1,5 +1,5 @@
 -- C, R, J and L.
-use Rattle.std.specs.Prelude.{ℕ, zero, suc, ℤ, pos, negsuc, int_le, Bool, false, Option, Some, None, Result, Ok, unwrap_or, if◌then◌else◌}
+use Rattle.std.specs.Prelude.{ℕ, zero, suc, ℤ, pos, negsuc, int_le, Bool, false, Option, Some, None, Result, Ok, Err, unwrap_or, if◌then◌else◌}
 use Rattle.teco_model.specs.declared.kind.Motion.{Motion}
 use Rattle.teco_model.specs.declared.kind.Motion.TheVariants.{Forward, Backward, To, Lines}
 use Rattle.teco_rules.specs.declared.values.Value.{Value}
@@ -47,9 +47,19 @@ shift_by_lines back distances n =
     else if int_le n.hi (pos 0) then moving (record distances { back = 0 }) back
     else moving nowhere back
 
+-- J alone goes to a saved place
+abbrev pub goes_to_saved : Motion → Option Value → Bool
+goes_to_saved To (Some n) = n.saved
+goes_to_saved m n = false
+
+-- To a place that is known to lie in the buffer; a saved one is somewhere in it.
+abbrev pub shift_or_saved : Bool → Result Shift Refusal → Result Shift Refusal
+shift_or_saved saved (Ok shift) = Ok shift
+shift_or_saved saved (Err why) = if saved then Ok (moving nowhere None) else Err why
+
 abbrev pub motion_to : Motion → ℕ → Option Value → Facts → Result Foreseen Refusal
 motion_to m zero n facts = do
-  shift ← shift_to (target m n) facts.position.distances
+  shift ← shift_or_saved (goes_to_saved m n) (shift_to (target m n) facts.position.distances)
   silent_behind shift facts
 motion_to m (suc colons) n facts = do
   known ← shifted (perhaps_forward (goes_forward m (count_of n facts.position.distances))) facts

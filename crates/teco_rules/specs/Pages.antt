@@ -11,7 +11,7 @@ use Rattle.teco_rules.specs.Attempt.{◌>>=◌}
 use Rattle.teco_rules.specs.Facts.{Facts, nowhere}
 use Rattle.teco_rules.specs.Motions.{count_of}
 use Rattle.teco_rules.specs.Queries.{character}
-use Rattle.teco_rules.specs.Shifts.{moving, Foreseen, silent, answering, silent_behind}
+use Rattle.teco_rules.specs.Shifts.{moving, ending, Foreseen, silent, answering, silent_behind}
 use Rattle.teco_rules.specs.Typings.{part_named}
 
 -- there is one page at least
@@ -23,14 +23,14 @@ abbrev pub append : Option Value → Facts → Result Foreseen Refusal
 append None facts = silent_behind (moving facts.position.distances (Some (pos 0))) facts
 append (Some n) facts = Ok (answering character facts)
 
--- nP goes to the begin of another page, and m,nP writes a part
+-- nP goes to the begin of another page, where nothing is saved, and m,nP writes a part
 abbrev pub turning : Option Value → Option Value → Facts → Result Foreseen Refusal
 turning (Some m) (Some n) facts = do
   named ← part_named (Some m) (Some n) facts.position.distances
   Ok (silent facts)
 turning first n facts = do
   some ← some_pages (count_of n facts.position.distances)
-  silent_behind (moving nowhere (Some (pos 0))) facts
+  silent_behind (ending (moving nowhere (Some (pos 0)))) facts
 
 -- nPW and m,nPW write
 abbrev pub writing : Option Value → Option Value → Facts → Result Foreseen Refusal

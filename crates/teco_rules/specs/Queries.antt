@@ -11,7 +11,7 @@ use Rattle.teco_rules.specs.declared.values.Distances.{Distances}
 use Rattle.teco_rules.specs.declared.refusal.Refusal.{Refusal}
 use Rattle.teco_rules.specs.Arguments.{KnownLevel, level_with, with_level, levels_after_taking, standing_value}
 use Rattle.teco_rules.specs.Attempt.{◌>>=◌}
-use Rattle.teco_rules.specs.Facts.{Facts, number_of, with_arguments}
+use Rattle.teco_rules.specs.Facts.{Facts, number_of, is_saved, with_arguments}
 use Rattle.teco_rules.specs.Insertions.{insertion_of}
 use Rattle.teco_rules.specs.Shifts.{Shift, moving, shifted, Foreseen, silent, answering, silent_behind, facts_answered}
 use Rattle.teco_rules.specs.Values.{value_in, any_number}
@@ -24,11 +24,11 @@ character = record { lo = negsuc 0; hi = pos 255 }
 abbrev pub text_length : Interval
 text_length = record { lo = pos 0; hi = pos LIMIT }
 
--- what is given where nothing is taken
-abbrev pub query : Query → ℕ → Facts → Interval
-query (Number r) zero facts = number_of r facts
-query (Number r) (suc colons) facts = text_length
-query q colons facts = any_number
+-- what is given where nothing is taken: the number of a saved register is a saved value
+abbrev pub query : Query → ℕ → Facts → Value
+query (Number r) zero facts = record (value_in (number_of r facts)) { saved = is_saved r facts }
+query (Number r) (suc colons) facts = value_in text_length
+query q colons facts = value_in any_number
 
 -- \ goes on past the number that it reads
 abbrev pub past_number : Distances → Shift
@@ -51,7 +51,7 @@ abbrev pub facts_after_query : Query → ℕ → Option Value → Facts → Resu
 facts_after_query q colons None facts = do
   known ← facts_at_query q facts
   arguments ← with_level known.arguments
-      (level_with known.position.distances (value_in (query q colons facts)) known.arguments.level)
+      (level_with known.position.distances (query q colons facts) known.arguments.level)
   Ok (with_arguments arguments known)
 facts_after_query q colons (Some s) facts = do
   known ← query_with q (with_arguments (levels_after_taking facts.arguments) facts)

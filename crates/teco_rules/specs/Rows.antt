@@ -9,7 +9,7 @@ use Rattle.teco_model.specs.Searching.{has_colon}
 use Rattle.teco_poly.specs.Polynomial.{Polynomial, variable, first}
 use Rattle.teco_poly.specs.Text.{text}
 use Rattle.teco_rules.specs.Attempt.{◌>>=◌}
-use Rattle.teco_rules.specs.Bodies.{Choice, body_start, stands}
+use Rattle.teco_rules.specs.Bodies.{Choice, Changes, body_start, stands}
 use Rattle.teco_rules.specs.Facts.{Iteration, Facts, entry_facts}
 use Rattle.teco_rules.specs.Flows.{Edges, turns}
 use Rattle.teco_rules.specs.Transfer.{Placed, transfer}
@@ -69,11 +69,15 @@ shown found = do
 abbrev pub from_entry : ℕ → List ℕ → Result Facts Refusal
 from_entry n commands = behind n false commands 0 entry_facts
 
+-- a body that changes nothing
+abbrev pub unchanged : Changes
+unchanged = record { written = []; ends = false }
+
 -- the end of a body whose < is the element with so many before it, and whose first element is at a place
 abbrev pub start_of_body : Choice → ℕ → List ℕ → Result Facts Refusal
 start_of_body choice n commands = do
   entering ← from_entry n commands
-  Ok (body_start choice [] entering)
+  Ok (body_start choice unchanged entering)
 
 abbrev pub end_of_body : Choice → ℕ → ℕ → ℕ → List ℕ → Result Facts Refusal
 end_of_body choice before at n commands = do
@@ -85,7 +89,7 @@ abbrev pub stands_for : Choice → Bool → Polynomial → ℕ → ℕ → ℕ �
 stands_for choice counted most before at n commands = do
   entering ← from_entry before commands
   end ← end_of_body choice before at n commands
-  Ok (stands choice [] counted most entering (Some end))
+  Ok (stands choice unchanged counted most entering (Some end))
 
 -- a kept choice, with the texts as they were
 abbrev pub keeping : Polynomial → Choice
@@ -136,6 +140,16 @@ pub record FactRows : Type 0 where
   pub no_fall_at_all : stands_for (keeping (multiple 0 1)) false (multiple 1 1) 1 1 1 endless ≡ Ok false
   -- a text that grows in each turn has no bound
   pub doubled : stands_for (keeping (multiple 0 1)) true (multiple 3 0) 2 2 3 (codes "3<HXBGB>") ≡ Ok false
+  -- J goes to a place that was saved, whatever was inserted, but not past a deletion
+  pub saved :
+      shown (from_entry 5 (codes ".UBIx" ++ ESC ∷ codes "QBJ"))
+      ≡ Ok (record {
+        distances = record { back = 0; fore = 0 };
+        falls = [];
+        held = codes "1 + N";
+        ahead = codes "1 + N";
+      })
+  pub not_saved : from_entry 6 (codes ".UB0KQBJ") ≡ Err refusal.Place
   -- what is refused
   pub outside : from_entry 2 (codes "5C") ≡ Err refusal.Place
   pub too_long : from_entry 1 (codes "D") ≡ Err refusal.Deletion

@@ -1,5 +1,5 @@
 -- S, FS, N and FN: what is known where they found, and where they failed.
-use Rattle.std.specs.Prelude.{ℕ, suc, pos, int_le, int_lt, ◌+◌, ◌&&◌, List, [], ◌∷◌, length, Option, Some, None, Result, Ok, Err, if◌then◌else◌}
+use Rattle.std.specs.Prelude.{ℕ, suc, pos, int_le, int_lt, ◌+◌, ◌&&◌, List, [], ◌∷◌, length, true, Option, Some, None, Result, Ok, Err, if◌then◌else◌}
 use Rattle.teco_base.specs.declared.code.Code.{Code}
 use Rattle.teco_model.specs.declared.kind.Search.{Search}
 use Rattle.teco_model.specs.declared.kind.Search.TheVariants.{Find, Replace, FindInPages, ReplaceInPages}
@@ -16,7 +16,7 @@ use Rattle.teco_rules.specs.Attempt.{◌>>=◌}
 use Rattle.teco_rules.specs.Facts.{Position, Facts, nowhere, with_arguments, at_position}
 use Rattle.teco_rules.specs.Joins.{joined_position}
 use Rattle.teco_rules.specs.Motions.{count_of, success}
-use Rattle.teco_rules.specs.Shifts.{Shift, moving, shifted, position_after}
+use Rattle.teco_rules.specs.Shifts.{Shift, moving, ending, shifted, position_after}
 use Rattle.teco_rules.specs.Values.{value_in}
 
 -- A first value, and a count that may be 0, may be refused by the machine; a count that may be negative is not
@@ -41,7 +41,8 @@ abbrev pub minimum_of : List ℕ → Result ℕ Refusal
 minimum_of [] = Err refusal.Unverified
 minimum_of (c ∷ text) = known_minimum (minimum (c ∷ text))
 
--- What is found is as long as the minimum, and lies ahead; the pointer goes behind it, or behind what replaces it.
+-- What is found is as long as the minimum, and lies ahead; the pointer goes behind it, or behind what replaces it. A shorter
+-- buffer, and another page, end all that is saved.
 abbrev pub shift_found : Search → ℕ → ℕ → Distances → Shift
 shift_found Find least new distances =
     moving (record { back = distances.back + least; fore = 0 }) (Some (pos least))
@@ -49,10 +50,11 @@ shift_found Replace least new distances = record {
   distances = record { back = distances.back + new; fore = 0 };
   fall = Some (pos least);
   growth = number new;
+  ends = true;
 }
-shift_found FindInPages least new distances = moving (record { back = least; fore = 0 }) (Some (pos least))
+shift_found FindInPages least new distances = ending (moving (record { back = least; fore = 0 }) (Some (pos least)))
 shift_found ReplaceInPages least new distances =
-    record { distances = record { back = new; fore = 0 }; fall = Some (pos least); growth = number new }
+    record { distances = record { back = new; fore = 0 }; fall = Some (pos least); growth = number new; ends = true }
 
 -- A failure goes to the begin of the buffer; of N and FN that is empty then. With two colons nothing moves.
 abbrev pub shift_to_begin : Distances → Shift
@@ -64,8 +66,8 @@ position_failed_in colons facts =
     position_after (shift_to_begin facts.position.distances) facts.held facts.position
 
 abbrev pub position_failed : Search → ℕ → Facts → Position
-position_failed FindInPages colons facts = position_after (moving nowhere None) facts.held facts.position
-position_failed ReplaceInPages colons facts = position_after (moving nowhere None) facts.held facts.position
+position_failed FindInPages colons facts = position_after (ending (moving nowhere None)) facts.held facts.position
+position_failed ReplaceInPages colons facts = position_after (ending (moving nowhere None)) facts.held facts.position
 position_failed s colons facts = position_failed_in colons facts
 
 -- the facts where it failed: nothing was put in

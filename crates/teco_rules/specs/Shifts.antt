@@ -1,5 +1,5 @@
 -- What an element that moves the pointer, or edits the buffer, does to what is known of the position.
-use Rattle.std.specs.Prelude.{ℕ, ℤ, pos, ◌+ℤ◌, min, map, Option, Some, None, Result, Ok, Err}
+use Rattle.std.specs.Prelude.{ℕ, ℤ, pos, ◌+ℤ◌, min, List, map, Bool, true, false, ◌||◌, if◌then◌else◌, Option, Some, None, Result, Ok, Err, is_ok}
 use Rattle.teco_base.specs.declared.TheConstants.{LIMIT}
 use Rattle.teco_poly.specs.Polynomial.{Polynomial, number}
 use Rattle.teco_rules.specs.declared.values.Value.{Value}
@@ -9,15 +9,16 @@ use Rattle.teco_rules.specs.declared.refusal.Refusal.{Refusal}
 use Rattle.teco_rules.specs.declared.refusal.Refusal.TheVariants as refusal
 use Rattle.teco_rules.specs.Arguments.{settled, levels_after_answer}
 use Rattle.teco_rules.specs.Attempt.{◌>>=◌}
-use Rattle.teco_rules.specs.Facts.{Position, Facts, sum_of, with_arguments}
+use Rattle.teco_rules.specs.Facts.{Position, Facts, none_saved, sum_of, with_arguments}
 use Rattle.teco_rules.specs.Values.{size, pointer, minus, least, distance_of, value_in}
 
--- the least distances afterwards, how much ahead falls at the least, if that is known, and how much longer the buffer
--- grows at the most
+-- the least distances afterwards, how much ahead falls at the least, if that is known, how much longer the buffer grows at
+-- the most, and whether what is saved may be no place any more
 pub record Shift : Type 0 where
   pub distances : Distances
   pub fall : Option ℤ
   pub growth : Polynomial
+  pub ends : Bool
 
 -- a fall is done for every open iteration; one that is unknown makes it unknown
 abbrev pub fall_after : Option ℤ → Option ℤ → Option ℤ
@@ -34,18 +35,23 @@ ahead_after fall held ahead = held
 abbrev pub capped : Distances → Distances
 capped distances = record { back = min distances.back LIMIT; fore = min distances.fore LIMIT }
 
+-- what is still saved
+abbrev pub saved_after : Bool → List Bool → List Bool
+saved_after ends saved = if ends then none_saved else saved
+
 -- the position behind a shift, where so much is held
 abbrev pub position_after : Shift → Polynomial → Position → Position
 position_after shift held position = record {
   distances = capped shift.distances;
   falls = map (fall_after shift.fall) position.falls;
   ahead = ahead_after shift.fall held position.ahead;
+  saved = saved_after shift.ends position.saved;
 }
 
 -- what is known behind a shift: what is pending is settled with what was known before it
 abbrev pub facts_behind : Shift → Polynomial → Facts → Facts
 facts_behind shift held facts = record facts {
-  arguments = settled facts.position.distances facts.arguments;
+  arguments = settled facts.position.distances shift.ends facts.arguments;
   position = position_after shift held facts.position;
   held = held;
 }
@@ -57,7 +63,11 @@ shifted shift facts = do
 
 -- a shift that is no growth
 abbrev pub moving : Distances → Option ℤ → Shift
-moving distances fall = record { distances = distances; fall = fall; growth = number 0 }
+moving distances fall = record { distances = distances; fall = fall; growth = number 0; ends = false }
+
+-- a shift that ends all that is saved
+abbrev pub ending : Shift → Shift
+ending shift = record shift { ends = true }
 
 -- a least distance, or the refusal
 abbrev pub known_distance : Refusal → Option ℕ → Result ℕ Refusal
@@ -74,6 +84,10 @@ shift_to place distances = do
   back ← distance refusal.Place place distances
   fore ← distance refusal.Place (minus size place) distances
   Ok (moving (record { back = back; fore = fore }) (least (minus place pointer) distances))
+
+-- a value that is known to be a place of the buffer: it is saved, or its distances tell it
+abbrev pub is_place : Value → Distances → Bool
+is_place n distances = n.saved || is_ok (shift_to n distances)
 
 -- What a command leaves and answers, as far as it is known.
 pub record Foreseen : Type 0 where

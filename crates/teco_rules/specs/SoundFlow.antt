@@ -11,6 +11,7 @@ use Rattle.teco_model.specs.State.{Kept}
 use Rattle.teco_model.specs.declared.arguments.Taken.{Taken}
 use Rattle.teco_model.specs.declared.kind.Call.{Call}
 use Rattle.teco_model.specs.declared.kind.Flow.TheVariants as flow
+use Rattle.teco_model.specs.declared.kind.Goal.{Goal}
 use Rattle.teco_model.specs.declared.kind.Kind.TheVariants as kind
 use Rattle.teco_model.specs.declared.kind.Test.{Test}
 use Rattle.teco_poly.specs.Polynomial.{value}
@@ -112,11 +113,14 @@ TagsAreSound =
     (taken.value ≡ None) × IsReached (run_behind x.leaves run) edges.away unread kept no_arguments)
     (transfer x facts) (arguments_of arguments.level)
 
--- The other elements of flow, a call and a return change nothing: | goes away, and the others go on.
+-- The other elements of flow, a call and a return change nothing: |, F>, F' and F| go away, and the others go on.
 pub record PassOn
     (run : Run) (facts : Facts) (unread : ℕ) (kept : Kept) (arguments : Arguments) (x : Placed) : Type 0 where
   pub otherwise :
       x.element.kind ≡ kind.Flow flow.Otherwise
+      → IfOk (transfer x facts) (λ edges. IsReached run edges.away unread kept arguments)
+  pub ahead :
+      (g : Goal) → x.element.kind ≡ kind.Flow (flow.GoAhead g)
       → IfOk (transfer x facts) (λ edges. IsReached run edges.away unread kept arguments)
   pub end :
       x.element.kind ≡ kind.Flow flow.EndTest

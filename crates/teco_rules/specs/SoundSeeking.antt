@@ -12,7 +12,7 @@ use Rattle.teco_model.specs.declared.kind.Search.TheVariants.{Find, Replace, Fin
 use Rattle.teco_poly.specs.Polynomial.{Polynomial, value}
 use Rattle.teco_rules.specs.Arguments.{settled}
 use Rattle.teco_rules.specs.Describes.{Run, IsWhole, Describes, run_behind}
-use Rattle.teco_rules.specs.Facts.{Facts, nowhere}
+use Rattle.teco_rules.specs.Facts.{Facts, nowhere, none_saved}
 use Rattle.teco_rules.specs.Flows.{Edges, facts_taken}
 use Rattle.teco_rules.specs.Printed.{steps}
 use Rattle.teco_rules.specs.SoundElements.{Leads, Succeeds, FitsOn}
@@ -26,11 +26,12 @@ IsInPages Replace = ⊥
 IsInPages FindInPages = ⊤
 IsInPages ReplaceInPages = ⊤
 
--- What is known while pages go by: the pointer may be anywhere, and no more is held or ahead than was before the element.
+-- What is known while pages go by: the pointer may be anywhere, nothing is saved, and no more is held or ahead than was
+-- before the element.
 abbrev pub facts_seeking : Facts → Facts
 facts_seeking facts = record (facts_taken facts) {
-  arguments = settled facts.position.distances (facts_taken facts).arguments;
-  position = record facts.position { distances = nowhere };
+  arguments = settled facts.position.distances true (facts_taken facts).arguments;
+  position = record facts.position { distances = nowhere; saved = none_saved };
 }
 
 -- The element sought so far: that is known, its text is the last search text, and an output is open.

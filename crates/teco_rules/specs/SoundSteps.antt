@@ -20,6 +20,7 @@ use Rattle.teco_model.specs.declared.flow.Loop.{Loop}
 use Rattle.teco_model.specs.declared.kind.Call.{Call}
 use Rattle.teco_model.specs.declared.kind.Flow.{Flow}
 use Rattle.teco_model.specs.declared.kind.Flow.TheVariants as flow
+use Rattle.teco_model.specs.declared.kind.Goal.TheVariants as goal
 use Rattle.teco_model.specs.declared.kind.Kind.{Kind}
 use Rattle.teco_model.specs.declared.kind.Kind.TheVariants as kind
 use Rattle.teco_model.specs.declared.kind.Page.{Page}
@@ -71,6 +72,8 @@ FlowStands flow.Leave facts x frame = IsInside facts frame × LeadsAhead x.eleme
 FlowStands (flow.Test t) facts x frame = LeadsAhead x.element frame
 FlowStands flow.Otherwise facts x frame = LeadsAhead x.element frame
 FlowStands flow.GoTo facts x frame = LeadsAhead x.element frame
+FlowStands (flow.GoAhead goal.EndTurn) facts x frame = IsInside facts frame × LeadsAhead x.element frame
+FlowStands (flow.GoAhead g) facts x frame = LeadsAhead x.element frame
 FlowStands f facts x frame = ⊤
 
 abbrev pub KindStands : Kind → Facts → Placed → Frame → Type 0
@@ -152,6 +155,7 @@ FlowGoes flow.Otherwise run held x edges s turn = Reached run held s edges.away 
 FlowGoes flow.EndTest run held x edges s turn = Reached run held s edges.on turn
 FlowGoes flow.GoTo run held x edges s turn = Reached (run_behind x.leaves run) held s edges.away turn
 FlowGoes flow.Comment run held x edges s turn = Reached run held s edges.on turn
+FlowGoes (flow.GoAhead g) run held x edges s turn = Reached run held s edges.away turn
 
 pub record Turns
     (f : Flow) (run : Run) (held : Polynomial) (x : Placed) (edges : Edges) (s new : State) : Type 0 where

@@ -15,22 +15,25 @@ use Rattle.teco_rules.specs.Attempt.{◌>>=◌}
 use Rattle.teco_rules.specs.Facts.{Iteration, Pushed, Facts, number_of, text_of, sum_of}
 use Rattle.teco_rules.specs.Insertions.{insertion_of}
 use Rattle.teco_rules.specs.Motions.{count_of}
-use Rattle.teco_rules.specs.Shifts.{Foreseen, silent, answering, silent_behind}
+use Rattle.teco_rules.specs.Shifts.{is_place, Foreseen, silent, answering, silent_behind}
 use Rattle.teco_rules.specs.Typings.{part_named}
 use Rattle.teco_rules.specs.Values.{interval_of, interval_sum, kept_in_32_bits}
 
--- the number of a register is of an interval, and its text at most so long
-abbrev pub with_number : ℕ → Interval → Facts → Facts
-with_number r i facts = record facts { numbers = slice_set facts.numbers r i }
+-- the number of a register is of an interval, and saved or not, and its text at most so long
+abbrev pub with_number : ℕ → Interval → Bool → Facts → Facts
+with_number r i saved facts = record facts {
+  numbers = slice_set facts.numbers r i;
+  position = record facts.position { saved = slice_set facts.position.saved r saved };
+}
 
 abbrev pub with_text : ℕ → Polynomial → Facts → Facts
 with_text r length facts = record facts { texts = slice_set facts.texts r length }
 
--- n%q answers the sum
+-- n%q answers the sum, which is not saved
 abbrev pub addition : ℕ → Option Value → Facts → Foreseen
 addition r n facts =
     let sum = kept_in_32_bits (interval_sum (number_of r facts) (count_of n facts.position.distances)) in
-    answering sum (with_number r sum facts)
+    answering sum (with_number r sum false facts)
 
 -- is the text one of the library's?
 abbrev pub not_of_library : Bool → Result (Unit {0}) Refusal
@@ -63,10 +66,13 @@ abbrev pub retrieval : ℕ → ℕ → Facts → Result Foreseen Refusal
 retrieval zero r facts = silent_behind (insertion_of 0 (text_of r facts) facts.position.distances) facts
 retrieval (suc colons) r facts = Ok (silent facts)
 
+-- nUq saves n where that is a place of the buffer.
 abbrev pub storage : Storage → Bool → ℕ → List ℕ → KnownTaken → Facts → Result Foreseen Refusal
 storage (SetNumber r) library colons text taken facts = do
   n ← needed_value taken.value
-  Ok (silent (with_number r (interval_of facts.position.distances n) facts))
+  Ok (
+      let distances = facts.position.distances in
+      silent (with_number r (interval_of distances n) (is_place n distances) facts))
 storage (Add r) library colons text taken facts = Ok (addition r taken.value facts)
 storage (Copy r) library colons text taken facts = copy library colons r taken facts
 storage (SetText r) library colons text taken facts = own_text_storage library colons r text taken.value facts
@@ -84,7 +90,7 @@ abbrev pub with_popped : ℕ → List Pushed → Facts → Result Facts Refusal
 with_popped r [] facts = Err refusal.Pop
 with_popped r (pair ∷ pushes) facts =
     if is_above (pair ∷ pushes) facts.iterations
-    then Ok (record (with_text r pair.text (with_number r pair.number facts)) { pushes = pushes })
+    then Ok (record (with_text r pair.text (with_number r pair.number false facts)) { pushes = pushes })
     else Err refusal.Pop
 
 abbrev pub pop : Bool → ℕ → Facts → Result Facts Refusal

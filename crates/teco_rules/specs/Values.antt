@@ -1,6 +1,7 @@
 -- What is known of a number: an interval, or a linear value in Z and the pointer. Both are one thing, told in the
--- distances of the pointer from the end of the buffer and from its begin: Z is the sum of both, and . the latter.
-use Rattle.std.specs.Prelude.{ℕ, ℤ, pos, negsuc, ◌-◌, ◌^◌, ◌+ℤ◌, ◌-ℤ◌, ◌*ℤ◌, ◌≤ℤ◌, int_le, int_lt, int_div, min, unsigned_abs, FitsSigned, Bool, ◌&&◌, ◌||◌, Option, Some, None, if◌then◌else◌}
+-- distances of the pointer from the end of the buffer and from its begin: Z is the sum of both, and . the latter. A saved
+-- value is an interval that a saved register was asked for.
+use Rattle.std.specs.Prelude.{ℕ, ℤ, pos, negsuc, ◌-◌, ◌^◌, ◌+ℤ◌, ◌-ℤ◌, ◌*ℤ◌, ◌≤ℤ◌, int_le, int_lt, int_div, min, unsigned_abs, FitsSigned, ⊤, ◌+◌, Bool, true, false, ◌&&◌, ◌||◌, Option, Some, None, if◌then◌else◌}
 use Rattle.std.specs.Int.{int_min, int_max, w32}
 use Rattle.teco_base.specs.declared.TheConstants.{LIMIT}
 use Rattle.teco_rules.specs.declared.values.Value.{Value}
@@ -9,10 +10,10 @@ use Rattle.teco_rules.specs.declared.values.Distances.{Distances}
 
 -- a single number, and a number of an interval
 abbrev pub single : ℤ → Value
-single k = record { ahead = pos 0; behind = pos 0; lo = k; hi = k }
+single k = record { ahead = pos 0; behind = pos 0; lo = k; hi = k; saved = false }
 
 abbrev pub value_in : Interval → Value
-value_in i = record { ahead = pos 0; behind = pos 0; lo = i.lo; hi = i.hi }
+value_in i = record { ahead = pos 0; behind = pos 0; lo = i.lo; hi = i.hi; saved = false }
 
 -- all 32-bit numbers
 abbrev pub any_number : Interval
@@ -20,17 +21,29 @@ any_number = record { lo = negsuc (2 ^ 31 - 1); hi = pos (2 ^ 31 - 1) }
 
 -- Z and .
 abbrev pub size : Value
-size = record { ahead = pos 1; behind = pos 1; lo = pos 0; hi = pos 0 }
+size = record { ahead = pos 1; behind = pos 1; lo = pos 0; hi = pos 0; saved = false }
 
 abbrev pub pointer : Value
-pointer = record { ahead = pos 0; behind = pos 1; lo = pos 0; hi = pos 0 }
+pointer = record { ahead = pos 0; behind = pos 1; lo = pos 0; hi = pos 0; saved = false }
 
 -- sum and difference of numbers without a limit
 abbrev pub plus : Value → Value → Value
-plus s t = record { ahead = s.ahead +ℤ t.ahead; behind = s.behind +ℤ t.behind; lo = s.lo +ℤ t.lo; hi = s.hi +ℤ t.hi }
+plus s t = record {
+  ahead = s.ahead +ℤ t.ahead;
+  behind = s.behind +ℤ t.behind;
+  lo = s.lo +ℤ t.lo;
+  hi = s.hi +ℤ t.hi;
+  saved = false;
+}
 
 abbrev pub minus : Value → Value → Value
-minus s t = record { ahead = s.ahead -ℤ t.ahead; behind = s.behind -ℤ t.behind; lo = s.lo -ℤ t.hi; hi = s.hi -ℤ t.lo }
+minus s t = record {
+  ahead = s.ahead -ℤ t.ahead;
+  behind = s.behind -ℤ t.behind;
+  lo = s.lo -ℤ t.hi;
+  hi = s.hi -ℤ t.lo;
+  saved = false;
+}
 
 -- The least that a number can be where the distances are at least these; unknown where one of them counts negatively.
 abbrev pub least : Value → Distances → Option ℤ
@@ -140,10 +153,16 @@ pub record IsIn (s : Value) (fore back : ℕ) (v : ℤ) : Type 0 where
   pub low : (worth s fore back +ℤ s.lo) ≤ℤ v
   pub high : v ≤ℤ (worth s fore back +ℤ s.hi)
 
+-- a number that is saved is a place of the buffer
+abbrev pub IsPlaceIf : Bool → ℕ → ℕ → ℤ → Type 0
+IsPlaceIf true fore back v = (pos 0 ≤ℤ v) × (v ≤ℤ pos (fore + back))
+IsPlaceIf false fore back v = ⊤
+
 -- v is a number that may be pending, in the value s
 pub record IsValue (fore back : ℕ) (s : Value) (v : ℤ) : Type 0 where
   pub is : IsIn s fore back v
   pub fits : FitsSigned w32 v
+  pub saved : IsPlaceIf s.saved fore back v
 
 -- v is in the interval i
 pub record IsWithin (i : Interval) (v : ℤ) : Type 0 where

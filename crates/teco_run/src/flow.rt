@@ -14,7 +14,7 @@ use crate::way::{self, Way};
 use teco_base::Code;
 use teco_base::bytes::{is_digit, is_letter, is_letter_or_digit, is_lower, is_symbol, is_upper};
 use teco_expr::Args;
-use teco_model::kind::{Flow, Test};
+use teco_model::kind::{Flow, Goal, Test};
 use teco_model::{Element, Loop};
 use teco_step::Stuck;
 
@@ -154,6 +154,21 @@ fn decide(
     }
 }
 
+// `F>` goes to the `>` of its iteration.
+#[inline(always)]
+fn to_turn_end(element: &Element<'_>, frames: &Frames<'_>) -> Result<Way, Code>
+    requires { IsRead element.now frames.now }
+    ensures way { GoesAlways frames.now.running (λ arguments.
+        model.to_turn_end (seen element.now) frames.now.running.loops arguments frames.now.running) result }
+    ensures fits { IfOk result (FitsIn frames.now.running) }
+    ensures out { IfOk result (λ way. is_into way ≡ false) }
+{
+    if frames.innermost().is_none() {
+        return Err(Code::Bni);
+    }
+    jump(element, frames, Code::Utc)
+}
+
 // `O` goes to a tag.
 fn go_to(element: &Element<'_>, frames: &Frames<'_>, arguments: &mut Args) -> Result<Way, Stuck>
     requires { IsRead element.now frames.now }
@@ -197,7 +212,10 @@ pub fn turn(
         }
         Flow::Leave => leave(element, frames, arguments),
         Flow::Test(test) => decide(test, element, frames, arguments),
-        Flow::Otherwise => Ok(jump(element, frames, Code::Utc)?),
+        Flow::GoAhead(Goal::EndTurn) => Ok(to_turn_end(element, frames)?),
+        Flow::Otherwise | Flow::GoAhead(Goal::EndTest | Goal::Otherwise) => {
+            Ok(jump(element, frames, Code::Utc)?)
+        }
         Flow::EndTest | Flow::Comment => Ok(way::to(element.next)),
         Flow::GoTo => go_to(element, frames, arguments),
     }

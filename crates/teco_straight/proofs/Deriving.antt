@@ -9,7 +9,7 @@ use Rattle.teco_rules.specs.Flows.{goes_on}
 use Rattle.teco_rules.specs.Transfer.{transfer}
 use Rattle.teco_table.specs.Behind.{placed}
 use Rattle.teco_table.specs.Deriving.{Arrival, met, derived_at, derive_from, derive}
-use Rattle.teco_table.specs.Written.{written}
+use Rattle.teco_table.specs.Written.{changes_in}
 use Rattle.teco_straight.specs.Straight.{IsStraightElement, inserted_by, inserted}
 use Rattle.teco_straight.specs.Nodes.{call_element, stand_in_text, node_going_on, nodes_in_text, straight_nodes}
 use Rattle.teco_straight.specs.Facts.{facts_behind_insertions, row_behind_insertions, rows_in_text, StraightTablesAreDerived}
@@ -46,7 +46,7 @@ element_derived : (nodes : List Node) (entry number : ℕ) (stand : Stand) (e : 
     ≡ Ok (record { row = row_behind_insertions count; arrivals = arrival_at (suc number) (facts_behind_insertions (count + inserted_by e)) ∷ [] })
 element_derived nodes entry number stand e count s l =
     rw (edges_of_element (placed nodes (node_going_on entry number stand (Some e) false) e) count s l)
-    (rw (arriving_by_element (written nodes number) e (goes_on (facts_behind_insertions (count + inserted_by e))) s) refl)
+    (rw (arriving_by_element (changes_in nodes number) e (goes_on (facts_behind_insertions (count + inserted_by e))) s) refl)
 
 rows_derived : (nodes : List Node) (entry number place : ℕ) (text : List ℕ) (count : ℕ) (before : List Arrival) (elements : List Element) → AllByRecursion IsStraightElement elements → count + inserted elements ≤ LIMIT → AreBelow number before →
     derive_from nodes [] number (nodes_in_text entry text number place elements) (before ++ arrival_at number (facts_behind_insertions count) ∷ []) ≡ Ok (rows_in_text count elements)

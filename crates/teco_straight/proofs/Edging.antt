@@ -1,5 +1,5 @@
 -- What is known behind an element of a straight text.
-use Rattle.std.proofs.Common.{◌≡◌, ℕ, ◌+◌, ◌^◌, ◌<◌, ◌≤◌, min, nat_lt, List, Bool, true, length, Some, None, Ok, refl, rules, arith}
+use Rattle.std.proofs.Common.{◌≡◌, ℕ, ◌+◌, ◌^◌, ◌<◌, ◌≤◌, min, nat_lt, true, length, Some, None, Ok, refl, rules, arith}
 use Rattle.teco_base.specs.declared.TheConstants.{LIMIT}
 use Rattle.teco_model.specs.declared.kind.Argument.TheVariants.{DropAll}
 use Rattle.teco_model.specs.declared.kind.Command.TheVariants as command
@@ -8,6 +8,7 @@ use Rattle.teco_model.specs.declared.kind.Insertion.TheVariants.{Text}
 use Rattle.teco_model.specs.declared.kind.Kind.{Kind}
 use Rattle.teco_model.specs.declared.kind.Kind.TheVariants as kind
 use Rattle.teco_model.specs.Element.{Element}
+use Rattle.teco_rules.specs.Bodies.{Changes}
 use Rattle.teco_rules.specs.Flows.{Edges, goes_on}
 use Rattle.teco_rules.specs.Transfer.{Placed, transfer}
 use Rattle.teco_table.specs.Deriving.{arriving}
@@ -36,11 +37,11 @@ pub edges_of_element : (x : Placed) (count : ℕ) → IsStraightElement x.elemen
     transfer x (facts_behind_insertions count) ≡ Ok (goes_on (facts_behind_insertions (count + inserted_by x.element)))
 edges_of_element x count s l = edges_of_kind x.element.kind x count s l
 
-arriving_by_a_kind : (writes : List Bool) (k : Kind) (e : Element) (edges : Edges) → IsStraightKind k → arriving writes None (Some (record e { kind = k })) 0 edges ≡ edges.on
-arriving_by_a_kind writes (kind.Argument DropAll) e edges s = refl
-arriving_by_a_kind writes (kind.Flow flow.Comment) e edges s = refl
-arriving_by_a_kind writes (kind.Command (command.Insertion Text)) e edges s = refl
-arriving_by_a_kind writes k e edges s = absurd s
+arriving_by_a_kind : (changes : Changes) (k : Kind) (e : Element) (edges : Edges) → IsStraightKind k → arriving changes None (Some (record e { kind = k })) 0 edges ≡ edges.on
+arriving_by_a_kind changes (kind.Argument DropAll) e edges s = refl
+arriving_by_a_kind changes (kind.Flow flow.Comment) e edges s = refl
+arriving_by_a_kind changes (kind.Command (command.Insertion Text)) e edges s = refl
+arriving_by_a_kind changes k e edges s = absurd s
 
-pub arriving_by_element : (writes : List Bool) (e : Element) (edges : Edges) → IsStraightElement e → arriving writes None (Some e) 0 edges ≡ edges.on
-arriving_by_element writes e edges s = arriving_by_a_kind writes e.kind e edges s
+pub arriving_by_element : (changes : Changes) (e : Element) (edges : Edges) → IsStraightElement e → arriving changes None (Some e) 0 edges ≡ edges.on
+arriving_by_element changes e edges s = arriving_by_a_kind changes e.kind e edges s

@@ -1,8 +1,9 @@
 -- A straight text is expanded to its elements.
-use Rattle.std.proofs.Common.{◌≡◌, ℕ, suc, ◌+◌, ◌<◌, List, [], ◌∷◌, ◌++◌, map, drop, true, false, Some, None, Ok, refl, arith}
+use Rattle.std.proofs.Common.{◌≡◌, ℕ, suc, ◌+◌, ◌<◌, List, [], ◌∷◌, ◌++◌, map, drop, true, false, Some, None, Ok, refl, ◌∙◌, arith}
 use Rattle.std.specs.List.{AllByRecursion}
 use Rattle.teco_base.specs.declared.TheConstants.{REGISTERS}
 use Rattle.teco_model.specs.Element.{Element, element_at}
+use Rattle.teco_model.proofs.Ahead.{element_at-again}
 use Rattle.teco_expand.specs.Expansion.{MOST_ELEMENTS, first_visit, Walk, stand_of_visit, all_stands, way_numbers, node_at, nodes_at, expansion}
 use Rattle.teco_expand.specs.Library.{Library, macro}
 use Rattle.teco_expand.specs.Node.{Stand, over, beginning}
@@ -29,14 +30,14 @@ element_node : (library : Library) (entry number place : ℕ) (text : List ℕ) 
     node_at library entry w number (visit_in_text entry text place) ≡ Ok (node_going_on entry number (stand_in_text entry text place) (Some e) false)
 unfolding node_at way_numbers
 element_node library entry number place text w e rest s r d =
-    rw (element_read e (stand_in_text entry text place).position s r, way_of_element library e (stand_in_text entry text place).position s, base_of_element number e s)
+    rw (element_read e (stand_in_text entry text place).position s (element_at-again text place ∙ r), way_of_element library e (stand_in_text entry text place).position s, base_of_element number e s)
     (rw (next_number (all_stands w entry) rest number (stand_in_text entry text e.next) d, names_of_element library e s) refl)
 
 end_node : (library : Library) (entry number place : ℕ) (text : List ℕ) (w : Walk) (rest : List Stand) → element_at text place ≡ Ok None → drop number (all_stands w entry) ≡ over entry ∷ rest →
     node_at library entry w number (visit_in_text entry text place) ≡ Ok (node_going_on entry number (stand_in_text entry text place) None false)
 unfolding node_at way_numbers ways_at
 end_node library entry number place text w rest r d =
-    rw (end_read (stand_in_text entry text place).position r) (rw (next_number (all_stands w entry) rest number (over entry) d) refl)
+    rw (end_read (stand_in_text entry text place).position (element_at-again text place ∙ r)) (rw (next_number (all_stands w entry) rest number (over entry) d) refl)
 
 nodes_follow : (library : Library) (entry number place : ℕ) (text : List ℕ) (w : Walk) (elements : List Element) → AreRead text place elements → AllByRecursion IsStraightElement elements → drop number (all_stands w entry) ≡ stands_behind entry text elements →
     nodes_at library entry w number (visit_in_text entry text place ∷ visits_behind entry text elements) ≡ Ok (nodes_in_text entry text number place elements)

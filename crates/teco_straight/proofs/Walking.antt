@@ -1,5 +1,5 @@
 -- The walk through a straight text.
-use Rattle.std.proofs.Common.{◌≡◌, ℕ, zero, suc, ◌+◌, ◌<◌, ◌≤◌, nat_le, List, [], ◌∷◌, length, true, false, Some, None, Ok, refl, rules, arith}
+use Rattle.std.proofs.Common.{◌≡◌, ℕ, zero, suc, ◌+◌, ◌<◌, ◌≤◌, nat_le, List, [], ◌∷◌, length, true, false, Some, None, Ok, refl, ◌∙◌, rules, arith}
 use Rattle.std.specs.List.{AllByRecursion}
 use Rattle.teco_base.specs.declared.TheConstants.{REGISTERS}
 use Rattle.teco_model.specs.declared.kind.Argument.TheVariants.{DropAll}
@@ -10,6 +10,7 @@ use Rattle.teco_model.specs.declared.kind.Kind.{Kind}
 use Rattle.teco_model.specs.declared.kind.Kind.TheVariants as kind
 use Rattle.teco_model.specs.Element.{Element, blank_len, element_from, element_at}
 use Rattle.teco_model.specs.Letters.{letters}
+use Rattle.teco_model.proofs.Ahead.{element_at-again}
 use Rattle.teco_expand.specs.Expansion.{MOST_ELEMENTS, Visit, first_visit, next_visit, Walk, walk}
 use Rattle.teco_expand.specs.Library.{Library, macro}
 use Rattle.teco_expand.specs.Names.{names_macro}
@@ -78,14 +79,14 @@ few number h = search rules
 
 kind_followed : (library : Library) (entry number place : ℕ) (text : List ℕ) (k : Kind) (e : Element) → IsStraightKind k → element_at text place ≡ Ok (Some (record e { kind = k })) → number ≤ MOST_ELEMENTS → next_visit library number (visit_in_text entry text place) ≡ Ok (visit_in_text entry text e.next)
 unfolding next_visit ways_at flow_ways
-kind_followed library entry number place text (kind.Argument DropAll) e s h l = rw (read_kind (kind.Argument DropAll) e (stand_in_text entry text place).position s h, few number l) refl
-kind_followed library entry number place text (kind.Flow flow.Comment) e s h l = rw (read_kind (kind.Flow flow.Comment) e (stand_in_text entry text place).position s h, few number l) refl
-kind_followed library entry number place text (kind.Command (command.Insertion Text)) e s h l = rw (read_kind (kind.Command (command.Insertion Text)) e (stand_in_text entry text place).position s h, few number l) refl
+kind_followed library entry number place text (kind.Argument DropAll) e s h l = rw (read_kind (kind.Argument DropAll) e (stand_in_text entry text place).position s (element_at-again text place ∙ h), few number l) refl
+kind_followed library entry number place text (kind.Flow flow.Comment) e s h l = rw (read_kind (kind.Flow flow.Comment) e (stand_in_text entry text place).position s (element_at-again text place ∙ h), few number l) refl
+kind_followed library entry number place text (kind.Command (command.Insertion Text)) e s h l = rw (read_kind (kind.Command (command.Insertion Text)) e (stand_in_text entry text place).position s (element_at-again text place ∙ h), few number l) refl
 kind_followed library entry number place text k e s h l = absurd s
 
 end_followed : (library : Library) (entry number place : ℕ) (text : List ℕ) → element_at text place ≡ Ok None → number ≤ MOST_ELEMENTS → next_visit library number (visit_in_text entry text place) ≡ Ok (record { stand = over entry; registers = [] })
 unfolding next_visit ways_at
-end_followed library entry number place text h l = rw (end_read (stand_in_text entry text place).position h, few number l) refl
+end_followed library entry number place text h l = rw (end_read (stand_in_text entry text place).position (element_at-again text place ∙ h), few number l) refl
 
 -- the walk
 abbrev pub whole_of : List Visit → Walk

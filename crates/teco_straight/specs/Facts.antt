@@ -4,7 +4,7 @@ use Rattle.teco_base.specs.declared.TheConstants.{LIMIT}
 use Rattle.teco_model.specs.Element.{Element}
 use Rattle.teco_expand.specs.Library.{Library}
 use Rattle.teco_poly.specs.declared.coefficients.TheConstants.{COEFFICIENTS}
-use Rattle.teco_poly.specs.Polynomial.{Polynomial, variable, first}
+use Rattle.teco_poly.specs.Polynomial.{Polynomial, first}
 use Rattle.teco_rules.specs.Facts.{Facts, entry_facts}
 use Rattle.teco_table.specs.Deriving.{derive}
 use Rattle.teco_table.specs.Table.{Row, Table}
@@ -19,7 +19,7 @@ and_more count = first COEFFICIENTS (count ∷ 1 ∷ [])
 -- is known at the entry.
 abbrev pub facts_behind_insertions : ℕ → Facts
 facts_behind_insertions count = record entry_facts {
-  position = record { distances = record { back = min count LIMIT; fore = 0 }; falls = []; ahead = variable };
+  position = record entry_facts.position { distances = record { back = min count LIMIT; fore = 0 } };
   held = and_more count;
 }
 

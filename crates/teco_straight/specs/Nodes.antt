@@ -6,7 +6,7 @@ use Rattle.teco_model.specs.Element.{Element}
 use Rattle.teco_expand.specs.Expansion.{expansion}
 use Rattle.teco_expand.specs.Library.{Library}
 use Rattle.teco_expand.specs.Node.{Stand, Node, beginning, over}
-use Rattle.teco_expand.specs.Position.{spot_in}
+use Rattle.teco_expand.specs.Position.{spot_at}
 use Rattle.teco_straight.specs.Straight.{IsStraight}
 
 -- the call of the entry
@@ -21,10 +21,10 @@ call_element entry = record {
   next = 2;
 }
 
--- a place in its text, behind which the call waits
+-- behind a place in its text, while the call waits
 abbrev pub stand_in_text : ℕ → List ℕ → ℕ → Stand
 stand_in_text entry text place = record {
-  position = record { running = record (spot_in text) { place = place }; callers = (over entry).position.running ∷ [] };
+  position = record { running = spot_at text place []; callers = (over entry).position.running ∷ [] };
   iterations = [];
 }
 

@@ -14,7 +14,7 @@ use Rattle.teco_poly.proofs.Lawful.{values_compare, values_of_constants}
 use Rattle.teco_poly.specs.Polynomial.{Polynomial, value, is_at_most}
 use Rattle.teco_rules.proofs.Bodies.{room_is_sound}
 use Rattle.teco_rules.proofs.Covering.{and_both}
-use Rattle.teco_rules.specs.Bodies.{Choice, body_start, begins, has_room, stands}
+use Rattle.teco_rules.specs.Bodies.{Changes, Choice, body_start, begins, has_room, stands}
 use Rattle.teco_rules.specs.Covers.{covers}
 use Rattle.teco_rules.specs.Facts.{Facts}
 use Rattle.teco_table.specs.Closed.{say_same, is_counted, begins_by_kind, begins_iteration, check}
@@ -22,7 +22,7 @@ use Rattle.teco_table.specs.Laws.{TablesAreClosed}
 use Rattle.teco_table.specs.Printed.{turns_where, turns_at}
 use Rattle.teco_table.specs.Table.{Table, facts_at}
 use Rattle.teco_table.specs.Turning.{value_of, iterations_at, begins_of, begins_at, held_in, held_if, held_at, turning}
-use Rattle.teco_table.specs.Written.{written}
+use Rattle.teco_table.specs.Written.{changes_in}
 use Rattle.teco_table.proofs.Entering.{held_stays}
 use Rattle.teco_table.proofs.Lookup.{number_within, same_number, ends_there, innermost_by}
 use Rattle.teco_table.proofs.Reading.{Body, body_is}
@@ -76,8 +76,8 @@ no_falls l m (o ∷ ls) le d = (no_fall l o (omega (arith, d.0, le)) _ refl, no_
 less_one : (a g : ℕ) → a ≡ 1 → (a - 1) * g ≡ 0
 less_one a g e = let z : a - 1 ≡ 0 = omega arith in rw z (omega arith)
 
-room_in : (choice : Choice) (written : List Bool) (counted : Bool) (most : Polynomial) (entering end : Facts) → IsTrue (stands choice written counted most entering (Some end)) → IsTrue (has_room choice most entering end)
-room_in choice written counted most entering end s =
+room_in : (choice : Choice) (changes : Changes) (counted : Bool) (most : Polynomial) (entering end : Facts) → IsTrue (stands choice changes counted most entering (Some end)) → IsTrue (has_room choice most entering end)
+room_in choice changes counted most entering end s =
     let p = and_both _ _ s in
     let q = and_both _ _ p.1 in
     (and_both _ _ q.0).1
@@ -129,7 +129,7 @@ module _ (library : Library) (entry : ℕ) (nodes : List Node) (are : AreLinked 
       held_l = held_known nodes table n l body.facts body.known ∙ ap (λ p. value p n) (sym (held_stays nodes begin.node begin.element body.facts body.entering body.edges begin.reads begin.kind_is body.leads body.on))
 
       held_start : held_at nodes table n (suc l) ≡ value body.choice.held n
-      held_start = held_known nodes table n (suc l) start there ∙ held_same start (body_start body.choice (written nodes l) body.entering) n body.same
+      held_start = held_known nodes table n (suc l) start there ∙ held_same start (body_start body.choice (changes_in nodes l) body.entering) n body.same
 
       turns_there : value_of n (turns_at table l) ≡ value body.most n
       turns_there = turns_known nodes table n l body.facts start body.known there body.most body.turns_are
@@ -148,11 +148,11 @@ module _ (library : Library) (entry : ℕ) (nodes : List Node) (are : AreLinked 
           by_begin false b = ap (held_at nodes table n) before_end.1 ∙ held_nowhere nodes table n before_end.0 ended_there b
           by_begin true b = let z : Some start ≡ None = sym there ∙ (ap (λ m. facts_at table (suc m)) (sym (end_alone before_end.0 before_end.1 b)) ∙ ended_there) in absurd (cc)
 
-      room_by : (o : Option Facts) → facts_at table (end_of nodes l) ≡ o → IsTrue (stands body.choice (written nodes l) (is_counted body.entering.iterations) body.most body.entering o) →
+      room_by : (o : Option Facts) → facts_at table (end_of nodes l) ≡ o → IsTrue (stands body.choice (changes_in nodes l) (is_counted body.entering.iterations) body.most body.entering o) →
           held_at nodes table n l + (value_of n (turns_at table l) - 1) * (held_at nodes table n (end_of nodes l) - held_at nodes table n (suc l)) ≤ held_at nodes table n (suc l)
       room_by None ended b = omega (arith, begins_with b, no_growth (value_of n (turns_at table l) - 1) (held_at nodes table n (end_of nodes l)) (held_at nodes table n (suc l)) (held_end ended))
       room_by (Some end) ended s =
-          let room = room_is_sound n body.choice body.most body.entering end (room_in body.choice (written nodes l) (is_counted body.entering.iterations) body.most body.entering end s) in
+          let room = room_is_sound n body.choice body.most body.entering end (room_in body.choice (changes_in nodes l) (is_counted body.entering.iterations) body.most body.entering end s) in
           let grown : held_at nodes table n (end_of nodes l) - held_at nodes table n (suc l) ≡ room.growth = omega (arith, held_known nodes table n (end_of nodes l) end ended, held_start, room.grows) in
           omega (arith, held_l, held_start, room.room, as_often (value_of n (turns_at table l)) (value body.most n) (held_at nodes table n (end_of nodes l) - held_at nodes table n (suc l)) room.growth turns_there grown)
 

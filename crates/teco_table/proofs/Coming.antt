@@ -97,6 +97,8 @@ module _ (nodes : List Node) (node : Node) (e : Element) (edges : Edges) (run : 
   flow_reached flow.GoTo (suc way) w g = absurd w
   flow_reached flow.Comment zero w g = g
   flow_reached flow.Comment (suc way) w g = absurd w
+  flow_reached (flow.GoAhead to) zero w g = g
+  flow_reached (flow.GoAhead to) (suc way) w g = absurd w
 
 -- ---- a way
 module _ (nodes : List Node) (node : Node) (facts : Facts) (edges : Edges) (run : Run) (s t : State) (way : ℕ) (leads : edges_at nodes node facts ≡ Ok edges) where

@@ -65,6 +65,7 @@ module _ (library : Library) (entry : ℕ) (nodes : List Node) (table : Table) (
     kind_fits : (k : Kind) → e.kind ≡ k → FitsOn n edges
     kind_fits (kind.Flow flow.Iterate) is = entered_fits is edges.on refl
     kind_fits (kind.Flow flow.Otherwise) is = none_fits (on_of _ edges _ (kind_edges nodes node e (kind.Flow flow.Otherwise) facts edges reads is leads) refl)
+    kind_fits (kind.Flow (flow.GoAhead g)) is = none_fits (on_of _ edges _ (kind_edges nodes node e (kind.Flow (flow.GoAhead g)) facts edges reads is leads) refl)
     kind_fits (kind.Flow flow.GoTo) is =
         let taken = bound (arguments_of facts.arguments.level) _ edges (kind_edges nodes node e (kind.Flow flow.GoTo) facts edges reads is leads) in
         let alone = bound (without_value taken.before.value) _ edges taken.gives in

@@ -37,6 +37,7 @@ use Rattle.teco_table.proofs.Lookup.{number_within, same_node}
 use Rattle.teco_table.proofs.Standing.{iterations_are}
 use Rattle.teco_poly.proofs.Lawful.{values_of_constants}
 use Rattle.teco_model.specs.Arguments.{no_arguments}
+use Rattle.teco_model.specs.Element.{blank_len}
 use Rattle.std.specs.List.{AllByRecursion}
 use Rattle.teco_table.proofs.Reading.{entry_checked}
 use Rattle.teco_table.proofs.Walking.{Came, came_on, came_takes, came_leads, reaches_on, none_yet, none_on}
@@ -150,6 +151,7 @@ module _ (library : Library) (entry : ℕ) (nodes : List Node) (table : Table) (
   first_known node at stand (Some facts) known e = record { node = node; facts = facts; at = at; stand = stand; known = known; same = e }
 
   first_at : Target nodes entry 1 (beginning entry) → First
+  unfolding blank_len
   first_at (AtNode node at stand) = first_known node at stand _ refl (entry_checked nodes table passes)
   first_at (AtEnd e) = let z : 2 ≡ 0 = ap (λ (stand : Stand). stand.position.running.place) e in absurd (omega (arith, z))
 

@@ -34,7 +34,7 @@ use Rattle.teco_rules.proofs.Each.{each_length}
 use Rattle.teco_rules.proofs.Flowing.{taking_is, turns_are_sound}
 use Rattle.teco_rules.proofs.Steps.{Covers}
 use Rattle.teco_rules.specs.Arguments.{KnownTaken, arguments_of}
-use Rattle.teco_rules.specs.Bodies.{Choice, body_start, begins, stands as choice_stands}
+use Rattle.teco_rules.specs.Bodies.{Changes, Choice, body_start, begins, stands as choice_stands}
 use Rattle.teco_rules.specs.Covers.{covers, each_covers, is_same_truth, is_same_iteration}
 use Rattle.teco_rules.specs.Describes.{HasFallen, IsOptional, IsTaken, IsWhole, Describes, fore_of, back_of}
 use Rattle.teco_rules.specs.Facts.{Iteration, Facts}
@@ -53,7 +53,7 @@ use Rattle.teco_table.specs.Moving.{run_by_kind, run_along, IsLong, IsLast, Alon
 use Rattle.teco_table.specs.Table.{Table, facts_at, choice_at}
 use Rattle.teco_table.specs.Printed.{turns_at}
 use Rattle.teco_table.specs.Turning.{value_of, is_reached, turning}
-use Rattle.teco_table.specs.Written.{written}
+use Rattle.teco_table.specs.Written.{changes_in}
 use Rattle.teco_table.proofs.Closing.{turns_known}
 use Rattle.teco_table.proofs.Entering.{Entering, enters}
 use Rattle.teco_table.proofs.Going.{Laws, behind_checked, stands_there, leads_there}
@@ -109,9 +109,9 @@ counted_covered facts edge c =
     let s = and_both _ _ r.0 in
     counted_by facts.iterations edge.iterations (and_both _ _ s.0).1
 
-pub choice_begins : (choice : Choice) (written : List Bool) (counted : Bool) (most : Polynomial) (entering : Facts) (end : Option Facts) → IsTrue (choice_stands choice written counted most entering end) → IsTrue (begins choice entering)
-choice_begins choice written counted most entering None h = h
-choice_begins choice written counted most entering (Some end) h = (and_both _ _ h).0
+pub choice_begins : (choice : Choice) (changes : Changes) (counted : Bool) (most : Polynomial) (entering : Facts) (end : Option Facts) → IsTrue (choice_stands choice changes counted most entering end) → IsTrue (begins choice entering)
+choice_begins choice changes counted most entering None h = h
+choice_begins choice changes counted most entering (Some end) h = (and_both _ _ h).0
 
 -- ---- a body that is entered
 record Started (nodes : List Node) (table : Table) (begin : ℕ) (facts entering : Facts) : Type 0 where
@@ -121,17 +121,17 @@ record Started (nodes : List Node) (table : Table) (begin : ℕ) (facts entering
   started : facts_at table (suc begin) ≡ Some start
   chosen : choice_at table begin ≡ Some choice
   turns_are : turns_of facts ≡ Ok most
-  same : IsTrue (say_same start (body_start choice (written nodes begin) entering))
+  same : IsTrue (say_same start (body_start choice (changes_in nodes begin) entering))
   starts : IsTrue (begins choice entering)
 
 started_by : (nodes : List Node) (table : Table) (begin : ℕ) (facts entering : Facts) (o : Option Facts) (c : Option Choice) (r : Result Polynomial Refusal) → facts_at table (suc begin) ≡ o → choice_at table begin ≡ c → turns_of facts ≡ r →
-    IsTrue (body_stands (written nodes begin) (facts_at table (end_of nodes begin)) entering o c r) → Started nodes table begin facts entering
+    IsTrue (body_stands (changes_in nodes begin) (facts_at table (end_of nodes begin)) entering o c r) → Started nodes table begin facts entering
 started_by nodes table begin facts entering None c r s k t h = absurd (cc)
 started_by nodes table begin facts entering (Some start) None r s k t h = absurd (cc)
 started_by nodes table begin facts entering (Some start) (Some choice) (Err why) s k t h = absurd (cc)
 started_by nodes table begin facts entering (Some start) (Some choice) (Ok most) s k t h =
     let p = and_both _ _ h in
-    record { start = start; choice = choice; most = most; started = s; chosen = k; turns_are = t; same = p.0; starts = choice_begins choice (written nodes begin) (is_counted entering.iterations) most entering (facts_at table (end_of nodes begin)) p.1 }
+    record { start = start; choice = choice; most = most; started = s; chosen = k; turns_are = t; same = p.0; starts = choice_begins choice (changes_in nodes begin) (is_counted entering.iterations) most entering (facts_at table (end_of nodes begin)) p.1 }
 
 -- ---- how many turns come after the first
 record First_turn (table : Table) (counted : Bool) (most ahead : ℕ) (left : Option ℕ) : Type 0 where
@@ -214,7 +214,7 @@ module _ (laws : Laws) (library : Library) (entry : ℕ) (nodes : List Node) (ar
         body = started_by nodes table number here.facts comes.next _ _ _ refl refl refl (sym (ap (is_entered nodes table number here.facts) on) ∙ entered_there)
 
         counted : is_counted body.start.iterations ≡ is_some entering.taken.value
-        counted = counted_covered body.start (body_start body.choice (written nodes number) comes.next) (and_both _ _ body.same).0 ∙ ap (λ (facts : Facts). is_counted facts.iterations) entering.is
+        counted = counted_covered body.start (body_start body.choice (changes_in nodes number) comes.next) (and_both _ _ body.same).0 ∙ ap (λ (facts : Facts). is_counted facts.iterations) entering.is
 
         first_one : First_turn table (is_counted body.start.iterations) (value body.most n) begun was.went.turns
         first_one = first_turn table (is_counted body.start.iterations) (value body.most n) begun was.went.value was.went.turns was.went.counts
@@ -242,14 +242,14 @@ module _ (laws : Laws) (library : Library) (entry : ℕ) (nodes : List Node) (ar
             (subst (λ (world : World). Describes (run_at n below later) comes.next (unread_of world) world.kept t.arguments) same_world
             (subst (λ run. Describes run comes.next (unread_of t.world) t.world.kept t.arguments) run_is comes.described))
 
-        described_start : Describes (run_at n below later) (body_start body.choice (written nodes number) (entered (is_some entering.taken.value) here.facts)) (unread_of s.world) s.world.kept t.arguments
-        described_start = body_starts_are_sound (run_at n below turns) here.facts (unread_of s.world) s.world.kept t.arguments body.choice (written nodes number) (is_some entering.taken.value) here.whole
+        described_start : Describes (run_at n below later) (body_start body.choice (changes_in nodes number) (entered (is_some entering.taken.value) here.facts)) (unread_of s.world) s.world.kept t.arguments
+        described_start = body_starts_are_sound (run_at n below turns) here.facts (unread_of s.world) s.world.kept t.arguments body.choice (changes_in nodes number) (is_some entering.taken.value) here.whole
             (subst (λ facts. IsTrue (begins body.choice facts)) entering.is body.starts) described_in
 
         described_there : Describes (run_at n below later) body.start (unread_of t.world) t.world.kept t.arguments
         described_there = subst (λ (world : World). Describes (run_at n below later) body.start (unread_of world) world.kept t.arguments) (sym same_world)
-            (covers_are_sound (run_at n below later) body.start (body_start body.choice (written nodes number) comes.next) (unread_of s.world) s.world.kept t.arguments here.whole (and_both _ _ body.same).0
-            (subst (λ facts. Describes (run_at n below later) (body_start body.choice (written nodes number) facts) (unread_of s.world) s.world.kept t.arguments) (sym entering.is) described_start))
+            (covers_are_sound (run_at n below later) body.start (body_start body.choice (changes_in nodes number) comes.next) (unread_of s.world) s.world.kept t.arguments here.whole (and_both _ _ body.same).0
+            (subst (λ facts. Describes (run_at n below later) (body_start body.choice (changes_in nodes number) facts) (unread_of s.world) s.world.kept t.arguments) (sym entering.is) described_start))
 
         opened_there : AreOpened table n there.stand.iterations (open_loops t) later
         opened_there =

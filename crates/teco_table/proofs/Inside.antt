@@ -6,6 +6,7 @@ use Rattle.std.specs.Option.{option_map_or}
 use Rattle.teco_model.specs.declared.flow.Loop.{Loop}
 use Rattle.teco_model.specs.declared.kind.Flow.{Flow}
 use Rattle.teco_model.specs.declared.kind.Flow.TheVariants as flow
+use Rattle.teco_model.specs.declared.kind.Goal.TheVariants as goal
 use Rattle.teco_model.specs.declared.kind.Kind.{Kind}
 use Rattle.teco_model.specs.declared.kind.Kind.TheVariants as kind
 use Rattle.teco_model.specs.declared.kind.Search.{Search}
@@ -32,7 +33,7 @@ use Rattle.teco_table.specs.Behind.{is_inside, placed, edges_at}
 use Rattle.teco_table.specs.Closed.{is_counted, is_known_in, check}
 use Rattle.teco_table.specs.Following.{OpenTurn, loops_in, AreMore, IsOpened, AreOpened, IsDescribed}
 use Rattle.teco_table.specs.Table.{Table}
-use Rattle.teco_table.specs.Written.{written}
+use Rattle.teco_table.specs.Written.{changes_in}
 use Rattle.teco_table.proofs.Coming.{HasLoop}
 use Rattle.teco_table.proofs.Entered.{counted_by}
 use Rattle.teco_table.proofs.Entering.{kind_edges, Entering, enters}
@@ -110,7 +111,7 @@ module _ (library : Library) (entry : ℕ) (nodes : List Node) (table : Table) (
 
     start_some : NotEmpty top.own.start.iterations
     start_some = not_empty top.own.start.iterations body.entering.iterations _ _
-        (iterations_covered top.own.start (body_start body.choice (written nodes top.begin) body.entering) (and_both _ _ body.same).0)
+        (iterations_covered top.own.start (body_start body.choice (changes_in nodes top.begin) body.entering) (and_both _ _ body.same).0)
         (ap (λ (facts : Facts). facts.iterations) entering.is)
 
     same_there : IsTrue (each_covers is_same_iteration top.own.start.iterations here.facts.iterations)
@@ -145,6 +146,9 @@ module _ (library : Library) (entry : ℕ) (nodes : List Node) (table : Table) (
     flow_stands flow.EndTest h = tt
     flow_stands flow.GoTo h = jumps h
     flow_stands flow.Comment h = tt
+    flow_stands (flow.GoAhead goal.EndTurn) h = (inside_is (loop_there h.0), jumps h.1)
+    flow_stands (flow.GoAhead goal.EndTest) h = jumps h
+    flow_stands (flow.GoAhead goal.Otherwise) h = jumps h
 
     ways_are : (k : Kind) → e.kind ≡ k → element_ways library k e here.node.stand.position ≡ Ok (are.each number here.node here.at).targets
     unfolding ways_at

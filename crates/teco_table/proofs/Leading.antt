@@ -3,6 +3,8 @@ use Rattle.std.proofs.Common.{◌≡◌, ℕ, zero, suc, refl, subst, List, [], 
 use Rattle.std.specs.Prelude.{⊤}
 use Rattle.teco_model.specs.declared.kind.Flow.{Flow}
 use Rattle.teco_model.specs.declared.kind.Flow.TheVariants as flow
+use Rattle.teco_model.specs.declared.kind.Goal.{Goal}
+use Rattle.teco_model.specs.declared.kind.Goal.TheVariants as goal
 use Rattle.teco_model.specs.declared.kind.Kind.{Kind}
 use Rattle.teco_model.specs.declared.kind.Kind.TheVariants as kind
 use Rattle.teco_model.specs.Ahead.{Whole}
@@ -16,7 +18,7 @@ use Rattle.teco_expand.specs.Node.{Stand}
 use Rattle.teco_expand.specs.Position.{Position, moved_to}
 use Rattle.teco_expand.specs.Refusal as expanding
 use Rattle.teco_expand.specs.Refusal.{Reason, Unpaired}
-use Rattle.teco_expand.specs.Ways.{past, jumped, jump_way, way_or_jump, end_ways, leave_ways, flow_ways, search_ways, call_ways, element_ways, ways_at}
+use Rattle.teco_expand.specs.Ways.{past, jumped, jump_way, way_or_jump, end_ways, leave_ways, ahead_ways, flow_ways, search_ways, call_ways, element_ways, ways_at}
 
 record Bound (X Y : Type 0) (r : Result X Reason) (f : X → Result Y Reason) (y : Y) : Type 0 where
   before : X
@@ -59,6 +61,10 @@ end_start : (starts : List ℕ) (e : Element) (p : Position) (targets : List Pos
 end_start [] e p targets h = absurd (cc)
 end_start (start ∷ outer) e p targets h = tt
 
+ahead_place : (starts : List ℕ) (e : Element) (p : Position) (targets : List Position) → ahead_ways goal.EndTurn starts e p ≡ Ok targets → HasStart starts × JumpPlace e p
+ahead_place [] e p targets h = absurd (cc)
+ahead_place (start ∷ outer) e p targets h = (tt, only_place e p targets h)
+
 abbrev pub FlowHas : Flow → Element → Position → Type 0
 FlowHas flow.Iterate e p = JumpPlace e p
 FlowHas flow.EndTurn e p = HasStart p.running.starts
@@ -66,6 +72,8 @@ FlowHas flow.Leave e p = HasStart p.running.starts × JumpPlace e p
 FlowHas (flow.Test t) e p = JumpPlace e p
 FlowHas flow.Otherwise e p = JumpPlace e p
 FlowHas flow.GoTo e p = JumpPlace e p
+FlowHas (flow.GoAhead goal.EndTurn) e p = HasStart p.running.starts × JumpPlace e p
+FlowHas (flow.GoAhead g) e p = JumpPlace e p
 FlowHas f e p = ⊤
 
 pub flow_has : (f : Flow) (e : Element) (p : Position) (targets : List Position) → flow_ways f e p ≡ Ok targets → FlowHas f e p
@@ -78,6 +86,9 @@ flow_has flow.Otherwise e p targets h = only_place e p targets h
 flow_has flow.EndTest e p targets h = tt
 flow_has flow.GoTo e p targets h = only_place e p targets h
 flow_has flow.Comment e p targets h = tt
+flow_has (flow.GoAhead goal.EndTurn) e p targets h = ahead_place p.running.starts e p targets h
+flow_has (flow.GoAhead goal.EndTest) e p targets h = only_place e p targets h
+flow_has (flow.GoAhead goal.Otherwise) e p targets h = only_place e p targets h
 
 pub search_has : (starts : List ℕ) (e : Element) (p : Position) (targets : List Position) → search_ways false starts e p ≡ Ok targets → HasStart starts → JumpPlace e p
 search_has [] e p targets h s = absurd s
@@ -113,6 +124,12 @@ end_there : (starts : List ℕ) (e : Element) (p : Position) (targets : List Pos
 end_there [] e p targets h = absurd (cc)
 end_there (start ∷ outer) e p targets h = there (moved_to start (start ∷ outer) p ∷ moved_to e.next outer p ∷ []) targets 1 (moved_to e.next outer p) h refl
 
+ahead_there : (g : Goal) (starts : List ℕ) (e : Element) (p : Position) (targets : List Position) → ahead_ways g starts e p ≡ Ok targets → There targets 0
+ahead_there goal.EndTurn [] e p targets h = absurd (cc)
+ahead_there goal.EndTurn (start ∷ outer) e p targets h = only_there e p targets h
+ahead_there goal.EndTest starts e p targets h = only_there e p targets h
+ahead_there goal.Otherwise starts e p targets h = only_there e p targets h
+
 flow_there : (f : Flow) (e : Element) (p : Position) (targets : List Position) → flow_ways f e p ≡ Ok targets → There targets (on_way_of_flow f)
 unfolding flow_ways
 flow_there flow.Iterate e p targets h = either_there _ e p targets h
@@ -123,6 +140,7 @@ flow_there flow.Otherwise e p targets h = only_there e p targets h
 flow_there flow.EndTest e p targets h = there (past e p ∷ []) targets 0 (past e p) h refl
 flow_there flow.GoTo e p targets h = only_there e p targets h
 flow_there flow.Comment e p targets h = there (past e p ∷ []) targets 0 (past e p) h refl
+flow_there (flow.GoAhead g) e p targets h = ahead_there g p.running.starts e p targets h
 
 search_there : (colon : Bool) (starts : List ℕ) (e : Element) (p : Position) (targets : List Position) → search_ways colon starts e p ≡ Ok targets → There targets 0
 search_there false (start ∷ outer) e p targets h = either_there (past e p) e p targets h

@@ -122,6 +122,8 @@ module _ (e : Element) (frame : Frame) (turn : Turn) (rest : List Loop) (between
   flow_loops flow.GoTo (suc way) a b w t = absurd w
   flow_loops flow.Comment zero a b w t = stays (ap (λ (turn : Turn). turn.frame.loops) w)
   flow_loops flow.Comment (suc way) a b w t = absurd w
+  flow_loops (flow.GoAhead g) zero a b w t = stays (jumps 0 _ w)
+  flow_loops (flow.GoAhead g) (suc way) a b w t = absurd w
 
 -- ---- any element
 module _ (e : Element) (s t : State) (between : ℕ) where

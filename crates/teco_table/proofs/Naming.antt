@@ -19,6 +19,8 @@ use Rattle.teco_model.specs.declared.kind.Insertion.TheVariants as insertion
 use Rattle.teco_model.specs.declared.kind.Typing.TheVariants as typing
 use Rattle.teco_model.specs.declared.kind.Search.TheVariants as search_kind
 use Rattle.teco_model.specs.declared.kind.Flow.TheVariants as flow
+use Rattle.teco_model.specs.declared.kind.Goal.{Goal}
+use Rattle.teco_model.specs.declared.kind.Goal.TheVariants as goal
 use Rattle.teco_model.specs.declared.kind.Test.TheVariants as test
 use Rattle.teco_model.specs.declared.kind.File.TheVariants as file
 use Rattle.teco_model.specs.declared.kind.File.{File}
@@ -30,7 +32,7 @@ use Rattle.teco_base.specs.Register.{register_of}
 use Rattle.teco_model.specs.Checked.{◌>>=◌}
 use Rattle.teco_model.specs.Element.{Element, kind_read, texts, is_modifier, ats_in, modifiers_refused, element_from, element_at, blank_end}
 use Rattle.teco_model.specs.Form.{kind_on, texts_of}
-use Rattle.teco_model.specs.Letters.{argument_sign, command_sign, letter_to_m, letter_from_n, control_command, file_letter, replace_letter, test_letter, one_byte, head_of, second_byte, caret, page_letters, letters}
+use Rattle.teco_model.specs.Letters.{argument_sign, command_sign, letter_to_m, letter_from_n, control_command, file_letter, replace_letter, flow_bracket, replace_or_flow, test_letter, one_byte, head_of, second_byte, caret, page_letters, letters}
 use Rattle.teco_model.specs.declared.head.Head.{Head}
 use Rattle.teco_model.specs.declared.head.Head.TheVariants as head
 use Rattle.teco_model.specs.declared.head.OnRegister.{OnRegister}
@@ -129,6 +131,12 @@ files b = mapped (λ (x : File). ⊤) IsHead (λ f. head.Kind (kind.File f)) (be
 replaces : (b : ℕ) → IfSome (replace_letter b) IsHead
 replaces b = mapped (λ (x : Search). ⊤) IsHead (λ s. head.Kind (kind.Search s)) (beside b (codes "NS") (search_kind.ReplaceInPages ∷ search_kind.Replace ∷ [])) (λ x h. tt) (anything (beside b (codes "NS") (search_kind.ReplaceInPages ∷ search_kind.Replace ∷ [])))
 
+brackets : (b : ℕ) → IfSome (flow_bracket b) IsHead
+brackets b = mapped (λ (x : Goal). ⊤) IsHead (λ g. head.Kind (kind.Flow (flow.GoAhead g))) (beside b (codes "'>|") (goal.EndTest ∷ goal.EndTurn ∷ goal.Otherwise ∷ [])) (λ x h. tt) (anything _)
+
+replaces_or_flows : (b : ℕ) → IfSome (replace_or_flow b) IsHead
+replaces_or_flows b = either IsHead (replace_letter b) (flow_bracket b) (replaces b) (brackets b)
+
 tests : (b : ℕ) → IfSome (test_letter b) IsHead
 tests b = mapped (λ (x : Test). ⊤) IsHead (λ t. head.Kind (kind.Flow (flow.Test t))) (beside b (codes "EFU=NLST<G>ACDRVW") (test.Zero ∷ test.Zero ∷ test.Zero ∷ test.Zero ∷ test.NotZero ∷ test.Negative ∷ test.Negative ∷ test.Negative ∷ test.Negative ∷ test.Positive ∷ test.Positive ∷ test.Letter ∷ test.Symbol ∷ test.Digit ∷ test.LetterOrDigit ∷ test.Lower ∷ test.Upper ∷ [])) (λ x h. tt) (anything (beside b (codes "EFU=NLST<G>ACDRVW") (test.Zero ∷ test.Zero ∷ test.Zero ∷ test.Zero ∷ test.NotZero ∷ test.Negative ∷ test.Negative ∷ test.Negative ∷ test.Negative ∷ test.Positive ∷ test.Positive ∷ test.Letter ∷ test.Symbol ∷ test.Digit ∷ test.LetterOrDigit ∷ test.Lower ∷ test.Upper ∷ [])))
 
@@ -139,7 +147,7 @@ letters_said (b ∷ rest) =
     if_said (is_digit b) _ _ tt
     (if_said (is_among b (codes "=")) _ _ tt
     (if_said (is_among (to_upper b) (codes "E")) _ _ (second file_letter files rest)
-    (if_said (is_among (to_upper b) (codes "F")) _ _ (second replace_letter replaces rest)
+    (if_said (is_among (to_upper b) (codes "F")) _ _ (second replace_or_flow replaces_or_flows rest)
     (if_said (b == QUOTE) _ _ (second test_letter tests rest)
     (if_said (is_among b (codes "^")) _ _ (carets rest)
     (if_said (is_among (to_upper b) (codes "P")) _ _ (pages rest) (said (one_byte b) 1 (one b))))))))

@@ -54,6 +54,8 @@ module _ (from to : Place) (between : ℕ) where
   ahead_flow flow.GoTo (suc way) b l t = absurd l
   ahead_flow flow.Comment zero b l t = (omega (arith, l.0), l.1)
   ahead_flow flow.Comment (suc way) b l t = absurd l
+  ahead_flow (flow.GoAhead g) zero b l t = l
+  ahead_flow (flow.GoAhead g) (suc way) b l t = absurd l
 
   ahead_kind : (k : Kind) (way : ℕ) → (way ≡ 0 → between ≡ length from.iterations - length to.iterations) → LeadsByKind k way from to → turns_by_kind k way ≡ false → Ahead (left_by_kind k way between) from to
   ahead_kind (kind.Flow f) way b l t = ahead_flow f way b l t

@@ -15,7 +15,7 @@ use Rattle.teco_rules.specs.Flows.{Edges, turns}
 use Rattle.teco_table.specs.Behind.{edges_at}
 use Rattle.teco_table.specs.Closed.{say_same, is_entry, is_counted, body_stands, is_entered, enters_by, enters_at, closed_behind, begins_by_kind, begins_iteration, closed_where, closed_at, check_from, check}
 use Rattle.teco_table.specs.Table.{Table, facts_at, choice_at}
-use Rattle.teco_table.specs.Written.{written}
+use Rattle.teco_table.specs.Written.{changes_in}
 
 module _ (nodes : List Node) (table : Table) where
   checked_node : (k j : ℕ) (rest : List Node) (node : Node) → check_from nodes table k rest ≡ Ok tt → slice_get rest j ≡ Some node → closed_at nodes table (k + j) node ≡ true
@@ -63,12 +63,12 @@ module _ (nodes : List Node) (table : Table) where
     pub on : edges.on ≡ Some entering
     pub chosen : choice_at table begin ≡ Some choice
     pub turns_are : turns facts ≡ Ok most
-    pub same : IsTrue (say_same start (body_start choice (written nodes begin) entering))
-    pub stands_there : IsTrue (stands choice (written nodes begin) (is_counted entering.iterations) most entering (facts_at table (end_of nodes begin)))
+    pub same : IsTrue (say_same start (body_start choice (changes_in nodes begin) entering))
+    pub stands_there : IsTrue (stands choice (changes_in nodes begin) (is_counted entering.iterations) most entering (facts_at table (end_of nodes begin)))
 
   module _ (begin : ℕ) (node : Node) (start : Facts) (there : facts_at table (suc begin) ≡ Some start) where
     stand_of_body : (facts : Facts) (edges : Edges) (entering : Facts) → facts_at table begin ≡ Some facts → edges_at nodes node facts ≡ Ok edges → edges.on ≡ Some entering →
-        (c : Option Choice) → choice_at table begin ≡ c → (r : Result Polynomial Refusal) → turns facts ≡ r → body_stands (written nodes begin) (facts_at table (end_of nodes begin)) entering (Some start) c r ≡ true → Body begin node start
+        (c : Option Choice) → choice_at table begin ≡ c → (r : Result Polynomial Refusal) → turns facts ≡ r → body_stands (changes_in nodes begin) (facts_at table (end_of nodes begin)) entering (Some start) c r ≡ true → Body begin node start
     stand_of_body facts edges entering known leads on None chosen r t h = absurd (cc)
     stand_of_body facts edges entering known leads on (Some choice) chosen (Err why) t h = absurd (cc)
     stand_of_body facts edges entering known leads on (Some choice) chosen (Ok most) t h =
@@ -80,7 +80,7 @@ module _ (nodes : List Node) (table : Table) where
     on_body facts edges known leads None on h = let z : false ≡ true = ap is_none (sym there) ∙ h in absurd (cc)
     on_body facts edges known leads (Some entering) on h =
         stand_of_body facts edges entering known leads on _ refl _ refl
-        (ap (λ (o : Option Facts). body_stands (written nodes begin) (facts_at table (end_of nodes begin)) entering o (choice_at table begin) (turns facts)) (sym there) ∙ h)
+        (ap (λ (o : Option Facts). body_stands (changes_in nodes begin) (facts_at table (end_of nodes begin)) entering o (choice_at table begin) (turns facts)) (sym there) ∙ h)
 
     module _ (e : Element) (reads : node.element ≡ Some e) (is : e.kind ≡ kind.Flow flow.Iterate) where
       behind_body : (facts : Facts) → facts_at table begin ≡ Some facts → (r : Result Edges Refusal) → edges_at nodes node facts ≡ r → closed_behind nodes table begin node facts r ≡ true → Body begin node start

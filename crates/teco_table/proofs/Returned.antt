@@ -24,7 +24,7 @@ use Rattle.teco_expand.specs.Was.{StepWas, ElementWas, Turns}
 use Rattle.teco_poly.specs.Polynomial.{Polynomial, value}
 use Rattle.teco_rules.proofs.Bodies.{returns_are_sound, turns_fall}
 use Rattle.teco_rules.proofs.Covering.{and_both, covers_are_sound}
-use Rattle.teco_rules.specs.Bodies.{Choice, body_start, returns, stands as choice_stands}
+use Rattle.teco_rules.specs.Bodies.{Changes, Choice, body_start, returns, stands as choice_stands}
 use Rattle.teco_rules.specs.Describes.{AreEach, HasFallen, run_behind, run_in_turn, IsWhole, Describes, fore_of}
 use Rattle.teco_rules.specs.Facts.{Facts}
 use Rattle.teco_rules.specs.Laws.{entered, IsCarried, BeginsAgain}
@@ -34,7 +34,7 @@ use Rattle.teco_table.specs.Following.{OpenTurn, begun_of, run_at, loops_in, ope
 use Rattle.teco_table.specs.Moving.{IsLast, Comes, MovesOn}
 use Rattle.teco_table.specs.Table.{Table, facts_at, choice_at}
 use Rattle.teco_table.specs.Turning.{is_reached, held_at, turning}
-use Rattle.teco_table.specs.Written.{written}
+use Rattle.teco_table.specs.Written.{changes_in}
 use Rattle.teco_table.proofs.Closing.{held_known, held_same}
 use Rattle.teco_table.proofs.Entered.{counted_covered, not_again, world_same}
 use Rattle.teco_table.proofs.Entering.{Entering, enters}
@@ -73,9 +73,9 @@ fewer counted turn ahead (Some left) next are counts falls = record {
   is = subst (λ left. AreMore left counted (record { begun = ahead; more = turn.more - 1 })) (sym counts.1) (are.0, omega (arith, are.1, counts.2));
 }
 
-returns_by : (choice : Choice) (written : List Bool) (most : Polynomial) (entering end : Facts) (counted : Bool) (facts : Facts) → entering ≡ entered counted facts → IsTrue (choice_stands choice written (is_counted entering.iterations) most entering (Some end)) → IsTrue (returns choice written counted most (entered counted facts) end)
-returns_by choice written most entering end counted facts e h =
-    (and_both _ _ (subst (λ (entering : Facts). IsTrue (choice_stands choice written (is_counted entering.iterations) most entering (Some end))) e h)).1
+returns_by : (choice : Choice) (changes : Changes) (most : Polynomial) (entering end : Facts) (counted : Bool) (facts : Facts) → entering ≡ entered counted facts → IsTrue (choice_stands choice changes (is_counted entering.iterations) most entering (Some end)) → IsTrue (returns choice changes counted most (entered counted facts) end)
+returns_by choice changes most entering end counted facts e h =
+    (and_both _ _ (subst (λ (entering : Facts). IsTrue (choice_stands choice changes (is_counted entering.iterations) most entering (Some end))) e h)).1
 
 module _ (laws : Laws) (library : Library) (entry : ℕ) (nodes : List Node) (are : AreLinked library entry nodes) (closed : AreClosed nodes) (table : Table) (n : ℕ) (below : List Pair) (passes : check nodes table ≡ Ok tt) where
   module _ (number : ℕ) (turns : List OpenTurn) (s last t : State) (here : IsDescribed library nodes table n below number turns s) (again : IsLast here.node.element s last) (goes : GoesTo (stands nodes entry) number here.node last t) (comes : Comes nodes here.node here.facts goes.way (run_at n below turns) s t) (loaded : IsLoaded library t.world.kept) (whole : IsWhole t.world.kept) where
@@ -120,21 +120,21 @@ module _ (laws : Laws) (library : Library) (entry : ℕ) (nodes : List Node) (ar
         counted = is_some entering.taken.value
 
         counted_is : is_counted opened.own.start.iterations ≡ counted
-        counted_is = counted_covered opened.own.start (body_start body.choice (written nodes back.begin) body.entering) (and_both _ _ body.same).0 ∙ ap (λ (facts : Facts). is_counted facts.iterations) entering.is
+        counted_is = counted_covered opened.own.start (body_start body.choice (changes_in nodes back.begin) body.entering) (and_both _ _ body.same).0 ∙ ap (λ (facts : Facts). is_counted facts.iterations) entering.is
 
         known_here : facts_at table (end_of nodes back.begin) ≡ Some here.facts
         known_here = ap (facts_at table) ends_here ∙ here.known
 
-        returning : IsTrue (returns body.choice (written nodes back.begin) counted body.most (entered counted body.facts) here.facts)
-        returning = returns_by body.choice (written nodes back.begin) body.most body.entering here.facts counted body.facts entering.is
-            (subst (λ o. IsTrue (choice_stands body.choice (written nodes back.begin) (is_counted body.entering.iterations) body.most body.entering o)) known_here body.stands_there)
+        returning : IsTrue (returns body.choice (changes_in nodes back.begin) counted body.most (entered counted body.facts) here.facts)
+        returning = returns_by body.choice (changes_in nodes back.begin) body.most body.entering here.facts counted body.facts entering.is
+            (subst (λ o. IsTrue (choice_stands body.choice (changes_in nodes back.begin) (is_counted body.entering.iterations) body.most body.entering o)) known_here body.stands_there)
 
         begun_are : map begun_of turns ≡ opened.turn.begun ∷ map begun_of opened.outer
         begun_are = ap (λ turns. map begun_of turns) opened.turns_are
 
         falls : is_counted opened.own.start.iterations ≡ false → ahead + 1 ≤ opened.turn.begun
-        falls none = turns_fall (run_at n below turns) here.facts (unread_of s.world) s.world.kept s.arguments body.choice (written nodes back.begin) body.most (entered counted body.facts) opened.turn.begun (map begun_of opened.outer)
-            (subst (λ b. IsTrue (returns body.choice (written nodes back.begin) b body.most (entered counted body.facts) here.facts)) (sym counted_is ∙ none) returning)
+        falls none = turns_fall (run_at n below turns) here.facts (unread_of s.world) s.world.kept s.arguments body.choice (changes_in nodes back.begin) body.most (entered counted body.facts) opened.turn.begun (map begun_of opened.outer)
+            (subst (λ b. IsTrue (returns body.choice (changes_in nodes back.begin) b body.most (entered counted body.facts) here.facts)) (sym counted_is ∙ none) returning)
             here.described begun_are
 
         less : Fewer (is_counted opened.own.start.iterations) opened.turn ahead was.went.turns
@@ -187,11 +187,11 @@ module _ (laws : Laws) (library : Library) (entry : ℕ) (nodes : List Node) (ar
             }
 
         held_start : held_at nodes table n goes.target ≡ value body.choice.held n
-        held_start = ap (held_at nodes table n) target_is ∙ (held_known nodes table n (suc back.begin) opened.own.start opened.own.started ∙ held_same opened.own.start (body_start body.choice (written nodes back.begin) body.entering) n body.same)
+        held_start = ap (held_at nodes table n) target_is ∙ (held_known nodes table n (suc back.begin) opened.own.start opened.own.started ∙ held_same opened.own.start (body_start body.choice (changes_in nodes back.begin) body.entering) n body.same)
 
         module _ (few : held_of t.world ≤ held_at nodes table n goes.target) where
-          next_turn : BeginsAgain (run_at n below turns) body.facts (body_start body.choice (written nodes back.begin) (entered counted body.facts)) (unread_of s.world) s.world.kept body.choice.kept (map begun_of opened.outer)
-          next_turn = returns_are_sound (run_at n below turns) body.facts here.facts (unread_of s.world) s.world.kept s.arguments body.choice (written nodes back.begin) counted body.most opened.turn.begun (map begun_of opened.outer)
+          next_turn : BeginsAgain (run_at n below turns) body.facts (body_start body.choice (changes_in nodes back.begin) (entered counted body.facts)) (unread_of s.world) s.world.kept body.choice.kept (map begun_of opened.outer)
+          next_turn = returns_are_sound (run_at n below turns) body.facts here.facts (unread_of s.world) s.world.kept s.arguments body.choice (changes_in nodes back.begin) counted body.most opened.turn.begun (map begun_of opened.outer)
               here.whole returning here.described begun_are (falls_many ∙ sym (length-map opened.outer begun_of))
               (let w : held_of t.world ≡ held_of s.world = ap held_of same_world in omega (arith, few, w, held_start)) carried
 
@@ -199,9 +199,9 @@ module _ (laws : Laws) (library : Library) (entry : ℕ) (nodes : List Node) (ar
           run_is = ap (λ (begun : List ℕ). record { n = n; turns = ahead ∷ drop 1 begun; below = below }) begun_are
 
           described_start : Describes (run_at n below later) opened.own.start (unread_of s.world) s.world.kept model.no_arguments
-          described_start = covers_are_sound (run_at n below later) opened.own.start (body_start body.choice (written nodes back.begin) body.entering) (unread_of s.world) s.world.kept model.no_arguments here.whole (and_both _ _ body.same).0
-              (subst (λ facts. Describes (run_at n below later) (body_start body.choice (written nodes back.begin) facts) (unread_of s.world) s.world.kept model.no_arguments) (sym entering.is)
-              (subst (λ run. Describes run (body_start body.choice (written nodes back.begin) (entered counted body.facts)) (unread_of s.world) s.world.kept model.no_arguments) run_is next_turn.described))
+          described_start = covers_are_sound (run_at n below later) opened.own.start (body_start body.choice (changes_in nodes back.begin) body.entering) (unread_of s.world) s.world.kept model.no_arguments here.whole (and_both _ _ body.same).0
+              (subst (λ facts. Describes (run_at n below later) (body_start body.choice (changes_in nodes back.begin) facts) (unread_of s.world) s.world.kept model.no_arguments) (sym entering.is)
+              (subst (λ run. Describes run (body_start body.choice (changes_in nodes back.begin) (entered counted body.facts)) (unread_of s.world) s.world.kept model.no_arguments) run_is next_turn.described))
 
           arguments_are : t.arguments ≡ model.no_arguments
           arguments_are = ap (λ (t : State). t.arguments) was.gone ∙ ap (λ (turn : Turn). turn.arguments) was.went.gone

@@ -4,6 +4,7 @@ use Rattle.std.specs.Prelude.{IsTrue}
 use Rattle.std.specs.Option.{option_map_or}
 use Rattle.teco_model.specs.declared.flow.Loop.{Loop}
 use Rattle.teco_model.specs.Element.{Element, element_at}
+use Rattle.teco_model.proofs.Ahead.{element_at-again}
 use Rattle.teco_model.specs.Files.{Files}
 use Rattle.teco_model.specs.Registers.{Pair}
 use Rattle.teco_model.specs.Run.{Reaches, run, go_on}
@@ -119,7 +120,7 @@ no_answer_needed run facts unread kept arguments d = record {
 module _ (laws : Laws) (library : Library) (entry : ℕ) (nodes : List Node) (are : AreLinked library entry nodes) (closed : AreClosed nodes) (table : Table) (commands_are size_is : Polynomial) (n : ℕ) (below : List Pair) (printed : IsPrinted nodes table commands_are size_is) (small : value size_is n ≤ LIMIT) (names : RegistersAreNamed) (first : State) (whole_first : IsWholeState first) where
   module _ (number : ℕ) (turns : List OpenTurn) (taken : ℕ) (s : State) (reached : Reaches taken first s) (here : IsDescribed library nodes table n below number turns s) (files : AreOpen (needs_in nodes table) s.world.files) where
     read_here : element_at s.frames.running.text s.frames.running.place ≡ Ok here.node.element
-    read_here = subst (λ (p : Position). element_at p.running.text p.running.place ≡ Ok here.node.element) here.position
+    read_here = sym (element_at-again s.frames.running.text s.frames.running.place) ∙ subst (λ (p : Position). element_at p.running.text p.running.place ≡ Ok here.node.element) here.position
         (laws.sound library (stands nodes entry) number here.node (are.each number here.node here.at)).0
 
     whole_here : IsWholeState s

@@ -13,12 +13,13 @@ use Rattle.teco_table.specs.Closed.{check}
 use Rattle.teco_table.specs.Deriving.{derive}
 use Rattle.teco_table.specs.Printed.{commands, size, needs_in}
 use Rattle.teco_table.specs.Rows.{WorkedTables}
-use Rattle.teco_table.specs.Written.{written_in, written}
+use Rattle.teco_table.specs.Written.{written_in, written, ends_in}
 
 pub worked_tables : WorkedTables
-unfolding digits int_wrap blank_len element_from element_at letters reading_at first_readings readings part_at parts_within parts read_at flow_ways ways_at next_visit walk way_numbers node_at nodes_at expansion transfer check derive commands size needs_in written_in written
+unfolding digits int_wrap blank_len element_from element_at letters reading_at first_readings readings part_at parts_within parts read_at flow_ways ways_at next_visit walk way_numbers node_at nodes_at expansion transfer check derive commands size needs_in written_in written ends_in
 worked_tables = record {
   marks = refl;
+  marks_once = refl;
   lost = refl;
   more = refl;
   too_little = refl;
@@ -32,4 +33,9 @@ worked_tables = record {
   tested = refl;
   appended = refl;
   refused = refl;
+  returned = refl;
+  deleted = refl;
+  returned_in_turns = refl;
+  deleted_in_turns = refl;
+  written_in_turns = refl;
 }

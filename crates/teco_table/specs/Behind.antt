@@ -48,12 +48,13 @@ edges_behind nodes node (Some e) facts = transfer (placed nodes node e) facts
 abbrev pub edges_at : List Node → Node → Facts → Result Edges Refusal
 edges_at nodes node facts = edges_behind nodes node node.element facts
 
--- On which way: the first goes on and the second away, but > goes away first, and a pipe and O go away alone.
+-- On which way: the first goes on and the second away, but > goes away first, and |, O, F>, F' and F| go away alone.
 abbrev pub along_flow : Flow → ℕ → Edges → Option Facts
 along_flow flow.EndTurn zero edges = edges.away
 along_flow flow.EndTurn (suc way) edges = edges.on
 along_flow flow.Otherwise way edges = edges.away
 along_flow flow.GoTo way edges = edges.away
+along_flow (flow.GoAhead g) way edges = edges.away
 along_flow f zero edges = edges.on
 along_flow f (suc way) edges = edges.away
 

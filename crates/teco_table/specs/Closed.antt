@@ -10,13 +10,13 @@ use Rattle.teco_expand.specs.Ends.{end_of}
 use Rattle.teco_expand.specs.Node.{Node}
 use Rattle.teco_poly.specs.Polynomial.{Polynomial}
 use Rattle.teco_rules.specs.declared.refusal.Refusal.{Refusal}
-use Rattle.teco_rules.specs.Bodies.{Choice, body_start, stands}
+use Rattle.teco_rules.specs.Bodies.{Choice, Changes, body_start, stands}
 use Rattle.teco_rules.specs.Covers.{covers, each_covers, is_same_iteration}
 use Rattle.teco_rules.specs.Facts.{Iteration, Facts, entry_facts}
 use Rattle.teco_rules.specs.Flows.{Edges, turns}
 use Rattle.teco_table.specs.Behind.{edges_at, along, begins_turn}
 use Rattle.teco_table.specs.Table.{Table, facts_at, choice_at}
-use Rattle.teco_table.specs.Written.{written}
+use Rattle.teco_table.specs.Written.{changes_in}
 
 -- two facts say the same
 abbrev pub say_same : Facts → Facts → Bool
@@ -54,17 +54,17 @@ abbrev pub is_counted : List Iteration → Bool
 is_counted [] = false
 is_counted (i ∷ outer) = i.counted
 
-abbrev pub body_stands : List Bool → Option Facts → Facts → Option Facts → Option Choice → Result Polynomial Refusal → Bool
-body_stands written end entering (Some start) (Some choice) (Ok most) =
-    say_same start (body_start choice written entering)
-    && stands choice written (is_counted entering.iterations) most entering end
-body_stands written end entering start choice most = false
+abbrev pub body_stands : Changes → Option Facts → Facts → Option Facts → Option Choice → Result Polynomial Refusal → Bool
+body_stands changes end entering (Some start) (Some choice) (Ok most) =
+    say_same start (body_start choice changes entering)
+    && stands choice changes (is_counted entering.iterations) most entering end
+body_stands changes end entering start choice most = false
 
 -- where nothing enters a body, nothing is known at its start
 abbrev pub is_entered : List Node → Table → ℕ → Facts → Option Facts → Bool
 is_entered nodes table begin facts None = is_none (facts_at table (suc begin))
 is_entered nodes table begin facts (Some entering) =
-    body_stands (written nodes begin) (facts_at table (end_of nodes begin)) entering (facts_at table (suc begin))
+    body_stands (changes_in nodes begin) (facts_at table (end_of nodes begin)) entering (facts_at table (suc begin))
     (choice_at table begin) (turns facts)
 
 abbrev pub enters : List Node → Table → ℕ → Facts → Edges → Flow → Bool

@@ -9,13 +9,13 @@ use Rattle.teco_expand.specs.Node.{Node}
 use Rattle.teco_poly.specs.Polynomial.{Polynomial}
 use Rattle.teco_rules.specs.declared.refusal.Refusal.{Refusal}
 use Rattle.teco_rules.specs.Attempt.{◌>>=◌}
-use Rattle.teco_rules.specs.Bodies.{Choice, body_start}
+use Rattle.teco_rules.specs.Bodies.{Choice, Changes, body_start}
 use Rattle.teco_rules.specs.Facts.{Facts, entry_facts}
 use Rattle.teco_rules.specs.Flows.{Edges}
 use Rattle.teco_rules.specs.Joins.{joined}
 use Rattle.teco_table.specs.Behind.{edges_at, along, along_flow}
 use Rattle.teco_table.specs.Table.{Row, Table}
-use Rattle.teco_table.specs.Written.{written}
+use Rattle.teco_table.specs.Written.{changes_in}
 
 -- What is chosen for the body of a <: how much is held, whether it is kept, and the texts that may be longer than at the <.
 pub record LongerText : Type 0 where
@@ -61,19 +61,19 @@ met number (arrival ∷ arrivals) known =
     else met number arrivals known
 
 -- The way into a body leads to its start, and the way back to what was derived already.
-abbrev pub start_of_body : List Bool → Option Choice → Option Facts → Option Facts
-start_of_body writes choice entering =
-    option_and_then (λ (c : Choice). option_map (body_start c writes) entering) choice
+abbrev pub start_of_body : Changes → Option Choice → Option Facts → Option Facts
+start_of_body changes choice entering =
+    option_and_then (λ (c : Choice). option_map (body_start c changes) entering) choice
 
-abbrev pub arriving_by_flow : List Bool → Option Choice → Flow → ℕ → Edges → Option Facts
-arriving_by_flow writes choice flow.Iterate zero edges = start_of_body writes choice edges.on
-arriving_by_flow writes choice flow.EndTurn zero edges = None
-arriving_by_flow writes choice f way edges = along_flow f way edges
+abbrev pub arriving_by_flow : Changes → Option Choice → Flow → ℕ → Edges → Option Facts
+arriving_by_flow changes choice flow.Iterate zero edges = start_of_body changes choice edges.on
+arriving_by_flow changes choice flow.EndTurn zero edges = None
+arriving_by_flow changes choice f way edges = along_flow f way edges
 
-abbrev pub arriving : List Bool → Option Choice → Option Element → ℕ → Edges → Option Facts
-arriving writes choice None way edges = along None way edges
-arriving writes choice (Some e) way edges = elim e.kind [
-  | kind.Flow f ↦ arriving_by_flow writes choice f way edges
+abbrev pub arriving : Changes → Option Choice → Option Element → ℕ → Edges → Option Facts
+arriving changes choice None way edges = along None way edges
+arriving changes choice (Some e) way edges = elim e.kind [
+  | kind.Flow f ↦ arriving_by_flow changes choice f way edges
   | k ↦ along (Some e) way edges
 ]
 
@@ -81,11 +81,11 @@ abbrev pub arrivals_at : ℕ → Option Facts → List Arrival
 arrivals_at target None = []
 arrivals_at target (Some facts) = record { target = target; facts = facts } ∷ []
 
-abbrev pub arrivals_behind : List Bool → Option Choice → Option Element → ℕ → List ℕ → Edges → List Arrival
-arrivals_behind writes choice read way [] edges = []
-arrivals_behind writes choice read way (target ∷ targets) edges =
-    arrivals_at target (arriving writes choice read way edges)
-    ++ arrivals_behind writes choice read (suc way) targets edges
+abbrev pub arrivals_behind : Changes → Option Choice → Option Element → ℕ → List ℕ → Edges → List Arrival
+arrivals_behind changes choice read way [] edges = []
+arrivals_behind changes choice read way (target ∷ targets) edges =
+    arrivals_at target (arriving changes choice read way edges)
+    ++ arrivals_behind changes choice read (suc way) targets edges
 
 -- what a node's row says, and the edges behind it
 pub record Derived : Type 0 where
@@ -99,7 +99,7 @@ derived_at nodes chosen number node (Some facts) = do
   Ok (
       let choice = option_map (choice_of facts) (chosen_for number chosen) in record {
         row = record { facts = Some facts; choice = choice };
-        arrivals = arrivals_behind (written nodes number) choice node.element 0 node.ways edges;
+        arrivals = arrivals_behind (changes_in nodes number) choice node.element 0 node.ways edges;
       })
 
 abbrev pub derive_from : List Node → List Chosen → ℕ → List Node → List Arrival → Result Table Refusal

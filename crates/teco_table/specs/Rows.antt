@@ -59,6 +59,10 @@ poly coefficients = first COEFFICIENTS coefficients
 abbrev pub kept_with : ℕ → List ℕ → Chosen
 kept_with begin held = record { begin = begin; held = poly held; kept = true; longer = [] }
 
+-- one of which nothing is known but that it holds so much
+abbrev pub lost_with : ℕ → List ℕ → Chosen
+lost_with begin held = record { begin = begin; held = poly held; kept = false; longer = [] }
+
 -- each a becomes bb, and then there is a turn for each character
 abbrev pub replace_and_count : Library
 replace_and_count = only (then (codes "J<FSa") (then (codes "bb") (codes ";>Z<>")))
@@ -67,16 +71,21 @@ replace_and_count = only (then (codes "J<FSa") (then (codes "bb") (codes ";>Z<>"
 abbrev pub copy_twice : Library
 copy_twice = only (codes "HXB2<GB>")
 
+-- each occurrence of foo gets a mark, but where one stands
+abbrev pub mark_once : Library
+mark_once = only (then (codes "J<Sfoo") (then (codes ";0A-33\"EF>'I!") (codes ">")))
+
 -- each occurrence of foo on any page gets a mark
 abbrev pub mark_pages : Library
 mark_pages = only (then (codes "<Nfoo") (then (codes ";I!") (codes ">")))
 
 pub record WorkedTables : Type 0 where
   pub marks : verdict mark_foo (kept_with 3 (0 ∷ 2 ∷ []) ∷ []) ≡ Printed (codes "8 + 4*N") (codes "1 + 2*N") (codes "-")
+  pub marks_once :
+      verdict mark_once (kept_with 3 (0 ∷ 2 ∷ []) ∷ []) ≡ Printed (codes "14 + 10*N") (codes "1 + 2*N") (codes "-")
   -- one that is not kept may stand as well, and so may one that holds more
   pub lost :
-      verdict mark_foo (record { begin = 3; held = poly (0 ∷ 2 ∷ []); kept = false; longer = [] } ∷ [])
-      ≡ Printed (codes "8 + 4*N") (codes "1 + 2*N") (codes "-")
+      verdict mark_foo (lost_with 3 (0 ∷ 2 ∷ []) ∷ []) ≡ Printed (codes "8 + 4*N") (codes "1 + 2*N") (codes "-")
   pub more : verdict mark_foo (kept_with 3 (5 ∷ 2 ∷ []) ∷ []) ≡ Printed (codes "8 + 4*N") (codes "6 + 2*N") (codes "-")
   -- with too little held a choice does not stand, and there is none
   pub too_little : verdict mark_foo (kept_with 3 (0 ∷ 1 ∷ []) ∷ []) ≡ NotClosed 3
@@ -98,3 +107,15 @@ pub record WorkedTables : Type 0 where
   pub appended :
       verdict (only (codes "H:XBH:XB")) [] ≡ Printed (codes "6") (codes "3*N") (codes "-")
   pub refused : verdict (only (codes "2D")) [] ≡ NotDerived refusal.Deletion
+  -- a place that was saved is one behind an insertion, and in each turn of a body that neither writes its register nor
+  -- deletes
+  pub returned :
+      verdict (only (then (codes ".UBIx") (codes "QBJ"))) [] ≡ Printed (codes "7") (codes "1 + N") (codes "-")
+  pub deleted : verdict (only (codes ".UB0KQBJ")) [] ≡ NotDerived refusal.Place
+  pub returned_in_turns :
+      verdict (only (then (codes ".UB3<QBJIx") (codes ">"))) (lost_with 5 (2 ∷ 1 ∷ []) ∷ [])
+      ≡ Printed (codes "18") (codes "3 + N") (codes "-")
+  pub deleted_in_turns :
+      verdict (only (codes ".UB3<QBJ0K>")) (lost_with 5 (0 ∷ 1 ∷ []) ∷ []) ≡ NotDerived refusal.Place
+  pub written_in_turns :
+      verdict (only (codes ".UB3<QBJZUB>")) (lost_with 5 (0 ∷ 1 ∷ []) ∷ []) ≡ NotDerived refusal.Place

@@ -133,8 +133,38 @@ const TAGS: [Row; 12] = [
     (b"Oa\x1b?F?!a!1=\x1b\x1b", b"1\r\n", b"", 0),
 ];
 
+/// Sessions in which `F` and a bracket go ahead.
+const AHEAD: [Row; 16] = [
+    (b"3<1=F>2=>3=\x1b\x1b", b"1\r\n1\r\n1\r\n3\r\n", b"", 0),
+    (b"0\"E1=F'2=|3='4=\x1b\x1b", b"1\r\n4\r\n", b"", 0),
+    (b"0\"E1=F|2=|3='4=\x1b\x1b", b"1\r\n3\r\n4\r\n", b"", 0),
+    (b"0<F>>1=\x1b\x1b", b"1\r\n", b"", 0),
+    (b"2<1=F>2= \r\n>3=\x1b\x1b", b"1\r\n1\r\n3\r\n", b"", 0),
+    (b"3<%A-2\"EF>'QA=>\x1b\x1b", b"1\r\n3\r\n", b"", 0),
+    (b"1<F><F?>F'@I/>/2=>3=\x1b\x1b", b"3\r\n", b"", 0),
+    (
+        b"2<2<1=f>3=>2=>\x1b\x1b",
+        b"1\r\n1\r\n2\r\n1\r\n1\r\n2\r\n",
+        b"",
+        0,
+    ),
+    (
+        b"@^UA/2<1=F>2=>/2<MAF>3=>\x1b\x1b",
+        b"1\r\n1\r\n1\r\n1\r\n",
+        b"",
+        0,
+    ),
+    (b"1\"N0\"EF'1='2=|3='4=\x1b\x1b", b"2\r\n4\r\n", b"", 0),
+    (b"1\"E|1=F|2='3=\x1b\x1b", b"1\r\n3\r\n", b"", 0),
+    (b"2<0\"EF'>1='2=>\x1b\x1b", b"2\r\n2\r\n", b"", 0),
+    (b"F'1=F|2='3=\x1b\x1b", b"3\r\n", b"", 0),
+    (b"F|1=|2='3=\x1b\x1b", b"2\r\n3\r\n", b"", 0),
+    (b"5+F'9'2=\x1b\x1b", b"7\r\n", b"", 0),
+    (b"0\"E5F|9|+2='\x1b\x1b", b"7\r\n", b"", 0),
+];
+
 /// Sessions in which flow is refused.
-const REFUSED: [Row; 32] = [
+const REFUSED: [Row; 43] = [
     (b">\x1b\x1b", b"?BNI\r\n", b"", 0),
     (b"1+>\x1b\x1b", b"?BNI\r\n", b"", 0),
     (b"@^UA/>/1<MA>\x1b\x1b", b"?BNI\r\n", b"", 0),
@@ -167,11 +197,29 @@ const REFUSED: [Row; 32] = [
     (b"Oa\x1b<!a!>\x1b\x1b", b"?TAG\r\n", b"", 0),
     (b"Oa\x1b@I/!a!\x1b\x1b", b"?TAG\r\n", b"", 0),
     (b"@^UA/Oa\x1b/MA!a!\x1b\x1b", b"?TAG\r\n", b"", 0),
+    (b"F>\x1b\x1b", b"?BNI\r\n", b"", 0),
+    (b"1+F>>\x1b\x1b", b"?BNI\r\n", b"", 0),
+    (b"@^UA/F>>/1<MA>\x1b\x1b", b"?BNI\r\n", b"", 0),
+    (b"F'\x1b\x1b", b"?UTC\r\n", b"", 0),
+    (b"F|\x1b\x1b", b"?UTC\r\n", b"", 0),
+    (b"1<F><>\x1b\x1b", b"?UTC\r\n", b"", 0),
+    (b"0\"EF'\"N'|\x1b\x1b", b"?UTC\r\n", b"", 0),
+    (b"@^UA/1<F>/MA>\x1b\x1b", b"?UTM\r\n", b"", 0),
+    (b"@^UA/F'/MA'\x1b\x1b", b"?UTM\r\n", b"", 0),
+    (b"@^UA/F|/MA|\x1b\x1b", b"?UTM\r\n", b"", 0),
+    (b"1<:F>>\x1b\x1b", b"?ILL\r\n", b"", 0),
 ];
 
 #[test]
 fn flow(rt: HostRuntime) {
-    let tables: [&[Row]; 5] = [&ITERATIONS, &CHANGED, &OVERLAPPING, &CONDITIONALS, &TAGS];
+    let tables: [&[Row]; 6] = [
+        &ITERATIONS,
+        &CHANGED,
+        &OVERLAPPING,
+        &CONDITIONALS,
+        &TAGS,
+        &AHEAD,
+    ];
     for table in tables {
         for (i, row) in table.iter().enumerate() {
             expect_row(&rt, rt.alloc(), LIMIT, *row, "done", i);
@@ -182,8 +230,8 @@ fn flow(rt: HostRuntime) {
     }
 }
 
-/// Sessions with few steps for each string: a turn of an iteration takes a step for `>`.
-const LIMITED: [(u64, &'static str, Row); 8] = [
+/// Sessions with few steps for each string: a turn of an iteration takes a step for `>`, and one for `F>` before it.
+const LIMITED: [(u64, &'static str, Row); 10] = [
     (
         10,
         "coded",
@@ -192,6 +240,8 @@ const LIMITED: [(u64, &'static str, Row); 8] = [
     (1_000, "coded", (b"<>\x1b\x1b", b"?LIM\r\n", b"", 0)),
     (4, "coded", (b"1<>\x1b\x1b", b"?LIM\r\n", b"", 0)),
     (5, "done", (b"1<>\x1b\x1b", b"", b"", 0)),
+    (5, "coded", (b"1<F>>\x1b\x1b", b"?LIM\r\n", b"", 0)),
+    (6, "done", (b"1<F>>\x1b\x1b", b"", b"", 0)),
     (5, "coded", (b"<1=\x1b\x1b", b"1\r\n?LIM\r\n", b"", 0)),
     (6, "coded", (b"<1=\x1b\x1b", b"1\r\n?UTC\r\n", b"", 0)),
     (

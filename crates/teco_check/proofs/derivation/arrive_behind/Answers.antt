@@ -1,6 +1,6 @@
 use Rattle.std.proofs.Common.{◌≡◌, sym, ◌∙◌, Some, None, arith}
 use Rattle.teco_table.specs.Deriving.{arriving}
-use Rattle.teco_table.specs.Written.{written}
+use Rattle.teco_table.specs.Written.{changes_in}
 use Rattle.teco_check.specs.Here.{node_at}
 use Rattle.teco_check.proofs.Steps.{some_arrives, none_arrives, none_behind}
 use Rattle.teco_check.proofs.derivation.arrive_behind.Goals as goal
@@ -10,14 +10,14 @@ pub loop-at-preserved : goal.loop-at-preserved
 loop-at-preserved c =
     let nodes = c.args.nodes.now in
     let node = node_at nodes c.args.number in
-    let writes = written nodes c.args.number in
+    let changes = changes_in nodes c.args.number in
     let read = c.element-read.ensures.read in
     elim c.match-way.branch [
       | in-Some+in_ok-facts+in-Some-2 w ↦
-          let facts : arriving writes c.args.choice.now node.element c.loop-at.at c.args.edges.now ≡ Some w.in-Some-2.facts = rw (← read) (sym w.in_ok-facts.ensures ∙ w.in-Some-2.is) in
-          c.loop-at.invariant ∙ rw (w.arrived-is, w.put.ensures) (some_arrives writes c.args.choice.now node.element c.args.edges.now c.loop-at.at w.in-Some.target node.ways c.loop-at.arrived (sym c.way.ensures ∙ w.in-Some.is) w.in-Some-2.facts facts)
+          let facts : arriving changes c.args.choice.now node.element c.loop-at.at c.args.edges.now ≡ Some w.in-Some-2.facts = rw (← read) (sym w.in_ok-facts.ensures ∙ w.in-Some-2.is) in
+          c.loop-at.invariant ∙ rw (w.arrived-is, w.put.ensures) (some_arrives changes c.args.choice.now node.element c.args.edges.now c.loop-at.at w.in-Some.target node.ways c.loop-at.arrived (sym c.way.ensures ∙ w.in-Some.is) w.in-Some-2.facts facts)
       | in-Some+in_ok-facts+in_default-2 w ↦
-          let none : arriving writes c.args.choice.now node.element c.loop-at.at c.args.edges.now ≡ None = rw (← read) (sym w.in_ok-facts.ensures ∙ w.in_default-2.is) in
-          c.loop-at.invariant ∙ rw w.arrived-is (none_arrives writes c.args.choice.now node.element c.args.edges.now c.loop-at.at w.in-Some.target node.ways c.loop-at.arrived (sym c.way.ensures ∙ w.in-Some.is) none)
+          let none : arriving changes c.args.choice.now node.element c.loop-at.at c.args.edges.now ≡ None = rw (← read) (sym w.in_ok-facts.ensures ∙ w.in_default-2.is) in
+          c.loop-at.invariant ∙ rw w.arrived-is (none_arrives changes c.args.choice.now node.element c.args.edges.now c.loop-at.at w.in-Some.target node.ways c.loop-at.arrived (sym c.way.ensures ∙ w.in-Some.is) none)
       | in_default w ↦ absurd (omega (arith, none_behind node.ways c.loop-at.at (sym c.way.ensures ∙ w.in_default.is), c.ways-at-end.ensures))
     ]

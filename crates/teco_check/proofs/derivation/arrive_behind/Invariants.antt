@@ -1,6 +1,6 @@
 use Rattle.std.proofs.Common.{◌≡◌, drop}
 use Rattle.teco_table.specs.Deriving.{arrivals_behind}
-use Rattle.teco_table.specs.Written.{written}
+use Rattle.teco_table.specs.Written.{changes_in}
 use Rattle.teco_check.specs.Derived.{arrived_all}
 use Rattle.teco_check.specs.Here.{node_at}
 use Rattle.teco_check.proofs.derivation.arrive_behind.Given as goal
@@ -9,6 +9,6 @@ use Rattle.teco_check.proofs.derivation.arrive_behind.Given as goal
 abbrev pub invariant-loop-at : goal.invariant-loop-at
 invariant-loop-at l =
     let node = node_at l.nodes l.number in
-    let writes = written l.nodes l.number in
-    arrived_all (arrivals_behind writes l.choice node.element 0 node.ways l.edges) l.initial.arrived
-    ≡ arrived_all (arrivals_behind writes l.choice node.element l.at (drop l.at node.ways) l.edges) l.arrived
+    let changes = changes_in l.nodes l.number in
+    arrived_all (arrivals_behind changes l.choice node.element 0 node.ways l.edges) l.initial.arrived
+    ≡ arrived_all (arrivals_behind changes l.choice node.element l.at (drop l.at node.ways) l.edges) l.arrived

@@ -1,5 +1,6 @@
 use Rattle.std.proofs.Common.{length, ap, sym, ◌∙◌, arith}
 use Rattle.teco_model.proofs.SkipSteps.{pair_end-none, pair_end-faulty, pair_end-ends, pair_end-goes_on}
+use Rattle.teco_model.proofs.Ahead.{reading_at-advances}
 use Rattle.teco_lex.proofs.skips.pair_end.Goals as goal
 
 pub loop-reading-preserved-in-Some-inner_behind : goal.loop-reading-preserved-in-Some-inner_behind
@@ -19,6 +20,12 @@ returns-in-None-clause-value c =
     let read = sym (rw (c.in-Whole.is, c.loop-reading.invariant.text) at c.in-Some.ensures.value) in
     let ends = sym (rw c.bracket.ensures at c.in-None.ensures.value) in
     sym (pair_end-ends _ _ _ _ _ read ends) ∙ c.loop-reading.invariant.same
+
+pub returns-in-None-clause-within : goal.returns-in-None-clause-within
+returns-in-None-clause-within c =
+    let read = sym (rw (c.in-Whole.is, c.loop-reading.invariant.text) at c.in-Some.ensures.value) in
+    let a = reading_at-advances c.args.text.now c.loop-reading.ahead.place _ read in
+    (a.on, a.within)
 
 pub loop-reading-preserved : goal.loop-reading-preserved
 loop-reading-preserved c =

@@ -8,12 +8,12 @@ pub loop-at-preserved : goal.loop-at-preserved
 loop-at-preserved c =
     let within : c.loop-at.at < length c.self.inside.outer.items = omega (arith, c.len-at-end.ensures) in
     record {
-      done = rw c.settled.ensures (map_over_more (settled_level c.args.margins) _ _ _ _ within c.loop-at.invariant.done c.index-level.ensures);
+      done = rw c.settled.ensures (map_over_more (settled_level c.args.margins c.args.ends) _ _ _ _ within c.loop-at.invariant.done c.index-level.ensures);
       level = c.loop-at.invariant.level;
     }
 
 pub returns : goal.returns
 returns c =
     let past : length c.self.inside.outer.items ≤ c.loop-at.at = omega (arith, c.len-at-end.ensures) in
-    let levels = mapped_all (settled_level c.args.margins) _ _ _ c.loop-at.invariant.done past in
+    let levels = mapped_all (settled_level c.args.margins c.args.ends) _ _ _ c.loop-at.invariant.done past in
     rw (← c.self.view_is, c.loop-at.invariant.level, c.settled-self-inside.ensures, levels)
