@@ -1,7 +1,7 @@
-mod Always
 mod Anchored
 mod Marks
 mod Matches
+mod Naming
 mod Needled
 mod Starts
 mod Succession

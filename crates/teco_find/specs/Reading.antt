@@ -1,11 +1,13 @@
 -- What the calls that read a search text answer, beside the definition.
-use Rattle.std.specs.Prelude.{◌≡◌, ℕ, ◌<◌, List, [], ◌∷◌, length, Bool, Option, Some, None, Result, Ok, Err, IsOk, IfOk, IsSome}
+use Rattle.std.specs.Prelude.{◌≡◌, ℕ, ◌<◌, List, [], ◌∷◌, length, flat_map, All, Bool}
+use Rattle.std.specs.Prelude.{Option, Some, None, Result, Ok, Err, IsOk}
 use Rattle.teco_base.specs.declared.code.Code.{Code}
 use Rattle.teco_base.specs.declared.code.Code.TheVariants as code
 use Rattle.teco_model.specs.Checked.{◌>>=◌}
-use Rattle.teco_model.specs.Pattern.{Pattern, minimum, parts, pattern}
-use Rattle.teco_model.specs.Registers.{Registers}
+use Rattle.teco_model.specs.Pattern.{Pattern, parts, pattern}
+use Rattle.teco_model.specs.Registers.{Registers, pair_of}
 use Rattle.teco_model.specs.declared.pattern.Part.{Part}
+use Rattle.teco_model.specs.declared.pattern.Part.TheVariants as part
 use Rattle.teco_find.specs.declared.fault.FindFault.{FindFault}
 use Rattle.teco_find.specs.declared.fault.FindFault.TheVariants as fault
 use Rattle.teco_find.specs.declared.fault.Flaw.{Flaw}
@@ -46,10 +48,26 @@ NextPart old new (Ok (Some p)) =
     (parts old ≡ (parts new >>= (λ ps. Ok (p ∷ ps)))) × (length new < length old)
 NextPart old new (Err f) = parts old ≡ Err (code_of f)
 
--- a text that names no register: a match of it has a least length
-abbrev pub NamesNoRegister : List ℕ → Type 0
-NamesNoRegister text = IfOk (minimum text) IsSome
+-- a register that a search text names, with a text of it
+pub record Named : Type 0 where
+  pub register : ℕ
+  pub text : List ℕ
 
--- a text says the same pattern whatever the registers have
-abbrev pub SaysAlways : Bool → List ℕ → Pattern → Type 0
-SaysAlways exact text said = (registers : Registers) → pattern registers exact text ≡ Ok said
+-- the registers that a part names, and a search text, each with the text that it has
+abbrev pub named_by : Registers → Part → List Named
+named_by registers (part.Item i) = []
+named_by registers (part.Register r) = record { register = r; text = (pair_of r registers).text } ∷ []
+
+abbrev pub named_in : Registers → List ℕ → Result (List Named) Code
+named_in registers text = do
+  ps ← parts text
+  Ok (flat_map (named_by registers) ps)
+
+-- a register has the text that it is named with
+abbrev pub Has : Registers → Named → Type 0
+Has registers named = (pair_of named.register registers).text ≡ named.text
+
+-- a text says this pattern wherever the registers that are named have these texts
+abbrev pub SaysWhere : List Named → Bool → List ℕ → Pattern → Type 0
+SaysWhere named exact text said =
+    (registers : Registers) → All (Has registers) named → pattern registers exact text ≡ Ok said

@@ -1,42 +1,37 @@
 // The pattern that was read last.
 ghost use Rattle.std.specs.Prelude.{◌≡◌, length, [], IsOk, IsTrue, OnOk, OnErr, IfErr, Ok, Err};
 ghost use Rattle.teco_model.specs.Pattern as model;
-ghost use Rattle.teco_find.specs.Reading.{NamesNoRegister, Reads, SaysAlways};
+ghost use Rattle.teco_find.specs.Reading.{Reads};
 
 use crate::fault::FindFault;
-use crate::pattern::{Pattern, minimum};
+use crate::named::{Named, are_current, list_named};
+use crate::pattern::Pattern;
 use std::alloc::Global;
 use std::marker::Model;
 use teco_regs::Regs;
 
-/// The pattern that was read last. A search by the same text need not read it again, unless the text names a register.
+/// The pattern that was read last. A search by the same text need not read it again, as long as
+/// the registers that the text names have the same texts.
 #[derive(Drop)]
 pub struct LastPattern {
     pattern: Pattern,
-    // the text that says it, if `always`
+    // what it was read from, if that is kept
     text: Vec<u8>,
+    named: Vec<Named>,
     exact: bool,
-    // whatever the registers have
-    always: bool,
+    kept: bool,
 }
 
 impl Model for LastPattern {
     ghost use Rattle.std.specs.Prelude.{◌≡◌, true};
     ghost use Rattle.teco_model.specs.Pattern as model;
-    ghost use Rattle.teco_find.specs.Reading.{SaysAlways};
+    ghost use Rattle.teco_find.specs.Reading.{SaysWhere};
 
     ghost Value = { model.Pattern };
 
     ghost view = { λ l. l.pattern };
 
-    ghost invariant = { λ l. l.always ≡ true → SaysAlways l.exact l.text.items l.pattern };
-}
-
-// Whether a text names no register, so that it always says the same.
-fn says_always(text: &[u8]) -> bool
-    ensures { IsTrue result → NamesNoRegister text.now }
-{
-    matches!(minimum(text), Ok(Some(_)))
+    ghost invariant = { λ l. l.kept ≡ true → SaysWhere l.named.items l.exact l.text.items l.pattern };
 }
 
 impl LastPattern {
@@ -47,8 +42,9 @@ impl LastPattern {
         LastPattern {
             pattern: Pattern::empty(alloc),
             text: Vec::new(alloc),
+            named: Vec::new(alloc),
             exact: false,
-            always: false,
+            kept: false,
         }
     }
 
@@ -59,40 +55,44 @@ impl LastPattern {
         &self.pattern
     }
 
-    // Is it what a text says in a search mode?
-    fn is_of(&self, text: &[u8], exact: bool) -> bool
-        ensures { IsTrue result → SaysAlways exact text.now self.now }
+    // Is it known to be what a text says in a search mode?
+    fn is_of(&self, text: &[u8], regs: &Regs, exact: bool) -> bool
+        ensures { IsTrue result → model.pattern regs.now exact text.now ≡ Ok self.now }
     {
-        self.always && self.exact == exact && self.text.as_slice() == text
+        self.kept
+            && self.exact == exact
+            && self.text.as_slice() == text
+            && are_current(&self.named, regs)
     }
 
     /// The pattern becomes the one that a search text says, as [`Pattern::read`] reads it. A refusal leaves it.
-    #[tactic(auto, using(crate::proofs::Always::always))]
     pub fn read(&mut self, text: &[u8], regs: &Regs, exact: bool) -> Result<(), FindFault>
         ensures ok { OnOk result (model.pattern regs.now exact text.now ≡ Ok self.new) }
         ensures err { IfErr result (λ fault. Reads (Err fault) (model.pattern regs.now exact text.now)) }
         ensures kept { OnErr result (self.new ≡ self.old) }
         ensures empty { length text.now ≡ 0 → IsOk result }
     {
-        if self.is_of(text, exact) {
+        if self.is_of(text, regs, exact) {
             return Ok(());
         }
         let pattern = match Pattern::read(*self.text.allocator(), text, regs, exact) {
             Ok(pattern) => pattern,
             Err(fault) => return Err(fault),
         };
-        self.keep(pattern, text, exact);
+        self.keep(pattern, text, regs, exact);
         Ok(())
     }
 
-    // Keeps a pattern, and its text if that says it always. A text that is refused memory is not kept: it is read again.
-    fn keep(&mut self, pattern: Pattern, text: &[u8], exact: bool)
-        requires { NamesNoRegister text.now → SaysAlways exact text.now pattern }
+    // Keeps a pattern, and what it was read from. What is refused memory is not kept: it is read again.
+    #[tactic(auto, using(crate::proofs::Naming::says_where))]
+    fn keep(&mut self, pattern: Pattern, text: &[u8], regs: &Regs, exact: bool)
+        requires { model.pattern regs.now exact text.now ≡ Ok pattern }
         ensures { self.new ≡ pattern }
     {
-        self.always = false;
+        self.kept = false;
         self.text.clear();
-        self.always = says_always(text) && self.text.extend_from_slice(text).is_ok();
+        self.kept = list_named(&mut self.named, text, regs).is_ok()
+            && self.text.extend_from_slice(text).is_ok();
         self.exact = exact;
         self.pattern = pattern;
     }

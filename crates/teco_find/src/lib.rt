@@ -8,6 +8,7 @@ mod find;
 mod items;
 mod last_pattern;
 mod mark;
+mod named;
 mod needle;
 mod parts;
 mod pattern;

@@ -17,11 +17,15 @@ enum Way {
 // The registers, with a text in `A`.
 fn registers(rt: &impl Abort, alloc: Global) -> Regs {
     let mut regs = Regs::new(alloc);
-    let a = Reg::of(b'A').expect(rt, "a register");
-    if regs.set_text(a, b"b.").is_err() {
-        regs.set_text(a, b"b.").expect(rt, "memory");
-    }
+    set_text(rt, &mut regs, b'A', b"b.");
     regs
+}
+
+fn set_text(rt: &impl Abort, regs: &mut Regs, name: u8, text: &[u8]) {
+    let reg = Reg::of(name).expect(rt, "a register");
+    if regs.set_text(reg, text).is_err() {
+        regs.set_text(reg, text).expect(rt, "memory");
+    }
 }
 
 fn read(alloc: Global, search: &[u8], regs: &Regs, exact: bool) -> Result<Pattern, FindFault> {
@@ -371,10 +375,44 @@ fn the_pattern_that_was_read_last(rt: HostRuntime) {
             assert_eq!(rt; found.map(|span| span.start), want, "{text:?}");
         }
         if text.len() == 3 {
-            let a = Reg::of(b'A').expect(&rt, "a register");
-            if regs.set_text(a, b"bc").is_err() {
-                regs.set_text(a, b"bc").expect(&rt, "memory");
-            }
+            set_text(&rt, &mut regs, b'A', b"bc");
+        }
+    }
+}
+
+#[test]
+fn a_pattern_with_the_texts_of_registers(rt: HostRuntime) {
+    let mut regs = registers(&rt, rt.alloc());
+    let mut last = LastPattern::new(rt.alloc());
+    let both: &[u8] = b"\x05QA\x05QB^EQA";
+    // a register that gets a text before a search, the search's text, its mode, and where it is found
+    let rows: [(Option<(u8, &[u8])>, &[u8], bool, Option<usize>); 14] = [
+        (None, both, false, Some(0)),
+        (None, both, false, Some(0)),
+        (Some((b'B', b"c")), both, false, Some(5)),
+        (Some((b'C', b"c")), both, false, Some(5)),
+        (None, both, true, Some(5)),
+        (Some((b'A', b"B.")), both, true, None),
+        (None, both, false, Some(5)),
+        (Some((b'B', b"C")), both, true, Some(11)),
+        (None, b" ", true, Some(4)),
+        (None, both, true, Some(11)),
+        (None, b" ", true, Some(4)),
+        (Some((b'A', b"")), both, true, Some(13)),
+        (None, both, false, Some(7)),
+        (Some((b'B', b"B.")), b"^EQBC", true, Some(11)),
+    ];
+    for (change, text, exact, want) in rows {
+        if let Some((name, new)) = change {
+            set_text(&rt, &mut regs, name, new);
+        }
+        if last.read(text, &regs, exact).is_err() {
+            assert!(rt; last.read(text, &regs, exact).is_ok());
+        }
+        let anew = read(rt.alloc(), text, &regs, exact).expect(&rt, "a pattern");
+        for pattern in [last.pattern(), &anew] {
+            let found = find(pattern, (b"b.b. b.", b"cb. B.CB."), 0, Way::Forward(1));
+            assert_eq!(rt; found.map(|span| span.start), want);
         }
     }
 }

@@ -12,6 +12,7 @@ mod texts;
 
 pub use ahead::{Reading, read_ahead};
 pub use blanks::blank_end;
+pub use form::texts_of;
 pub use reader::element;
 pub use readings::Readings;
 pub use skips::{bracket, route_of, skip};

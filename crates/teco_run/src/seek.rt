@@ -1,6 +1,7 @@
 //! `S` and `FS`, and what becomes of those that miss.
-ghost use Rattle.std.specs.Prelude.{◌≡◌, ◌≤◌, true, false, length, IfOk};
-ghost use Rattle.teco_model.specs.Element.{element_at, seen};
+ghost use Rattle.std.specs.Prelude.{◌≡◌, true, false, IfOk};
+ghost use Rattle.std.specs.Option.{option_map_or};
+ghost use Rattle.teco_model.specs.Element.{seen};
 ghost use Rattle.teco_model.specs.Searching as model;
 ghost use Rattle.teco_run.specs.Frames.{state_of};
 ghost use Rattle.teco_run.specs.Holdings.{beside};
@@ -13,7 +14,6 @@ use crate::way::{self, Way};
 use teco_base::Code;
 use teco_expr::Args;
 use teco_find::LastPattern;
-use teco_lex::element;
 use teco_model::kind::{Flow, Search};
 use teco_model::{Element, Kind};
 use teco_search::{Finding, search};
@@ -23,15 +23,11 @@ use teco_text::TextStore;
 /// What a search types that misses and leaves its iteration.
 pub const MESSAGE: &[u8] = b"%SRH\r\n";
 
-// Whether `;` or `:;` stands at a place.
-fn leaves_at(text: &[u8], place: usize) -> bool
-    requires { place ≤ length text.now }
-    ensures { result ≡ model.is_leave (element_at text.now place) }
+// Is it `;` or `:;`?
+fn is_leave(kind: Option<Kind>) -> bool
+    ensures { result ≡ option_map_or model.is_leave_kind kind false }
 {
-    match element(text, place) {
-        Ok(Some(next)) => matches!(next.kind, Kind::Flow(Flow::Leave)),
-        _ => false,
-    }
+    matches!(kind, Some(Kind::Flow(Flow::Leave)))
 }
 
 /// Whether a search counts as having a colon.
@@ -39,7 +35,7 @@ pub fn has_colon(element: &Element<'_>, frames: &Frames<'_>) -> bool
     requires { IsRead element.now frames.now }
     ensures { result ≡ model.has_colon (seen element.now) frames.now.running }
 {
-    element.colons > 0 || leaves_at(frames.text(), element.next)
+    element.colons > 0 || is_leave(frames.kind_behind())
 }
 
 // A miss that answers 0: the pointer goes to the start, but stays where the search looked at the pointer alone.

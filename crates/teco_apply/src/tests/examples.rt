@@ -15,7 +15,7 @@ type Example = (
     &'static [u8],
 );
 
-const EXAMPLES: [Example; 16] = [
+const EXAMPLES: [Example; 18] = [
     (
         b"!count `foo` and put the number on a line at the end!\n@^UA~J0UA<Sfoo\x1b;%A>ZJQA\\I\n\x1b~\n",
         "TECO-CERT 1\nentry A\nneeds -\ncommands 15 + 4*N\nsize 12 + N\nloop 5 held N kept texts -\nend\n",
@@ -80,6 +80,15 @@ const EXAMPLES: [Example; 16] = [
         b"",
     ),
     (
+        b"!keep the lines with `foo` alone!\n@^UA~JZ<.-Z;.UA:Sfoo\x1b\"S0L.-QA\"EL|QAJK'|QAJ.,ZK'>~\n",
+        "TECO-CERT 1\nentry A\nneeds -\ncommands 5 + 29*N\nsize N\nloop 4 held N lost texts -\nend\n",
+        b"The foo is here.\nA bar there.\nFoo and foo again\nlast line\n",
+        101,
+        81,
+        b"The foo is here.\nFoo and foo again\n",
+        b"",
+    ),
+    (
         b"!put the line number and a tab before each line!\n@^UA~J0UAZ<.-Z;%A\\\t\x1bL>~\n",
         "TECO-CERT 1\nentry A\nneeds -\ncommands 7 + 9*N\nsize 12 + 13*N\nloop 6 held 13*N kept texts -\nend\n",
         b"The foo is here.\nA bar there.\nFoo and foo again\nlast line\n",
@@ -104,6 +113,15 @@ const EXAMPLES: [Example; 16] = [
         73,
         14,
         b"The bar is here.\nA bar there.\nbar and foo again\nlast line\n",
+        b"",
+    ),
+    (
+        b"!replace `foo` by `bar` where it is a whole word!\n@^UA~J<Sfoo\x1b;0A\"RF>'-4A\"RF>'-3DIbar\x1b>~\n",
+        "TECO-CERT 1\nentry A\nneeds -\ncommands 20 + 16*N\nsize 3 + 4*N\nloop 3 held 4*N kept texts -\nend\n",
+        b"foo food xfoo foo, (foo)\nfoofoo foo",
+        67,
+        98,
+        b"bar food xfoo bar, (bar)\nfoofoo bar",
         b"",
     ),
     (
