@@ -77,7 +77,8 @@ impl Search {
     ) -> Result<(), Unfit> {
         let turns = turns(facts).map_err(|why| Unfit::at(why, number))?;
         let end = end_of(nodes, number);
-        let attempt = Attempt::first(number, end, turns, changes_in(nodes, number), entering).behind(
+        let changes = changes_in(nodes, number);
+        let attempt = Attempt::first(number, end, turns, changes, entering).behind(
             self.pending.len(),
             self.found.len(),
         );
