@@ -118,36 +118,44 @@ pub fn check_macro<R: Print + Files>(
     }
 }
 
+/// What is edited: a macro of a library makes of one file another.
+#[derive(Clone, Copy)]
+pub struct Edit<'a> {
+    pub library: &'a str,
+    pub entry: Reg,
+    pub source: &'a [u8],
+    pub target: &'a [u8],
+    /// The bytes that each run may type, and that its calls may take.
+    pub cap: usize,
+    ghost short_source: { length source.now ≤ NAME },
+    ghost short_target: { length target.now ≤ NAME },
+}
+
 /// Verifies a macro of a library, and edits a file by it into another, over the files of a host.
 pub fn apply_macro<R: Print + Files, H: Host>(
     rt: &R,
     alloc: Global,
-    library: &str,
-    entry: Reg,
-    source: &[u8],
-    target: &[u8],
+    edit: Edit<'_>,
     host: &mut H,
-) -> anyhow::Result<ExitCode>
-    requires source { length source.now ≤ NAME }
-    requires target { length target.now ≤ NAME }
-{
-    let file = read_file(rt, alloc, library)?;
+) -> anyhow::Result<ExitCode> {
+    let file = read_file(rt, alloc, edit.library)?;
     let library = match read_library(alloc, file.as_slice()) {
         Ok(library) => library,
         Err(refusal) => return refuse(rt, refusal),
     };
-    let verified = match verify(alloc, &library, entry) {
+    let verified = match verify(alloc, &library, edit.entry) {
         Ok(verified) => verified,
         Err(refusal) => return refuse(rt, refusal),
     };
     let mut machine = Machine::new(alloc, GapText::new(alloc));
+    machine.set_cap(edit.cap);
     let mut writer = io::writer(rt);
     let done = apply(
         alloc,
         &mut machine,
         &verified,
-        source,
-        target,
+        edit.source,
+        edit.target,
         host,
         &mut writer,
     )?;

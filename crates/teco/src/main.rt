@@ -1,6 +1,7 @@
 //! The program: sessions on standard input, and verified macros.
 #![tactic(auto)]
 
+mod arguments;
 mod file;
 mod macros;
 #[cfg(test)]
@@ -8,10 +9,11 @@ mod tests;
 mod verdict;
 mod words;
 
-use crate::macros::{apply_macro, check_macro, verify_macro};
+use crate::arguments::Arguments;
+use crate::macros::{Edit, apply_macro, check_macro, verify_macro};
 use std::alloc::Global;
+use std::io;
 use std::process::ExitCode;
-use std::{env, io};
 use teco_gap::GapText;
 use teco_pages::{FileHost, Host};
 use teco_run::Machine;
@@ -41,8 +43,10 @@ fn run<R: Input + Print, H: Host>(
     alloc: Global,
     host: &mut H,
     limit: u64,
+    cap: usize,
 ) -> Result<ExitCode, SessionFault> {
     let mut machine = Machine::new(alloc, GapText::new(alloc));
+    machine.set_cap(cap);
     let mut reader = rt.reader();
     let mut writer = io::writer(rt);
     let done = session(alloc, &mut machine, &mut reader, &mut writer, host, limit)?;
@@ -52,9 +56,9 @@ fn run<R: Input + Print, H: Host>(
 // Reads the words, and does what they say.
 fn obey(rt: &HostRuntime) -> anyhow::Result<ExitCode> {
     let alloc = rt.alloc();
-    let words: Vec<String> = env::args(rt)?.collect(alloc)?;
+    let arguments = Arguments::read(rt)?;
     let command = words::command(alloc)?;
-    let matches = match command.try_get_matches_from(words.as_slice()) {
+    let matches = match command.try_get_matches_from(arguments.texts()) {
         Ok(matches) => matches,
         Err(error) => {
             error.print(rt)?;
@@ -63,7 +67,10 @@ fn obey(rt: &HostRuntime) -> anyhow::Result<ExitCode> {
     };
     let mut host = FileHost::new(alloc, *rt);
     match matches.subcommand() {
-        Some(("run", given)) => Ok(run(rt, alloc, &mut host, u64::from(words::limit(given)))?),
+        Some(("run", given)) => {
+            let limit = u64::from(words::limit(given));
+            Ok(run(rt, alloc, &mut host, limit, words::cap(given))?)
+        }
         Some(("verify", given)) => verify_macro(
             rt,
             alloc,
@@ -77,15 +84,16 @@ fn obey(rt: &HostRuntime) -> anyhow::Result<ExitCode> {
             words::register(given)?,
             words::word(given, "CERT"),
         ),
-        Some(("apply", given)) => apply_macro(
-            rt,
-            alloc,
-            words::word(given, "LIB"),
-            words::register(given)?,
-            words::file_name(given, "IN")?,
-            words::file_name(given, "OUT")?,
-            &mut host,
-        ),
+        Some(("apply", given)) => {
+            let edit = Edit {
+                library: words::word(given, "LIB"),
+                entry: words::register(given)?,
+                source: words::file_name(given, "IN", &arguments)?,
+                target: words::file_name(given, "OUT", &arguments)?,
+                cap: words::cap(given),
+            };
+            apply_macro(rt, alloc, edit, &mut host)
+        }
         _ => Ok(ExitCode::from(FAILED)),
     }
 }

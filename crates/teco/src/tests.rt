@@ -1,6 +1,9 @@
 //! The words of the command line, and what is printed of refusals.
+use crate::arguments::Arguments;
 use crate::verdict::Verdict;
 use crate::words;
+use crate::words::WordsFault;
+use std::env::{Env, FillError};
 use std::test::Fail;
 use teco_base::Reg;
 use teco_rules::Refusal as Why;
@@ -80,21 +83,77 @@ fn words_are_missing(rt: HostRuntime) -> Result<(), Fail> {
     Ok(())
 }
 
+// Words that a test gives in place of those of the process.
+#[derive(Drop)]
+struct Words<'a>(&'a [&'a [u8]]);
+
+impl Env for Words<'_> {
+    fn arg(&self, i: usize, buf: &mut [u8]) -> Result<usize, FillError> {
+        let Some(word) = self.0.get(i) else {
+            return Err(FillError::NotPresent);
+        };
+        if word.len() > buf.len() {
+            return Err(FillError::TooLong);
+        }
+        buf[..word.len()].copy_from_slice(word);
+        Ok(word.len())
+    }
+
+    fn var(&self, _name: &str, _buf: &mut [u8]) -> Result<usize, FillError> {
+        Err(FillError::NotPresent)
+    }
+
+    fn var_at(&self, _i: usize, _buf: &mut [u8]) -> Result<usize, FillError> {
+        Err(FillError::NotPresent)
+    }
+}
+
+// A name of the file that is read, and whether it may be one.
 #[test]
 fn names_of_files_are_judged(rt: HostRuntime) -> Result<(), Fail> {
-    let rows: [(&[&str], bool); 3] = [
-        (&["teco", "apply", "LIB", "A", "in", "OUT"], true),
-        (&["teco", "apply", "LIB", "A", "", "OUT"], true),
-        (&["teco", "apply", "LIB", "A", "a\u{1b}b", "OUT"], false),
+    let rows: [(&[u8], bool); 5] = [
+        (b"in", true),
+        (b"", true),
+        (b"a\x1bb", false),
+        (b"in\xff", true),
+        (b"\x1b\xff", false),
     ];
-    for (i, (words, is_good)) in rows.iter().enumerate() {
+    for (name, is_good) in rows {
+        let words: [&[u8]; 6] = [b"teco", b"apply", b"LIB", b"A", name, b"OUT"];
+        let arguments = Arguments::read(&(Words(&words), rt.alloc()))?;
+        let command = words::command(rt.alloc())?;
+        let matches = command.try_get_matches_from(arguments.texts())?;
+        let Some((_, given)) = matches.subcommand() else {
+            return Err(WordsFault::FileName)?;
+        };
+        match words::file_name(given, "IN", &arguments) {
+            Ok(found) => assert!(rt; is_good && found == name, "{name:?}"),
+            Err(_) => assert!(rt; !is_good, "{name:?}"),
+        }
+        assert_eq!(rt;
+            words::file_name(given, "OUT", &arguments)?,
+            b"OUT".as_slice()
+        );
+    }
+    Ok(())
+}
+
+#[test]
+fn caps_are_read(rt: HostRuntime) -> Result<(), Fail> {
+    let rows: [(&[&str], usize); 4] = [
+        (&["teco", "run"], 1 << 30),
+        (&["teco", "run", "--memory", "0"], 0),
+        (&["teco", "run", "--limit", "7", "--memory", "4096"], 4096),
+        (
+            &["teco", "apply", "--memory", "1", "LIB", "A", "in", "out"],
+            1,
+        ),
+    ];
+    for (i, (words, cap)) in rows.iter().enumerate() {
         let command = words::command(rt.alloc())?;
         let matches = command.try_get_matches_from(*words)?;
-        let found = match matches.subcommand() {
-            Some((_, given)) => words::file_name(given, "IN").is_ok(),
-            None => false,
-        };
-        assert_eq!(rt; found, *is_good, "row {i}");
+        let found = matches.subcommand().map(|(_, given)| words::cap(given));
+        assert_eq!(rt; found, Some(*cap), "row {i}");
     }
     Ok(())
 }

@@ -2,6 +2,7 @@
 ghost use Rattle.std.specs.Prelude.{◌≤◌, IfOk, length};
 ghost use Rattle.teco_apply.specs.declared.editing.TheConstants.{NAME};
 
+use crate::arguments::Arguments;
 use clap::{Arg, ArgMatches, Command, value_parser};
 use std::alloc::{AllocError, Global};
 use teco_apply::NAME;
@@ -11,6 +12,9 @@ use thiserror::Error;
 
 /// The step limit of each command string where no other is given.
 const DEFAULT_LIMIT: &str = "100000000";
+
+/// The bytes that a command string may type, and that its calls may take, where no other number is given.
+const DEFAULT_MEMORY: &str = "1073741824";
 
 /// Why words are not obeyed.
 #[derive(Clone, Copy, Debug, Error)]
@@ -37,6 +41,7 @@ pub fn command<'a>(alloc: Global) -> Result<Command<'a>, AllocError> {
         .subcommand(of_macro(alloc, check)?.arg(file(alloc, "CERT", "A certificate"))?)?
         .subcommand(
             of_macro(alloc, apply)?
+                .arg(memory(alloc))?
                 .arg(file(alloc, "IN", "The file that is read"))?
                 .arg(file(alloc, "OUT", "The file that is written"))?,
         )
@@ -52,7 +57,20 @@ fn run<'a>(alloc: Global) -> Result<Command<'a>, AllocError> {
         .default_value(DEFAULT_LIMIT);
     Command::new(alloc, "run")
         .about("Runs the command strings on standard input")
-        .arg(limit)
+        .arg(limit)?
+        .arg(memory(alloc))
+}
+
+// The bytes that may be typed, and that calls may take.
+fn memory<'a>(alloc: Global) -> Arg<'a> {
+    Arg::new(alloc, "memory")
+        .long("memory")
+        .value_name("BYTES")
+        .help(
+            "Bytes that each command string may type, and as many that its calls may take; more is ?MEM",
+        )
+        .value_parser(value_parser!(u64))
+        .default_value(DEFAULT_MEMORY)
 }
 
 // A command for a macro of a library.
@@ -75,6 +93,12 @@ pub fn limit(words: &ArgMatches<'_>) -> u32 {
     words.get_one::<u32>("limit").unwrap_or(u32::MAX)
 }
 
+/// The bytes that each command string may type, and that its calls may take.
+pub fn cap(words: &ArgMatches<'_>) -> usize {
+    let bytes = words.get_one::<u64>("memory").unwrap_or(u64::MAX);
+    usize::try_from(bytes).unwrap_or(usize::MAX)
+}
+
 /// A word that is required.
 pub fn word<'a>(words: &ArgMatches<'a>, id: &str) -> &'a str {
     words.get_str(id).unwrap_or("")
@@ -88,11 +112,15 @@ pub fn register(words: &ArgMatches<'_>) -> Result<Reg, WordsFault> {
     }
 }
 
-/// The name of a file that a macro is applied to.
-pub fn file_name<'a>(words: &ArgMatches<'a>, id: &str) -> Result<&'a [u8], WordsFault>
+/// The name of a file that a macro is applied to. It may be no text.
+pub fn file_name<'a>(
+    words: &ArgMatches<'a>,
+    id: &str,
+    arguments: &'a Arguments,
+) -> Result<&'a [u8], WordsFault>
     ensures { IfOk result (λ name. length name.now ≤ NAME) }
 {
-    let name = word(words, id).as_bytes();
+    let name = arguments.bytes(word(words, id));
     if name.len() > NAME || name.contains(&ESC) {
         return Err(WordsFault::FileName);
     }

@@ -6,11 +6,11 @@ use Rattle.std.specs.Option.{option_map}
 use Rattle.teco_base.specs.Bytes.{is_blank}
 use Rattle.teco_base.specs.Code.{code_name}
 use Rattle.teco_base.specs.declared.bytes.TheConstants.{CR, LF, ESC}
-use Rattle.teco_base.specs.declared.TheConstants.{LIMIT}
 use Rattle.teco_base.specs.declared.code.Code.{Code}
 use Rattle.teco_base.specs.declared.code.Code.TheVariants as code
 use Rattle.teco_model.specs.Run.{Stops}
 use Rattle.teco_model.specs.State.{World, start}
+use Rattle.teco_model.specs.declared.session.Limits.{Limits}
 use Rattle.teco_model.specs.declared.stop.HostFault.{HostFault}
 use Rattle.teco_model.specs.declared.stop.HostFault.TheVariants as host_fault
 use Rattle.teco_model.specs.declared.stop.Stop.{Stop}
@@ -25,10 +25,10 @@ string_end (a ∷ b ∷ rest) = elim (a == ESC && b == ESC) [
   | false ↦ option_map (λ n. 1 + n) (string_end (b ∷ rest))
 ]
 
--- a command string: it holds no end before its own, and has at most LIMIT bytes
-pub record IsCommandString (string : List ℕ) : Type 0 where
+-- a command string: it holds no end before its own, and has no more bytes than one may have
+pub record IsCommandString (limits : Limits) (string : List ℕ) : Type 0 where
   pub ends : string_end string ≡ Some (length string)
-  pub within : length string ≤ LIMIT
+  pub within : length string ≤ limits.length
 
 -- the code that is typed for what the host could not do
 abbrev pub code_of_fault : HostFault → Code
@@ -69,25 +69,25 @@ lines_of stop world = world.kept.typed ++ code_line (code_of stop)
 
 -- So many command strings, joined to one input, are executed one after another, and none ends the session: what stays then,
 -- what is written, and whether a code line is among it.
-pub data Executes (limit : ℕ) (old : World) : ℕ → List ℕ → World → List ℕ → Bool → Type 0 where
-  none : Executes limit old 0 [] old [] false
+pub data Executes (limits : Limits) (old : World) : ℕ → List ℕ → World → List ℕ → Bool → Type 0 where
+  none : Executes limits old 0 [] old [] false
   one_more :
       (count : ℕ) (input : List ℕ) (mid : World) (written : List ℕ) (coded : Bool) →
       (string : List ℕ) (stop : Stop) (new : World) →
-      Executes limit old count input mid written coded →
-      IsCommandString string → Stops (start string mid) limit stop new → is_exit stop ≡ false →
-      Executes limit old (count + 1) (input ++ string) (without_typed new)
+      Executes limits old count input mid written coded →
+      IsCommandString limits string → Stops (start string mid) limits.steps stop new → is_exit stop ≡ false →
+      Executes limits old (count + 1) (input ++ string) (without_typed new)
       (written ++ lines_of stop new) (coded || is_code (code_of stop))
 
--- What follows the last command string: a rest of LIMIT bytes without an end is FUL, blanks are nothing, and any other rest
--- is UTC. It is not executed.
-abbrev pub rest_code : List ℕ → Option Code
-rest_code rest =
-    if nat_le LIMIT (length rest) then Some code.Ful
+-- What follows the last command string: a rest without an end of as many bytes as a string may have is FUL, blanks are
+-- nothing, and any other rest is UTC. It is not executed.
+abbrev pub rest_code : Limits → List ℕ → Option Code
+rest_code limits rest =
+    if nat_le limits.length (length rest) then Some code.Ful
     else if list_all is_blank rest then None else Some code.Utc
 
 -- a session that goes on to the end of its input
-pub record SessionToEnd (limit : ℕ) (old : World) (input : List ℕ) (new : World) (written : List ℕ) (coded : Bool) :
+pub record SessionToEnd (limits : Limits) (old : World) (input : List ℕ) (new : World) (written : List ℕ) (coded : Bool) :
     Type 0 where
   pub count : ℕ
   pub strings : List ℕ
@@ -95,13 +95,13 @@ pub record SessionToEnd (limit : ℕ) (old : World) (input : List ℕ) (new : Wo
   pub lines : List ℕ
   pub line : Bool
   pub whole : input ≡ strings ++ rest
-  pub executed : Executes limit old count strings new lines line
-  pub no_string : string_end (take LIMIT rest) ≡ None
-  pub all_written : written ≡ lines ++ code_line (rest_code rest)
-  pub a_line : coded ≡ (line || is_code (rest_code rest))
+  pub executed : Executes limits old count strings new lines line
+  pub no_string : string_end (take limits.length rest) ≡ None
+  pub all_written : written ≡ lines ++ code_line (rest_code limits rest)
+  pub a_line : coded ≡ (line || is_code (rest_code limits rest))
 
 -- a session that a command string ends: what follows that is not executed
-pub record SessionToExit (limit : ℕ) (old : World) (input : List ℕ) (new : World) (written : List ℕ) (coded : Bool) :
+pub record SessionToExit (limits : Limits) (old : World) (input : List ℕ) (new : World) (written : List ℕ) (coded : Bool) :
     Type 0 where
   pub count : ℕ
   pub strings : List ℕ
@@ -112,14 +112,14 @@ pub record SessionToExit (limit : ℕ) (old : World) (input : List ℕ) (new : W
   pub mid : World
   pub after : World
   pub whole : input ≡ strings ++ (last ++ behind)
-  pub executed : Executes limit old count strings mid lines coded
-  pub one_string : IsCommandString last
-  pub exits : Stops (start last mid) limit (stop.Exit steps) after
+  pub executed : Executes limits old count strings mid lines coded
+  pub one_string : IsCommandString limits last
+  pub exits : Stops (start last mid) limits.steps (stop.Exit steps) after
   pub stays : new ≡ without_typed after
   pub all_written : written ≡ lines ++ lines_of (stop.Exit steps) after
 
 -- a whole session of an input: what it leaves, what it writes, whether a code line is among it, and whether a command string
 -- ended it
-abbrev pub Session : ℕ → World → List ℕ → World → List ℕ → Bool → Bool → Type 0
-Session limit old input new written coded false = SessionToEnd limit old input new written coded
-Session limit old input new written coded true = SessionToExit limit old input new written coded
+abbrev pub Session : Limits → World → List ℕ → World → List ℕ → Bool → Bool → Type 0
+Session limits old input new written coded false = SessionToEnd limits old input new written coded
+Session limits old input new written coded true = SessionToExit limits old input new written coded

@@ -167,3 +167,46 @@ fn registers_are_shown_and_loaded(rt: HostRuntime) {
     }
     assert_eq!(rt; machine.take_typed().as_slice(), b"6\r\n".as_slice());
 }
+
+// Runs a command string on a new machine that may type so many bytes, and whose texts may take as many.
+fn run_capped(rt: &HostRuntime, cap: usize, command: &[u8]) -> (Machine<VecText>, Stop) {
+    let mut machine = Machine::new(rt.alloc(), VecText::new(rt.alloc()));
+    let mut host = MemHost::new(rt.alloc());
+    machine.set_cap(cap);
+    let stop = run(&mut machine, &mut host, command, 100_000);
+    (machine, stop)
+}
+
+#[test]
+fn caps_are_refused_growths(rt: HostRuntime) {
+    // a cap, a command string, the bytes that it may type, and what it comes to where no allocation fails
+    let rows: [(usize, &[u8], &[u8], Result<u64, Code>); 7] = [
+        (10, b"<1=>", b"1\r\n1\r\n1\r\n", Err(Code::Mem)),
+        (3, b"1=", b"1\r\n", Ok(2)),
+        (2, b"1=", b"", Err(Code::Mem)),
+        (3, b"Iabcd\x1bHT", b"", Err(Code::Mem)),
+        (3, b"@^UA/abcd/:GA", b"", Err(Code::Mem)),
+        (5, b"@I/ab/<Sx\x1b>", b"", Err(Code::Mem)),
+        (100_000, b"@^UA/MA/MA", b"", Err(Code::Mem)),
+    ];
+    for (cap, command, typed, want) in rows {
+        let (mut machine, stop) = run_capped(&rt, cap, command);
+        let got = answer(stop);
+        assert!(rt; got == want || got == Err(Code::Mem), "{command:?}");
+        let bytes = machine.take_typed();
+        assert!(rt; typed.starts_with(&bytes), "{command:?}");
+        assert!(rt;
+            bytes.len() == typed.len() || got == Err(Code::Mem),
+            "{command:?}"
+        );
+    }
+    // as deep as the cap lets, and the next string runs
+    let (mut machine, stop) = run_capped(&rt, 1_000_000, b"@^UA/%B-1000\"LMA'/MA");
+    if let Stop::Memory = stop {
+        machine.set_cap(1_000_000);
+    } else {
+        assert_eq!(rt; machine.regs().number(register(b'B')), 1000);
+    }
+    let mut host = MemHost::new(rt.alloc());
+    assert!(rt; answer(run(&mut machine, &mut host, b"1U0", 10)) != Err(Code::Lim));
+}

@@ -1,15 +1,15 @@
 -- How a session goes on, ends and breaks off.
-use Rattle.std.proofs.Common.{◌≡◌, ◌≢◌, ℕ, ◌+◌, ◌≤◌, ◌⊎◌, inl, inr, List, [], ◌++◌, length, take, Option, Some, None, Bool, true, false, ◌||◌, nat_le, Ok, Err, IfSome, refl, sym, ap, subst, ◌∙◌, append_assoc, append-nil, arith, length-append}
+use Rattle.std.proofs.Common.{◌≡◌, ◌≢◌, ℕ, ◌+◌, ◌<◌, ◌≤◌, ◌⊎◌, inl, inr, List, [], ◌∷◌, ◌++◌, length, take, Option, Some, None, Bool, true, false, ◌||◌, nat_le, Ok, Err, IfSome, refl, sym, ap, subst, ◌∙◌, append_assoc, append-nil, arith, length-append}
 use Rattle.std.proofs.KnownBytes.{Appends-nil, Appends-trans, Consumes-nil, Consumes-trans, prepend_known-nil}
 use Rattle.std.proofs.Math.Bool.{or-false}
 use Rattle.std.proofs.Math.Nat.{eq-or-lt_of_le}
-use Rattle.std.proofs.lemmas.Bool.{le-leb}
+use Rattle.std.proofs.lemmas.Bool.{le-leb, lt-leb}
 use Rattle.std.proofs.lemmas.List.{take_all, take_at}
 use Rattle.std.specs.Io.KnownBytes.{Consumes, IsAtEnd, prepend_known}
-use Rattle.teco_base.specs.declared.TheConstants.{LIMIT}
 use Rattle.teco_model.specs.Session.{Executes, none, one_more, Session, SessionToEnd, SessionToExit, IsCommandString, string_end, code_line, code_of, is_code, is_exit, lines_of, rest_code}
 use Rattle.teco_model.specs.Run.{Stops}
 use Rattle.teco_model.specs.State.{World, start}
+use Rattle.teco_model.specs.declared.session.Limits.{Limits}
 use Rattle.teco_model.specs.declared.stop.Stop.{Stop}
 use Rattle.teco_model.specs.declared.stop.Stop.TheVariants as stop_kind
 use Rattle.teco_session.proofs.Known.{Consumes-ahead}
@@ -26,8 +26,8 @@ use Rattle.teco_session.specs.declared.strings.Piece.{Piece}
 use Rattle.teco_session.specs.declared.strings.Piece.TheVariants.{Command, Rest}
 
 -- before the first string
-pub Serves-start : (limit : ℕ) (s : Setting) (ahead : List ℕ) → ahead ≡ [] → Serves limit 0 s (record s { unread = prepend_known ahead s.unread }) false
-Serves-start limit s ahead e = record {
+pub Serves-start : (limits : Limits) (s : Setting) (ahead : List ℕ) → ahead ≡ [] → Serves limits 0 s (record s { unread = prepend_known ahead s.unread }) false
+Serves-start limits s ahead e = record {
   strings = [];
   lines = [];
   came = rw (e, prepend_known-nil) (Consumes-nil s.unread);
@@ -36,8 +36,8 @@ Serves-start limit s ahead e = record {
 }
 
 -- one more string, which does not end the session
-pub Serves-more : (limit count : ℕ) (old mid new : Setting) (coded : Bool) (done : Done) (string : List ℕ) → done.exit ≡ false → Serves limit count old mid coded → Consumes mid.unread new.unread string → IsCommandString string → Answers limit Command string mid.world new.world mid.written new.written (Ok done) → Serves limit (count + 1) old new (coded || done.coded)
-Serves-more limit count old mid new coded done string on served came is answers =
+pub Serves-more : (limits : Limits) (count : ℕ) (old mid new : Setting) (coded : Bool) (done : Done) (string : List ℕ) → done.exit ≡ false → Serves limits count old mid coded → Consumes mid.unread new.unread string → IsCommandString limits string → Answers limits Command string mid.world new.world mid.written new.written (Ok done) → Serves limits (count + 1) old new (coded || done.coded)
+Serves-more limits count old mid new coded done string on served came is answers =
     let runs = answers.ran in
     let goes_on : is_exit runs.stop ≡ false = sym runs.an_exit ∙ sym answers.exit_told ∙ on in
     record {
@@ -49,8 +49,8 @@ Serves-more limit count old mid new coded done string on served came is answers 
     }
 
 -- the session of some strings and a rest that is no string
-session_of : (limit count : ℕ) (old : Setting) (new : Setting) (strings lines rest : List ℕ) (line : Bool) → Executes limit old.world count strings new.world lines line → string_end (take LIMIT rest) ≡ None → SessionToEnd limit old.world (strings ++ rest) new.world (lines ++ code_line (rest_code rest)) (line || is_code (rest_code rest))
-session_of limit count old new strings lines rest line executed no_string = record {
+session_of : (limits : Limits) (count : ℕ) (old : Setting) (new : Setting) (strings lines rest : List ℕ) (line : Bool) → Executes limits old.world count strings new.world lines line → string_end (take limits.length rest) ≡ None → SessionToEnd limits old.world (strings ++ rest) new.world (lines ++ code_line (rest_code limits rest)) (line || is_code (rest_code limits rest))
+session_of limits count old new strings lines rest line executed no_string = record {
   count = count;
   strings = strings;
   rest = rest;
@@ -64,8 +64,8 @@ session_of limit count old new strings lines rest line executed no_string = reco
 }
 
 -- a rest that is no longer than a string may be
-short_rest : (rest : List ℕ) → length rest ≤ LIMIT → string_end rest ≡ None → string_end (take LIMIT rest) ≡ None
-short_rest rest short endless = ap string_end (take_all LIMIT rest short) ∙ endless
+short_rest : (limits : Limits) (rest : List ℕ) → length rest ≤ limits.length → string_end rest ≡ None → string_end (take limits.length rest) ≡ None
+short_rest limits rest short endless = ap string_end (take_all limits.length rest short) ∙ endless
 
 -- a stop that ends the session
 pub record IsExit (stop : Stop) : Type 0 where
@@ -81,8 +81,8 @@ exit_of stop_kind.Memory e = cc
 exit_of (stop_kind.HostFault fault) e = cc
 
 -- the session that a command string ends, behind others
-session_to : (limit count : ℕ) (old mid new : World) (strings lines string more : List ℕ) (own : List ℕ) (line coded : Bool) → Executes limit old count strings mid lines line → IsCommandString string → Runs limit string mid new own coded true → SessionToExit limit old (strings ++ (string ++ more)) new (lines ++ own) (line || coded)
-session_to limit count old mid new strings lines string more own line coded executed is runs =
+session_to : (limits : Limits) (count : ℕ) (old mid new : World) (strings lines string more : List ℕ) (own : List ℕ) (line coded : Bool) → Executes limits old count strings mid lines line → IsCommandString limits string → Runs limits string mid new own coded true → SessionToExit limits old (strings ++ (string ++ more)) new (lines ++ own) (line || coded)
+session_to limits count old mid new strings lines string more own line coded executed is runs =
     let exits = exit_of runs.stop (sym runs.an_exit) in
     let no_line : coded ≡ false = runs.a_line ∙ ap (λ stop. is_code (code_of stop)) exits.same in
     record {
@@ -97,14 +97,29 @@ session_to limit count old mid new strings lines string more own line coded exec
       whole = refl;
       executed = rw (no_line, or-false line) executed;
       one_string = is;
-      exits = subst (λ stop. Stops (start string mid) limit stop runs.after) exits.same runs.stops;
+      exits = subst (λ stop. Stops (start string mid) limits.steps stop runs.after) exits.same runs.stops;
       stays = runs.stays;
       all_written = ap (λ l. lines ++ l) (runs.all_lines ∙ ap (λ stop. lines_of stop runs.after) exits.same);
     }
 
+-- a string that may be there has room for its first byte
+has_room : (limits : Limits) (string : List ℕ) → IsCommandString limits string → 0 < limits.length
+has_room limits [] is = let none = string_end-nil in let ends = is.ends in cc
+has_room limits (byte ∷ string) is = omega (arith, is.within)
+
+served_room : (limits : Limits) (count : ℕ) (old : World) (input : List ℕ) (new : World) (written : List ℕ) (coded : Bool) → Executes limits old count input new written coded → 0 < count → 0 < limits.length
+served_room limits count old input new written coded none some = omega arith
+served_room limits count old input new written coded (one_more before strings mid lines line string stop after executed is stops on) some = has_room limits string is
+
+-- nothing is left behind a string
+nothing_left : (limits : Limits) (string : List ℕ) → IsCommandString limits string → rest_code limits [] ≡ None
+nothing_left limits string is =
+    let short : nat_le limits.length 0 ≡ false = lt-leb _ _ (has_room limits string is) in
+    rw short refl
+
 -- the session of a command string
-string_session : (limit : ℕ) (old new : Setting) (string lines : List ℕ) (coded exit : Bool) → IsCommandString string → Runs limit string old.world new.world lines coded exit → Session limit old.world string new.world lines coded exit
-string_session limit old new string lines coded false is runs = record {
+string_session : (limits : Limits) (old new : Setting) (string lines : List ℕ) (coded exit : Bool) → IsCommandString limits string → Runs limits string old.world new.world lines coded exit → Session limits old.world string new.world lines coded exit
+string_session limits old new string lines coded false is runs = record {
   count = 1;
   strings = string;
   rest = [];
@@ -112,21 +127,21 @@ string_session limit old new string lines coded false is runs = record {
   line = coded;
   whole = sym (append-nil string);
   executed = rw (runs.stays, runs.all_lines, runs.a_line) (one_more 0 [] old.world [] false string runs.stop runs.after none is runs.stops (sym runs.an_exit));
-  no_string = string_end-nil;
-  all_written = sym (append-nil lines);
-  a_line = sym (or-false coded);
+  no_string = short_rest limits [] (omega arith) string_end-nil;
+  all_written = rw (nothing_left limits string is) (sym (append-nil lines));
+  a_line = rw (nothing_left limits string is) (sym (or-false coded));
 }
-string_session limit old new string lines coded true is runs =
-    subst (λ l. SessionToExit limit old.world l new.world lines coded) (append-nil string) (session_to limit 0 old.world old.world new.world [] [] string [] lines false coded none is runs)
+string_session limits old new string lines coded true is runs =
+    subst (λ l. SessionToExit limits old.world l new.world lines coded) (append-nil string) (session_to limits 0 old.world old.world new.world [] [] string [] lines false coded none is runs)
 
 -- the session of a rest
-rest_session : (limit : ℕ) (old new : Setting) (rest lines : List ℕ) (coded : Bool) → length rest ≤ LIMIT → string_end rest ≡ None → RunsNot rest old.world new.world lines coded → SessionToEnd limit old.world rest new.world lines coded
-rest_session limit old new rest lines coded short endless runs_not =
-    rw (runs_not.stays, runs_not.all_lines, runs_not.a_line) (session_of limit 0 old old [] [] rest false none (short_rest rest short endless))
+rest_session : (limits : Limits) (old new : Setting) (rest lines : List ℕ) (coded : Bool) → length rest ≤ limits.length → string_end rest ≡ None → RunsNot limits rest old.world new.world lines coded → SessionToEnd limits old.world rest new.world lines coded
+rest_session limits old new rest lines coded short endless runs_not =
+    rw (runs_not.stays, runs_not.all_lines, runs_not.a_line) (session_of limits 0 old old [] [] rest false none (short_rest limits rest short endless))
 
 -- the output of a piece was cut short
-pub Converses-write : (limit count : ℕ) (old mid new : Setting) (coded : Bool) (ahead bytes : List ℕ) (piece : Piece) (fault : SessionFault) → Serves limit count old mid coded → Consumes mid.unread (prepend_known ahead new.unread) bytes → IsPiece (prepend_known ahead new.unread) bytes piece → length ahead ≤ CHUNK → Answers limit piece bytes mid.world new.world mid.written new.written (Err fault) → Converses limit old new (Err fault)
-Converses-write limit count old mid new coded ahead bytes piece fault served came is one_read answers = rw answers.writes.0 (record {
+pub Converses-write : (limits : Limits) (count : ℕ) (old mid new : Setting) (coded : Bool) (ahead bytes : List ℕ) (piece : Piece) (fault : SessionFault) → Serves limits count old mid coded → Consumes mid.unread (prepend_known ahead new.unread) bytes → IsPiece limits (prepend_known ahead new.unread) bytes piece → length ahead ≤ CHUNK → Answers limits piece bytes mid.world new.world mid.written new.written (Err fault) → Converses limits old new (Err fault)
+Converses-write limits count old mid new coded ahead bytes piece fault served came is one_read answers = rw answers.writes.0 (record {
   count = count;
   coded = coded;
   last = mid;
@@ -142,17 +157,17 @@ Converses-write limit count old mid new coded ahead bytes piece fault served cam
   session = session piece is answers.ran;
   part = answers.writes.1;
 }) where
-  one : (p : Piece) → IsPiece (prepend_known ahead new.unread) bytes p → IsCommandString bytes ⊎ IsRest (prepend_known ahead new.unread) bytes
+  one : (p : Piece) → IsPiece limits (prepend_known ahead new.unread) bytes p → IsCommandString limits bytes ⊎ IsRest limits (prepend_known ahead new.unread) bytes
   one Command is = inl is
   one Rest is = inr is
 
-  session : (p : Piece) → IsPiece (prepend_known ahead new.unread) bytes p → MayRun limit p bytes mid.world new.world answers.lines answers.coded answers.exit → Session limit mid.world bytes new.world answers.lines answers.coded answers.exit
-  session Command is ran = string_session limit mid new bytes answers.lines answers.coded answers.exit is ran
-  session Rest is ran = rw ran.1 (rest_session limit mid new bytes answers.lines answers.coded is.within is.endless ran.0)
+  session : (p : Piece) → IsPiece limits (prepend_known ahead new.unread) bytes p → MayRun limits p bytes mid.world new.world answers.lines answers.coded answers.exit → Session limits mid.world bytes new.world answers.lines answers.coded answers.exit
+  session Command is ran = string_session limits mid new bytes answers.lines answers.coded answers.exit is ran
+  session Rest is ran = rw ran.1 (rest_session limits mid new bytes answers.lines answers.coded is.within is.endless ran.0)
 
 -- such a fault came behind the strings
-BreaksOff-behind : (limit count : ℕ) (old new : Setting) (left : Option (List ℕ)) (coded : Bool) (ahead part : List ℕ) (fault : SessionFault) → Serves limit count old (record new { unread = left }) coded → Consumes left (prepend_known ahead new.unread) part → IsUnended part → length ahead ≤ CHUNK → (fault ≡ Read → (ahead ≡ []) ⊎ (count ≡ STRINGS)) → BreaksOff limit old new fault
-BreaksOff-behind limit count old new left coded ahead part fault served came unended one_read all_used = record {
+BreaksOff-behind : (limits : Limits) (count : ℕ) (old new : Setting) (left : Option (List ℕ)) (coded : Bool) (ahead part : List ℕ) (fault : SessionFault) → Serves limits count old (record new { unread = left }) coded → Consumes left (prepend_known ahead new.unread) part → IsUnended limits part → length ahead ≤ CHUNK → (fault ≡ Read → (ahead ≡ []) ⊎ (count ≡ STRINGS)) → BreaksOff limits old new fault
+BreaksOff-behind limits count old new left coded ahead part fault served came unended one_read all_used = record {
   count = count;
   coded = coded;
   left = left;
@@ -166,22 +181,22 @@ BreaksOff-behind limit count old new left coded ahead part fault served came une
 }
 
 -- no piece came
-pub Converses-break : (limit count : ℕ) (old new : Setting) (left : Option (List ℕ)) (coded : Bool) (ahead part : List ℕ) (fault : SessionFault) → Serves limit count old (record new { unread = left }) coded → Consumes left (prepend_known ahead new.unread) part → IsUnended part → length ahead ≤ CHUNK → (fault ≡ Read → ahead ≡ []) → fault ≢ Write → Converses limit old new (Err fault)
-Converses-break limit count old new left coded ahead part Read served came unended one_read all other = BreaksOff-behind limit count old new left coded ahead part Read served came unended one_read (λ e. inl (all e))
-Converses-break limit count old new left coded ahead part Memory served came unended one_read all other = BreaksOff-behind limit count old new left coded ahead part Memory served came unended one_read (λ e. inl (all e))
-Converses-break limit count old new left coded ahead part Write served came unended one_read all other = absurd (other refl)
+pub Converses-break : (limits : Limits) (count : ℕ) (old new : Setting) (left : Option (List ℕ)) (coded : Bool) (ahead part : List ℕ) (fault : SessionFault) → Serves limits count old (record new { unread = left }) coded → Consumes left (prepend_known ahead new.unread) part → IsUnended limits part → length ahead ≤ CHUNK → (fault ≡ Read → ahead ≡ []) → fault ≢ Write → Converses limits old new (Err fault)
+Converses-break limits count old new left coded ahead part Read served came unended one_read all other = BreaksOff-behind limits count old new left coded ahead part Read served came unended one_read (λ e. inl (all e))
+Converses-break limits count old new left coded ahead part Memory served came unended one_read all other = BreaksOff-behind limits count old new left coded ahead part Memory served came unended one_read (λ e. inl (all e))
+Converses-break limits count old new left coded ahead part Write served came unended one_read all other = absurd (other refl)
 
 -- a session takes no more strings
-pub Converses-full : (limit count : ℕ) (old new : Setting) (coded : Bool) (ahead : List ℕ) → Serves limit count old (record new { unread = prepend_known ahead new.unread }) coded → length ahead ≤ CHUNK → count ≡ STRINGS → Converses limit old new (Err Read)
-Converses-full limit count old new coded ahead served one_read full =
+pub Converses-full : (limits : Limits) (count : ℕ) (old new : Setting) (coded : Bool) (ahead : List ℕ) → Serves limits count old (record new { unread = prepend_known ahead new.unread }) coded → length ahead ≤ CHUNK → count ≡ STRINGS → Converses limits old new (Err Read)
+Converses-full limits count old new coded ahead served one_read full =
     let left = prepend_known ahead new.unread in
-    BreaksOff-behind limit count old new left coded ahead [] Read served (Consumes-nil left) (record { endless = string_end-nil; short = omega arith }) one_read (λ _. inr full)
+    BreaksOff-behind limits count old new left coded ahead [] Read served (Consumes-nil left) (record { endless = string_end-nil; short = served_room limits count _ _ _ _ _ served.executed (omega arith) }) one_read (λ _. inr full)
 
--- a rest of LIMIT bytes or more is FUL, whatever follows
-full_code : (rest more : List ℕ) → length rest ≡ LIMIT → rest_code (rest ++ more) ≡ rest_code rest
-full_code rest more full =
-    let long : nat_le LIMIT (length (rest ++ more)) ≡ true = le-leb _ _ (omega (arith, length-append rest more)) in
-    let same : nat_le LIMIT (length rest) ≡ true = le-leb _ _ (omega arith) in
+-- a rest of as many bytes as a string may have, or more, is FUL, whatever follows
+full_code : (limits : Limits) (rest more : List ℕ) → length rest ≡ limits.length → rest_code limits (rest ++ more) ≡ rest_code limits rest
+full_code limits rest more full =
+    let long : nat_le limits.length (length (rest ++ more)) ≡ true = le-leb _ _ (omega (arith, length-append rest more)) in
+    let same : nat_le limits.length (length rest) ≡ true = le-leb _ _ (omega arith) in
     rw (long, same) refl
 
 -- the bytes that are left, where they are known
@@ -201,49 +216,49 @@ none_left None end = refl
 none_left (Some bytes) end = end
 
 -- what comes behind a rest changes neither its end nor its code
-pub record Stays (rest more : List ℕ) : Type 0 where
-  pub endless : string_end (take LIMIT (rest ++ more)) ≡ None
-  pub code : rest_code (rest ++ more) ≡ rest_code rest
+pub record Stays (limits : Limits) (rest more : List ℕ) : Type 0 where
+  pub endless : string_end (take limits.length (rest ++ more)) ≡ None
+  pub code : rest_code limits (rest ++ more) ≡ rest_code limits rest
 
-stays : (rest : List ℕ) (left : Option (List ℕ)) → IsRest left rest → Stays rest (known_rest left)
-stays rest left is = elim (eq-or-lt_of_le is.within) [
+stays : (limits : Limits) (rest : List ℕ) (left : Option (List ℕ)) → IsRest limits left rest → Stays limits rest (known_rest left)
+stays limits rest left is = elim (eq-or-lt_of_le is.within) [
   | inl full ↦ record {
-    endless = ap string_end (take_at rest (known_rest left) LIMIT full) ∙ is.endless;
-    code = full_code rest (known_rest left) full;
+    endless = ap string_end (take_at rest (known_rest left) limits.length full) ∙ is.endless;
+    code = full_code limits rest (known_rest left) full;
   }
   | inr short ↦
       let same : rest ++ known_rest left ≡ rest = ap (λ l. rest ++ l) (none_left left (is.last short)) ∙ append-nil rest in
-      record { endless = ap (λ l. string_end (take LIMIT l)) same ∙ short_rest rest is.within is.endless; code = ap rest_code same }
+      record { endless = ap (λ l. string_end (take limits.length l)) same ∙ short_rest limits rest is.within is.endless; code = ap (rest_code limits) same }
 ]
 
 -- a session is finished at a rest
-pub Finishes-rest : (limit count : ℕ) (old mid new : Setting) (coded : Bool) (done : Done) (left : Option (List ℕ)) (rest : List ℕ) → Serves limit count old mid coded → Consumes mid.unread left rest → IsRest left rest → Answers limit Rest rest mid.world new.world mid.written new.written (Ok done) → Finishes limit old new (coded || done.coded) false
-Finishes-rest limit count old mid new coded done left rest served came is answers =
+pub Finishes-rest : (limits : Limits) (count : ℕ) (old mid new : Setting) (coded : Bool) (done : Done) (left : Option (List ℕ)) (rest : List ℕ) → Serves limits count old mid coded → Consumes mid.unread left rest → IsRest limits left rest → Answers limits Rest rest mid.world new.world mid.written new.written (Ok done) → Finishes limits old new (coded || done.coded) false
+Finishes-rest limits count old mid new coded done left rest served came is answers =
     let more = known_rest left in
-    let behind = stays rest left is in
+    let behind = stays limits rest left is in
     let read = served.strings ++ rest in
     let runs_not = answers.ran.0 in
     record {
       input = served.strings ++ (rest ++ more);
       lines = served.lines ++ answers.lines;
       told = subst (λ l. IfSome old.unread (λ bytes. bytes ≡ l)) (append_assoc served.strings rest more) (told_input old.unread left read (Consumes-trans old.unread mid.unread left served.strings rest served.came came));
-      session = rw (runs_not.stays, runs_not.all_lines, answers.coded_told, runs_not.a_line, ← behind.code) (session_of limit count old mid served.strings served.lines (rest ++ more) coded served.executed behind.endless);
+      session = rw (runs_not.stays, runs_not.all_lines, answers.coded_told, runs_not.a_line, ← behind.code) (session_of limits count old mid served.strings served.lines (rest ++ more) coded served.executed behind.endless);
       appended = Appends-trans old.written mid.written new.written served.lines answers.lines served.appended answers.writes;
     }
 
 -- or at a command string that ends it
-pub Finishes-exit : (limit count : ℕ) (old mid new : Setting) (coded : Bool) (done : Done) (left : Option (List ℕ)) (bytes : List ℕ) (piece : Piece) → done.exit ≡ true → Serves limit count old mid coded → Consumes mid.unread left bytes → IsPiece left bytes piece → Answers limit piece bytes mid.world new.world mid.written new.written (Ok done) → Finishes limit old new (coded || done.coded) true
-Finishes-exit limit count old mid new coded done left string Command exits served came is answers =
+pub Finishes-exit : (limits : Limits) (count : ℕ) (old mid new : Setting) (coded : Bool) (done : Done) (left : Option (List ℕ)) (bytes : List ℕ) (piece : Piece) → done.exit ≡ true → Serves limits count old mid coded → Consumes mid.unread left bytes → IsPiece limits left bytes piece → Answers limits piece bytes mid.world new.world mid.written new.written (Ok done) → Finishes limits old new (coded || done.coded) true
+Finishes-exit limits count old mid new coded done left string Command exits served came is answers =
     let more = known_rest left in
     let read = served.strings ++ string in
     let ends : answers.exit ≡ true = sym answers.exit_told ∙ exits in
-    let runs = subst (λ exit. Runs limit string mid.world new.world answers.lines answers.coded exit) ends answers.ran in
+    let runs = subst (λ exit. Runs limits string mid.world new.world answers.lines answers.coded exit) ends answers.ran in
     record {
       input = served.strings ++ (string ++ more);
       lines = served.lines ++ answers.lines;
       told = subst (λ l. IfSome old.unread (λ bytes. bytes ≡ l)) (append_assoc served.strings string more) (told_input old.unread left read (Consumes-trans old.unread mid.unread left served.strings string served.came came));
-      session = rw answers.coded_told (session_to limit count old.world mid.world new.world served.strings served.lines string more answers.lines coded answers.coded served.executed is runs);
+      session = rw answers.coded_told (session_to limits count old.world mid.world new.world served.strings served.lines string more answers.lines coded answers.coded served.executed is runs);
       appended = Appends-trans old.written mid.written new.written served.lines answers.lines served.appended answers.writes;
     }
-Finishes-exit limit count old mid new coded done left rest Rest exits served came is answers =
+Finishes-exit limits count old mid new coded done left rest Rest exits served came is answers =
     let no : false ≡ true = sym answers.ran.1 ∙ sym answers.exit_told ∙ exits in cc

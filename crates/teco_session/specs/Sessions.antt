@@ -3,6 +3,7 @@ use Rattle.std.specs.Prelude.{ℕ, ◌≡◌, ◌⊎◌, ◌≤◌, List, [], �
 use Rattle.std.specs.Io.KnownBytes.{Consumes, Appends, prepend_known}
 use Rattle.teco_model.specs.Session.{Executes, Session, IsCommandString}
 use Rattle.teco_model.specs.State.{World}
+use Rattle.teco_model.specs.declared.session.Limits.{Limits}
 use Rattle.teco_session.specs.Output.{WritesPart}
 use Rattle.teco_session.specs.Strings.{IsRest, IsUnended}
 use Rattle.teco_session.specs.declared.ahead.TheConstants.{CHUNK}
@@ -23,40 +24,40 @@ setting world unread written =
     record { world = world; unread = unread; written = written }
 
 -- so many command strings came, were executed, and what they write was written; none of them ends the session
-pub record Serves (limit count : ℕ) (old new : Setting) (coded : Bool) : Type 0 where
+pub record Serves (limits : Limits) (count : ℕ) (old new : Setting) (coded : Bool) : Type 0 where
   pub strings : List ℕ
   pub lines : List ℕ
   pub came : Consumes old.unread new.unread strings
-  pub executed : Executes limit old.world count strings new.world lines coded
+  pub executed : Executes limits old.world count strings new.world lines coded
   pub appended : Appends old.written new.written lines
 
 -- The session of the input was written. The input is the reader's, where that tells it.
-pub record Finishes (limit : ℕ) (old new : Setting) (coded exit : Bool) : Type 0 where
+pub record Finishes (limits : Limits) (old new : Setting) (coded exit : Bool) : Type 0 where
   pub input : List ℕ
   pub lines : List ℕ
   pub told : IfSome old.unread (λ bytes. bytes ≡ input)
-  pub session : Session limit old.world input new.world lines coded exit
+  pub session : Session limits old.world input new.world lines coded exit
   pub appended : Appends old.written new.written lines
 
 -- Some command strings were served, and then the fault came: nothing else was executed or written.
 -- Behind them were read the front of a string, and bytes of one read, which were not used: none
 -- where the input cannot be read, but where as many strings were served as a session takes.
-pub record BreaksOff (limit : ℕ) (old new : Setting) (fault : SessionFault) : Type 0 where
+pub record BreaksOff (limits : Limits) (old new : Setting) (fault : SessionFault) : Type 0 where
   pub count : ℕ
   pub coded : Bool
   pub left : Option (List ℕ)
   pub part : List ℕ
   pub unused : List ℕ
-  pub served : Serves limit count old (record new { unread = left }) coded
+  pub served : Serves limits count old (record new { unread = left }) coded
   pub came : Consumes left new.unread (part ++ unused)
-  pub unended : IsUnended part
+  pub unended : IsUnended limits part
   pub one_read : length unused ≤ CHUNK
   pub all_used : fault ≡ Read → (unused ≡ []) ⊎ (count ≡ STRINGS)
 
 -- Some command strings were served, and then writing failed in the next, or in the rest: of what the
 -- session of this piece writes there is a part, from the front and less than all. The world is as
 -- that session leaves it, and bytes of one read were not used.
-pub record CutsShort (limit : ℕ) (old new : Setting) : Type 0 where
+pub record CutsShort (limits : Limits) (old new : Setting) : Type 0 where
   pub count : ℕ
   pub coded : Bool
   pub last : Setting
@@ -65,16 +66,16 @@ pub record CutsShort (limit : ℕ) (old new : Setting) : Type 0 where
   pub lines : List ℕ
   pub line : Bool
   pub exit : Bool
-  pub served : Serves limit count old last coded
+  pub served : Serves limits count old last coded
   pub came : Consumes last.unread new.unread (piece ++ unused)
-  pub one_piece : IsCommandString piece ⊎ IsRest (prepend_known unused new.unread) piece
+  pub one_piece : IsCommandString limits piece ⊎ IsRest limits (prepend_known unused new.unread) piece
   pub one_read : length unused ≤ CHUNK
-  pub session : Session limit last.world piece new.world lines line exit
+  pub session : Session limits last.world piece new.world lines line exit
   pub part : WritesPart last.written new.written lines
 
 -- what comes of a session
-abbrev pub Converses : ℕ → Setting → Setting → Result Done SessionFault → Type 0
-Converses limit old new (Ok done) = Finishes limit old new done.coded done.exit
-Converses limit old new (Err Read) = BreaksOff limit old new Read
-Converses limit old new (Err Memory) = BreaksOff limit old new Memory
-Converses limit old new (Err Write) = CutsShort limit old new
+abbrev pub Converses : Limits → Setting → Setting → Result Done SessionFault → Type 0
+Converses limits old new (Ok done) = Finishes limits old new done.coded done.exit
+Converses limits old new (Err Read) = BreaksOff limits old new Read
+Converses limits old new (Err Memory) = BreaksOff limits old new Memory
+Converses limits old new (Err Write) = CutsShort limits old new

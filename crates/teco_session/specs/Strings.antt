@@ -1,8 +1,8 @@
 -- Command strings, cut from an input.
 use Rattle.std.specs.Prelude.{ℕ, ◌-◌, ◌≡◌, ◌<◌, ◌≤◌, List, length, slice_index, Bool, ◌&&◌, ◌==◌, nat_lt, Option, Some, None}
 use Rattle.std.specs.Io.KnownBytes.{IsAtEnd}
-use Rattle.teco_base.specs.declared.TheConstants.{LIMIT}
 use Rattle.teco_model.specs.Session.{string_end, IsCommandString}
+use Rattle.teco_model.specs.declared.session.Limits.{Limits}
 use Rattle.teco_session.specs.declared.strings.Piece.{Piece}
 use Rattle.teco_session.specs.declared.strings.Piece.TheVariants.{Command, Rest}
 
@@ -15,17 +15,17 @@ abbrev pub IsEnded : List ℕ → Type 0
 IsEnded bytes = string_end bytes ≡ Some (length bytes)
 
 -- the front of what may yet be a command string: no end, and room for more
-pub record IsUnended (bytes : List ℕ) : Type 0 where
+pub record IsUnended (limits : Limits) (bytes : List ℕ) : Type 0 where
   pub endless : string_end bytes ≡ None
-  pub short : length bytes < LIMIT
+  pub short : length bytes < limits.length
 
--- what is left of an input where no command string stands: LIMIT bytes, or fewer at its end
-pub record IsRest (unread : Option (List ℕ)) (bytes : List ℕ) : Type 0 where
+-- what is left of an input where no command string stands: as many bytes as one may have, or fewer at its end
+pub record IsRest (limits : Limits) (unread : Option (List ℕ)) (bytes : List ℕ) : Type 0 where
   pub endless : string_end bytes ≡ None
-  pub within : length bytes ≤ LIMIT
-  pub last : length bytes < LIMIT → IsAtEnd unread
+  pub within : length bytes ≤ limits.length
+  pub last : length bytes < limits.length → IsAtEnd unread
 
 -- a piece of an input, and what is left behind it
-abbrev pub IsPiece : Option (List ℕ) → List ℕ → Piece → Type 0
-IsPiece unread bytes Command = IsCommandString bytes
-IsPiece unread bytes Rest = IsRest unread bytes
+abbrev pub IsPiece : Limits → Option (List ℕ) → List ℕ → Piece → Type 0
+IsPiece limits unread bytes Command = IsCommandString limits bytes
+IsPiece limits unread bytes Rest = IsRest limits unread bytes

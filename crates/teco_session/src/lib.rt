@@ -9,7 +9,7 @@ mod strings;
 
 pub use ahead::CHUNK;
 pub use fault::SessionFault;
-pub use sessions::{Done, STRINGS, session, write_stop};
+pub use sessions::{Done, STRINGS, session, session_max, write_stop};
 
 #[cfg(test)]
 mod tests;

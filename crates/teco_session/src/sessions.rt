@@ -19,7 +19,7 @@ use std::alloc::Global;
 use std::io::{Read, Write};
 use teco_base::bytes::is_blank;
 use teco_base::{Code, LIMIT};
-use teco_model::HostFault;
+use teco_model::{HostFault, Limits};
 use teco_pages::Host;
 use teco_run::{Machine, Stop};
 use teco_text::TextStore;
@@ -76,10 +76,10 @@ fn is_all_blank(bytes: &[u8]) -> bool
 }
 
 // The code that is typed for what follows the last command string.
-fn code_of_rest(rest: &[u8]) -> Option<Code>
-    ensures { result ≡ rest_code rest.now }
+fn code_of_rest(rest: &[u8], limits: Limits) -> Option<Code>
+    ensures { result ≡ rest_code limits rest.now }
 {
-    if rest.len() >= LIMIT {
+    if rest.len() >= limits.length {
         Some(Code::Ful)
     } else if is_all_blank(rest) {
         None
@@ -146,13 +146,13 @@ fn answer_command<T: TextStore, W: Write, H: Host>(
     bytes: &[u8],
     writer: &mut W,
     host: &mut H,
-    limit: u64,
+    limits: Limits,
 ) -> Result<Done, SessionFault>
     requires { length bytes.now ≤ LIMIT }
-    ensures { Joined (λ old new. Answers limit piece.Command bytes.now old new (W.contents writer.old) (W.contents writer.new) result)
+    ensures { Joined (λ old new. Answers limits piece.Command bytes.now old new (W.contents writer.old) (W.contents writer.new) result)
         machine.old machine.new (H.files host.old) (H.files host.new) }
 {
-    let stop = machine.run(bytes, limit, host);
+    let stop = machine.run(bytes, limits.steps, host);
     let line = write_stop(machine, stop, writer);
     said(line, is_exit(stop))
 }
@@ -163,13 +163,13 @@ fn answer_rest<T: TextStore, W: Write, H: Host>(
     bytes: &[u8],
     writer: &mut W,
     host: &H,
-    limit: u64,
+    limits: Limits,
 ) -> Result<Done, SessionFault>
     requires { length bytes.now ≤ LIMIT }
-    ensures { Joined (λ old new. Answers limit piece.Rest bytes.now old new (W.contents writer.old) (W.contents writer.new) result)
+    ensures { Joined (λ old new. Answers limits piece.Rest bytes.now old new (W.contents writer.old) (W.contents writer.new) result)
         machine.now machine.now (H.files host.now) (H.files host.now) }
 {
-    said(write_lines(writer, &[], code_of_rest(bytes)), false)
+    said(write_lines(writer, &[], code_of_rest(bytes, limits)), false)
 }
 
 // Runs a piece of the input, if it is a command string, and writes what it types and its code line. Says whether there is
@@ -180,34 +180,29 @@ fn answer<T: TextStore, W: Write, H: Host>(
     bytes: &[u8],
     writer: &mut W,
     host: &mut H,
-    limit: u64,
+    limits: Limits,
 ) -> Result<Done, SessionFault>
     requires { length bytes.now ≤ LIMIT }
-    ensures { Joined (λ old new. Answers limit piece bytes.now old new (W.contents writer.old) (W.contents writer.new) result)
+    ensures { Joined (λ old new. Answers limits piece bytes.now old new (W.contents writer.old) (W.contents writer.new) result)
         machine.old machine.new (H.files host.old) (H.files host.new) }
 {
     match piece {
-        Piece::Command => answer_command(machine, bytes, writer, host, limit),
-        Piece::Rest => answer_rest(machine, bytes, writer, host, limit),
+        Piece::Command => answer_command(machine, bytes, writer, host, limits),
+        Piece::Rest => answer_rest(machine, bytes, writer, host, limits),
     }
 }
 
-/// Runs the command strings that a reader gives, each for at most `limit` steps, over the files of a host. What a string types is written when it has
-/// stopped, and then a code line for a stop that is not the end.
-///
-/// A string is run as soon as its end is read. After a code the session goes on with the next string; a string that ends the
-/// session is the last. A rest without an end is not executed. With a fault of reading or of memory, the strings that came before
-/// it are executed and written, and nothing else is. With one of writing, the string whose bytes were being written is the last that was executed: a part of
-/// what it writes is written, from the front and less than all.
-pub fn session<T: TextStore, R: Read, W: Write, H: Host>(
+// Runs the command strings that a reader gives, and writes what they type and their code lines.
+fn serve<T: TextStore, R: Read, W: Write, H: Host>(
     alloc: Global,
     machine: &mut Machine<T>,
     reader: &mut R,
     writer: &mut W,
     host: &mut H,
-    limit: u64,
+    limits: Limits,
 ) -> Result<Done, SessionFault>
-    ensures { Joined (λ old new. Converses limit
+    requires { limits.length ≤ LIMIT }
+    ensures { Joined (λ old new. Converses limits
         (setting old (R.remaining reader.old) (W.contents writer.old))
         (setting new (R.remaining reader.new) (W.contents writer.new))
         result) machine.old machine.new (H.files host.old) (H.files host.new) }
@@ -216,8 +211,8 @@ pub fn session<T: TextStore, R: Read, W: Write, H: Host>(
     let mut ahead = Ahead::new();
     let mut coded = false;
     for _ in 0..STRINGS {
-        let piece = next_piece(&mut string, &mut ahead, reader)?;
-        let done = answer(machine, piece, string.as_slice(), writer, host, limit)?;
+        let piece = next_piece(&mut string, &mut ahead, reader, limits)?;
+        let done = answer(machine, piece, string.as_slice(), writer, host, limits)?;
         coded |= done.coded;
         if done.exit {
             return Ok(Done { coded, exit: true });
@@ -227,4 +222,52 @@ pub fn session<T: TextStore, R: Read, W: Write, H: Host>(
         }
     }
     Err(SessionFault::Read)
+}
+
+/// Runs the command strings that a reader gives, each for at most `limit` steps, over the files of a host. What a string
+/// types is written when it has stopped, and then a code line for a stop that is not the end. A string has at most `LIMIT`
+/// bytes.
+///
+/// A string is run as soon as its end is read. After a code the session goes on with the next string; a string that ends
+/// the session is the last. A rest without an end is not executed. With a fault of reading or of memory, the strings that
+/// came before it are executed and written, and nothing else is. With one of writing, the string whose bytes were being
+/// written is the last that was executed: a part of what it writes is written, from the front and less than all.
+pub fn session<T: TextStore, R: Read, W: Write, H: Host>(
+    alloc: Global,
+    machine: &mut Machine<T>,
+    reader: &mut R,
+    writer: &mut W,
+    host: &mut H,
+    limit: u64,
+) -> Result<Done, SessionFault>
+    ensures { Joined (λ old new. Converses (record { steps = limit; length = LIMIT })
+        (setting old (R.remaining reader.old) (W.contents writer.old))
+        (setting new (R.remaining reader.new) (W.contents writer.new))
+        result) machine.old machine.new (H.files host.old) (H.files host.new) }
+{
+    session_max(alloc, machine, reader, writer, host, limit, LIMIT)
+}
+
+/// A session whose command strings have at most `max` bytes each, their ends included: as many without an end are `FUL`,
+/// and end it.
+pub fn session_max<T: TextStore, R: Read, W: Write, H: Host>(
+    alloc: Global,
+    machine: &mut Machine<T>,
+    reader: &mut R,
+    writer: &mut W,
+    host: &mut H,
+    limit: u64,
+    max: usize,
+) -> Result<Done, SessionFault>
+    requires { max ≤ LIMIT }
+    ensures { Joined (λ old new. Converses (record { steps = limit; length = max })
+        (setting old (R.remaining reader.old) (W.contents writer.old))
+        (setting new (R.remaining reader.new) (W.contents writer.new))
+        result) machine.old machine.new (H.files host.old) (H.files host.new) }
+{
+    let limits = Limits {
+        steps: limit,
+        length: max,
+    };
+    serve(alloc, machine, reader, writer, host, limits)
 }

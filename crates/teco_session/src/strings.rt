@@ -8,15 +8,15 @@ ghost use Rattle.teco_session.specs.declared.fault.SessionFault.TheVariants as f
 use crate::ahead::{Ahead, CHUNK};
 use crate::fault::SessionFault;
 use std::io::Read;
-use teco_base::LIMIT;
 use teco_base::bytes::ESC;
+use teco_model::Limits;
 
 /// What stands next in the input.
 #[derive(Clone, Copy)]
 pub enum Piece {
     /// A command string.
     Command,
-    /// Bytes without an end: as many as `LIMIT`, or fewer and then the end of the input.
+    /// Bytes without an end: as many as a command string may have, or fewer and then the end of the input.
     Rest,
 }
 
@@ -45,19 +45,20 @@ fn end_behind(string: &[u8], bytes: &[u8]) -> Option<usize>
     None
 }
 
-// Moves bytes from those ahead to a string that goes on with them, up to its end or to `LIMIT` bytes. Says whether it ended.
-fn extend(string: &mut Vec<u8>, ahead: &mut Ahead) -> Result<bool, SessionFault>
-    requires { IsUnended string.old.items }
+// Moves bytes from those ahead to a string that goes on with them, up to its end or to as many as it may have. Says whether
+// it ended.
+fn extend(string: &mut Vec<u8>, ahead: &mut Ahead, limits: Limits) -> Result<bool, SessionFault>
+    requires { IsUnended limits string.old.items }
     ensures moved { string.new.items ++ ahead.new ≡ string.old.items ++ ahead.old }
     ensures some { OnOk result (ahead.old ≢ [] → vec_len string.old < vec_len string.new) }
-    ensures within { vec_len string.new ≤ LIMIT }
+    ensures within { vec_len string.new ≤ limits.length }
     ensures ended { result ≡ Ok true → IsEnded string.new.items }
     ensures endless { result ≢ Ok true → string_end string.new.items ≡ None }
     ensures err { IfErr result (λ e. e ≡ fault.Memory) }
     ensures kept { OnErr result (string.new.items ≡ string.old.items) }
     ensures one_read { length ahead.new ≤ CHUNK }
 {
-    let room = LIMIT - string.len();
+    let room = limits.length - string.len();
     let bytes = ahead.bytes();
     let bytes = &bytes[..bytes.len().min(room)];
     let end = end_behind(string.as_slice(), bytes);
@@ -73,23 +74,24 @@ pub fn next_piece<R: Read>(
     string: &mut Vec<u8>,
     ahead: &mut Ahead,
     reader: &mut R,
+    limits: Limits,
 ) -> Result<Piece, SessionFault>
     ensures came { Consumes (prepend_known ahead.old (R.remaining reader.old))
         (prepend_known ahead.new (R.remaining reader.new)) string.new.items }
     ensures piece { IfOk result
-        (IsPiece (prepend_known ahead.new (R.remaining reader.new)) string.new.items) }
-    ensures fault { OnErr result (IsUnended string.new.items) }
+        (IsPiece limits (prepend_known ahead.new (R.remaining reader.new)) string.new.items) }
+    ensures fault { OnErr result (IsUnended limits string.new.items) }
     ensures all_used { IfErr result (λ e. e ≡ fault.Read → ahead.new ≡ []) }
     ensures not_writing { IfErr result (λ e. e ≢ fault.Write) }
     ensures one_read { length ahead.old ≤ CHUNK → length ahead.new ≤ CHUNK }
 {
     string.clear();
-    while string.len() < LIMIT {
+    while string.len() < limits.length {
         ahead.fill(reader)?;
         if ahead.bytes().is_empty() {
             return Ok(Piece::Rest);
         }
-        if extend(string, ahead)? {
+        if extend(string, ahead, limits)? {
             return Ok(Piece::Command);
         }
     }

@@ -4,45 +4,21 @@ mod flow;
 mod malformed;
 mod manual;
 mod searches;
+mod trial;
 
-use crate::{CHUNK, Done, SessionFault, session};
-use std::alloc::Global;
+use self::trial::{Given, Ran, Row, STEPS, STORES, expect_row, has, run_over, run_steady, word};
+use crate::{CHUNK, session};
+use std::alloc::{AllocError, Global};
 use std::io;
 use std::io::{ErrorKind, Read, Write};
 use std::process::Abort;
 use std::test::Fail;
 use teco_pages::MemHost;
 use teco_run::Machine;
-use teco_text::{TextStore, VecText};
-
-/// The step limit where a row names no other.
-const LIMIT: u64 = 100_000_000;
-
-/// What came of a session, in a word.
-fn word(outcome: Result<Done, SessionFault>) -> &'static str {
-    match outcome {
-        Ok(Done { exit: true, .. }) => "exit",
-        Ok(done) => { if done.coded { "coded" } else { "done" } }
-        Err(SessionFault::Read) => "read",
-        Err(SessionFault::Write) => "write",
-        Err(SessionFault::Memory) => "memory",
-    }
-}
-
-/// Has the machine this buffer and this pointer?
-fn has<T: TextStore>(machine: &Machine<T>, text: &[u8], pointer: usize) -> bool {
-    let (front, back) = machine.text();
-    text.starts_with(front)
-        && text.ends_with(back)
-        && front.len().checked_add(back.len()) == Some(text.len())
-        && machine.dot() == pointer
-}
-
-/// An input and what is written, and the buffer and the pointer that are left.
-type Row = (&'static [u8], &'static [u8], &'static [u8], usize);
+use teco_text::VecText;
 
 /// Sessions in which no code line is written.
-const TYPED: [Row; 29] = [
+const TYPED: [Row; 30] = [
     (b"1+2*3=\x1b\x1b", b"9\r\n", b"", 0),
     (b"2147483647+1=\x1b\x1b", b"-2147483648\r\n", b"", 0),
     (b"4294967295=\x1b\x1b", b"-1\r\n", b"", 0),
@@ -89,6 +65,12 @@ const TYPED: [Row; 29] = [
         4,
     ),
     (b"Iab\x1b\x1bHT.=\x1b\x1b", b"ab2\r\n", b"ab", 2),
+    (
+        b"Iabcd\x1b2JIx\x1b1R1DJ:Sbc\x1b=.=\x1b\x1b",
+        b"-1\r\n3\r\n",
+        b"abcd",
+        3,
+    ),
     (b"1=\x1b\x1b\x1b\x1b \r\n", b"1\r\n", b"", 0),
     (b" \r\n", b"", b"", 0),
     (b"", b"", b"", 0),
@@ -216,42 +198,16 @@ const CODED: [Row; 25] = [
     (b"@^UA/5C/MA1=\x1b\x1b2=\x1b\x1b", b"?POP\r\n2\r\n", b"", 0),
 ];
 
-fn expect_row(
-    rt: &impl Abort,
-    alloc: Global,
-    limit: u64,
-    row: Row,
-    outcome: &'static str,
-    number: usize,
-) {
-    let (input, written, text, pointer) = row;
-    let mut machine = Machine::new(alloc, VecText::new(alloc));
-    let mut reader = input;
-    let mut writer = Vec::new(alloc);
-    let mut host = MemHost::new(alloc);
-    let done = session(
-        alloc,
-        &mut machine,
-        &mut reader,
-        &mut writer,
-        &mut host,
-        limit,
-    );
-    assert_eq!(rt; word(done), outcome, "row {number}");
-    assert_eq!(rt; writer.as_slice(), written, "row {number}");
-    assert!(rt; has(&machine, text, pointer), "row {number}");
-}
-
 #[test]
 fn sessions(rt: HostRuntime) {
     let tables: [&[Row]; 4] = [&TYPED, &LINES, &REGISTERS, &MACROS];
     for table in tables {
         for (i, row) in table.iter().enumerate() {
-            expect_row(&rt, rt.alloc(), LIMIT, *row, "done", i);
+            expect_row(&rt, rt.alloc(), STEPS, *row, "done", i);
         }
     }
     for (i, row) in CODED.iter().enumerate() {
-        expect_row(&rt, rt.alloc(), LIMIT, *row, "coded", i);
+        expect_row(&rt, rt.alloc(), STEPS, *row, "coded", i);
     }
 }
 
@@ -300,10 +256,10 @@ const ENDED: [Row; 4] = [
 #[test]
 fn sessions_without_host(rt: HostRuntime) {
     for (i, row) in NOTHING_OPEN.iter().enumerate() {
-        expect_row(&rt, rt.alloc(), LIMIT, *row, "coded", i);
+        expect_row(&rt, rt.alloc(), STEPS, *row, "coded", i);
     }
     for (i, row) in ENDED.iter().enumerate() {
-        expect_row(&rt, rt.alloc(), LIMIT, *row, "exit", i);
+        expect_row(&rt, rt.alloc(), STEPS, *row, "exit", i);
     }
 }
 
@@ -314,7 +270,7 @@ const LIMITED: [(u64, &'static str, Row); 10] = [
     (5, "done", (b"@^UA//MA\x1b\x1b", b"", b"", 0)),
     (5, "coded", (b"@^UA/MA/MA\x1b\x1b", b"?LIM\r\n", b"", 0)),
     (
-        10_000,
+        100_000,
         "coded",
         (b"@^UA/MA/MA\x1b\x1b", b"?LIM\r\n", b"", 0),
     ),
@@ -396,7 +352,7 @@ impl Write for SlowWriter {
 }
 
 /// How many reads and writes do well before one that fails, and what comes of it.
-const FAILED: [(usize, usize, &'static str, Row); 13] = [
+const FAILED: [(usize, usize, &'static str, Row); 16] = [
     (
         0,
         99,
@@ -463,30 +419,35 @@ const FAILED: [(usize, usize, &'static str, Row); 13] = [
         "done",
         (b"Ia\x1b1=\x1b\x1bIb\x1b2=\x1b\x1b", b"1\r\n2\r\n", b"ab", 2),
     ),
+    (3, 99, "read", (b"]A\x1b\x1b1=\x1b\x1b", b"", b"", 0)),
+    (
+        4,
+        99,
+        "read",
+        (b"]A\x1b\x1b1=\x1b\x1b", b"?PES\r\n", b"", 0),
+    ),
+    (99, 3, "write", (b"]A\x1b\x1b1=\x1b\x1b", b"?PE", b"", 0)),
     (99, 4, "write", (b"5C\x1b\x1b1=\x1b\x1b", b"?POP", b"", 0)),
     (99, 5, "write", (b"1=\x1b\x1b2=", b"1\r\n?U", b"", 0)),
 ];
 
-/// A row whose reads and writes fail once; without a kind the write takes nothing.
-fn expect_slow(
-    rt: &impl Abort,
+// A session of a row whose reads and writes fail once; without a kind the write takes nothing.
+fn run_slow(
     alloc: Global,
     before: (usize, usize),
     kinds: (ErrorKind, Option<ErrorKind>),
     row: Row,
-    outcome: &'static str,
-) {
-    let (input, written, text, pointer) = row;
-    let (reads, writes) = before;
+) -> (&'static str, Vec<u8>, bool) {
+    let (input, _, text, pointer) = row;
     let mut machine = Machine::new(alloc, VecText::new(alloc));
     let mut reader = SlowReader {
         bytes: input,
-        before: Some(reads),
+        before: Some(before.0),
         kind: kinds.0,
     };
     let mut writer = SlowWriter {
         bytes: Vec::new(alloc),
-        before: Some(writes),
+        before: Some(before.1),
         kind: kinds.1,
     };
     let mut host = MemHost::new(alloc);
@@ -496,18 +457,28 @@ fn expect_slow(
         &mut reader,
         &mut writer,
         &mut host,
-        LIMIT,
+        STEPS,
     );
-    assert_eq!(rt; word(done), outcome, "{reads} reads, {writes} writes");
-    assert_eq!(rt;
-        writer.bytes.as_slice(),
-        written,
-        "{reads} reads, {writes} writes"
-    );
-    assert!(rt;
-        has(&machine, text, pointer),
-        "{reads} reads, {writes} writes"
-    );
+    (word(done), writer.bytes, has(&machine, text, pointer))
+}
+
+// What comes of it is as the row says, at once or where a growth was refused the second time.
+fn expect_slow(
+    rt: &impl Abort,
+    alloc: Global,
+    before: (usize, usize),
+    kinds: (ErrorKind, Option<ErrorKind>),
+    row: Row,
+    outcome: &'static str,
+) {
+    let (reads, writes) = before;
+    let mut ran = run_slow(alloc, before, kinds, row);
+    if ran.1.as_slice() != row.1 {
+        ran = run_slow(alloc, before, kinds, row);
+    }
+    assert_eq!(rt; ran.0, outcome, "{reads} reads, {writes} writes");
+    assert_eq!(rt; ran.1.as_slice(), row.1, "{reads} reads, {writes} writes");
+    assert!(rt; ran.2, "{reads} reads, {writes} writes");
 }
 
 #[test]
@@ -536,78 +507,117 @@ fn interruptions_are_passed(rt: HostRuntime) {
     }
 }
 
+// A comment, and then two strings, the first of which ends at this length.
+fn string_of(alloc: Global, len: usize) -> Result<Vec<u8>, AllocError> {
+    let mut input: Vec<u8> = Vec::new(alloc);
+    input.push(b'!')?;
+    input.resize(len, b'a')?;
+    input.extend_from_slice(b"!1=\x1b\x1b2=\x1b\x1b")?;
+    Ok(input)
+}
+
 // The pair of ESC at the end of a string is behind, across and before the end of what one read gives.
 #[test]
 fn reads_end_at_a_pair(rt: HostRuntime) -> Result<(), Fail> {
     for len in CHUNK - 8..CHUNK {
-        let mut input: Vec<u8> = Vec::new(rt.alloc());
-        input.push(b'!')?;
-        input.resize(len, b'a')?;
-        input.extend_from_slice(b"!1=\x1b\x1b2=\x1b\x1b")?;
-        let mut machine = Machine::new(rt.alloc(), VecText::new(rt.alloc()));
-        let mut writer = Vec::new(rt.alloc());
-        let mut reader = input.as_slice();
-        let mut host = MemHost::new(rt.alloc());
-        let done = session(
-            rt.alloc(),
-            &mut machine,
-            &mut reader,
-            &mut writer,
-            &mut host,
-            LIMIT,
-        );
-        assert_eq!(rt; word(done), "done", "{len} bytes");
-        assert_eq!(rt; writer.as_slice(), b"1\r\n2\r\n".as_slice(), "{len} bytes");
+        let input = match string_of(rt.alloc(), len) {
+            Ok(input) => input,
+            Err(_) => string_of(rt.alloc(), len)?,
+        };
+        for store in STORES {
+            let written: &[u8] = b"1\r\n2\r\n";
+            let ran = run_steady(rt.alloc(), store, Given::whole(&input), (b"", 0), written);
+            assert_eq!(rt; ran.outcome, "done", "{len} bytes");
+            assert_eq!(rt; ran.written.as_slice(), written, "{len} bytes");
+        }
     }
     Ok(())
 }
 
-/// All was written; or a part and then the line for want of memory; or nothing, and memory is the fault.
-fn is_allowed(done: Result<Done, SessionFault>, written: &[u8], whole: &[u8]) -> bool {
-    match done {
-        Ok(done) => match written.strip_suffix(b"?MEM\r\n") {
-            Some(typed) => done.coded && whole.starts_with(typed),
-            None => !done.coded && written == whole,
+/// Strings of at most 64 bytes: so many digits 1, what follows them, what is written, and what comes of it.
+const CAPPED: [(usize, &[u8], &[u8], &str); 3] = [
+    (64, b"", b"?FUL\r\n", "coded"),
+    (63, b"", b"?UTC\r\n", "coded"),
+    (60, b"= \x1b\x1b", b"-954437177\r\n", "done"),
+];
+
+#[test]
+fn strings_are_capped(rt: HostRuntime) -> Result<(), Fail> {
+    for (ones, end, written, outcome) in CAPPED {
+        let mut input = [b'1'; 64];
+        let len = ones + end.len();
+        assert!(rt; ones <= len && len <= 64);
+        input[ones..len].copy_from_slice(end);
+        let given = Given {
+            input: &input[..len],
+            steps: STEPS,
+            max: 64,
+        };
+        for store in STORES {
+            let ran = run_steady(rt.alloc(), store, given, (b"", 0), written);
+            assert_eq!(rt; ran.outcome, outcome, "{ones} digits, {store:?}");
+            assert_eq!(rt; ran.written.as_slice(), written, "{ones} digits, {store:?}");
+        }
+    }
+    Ok(())
+}
+
+/// One string each, the bytes that it types, and the buffer and the pointer before and after it.
+const REFUSED_GROWTHS: [(&[u8], &[u8], &[u8], usize); 4] = [
+    (
+        b"Iab\x1b(((((((((1)))))))))=HT\x1b\x1b",
+        b"1\r\nab",
+        b"ab",
+        2,
+    ),
+    (
+        b"Iabcabc\x1bJ<FSb\x1bXX\x1b;>HT\x1b\x1b",
+        b"aXXcaXXc",
+        b"aXXcaXXc",
+        0,
+    ),
+    (
+        b"Iabc\x1bHXA:QA=1QA=HKGAGA:GA.=\x1b\x1b",
+        b"3\r\n98\r\nabc6\r\n",
+        b"abcabc",
+        6,
+    ),
+    (
+        b"5UA@^UA/xy/[A7UA^UAz\x1b]AQA=:GA\x1b\x1b",
+        b"5\r\nxy",
+        b"",
+        0,
+    ),
+];
+
+// Where a growth is refused, a part of the bytes is typed and then the line for want of memory; or nothing is, and memory
+// is the fault; or the writer wanted it.
+fn is_allowed(ran: &Ran, whole: &[u8]) -> bool {
+    match ran.outcome {
+        "done" => ran.written.as_slice() == whole,
+        "coded" => match ran.written.strip_suffix(b"?MEM\r\n") {
+            Some(typed) => whole.starts_with(typed),
+            None => false,
         },
-        Err(SessionFault::Memory) => written.is_empty(),
-        Err(_) => false,
+        "memory" => ran.written.is_empty(),
+        "write" => whole.starts_with(&ran.written),
+        _ => false,
     }
 }
 
-// Where an allocation fails in the first session, the second goes on with what the first left.
+// Where an allocation fails in the first session, the second one over the same machine goes on with what the first left.
 #[test]
-fn memory_runs_out(rt: HostRuntime) {
-    let alloc = rt.alloc();
-    let (Ok(mut first), Ok(mut second)) = (
-        Vec::with_capacity(alloc, 64),
-        Vec::with_capacity(alloc, 64),
-    ) else {
-        return;
-    };
-    let mut machine = Machine::new(alloc, VecText::new(alloc));
-    let mut reader: &[u8] = b"Iab\x1b(((((((((1)))))))))=HT\x1b\x1b";
-    let mut host = MemHost::new(alloc);
-    let done = session(
-        alloc,
-        &mut machine,
-        &mut reader,
-        &mut first,
-        &mut host,
-        LIMIT,
-    );
-    assert!(rt; is_allowed(done, first.as_slice(), b"1\r\nab"));
-    let left = has(&machine, b"ab", 2);
-    assert!(rt; left || has(&machine, b"", 0));
-    let whole: &[u8] = if left { b"ab-2\r\n" } else { b"0\r\n" };
-    let mut reader: &[u8] = b"HT^S=\x1b\x1b";
-    let mut host = MemHost::new(alloc);
-    let done = session(
-        alloc,
-        &mut machine,
-        &mut reader,
-        &mut second,
-        &mut host,
-        LIMIT,
-    );
-    assert!(rt; is_allowed(done, second.as_slice(), whole));
+fn growths_are_refused(rt: HostRuntime) {
+    for (input, whole, text, pointer) in REFUSED_GROWTHS {
+        for store in STORES {
+            let mut host = MemHost::new(rt.alloc());
+            let given = Given::whole(input);
+            let ran = run_over(rt.alloc(), store, &mut host, given, (text, pointer));
+            assert!(rt; is_allowed(&ran, whole), "{whole:?}, {store:?}");
+            assert!(rt;
+                ran.is_left || ran.outcome != "done",
+                "{whole:?}, {store:?}"
+            );
+        }
+    }
 }

@@ -25,6 +25,8 @@ pub struct Editor<T: TextStore> {
     pub(crate) mode: i32,
     pub(crate) last_length: usize,
     pub(crate) typed: Vec<u8>,
+    // how many bytes may be typed until they are taken
+    pub(crate) typed_cap: usize,
     pub(crate) alloc: Global,
 }
 
@@ -62,6 +64,7 @@ impl<T: TextStore> Editor<T> {
             mode: 0,
             last_length: 0,
             typed: Vec::new(alloc),
+            typed_cap: usize::MAX,
             alloc,
         }
     }
@@ -141,6 +144,22 @@ impl<T: TextStore> Editor<T> {
         ensures within_limit { result ≤ LIMIT }
     {
         self.last_length
+    }
+
+    /// Sets how many bytes may be typed until they are taken. More are refused as memory is; at first there is no such cap.
+    pub fn cap_typed(&mut self, bytes: usize)
+        ensures { self.new ≡ self.old }
+    {
+        self.typed_cap = bytes;
+    }
+
+    // Refuses so many more typed bytes where they pass the cap.
+    pub(crate) fn keep_typed_cap(&self, more: usize) -> Result<(), AllocError> {
+        if more <= self.typed_cap.saturating_sub(self.typed.len()) {
+            Ok(())
+        } else {
+            Err(AllocError)
+        }
     }
 
     /// The bytes that were typed, which are then none. Takes no memory.

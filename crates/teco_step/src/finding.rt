@@ -68,6 +68,7 @@ impl<T: TextStore> Editor<T> {
         ensures err { OnErr result (self.new ≡ self.old) }
     {
         make_room(&mut self.search_text, text.len())?;
+        self.keep_typed_cap(message.len())?;
         self.typed.extend_from_slice(message)?;
         put_text(&mut self.search_text, text);
         self.set_dot(0);

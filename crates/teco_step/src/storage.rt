@@ -56,13 +56,14 @@ impl<T: TextStore> Editor<T> {
     fn get(&mut self, colons: u8, reg: Reg) -> Result<Option<i32>, Stuck>
         ensures { DoesIfMemory true self.old self.new (model.retrieval colons reg self.old) result }
     {
-        let text = self.regs.text(reg);
-        if colons == 0 {
-            self.store.insert(text)?;
-            self.last_length = text.len();
-        } else {
-            self.typed.extend_from_slice(text)?;
+        if colons > 0 {
+            self.keep_typed_cap(self.regs.text(reg).len())?;
+            self.typed.extend_from_slice(self.regs.text(reg))?;
+            return Ok(None);
         }
+        let text = self.regs.text(reg);
+        self.store.insert(text)?;
+        self.last_length = text.len();
         Ok(None)
     }
 

@@ -62,6 +62,7 @@ impl<T: TextStore> Editor<T> {
         ensures err { OnErr result (self.new ≡ self.old) }
     {
         make_room(&mut self.search_text, text.len())?;
+        self.keep_typed_cap(message.len())?;
         self.typed.reserve(message.len())?;
         let (first, second) = self.store.slices();
         if let Err(fault) = pages.write_page(first, second, self.form_feed, host) {

@@ -54,6 +54,7 @@ impl<T: TextStore> Editor<T> {
     fn type_bytes(&mut self, bytes: &[u8]) -> Result<Option<i32>, Stuck>
         ensures { DoesIfMemory true self.old self.new (Ok (model.typing_of bytes.now self.old)) result }
     {
+        self.keep_typed_cap(bytes.len())?;
         self.typed.extend_from_slice(bytes)?;
         Ok(None)
     }
@@ -65,6 +66,7 @@ impl<T: TextStore> Editor<T> {
     {
         let text = number_text(radix, n);
         let end: &[u8] = if colons == 0 { b"\r\n" } else { b"" };
+        self.keep_typed_cap(text.as_bytes().len() + end.len())?;
         self.typed.reserve(text.as_bytes().len() + end.len())?;
         self.typed.extend_from_slice(text.as_bytes())?;
         self.typed.extend_from_slice(end)?;
@@ -76,6 +78,7 @@ impl<T: TextStore> Editor<T> {
         ensures { DoesIfMemory true self.old self.new (model.part_typing taken self.old) result }
     {
         let Span { start, end } = self.part(taken)?;
+        self.keep_typed_cap(end - start)?;
         self.store.copy_range(start, end, &mut self.typed)?;
         Ok(None)
     }
@@ -86,6 +89,7 @@ impl<T: TextStore> Editor<T> {
     {
         let first = self.lines(1 - i64::from(n));
         let second = self.lines(i64::from(n));
+        self.keep_typed_cap((first.end - first.start) + (second.end - second.start))?;
         copy_both(&self.store, first, second, &mut self.typed)?;
         Ok(None)
     }

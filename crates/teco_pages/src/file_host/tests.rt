@@ -1,8 +1,12 @@
 // Real files, in a scratch folder. A call that is refused memory is made once more, so that each test also holds where
 // one allocation fails.
+use super::size_limit::limit_in;
 use super::*;
+use std::alloc::AllocError;
+use std::fs::Permissions;
 use std::os::unix::fs::{PermissionsExt, symlink};
 use std::test::Fail;
+use std::{fs, io};
 
 fn remove(rt: &HostRuntime, folder: &str) -> io::Result<()> {
     if fs::remove_dir_all(rt, folder).is_err() {
@@ -150,6 +154,145 @@ fn an_output_that_fails_to_close_is_gone(rt: HostRuntime) -> Result<(), Fail> {
     host.close_out()?;
     assert!(rt; is_file(&rt, path, b"new")?);
     Ok(remove(&rt, "somleut_test_failed")?)
+}
+
+#[test]
+fn a_replaced_file_keeps_its_set_id_bits(rt: HostRuntime) -> Result<(), Fail> {
+    scratch(&rt, "somleut_test_set_id")?;
+    let path = "somleut_test_set_id/out";
+    fs::write(&rt, path, b"old".as_slice())?;
+    fs::set_permissions(&rt, path, Permissions::from_mode(0o6751))?;
+    // a system may refuse the set-id bits
+    let mode = fs::metadata(&rt, path)?.permissions().mode();
+    let mut host = host(&rt);
+    begin_out(&mut host, path, b"new")?;
+    host.close_out()?;
+    assert!(rt; is_file(&rt, path, b"new")?);
+    assert_eq!(rt; fs::metadata(&rt, path)?.permissions().mode(), mode);
+    Ok(remove(&rt, "somleut_test_set_id")?)
+}
+
+// The file beside the target, when it is alone in its folder.
+fn only_path(rt: &HostRuntime, folder: &str) -> Result<String, Fail> {
+    let mut entries = fs::read_dir(rt, folder)?;
+    let entry = entries.next().ok_or(Failed)??;
+    Ok(String::from_str(rt.alloc(), entry.path().as_str())?)
+}
+
+#[test]
+fn the_file_of_another_is_left(rt: HostRuntime) -> Result<(), Fail> {
+    scratch(&rt, "somleut_test_taken")?;
+    for is_closed in [true, false] {
+        let mut host = host(&rt);
+        begin_out(&mut host, "somleut_test_taken/out", b"new")?;
+        let beside = only_path(&rt, "somleut_test_taken")?;
+        fs::rename(&rt, &beside, "somleut_test_taken/moved")?;
+        fs::write(&rt, &beside, b"another".as_slice())?;
+        if is_closed {
+            assert!(rt; host.close_out().is_err());
+        } else {
+            host.drop_out()?;
+        }
+        assert!(rt; is_file(&rt, &beside, b"another")?);
+        assert!(rt; !fs::exists(&rt, "somleut_test_taken/out")?);
+        fs::remove_file(&rt, &beside)?;
+        fs::remove_file(&rt, "somleut_test_taken/moved")?;
+    }
+    Ok(remove(&rt, "somleut_test_taken")?)
+}
+
+// The nth byte of a long file.
+fn byte_at(n: usize) -> u8 {
+    (n % 251) as u8
+}
+
+// A long text, each of whose bytes tells where it stands.
+fn long_text(alloc: Global, len: usize) -> Result<Vec<u8>, AllocError> {
+    let mut bytes = vec![in alloc; 0; len]?;
+    for (n, byte) in bytes.iter_mut().enumerate() {
+        *byte = byte_at(n);
+    }
+    Ok(bytes)
+}
+
+// Writes a text in pieces of so many bytes.
+fn write_pieces(host: &mut FileHost<HostRuntime>, text: &[u8], piece: usize) -> Result<(), Failed> {
+    let mut rest = text;
+    for _ in 0..text.len() {
+        if rest.is_empty() {
+            break;
+        }
+        let n = host.write(&rest[..rest.len().min(piece)])?;
+        rest = &rest[n..];
+    }
+    Ok(())
+}
+
+// Reads an input in pieces of so many bytes: does it have this text?
+fn reads(host: &mut FileHost<HostRuntime>, text: &[u8], piece: usize) -> Result<bool, Failed> {
+    let mut buf = [0; 70_000];
+    let room = piece.min(70_000);
+    let mut rest = text;
+    for _ in 0..=text.len() {
+        let n = host.read(&mut buf[..room])?;
+        if n == 0 {
+            break;
+        }
+        match rest.strip_prefix(&buf[..n]) {
+            Some(behind) => rest = behind,
+            None => return Ok(false),
+        }
+    }
+    Ok(rest.is_empty())
+}
+
+// What is written in pieces, smaller and greater than what is kept together, is read in such pieces.
+#[test]
+fn pieces_keep_their_order(rt: HostRuntime) -> Result<(), Fail> {
+    scratch(&rt, "somleut_test_pieces")?;
+    let path = "somleut_test_pieces/out";
+    let text = match long_text(rt.alloc(), 200_000) {
+        Ok(text) => text,
+        Err(_) => long_text(rt.alloc(), 200_000)?,
+    };
+    for piece in [1, 4095, 65_535, 65_536, 70_000] {
+        let mut host = host(&rt);
+        begin_out(&mut host, path, b"")?;
+        if write_pieces(&mut host, &text, piece).is_err() {
+            // a growth was refused
+            host.drop_out()?;
+            begin_out(&mut host, path, b"")?;
+            write_pieces(&mut host, &text, piece)?;
+        }
+        host.close_out()?;
+        assert!(rt; is_file(&rt, path, &text)?, "by {piece}");
+        if host.open_in(path.as_bytes()).is_err() {
+            host.open_in(path.as_bytes())?;
+        }
+        assert!(rt; reads(&mut host, &text, piece)?, "by {piece}");
+    }
+    Ok(remove(&rt, "somleut_test_pieces")?)
+}
+
+#[test]
+fn limits_on_sizes_are_read(rt: HostRuntime) -> Result<(), Fail> {
+    let rows: [(&[u8], Option<u64>); 5] = [
+        (
+            b"Max cpu time  1 2 seconds\nMax file size  100000  unlimited  bytes\n",
+            Some(100_000),
+        ),
+        (
+            b"Max file size             unlimited            unlimited            bytes\n",
+            None,
+        ),
+        (b"Max file size", None),
+        (b"Max open files  7 7 files\n", None),
+        (b"", None),
+    ];
+    for (i, (text, limit)) in rows.iter().enumerate() {
+        assert_eq!(rt; limit_in(text), *limit, "row {i}");
+    }
+    Ok(())
 }
 
 #[test]

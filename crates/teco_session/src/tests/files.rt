@@ -1,14 +1,11 @@
 //! Sessions over files in memory, by hosts that move few bytes in a call and fail where they are told to.
 ghost use Rattle.std.specs.Prelude.{◌<◌};
 
-use super::{LIMIT, word};
-use crate::session;
+use super::trial::{Given, Ran, STORES, Store, run_over};
 use std::alloc::{AllocError, Global};
 use std::process::Abort;
 use std::test::Fail;
 use teco_pages::{HostCall, MemHost, TestHost};
-use teco_run::Machine;
-use teco_text::VecText;
 
 /// What the file `in` has, the input of the session, what is written, what it comes to, and what the file `out` has then.
 type FileRow = (
@@ -140,6 +137,60 @@ fn host_with(alloc: Global, bytes: &[u8]) -> Result<MemHost, AllocError> {
     Ok(mem)
 }
 
+// How a host moves bytes, and which call fails: the nth of a kind, or none.
+#[derive(Clone, Copy)]
+struct Moves {
+    piece: usize,
+    call: HostCall,
+    nth: u64,
+    ghost some: { 0 < piece },
+}
+
+// Moves at most so many bytes in a call, and never fails.
+fn in_pieces(piece: usize) -> Moves
+    requires { 0 < piece }
+{
+    Moves {
+        piece,
+        call: HostCall::Read,
+        nth: 0,
+    }
+}
+
+// A session over a host that has a file `in` and may have a file `out`, and what the host has then.
+fn run_files(
+    alloc: Global,
+    store: Store,
+    moves: Moves,
+    files: (&[u8], Option<&[u8]>),
+    input: &[u8],
+) -> Result<(TestHost, Ran), AllocError> {
+    let mut mem = host_with(alloc, files.0)?;
+    if let Some(out) = files.1 {
+        mem.put(b"out", out)?;
+    }
+    let mut host = TestHost::new(mem, moves.piece, moves.call, moves.nth);
+    let ran = run_over(alloc, store, &mut host, Given::whole(input), (b"", 0));
+    Ok((host, ran))
+}
+
+// The session once more where it does not write what it is to, and a growth may have been refused.
+fn run_files_steady(
+    alloc: Global,
+    store: Store,
+    moves: Moves,
+    files: (&[u8], Option<&[u8]>),
+    example: (&[u8], &[u8]),
+) -> Result<(TestHost, Ran), AllocError> {
+    let (input, written) = example;
+    match run_files(alloc, store, moves, files, input) {
+        Ok((host, ran)) if ran.written.as_slice() == written || !ran.may_be_refused() => {
+            Ok((host, ran))
+        }
+        _ => run_files(alloc, store, moves, files, input),
+    }
+}
+
 // Runs a session over a host that moves at most so many bytes in a call.
 fn expect_files(
     rt: &impl Abort,
@@ -151,22 +202,18 @@ fn expect_files(
     requires { 0 < piece }
 {
     let (bytes, input, written, outcome, out) = row;
-    let mut host = TestHost::new(host_with(alloc, bytes)?, piece, HostCall::Read, 0);
-    let mut machine = Machine::new(alloc, VecText::new(alloc));
-    let mut reader = input;
-    let mut writer = Vec::new(alloc);
-    let done = session(
-        alloc,
-        &mut machine,
-        &mut reader,
-        &mut writer,
-        &mut host,
-        LIMIT,
-    );
-    assert_eq!(rt; word(done), outcome, "row {number}");
-    assert_eq!(rt; writer.as_slice(), written, "row {number}");
-    assert_eq!(rt; host.mem().file(b"out"), out, "row {number}");
-    assert_eq!(rt; host.mem().file(b"in"), Some(bytes), "row {number}");
+    for store in STORES {
+        let moves = in_pieces(piece);
+        let (host, ran) = run_files_steady(alloc, store, moves, (bytes, None), (input, written))?;
+        assert_eq!(rt; ran.outcome, outcome, "row {number}, {store:?}");
+        assert_eq!(rt; ran.written.as_slice(), written, "row {number}, {store:?}");
+        assert_eq!(rt; host.mem().file(b"out"), out, "row {number}, {store:?}");
+        assert_eq!(rt;
+            host.mem().file(b"in"),
+            Some(bytes),
+            "row {number}, {store:?}"
+        );
+    }
     Ok(())
 }
 
@@ -218,24 +265,89 @@ const FAILING: [(HostCall, &[u8], Option<&[u8]>); 6] = [
 
 #[test]
 fn a_host_fails(rt: HostRuntime) -> Result<(), Fail> {
-    let alloc = rt.alloc();
+    let input: &[u8] = b"ERin\x1bEWout\x1bYHTPHTEC\x1b\x1bEF\x1b\x1b";
     for (call, written, out) in FAILING {
-        let mut host = TestHost::new(host_with(alloc, TWO_PAGES)?, 4096, call, 1);
-        let mut machine = Machine::new(alloc, VecText::new(alloc));
-        let mut reader: &[u8] = b"ERin\x1bEWout\x1bYHTPHTEC\x1b\x1bEF\x1b\x1b";
-        let mut writer = Vec::new(alloc);
-        let done = session(
-            alloc,
-            &mut machine,
-            &mut reader,
-            &mut writer,
-            &mut host,
-            LIMIT,
-        );
-        assert_eq!(rt; word(done), "coded");
-        assert_eq!(rt; writer.as_slice(), written);
-        assert_eq!(rt; host.mem().file(b"out"), out);
-        assert_eq!(rt; host.mem().file(b"in"), Some(TWO_PAGES));
+        for store in STORES {
+            let moves = Moves {
+                piece: 4096,
+                call,
+                nth: 1,
+            };
+            let (host, ran) = run_files_steady(
+                rt.alloc(),
+                store,
+                moves,
+                (TWO_PAGES, None),
+                (input, written),
+            )?;
+            assert_eq!(rt; ran.outcome, "coded");
+            assert_eq!(rt; ran.written.as_slice(), written);
+            assert_eq!(rt; host.mem().file(b"out"), out);
+            assert_eq!(rt; host.mem().file(b"in"), Some(TWO_PAGES));
+        }
+    }
+    Ok(())
+}
+
+// So many characters `a`, and then these.
+fn behind_many(alloc: Global, many: usize, end: &[u8]) -> Result<Vec<u8>, AllocError> {
+    let mut bytes: Vec<u8> = Vec::new(alloc);
+    bytes.resize(many, b'a')?;
+    bytes.extend_from_slice(end)?;
+    Ok(bytes)
+}
+
+// A page ends at the last byte that one read gives, and at the first of the next.
+#[test]
+fn pages_end_at_reads(rt: HostRuntime) -> Result<(), Fail> {
+    let input: &[u8] = b"ERin\x1bYZ=HKYZ=\x1b\x1b";
+    let rows: [(usize, &[u8]); 2] = [(4095, b"4095\r\n1\r\n"), (4096, b"4096\r\n1\r\n")];
+    for (many, written) in rows {
+        let bytes = match behind_many(rt.alloc(), many, b"\x0cb") {
+            Ok(bytes) => bytes,
+            Err(_) => behind_many(rt.alloc(), many, b"\x0cb")?,
+        };
+        for piece in [1, 4096] {
+            let moves = in_pieces(piece);
+            let (_, ran) = run_files_steady(
+                rt.alloc(),
+                Store::Gap,
+                moves,
+                (&bytes, None),
+                (input, written),
+            )?;
+            assert_eq!(rt; ran.written.as_slice(), written, "{many}, by {piece}");
+        }
+    }
+    Ok(())
+}
+
+// The first of a text, and many characters `a`.
+fn ahead_of_many(alloc: Global, start: &[u8], many: usize) -> Result<Vec<u8>, AllocError> {
+    let mut bytes: Vec<u8> = Vec::new(alloc);
+    bytes.extend_from_slice(start)?;
+    let len = bytes.len().saturating_add(many);
+    bytes.resize(len, b'a')?;
+    Ok(bytes)
+}
+
+// No more is read than what the page needs, so a fault behind it does not come.
+#[test]
+fn a_page_is_read_no_further(rt: HostRuntime) -> Result<(), Fail> {
+    let bytes = match ahead_of_many(rt.alloc(), b"ab\x0c", 5000) {
+        Ok(bytes) => bytes,
+        Err(_) => ahead_of_many(rt.alloc(), b"ab\x0c", 5000)?,
+    };
+    let moves = Moves {
+        piece: 4096,
+        call: HostCall::Read,
+        nth: 2,
+    };
+    for store in STORES {
+        let example: (&[u8], &[u8]) = (b"ERin\x1bYHT\x1b\x1b", b"ab");
+        let (_, ran) = run_files_steady(rt.alloc(), store, moves, (&bytes, None), example)?;
+        assert_eq!(rt; ran.outcome, "done");
+        assert_eq!(rt; ran.written.as_slice(), b"ab".as_slice());
     }
     Ok(())
 }
@@ -257,8 +369,22 @@ fn is_cut_short(written: &[u8], typed: &[u8], line: &[u8]) -> bool {
     }
 }
 
-// Runs the session of a row, where a call of the host fails and a file `out` is there already. What is written is a part and a
-// code, and the file is as it was; or there are fewer calls of that kind, and all is as the row says.
+// Is what is written a part and a code, and the file `out` as it was? Or there are fewer calls of that kind, and all is as the
+// row says.
+fn fails_well(host: &TestHost, ran: &Ran, row: FileRow, call: HostCall) -> bool {
+    let (bytes, _, typed, _, out) = row;
+    let mem = host.mem();
+    let is_kept = mem.file(b"in") == Some(bytes);
+    if ran.outcome == "coded" {
+        let is_old = mem.file(b"out") == Some(b"old".as_slice());
+        is_kept && is_old && is_cut_short(&ran.written, typed, line_of(call))
+    } else {
+        is_kept && ran.written.as_slice() == typed && mem.file(b"out") == out
+    }
+}
+
+// Runs the session of a row where a call of the host fails and a file `out` is there already, once more where a growth may
+// have been refused.
 fn expect_failure(
     rt: &impl Abort,
     alloc: Global,
@@ -269,33 +395,16 @@ fn expect_failure(
 ) -> Result<(), AllocError>
     requires { 0 < piece }
 {
-    let (bytes, input, typed, _, out) = row;
-    let mut mem = host_with(alloc, bytes)?;
-    mem.put(b"out", b"old")?;
-    let mut host = TestHost::new(mem, piece, call, nth);
-    let mut machine = Machine::new(alloc, VecText::new(alloc));
-    let mut reader = input;
-    let mut writer = Vec::new(alloc);
-    let done = session(
-        alloc,
-        &mut machine,
-        &mut reader,
-        &mut writer,
-        &mut host,
-        LIMIT,
-    );
-    if word(done) == "coded" {
-        assert!(rt; is_cut_short(&writer, typed, line_of(call)), "call {nth}");
-        assert_eq!(rt;
-            host.mem().file(b"out"),
-            Some(b"old".as_slice()),
-            "call {nth}"
-        );
-    } else {
-        assert_eq!(rt; writer.as_slice(), typed, "call {nth}");
-        assert_eq!(rt; host.mem().file(b"out"), out, "call {nth}");
+    let moves = Moves { piece, call, nth };
+    let files = (row.0, Some(b"old".as_slice()));
+    let is_well = match run_files(alloc, Store::Gap, moves, files, row.1) {
+        Ok((host, ran)) => fails_well(&host, &ran, row, call),
+        Err(_) => false,
+    };
+    if !is_well {
+        let (host, ran) = run_files(alloc, Store::Gap, moves, files, row.1)?;
+        assert!(rt; fails_well(&host, &ran, row, call), "call {nth}");
     }
-    assert_eq!(rt; host.mem().file(b"in"), Some(bytes), "call {nth}");
     Ok(())
 }
 

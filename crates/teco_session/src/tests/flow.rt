@@ -1,4 +1,4 @@
-use super::{LIMIT, Row, expect_row};
+use super::trial::{Row, STEPS, expect_row};
 
 /// Sessions with iterations.
 const ITERATIONS: [Row; 13] = [
@@ -222,11 +222,11 @@ fn flow(rt: HostRuntime) {
     ];
     for table in tables {
         for (i, row) in table.iter().enumerate() {
-            expect_row(&rt, rt.alloc(), LIMIT, *row, "done", i);
+            expect_row(&rt, rt.alloc(), STEPS, *row, "done", i);
         }
     }
     for (i, row) in REFUSED.iter().enumerate() {
-        expect_row(&rt, rt.alloc(), LIMIT, *row, "coded", i);
+        expect_row(&rt, rt.alloc(), STEPS, *row, "coded", i);
     }
 }
 

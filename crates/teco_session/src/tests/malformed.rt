@@ -1,11 +1,7 @@
-use super::{LIMIT, Row, expect_row, word};
-use crate::session;
+use super::trial::{Given, Row, STEPS, STORES, expect_row, run_steady};
 use std::alloc::{AllocError, Global};
 use std::process::Abort;
 use std::test::Fail;
-use teco_pages::MemHost;
-use teco_run::Machine;
-use teco_text::VecText;
 
 /// Sessions in which what is skipped has faults, or brackets inside texts.
 const SKIPPED_FAULTS: [Row; 11] = [
@@ -64,11 +60,11 @@ fn faults_and_brackets(rt: HostRuntime) {
     let tables: [&[Row]; 2] = [&SKIPPED_FAULTS, &UNBALANCED];
     for table in tables {
         for (i, row) in table.iter().enumerate() {
-            expect_row(&rt, rt.alloc(), LIMIT, *row, "done", i);
+            expect_row(&rt, rt.alloc(), STEPS, *row, "done", i);
         }
     }
     for (i, row) in REFUSED.iter().enumerate() {
-        expect_row(&rt, rt.alloc(), LIMIT, *row, "coded", i);
+        expect_row(&rt, rt.alloc(), STEPS, *row, "coded", i);
     }
 }
 
@@ -121,21 +117,15 @@ const NESTED: [Nest; 10] = [
 
 fn expect_nest(rt: &impl Abort, alloc: Global, nest: Nest, number: usize) -> Result<(), Fail> {
     let (open, inside, close, end, written, outcome) = nest;
-    let input = nested(alloc, open, inside, close, end)?;
-    let mut machine = Machine::new(alloc, VecText::new(alloc));
-    let mut reader = input.as_slice();
-    let mut writer = Vec::new(alloc);
-    let mut host = MemHost::new(alloc);
-    let done = session(
-        alloc,
-        &mut machine,
-        &mut reader,
-        &mut writer,
-        &mut host,
-        LIMIT,
-    );
-    assert_eq!(rt; word(done), outcome, "row {number}");
-    assert_eq!(rt; writer.as_slice(), written, "row {number}");
+    let input = match nested(alloc, open, inside, close, end) {
+        Ok(input) => input,
+        Err(_) => nested(alloc, open, inside, close, end)?,
+    };
+    for store in STORES {
+        let ran = run_steady(alloc, store, Given::whole(&input), (b"", 0), written);
+        assert_eq!(rt; ran.outcome, outcome, "row {number}, {store:?}");
+        assert_eq!(rt; ran.written.as_slice(), written, "row {number}, {store:?}");
+    }
     Ok(())
 }
 

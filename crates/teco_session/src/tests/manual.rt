@@ -1,12 +1,6 @@
 //! The examples of the manual that no other table has, and the programs that it explains.
-use super::LIMIT;
-use crate::session;
-use std::alloc::Global;
+use super::trial::{Given, STORES, run_steady};
 use std::process::Abort;
-use std::test::Fail;
-use teco_pages::MemHost;
-use teco_run::Machine;
-use teco_text::VecText;
 
 /// An input, and what is written.
 type Example = (&'static [u8], &'static [u8]);
@@ -87,20 +81,10 @@ fn examples_of_the_manual(rt: HostRuntime) {
     let tables: [&[Example]; 5] = [&ARGUMENTS, &SEARCHES, &CONTROLS, &FLOW, &PROGRAMS];
     for table in tables {
         for (i, (input, written)) in table.iter().enumerate() {
-            let mut machine = Machine::new(rt.alloc(), VecText::new(rt.alloc()));
-            let mut reader = *input;
-            let mut writer = Vec::new(rt.alloc());
-            let mut host = MemHost::new(rt.alloc());
-            let done = session(
-                rt.alloc(),
-                &mut machine,
-                &mut reader,
-                &mut writer,
-                &mut host,
-                LIMIT,
-            );
-            assert!(rt; done.is_ok(), "example {i}");
-            assert_eq!(rt; writer.as_slice(), *written, "example {i}");
+            for store in STORES {
+                let ran = run_steady(rt.alloc(), store, Given::whole(input), (b"", 0), written);
+                assert_eq!(rt; ran.written.as_slice(), *written, "example {i}, {store:?}");
+            }
         }
     }
 }

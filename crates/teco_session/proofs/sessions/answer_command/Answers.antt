@@ -11,8 +11,8 @@ use Rattle.teco_session.specs.declared.strings.Piece.TheVariants as piece
 pub returns : goal.returns
 returns g c =
     let stop = c.run-stop.result in
-    Joined-typed (λ (old : World) (after : World). Stops (start c.args.bytes.now old) c.args.limit stop after)
-    (λ (old : World) (new : World). Answers c.args.limit piece.Command c.args.bytes.now old new (g.W.Write.contents c.args.writer.now) (g.W.Write.contents c.write_stop-line.new.writer) c.said.result)
+    Joined-typed (λ (old : World) (after : World). Stops (start c.args.bytes.now old) c.args.limits.steps stop after)
+    (λ (old : World) (new : World). Answers c.args.limits piece.Command c.args.bytes.now old new (g.W.Write.contents c.args.writer.now) (g.W.Write.contents c.write_stop-line.new.writer) c.said.result)
     c.args.machine.now c.run-stop.new.self c.write_stop-line.new.machine
     (g.H.Host.files c.args.host.now) (g.H.Host.files c.run-stop.new.host) c.write_stop-line.ensures.taken
     (λ (old : World) (after : World) same stops. record {

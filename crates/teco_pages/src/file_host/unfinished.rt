@@ -1,0 +1,203 @@
+// Outputs that are not closed yet.
+ghost use Rattle.std.specs.Prelude.{◌≤◌, ◌<◌, length, vec_len, IfOk};
+
+use super::descriptor::above_standard;
+use super::inheritance::inherit_owner;
+use super::size_limit::size_limit;
+use super::target::{Target, folder_of};
+use crate::fault::Failed;
+use std::alloc::Global;
+use std::fs::{Files, OpenFile, OpenOptions, Permissions};
+use std::io::Write;
+use std::os::unix::fs::{MetadataExt, OpenOptionsExt};
+use std::time::{Clock, Duration};
+use std::{fs, io, str};
+
+// How many names are tried. They begin at the time of day, so that files that killed runs left are not in the way.
+const TRIES: u64 = 1000;
+
+// Until a file that will replace another has that file's permissions, nobody else may read it.
+const PRIVATE: u32 = 0o600;
+
+// How many bytes of small writes are kept together.
+const KEPT: usize = 1 << 16;
+
+/// An output that is not closed yet: a new file beside its target.
+#[derive(Drop)]
+pub struct Unfinished<F: Drop> {
+    file: F,
+    // what was written and is not yet in the file, behind what was sent of it
+    kept: Vec<u8>,
+    sent: usize,
+    // where it is
+    beside: String,
+    // where it will be
+    target: String,
+    // what it will be given of the file that it replaces
+    permissions: Option<Permissions>,
+    // how many bytes the system still lets it take
+    room: u64,
+    ghost within: { sent ≤ vec_len kept },
+}
+
+impl<F: OpenFile + Write + Drop> Unfinished<F> {
+    /// Begins the output of a name, in the folder of its target.
+    pub fn begin<R: Files<File = F> + Clock>(
+        rt: &R,
+        alloc: Global,
+        name: &[u8],
+    ) -> Result<Unfinished<F>, Failed> {
+        let target = Target::of(rt, alloc, str::from_utf8(name)?)?;
+        let (file, beside) = make_beside(rt, alloc, &target)?;
+        let permissions = target
+            .replaced
+            .as_ref()
+            .map(|replaced| inherit_owner(rt, &beside, replaced));
+        Ok(Unfinished {
+            file,
+            kept: Vec::new(alloc),
+            sent: 0,
+            beside,
+            target: target.path,
+            permissions,
+            room: size_limit(rt),
+        })
+    }
+
+    /// Writes the first of some bytes, one at least of any.
+    pub fn write_some(&mut self, bytes: &[u8]) -> Result<usize, Failed>
+        ensures bound { IfOk result (λ n. n ≤ length bytes.now) }
+        ensures some { IfOk result (λ n. 0 < length bytes.now → 0 < n) }
+    {
+        let most = bytes
+            .len()
+            .min(usize::try_from(self.room).unwrap_or(usize::MAX));
+        if most == 0 && !bytes.is_empty() {
+            return Err(Failed);
+        }
+        let n = self.keep_or_send(&bytes[..most])?;
+        self.room = self.room.saturating_sub(n as u64);
+        Ok(n)
+    }
+
+    // Keeps bytes for later, or writes the first of them, one at least of any.
+    fn keep_or_send(&mut self, bytes: &[u8]) -> Result<usize, Failed>
+        ensures bound { IfOk result (λ n. n ≤ length bytes.now) }
+        ensures some { IfOk result (λ n. 0 < length bytes.now → 0 < n) }
+    {
+        if bytes.len() > KEPT.saturating_sub(self.kept.len()) {
+            self.send()?;
+        }
+        if bytes.len() < KEPT {
+            self.kept.extend_from_slice(bytes)?;
+            return Ok(bytes.len());
+        }
+        match self.file.write(bytes)? {
+            0 => Err(Failed),
+            n => Ok(n),
+        }
+    }
+
+    // Writes what was kept. What a failure leaves of it is kept on.
+    fn send(&mut self) -> Result<(), Failed> {
+        for _ in 0..u64::MAX {
+            if self.sent == self.kept.len() {
+                break;
+            }
+            match self.file.write(&self.kept[self.sent..])? {
+                0 => return Err(Failed),
+                n => self.sent += n,
+            }
+        }
+        self.sent = 0;
+        self.kept.clear();
+        Ok(())
+    }
+
+    // Gives it the permissions of the file that it replaces. Where they are refused nobody else may read it.
+    fn give_permissions(&mut self) {
+        if let Some(permissions) = self.permissions.take() {
+            let _given = self.file.set_permissions(permissions);
+        }
+    }
+
+    /// Moves it over its target, or removes it.
+    pub fn finish<R: Files>(mut self, rt: &R) -> Result<(), Failed> {
+        let is_written = self.send().is_ok();
+        self.give_permissions();
+        if is_written
+            && self.file.sync_all().is_ok()
+            && self.is_in_place(rt)
+            && fs::rename(rt, &self.beside, &self.target).is_ok()
+        {
+            // the name is there, and may only be lost with the power
+            let _synced = sync_folder(rt, &self.target);
+            return Ok(());
+        }
+        self.abandon(rt)?;
+        Err(Failed)
+    }
+
+    /// Removes it.
+    pub fn abandon<R: Files>(self, rt: &R) -> io::Result<()> {
+        if self.is_in_place(rt) {
+            fs::remove_file(rt, &self.beside)
+        } else {
+            Ok(())
+        }
+    }
+
+    // Is what has its name still the file that was written? Another may have taken the name.
+    fn is_in_place<R: Files>(&self, rt: &R) -> bool {
+        match (self.file.metadata(), fs::symlink_metadata(rt, &self.beside)) {
+            (Ok(written), Ok(named)) => {
+                written.dev() == named.dev() && written.ino() == named.ino()
+            }
+            _ => false,
+        }
+    }
+}
+
+// Makes a file in the target's folder, under a name that no file has.
+fn make_beside<R: Files + Clock>(
+    rt: &R,
+    alloc: Global,
+    target: &Target,
+) -> Result<(R::File, String), Failed> {
+    let mut options = OpenOptions::new();
+    options.write(true).create_new(true);
+    if target.replaced.is_some() {
+        options.mode(PRIVATE);
+    }
+    let first = stamp(rt);
+    for n in 0..TRIES {
+        let beside = name_beside(alloc, &target.path, first.wrapping_add(n))?;
+        match options.open(rt, &beside) {
+            Ok(file) => return Ok((above_standard(file)?, beside)),
+            Err(e) if e.kind() == io::ErrorKind::AlreadyExists => {}
+            Err(_) => return Err(Failed),
+        }
+    }
+    Err(Failed)
+}
+
+// A number that was hardly given before: the time of day.
+fn stamp<R: Clock>(rt: &R) -> u64 {
+    let now = rt.since_1970().unwrap_or(Duration::ZERO);
+    now.as_secs()
+        .wrapping_mul(1_000_000_000)
+        .wrapping_add(u64::from(now.subsec_nanos()))
+}
+
+// The name of a number in the folder of a path.
+fn name_beside(alloc: Global, path: &str, n: u64) -> Result<String, Failed> {
+    match path.rsplit_once('/') {
+        Some((folder, _)) => Ok(format!(in alloc; "{folder}/.somleut-{n:x}")?),
+        None => Ok(format!(in alloc; ".somleut-{n:x}")?),
+    }
+}
+
+// Makes the names in the folder of a path last.
+fn sync_folder<R: Files>(rt: &R, path: &str) -> io::Result<()> {
+    fs::open(rt, folder_of(path))?.sync_all()
+}
