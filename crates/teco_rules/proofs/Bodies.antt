@@ -7,20 +7,23 @@ use Rattle.std.proofs.Math.Nat.{mul-le-mul}
 use Rattle.std.proofs.lemmas.Int.{ints}
 use Rattle.teco_base.specs.declared.TheConstants.{REGISTERS}
 use Rattle.teco_model.specs.Registers.{Pair, empty_pair}
+use Rattle.teco_model.specs.State.{Kept}
 use Rattle.teco_poly.proofs.Lawful.{values_compare, value_of_difference, value_of_product, value_of_one_less, value_of_sum, values_of_constants}
 use Rattle.teco_poly.specs.Polynomial.{Polynomial, value, variable, sub, mul, add, one_less}
+use Rattle.teco_rules.proofs.Asking.{interval_value}
 use Rattle.teco_rules.proofs.Numbers.{any_within}
 use Rattle.teco_rules.proofs.Covering.{and_both, each_covered, interval_covered, length_covered, pushed_covered, saved_covered, le_holds}
 use Rattle.teco_rules.proofs.Each.{each_length, all_at}
 use Rattle.teco_rules.proofs.Near.{empty_whole}
 use Rattle.teco_rules.proofs.Saved.{none_are, saved_after_are, unsaved_are}
+use Rattle.teco_rules.specs.Argument.{ArgumentRange, IsInRange}
 use Rattle.teco_rules.specs.Attempt.{◌>>=◌}
 use Rattle.teco_rules.specs.Bodies.{Choice, unknown_where, fall_if, has_own_fall, own_fall, keeps, held_last, is_within}
 use Rattle.teco_rules.specs.Covers.{covers_interval, covers_length}
-use Rattle.teco_rules.specs.Describes.{IsWholePair, AreEach, HasFallen, fore_of, back_of}
-use Rattle.teco_rules.specs.Facts.{Position, Facts, sum_of}
+use Rattle.teco_rules.specs.Describes.{IsWhole, IsWholePair, AreEach, HasFallen, Holds, fore_of, back_of}
+use Rattle.teco_rules.specs.Facts.{Position, Facts, entry_facts, sum_of}
 use Rattle.teco_rules.specs.Flows.{entering}
-use Rattle.teco_rules.specs.Laws.{BodyStartsAreSound, IsCarried, ReturnsAreSound, TurnsFall, HasRoom, RoomIsSound, EntryIsSound}
+use Rattle.teco_rules.specs.Laws.{BodyStartsAreSound, IsCarried, ReturnsAreSound, TurnsFall, HasRoom, RoomIsSound, IsEntry, EntryIsSound}
 use Rattle.teco_rules.specs.Values.{IsWithin, any_number}
 use Rattle.teco_rules.specs.declared.refusal.Refusal.TheVariants as refusal
 use Rattle.teco_rules.specs.declared.values.Interval.{Interval}
@@ -172,18 +175,39 @@ each_replicated P (suc k) x (pair ∷ pairs) l h = (h pair 0 refl, each_replicat
 each_replicated P zero x (pair ∷ pairs) l h = absurd (omega arith)
 each_replicated P (suc k) x [] l h = absurd (omega arith)
 
-pub entry_is_sound : EntryIsSound
-entry_is_sound n unread kept whole i =
+entry_holds : (n unread : ℕ) (kept : Kept) → IsWhole kept → IsEntry n unread kept → Holds (record { n = n; turns = []; below = kept.registers.stack }) entry_facts unread kept
+entry_holds n unread kept whole i =
     let all = (values_of_constants n 0).1 in record {
-      state = record {
-        position = record { begin = omega arith; end = omega arith; fallen = tt; ahead = omega (arith, all, i.held, whole.inside); saved = none_are (fore_of kept) (back_of kept) kept.registers.pairs whole.count };
-        held = omega (arith, all, i.held);
-        registers = record {
-          numbers = each_replicated (λ i (pair : Pair). IsWithin i pair.number) REGISTERS any_number kept.registers.pairs whole.count (λ pair r e. subst (λ (p : Pair). IsWithin any_number p.number) e (any_within _ (all_at IsWholePair kept.registers.pairs empty_pair whole.pairs empty_whole r).number));
-          texts = each_replicated (λ most (pair : Pair). length pair.text ≤ value most n) REGISTERS variable kept.registers.pairs whole.count (λ pair r e. subst (λ (p : Pair). length p.text ≤ value variable n) e (omega (arith, all, i.texts r)));
-        };
-        pushed = refl;
+      position = record { begin = omega arith; end = omega arith; fallen = tt; ahead = omega (arith, all, i.held, whole.inside); saved = none_are (fore_of kept) (back_of kept) kept.registers.pairs whole.count };
+      held = omega (arith, all, i.held);
+      registers = record {
+        numbers = each_replicated (λ i (pair : Pair). IsWithin i pair.number) REGISTERS any_number kept.registers.pairs whole.count (λ pair r e. subst (λ (p : Pair). IsWithin any_number p.number) e (any_within _ (all_at IsWholePair kept.registers.pairs empty_pair whole.pairs empty_whole r).number));
+        texts = each_replicated (λ most (pair : Pair). length pair.text ≤ value most n) REGISTERS variable kept.registers.pairs whole.count (λ pair r e. subst (λ (p : Pair). length p.text ≤ value variable n) e (omega (arith, all, i.texts r)));
       };
-      pending = record { level = record { first = tt; value = tt; operator = refl }; outer = tt };
-      answers = tt;
+      pushed = refl;
     }
+
+-- the argument, where one is given
+argument_within : (range : ArgumentRange) (n : ℕ) → IsInRange range n → IsWithin (record { lo = pos range.low; hi = pos range.high }) (pos n)
+argument_within range n i = record { low = omega (arith, ints, i.low); high = omega (arith, ints, i.high) }
+
+pub entry_is_sound : EntryIsSound
+entry_is_sound n unread kept None None whole i asked = record {
+  state = entry_holds n unread kept whole i;
+  pending = record { level = record { first = tt; value = tt; operator = refl }; outer = tt };
+  answers = tt;
+}
+entry_is_sound n unread kept (Some range) (Some given) whole i asked = record {
+  state = let h = entry_holds n unread kept whole i in record { position = h.position; held = h.held; registers = h.registers; pushed = h.pushed };
+  pending = record {
+    level = record {
+      first = tt;
+      value = interval_value (fore_of kept) (back_of kept) _ (pos given) (argument_within range given asked) (omega (arith, ints, asked.small));
+      operator = refl;
+    };
+    outer = tt;
+  };
+  answers = tt;
+}
+entry_is_sound n unread kept None (Some given) whole i asked = absurd (asked)
+entry_is_sound n unread kept (Some range) None whole i asked = absurd (asked)

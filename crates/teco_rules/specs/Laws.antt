@@ -13,7 +13,8 @@ use Rattle.teco_poly.specs.Polynomial.{Polynomial, value}
 use Rattle.teco_rules.specs.Bodies.{Choice, Changes, body_start, begins, returns, has_room}
 use Rattle.teco_rules.specs.Covers.{covers}
 use Rattle.teco_rules.specs.Describes.{Run, run_behind, run_in_turn, IsWhole, Holds, IsAnswer, Describes, AreEach, HasFallen, fore_of, back_of}
-use Rattle.teco_rules.specs.Facts.{Answer, Facts, entry_facts, without_arguments}
+use Rattle.teco_rules.specs.Argument.{ArgumentRange, IsAsked, arguments_given, facts_given}
+use Rattle.teco_rules.specs.Facts.{Answer, Facts, without_arguments}
 use Rattle.teco_rules.specs.Flows.{entering}
 use Rattle.teco_rules.specs.Joins.{joined}
 use Rattle.teco_rules.specs.Transfer.{Placed, transfer}
@@ -73,15 +74,17 @@ abbrev pub JoinsAreSound : Type 0
 JoinsAreSound =
     (facts others : Facts) → MayMeet facts others → IfOk (joined facts others) (MeetsBoth facts others)
 
--- At the entry no iteration is open, N holds all, and nothing is pending.
+-- At the entry no iteration is open, N holds all, and nothing is pending but the argument, where one is given.
 pub record IsEntry (n : ℕ) (unread : ℕ) (kept : Kept) : Type 0 where
   pub held : length kept.text + unread ≤ n
   pub texts : (r : ℕ) → length (pair_of r kept.registers).text ≤ n
 
 abbrev pub EntryIsSound : Type 0
 EntryIsSound =
-    (n unread : ℕ) (kept : Kept) → IsWhole kept → IsEntry n unread kept
-    → Describes (record { n = n; turns = []; below = kept.registers.stack }) entry_facts unread kept no_arguments
+    (n unread : ℕ) (kept : Kept) (range : Option ArgumentRange) (given : Option ℕ)
+    → IsWhole kept → IsEntry n unread kept → IsAsked range given
+    → Describes (record { n = n; turns = []; below = kept.registers.stack }) (facts_given range) unread kept
+    (arguments_given given)
 
 -- what enters a body from what is known before its <
 abbrev pub entered : Bool → Facts → Facts

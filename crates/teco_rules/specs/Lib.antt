@@ -3,6 +3,7 @@ pub mod Attempt
 pub mod Values
 pub mod Arguments
 pub mod Facts
+pub mod Argument
 pub mod Shifts
 pub mod Motions
 pub mod Deletions
