@@ -1,6 +1,6 @@
 -- The argument that the entry of a library may be declared to take.
-use Rattle.std.specs.Prelude.{ℕ, pos, ◌<◌, ◌≤◌, ◌^◌, ⊤, Bool, ◌&&◌, nat_le, nat_lt, Option, Some, None}
-use Rattle.teco_model.specs.Arguments.{Arguments, no_arguments as nothing, empty_level as empty}
+use Rattle.std.specs.Prelude.{ℕ, pos, ◌<◌, ◌≤◌, ◌^◌, ⊤, Bool, ◌&&◌, nat_le, nat_lt, Option, Some, None, option_map}
+use Rattle.teco_model.specs.Arguments.{Arguments, levels_after_answer, no_arguments as nothing}
 use Rattle.teco_rules.specs.Arguments.{KnownArguments, no_arguments, empty_level}
 use Rattle.teco_rules.specs.Facts.{Facts, entry_facts, with_arguments}
 use Rattle.teco_rules.specs.Values.{value_in}
@@ -32,8 +32,7 @@ IsAsked (Some range) None = ⊥
 
 -- what is pending where it is given
 abbrev pub arguments_given : Option ℕ → Arguments
-arguments_given None = nothing
-arguments_given (Some n) = record nothing { level = record empty { value = Some (pos n) } }
+arguments_given given = levels_after_answer (option_map pos given) nothing
 
 -- what is known of it
 abbrev pub known_in : ArgumentRange → KnownArguments

@@ -175,7 +175,7 @@ module _ (library : Library) (entry : ℕ) (nodes : List Node) (table : Table) (
     loaded = loaded;
     whole = whole;
     opened = subst (λ begins. AreOpened table n begins [] []) (sym none_open) tt;
-    described = covers_are_sound (run_at n world.kept.registers.stack []) one.facts entry_facts (unread_of world) world.kept no_arguments whole (and_both _ _ one.same).0 (entry_is_sound n (unread_of world) world.kept whole entering);
+    described = covers_are_sound (run_at n world.kept.registers.stack []) one.facts entry_facts (unread_of world) world.kept no_arguments whole (and_both _ _ one.same).0 (entry_is_sound n (unread_of world) world.kept None None whole entering tt);
   }
 
   abbrev zeroth : Shown
