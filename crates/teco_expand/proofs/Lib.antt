@@ -13,3 +13,4 @@ mod Runs
 mod Ends
 mod Places
 mod Worked
+mod Alike

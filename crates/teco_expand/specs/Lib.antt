@@ -17,4 +17,5 @@ pub mod Places
 pub mod Ends
 pub mod Leading
 pub mod Run
+pub mod Alike
 pub mod Rows

@@ -1,4 +1,5 @@
 //! Laws of expansions.
+ghost use Rattle.teco_expand.specs.Alike.{ReadingsAreAlike, RunsAreAlike, StepsAreAlike};
 ghost use Rattle.teco_expand.specs.Ends.{IterationsEnd, LeftHaveEnded};
 ghost use Rattle.teco_expand.specs.Iterations.{IterationsAreOpen};
 ghost use Rattle.teco_expand.specs.Leading.{WaysLead};
@@ -87,4 +88,19 @@ pub fn runs_come_to_nodes()
 /// Where a run stands at the end, the next step is the end of the command string.
 pub fn runs_end()
     ensures { RunsEnd }
+{}
+
+/// States that differ in the text of the command string alone, which only waits or calls, step to such.
+pub fn steps_are_alike()
+    ensures { StepsAreAlike }
+{}
+
+/// So do their runs.
+pub fn runs_are_alike()
+    ensures { RunsAreAlike }
+{}
+
+/// They read elements of the same kind.
+pub fn readings_are_alike()
+    ensures { ReadingsAreAlike }
 {}
