@@ -14,3 +14,4 @@ mod Ends
 mod Places
 mod Worked
 mod Alike
+mod Given

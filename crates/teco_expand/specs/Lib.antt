@@ -18,4 +18,5 @@ pub mod Ends
 pub mod Leading
 pub mod Run
 pub mod Alike
+pub mod Given
 pub mod Rows

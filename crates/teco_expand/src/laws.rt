@@ -1,6 +1,7 @@
 //! Laws of expansions.
 ghost use Rattle.teco_expand.specs.Alike.{ReadingsAreAlike, RunsAreAlike, StepsAreAlike};
 ghost use Rattle.teco_expand.specs.Ends.{IterationsEnd, LeftHaveEnded};
+ghost use Rattle.teco_expand.specs.Given.{NumbersArePending};
 ghost use Rattle.teco_expand.specs.Iterations.{IterationsAreOpen};
 ghost use Rattle.teco_expand.specs.Leading.{WaysLead};
 ghost use Rattle.teco_expand.specs.Linked.{ExpansionsAreLinked, ExpansionsAreSmall, NodesAreSound, NodesHaveTexts};
@@ -103,4 +104,9 @@ pub fn runs_are_alike()
 /// They read elements of the same kind.
 pub fn readings_are_alike()
     ensures { ReadingsAreAlike }
+{}
+
+/// A number before a call is like one that is pending.
+pub fn numbers_are_pending()
+    ensures { NumbersArePending }
 {}
