@@ -19,13 +19,20 @@ use teco_verify::{Library, Refusal, Verified, check_certificate, verify};
 // A library, a command string before its macro A, the steps of that macro, and the text that it leaves.
 type Row = (&'static [u8], &'static [u8], u64, &'static [u8]);
 
-const RUNS: [Row; 6] = [
+const RUNS: [Row; 8] = [
     (
         b"@^UA/J<Sfoo\x1b;I!\x1b>/",
         b"Ifoofoo\x1b\x1b\x1b",
         14,
         b"foo!foo!",
     ),
+    (
+        b"@^UA/J<Sfoo\x1b;0A-33\"EF>'I!\x1b>/",
+        b"Ifoo!foo\x1b\x1b\x1b",
+        24,
+        b"foo!foo!",
+    ),
+    (b"@^UA/.UBIx\x1bQBJ/", b"\x1b\x1b", 7, b"x"),
     (b"@^UA/.-Z\"LC'/", b"\x1b\x1b", 6, b""),
     (b"@^UA/3<.=>/", b"\x1b\x1b", 13, b""),
     (b"@^UA/HXBGB/", b"Iab\x1bJ\x1b\x1b", 5, b"abab"),

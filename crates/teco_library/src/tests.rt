@@ -39,7 +39,10 @@ const LIBRARIES: [(&[u8], &[Given]); 14] = [
 ];
 
 /// The place is that of the first element that is not allowed.
-const NO_LIBRARIES: [(&[u8], usize); 26] = [
+const NO_LIBRARIES: [(&[u8], usize); 29] = [
+    (b"1@^UA/J/", 0),
+    (b"@\x15A/J/@\x15A/J/", 6),
+    (b"@^UA/J", 0),
     (b"^UAx\x1b^UAx\x1b", 5),
     (b"^UA\x1b ^Ua\x1b", 5),
     (b"^UA\x1b!A!^UB\x1b@^UA//J", 11),

@@ -189,6 +189,23 @@ fn other_lines_are_refused(rt: HostRuntime) -> Result<(), Fail> {
     Ok(())
 }
 
+// What is held would pass 64 bits with one character: the promise is for no text but the empty one.
+#[test]
+fn a_size_that_no_text_has(rt: HostRuntime) -> Result<(), Fail> {
+    let alloc = rt.alloc();
+    let library = library_of(&rt, alloc, MARK);
+    let text =
+        b"TECO-CERT 1\nentry A\nneeds -\ncommands 8 + 4*N\nsize 1 + 18446744073709551615*N\nloop 3 held 18446744073709551615*N kept texts -\nend\n";
+    match checked(&rt, alloc, &library, text) {
+        Ok(verified) => {
+            assert_eq!(rt; verified.size().at(0), Some(1));
+            assert_eq!(rt; verified.size().at(1), None);
+        }
+        Err(_) => panic!(rt; "accepted"),
+    }
+    Ok(())
+}
+
 #[test]
 fn other_choices_have_their_own_numbers(rt: HostRuntime) -> Result<(), Fail> {
     let alloc = rt.alloc();

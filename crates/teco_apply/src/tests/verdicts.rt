@@ -6,7 +6,7 @@ use teco_base::bytes::ESC;
 /// As many motions as an expansion may have beside the call and its return.
 const MOTIONS: usize = 4094;
 
-const ACCEPTED: [(&[u8], &str); 6] = [
+const ACCEPTED: [(&[u8], &str); 8] = [
     (
         b"@^UA//",
         "TECO-CERT 1\nentry A\nneeds -\ncommands 2\nsize N\nend\n",
@@ -23,6 +23,14 @@ const ACCEPTED: [(&[u8], &str); 6] = [
         b"@^UA/3<J>/",
         "TECO-CERT 1\nentry A\nneeds -\ncommands 10\nsize N\nloop 3 held N lost texts -\nend\n",
     ),
+    (
+        b"@^UA/J<Sfoo\x1b;0A-33\"EF>'I!\x1b>/",
+        "TECO-CERT 1\nentry A\nneeds -\ncommands 14 + 10*N\nsize 1 + 2*N\nloop 3 held 2*N kept texts -\nend\n",
+    ),
+    (
+        b"@^UA/.UBIx\x1bQBJ/",
+        "TECO-CERT 1\nentry A\nneeds -\ncommands 7\nsize 1 + N\nend\n",
+    ),
     // six open iterations, and six open calls
     (
         b"@^UA/1<1<1<1<1<1<>>>>>>/",
@@ -35,7 +43,7 @@ const ACCEPTED: [(&[u8], &str); 6] = [
 ];
 
 /// A library, the reason, and the register and the place of the element.
-const REFUSED: [(&[u8], &str, u8, usize); 17] = [
+const REFUSED: [(&[u8], &str, u8, usize); 19] = [
     (b"@^UA/J?/", "X2", b'A', 1),
     (b"@^UA/Ifoo/", "X2", b'A', 0),
     (b"@^UA/5U?/", "X2", b'A', 1),
@@ -43,10 +51,12 @@ const REFUSED: [(&[u8], &str, u8, usize); 17] = [
     (b"@^UA/\x00\xff\x80/", "X2", b'A', 0),
     (b"@^UA/3<.-Z\"L>'/", "X3", b'A', 5),
     (b"@^UA/.-Z\"L3<'>/", "X3", b'A', 3),
+    (b"@^UA/0\"E1<F'>'/", "X3", b'A', 5),
     (b"@^UA/QB\"E5'=/", "X5", b'A', 6),
     (b"@^UA/.-Z\"L2'/", "X5", b'A', 7),
     (b"@^UA/2+(5<>)/", "X5", b'A', 4),
     (b"@^UA/Iab\x1b::Sx\x1b\"U2C'/", "X6", b'A', 12),
+    (b"@^UA/.UB0KQBJ/", "X6", b'A', 7),
     (b"@^UA/D/", "X7", b'A', 0),
     (b"@^UA/-D/", "X7", b'A', 1),
     (b"@^UA/J<Sab\x1b;D>/", "X7", b'A', 7),
