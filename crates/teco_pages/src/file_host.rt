@@ -4,6 +4,7 @@ ghost use Rattle.teco_base.specs.declared.TheConstants.{LIMIT};
 
 mod descriptor;
 mod inheritance;
+mod links;
 mod size_limit;
 mod source;
 mod target;
@@ -26,7 +27,7 @@ use teco_base::LIMIT;
 /// target: whole, and in one move. It has the owner, the group and the permissions of a file that it will replace, as
 /// far as the system lets it; where it does not, the set-id bits go. A target that leads by links to a regular file is
 /// that file; any other that exists and is no regular file is refused when the output is opened, as is one in a folder
-/// that cannot be written. Where an output is dropped, and where the host is dropped with one open, the new file is
+/// that cannot be written, and one that leads to a file that a process has open, as `/dev/stdout` does. Where an output is dropped, and where the host is dropped with one open, the new file is
 /// removed; one that another file has taken the place of is neither moved nor removed. A write past the system's limit
 /// on the size of files fails. A name that is no UTF-8 opens nothing, and no file keeps the descriptor of a standard
 /// stream, which may be closed.

@@ -1,6 +1,6 @@
 -- A polynomial in N is the list of its coefficients: that of the constant, that of N, that of N^2 and so on. Behind the
 -- end of the list each coefficient is 0.
-use Rattle.std.specs.Prelude.{ℕ, zero, suc, ◌+◌, ◌-◌, ◌*◌, ◌^◌, max, Bool, true, ◌&&◌, ◌==◌, nat_lt, nat_le, if◌then◌else◌, List, [], ◌∷◌, drop, Option, Some, None}
+use Rattle.std.specs.Prelude.{ℕ, zero, suc, ◌+◌, ◌<◌, ◌≤◌, ◌-◌, ◌*◌, ◌^◌, max, Bool, true, ◌&&◌, ◌==◌, nat_lt, nat_le, if◌then◌else◌, List, [], ◌∷◌, drop, Option, Some, None}
 use Rattle.std.specs.List.{list_all}
 use Rattle.teco_poly.specs.declared.coefficients.TheConstants.{COEFFICIENTS}
 
@@ -97,3 +97,9 @@ number n = first COEFFICIENTS (n ∷ [])
 
 abbrev pub variable : Polynomial
 variable = first COEFFICIENTS (0 ∷ 1 ∷ [])
+
+-- the greatest number of 64 bits at which the value is at most a bound: it is above the bound at each greater one
+pub record IsGreatest (p : Polynomial) (bound n : ℕ) : Type 0 where
+  pub fits : n < 2 ^ 64
+  pub within : value p n ≤ bound
+  pub above : (m : ℕ) → n < m → m < 2 ^ 64 → bound < value p m

@@ -1,5 +1,5 @@
 //! Polynomials and their arithmetic.
-ghost use Rattle.std.specs.Prelude.{◌≡◌, ℕ, List, IsSome, IfSome, IfOk};
+ghost use Rattle.std.specs.Prelude.{◌≡◌, ◌<◌, ℕ, List, nat_le, IsSome, IfSome, IfOk, None};
 ghost use Rattle.std.specs.String.{string_bytes};
 ghost use Rattle.teco_poly.specs.Polynomial as poly;
 ghost use Rattle.teco_poly.specs.Reading.{IsPoly};
@@ -92,6 +92,35 @@ impl Poly {
         ensures { result ≡ poly.at self.now n }
     {
         coefficients::value(&self.coefficients, n)
+    }
+
+    /// The greatest `n` of 64 bits at which the value is at most `bound`, `u64::MAX` where it is at each of them; `None` where
+    /// it is at none. It takes 64 values.
+    pub fn greatest_within(&self, bound: u64) -> Option<u64>
+        ensures greatest { IfSome result (λ n. poly.IsGreatest self.now bound n) }
+        ensures none { result ≡ None → (n : ℕ) → bound < poly.value self.now n }
+    {
+        if !self.is_within(0, bound) {
+            return None;
+        }
+        let mut greatest = 0u64;
+        for bit in (0..u64::BITS).rev() {
+            match greatest.checked_add(1 << bit) {
+                Some(next) if self.is_within(next, bound) => greatest = next,
+                _ => {}
+            }
+        }
+        Some(greatest)
+    }
+
+    // Whether the value at `n` is at most `bound`.
+    fn is_within(&self, n: u64, bound: u64) -> bool
+        ensures { result ≡ nat_le (poly.value self.now n) bound }
+    {
+        match self.at(n) {
+            Some(value) => value <= bound,
+            None => false,
+        }
     }
 
     /// Whether no coefficient is above that of `other`.

@@ -177,3 +177,26 @@ fn compares_and_joins(rt: HostRuntime) {
         );
     }
 }
+
+// A constant is within a bound everywhere or nowhere; the size of a macro that triples what is held, and its square.
+#[test]
+fn greatest_is_within(rt: HostRuntime) {
+    for (coefficients, bound, greatest) in [
+        (&[7][..], 7, Some(u64::MAX)),
+        (&[8], 7, None),
+        (&[0], 0, Some(u64::MAX)),
+        (&[0, 1], u64::MAX, Some(u64::MAX)),
+        (&[1, 3], 10, Some(3)),
+        (&[1, 3], 9, Some(2)),
+        (&[1, 3], 1, Some(0)),
+        (&[0, u64::MAX], 268_435_456, Some(0)),
+        (&[7, 5, 1], 268_435_456, Some(16_381)),
+        (&[0, 0, 0, 0, 0, 0, 0, 0, 1], u64::MAX, Some(255)),
+    ] {
+        let built = poly(coefficients);
+        assert!(rt; built.is_some());
+        if let Some(built) = built {
+            assert_eq!(rt; built.greatest_within(bound), greatest);
+        }
+    }
+}

@@ -1,4 +1,5 @@
 // Where an output will be.
+use super::links::leads_to_open_file;
 use crate::fault::Failed;
 use std::alloc::Global;
 use std::fs::{Files, Metadata};
@@ -13,9 +14,10 @@ pub struct Target {
 
 impl Target {
     /// Finds where the output of a name will be. A name that leads by links to a regular file is that file's; what
-    /// exists and is no regular file is refused.
+    /// exists and is no regular file is refused, and what leads to a file that a process has open.
     pub fn of<R: Files>(rt: &R, alloc: Global, name: &str) -> Result<Target, Failed> {
         let path = match fs::symlink_metadata(rt, name) {
+            Ok(_) if leads_to_open_file(rt, alloc, name)? => return Err(Failed),
             Ok(metadata) if metadata.is_symlink() => rt.canonicalize(alloc, name)?.into_string(),
             Ok(_) => String::from_str(alloc, name)?,
             Err(e) if e.kind() == io::ErrorKind::NotFound => return Target::new(alloc, name),

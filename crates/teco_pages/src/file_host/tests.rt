@@ -114,12 +114,18 @@ fn targets_that_are_refused(rt: HostRuntime) -> Result<(), Fail> {
     fs::create_dir(&rt, "somleut_test_refused/folder")?;
     symlink(&rt, "nowhere", "somleut_test_refused/dangling")?;
     let mut host = host(&rt);
-    let names_of_none: [&[u8]; 8] = [
+    symlink(&rt, "../somleut_test_refused/again", "somleut_test_refused/typed")?;
+    symlink(&rt, "/proc/self/fd/1", "somleut_test_refused/again")?;
+    let names_of_none: [&[u8]; 12] = [
         b"somleut_test_refused/folder",
         b"somleut_test_refused/folder/",
         b"somleut_test_refused/missing/out",
         b"somleut_test_refused/dangling",
         b"/dev/full",
+        b"/dev/stdout",
+        b"/dev/fd/1",
+        b"/proc/self/../self/fd/1",
+        b"somleut_test_refused/typed",
         b"somleut_test_refused/o\xffut",
         b"somleut_test_refused/o\0ut",
         b"",
@@ -135,7 +141,7 @@ fn targets_that_are_refused(rt: HostRuntime) -> Result<(), Fail> {
     ] {
         assert!(rt; host.open_in(name).is_err(), "{name:?}");
     }
-    assert_eq!(rt; names(&rt, "somleut_test_refused")?, 2);
+    assert_eq!(rt; names(&rt, "somleut_test_refused")?, 4);
     Ok(remove(&rt, "somleut_test_refused")?)
 }
 
