@@ -1,5 +1,6 @@
 //! A try at the choice for the body of an iteration.
 
+use crate::memo::{Body, Memo};
 use crate::unfit::Unfit;
 use std::alloc::Global;
 use teco_certificate::LoopLine;
@@ -18,7 +19,7 @@ pub struct Attempt {
     pub begin: usize,
     /// The number of its `>`.
     pub end: usize,
-    /// How many edges were pending before its body.
+    /// How many edges came before its body.
     pub pending: usize,
     /// How many choices were found before its body.
     pub found: usize,
@@ -40,13 +41,7 @@ pub enum Verdict {
 
 impl Attempt {
     /// The first try: the iteration is kept, and no more is held than at its `<`.
-    pub fn first(
-        begin: usize,
-        end: usize,
-        turns: Poly,
-        changes: Changes,
-        entering: Facts,
-    ) -> Attempt {
+    pub fn first(begin: usize, body: &Body, turns: Poly, entering: Facts) -> Attempt {
         let choice = Choice {
             held: entering.held(),
             kept: true,
@@ -54,15 +49,24 @@ impl Attempt {
         };
         Attempt {
             begin,
-            end,
+            end: body.end,
             pending: 0,
             found: 0,
             tries: 1,
             turns,
-            changes,
+            changes: body.changes,
             entering,
             choice,
         }
+    }
+
+    /// The same, or the last try, where it was found before.
+    pub fn recalling(mut self, memo: &Memo) -> Result<Attempt, Unfit> {
+        if let Some(choice) = memo.choice(self.begin, &self.turns, &self.entering)? {
+            self.choice = choice;
+            self.tries = TRIES;
+        }
+        Ok(self)
     }
 
     /// The same, behind so many pending edges and found choices.
@@ -128,6 +132,14 @@ impl Attempt {
         self.tries += 1;
         self.choice = self.next_choice(end)?;
         Ok(Verdict::Again)
+    }
+
+    /// Keeps the choice, if it took more than one try.
+    pub fn keep(&self, memo: &mut Memo) -> Result<(), Unfit> {
+        if self.tries > 1 {
+            memo.keep(self.begin, self.turns, &self.entering, self.choice)?;
+        }
+        Ok(())
     }
 
     /// The choice, as a certificate has it.

@@ -4,6 +4,9 @@
 #![tactic(auto)]
 
 mod attempt;
+mod memo;
+mod named;
+mod pending;
 mod search;
 mod unfit;
 

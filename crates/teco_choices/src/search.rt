@@ -2,10 +2,12 @@
 ghost use Rattle.std.specs.Prelude.{◌<◌, ◌≤◌, length, IfOk};
 
 use crate::attempt::{Attempt, Verdict};
+use crate::memo::Memo;
+use crate::pending::Pending;
 use crate::unfit::Unfit;
 use std::alloc::Global;
 use teco_certificate::LoopLine;
-use teco_check::{along, are_kept, begins_iteration, begins_turn, changes_in, edges_at, end_of};
+use teco_check::{along, are_kept, begins_iteration, begins_turn, edges_at};
 use teco_facts::{Edges, Facts, turns};
 use teco_nodes::Nodes;
 use teco_rules::Refusal;
@@ -13,47 +15,43 @@ use teco_rules::Refusal;
 // How often the body of the innermost of six iterations may be passed: three times for each of them.
 const PASSES: u64 = 729;
 
-// An edge that leads to a node ahead.
-#[derive(Drop)]
-struct Arrival {
-    target: usize,
-    facts: Facts,
-}
-
 // A pass over the nodes, in their order, with what is tried for the iterations that are open.
 #[derive(Drop)]
 struct Search {
     alloc: Global,
     // what comes from the node before
     carried: Option<Facts>,
-    pending: Vec<Arrival>,
+    pending: Pending,
+    memo: Memo,
     attempts: Vec<Attempt>,
     found: Vec<LoopLine>,
 }
 
 impl Search {
-    // Nothing is passed.
-    fn new(alloc: Global) -> Search {
-        Search {
+    // None of so many nodes is passed.
+    fn new(alloc: Global, nodes: usize) -> Result<Search, Unfit> {
+        Ok(Search {
             alloc,
             carried: Some(Facts::entry(alloc)),
-            pending: Vec::new(alloc),
+            pending: Pending::new(alloc, nodes)?,
+            memo: Memo::new(alloc, nodes)?,
             attempts: Vec::new(alloc),
             found: Vec::new(alloc),
-        }
+        })
     }
 
     // What is known at a node, where edges lead to it.
     fn met(&mut self, number: usize) -> Result<Option<Facts>, Unfit> {
+        let mut arrived = self.pending.take(number)?;
         let mut known: Option<Facts> = None;
-        for arrival in &self.pending {
-            if arrival.target == number {
-                known = Some(joined(known, &arrival.facts, number)?);
+        for _ in 0..arrived.len() {
+            if let Some(facts) = arrived.pop() {
+                known = Some(joined(known, Box::into_inner(facts), number)?);
             }
         }
         match self.carried.take() {
             None => Ok(known),
-            Some(last) => Ok(Some(joined(known, &last, number)?)),
+            Some(last) => Ok(Some(joined(known, last, number)?)),
         }
     }
 
@@ -62,7 +60,7 @@ impl Search {
         if number < target && target - number == 1 && self.carried.is_none() {
             self.carried = Some(facts);
         } else {
-            self.pending.push(Arrival { target, facts })?;
+            self.pending.put(target, facts)?;
         }
         Ok(())
     }
@@ -76,12 +74,11 @@ impl Search {
         entering: Facts,
     ) -> Result<(), Unfit> {
         let turns = turns(facts).map_err(|why| Unfit::at(why, number))?;
-        let end = end_of(nodes, number);
-        let changes = changes_in(nodes, number);
-        let attempt = Attempt::first(number, end, turns, changes, entering).behind(
-            self.pending.len(),
-            self.found.len(),
-        );
+        self.memo.learn(nodes, number)?;
+        let body = self.memo.body(nodes, number);
+        let attempt = Attempt::first(number, &body, turns, entering)
+            .recalling(&self.memo)?
+            .behind(self.pending.len(), self.found.len());
         self.carried = Some(attempt.start()?);
         self.attempts.push(attempt)?;
         Ok(())
@@ -109,6 +106,7 @@ impl Search {
 
     // A choice is found; it stands before those for the iterations inside.
     fn settle(&mut self, attempt: &Attempt) -> Result<(), Unfit> {
+        attempt.keep(&mut self.memo)?;
         let line = attempt.line(self.alloc)?;
         self.found
             .insert(attempt.found.min(self.found.len()), line)?;
@@ -174,10 +172,10 @@ impl Search {
 }
 
 // What is known where another edge leads to a node.
-fn joined(known: Option<Facts>, more: &Facts, number: usize) -> Result<Facts, Unfit> {
+fn joined(known: Option<Facts>, more: Facts, number: usize) -> Result<Facts, Unfit> {
     match known {
-        None => Ok(more.copied()?),
-        Some(facts) => facts.joined(more).map_err(|why| Unfit::at(why, number)),
+        None => Ok(more),
+        Some(facts) => facts.joined(&more).map_err(|why| Unfit::at(why, number)),
     }
 }
 
@@ -185,7 +183,7 @@ fn joined(known: Option<Facts>, more: &Facts, number: usize) -> Result<Facts, Un
 ///
 /// The body of each iteration is passed at most three times for each pass of the one round it.
 pub fn choose(alloc: Global, nodes: &Nodes<'_>) -> Result<Vec<LoopLine>, Unfit> {
-    let mut search = Search::new(alloc);
+    let mut search = Search::new(alloc, nodes.len())?;
     let mut number = 1;
     for _ in 0..PASSES.saturating_mul(nodes.len() as u64) {
         if number > nodes.len() {
