@@ -1,7 +1,8 @@
-use Rattle.std.proofs.Common.{◌≡◌, [], ◌∷◌, ap, subst, ◌∙◌}
+use Rattle.std.proofs.Common.{◌≡◌, ◌<◌, [], ◌∷◌, ap, subst, ◌∙◌}
 use Rattle.teco_apply.proofs.Sure.{calls}
 use Rattle.teco_apply.specs.Sure.{MOST}
 use Rattle.teco_base.specs.Register.{register_name}
+use Rattle.teco_base.specs.declared.TheConstants.{REGISTERS}
 use Rattle.teco_expand.specs.Node.{call_of}
 use Rattle.teco_model.specs.Run.{Stops}
 use Rattle.teco_model.specs.State.{start}
@@ -21,6 +22,7 @@ returns-clause-calls g c =
       certified = c.is_certified.ensures;
       loaded = c.requires.loaded;
       whole = c.is_whole.ensures;
+      named = subst (λ r. r < REGISTERS) (c.index.ensures.value ∙ c.entry.ensures) c.index.ensures.within;
       call = subst AreBytes called c.are_bytes.ensures;
       input = c.requires.input;
       output = c.requires.output;
