@@ -1,0 +1,3 @@
+-- What sources say, and where the places of a file are for its reader.
+pub mod Source
+pub mod Places
