@@ -1,7 +1,8 @@
 //! The choices that were found, by the bodies and by what enters them.
 //!
-//! A choice depends on what is known of the registers that its body names, and not on the others: in these a body leaves
-//! what it finds. So a body that the tries of another iteration enter again is mostly passed once, and not tried again.
+//! A choice depends on what is known of the registers that its body names, and not on the others: in these a body
+//! leaves what it finds. So a body that the tries of another iteration enter again is mostly passed once, and not
+//! tried again.
 ghost use Rattle.std.specs.Prelude.{◌≡◌, length};
 ghost use Rattle.teco_base.specs.declared.TheConstants.{REGISTERS};
 

@@ -196,3 +196,6 @@ pub fn choose(alloc: Global, nodes: &Nodes<'_>) -> Result<Vec<LoopLine>, Unfit> 
     }
     Err(Unfit::at(Refusal::Bound, number))
 }
+
+#[cfg(test)]
+mod tests;
