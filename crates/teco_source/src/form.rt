@@ -102,7 +102,9 @@ impl Form {
         let mut before = 0;
         let mut left = place;
         for at in 0..source.len() {
-            let says = self.said_by(before, source[at], &source[at + 1..]).is_some();
+            let says = self
+                .said_by(before, source[at], &source[at + 1..])
+                .is_some();
             if says && left == 0 {
                 return at;
             }

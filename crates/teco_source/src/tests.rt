@@ -10,7 +10,11 @@ const TILDE: Form = Form::Marked(b'~');
 /// A form, a source, and the text that it says.
 const SOURCES: [(Form, &[u8], &[u8]); 9] = [
     (Form::Readable, b"", b""),
-    (Form::Readable, b"J<Sfoo$;I!$>$$", b"J<Sfoo\x1b;I!\x1b>\x1b\x1b"),
+    (
+        Form::Readable,
+        b"J<Sfoo$;I!$>$$",
+        b"J<Sfoo\x1b;I!\x1b>\x1b\x1b",
+    ),
     (Form::Readable, b"I^$5$", b"I$5\x1b"),
     (Form::Readable, b"^^$$", b"^$\x1b"),
     (Form::Readable, b"^U^", b"^U^"),
@@ -44,7 +48,11 @@ fn sources_are_read(rt: HostRuntime) {
 #[test]
 fn texts_are_written(rt: HostRuntime) {
     let rows: [(Form, &[u8], Option<&[u8]>); 7] = [
-        (Form::Readable, b"J<Sfoo\x1b;>\x1b\x1b", Some(b"J<Sfoo$;>$$")),
+        (
+            Form::Readable,
+            b"J<Sfoo\x1b;>\x1b\x1b",
+            Some(b"J<Sfoo$;>$$"),
+        ),
         (Form::Readable, b"I$5\x1b", Some(b"I^$5$")),
         (Form::Readable, b"^U$\x1b", Some(b"^U^$$")),
         (Form::Readable, b"I^\x1b", None),

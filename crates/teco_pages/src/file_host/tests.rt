@@ -114,7 +114,11 @@ fn targets_that_are_refused(rt: HostRuntime) -> Result<(), Fail> {
     fs::create_dir(&rt, "somleut_test_refused/folder")?;
     symlink(&rt, "nowhere", "somleut_test_refused/dangling")?;
     let mut host = host(&rt);
-    symlink(&rt, "../somleut_test_refused/again", "somleut_test_refused/typed")?;
+    symlink(
+        &rt,
+        "../somleut_test_refused/again",
+        "somleut_test_refused/typed",
+    )?;
     symlink(&rt, "/proc/self/fd/1", "somleut_test_refused/again")?;
     let names_of_none: [&[u8]; 12] = [
         b"somleut_test_refused/folder",

@@ -6,5 +6,5 @@ use Rattle.teco_source.proofs.position.Position.of.Given as goal
 abbrev pub invariant-loop-i : goal.invariant-loop-i
 invariant-loop-i l =
     (behind_all (drop l.i l.front) (record { line = l.position-inside.line; column = l.position-inside.column })
-        ≡ behind_all l.front (record { line = 1; column = 1 }))
+    ≡ behind_all l.front (record { line = 1; column = 1 }))
     × (l.position-inside.line ≤ l.i + 1) × (l.position-inside.column ≤ l.i + 1)
