@@ -1,8 +1,9 @@
 -- A verified macro is sure to end.
-use Rattle.std.proofs.Common.{◌≡◌, ℕ, zero, suc, ◌≤◌, List, [], ◌∷◌, length, Option, Some, None, option_map, IsSome, refl, subst, arith, get_or}
+use Rattle.std.proofs.Common.{◌≡◌, ℕ, zero, suc, ◌<◌, ◌≤◌, List, [], ◌∷◌, length, Option, Some, None, option_map, IsSome, refl, subst, arith, get_or}
 use Rattle.std.specs.List.{sum_by}
 use Rattle.std.proofs.lemmas.List.Sums.{sum_by-cons}
 use Rattle.teco_apply.specs.Sure.{MOST, Calls, Runs, IsThere, kept_loaded, n_of}
+use Rattle.teco_base.specs.declared.TheConstants.{REGISTERS}
 use Rattle.teco_expand.specs.Library.{IsLoaded}
 use Rattle.teco_expand.specs.Linked.{ExpansionsAreLinked}
 use Rattle.teco_expand.specs.Node.{call_of}
@@ -67,6 +68,7 @@ pub record IsCalled (found : Finding) (kept : Kept) (held : Held) : Type 0 where
   pub certified : IsCertified found.library found.fields
   pub loaded : IsLoaded found.library kept
   pub whole : IsWhole kept
+  pub named : found.fields.entry < REGISTERS
   pub call : AreBytes (call_of found.fields.entry)
   pub input : IsThere found.fields.needs.input held.input
   pub output : IsThere found.fields.needs.output held.output
@@ -78,7 +80,8 @@ surely laws found kept held is files answer new same stops = record {
       let certified = is.certified in
       let now = world kept held files in
       let files_open = are_open found.fields.needs kept held files same is.input is.output in
-      let ends = laws.verified found.library found.fields.entry certified.nodes certified.table found.fields.commands found.fields.size (n_of now) now (laws.linked found.library found.fields.entry certified.nodes certified.expanded) certified.printed (record {
+      let ends = laws.verified found.library found.fields.entry None None certified.nodes certified.table found.fields.commands found.fields.size (n_of now) now (laws.linked found.library found.fields.entry certified.nodes certified.expanded) certified.printed tt (record {
+        named = is.named;
         loaded = is.loaded;
         whole = record { kept = is.whole; files = ready.files };
         call = is.call;

@@ -34,7 +34,9 @@ fn call_verified<T: TextStore, H: Host>(
     expansions_are_linked();
     runs_are_verified();
     runs_are_sure();
-    let call = [b'M', verified.entry().name()];
+    let entry = verified.entry();
+    entry.index();
+    let call = [b'M', entry.name()];
     are_bytes(&call);
     machine.run(&call, u64::MAX, host)
 }

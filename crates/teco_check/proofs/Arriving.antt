@@ -146,7 +146,7 @@ arrivals_before nodes chosen (suc k) =
 -- so far a table is derived
 pub record AreDerived (nodes : List Node) (chosen : List Chosen) (k : ℕ) (slots : Slots) (table : Table) : Type 0 where
   pub met : AreMet slots (arrivals_before nodes chosen k) k (length nodes)
-  pub derived : derive nodes chosen ≡ (derive_from nodes chosen (suc k) (drop k nodes) (arrivals_before nodes chosen k) >>= (λ rows. Ok (table ++ rows)))
+  pub derived : derive None nodes chosen ≡ (derive_from nodes chosen (suc k) (drop k nodes) (arrivals_before nodes chosen k) >>= (λ rows. Ok (table ++ rows)))
   pub rows : length table ≡ k
 
 pub begun : (nodes : List Node) (chosen : List Chosen) (slots : Slots) → slots ≡ arrived_at 1 entry_facts (replicate (length nodes) (Ok None)) → AreDerived nodes chosen 0 slots []
@@ -194,11 +194,11 @@ row_more nodes chosen k slots new table row h a d =
     })
 
 -- a row that is refused
-pub row_refused : (nodes : List Node) (chosen : List Chosen) (k : ℕ) (slots : Slots) (table : Table) (why : Refusal) → k < length nodes → AreDerived nodes chosen k slots table → derived_from nodes chosen (k + 1) slots ≡ Err why → derive nodes chosen ≡ Err why
+pub row_refused : (nodes : List Node) (chosen : List Chosen) (k : ℕ) (slots : Slots) (table : Table) (why : Refusal) → k < length nodes → AreDerived nodes chosen k slots table → derived_from nodes chosen (k + 1) slots ≡ Err why → derive None nodes chosen ≡ Err why
 row_refused nodes chosen k slots table why h a e =
     a.derived ∙ rw (refused_node nodes chosen k (arrivals_before nodes chosen k) why h (sym (derived_is nodes chosen k slots h a.met) ∙ e)) refl
 
-pub all_derived : (nodes : List Node) (chosen : List Chosen) (k : ℕ) (slots : Slots) (table : Table) → length nodes ≤ k → AreDerived nodes chosen k slots table → derive nodes chosen ≡ Ok table
+pub all_derived : (nodes : List Node) (chosen : List Chosen) (k : ℕ) (slots : Slots) (table : Table) → length nodes ≤ k → AreDerived nodes chosen k slots table → derive None nodes chosen ≡ Ok table
 all_derived nodes chosen k slots table h a = a.derived ∙ rw (drop_all k nodes h, append-nil) refl
 
 -- what the row of a node that is reached says
@@ -225,7 +225,7 @@ table_of : Result Table Refusal → Table
 table_of (Ok table) = table
 table_of (Err why) = []
 
-large_in : (nodes : List Node) (chosen : List Chosen) (k : ℕ) (slots : Slots) (table : Table) → k < length nodes → AreDerived nodes chosen k slots table → HasLarge (derived_from nodes chosen (k + 1) slots) (k + 1) (k + 1) → (whole : Table) → derive nodes chosen ≡ Ok whole → AreLarge (facts_at whole (k + 1))
+large_in : (nodes : List Node) (chosen : List Chosen) (k : ℕ) (slots : Slots) (table : Table) → k < length nodes → AreDerived nodes chosen k slots table → HasLarge (derived_from nodes chosen (k + 1) slots) (k + 1) (k + 1) → (whole : Table) → derive None nodes chosen ≡ Ok whole → AreLarge (facts_at whole (k + 1))
 unfolding ok_of table_of
 large_in nodes chosen k slots table h a l whole e =
     let before = arrivals_before nodes chosen k in
@@ -239,8 +239,8 @@ large_in nodes chosen k slots table h a l whole e =
     subst (λ n. AreLarge (facts_at whole n)) (sym (add-one k)) (subst AreLarge (sym there) (l.large here.0 is))
 
 -- what is said of a row is said of the whole
-pub row_said : (nodes : List Node) (chosen : List Chosen) (k : ℕ) (slots new : Slots) (table : Table) (why : NotDerived) → k < length nodes → AreDerived nodes chosen k slots table → DerivesFrom nodes chosen (k + 1) slots new (Err why) → Derives (derive nodes chosen) (Err why)
+pub row_said : (nodes : List Node) (chosen : List Chosen) (k : ℕ) (slots new : Slots) (table : Table) (why : NotDerived) → k < length nodes → AreDerived nodes chosen k slots table → DerivesFrom nodes chosen (k + 1) slots new (Err why) → Derives (derive None nodes chosen) (Err why)
 row_said nodes chosen k slots new table (fault.Refused why node) h a e = row_refused nodes chosen k slots table why h a e
 row_said nodes chosen k slots new table (fault.Large node) h a e =
-    subst (λ n. (whole : Table) → derive nodes chosen ≡ Ok whole → AreLarge (facts_at whole n)) (sym e.here) (large_in nodes chosen k slots table h a (record { here = refl; large = e.large }))
+    subst (λ n. (whole : Table) → derive None nodes chosen ≡ Ok whole → AreLarge (facts_at whole n)) (sym e.here) (large_in nodes chosen k slots table h a (record { here = refl; large = e.large }))
 row_said nodes chosen k slots new table fault.Memory h a e = tt

@@ -134,7 +134,7 @@ needs_more nodes table (suc k) needs h l e =
     rw (same, nodes_from nodes k within, e, add-one) refl
 
 -- what is said of a node is said of the whole
-pub says_of : (nodes : List Node) (table : Table) (k : ℕ) (why : Bad) → k < length nodes → check nodes table ≡ check_from nodes table (suc k) (drop k nodes) → SaysAt (k + 1) (closed_at nodes table (k + 1) (node_at nodes (k + 1))) (Err why) → Says (check nodes table) (Err why)
+pub says_of : (nodes : List Node) (table : Table) (k : ℕ) (why : Bad) → k < length nodes → check None nodes table ≡ check_from nodes table (suc k) (drop k nodes) → SaysAt (k + 1) (closed_at nodes table (k + 1) (node_at nodes (k + 1))) (Err why) → Says (check None nodes table) (Err why)
 says_of nodes table k (bad.Edge node) h e s = e ∙ check_fails nodes table k h s.0 ∙ ap Err (sym s.1)
 says_of nodes table k bad.Memory h e s = tt
 

@@ -172,7 +172,7 @@ fn check_at(nodes: &Nodes<'_>, table: &Table, number: usize) -> Result<(), Bad>
 /// Whether a table is closed, or else the number of the first node at which a condition fails. It takes about as long as there
 /// are nodes and registers.
 pub fn check(alloc: Global, nodes: &Nodes<'_>, table: &Table) -> Result<(), Bad>
-    ensures { Says (rules.check nodes.now table.now) result }
+    ensures { Says (rules.check None nodes.now table.now) result }
 {
     if !is_entry(alloc, table.facts(1)) {
         return Err(Bad::Edge { node: 1 });

@@ -1,5 +1,5 @@
 //! A table that is derived in one pass over the nodes, where what is chosen for the iterations is given.
-ghost use Rattle.std.specs.Prelude.{◌≡◌, ◌<◌, ◌≤◌, length, option_map, option_copied, IfOk, OnOk, Some};
+ghost use Rattle.std.specs.Prelude.{◌≡◌, ◌<◌, ◌≤◌, length, option_map, option_copied, IfOk, OnOk, None, Some};
 ghost use Rattle.teco_model.specs.Element as elements;
 ghost use Rattle.teco_table.specs.Deriving as rules;
 ghost use Rattle.teco_table.specs.Written as writing;
@@ -175,7 +175,7 @@ fn row_at(
 
 /// The table that is derived with these choices. It takes about as long as there are nodes and registers.
 pub fn derive(alloc: Global, nodes: &Nodes<'_>, chosen: &[LoopLine]) -> Result<Table, NotDerived>
-    ensures { Derives (rules.derive nodes.now chosen.now) result }
+    ensures { Derives (rules.derive None nodes.now chosen.now) result }
 {
     let Ok(mut arrived) = Arrived::new(alloc, nodes.len()) else {
         return Err(NotDerived::Memory);

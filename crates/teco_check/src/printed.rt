@@ -1,5 +1,5 @@
 //! What is printed of a table: the most steps that a run takes, the most that is held, and the files that must be open.
-ghost use Rattle.std.specs.Prelude.{◌≡◌, ◌<◌, ◌≤◌, length, option_map, option_copied};
+ghost use Rattle.std.specs.Prelude.{◌≡◌, ◌<◌, ◌≤◌, length, option_map, None, option_copied};
 ghost use Rattle.std.specs.Option.{option_map_or};
 ghost use Rattle.teco_model.specs.Element as elements;
 ghost use Rattle.teco_rules.specs.Facts as facts;
@@ -106,7 +106,7 @@ fn counted_with(
 
 /// The most steps that a run takes: the sum over the nodes, each with its steps, once for each turn round it.
 pub fn commands(nodes: &Nodes<'_>, table: &Table) -> Result<Poly, Overflow>
-    ensures { Prints (rules.commands nodes.now table.now) result }
+    ensures { Prints (rules.commands None nodes.now table.now) result }
 {
     let mut total = Poly::number(0);
     for at in 0..nodes.len() {

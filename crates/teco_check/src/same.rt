@@ -1,5 +1,5 @@
 //! Facts that say the same, or less.
-ghost use Rattle.std.specs.Prelude.{◌≡◌, option_copied};
+ghost use Rattle.std.specs.Prelude.{◌≡◌, None, option_copied};
 ghost use Rattle.teco_table.specs.Closed as rules;
 
 use std::alloc::Global;
@@ -14,7 +14,7 @@ pub fn say_same(one: &Facts, other: &Facts) -> bool
 
 /// Whether nothing but what is always known is known at the entry.
 pub fn is_entry(alloc: Global, facts: Option<&Facts>) -> bool
-    ensures { result ≡ rules.is_entry (option_copied facts.entry) }
+    ensures { result ≡ rules.is_entry None (option_copied facts.entry) }
 {
     match facts {
         None => false,

@@ -241,6 +241,9 @@ module _ (entry n : ℕ) (world : World) (named : entry < REGISTERS) (small : n 
 
 pub numbers_are_pending : NumbersArePending
 numbers_are_pending entry n world named small = record {
+  digits = digits_element (text entry n world named small);
+  reads = ap (λ command. element_at command 0) (spelled entry n world named small) ∙ reads entry n world named small;
+  are_digits = refl;
   behind = behind entry n world named small;
   goes = ap (λ command. step (start command world)) (spelled entry n world named small) ∙ goes_on entry n world named small;
   alike = pending entry n world named small;

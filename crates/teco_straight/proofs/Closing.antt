@@ -15,7 +15,7 @@ use Rattle.teco_rules.specs.Facts.{Facts}
 use Rattle.teco_rules.specs.Flows.{Edges, goes_on}
 use Rattle.teco_rules.specs.Transfer.{transfer}
 use Rattle.teco_table.specs.Behind.{placed, begins_turn, along}
-use Rattle.teco_table.specs.Closed.{arrives, enters_at, closed_at, check_from, check}
+use Rattle.teco_table.specs.Closed.{arrives, enters_at, closed_at, check_from, check_nodes, check}
 use Rattle.teco_table.specs.Table.{Table, facts_at}
 use Rattle.teco_straight.specs.Straight.{IsStraightKind, IsStraightElement, inserted_by, inserted}
 use Rattle.teco_straight.specs.Nodes.{call_element, stand_in_text, node_going_on, nodes_in_text, straight_nodes}
@@ -82,7 +82,7 @@ rows_closed nodes table entry m place text count (e ∷ elements) s i l d =
     (rows_closed nodes table entry (suc m) e.next text (count + inserted_by e) elements s.1 (omega (arith, i)) (omega (arith, l)) behind)
 
 pub straight_tables_are_closed : StraightTablesAreClosed
-unfolding check
+unfolding check_nodes check
 straight_tables_are_closed library entry text elements is l =
     let nodes = straight_nodes entry text elements in
     let table = straight_table elements in

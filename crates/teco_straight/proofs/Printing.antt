@@ -1,5 +1,5 @@
 -- What is printed of the table of a straight text.
-use Rattle.std.proofs.Common.{◌≡◌, ℕ, zero, suc, ◌+◌, ◌≤◌, max, List, [], ◌∷◌, drop, length, replicate, false, Some, Ok, refl, ap, arith}
+use Rattle.std.proofs.Common.{◌≡◌, ℕ, zero, suc, ◌+◌, ◌≤◌, max, List, [], ◌∷◌, drop, length, replicate, false, Some, None, Ok, refl, ap, arith}
 use Rattle.std.specs.List.{AllByRecursion}
 use Rattle.teco_base.specs.declared.TheConstants.{LIMIT, REGISTERS}
 use Rattle.teco_model.specs.declared.kind.Argument.TheVariants.{DropAll}
@@ -59,7 +59,7 @@ rows_counted table entry m place text count c (e ∷ elements) s l d =
     (rw (rows_counted table entry (suc m) e.next text (count + inserted_by e) (suc c) elements s.1 (omega (arith, l)) behind) (ap (λ n. Ok (number (suc n))) n))))
 
 commands_printed : (entry : ℕ) (text : List ℕ) (elements : List Element) → AllByRecursion IsStraightElement elements → length elements ≤ MOST_STRAIGHT →
-    commands (straight_nodes entry text elements) (straight_table elements) ≡ Ok (number (2 + length elements))
+    commands None (straight_nodes entry text elements) (straight_table elements) ≡ Ok (number (2 + length elements))
 unfolding commands
 commands_printed entry text elements s l =
     let n : suc (1 + length elements) ≡ 2 + length elements = omega arith in

@@ -23,7 +23,7 @@ abbrev pub StraightTablesAreClosed : Type 0
 StraightTablesAreClosed =
     (library : Library) (entry : ℕ) (text : List ℕ) (elements : List Element)
     → IsStraight library entry text elements → length text ≤ LIMIT
-    → check (straight_nodes entry text elements) (straight_table elements) ≡ Ok tt
+    → check None (straight_nodes entry text elements) (straight_table elements) ≡ Ok tt
 
 -- no iteration begins at a node
 abbrev pub BeginsNoIteration : Node → Type 0
@@ -31,7 +31,7 @@ BeginsNoIteration node = begins_iteration node.element ≡ false
 
 -- So much is printed of a table, and nothing else: no file is needed, and no iteration has a line.
 pub record Prints (nodes : List Node) (table : Table) (steps most : Polynomial) : Type 0 where
-  pub commands_are : commands nodes table ≡ Ok steps
+  pub commands_are : commands None nodes table ≡ Ok steps
   pub size_is : size nodes table ≡ Ok most
   pub needs_nothing : needs_in nodes table ≡ no_needs
   pub has_no_lines : AllByRecursion BeginsNoIteration nodes
@@ -61,8 +61,8 @@ pub record IsAccepted (library : Library) (entry : ℕ) (steps most : Polynomial
   pub nodes : List Node
   pub table : Table
   pub expanded : expansion library entry ≡ Ok nodes
-  pub derived : derive nodes [] ≡ Ok table
-  pub closed : check nodes table ≡ Ok tt
+  pub derived : derive None nodes [] ≡ Ok table
+  pub closed : check None nodes table ≡ Ok tt
   pub prints : Prints nodes table steps most
   pub outside : AllByRecursion RowIsOutside table
 

@@ -40,4 +40,4 @@ abbrev pub StraightTablesAreDerived : Type 0
 StraightTablesAreDerived =
     (library : Library) (entry : ℕ) (text : List ℕ) (elements : List Element)
     → IsStraight library entry text elements → length text ≤ LIMIT
-    → derive (straight_nodes entry text elements) [] ≡ Ok (straight_table elements)
+    → derive None (straight_nodes entry text elements) [] ≡ Ok (straight_table elements)

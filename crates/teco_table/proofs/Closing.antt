@@ -17,7 +17,7 @@ use Rattle.teco_rules.proofs.Covering.{and_both}
 use Rattle.teco_rules.specs.Bodies.{Changes, Choice, body_start, begins, has_room, stands}
 use Rattle.teco_rules.specs.Covers.{covers}
 use Rattle.teco_rules.specs.Facts.{Facts}
-use Rattle.teco_table.specs.Closed.{say_same, is_counted, begins_by_kind, begins_iteration, check}
+use Rattle.teco_table.specs.Closed.{say_same, is_counted, begins_by_kind, begins_iteration, check_nodes}
 use Rattle.teco_table.specs.Laws.{TablesAreClosed}
 use Rattle.teco_table.specs.Printed.{turns_where, turns_at}
 use Rattle.teco_table.specs.Table.{Table, facts_at}
@@ -89,7 +89,7 @@ as_often : (a b c d : ℕ) → a ≡ b → c ≡ d → (a - 1) * c ≡ (b - 1) *
 as_often a b c d e f = rw (e, f) refl
 
 -- ---- one iteration
-module _ (library : Library) (entry : ℕ) (nodes : List Node) (are : AreLinked library entry nodes) (open_at : IterationsAreOpen) (closed : AreClosed nodes) (table : Table) (n : ℕ) (passes : check nodes table ≡ Ok tt) where
+module _ (library : Library) (entry : ℕ) (nodes : List Node) (are : AreLinked library entry nodes) (open_at : IterationsAreOpen) (closed : AreClosed nodes) (table : Table) (n : ℕ) (passes : check_nodes nodes table ≡ Ok tt) where
   module _ (l : ℕ) (some : l < end_of nodes l) where
     begin : IsBegin nodes l
     begin = (closed.begins l some).0
@@ -169,7 +169,7 @@ falls_alone library entry nodes closed l some =
     subst (AllByRecursion (λ o. fall_where (suc l == suc o) ≡ None)) (sym (iterations_are nodes l begin.node begin.at))
     (no_falls l l begin.node.stand.iterations (omega arith) (closed.descend l begin.node begin.at))
 
-tables_close : NodesNest → (library : Library) (entry : ℕ) (nodes : List Node) → AreLinked library entry nodes → IterationsAreOpen → AreClosed nodes → (table : Table) (n : ℕ) → check nodes table ≡ Ok tt → (l : ℕ) → l < end_of nodes l → IsClosedLoop (turning nodes table n) l
+tables_close : NodesNest → (library : Library) (entry : ℕ) (nodes : List Node) → AreLinked library entry nodes → IterationsAreOpen → AreClosed nodes → (table : Table) (n : ℕ) → check_nodes nodes table ≡ Ok tt → (l : ℕ) → l < end_of nodes l → IsClosedLoop (turning nodes table n) l
 tables_close nest library entry nodes are open_at closed table n passes l some = record {
   nested = nest (turning nodes table n) (λ k. mark_at nodes k) (passed library entry nodes are open_at closed table n) l some;
   room = room_at library entry nodes are open_at closed table n passes l some _ refl;

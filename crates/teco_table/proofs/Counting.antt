@@ -9,7 +9,7 @@ use Rattle.teco_rules.specs.declared.refusal.Refusal.{Refusal}
 use Rattle.teco_rules.specs.declared.refusal.Refusal.TheVariants as refusal
 use Rattle.teco_rules.specs.Facts.{Facts, sum_of}
 use Rattle.teco_table.specs.Laws.{CommandsAreSteps}
-use Rattle.teco_table.specs.Printed.{at_node, turns_at, turns_round, product_of, steps_of, weight, counted_with, count_from, commands}
+use Rattle.teco_table.specs.Printed.{at_node, turns_at, turns_round, product_of, steps_of, weight, counted_with, count_from, steps_before, commands}
 use Rattle.teco_table.specs.Table.{Table, facts_at}
 use Rattle.teco_table.specs.Turning.{value_of, own_of, iterations_of, turning}
 use Rattle.teco_table.proofs.Lookup.{bound, given}
@@ -82,11 +82,11 @@ module _ (nodes : List Node) (table : Table) (n : ℕ) where
 
 pub commands_are_steps : CommandsAreSteps
 unfolding commands
-commands_are_steps nodes table printed n h =
+commands_are_steps argument nodes table printed n h =
     let there : (j : ℕ) (node : Node) → slice_get nodes j ≡ Some node → numbered nodes (1 + j) ≡ Some node = λ j node e. let s : 1 + j ≡ suc j = omega arith in ap (numbered nodes) s ∙ e in
-    let all = counts nodes table n 1 nodes (number 0) printed there h in
-    let none = numbers_have 0 n in
+    let all = counts nodes table n 1 nodes (number (steps_before argument)) printed there h in
+    let before = numbers_have (steps_before argument) n in
     let first : weight_of (turning nodes table n) 0 ≡ 0 = omega arith in
     let next : 1 + length nodes ≡ suc (length nodes) = omega arith in
     let one : sum_below (weight_of (turning nodes table n)) (1 + length nodes) ≡ sum_below (weight_of (turning nodes table n)) (suc (length nodes)) = ap (sum_below (weight_of (turning nodes table n))) next in
-    omega (arith, all, none, first, one)
+    omega (arith, all, before, first, one)

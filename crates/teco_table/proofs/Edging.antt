@@ -16,7 +16,7 @@ use Rattle.teco_rules.specs.Facts.{Facts}
 use Rattle.teco_rules.specs.Flows.{Edges, without_value}
 use Rattle.teco_rules.specs.SoundElements.{Fits, FitsOn}
 use Rattle.teco_table.specs.Behind.{edges_at, along, along_kind, turns_by_kind, begins_turn}
-use Rattle.teco_table.specs.Closed.{check}
+use Rattle.teco_table.specs.Closed.{check_nodes}
 use Rattle.teco_table.specs.Table.{Table, facts_at}
 use Rattle.teco_table.proofs.Entering.{kind_edges, enters}
 use Rattle.teco_table.proofs.Fitting.{fits_covered}
@@ -30,7 +30,7 @@ on_of r edges other h g = let e : r ≡ Ok other = g in let f : edges ≡ other 
     same : Path (Result Edges Refusal) (Ok edges) (Ok other) → edges ≡ other
     same e = cc
 
-module _ (library : Library) (entry : ℕ) (nodes : List Node) (table : Table) (n : ℕ) (are : AreLinked library entry nodes) (passes : check nodes table ≡ Ok tt) (fit : (k : ℕ) (node : Node) (facts : Facts) → numbered nodes k ≡ Some node → facts_at table k ≡ Some facts → Fits n facts) where
+module _ (library : Library) (entry : ℕ) (nodes : List Node) (table : Table) (n : ℕ) (are : AreLinked library entry nodes) (passes : check_nodes nodes table ≡ Ok tt) (fit : (k : ℕ) (node : Node) (facts : Facts) → numbered nodes k ≡ Some node → facts_at table k ≡ Some facts → Fits n facts) where
   fits_at : (target : ℕ) (facts : Facts) → nat_lt (length nodes) target ≡ false → facts_at table target ≡ Some facts → Fits n facts
   fits_at zero facts l known = absurd (cc)
   fits_at (suc k) facts l known = let there = node_of nodes (suc k) (omega arith) (omega (arith, ltb-false (length nodes) (suc k) l)) in fit (suc k) there.0 facts there.1 known

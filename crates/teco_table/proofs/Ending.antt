@@ -2,44 +2,43 @@
 use Rattle.std.proofs.Common.{◌≡◌, ◌⊎◌, inl, inr, ℕ, zero, suc, ◌+◌, ◌≤◌, ◌<◌, refl, sym, ap, ◌∙◌, subst, arith, List, [], true, Option, Some, None, Ok, is_some}
 use Rattle.std.specs.Prelude.{IsTrue}
 use Rattle.teco_turns.specs.Moves.{State as Shown, Move, Forward, FallFollows, IsStart, RunsAreBounded}
-use Rattle.teco_turns.specs.Table.{IsClosed}
+use Rattle.teco_turns.specs.Table.{IsClosed, commands as steps_in}
 use Rattle.teco_turns.specs.Turns.{RunsAreCovered}
 use Rattle.teco_model.specs.Registers.{Pair}
 use Rattle.teco_model.specs.Run.{Reaches, run, go_on}
-use Rattle.teco_model.specs.State.{World, State, End, start}
+use Rattle.teco_model.specs.State.{World, State, End}
 use Rattle.teco_model.specs.Step.{step}
 use Rattle.teco_expand.specs.Library.{Library, IsLoaded}
 use Rattle.teco_expand.specs.Linked.{AreLinked}
-use Rattle.teco_expand.specs.Node.{Stand, Node, call_of, beginning, over, numbered}
+use Rattle.teco_expand.specs.Node.{Stand, Node, beginning, over, numbered}
 use Rattle.teco_expand.specs.Position.{position_of}
 use Rattle.teco_expand.specs.Run.{RunsEnd}
-use Rattle.teco_poly.specs.Polynomial.{Polynomial, value}
+use Rattle.teco_poly.specs.Polynomial.{value}
 use Rattle.teco_rules.proofs.Bodies.{entry_is_sound}
 use Rattle.teco_rules.proofs.Covering.{and_both, covers_are_sound}
+use Rattle.teco_rules.specs.Argument.{ArgumentRange, IsAsked, arguments_given, facts_given}
 use Rattle.teco_rules.specs.Describes.{IsWhole}
-use Rattle.teco_rules.specs.Facts.{Facts, entry_facts}
+use Rattle.teco_rules.specs.Facts.{Facts}
 use Rattle.teco_rules.specs.Laws.{IsEntry}
 use Rattle.teco_rules.specs.SoundPages.{unread_of}
 use Rattle.teco_rules.specs.SoundSteps.{AreOpen}
-use Rattle.teco_table.specs.Closed.{say_same, is_entry, check}
-use Rattle.teco_table.specs.Ending.{Passes, ElementsPass, EndsWithin, RunsEndInTime}
+use Rattle.teco_table.specs.Closed.{say_same, is_entry, check_nodes, check}
+use Rattle.teco_table.specs.Ending.{Passes, ElementsPass, EndsWithin, start_given, RunsEndInTime}
 use Rattle.teco_table.specs.Following.{OpenTurn, run_at, AreOpened, IsDescribed, held_of, loops_of, shown}
 use Rattle.teco_table.specs.Laws.{TablesAreClosed}
 use Rattle.teco_table.specs.Moving.{MovesOn, ComesOn, Over, On, StepsMove}
-use Rattle.teco_table.specs.Printed.{steps_of, commands, needs_in}
+use Rattle.teco_table.specs.Printed.{steps_of, needs_in}
 use Rattle.teco_table.specs.Staying.{NoFileCommands}
 use Rattle.teco_table.specs.Table.{Table, facts_at}
 use Rattle.teco_table.specs.Turning.{value_of, own_of, held_at, turning}
-use Rattle.teco_table.proofs.Counting.{commands_are_steps}
 use Rattle.teco_table.proofs.Closing.{held_known, held_same}
 use Rattle.teco_table.proofs.Going.{Target, AtNode, AtEnd, target_is}
 use Rattle.teco_table.proofs.Lookup.{number_within, same_node}
 use Rattle.teco_table.proofs.Standing.{iterations_are}
 use Rattle.teco_poly.proofs.Lawful.{values_of_constants}
-use Rattle.teco_model.specs.Arguments.{no_arguments}
 use Rattle.teco_model.specs.Element.{blank_len}
 use Rattle.std.specs.List.{AllByRecursion}
-use Rattle.teco_table.proofs.Reading.{entry_checked}
+use Rattle.teco_table.proofs.Reading.{entry_checked, nodes_checked}
 use Rattle.teco_table.proofs.Walking.{Came, came_on, came_takes, came_leads, reaches_on, none_yet, none_on}
 
 pub record Laws : Type 0 where
@@ -49,14 +48,14 @@ pub record Laws : Type 0 where
   pub closed : TablesAreClosed
   pub moves : StepsMove
 
-module _ (laws : Laws) (library : Library) (entry : ℕ) (nodes : List Node) (table : Table) (printed : Polynomial) (n : ℕ) (below : List Pair) (first : State) (zeroth : Shown) (are : AreLinked library entry nodes) (passes : check nodes table ≡ Ok tt) (print : commands nodes table ≡ Ok printed) (begins : IsStart (turning nodes table n) zeroth) (pass : ElementsPass library entry nodes table n below first) where
+module _ (laws : Laws) (library : Library) (entry : ℕ) (nodes : List Node) (table : Table) (n : ℕ) (below : List Pair) (first : State) (zeroth : Shown) (are : AreLinked library entry nodes) (passes : check_nodes nodes table ≡ Ok tt) (begins : IsStart (turning nodes table n) zeroth) (pass : ElementsPass library entry nodes table n below first) where
   closed : IsClosed (turning nodes table n)
   closed = laws.closed library entry nodes table n are passes
 
-  few_steps : (moves total k : ℕ) (last : Shown) → Came (turning nodes table n) moves zeroth total last → k ≤ (turning nodes table n).own last.node → total + k ≤ value printed n
+  few_steps : (moves total k : ℕ) (last : Shown) → Came (turning nodes table n) moves zeroth total last → k ≤ (turning nodes table n).own last.node → total + k ≤ steps_in (turning nodes table n)
   few_steps moves total k last c l =
       let all = laws.bounded (turning nodes table n) zeroth moves (total + k) closed begins (came_takes (turning nodes table n) moves zeroth last total k c l) in
-      omega (arith, all, commands_are_steps nodes table printed n print)
+      omega (arith, all)
 
   -- where a run has come to
   record At (number : ℕ) (turns : List OpenTurn) (s : State) : Type 0 where
@@ -68,7 +67,7 @@ module _ (laws : Laws) (library : Library) (entry : ℕ) (nodes : List Node) (ta
     files : AreOpen (needs_in nodes table) s.world.files
     none : NoFileCommands first total
 
-  ends_here : (number : ℕ) (turns : List OpenTurn) (s : State) (at : At number turns s) → step s ≡ End s.world → EndsWithin first (value printed n)
+  ends_here : (number : ℕ) (turns : List OpenTurn) (s : State) (at : At number turns s) → step s ≡ End s.world → EndsWithin first (steps_in (turning nodes table n))
   ends_here number turns s at e = record {
     steps = at.total;
     new = s.world;
@@ -88,7 +87,7 @@ module _ (laws : Laws) (library : Library) (entry : ℕ) (nodes : List Node) (ta
     none_next : NoFileCommands first (at.total + suc passing.before)
     none_next = none_on at.total (suc passing.before) first s at.none at.reached passing.none
 
-    ends_there : (over entry).position ≡ position_of passing.next → EndsWithin first (value printed n)
+    ends_there : (over entry).position ≡ position_of passing.next → EndsWithin first (steps_in (turning nodes table n))
     ends_there o = record {
       steps = at.total + suc passing.before;
       new = passing.next.world;
@@ -116,26 +115,31 @@ module _ (laws : Laws) (library : Library) (entry : ℕ) (nodes : List Node) (ta
     unfolding on_there
     more_there m = omega arith
 
-  walk : (fuel : ℕ) (number : ℕ) (turns : List OpenTurn) (s : State) (at : At number turns s) → value printed n < at.total + fuel → EndsWithin first (value printed n)
+  walk : (fuel : ℕ) (number : ℕ) (turns : List OpenTurn) (s : State) (at : At number turns s) → steps_in (turning nodes table n) < at.total + fuel → EndsWithin first (steps_in (turning nodes table n))
   walk zero number turns s at l =
       let few = few_steps at.moves at.total 0 (shown number at.here.node.stand.iterations turns s.world) at.came (omega arith) in
       absurd (omega (arith, few, l))
   walk (suc fuel) number turns s at l = go (pass number turns at.total s at.reached at.here at.files) (λ p m. walk fuel p.goes.target m.later p.next (on_there number turns s at p m) (omega (arith, l, more_there number turns s at p m)))
     where
       by_end : (p : Passes library entry nodes table n below number turns s at.here) → ComesOn library entry nodes table n below number at.here.node turns s p.goes.target p.next →
-          (MovesOn library nodes table n below number at.here.node turns s p.goes.target p.next → EndsWithin first (value printed n)) → EndsWithin first (value printed n)
+          (MovesOn library nodes table n below number at.here.node turns s p.goes.target p.next → EndsWithin first (steps_in (turning nodes table n))) → EndsWithin first (steps_in (turning nodes table n))
       by_end p (Over o) on = ends_there number turns s at p o
       by_end p (On m) on = on m
 
       go : (step s ≡ End s.world) ⊎ Passes library entry nodes table n below number turns s at.here →
-          ((p : Passes library entry nodes table n below number turns s at.here) → MovesOn library nodes table n below number at.here.node turns s p.goes.target p.next → EndsWithin first (value printed n)) → EndsWithin first (value printed n)
+          ((p : Passes library entry nodes table n below number turns s at.here) → MovesOn library nodes table n below number at.here.node turns s p.goes.target p.next → EndsWithin first (steps_in (turning nodes table n))) → EndsWithin first (steps_in (turning nodes table n))
       go (inl e) on = ends_here number turns s at e
       go (inr p) on = by_end p (laws.moves library entry nodes table n below number turns s p.last p.next are passes at.here p.again p.goes p.comes p.loaded p.whole) (on p)
 
 -- ---- the start
-module _ (library : Library) (entry : ℕ) (nodes : List Node) (table : Table) (n : ℕ) (world : World) (are : AreLinked library entry nodes) (passes : check nodes table ≡ Ok tt) (loaded : IsLoaded library world.kept) (whole : IsWhole world.kept) (entering : IsEntry n (unread_of world) world.kept) where
+-- N holds all there, whatever is known of the argument
+held_given : (argument : Option ArgumentRange) (n : ℕ) → value (facts_given argument).held n ≡ n
+held_given None n = (values_of_constants n 0).1
+held_given (Some range) n = (values_of_constants n 0).1
+
+module _ (library : Library) (entry : ℕ) (argument : Option ArgumentRange) (given : Option ℕ) (nodes : List Node) (table : Table) (n : ℕ) (world : World) (are : AreLinked library entry nodes) (passes : check argument nodes table ≡ Ok tt) (asked : IsAsked argument given) (loaded : IsLoaded library world.kept) (whole : IsWhole world.kept) (entering : IsEntry n (unread_of world) world.kept) where
   abbrev first : State
-  first = start (call_of entry) world
+  first = start_given entry given world
 
   -- the first node, and what is known there
   record First : Type 0 where
@@ -144,15 +148,15 @@ module _ (library : Library) (entry : ℕ) (nodes : List Node) (table : Table) (
     at : numbered nodes 1 ≡ Some node
     stand : node.stand ≡ beginning entry
     known : facts_at table 1 ≡ Some facts
-    same : IsTrue (say_same facts entry_facts)
+    same : IsTrue (say_same facts (facts_given argument))
 
-  first_known : (node : Node) → numbered nodes 1 ≡ Some node → node.stand ≡ beginning entry → (o : Option Facts) → facts_at table 1 ≡ o → is_entry o ≡ true → First
+  first_known : (node : Node) → numbered nodes 1 ≡ Some node → node.stand ≡ beginning entry → (o : Option Facts) → facts_at table 1 ≡ o → is_entry argument o ≡ true → First
   first_known node at stand None known e = absurd (cc)
   first_known node at stand (Some facts) known e = record { node = node; facts = facts; at = at; stand = stand; known = known; same = e }
 
   first_at : Target nodes entry 1 (beginning entry) → First
   unfolding blank_len
-  first_at (AtNode node at stand) = first_known node at stand _ refl (entry_checked nodes table passes)
+  first_at (AtNode node at stand) = first_known node at stand _ refl (entry_checked nodes table argument passes)
   first_at (AtEnd e) = let z : 2 ≡ 0 = ap (λ (stand : Stand). stand.position.running.place) e in absurd (omega (arith, z))
 
   one : First
@@ -162,7 +166,7 @@ module _ (library : Library) (entry : ℕ) (nodes : List Node) (table : Table) (
   none_open = ap (λ (stand : Stand). stand.iterations) one.stand
 
   held_one : held_at nodes table n 1 ≡ n
-  held_one = held_known nodes table n 1 one.facts one.known ∙ (held_same one.facts entry_facts n one.same ∙ (values_of_constants n 0).1)
+  held_one = held_known nodes table n 1 one.facts one.known ∙ (held_same one.facts (facts_given argument) n one.same ∙ held_given argument n)
 
   described : IsDescribed library nodes table n world.kept.registers.stack 1 [] first
   described = record {
@@ -175,7 +179,7 @@ module _ (library : Library) (entry : ℕ) (nodes : List Node) (table : Table) (
     loaded = loaded;
     whole = whole;
     opened = subst (λ begins. AreOpened table n begins [] []) (sym none_open) tt;
-    described = covers_are_sound (run_at n world.kept.registers.stack []) one.facts entry_facts (unread_of world) world.kept no_arguments whole (and_both _ _ one.same).0 (entry_is_sound n (unread_of world) world.kept None None whole entering tt);
+    described = covers_are_sound (run_at n world.kept.registers.stack []) one.facts (facts_given argument) (unread_of world) world.kept (arguments_given given) whole (and_both _ _ one.same).0 (entry_is_sound n (unread_of world) world.kept argument given whole entering asked);
   }
 
   abbrev zeroth : Shown
@@ -205,15 +209,15 @@ reached_first s = refl
 
 pub runs_end_in_time : Laws → RunsEndInTime
 unfolding described one
-runs_end_in_time laws library entry nodes table printed n world are passes print loaded whole entering files pass =
-    walk laws library entry nodes table printed n world.kept.registers.stack (start (call_of entry) world) (zeroth library entry nodes table n world are passes loaded whole entering) are passes print (begins library entry nodes table n world are passes loaded whole entering) pass
-    (suc (value printed n)) 1 [] (start (call_of entry) world)
+runs_end_in_time laws library entry argument given nodes table n world are passes asked loaded whole entering files pass =
+    walk laws library entry nodes table n world.kept.registers.stack (start_given entry given world) (zeroth library entry argument given nodes table n world are passes asked loaded whole entering) are (nodes_checked nodes table argument passes) (begins library entry argument given nodes table n world are passes asked loaded whole entering) pass
+    (suc (steps_in (turning nodes table n))) 1 [] (start_given entry given world)
     (record {
       total = 0;
       moves = 1;
-      reached = reached_first (start (call_of entry) world);
-      here = described library entry nodes table n world are passes loaded whole entering;
-      came = came_first library entry nodes table n world are passes loaded whole entering;
+      reached = reached_first (start_given entry given world);
+      here = described library entry argument given nodes table n world are passes asked loaded whole entering;
+      came = came_first library entry argument given nodes table n world are passes asked loaded whole entering;
       files = files;
-      none = none_yet (start (call_of entry) world);
+      none = none_yet (start_given entry given world);
     }) (omega arith)

@@ -47,7 +47,7 @@ use Rattle.teco_rules.specs.Values.{IsValue}
 use Rattle.teco_rules.specs.declared.refusal.Refusal.{Refusal}
 use Rattle.teco_rules.specs.declared.values.Value.{Value}
 use Rattle.teco_table.specs.Behind.{left_by, along, turns_by_flow, turns_by_kind, begins_turn}
-use Rattle.teco_table.specs.Closed.{say_same, is_counted, body_stands, is_entered, enters_by, enters_at, closed_behind, check}
+use Rattle.teco_table.specs.Closed.{say_same, is_counted, body_stands, is_entered, enters_by, enters_at, closed_behind, check_nodes}
 use Rattle.teco_table.specs.Following.{OpenTurn, begun_of, run_at, loops_in, open_loops, AreMore, IsOpened, AreOpened, IsDescribed, held_of, loops_of, shown}
 use Rattle.teco_table.specs.Moving.{run_by_kind, run_along, IsLong, IsLast, Alone, Again, Comes, MovesOn}
 use Rattle.teco_table.specs.Table.{Table, facts_at, choice_at}
@@ -177,7 +177,7 @@ not_again f e read s last reads is (Again same long) = absurd (short f e.kind is
 pub world_same : (f : Flow) (way : ℕ) (e : Element) (s t : State) → Turns f way e s t → t.world ≡ s.world
 world_same f way e s t w = ap (λ (t : State). t.world) w.gone
 
-module _ (laws : Laws) (library : Library) (entry : ℕ) (nodes : List Node) (are : AreLinked library entry nodes) (closed : AreClosed nodes) (table : Table) (n : ℕ) (below : List Pair) (passes : check nodes table ≡ Ok tt) where
+module _ (laws : Laws) (library : Library) (entry : ℕ) (nodes : List Node) (are : AreLinked library entry nodes) (closed : AreClosed nodes) (table : Table) (n : ℕ) (below : List Pair) (passes : check_nodes nodes table ≡ Ok tt) where
   module _ (number : ℕ) (turns : List OpenTurn) (s last t : State) (here : IsDescribed library nodes table n below number turns s) (again : IsLast here.node.element s last) (goes : GoesTo (stands nodes entry) number here.node last t) (comes : Comes nodes here.node here.facts goes.way (run_at n below turns) s t) (loaded : IsLoaded library t.world.kept) (whole : IsWhole t.world.kept) where
     module _ (there : Node) (at : numbered nodes goes.target ≡ Some there) (stand : there.stand ≡ stand_at number here.node.stand (position_of t)) where
       module _ (e : Element) (reads : here.node.element ≡ Some e) (is : e.kind ≡ kind.Flow flow.Iterate) (first : goes.way ≡ 0) where

@@ -7,6 +7,7 @@ use Rattle.teco_expand.specs.Node.{Node, numbered}
 use Rattle.teco_poly.proofs.Lawful.{value_of_join, values_compare}
 use Rattle.teco_poly.specs.Polynomial.{Polynomial, value, join}
 use Rattle.teco_rules.proofs.Covering.{and_both}
+use Rattle.teco_rules.specs.Argument.{ArgumentRange}
 use Rattle.teco_rules.specs.declared.refusal.Refusal.{Refusal}
 use Rattle.teco_rules.specs.declared.refusal.Refusal.TheVariants as refusal
 use Rattle.teco_rules.specs.Covers.{each_covers, covers_length, covers}
@@ -39,10 +40,10 @@ module _ (table : Table) where
           let w = on next h in
           (w.0, subst (λ i. weight table node (facts_at table i) ≡ Ok w.0) z w.1)
 
-  pub steps_known : (nodes : List Node) (k : ℕ) (node : Node) (facts : Facts) (p : Polynomial) → commands nodes table ≡ Ok p → numbered nodes k ≡ Some node → facts_at table k ≡ Some facts → (most : Polynomial) × (steps_of node.element facts ≡ Ok most)
+  pub steps_known : (argument : Option ArgumentRange) (nodes : List Node) (k : ℕ) (node : Node) (facts : Facts) (p : Polynomial) → commands argument nodes table ≡ Ok p → numbered nodes k ≡ Some node → facts_at table k ≡ Some facts → (most : Polynomial) × (steps_of node.element facts ≡ Ok most)
   unfolding commands
-  steps_known nodes zero node facts p h at known = absurd (cc)
-  steps_known nodes (suc k) node facts p h at known =
+  steps_known argument nodes zero node facts p h at known = absurd (cc)
+  steps_known argument nodes (suc k) node facts p h at known =
       let w = weighed 1 k nodes _ p node h at in
       let z : 1 + k ≡ suc k = omega arith in
       let there : weight table node (Some facts) ≡ Ok w.0 = ap (weight table node) (sym known) ∙ (ap (λ i. weight table node (facts_at table i)) (sym z) ∙ w.1) in

@@ -29,7 +29,7 @@ use Rattle.teco_rules.specs.Facts.{Facts}
 use Rattle.teco_rules.specs.Flows.{Edges}
 use Rattle.teco_rules.specs.SoundPages.{unread_of}
 use Rattle.teco_table.specs.Behind.{open_of, open_at, left_by, edges_at, along, turns_by_flow, turns_by_kind, begins_turn}
-use Rattle.teco_table.specs.Closed.{is_return, is_covered, arrives, arrive, is_known_in, closed_behind, closed_where, check}
+use Rattle.teco_table.specs.Closed.{is_return, is_covered, arrives, arrive, is_known_in, closed_behind, closed_where, check_nodes}
 use Rattle.teco_table.specs.Following.{OpenTurn, run_at, loops_in, open_loops, AreOpened, IsDescribed, held_of, loops_of, shown}
 use Rattle.teco_table.specs.Moving.{left_by_flow, left_by_kind, left_along, run_by_flow, run_by_kind, run_along, IsLast, Alone, Again, Comes, MovesOn}
 use Rattle.teco_table.specs.Table.{Table, facts_at}
@@ -63,15 +63,15 @@ module _ (nodes : List Node) (table : Table) where
       let z : suc first + way ≡ first + suc way = omega arith in
       subst (λ k. IsTrue (begins_turn read k || arrives nodes table read target (along read k edges))) z (arrive_at read edges (suc first) way ways target (and_both _ _ h).1 g)
 
-  pub where_checked : (number : ℕ) (node : Node) (facts : Facts) → check nodes table ≡ Ok tt → numbered nodes number ≡ Some node → facts_at table number ≡ Some facts → IsTrue (is_known_in table node.stand.iterations facts) × IsTrue (closed_behind nodes table number node facts (edges_at nodes node facts))
+  pub where_checked : (number : ℕ) (node : Node) (facts : Facts) → check_nodes nodes table ≡ Ok tt → numbered nodes number ≡ Some node → facts_at table number ≡ Some facts → IsTrue (is_known_in table node.stand.iterations facts) × IsTrue (closed_behind nodes table number node facts (edges_at nodes node facts))
   where_checked number node facts passes at known =
       let all : IsTrue (closed_where nodes table number node (Some facts)) = ap (closed_where nodes table number node) (sym known) ∙ node_checked nodes table number node passes at in
       and_both _ _ all
 
-  pub known_in : (number : ℕ) (node : Node) (facts : Facts) → check nodes table ≡ Ok tt → numbered nodes number ≡ Some node → facts_at table number ≡ Some facts → IsTrue (is_known_in table node.stand.iterations facts)
+  pub known_in : (number : ℕ) (node : Node) (facts : Facts) → check_nodes nodes table ≡ Ok tt → numbered nodes number ≡ Some node → facts_at table number ≡ Some facts → IsTrue (is_known_in table node.stand.iterations facts)
   known_in number node facts passes at known = (where_checked number node facts passes at known).0
 
-  pub behind_checked : (number : ℕ) (node : Node) (facts : Facts) (edges : Edges) → check nodes table ≡ Ok tt → numbered nodes number ≡ Some node → facts_at table number ≡ Some facts → edges_at nodes node facts ≡ Ok edges →
+  pub behind_checked : (number : ℕ) (node : Node) (facts : Facts) (edges : Edges) → check_nodes nodes table ≡ Ok tt → numbered nodes number ≡ Some node → facts_at table number ≡ Some facts → edges_at nodes node facts ≡ Ok edges →
       closed_behind nodes table number node facts (Ok edges) ≡ true
   behind_checked number node facts edges passes at known leads =
       ap (closed_behind nodes table number node facts) (sym leads) ∙ (where_checked number node facts passes at known).1
@@ -93,7 +93,7 @@ module _ (nodes : List Node) (table : Table) where
       by_test false e = e
       by_test true e = absurd (omega (arith, l, ltb-true (length nodes) target e))
 
-  way_arrives : (number : ℕ) (node : Node) (facts next : Facts) (edges : Edges) (way target : ℕ) → check nodes table ≡ Ok tt → numbered nodes number ≡ Some node → facts_at table number ≡ Some facts → edges_at nodes node facts ≡ Ok edges →
+  way_arrives : (number : ℕ) (node : Node) (facts next : Facts) (edges : Edges) (way target : ℕ) → check_nodes nodes table ≡ Ok tt → numbered nodes number ≡ Some node → facts_at table number ≡ Some facts → edges_at nodes node facts ≡ Ok edges →
       slice_get node.ways way ≡ Some target → begins_turn node.element way ≡ false → along node.element way edges ≡ Some next → (if nat_lt (length nodes) target then is_return node.element else is_covered (facts_at table target) next) ≡ true
   way_arrives number node facts next edges way target passes at known leads taken turn on =
       let behind : IsTrue (closed_behind nodes table number node facts (Ok edges)) = behind_checked number node facts edges passes at known leads in
@@ -103,14 +103,14 @@ module _ (nodes : List Node) (table : Table) where
       let there : arrives nodes table node.element target (along node.element way edges) ≡ true = or_false (begins_turn node.element way) _ turn this in
       sym (ap (arrives nodes table node.element target) on) ∙ there
 
-  pub way_covered : (number : ℕ) (node : Node) (facts next : Facts) (edges : Edges) (way target : ℕ) → check nodes table ≡ Ok tt → numbered nodes number ≡ Some node → facts_at table number ≡ Some facts → edges_at nodes node facts ≡ Ok edges →
+  pub way_covered : (number : ℕ) (node : Node) (facts next : Facts) (edges : Edges) (way target : ℕ) → check_nodes nodes table ≡ Ok tt → numbered nodes number ≡ Some node → facts_at table number ≡ Some facts → edges_at nodes node facts ≡ Ok edges →
       slice_get node.ways way ≡ Some target → begins_turn node.element way ≡ false → along node.element way edges ≡ Some next → nat_lt (length nodes) target ≡ false → Covered target next
   way_covered number node facts next edges way target passes at known leads taken turn on l =
       covered_by target next _ refl
       (sym (ap (λ b. if b then is_return node.element else is_covered (facts_at table target) next) l) ∙ way_arrives number node facts next edges way target passes at known leads taken turn on)
 
   -- the ways of elements lead to nodes
-  pub way_within : (number : ℕ) (node : Node) (e : Element) (facts next : Facts) (edges : Edges) (way target : ℕ) → node.element ≡ Some e → check nodes table ≡ Ok tt → numbered nodes number ≡ Some node → facts_at table number ≡ Some facts → edges_at nodes node facts ≡ Ok edges →
+  pub way_within : (number : ℕ) (node : Node) (e : Element) (facts next : Facts) (edges : Edges) (way target : ℕ) → node.element ≡ Some e → check_nodes nodes table ≡ Ok tt → numbered nodes number ≡ Some node → facts_at table number ≡ Some facts → edges_at nodes node facts ≡ Ok edges →
       slice_get node.ways way ≡ Some target → begins_turn node.element way ≡ false → along node.element way edges ≡ Some next → nat_lt (length nodes) target ≡ false
   way_within number node e facts next edges way target reads passes at known leads taken turn on = by_test _ refl
     where
@@ -168,7 +168,7 @@ pub record Laws : Type 0 where
   pub left : LeftHaveEnded
   pub lead : WaysLead
 
-module _ (laws : Laws) (library : Library) (entry : ℕ) (nodes : List Node) (are : AreLinked library entry nodes) (closed : AreClosed nodes) (table : Table) (n : ℕ) (below : List Pair) (passes : check nodes table ≡ Ok tt) where
+module _ (laws : Laws) (library : Library) (entry : ℕ) (nodes : List Node) (are : AreLinked library entry nodes) (closed : AreClosed nodes) (table : Table) (n : ℕ) (below : List Pair) (passes : check_nodes nodes table ≡ Ok tt) where
   module _ (number : ℕ) (turns : List OpenTurn) (s last t : State) (here : IsDescribed library nodes table n below number turns s) (again : IsLast here.node.element s last) (goes : GoesTo (stands nodes entry) number here.node last t) (comes : Comes nodes here.node here.facts goes.way (run_at n below turns) s t) (loaded : IsLoaded library t.world.kept) (whole : IsWhole t.world.kept) where
     module _ (there : Node) (at : numbered nodes goes.target ≡ Some there) (stand : there.stand ≡ stand_at number here.node.stand (position_of t)) where
       pub stands_there : there.stand.position ≡ position_of t

@@ -30,7 +30,7 @@ use Rattle.teco_rules.specs.Searches.{facts_at_search}
 use Rattle.teco_rules.specs.SoundSteps.{IsInside, LeadsAhead, FlowStands, KindStands}
 use Rattle.teco_rules.specs.Transfer.{search_allowed, without_answer}
 use Rattle.teco_table.specs.Behind.{is_inside, placed, edges_at}
-use Rattle.teco_table.specs.Closed.{is_counted, is_known_in, check}
+use Rattle.teco_table.specs.Closed.{is_counted, is_known_in, check_nodes}
 use Rattle.teco_table.specs.Following.{OpenTurn, loops_in, AreMore, IsOpened, AreOpened, IsDescribed}
 use Rattle.teco_table.specs.Table.{Table}
 use Rattle.teco_table.specs.Written.{changes_in}
@@ -85,7 +85,7 @@ counted_where : (left : Option ℕ) (counted : Bool) (turn : OpenTurn) (turns : 
 counted_where None counted turn turns e h = absurd (cc)
 counted_where (Some left) counted turn turns e h = h.0
 
-module _ (library : Library) (entry : ℕ) (nodes : List Node) (table : Table) (n : ℕ) (below : List Pair) (are : AreLinked library entry nodes) (closed : AreClosed nodes) (passes : check nodes table ≡ Ok tt) (number : ℕ) (turns : List OpenTurn) (s : State) (here : IsDescribed library nodes table n below number turns s) where
+module _ (library : Library) (entry : ℕ) (nodes : List Node) (table : Table) (n : ℕ) (below : List Pair) (are : AreLinked library entry nodes) (closed : AreClosed nodes) (passes : check_nodes nodes table ≡ Ok tt) (number : ℕ) (turns : List OpenTurn) (s : State) (here : IsDescribed library nodes table n below number turns s) where
   loop_there : HasStart here.node.stand.position.running.starts → HasLoop s.frames.running
   loop_there h = has_loop s.frames.running s.frames.running.loops refl (subst HasStart (ap (λ (p : Position). p.running.starts) here.position) h)
 

@@ -7,6 +7,7 @@ mod Entering
 mod Closing
 mod Leaving
 mod Passing
+mod Pending
 mod Going
 mod Entered
 mod Returned

@@ -8,12 +8,13 @@ use Rattle.teco_expand.specs.Ends.{end_of}
 use Rattle.teco_expand.specs.Node.{Node, numbered}
 use Rattle.teco_poly.specs.Polynomial.{Polynomial}
 use Rattle.teco_rules.proofs.Covering.{and_both}
+use Rattle.teco_rules.specs.Argument.{ArgumentRange}
 use Rattle.teco_rules.specs.declared.refusal.Refusal.{Refusal}
 use Rattle.teco_rules.specs.Bodies.{Choice, body_start, stands}
 use Rattle.teco_rules.specs.Facts.{Facts}
 use Rattle.teco_rules.specs.Flows.{Edges, turns}
 use Rattle.teco_table.specs.Behind.{edges_at}
-use Rattle.teco_table.specs.Closed.{say_same, is_entry, is_counted, body_stands, is_entered, enters_by, enters_at, closed_behind, begins_by_kind, begins_iteration, closed_where, closed_at, check_from, check}
+use Rattle.teco_table.specs.Closed.{say_same, is_entry, is_counted, body_stands, is_entered, enters_by, enters_at, closed_behind, begins_by_kind, begins_iteration, closed_where, closed_at, check_from, check_nodes, check}
 use Rattle.teco_table.specs.Table.{Table, facts_at, choice_at}
 use Rattle.teco_table.specs.Written.{changes_in}
 
@@ -40,16 +41,20 @@ module _ (nodes : List Node) (table : Table) where
   passes_entry true r h = (refl, h)
   passes_entry false r h = absurd (cc)
 
-  pub entry_checked : check nodes table ≡ Ok tt → is_entry (facts_at table 1) ≡ true
+  pub entry_checked : (argument : Option ArgumentRange) → check argument nodes table ≡ Ok tt → is_entry argument (facts_at table 1) ≡ true
   unfolding check
-  entry_checked h = (passes_entry (is_entry (facts_at table 1)) (check_from nodes table 1 nodes) h).0
+  entry_checked argument h = (passes_entry (is_entry argument (facts_at table 1)) (check_nodes nodes table) h).0
 
-  pub node_checked : (k : ℕ) (node : Node) → check nodes table ≡ Ok tt → numbered nodes k ≡ Some node → closed_at nodes table k node ≡ true
+  pub nodes_checked : (argument : Option ArgumentRange) → check argument nodes table ≡ Ok tt → check_nodes nodes table ≡ Ok tt
   unfolding check
+  nodes_checked argument h = (passes_entry (is_entry argument (facts_at table 1)) (check_nodes nodes table) h).1
+
+  pub node_checked : (k : ℕ) (node : Node) → check_nodes nodes table ≡ Ok tt → numbered nodes k ≡ Some node → closed_at nodes table k node ≡ true
+  unfolding check_nodes
   node_checked zero node h at = absurd (cc)
   node_checked (suc k) node h at =
       let s : 1 + k ≡ suc k = omega arith in
-      subst (λ m. closed_at nodes table m node ≡ true) s (checked_node 1 k nodes node (passes_entry (is_entry (facts_at table 1)) (check_from nodes table 1 nodes) h).1 at)
+      subst (λ m. closed_at nodes table m node ≡ true) s (checked_node 1 k nodes node h at)
 
   -- ---- a body that is entered
   pub record Body (begin : ℕ) (node : Node) (start : Facts) : Type 0 where
@@ -98,5 +103,5 @@ module _ (nodes : List Node) (table : Table) where
           absurd (cc)
       where_body (Some facts) known h = behind_body facts known _ refl (and_both _ _ h).1
 
-      pub body_is : check nodes table ≡ Ok tt → numbered nodes begin ≡ Some node → Body begin node start
+      pub body_is : check_nodes nodes table ≡ Ok tt → numbered nodes begin ≡ Some node → Body begin node start
       body_is h at = where_body _ refl (node_checked begin node h at)

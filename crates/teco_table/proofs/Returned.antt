@@ -29,7 +29,7 @@ use Rattle.teco_rules.specs.Describes.{AreEach, HasFallen, run_behind, run_in_tu
 use Rattle.teco_rules.specs.Facts.{Facts}
 use Rattle.teco_rules.specs.Laws.{entered, IsCarried, BeginsAgain}
 use Rattle.teco_rules.specs.SoundPages.{unread_of}
-use Rattle.teco_table.specs.Closed.{is_counted, check}
+use Rattle.teco_table.specs.Closed.{is_counted, check_nodes}
 use Rattle.teco_table.specs.Following.{OpenTurn, begun_of, run_at, loops_in, open_loops, AreMore, IsOpened, AreOpened, IsDescribed, held_of, loops_of, shown}
 use Rattle.teco_table.specs.Moving.{IsLast, Comes, MovesOn}
 use Rattle.teco_table.specs.Table.{Table, facts_at, choice_at}
@@ -77,7 +77,7 @@ returns_by : (choice : Choice) (changes : Changes) (most : Polynomial) (entering
 returns_by choice changes most entering end counted facts e h =
     (and_both _ _ (subst (λ (entering : Facts). IsTrue (choice_stands choice changes (is_counted entering.iterations) most entering (Some end))) e h)).1
 
-module _ (laws : Laws) (library : Library) (entry : ℕ) (nodes : List Node) (are : AreLinked library entry nodes) (closed : AreClosed nodes) (table : Table) (n : ℕ) (below : List Pair) (passes : check nodes table ≡ Ok tt) where
+module _ (laws : Laws) (library : Library) (entry : ℕ) (nodes : List Node) (are : AreLinked library entry nodes) (closed : AreClosed nodes) (table : Table) (n : ℕ) (below : List Pair) (passes : check_nodes nodes table ≡ Ok tt) where
   module _ (number : ℕ) (turns : List OpenTurn) (s last t : State) (here : IsDescribed library nodes table n below number turns s) (again : IsLast here.node.element s last) (goes : GoesTo (stands nodes entry) number here.node last t) (comes : Comes nodes here.node here.facts goes.way (run_at n below turns) s t) (loaded : IsLoaded library t.world.kept) (whole : IsWhole t.world.kept) where
     module _ (there : Node) (at : numbered nodes goes.target ≡ Some there) (stand : there.stand ≡ stand_at number here.node.stand (position_of t)) where
       module _ (e : Element) (reads : here.node.element ≡ Some e) (is : e.kind ≡ kind.Flow flow.EndTurn) (first : goes.way ≡ 0) where

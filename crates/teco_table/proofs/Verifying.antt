@@ -1,5 +1,5 @@
 -- A macro whose table is closed runs to its end in time.
-use Rattle.std.proofs.Common.{◌≡◌, ◌⊎◌, inl, inr, ℕ, zero, suc, ◌+◌, ◌≤◌, refl, sym, ap, ◌∙◌, subst, arith, List, [], ◌∷◌, map, Bool, true, false, ◌||◌, Option, Some, None, Result, Ok, Err, IfOk, slice_get}
+use Rattle.std.proofs.Common.{◌≡◌, ◌⊎◌, inl, inr, ℕ, zero, suc, ◌+◌, ◌<◌, ◌≤◌, refl, sym, ap, ◌∙◌, subst, arith, List, [], ◌∷◌, map, Bool, true, false, ◌||◌, Option, Some, None, Result, Ok, Err, IfOk, slice_get}
 use Rattle.std.specs.Prelude.{IsTrue}
 use Rattle.std.specs.Option.{option_map_or}
 use Rattle.teco_model.specs.declared.flow.Loop.{Loop}
@@ -9,7 +9,7 @@ use Rattle.teco_model.specs.Files.{Files}
 use Rattle.teco_model.specs.Registers.{Pair}
 use Rattle.teco_model.specs.Run.{Reaches, run, go_on}
 use Rattle.teco_model.specs.Searching.{has_colon}
-use Rattle.teco_model.specs.State.{Kept, Frame, State, Outcome, Next, End, Exit, Fail, Absent, start, frame_of}
+use Rattle.teco_model.specs.State.{World, Kept, Frame, State, Outcome, Next, End, Exit, Fail, Absent, start, frame_of}
 use Rattle.teco_model.specs.Step.{end_outcome, end_of_text, outcome_at, step}
 use Rattle.teco_expand.specs.Ends.{AreClosed, IterationsEnd}
 use Rattle.teco_expand.specs.Library.{Library}
@@ -22,23 +22,27 @@ use Rattle.teco_expand.specs.Ways.{return_ways, ways_at}
 use Rattle.teco_poly.proofs.Lawful.{values_of_constants}
 use Rattle.teco_rules.specs.SoundPages.{unread_of}
 use Rattle.teco_table.specs.Moving.{Alone, run_along}
-use Rattle.teco_table.specs.Turning.{value_of}
+use Rattle.teco_table.specs.Turning.{value_of, turning}
 use Rattle.teco_poly.specs.Polynomial.{Polynomial, value}
 use Rattle.teco_rules.specs.declared.refusal.Refusal.{Refusal}
-use Rattle.teco_base.specs.declared.TheConstants.{LIMIT}
+use Rattle.teco_base.specs.declared.TheConstants.{LIMIT, REGISTERS}
 use Rattle.teco_model.specs.Arguments.{Arguments}
+use Rattle.std.proofs.lemmas.Int.{ints}
+use Rattle.teco_turns.specs.Table.{commands as steps_in}
+use Rattle.teco_expand.specs.Given.{call_given}
+use Rattle.teco_rules.specs.Argument.{ArgumentRange, IsAsked, arguments_given}
 use Rattle.teco_rules.specs.Describes.{Run, Describes}
 use Rattle.teco_rules.specs.Transfer.{without_answer, transfer_return}
 use Rattle.teco_rules.specs.Facts.{Facts}
 use Rattle.teco_rules.specs.Flows.{Edges}
 use Rattle.teco_rules.specs.Printed.{Needs, no_needs, needs}
 use Rattle.teco_rules.specs.SoundSteps.{AreOpen, BeginsAt}
-use Rattle.teco_rules.specs.Wholeness.{IsWholeState, IsWholeOutcome, WholeIsKept}
+use Rattle.teco_rules.specs.Wholeness.{AreBytes, AreWholeArguments, IsWholeWorld, IsWholeState, IsWholeOutcome, WholeIsKept}
 use Rattle.teco_table.specs.Behind.{left_by, placed, edges_behind, edges_at, along}
-use Rattle.teco_table.specs.Closed.{closed_behind}
-use Rattle.teco_table.specs.Ending.{Passes, RunsEndInTime}
+use Rattle.teco_table.specs.Closed.{closed_behind, check_nodes}
+use Rattle.teco_table.specs.Ending.{Passes, EndsWithin, start_given, RunsEndInTime}
 use Rattle.teco_table.specs.Following.{OpenTurn, run_at, IsDescribed}
-use Rattle.teco_table.specs.Printed.{steps_of, needs_of, known_needs, needs_from, needs_in}
+use Rattle.teco_table.specs.Printed.{steps_before, steps_of, needs_of, known_needs, needs_from, needs_in}
 use Rattle.teco_table.specs.Staying.{changes_files, ReadsNoFileCommand}
 use Rattle.teco_table.specs.Table.{Table, facts_at}
 use Rattle.teco_table.specs.Verified.{IsPrinted, RegistersAreNamed, RunsAreVerified}
@@ -48,6 +52,9 @@ use Rattle.teco_table.proofs.Fitting.{steps_known, facts_fit}
 use Rattle.teco_table.proofs.Going.{where_checked}
 use Rattle.teco_table.proofs.Naming.{registers_are_named}
 use Rattle.teco_table.proofs.Inside.{stands as stands_there, search_inside}
+use Rattle.teco_table.proofs.Counting.{commands_are_steps}
+use Rattle.teco_table.proofs.Pending.{CallLaws, given_ends}
+use Rattle.teco_table.proofs.Reading.{nodes_checked}
 use Rattle.teco_table.proofs.Walking.{reads_none, none_yet, none_more}
 
 -- ---- what is whole stays so
@@ -117,7 +124,10 @@ no_answer_needed run facts unread kept arguments d = record {
   answers = tt;
 }
 
-module _ (laws : Laws) (library : Library) (entry : ℕ) (nodes : List Node) (are : AreLinked library entry nodes) (closed : AreClosed nodes) (table : Table) (commands_are size_is : Polynomial) (n : ℕ) (below : List Pair) (printed : IsPrinted nodes table commands_are size_is) (small : value size_is n ≤ LIMIT) (names : RegistersAreNamed) (first : State) (whole_first : IsWholeState first) where
+module _ (laws : Laws) (library : Library) (entry : ℕ) (nodes : List Node) (are : AreLinked library entry nodes) (closed : AreClosed nodes) (table : Table) (argument : Option ArgumentRange) (commands_are size_is : Polynomial) (n : ℕ) (below : List Pair) (printed : IsPrinted argument nodes table commands_are size_is) (small : value size_is n ≤ LIMIT) (names : RegistersAreNamed) (first : State) (whole_first : IsWholeState first) where
+  passes : check_nodes nodes table ≡ Ok tt
+  passes = nodes_checked nodes table argument printed.closed
+
   module _ (number : ℕ) (turns : List OpenTurn) (taken : ℕ) (s : State) (reached : Reaches taken first s) (here : IsDescribed library nodes table n below number turns s) (files : AreOpen (needs_in nodes table) s.world.files) where
     read_here : element_at s.frames.running.text s.frames.running.place ≡ Ok here.node.element
     read_here = sym (element_at-again s.frames.running.text s.frames.running.place) ∙ subst (λ (p : Position). element_at p.running.text p.running.place ≡ Ok here.node.element) here.position
@@ -127,11 +137,11 @@ module _ (laws : Laws) (library : Library) (entry : ℕ) (nodes : List Node) (ar
     whole_here = whole_there laws.whole taken first s whole_first reached
 
     edges_here : (edges : Edges) × (edges_at nodes here.node here.facts ≡ Ok edges)
-    edges_here = edges_there nodes table number here.node here.facts (edges_at nodes here.node here.facts) (where_checked nodes table number here.node here.facts printed.closed here.at here.known).1
+    edges_here = edges_there nodes table number here.node here.facts (edges_at nodes here.node here.facts) (where_checked nodes table number here.node here.facts passes here.at here.known).1
 
     element_passes : (e : Element) → here.node.element ≡ Some e → Passes library entry nodes table n below number turns s here
     element_passes e reads =
-        let most = steps_known table nodes number here.node here.facts commands_are printed.commands_are here.at here.known in
+        let most = steps_known table argument nodes number here.node here.facts commands_are printed.commands_are here.at here.known in
         let begins : BeginsAt (run_at n below turns) here.facts (placed nodes here.node e) s = record {
           whole = whole_here;
           described = here.described;
@@ -139,15 +149,15 @@ module _ (laws : Laws) (library : Library) (entry : ℕ) (nodes : List Node) (ar
           read = read_here ∙ ap Ok reads;
           colon = ap (λ (p : Position). has_colon e (frame_of p.running.text)) here.position;
           named = names s.frames.running.text s.frames.running.place e (read_here ∙ ap Ok reads);
-          stands = stands_there library entry nodes table n below are closed printed.closed number turns s here e reads edges_here.0 edges_here.1;
+          stands = stands_there library entry nodes table n below are closed passes number turns s here e reads edges_here.0 edges_here.1;
           files = open_for (needs e.kind here.facts) (needs_in nodes table) s.world.files (subst (λ read. Among (needs_of read here.facts) (needs_in nodes table)) reads (needs_in_all nodes table number here.node here.facts here.at here.known)) files;
         } in
         completing.passing laws.steps library entry nodes are table n below number turns s here e reads edges_here.0 edges_here.1 most.0
         (sym (ap (λ read. steps_of read here.facts) reads) ∙ most.1)
-        (edges_fit library entry nodes table n are printed.closed (λ k node facts at known. facts_fit table nodes k node facts size_is n printed.size_is small at known) number here.node e here.facts edges_here.0 reads here.at here.known edges_here.1)
+        (edges_fit library entry nodes table n are passes (λ k node facts at known. facts_fit table nodes k node facts size_is n printed.size_is small at known) number here.node e here.facts edges_here.0 reads here.at here.known edges_here.1)
         begins
         (λ k u r. (whole_there laws.whole k s u whole_here r).world.kept)
-        (λ q is colon. search_inside library entry nodes table n below are closed printed.closed number turns s here e reads edges_here.0 edges_here.1 q is colon)
+        (λ q is colon. search_inside library entry nodes table n below are closed passes number turns s here e reads edges_here.0 edges_here.1 q is colon)
         files
 
     -- the end of a text
@@ -227,7 +237,30 @@ module _ (laws : Laws) (library : Library) (entry : ℕ) (nodes : List Node) (ar
     pub passes_here : (step s ≡ End s.world) ⊎ Passes library entry nodes table n below number turns s here
     passes_here = by_read here.node.element refl
 
-pub runs_are_verified : Laws → IterationsEnd → RunsEndInTime → RunsAreVerified
-runs_are_verified laws ends in_time library entry nodes table commands_are size_is n world are printed ready files =
-    in_time library entry nodes table commands_are n world are printed.closed printed.commands_are ready.loaded ready.whole.kept ready.begins files
-    (λ number turns steps s reached here open_here. passes_here laws library entry nodes are (ends library entry nodes are) table commands_are size_is n world.kept.registers.stack printed ready.small registers_are_named (start (call_of entry) world) (laws.whole.starts (call_of entry) world ready.call ready.whole) number turns steps s reached here open_here)
+-- ---- the start
+argument_whole : (argument : Option ArgumentRange) (given : Option ℕ) → IsAsked argument given → AreWholeArguments (arguments_given given)
+argument_whole None None asked = record { level = record { first = tt; value = tt }; outer = tt }
+argument_whole (Some range) (Some n) asked = record { level = record { first = tt; value = omega (arith, ints, asked.small) }; outer = tt }
+argument_whole None (Some n) asked = absurd (asked)
+argument_whole (Some range) None asked = absurd (asked)
+
+start_whole : Laws → (entry : ℕ) (argument : Option ArgumentRange) (given : Option ℕ) (world : World) → IsAsked argument given → AreBytes (call_of entry) → IsWholeWorld world → IsWholeState (start_given entry given world)
+start_whole laws entry argument given world asked call whole =
+    let from = laws.whole.starts (call_of entry) world call whole in
+    record { world = from.world; arguments = argument_whole argument given asked; frames = from.frames }
+
+-- the digits before the call take a step, where an argument is given
+in_all : (laws : Laws) (calls : CallLaws) (entry : ℕ) (argument : Option ArgumentRange) (given : Option ℕ) (world : World) (steps most : ℕ) → entry < REGISTERS → IsAsked argument given → steps_before argument + steps ≡ most →
+    EndsWithin (start_given entry given world) steps → EndsWithin (start (call_given entry given) world) most
+in_all laws calls entry None None world steps most named asked all ends =
+    let same : steps ≡ most = omega (arith, all) in
+    subst (EndsWithin (start (call_of entry) world)) same ends
+in_all laws calls entry (Some range) (Some n) world steps most named asked all ends = subst (EndsWithin (start (call_given entry (Some n)) world)) all (given_ends calls entry n world steps named asked.small ends)
+in_all laws calls entry None (Some n) world steps most named asked all ends = absurd (asked)
+in_all laws calls entry (Some range) None world steps most named asked all ends = absurd (asked)
+
+pub runs_are_verified : Laws → CallLaws → IterationsEnd → RunsEndInTime → RunsAreVerified
+runs_are_verified laws calls ends in_time library entry argument given nodes table commands_are size_is n world are printed asked ready files =
+    in_all laws calls entry argument given world (steps_in (turning nodes table n)) (value commands_are n) ready.named asked (commands_are_steps argument nodes table commands_are n printed.commands_are)
+    (in_time library entry argument given nodes table n world are printed.closed asked ready.loaded ready.whole.kept ready.begins files
+    (λ number turns steps s reached here open_here. passes_here laws library entry nodes are (ends library entry nodes are) table argument commands_are size_is n world.kept.registers.stack printed ready.small registers_are_named (start_given entry given world) (start_whole laws entry argument given world asked ready.call ready.whole) number turns steps s reached here open_here))

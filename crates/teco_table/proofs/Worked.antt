@@ -9,14 +9,14 @@ use Rattle.teco_model.specs.Pattern.{part_at, parts_within, parts}
 use Rattle.teco_expand.specs.Ways.{read_at, flow_ways, ways_at}
 use Rattle.teco_expand.specs.Expansion.{next_visit, walk, way_numbers, node_at, nodes_at, expansion}
 use Rattle.teco_rules.specs.Transfer.{transfer}
-use Rattle.teco_table.specs.Closed.{check}
+use Rattle.teco_table.specs.Closed.{check_nodes, check}
 use Rattle.teco_table.specs.Deriving.{derive}
 use Rattle.teco_table.specs.Printed.{commands, size, needs_in}
 use Rattle.teco_table.specs.Rows.{WorkedTables}
 use Rattle.teco_table.specs.Written.{written_in, written, ends_in}
 
 pub worked_tables : WorkedTables
-unfolding digits int_wrap blank_len element_from element_at letters reading_at first_readings readings part_at parts_within parts read_at flow_ways ways_at next_visit walk way_numbers node_at nodes_at expansion transfer check derive commands size needs_in written_in written ends_in
+unfolding digits int_wrap blank_len element_from element_at letters reading_at first_readings readings part_at parts_within parts read_at flow_ways ways_at next_visit walk way_numbers node_at nodes_at expansion transfer check_nodes check derive commands size needs_in written_in written ends_in
 worked_tables = record {
   marks = refl;
   marks_once = refl;
@@ -30,6 +30,7 @@ worked_tables = record {
   copied = refl;
   pages = refl;
   repeated = refl;
+  by_argument = refl;
   tested = refl;
   appended = refl;
   refused = refl;

@@ -10,9 +10,10 @@ use Rattle.teco_expand.specs.Ends.{end_of}
 use Rattle.teco_expand.specs.Node.{Node}
 use Rattle.teco_poly.specs.Polynomial.{Polynomial}
 use Rattle.teco_rules.specs.declared.refusal.Refusal.{Refusal}
+use Rattle.teco_rules.specs.Argument.{ArgumentRange, facts_given}
 use Rattle.teco_rules.specs.Bodies.{Choice, Changes, body_start, stands}
 use Rattle.teco_rules.specs.Covers.{covers, each_covers, is_same_iteration}
-use Rattle.teco_rules.specs.Facts.{Iteration, Facts, entry_facts}
+use Rattle.teco_rules.specs.Facts.{Iteration, Facts}
 use Rattle.teco_rules.specs.Flows.{Edges, turns}
 use Rattle.teco_table.specs.Behind.{edges_at, along, begins_turn}
 use Rattle.teco_table.specs.Table.{Table, facts_at, choice_at}
@@ -22,10 +23,10 @@ use Rattle.teco_table.specs.Written.{changes_in}
 abbrev pub say_same : Facts → Facts → Bool
 say_same facts others = covers facts others && covers others facts
 
--- nothing but what is always known is known at the entry
-abbrev pub is_entry : Option Facts → Bool
-is_entry None = false
-is_entry (Some facts) = say_same facts entry_facts
+-- nothing but what is always known is known at the entry, and of the argument that is declared for it
+abbrev pub is_entry : Option ArgumentRange → Option Facts → Bool
+is_entry argument None = false
+is_entry argument (Some facts) = say_same facts (facts_given argument)
 
 -- An edge that begins no turn is covered where it leads. Behind all nodes nothing is known; the return of the entry alone
 -- leads there.
@@ -115,12 +116,15 @@ closed_where nodes table number node (Some facts) =
 abbrev pub closed_at : List Node → Table → ℕ → Node → Bool
 closed_at nodes table number node = closed_where nodes table number node (facts_at table number)
 
--- The number of the first node at which this fails is the answer, where it does; what is known of the entry is judged
--- before that.
+-- The number of the first node at which this fails is the answer, where it does.
 abbrev pub check_from : List Node → Table → ℕ → List Node → Result (Unit {0}) ℕ
 check_from nodes table number [] = Ok tt
 check_from nodes table number (node ∷ rest) =
     if closed_at nodes table number node then check_from nodes table (suc number) rest else Err number
 
-unfoldable pub check : List Node → Table → Result (Unit {0}) ℕ
-check nodes table = if is_entry (facts_at table 1) then check_from nodes table 1 nodes else Err 1
+unfoldable pub check_nodes : List Node → Table → Result (Unit {0}) ℕ
+check_nodes nodes table = check_from nodes table 1 nodes
+
+-- what is known of the entry is judged before that
+unfoldable pub check : Option ArgumentRange → List Node → Table → Result (Unit {0}) ℕ
+check argument nodes table = if is_entry argument (facts_at table 1) then check_nodes nodes table else Err 1

@@ -8,9 +8,10 @@ use Rattle.teco_model.specs.Element.{Element}
 use Rattle.teco_expand.specs.Node.{Node}
 use Rattle.teco_poly.specs.Polynomial.{Polynomial}
 use Rattle.teco_rules.specs.declared.refusal.Refusal.{Refusal}
+use Rattle.teco_rules.specs.Argument.{ArgumentRange, facts_given}
 use Rattle.teco_rules.specs.Attempt.{◌>>=◌}
 use Rattle.teco_rules.specs.Bodies.{Choice, Changes, body_start}
-use Rattle.teco_rules.specs.Facts.{Facts, entry_facts}
+use Rattle.teco_rules.specs.Facts.{Facts}
 use Rattle.teco_rules.specs.Flows.{Edges}
 use Rattle.teco_rules.specs.Joins.{joined}
 use Rattle.teco_table.specs.Behind.{edges_at, along, along_flow}
@@ -110,5 +111,6 @@ derive_from nodes chosen number (node ∷ rest) arrivals = do
   rows ← derive_from nodes chosen (suc number) rest (arrivals ++ here.arrivals)
   Ok (here.row ∷ rows)
 
-unfoldable pub derive : List Node → List Chosen → Result Table Refusal
-derive nodes chosen = derive_from nodes chosen 1 nodes (record { target = 1; facts = entry_facts } ∷ [])
+unfoldable pub derive : Option ArgumentRange → List Node → List Chosen → Result Table Refusal
+derive argument nodes chosen =
+    derive_from nodes chosen 1 nodes (record { target = 1; facts = facts_given argument } ∷ [])

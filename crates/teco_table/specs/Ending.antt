@@ -1,5 +1,6 @@
--- A run of a macro, with a closed table, ends without a code within the printed number of commands.
-use Rattle.std.specs.Prelude.{◌≡◌, ◌⊎◌, ℕ, suc, ◌≤◌, List, Ok}
+-- A run of a macro, with a closed table, ends without a code within the number of steps that the table tells.
+use Rattle.std.specs.Prelude.{◌≡◌, ◌⊎◌, ℕ, suc, ◌≤◌, List, Option, Ok}
+use Rattle.teco_turns.specs.Table.{commands as steps_in}
 use Rattle.teco_model.specs.Registers.{Pair}
 use Rattle.teco_model.specs.Run.{Reaches, Ends}
 use Rattle.teco_model.specs.State.{World, State, Next, End, start}
@@ -8,7 +9,7 @@ use Rattle.teco_expand.specs.Library.{Library, IsLoaded}
 use Rattle.teco_expand.specs.Linked.{AreLinked}
 use Rattle.teco_expand.specs.Node.{Node, call_of, stands}
 use Rattle.teco_expand.specs.Run.{GoesTo}
-use Rattle.teco_poly.specs.Polynomial.{Polynomial, value}
+use Rattle.teco_rules.specs.Argument.{ArgumentRange, IsAsked, arguments_given}
 use Rattle.teco_rules.specs.Describes.{IsWhole}
 use Rattle.teco_rules.specs.Laws.{IsEntry}
 use Rattle.teco_rules.specs.SoundPages.{unread_of}
@@ -16,10 +17,10 @@ use Rattle.teco_rules.specs.SoundSteps.{AreOpen}
 use Rattle.teco_table.specs.Closed.{check}
 use Rattle.teco_table.specs.Following.{OpenTurn, run_at, IsDescribed}
 use Rattle.teco_table.specs.Moving.{IsLast, Comes}
-use Rattle.teco_table.specs.Printed.{steps_of, commands, needs_in}
+use Rattle.teco_table.specs.Printed.{steps_of, needs_in}
 use Rattle.teco_table.specs.Staying.{NoFileCommands}
 use Rattle.teco_table.specs.Table.{Table}
-use Rattle.teco_table.specs.Turning.{value_of}
+use Rattle.teco_table.specs.Turning.{value_of, turning}
 
 -- An element that begins where a run is described takes no more steps than are known, without a code, and none of them a
 -- command of files; the last goes along a way, to a state that the facts on it describe, and leaves open the files that the
@@ -57,12 +58,17 @@ pub record EndsWithin (s : State) (most : ℕ) : Type 0 where
   pub none : NoFileCommands s steps
   pub ends : Ends s steps new
 
+-- the call, where the argument that is given is pending already
+abbrev pub start_given : ℕ → Option ℕ → World → State
+start_given entry given world =
+    record (start (call_of entry) world) { arguments = arguments_given given }
+
 abbrev pub RunsEndInTime : Type 0
 RunsEndInTime =
-    (library : Library) (entry : ℕ) (nodes : List Node) (table : Table) (printed : Polynomial) (n : ℕ)
-    (world : World)
-    → AreLinked library entry nodes → check nodes table ≡ Ok tt → commands nodes table ≡ Ok printed
+    (library : Library) (entry : ℕ) (argument : Option ArgumentRange) (given : Option ℕ) (nodes : List Node)
+    (table : Table) (n : ℕ) (world : World)
+    → AreLinked library entry nodes → check argument nodes table ≡ Ok tt → IsAsked argument given
     → IsLoaded library world.kept → IsWhole world.kept → IsEntry n (unread_of world) world.kept
     → AreOpen (needs_in nodes table) world.files
-    → ElementsPass library entry nodes table n world.kept.registers.stack (start (call_of entry) world)
-    → EndsWithin (start (call_of entry) world) (value printed n)
+    → ElementsPass library entry nodes table n world.kept.registers.stack (start_given entry given world)
+    → EndsWithin (start_given entry given world) (steps_in (turning nodes table n))

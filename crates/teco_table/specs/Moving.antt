@@ -20,7 +20,7 @@ use Rattle.teco_rules.specs.Facts.{Facts}
 use Rattle.teco_rules.specs.Flows.{Edges}
 use Rattle.teco_rules.specs.SoundPages.{unread_of}
 use Rattle.teco_table.specs.Behind.{left_by, edges_at, along}
-use Rattle.teco_table.specs.Closed.{check}
+use Rattle.teco_table.specs.Closed.{check_nodes}
 use Rattle.teco_table.specs.Following.{OpenTurn, run_at, IsDescribed, held_of, shown}
 use Rattle.teco_table.specs.Table.{Table}
 use Rattle.teco_table.specs.Turning.{held_at, turning}
@@ -104,7 +104,7 @@ abbrev pub StepsMove : Type 0
 StepsMove =
     (library : Library) (entry : ℕ) (nodes : List Node) (table : Table) (n : ℕ) (below : List Pair) (number : ℕ)
     (turns : List OpenTurn) (s last t : State)
-    → AreLinked library entry nodes → check nodes table ≡ Ok tt
+    → AreLinked library entry nodes → check_nodes nodes table ≡ Ok tt
     → (here : IsDescribed library nodes table n below number turns s)
     → IsLast here.node.element s last → (goes : GoesTo (stands nodes entry) number here.node last t)
     → Comes nodes here.node here.facts goes.way (run_at n below turns) s t

@@ -7,6 +7,7 @@ use Rattle.teco_expand.specs.Node.{Node}
 use Rattle.teco_poly.specs.Polynomial.{Polynomial, number, mul}
 use Rattle.teco_rules.specs.declared.refusal.Refusal.{Refusal}
 use Rattle.teco_rules.specs.declared.refusal.Refusal.TheVariants as refusal
+use Rattle.teco_rules.specs.Argument.{ArgumentRange}
 use Rattle.teco_rules.specs.Attempt.{◌>>=◌}
 use Rattle.teco_rules.specs.Facts.{Facts, sum_of, join_of}
 use Rattle.teco_rules.specs.Flows.{turns}
@@ -62,8 +63,13 @@ count_from table k [] total = Ok total
 count_from table k (node ∷ rest) total =
     at_node k (counted_with table k node total) (count_from table (suc k) rest)
 
-unfoldable pub commands : List Node → Table → Result Polynomial ℕ
-commands nodes table = count_from table 1 nodes (number 0)
+-- the digits of the argument, where one is declared, are a command before the first node
+abbrev pub steps_before : Option ArgumentRange → ℕ
+steps_before None = 0
+steps_before (Some range) = 1
+
+unfoldable pub commands : Option ArgumentRange → List Node → Table → Result Polynomial ℕ
+commands argument nodes table = count_from table 1 nodes (number (steps_before argument))
 
 -- Size is at least what is held, and each text, wherever that is reached.
 abbrev pub joined_with : List Polynomial → Polynomial → Result Polynomial Refusal

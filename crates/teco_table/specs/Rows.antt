@@ -1,5 +1,5 @@
 -- Tables worked by hand: what is printed of them, and where they are not closed.
-use Rattle.std.specs.Prelude.{◌≡◌, ℕ, List, [], ◌∷◌, codes, Bool, true, false, Result, Ok, Err}
+use Rattle.std.specs.Prelude.{◌≡◌, ℕ, List, [], ◌∷◌, codes, Bool, true, false, Option, Some, None, Result, Ok, Err}
 use Rattle.teco_poly.specs.declared.coefficients.TheConstants.{COEFFICIENTS}
 use Rattle.teco_expand.specs.Expansion.{expansion}
 use Rattle.teco_expand.specs.Library.{Library}
@@ -8,6 +8,7 @@ use Rattle.teco_expand.specs.Refusal.{Refusal as NotExpanded}
 use Rattle.teco_expand.specs.Rows.{only, then, mark_foo}
 use Rattle.teco_poly.specs.Polynomial.{Polynomial, first}
 use Rattle.teco_poly.specs.Text.{text}
+use Rattle.teco_rules.specs.Argument.{ArgumentRange}
 use Rattle.teco_rules.specs.Printed.{Needs}
 use Rattle.teco_rules.specs.declared.refusal.Refusal.{Refusal}
 use Rattle.teco_rules.specs.declared.refusal.Refusal.TheVariants as refusal
@@ -35,22 +36,27 @@ printed (Ok steps) (Ok most) need = Printed (text steps) (text most) (letters_of
 printed (Err node) most need = Overflows node
 printed steps (Err node) need = Overflows node
 
-abbrev pub verdict_checked : List Node → Table → Result (Unit {0}) ℕ → Verdict
-verdict_checked nodes table (Ok closed) =
-    printed (commands nodes table) (size nodes table) (needs_in nodes table)
-verdict_checked nodes table (Err node) = NotClosed node
+abbrev pub verdict_checked : Option ArgumentRange → List Node → Table → Result (Unit {0}) ℕ → Verdict
+verdict_checked argument nodes table (Ok closed) =
+    printed (commands argument nodes table) (size nodes table) (needs_in nodes table)
+verdict_checked argument nodes table (Err node) = NotClosed node
 
-abbrev pub verdict_derived : List Node → Result Table Refusal → Verdict
-verdict_derived nodes (Ok table) = verdict_checked nodes table (check nodes table)
-verdict_derived nodes (Err why) = NotDerived why
+abbrev pub verdict_derived : Option ArgumentRange → List Node → Result Table Refusal → Verdict
+verdict_derived argument nodes (Ok table) = verdict_checked argument nodes table (check argument nodes table)
+verdict_derived argument nodes (Err why) = NotDerived why
 
-abbrev pub verdict_expanded : List Chosen → Result (List Node) NotExpanded → Verdict
-verdict_expanded chosen (Ok nodes) = verdict_derived nodes (derive nodes chosen)
-verdict_expanded chosen (Err refused) = Unexpanded refused
+abbrev pub verdict_expanded : Option ArgumentRange → List Chosen → Result (List Node) NotExpanded → Verdict
+verdict_expanded argument chosen (Ok nodes) = verdict_derived argument nodes (derive argument nodes chosen)
+verdict_expanded argument chosen (Err refused) = Unexpanded refused
 
 -- of the macro A of a library
 abbrev pub verdict : Library → List Chosen → Verdict
-verdict library chosen = verdict_expanded chosen (expansion library 0)
+verdict library chosen = verdict_expanded None chosen (expansion library 0)
+
+-- of one that takes an argument
+abbrev pub verdict_between : ℕ → ℕ → Library → List Chosen → Verdict
+verdict_between low high library chosen =
+    verdict_expanded (Some (record { low = low; high = high })) chosen (expansion library 0)
 
 abbrev pub poly : List ℕ → Polynomial
 poly coefficients = first COEFFICIENTS coefficients
@@ -102,6 +108,10 @@ pub record WorkedTables : Type 0 where
       verdict mark_pages (kept_with 2 (0 ∷ 2 ∷ []) ∷ []) ≡ Printed (codes "7 + 5*N + N^2") (codes "1 + 2*N") (codes "O")
   pub repeated :
       verdict (only (then (codes "10<Ia") (codes ">"))) (kept_with 3 (9 ∷ 1 ∷ []) ∷ [])
+      ≡ Printed (codes "24") (codes "10 + N") (codes "-")
+  -- an argument counts the turns of an iteration
+  pub by_argument :
+      verdict_between 1 10 (only (then (codes "<Ia") (codes ">"))) (kept_with 2 (9 ∷ 1 ∷ []) ∷ [])
       ≡ Printed (codes "24") (codes "10 + N") (codes "-")
   pub tested : verdict (only (codes ".-Z\"LC'")) [] ≡ Printed (codes "8") (codes "N") (codes "-")
   pub appended :

@@ -12,7 +12,7 @@ pub fn worked_tables()
     ensures { WorkedTables }
 {}
 
-/// The printed number of commands is that of the table of numbers.
+/// The printed number of commands is that of the table of numbers, and of the digits before the call.
 pub fn commands_are_steps()
     ensures { CommandsAreSteps }
 {}
@@ -41,7 +41,7 @@ pub fn files_stay_open()
     ensures { FilesStayOpen }
 {}
 
-/// A run of a macro ends without a code within the printed number of commands, where each element does what the laws of
+/// A run of a macro ends without a code within the steps that its table tells, where each element does what the laws of
 /// facts say.
 pub fn runs_end_in_time()
     ensures { RunsEndInTime }
@@ -54,7 +54,7 @@ pub fn runs_end_in_time()
 }
 
 /// A macro with a closed table runs to its end without a code, within the printed number of commands, where the files that
-/// it needs are open at the start; it opens and closes none.
+/// it needs are open at the start, whatever argument in the declared range it is called with; it opens and closes none.
 pub fn runs_are_verified()
     ensures { RunsAreVerified }
 {
@@ -65,6 +65,10 @@ pub fn runs_are_verified()
     teco_expand::laws::stays_loaded();
     teco_expand::laws::nodes_are_sound();
     teco_expand::laws::iterations_end();
+    teco_expand::laws::steps_are_alike();
+    teco_expand::laws::runs_are_alike();
+    teco_expand::laws::readings_are_alike();
+    teco_expand::laws::numbers_are_pending();
     files_stay_open();
     runs_end_in_time();
 }

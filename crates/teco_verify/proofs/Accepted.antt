@@ -74,8 +74,8 @@ table_of (Err why) = []
 
 -- the same of these nodes
 record AcceptsNodes (nodes : List Node) (table : Table) (steps most : Polynomial) : Type 0 where
-  derived : derive nodes [] ≡ Ok table
-  closed : check nodes table ≡ Ok tt
+  derived : derive None nodes [] ≡ Ok table
+  closed : check None nodes table ≡ Ok tt
   prints : Prints nodes table steps most
   outside : AllByRecursion RowIsOutside table
 
@@ -95,13 +95,13 @@ module _ (library : Library) (entry : ℕ) (steps most : Polynomial) (accepted :
     begins_none = none_begins nodes these.prints.has_no_lines
 
     module _ (chosen : List Chosen) (nothing : chosen ≡ []) where
-      derived : derive nodes chosen ≡ Ok accepted.table
-      derived = subst (λ c. derive nodes c ≡ Ok accepted.table) (sym nothing) these.derived
+      derived : derive None nodes chosen ≡ Ok accepted.table
+      derived = subst (λ c. derive None nodes c ≡ Ok accepted.table) (sym nothing) these.derived
 
-      pub is_kept : (node : ℕ) → ((table : Table) → derive nodes chosen ≡ Ok table → AreLarge (facts_at table node)) → ⊥
+      pub is_kept : (node : ℕ) → ((table : Table) → derive None nodes chosen ≡ Ok table → AreLarge (facts_at table node)) → ⊥
       is_kept node l = none_large accepted.table node these.outside (l accepted.table derived)
 
-      module _ (table : Table) (is : derive nodes chosen ≡ Ok table) where
+      module _ (table : Table) (is : derive None nodes chosen ≡ Ok table) where
         here : AcceptsNodes nodes table steps most
         unfolding table_of
         here = subst (λ t. AcceptsNodes nodes t steps most) (ap table_of (sym derived ∙ is)) these

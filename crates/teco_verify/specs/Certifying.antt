@@ -1,5 +1,5 @@
 -- What a table certifies.
-use Rattle.std.specs.Prelude.{◌≡◌, ◌⊎◌, ℕ, List, Result, Ok, Err, ⊤}
+use Rattle.std.specs.Prelude.{◌≡◌, ◌⊎◌, ℕ, List, None, Result, Ok, Err, ⊤}
 use Rattle.teco_certificate.specs.Fields.{Fields}
 use Rattle.teco_check.specs.declared.bad.Bad.{Bad}
 use Rattle.teco_check.specs.declared.bad.Bad.TheVariants as bad
@@ -16,16 +16,16 @@ use Rattle.teco_verify.specs.Finding.{Finding}
 pub record AreFieldsOf (nodes : List Node) (table : Table) (entry : ℕ) (fields : Fields) : Type 0 where
   pub entry_is : fields.entry ≡ entry
   pub needs_are : fields.needs ≡ needs_in nodes table
-  pub commands_are : commands nodes table ≡ Ok fields.commands
+  pub commands_are : commands None nodes table ≡ Ok fields.commands
   pub size_is : size nodes table ≡ Ok fields.size
   pub loops_are : fields.loops ≡ loops_of nodes table
 
 -- These, or the node at which it is not closed or a number overflows.
 abbrev pub Certifies : List Node → Table → ℕ → Result Finding Flaw → Type 0
 Certifies nodes table entry (Ok found) = AreFieldsOf nodes table entry found.fields
-Certifies nodes table entry (Err (flaw.Open number)) = check nodes table ≡ Err number
+Certifies nodes table entry (Err (flaw.Open number)) = check None nodes table ≡ Err number
 Certifies nodes table entry (Err (flaw.Overflow number)) =
-    (commands nodes table ≡ Err number) ⊎ (size nodes table ≡ Err number)
+    (commands None nodes table ≡ Err number) ⊎ (size nodes table ≡ Err number)
 Certifies nodes table entry (Err flaw.Memory) = ⊤
 
 -- why, where it is not closed

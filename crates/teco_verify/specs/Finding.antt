@@ -1,5 +1,5 @@
 -- What the verifier has found of a macro, and that it is so.
-use Rattle.std.specs.Prelude.{◌≡◌, List, Ok}
+use Rattle.std.specs.Prelude.{◌≡◌, List, None, Ok}
 use Rattle.teco_certificate.specs.Fields.{Fields}
 use Rattle.teco_expand.specs.Expansion.{expansion}
 use Rattle.teco_expand.specs.Library.{Library}
@@ -19,6 +19,6 @@ pub record IsCertified (library : Library) (fields : Fields) : Type 0 where
   pub nodes : List Node
   pub table : Table
   pub expanded : expansion library fields.entry ≡ Ok nodes
-  pub printed : IsPrinted nodes table fields.commands fields.size
+  pub printed : IsPrinted None nodes table fields.commands fields.size
   pub needs_are : fields.needs ≡ needs_in nodes table
   pub loops_are : fields.loops ≡ loops_of nodes table

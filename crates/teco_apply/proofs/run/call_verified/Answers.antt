@@ -1,7 +1,8 @@
-use Rattle.std.proofs.Common.{◌≡◌, [], ◌∷◌, ap, subst, ◌∙◌}
+use Rattle.std.proofs.Common.{◌≡◌, ◌<◌, [], ◌∷◌, ap, subst, ◌∙◌}
 use Rattle.teco_apply.proofs.Sure.{calls}
 use Rattle.teco_apply.specs.Sure.{MOST}
 use Rattle.teco_base.specs.Register.{register_name}
+use Rattle.teco_base.specs.declared.TheConstants.{REGISTERS}
 use Rattle.teco_expand.specs.Node.{call_of}
 use Rattle.teco_model.specs.Run.{Stops}
 use Rattle.teco_model.specs.State.{start}
@@ -12,7 +13,7 @@ use Rattle.teco_apply.proofs.run.call_verified.Goals as goal
 pub returns-clause-calls : goal.returns-clause-calls
 returns-clause-calls g c =
     let found = c.args.verified.now in
-    let called : 77 ∷ c.name.result ∷ [] ≡ call_of found.fields.entry = ap (λ name. 77 ∷ name ∷ []) (c.name.ensures ∙ ap register_name c.entry.ensures) in
+    let called : 77 ∷ c.name.result ∷ [] ≡ call_of found.fields.entry = ap (λ name. 77 ∷ name ∷ []) (c.name.ensures ∙ ap register_name c.entry-entry.ensures) in
     calls (record {
       linked = c.expansions_are_linked.ensures;
       verified = c.runs_are_verified.ensures;
@@ -21,6 +22,7 @@ returns-clause-calls g c =
       certified = c.is_certified.ensures;
       loaded = c.requires.loaded;
       whole = c.is_whole.ensures;
+      named = subst (λ r. r < REGISTERS) (c.index.ensures.value ∙ c.entry-entry.ensures) c.index.ensures.within;
       call = subst AreBytes called c.are_bytes.ensures;
       input = c.requires.input;
       output = c.requires.output;

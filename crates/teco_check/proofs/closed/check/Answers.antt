@@ -1,14 +1,14 @@
 use Rattle.std.proofs.Common.{◌≡◌, ◌<◌, ◌∙◌, length, Err, rules, arith}
-use Rattle.teco_table.specs.Closed.{check}
+use Rattle.teco_table.specs.Closed.{check_nodes, check}
 use Rattle.teco_check.proofs.Steps.{check_more, says_of}
 use Rattle.teco_check.proofs.closed.check.Goals as goal
 
 pub returns-then-not-is_entry : goal.returns-then-not-is_entry
-unfolding check
+unfolding check_nodes check
 returns-then-not-is_entry c = search rules
 
 pub loop-at-init : goal.loop-at-init
-unfolding check
+unfolding check_nodes check
 loop-at-init c = search rules
 
 pub returns-in_err-check_at : goal.returns-in_err-check_at

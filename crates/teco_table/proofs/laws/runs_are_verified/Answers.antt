@@ -12,4 +12,9 @@ returns c = runs_are_verified (record {
   };
   sound = c.nodes_are_sound.ensures;
   whole = c.whole_is_kept.ensures;
+}) (record {
+  steps = c.steps_are_alike.ensures;
+  runs = c.runs_are_alike.ensures;
+  readings = c.readings_are_alike.ensures;
+  pending = c.numbers_are_pending.ensures;
 }) c.iterations_end.ensures c.runs_end_in_time.ensures
