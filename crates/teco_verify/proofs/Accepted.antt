@@ -82,7 +82,7 @@ record AcceptsNodes (nodes : List Node) (table : Table) (steps most : Polynomial
 module _ (library : Library) (entry : ℕ) (steps most : Polynomial) (accepted : IsAccepted library entry steps most) where
   pub is_well_formed : entry < REGISTERS → IsWellFormed (plain_fields entry steps most)
   is_well_formed h = record {
-    parts = record { entry = h; commands = accepted.prints.steps_fit; size = accepted.prints.most_fits; loops = tt };
+    parts = record { entry = h; argument = tt; commands = accepted.prints.steps_fit; size = accepted.prints.most_fits; loops = tt };
     order = record { numbers = λ k d h. absurd (omega (arith, h)); registers = tt };
   }
 
@@ -112,4 +112,4 @@ module _ (library : Library) (entry : ℕ) (steps most : Polynomial) (accepted :
             let second : fields.size ≡ most = let e : Ok fields.size ≡ Ok most = sym f.size_is ∙ here.prints.size_is in cc in
             let needs = f.needs_are ∙ here.prints.needs_nothing in
             let loops = f.loops_are ∙ no_lines nodes table here.prints.has_no_lines in
-            rw (← f.entry_is, ← first, ← second, ← needs, ← loops) refl
+            rw (← f.entry_is, ← f.argument_is, ← first, ← second, ← needs, ← loops) refl

@@ -12,9 +12,10 @@ use Rattle.teco_verify.specs.declared.certifying.Flaw.{Flaw}
 use Rattle.teco_verify.specs.declared.certifying.Flaw.TheVariants as flaw
 use Rattle.teco_verify.specs.Finding.{Finding}
 
--- its numbers, needs and lines
+-- its numbers, needs and lines; it takes no argument
 pub record AreFieldsOf (nodes : List Node) (table : Table) (entry : ℕ) (fields : Fields) : Type 0 where
   pub entry_is : fields.entry ≡ entry
+  pub argument_is : fields.argument ≡ None
   pub needs_are : fields.needs ≡ needs_in nodes table
   pub commands_are : commands None nodes table ≡ Ok fields.commands
   pub size_is : size nodes table ≡ Ok fields.size

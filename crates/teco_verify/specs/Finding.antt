@@ -20,5 +20,6 @@ pub record IsCertified (library : Library) (fields : Fields) : Type 0 where
   pub table : Table
   pub expanded : expansion library fields.entry ≡ Ok nodes
   pub printed : IsPrinted None nodes table fields.commands fields.size
+  pub argument_is : fields.argument ≡ None
   pub needs_are : fields.needs ≡ needs_in nodes table
   pub loops_are : fields.loops ≡ loops_of nodes table

@@ -1,5 +1,5 @@
 -- What is found of straight text: the rules refuse none.
-use Rattle.std.specs.Prelude.{◌≡◌, ℕ, ◌+◌, List, [], length, Result, Ok, Err, ⊤}
+use Rattle.std.specs.Prelude.{◌≡◌, ℕ, ◌+◌, List, [], length, None, Result, Ok, Err, ⊤}
 use Rattle.teco_certificate.specs.Fields.{Fields}
 use Rattle.teco_certificate.specs.Text.{certificate_text}
 use Rattle.teco_expand.specs.Library.{Library}
@@ -15,7 +15,7 @@ use Rattle.teco_verify.specs.Finding.{Finding}
 -- no file must be open, and there is no iteration
 abbrev pub plain_fields : ℕ → Polynomial → Polynomial → Fields
 plain_fields entry steps most =
-    record { entry = entry; needs = no_needs; commands = steps; size = most; loops = [] }
+    record { entry = entry; argument = None; needs = no_needs; commands = steps; size = most; loops = [] }
 
 -- two commands more than it has elements, and N with what it inserts
 abbrev pub straight_fields : ℕ → List Element → Fields

@@ -69,6 +69,7 @@ pub fn certified<'l>(
     let needs = needs_in(nodes, table);
     let certificate = Certificate {
         entry,
+        argument: None,
         needs: Needs {
             input: needs.input,
             output: needs.output,
