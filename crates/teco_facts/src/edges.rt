@@ -242,7 +242,7 @@ fn search_edges(
     ensures { result ≡ rules.search_edges kind (seen placed.now) facts }
 {
     let element = &placed.element;
-    let taken = search::facts_at_search(facts)?;
+    let taken = search::facts_at_search(kind, facts)?;
     search_allowed(placed.inside, placed.colon)?;
     let failed = search::position_failed(kind, element.colons, &taken);
     let found = search::facts_found(kind, element.text, element.second, taken)?;

@@ -21,9 +21,9 @@ use teco_model::kind::Search;
 use teco_poly::Poly;
 use teco_rules::Refusal;
 
-// A count that may be 0 may be refused, and one that may be negative is not verified.
-fn count_allowed(n: Range) -> Result<(), Refusal>
-    ensures { result ≡ searches.count_allowed n }
+// S and FS: a count that may be 0 may be refused, and one that may be negative is not verified.
+fn count_in_buffer(n: Range) -> Result<(), Refusal>
+    ensures { result ≡ searches.count_in_buffer n }
 {
     if n.lo().at_most(Whole::ZERO) && Whole::ZERO.at_most(n.hi()) {
         Err(Refusal::Argument)
@@ -34,12 +34,32 @@ fn count_allowed(n: Range) -> Result<(), Refusal>
     }
 }
 
+// N and FN: a count that may be below 1 may be refused.
+fn count_in_pages(n: Range) -> Result<(), Refusal>
+    ensures { result ≡ searches.count_in_pages n }
+{
+    if n.lo().is_below_one() {
+        Err(Refusal::Argument)
+    } else {
+        Ok(())
+    }
+}
+
+fn count_allowed(search: Search, n: Range) -> Result<(), Refusal>
+    ensures { result ≡ searches.count_allowed search n }
+{
+    match search {
+        Search::Find | Search::Replace => count_in_buffer(n),
+        Search::FindInPages | Search::ReplaceInPages => count_in_pages(n),
+    }
+}
+
 // The count, and no first value.
-fn count_checked(taken: Taken, margins: Margins) -> Result<(), Refusal>
-    ensures { result ≡ searches.count_checked taken.first taken.value margins }
+fn count_checked(search: Search, taken: Taken, margins: Margins) -> Result<(), Refusal>
+    ensures { result ≡ searches.count_checked search taken.first taken.value margins }
 {
     match taken.first() {
-        None => count_allowed(count_of(taken.value(), margins)),
+        None => count_allowed(search, count_of(taken.value(), margins)),
         Some(_) => Err(Refusal::Argument),
     }
 }
@@ -135,11 +155,11 @@ pub fn facts_of_answer(mut found: Facts, failed: Position) -> Result<Facts, Refu
 }
 
 /// What is known before a search that took its arguments.
-pub fn facts_at_search(facts: Facts) -> Result<Facts, Refusal>
-    ensures value { result ≡ searches.facts_at_search facts }
+pub fn facts_at_search(search: Search, facts: Facts) -> Result<Facts, Refusal>
+    ensures value { result ≡ searches.facts_at_search search facts }
     ensures kept { IfOk result (λ taken. taken ≡ known.with_arguments (arguments.levels_after_taking facts.arguments) facts) }
 {
     let taken = facts.level().taken()?;
-    count_checked(taken, facts.margins())?;
+    count_checked(search, taken, facts.margins())?;
     Ok(facts.taking())
 }

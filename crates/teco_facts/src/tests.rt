@@ -100,7 +100,7 @@ fn what_is_told(rt: HostRuntime) {
 
 #[test]
 fn what_is_refused(rt: HostRuntime) {
-    let rows: [(&[u8], usize, bool, u8); 9] = [
+    let rows: [(&[u8], usize, bool, u8); 12] = [
         (b"5C", 2, false, 6),
         (b"D", 1, false, 7),
         (b"1/Z=", 4, false, 8),
@@ -109,6 +109,9 @@ fn what_is_refused(rt: HostRuntime) {
         (b"[A]A", 2, true, 13),
         (b"Sfoo\x1b", 1, false, 15),
         (b":S\x1b", 1, false, 15),
+        (b"-1:Sfoo\x1b", 3, false, 15),
+        (b"-1:Nfoo\x1b", 3, false, 4),
+        (b"0:FNfoo\x1b\x1b", 2, false, 4),
         (b"5+(<", 4, false, 5),
     ];
     for (text, count, library, want) in rows {

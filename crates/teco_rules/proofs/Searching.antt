@@ -64,12 +64,22 @@ positive_count value (pos (suc m)) e h = (m, ap searching.nonzero e)
 positive_count value (pos zero) e h = absurd (omega (arith, ints))
 positive_count value (negsuc m) e h = absurd (omega (arith, ints))
 
-allowed_count : (x y z : Bool) (i : Interval) (value : Option ℤ) → int_le i.lo (pos 0) ≡ x → int_le (pos 0) i.hi ≡ y → int_lt i.lo (pos 1) ≡ z → IsWithin i (unwrap_or value (pos 1)) → IfOk (cond (x && y) (Err refusal.Argument) (cond z (Err refusal.Unverified) (Ok tt))) (λ (u : Unit {0}). Counts None value)
-allowed_count true true z i value e f g h = tt
-allowed_count true false true i value e f g h = tt
-allowed_count false y true i value e f g h = tt
-allowed_count true false false i value e f g h = positive_count value _ refl (omega (arith, ints))
-allowed_count false y false i value e f g h = positive_count value _ refl (omega (arith, ints))
+in_buffer : (x y z : Bool) (i : Interval) (value : Option ℤ) → int_le i.lo (pos 0) ≡ x → int_le (pos 0) i.hi ≡ y → int_lt i.lo (pos 1) ≡ z → IsWithin i (unwrap_or value (pos 1)) → IfOk (cond (x && y) (Err refusal.Argument) (cond z (Err refusal.Unverified) (Ok tt))) (λ (u : Unit {0}). Counts None value)
+in_buffer true true z i value e f g h = tt
+in_buffer true false true i value e f g h = tt
+in_buffer false y true i value e f g h = tt
+in_buffer true false false i value e f g h = positive_count value _ refl (omega (arith, ints))
+in_buffer false y false i value e f g h = positive_count value _ refl (omega (arith, ints))
+
+in_pages : (z : Bool) (i : Interval) (value : Option ℤ) → int_lt i.lo (pos 1) ≡ z → IsWithin i (unwrap_or value (pos 1)) → IfOk (cond z (Err refusal.Argument) (Ok tt)) (λ (u : Unit {0}). Counts None value)
+in_pages true i value g h = tt
+in_pages false i value g h = positive_count value _ refl (omega (arith, ints))
+
+allowed_count : (s : Search) (i : Interval) (value : Option ℤ) → IsWithin i (unwrap_or value (pos 1)) → IfOk (row.count_allowed s i) (λ u. Counts None value)
+allowed_count Find i value h = in_buffer _ _ _ i value refl refl refl h
+allowed_count Replace i value h = in_buffer _ _ _ i value refl refl refl h
+allowed_count FindInPages i value h = in_pages _ i value refl h
+allowed_count ReplaceInPages i value h = in_pages _ i value refl h
 
 -- ---- what a search leaves
 module _ (run : Run) (facts : Facts) (unread : ℕ) (kept : Kept) (whole : IsWhole kept) (h : Holds run facts unread kept) where
@@ -78,10 +88,10 @@ module _ (run : Run) (facts : Facts) (unread : ℕ) (kept : Kept) (whole : IsWho
       let d = distances run facts unread kept whole h in
       interval_of_in _ facts.position.distances (fore_of kept) (back_of kept) _ d.least (omega (arith, d.within)) (omega (arith, d.within)) (or_single (fore_of kept) (back_of kept) o v (pos 1) i)
 
-  pub counted : (f o : Option Value) (m v : Option ℤ) → IsOptional (IsValue (fore_of kept) (back_of kept)) f m → IsOptional (IsValue (fore_of kept) (back_of kept)) o v → IfOk (row.count_checked f o facts.position.distances) (λ u. Counts m v)
-  counted None o None v i j = allowed_count _ _ _ (count_of o facts.position.distances) v refl refl refl (of_count o v j)
-  counted (Some s) o m v i j = tt
-  counted None o (Some m) v i j = absurd i
+  pub counted : (s : Search) (f o : Option Value) (m v : Option ℤ) → IsOptional (IsValue (fore_of kept) (back_of kept)) f m → IsOptional (IsValue (fore_of kept) (back_of kept)) o v → IfOk (row.count_checked s f o facts.position.distances) (λ u. Counts m v)
+  counted s None o None v i j = allowed_count s (count_of o facts.position.distances) v (of_count o v j)
+  counted s (Some f) o m v i j = tt
+  counted s None o (Some m) v i j = absurd i
 
   -- what is found
   found_at : (s : Search) → IsInBuffer s → (e : Element) (least : ℕ) (span : Span) (last : List ℕ) → LiesAhead kept.text kept.pointer least span → value facts.held run.n + value (row.shift_found s least (length e.second) facts.position.distances).growth run.n ≤ LIMIT → Succeeds (λ new. Shifts run.n (row.shift_found s least (length e.second) facts.position.distances) kept new) (searching.kept_after s e span (record kept { search_text = last }))
@@ -301,10 +311,10 @@ module _ (run : Run) (facts : Facts) (unread : ℕ) (kept : Kept) (arguments : m
   allowed_first (Ok u) z c h = h
   allowed_first (Err why) z c h = tt
 
-  at_search : (r : Result KnownTaken Refusal) (c : Result Taken Code) → Covers (IsTaken (fore_of kept) (back_of kept)) r c → Leads (FitsOn run.n) (SearchArrives run facts.held unread kept arguments x) ((r >>= λ known. row.count_checked known.first known.value facts.position.distances >>= λ u. Ok taking) >>= λ taken. transfers.search_allowed x.inside x.colon >>= λ allowed. row.facts_found s x.element taken >>= λ found. transfers.search_outcomes x.colon found (row.facts_failed s x.element.colons taken)) (c >>>= λ t. searching.search s x.element t kept)
+  at_search : (r : Result KnownTaken Refusal) (c : Result Taken Code) → Covers (IsTaken (fore_of kept) (back_of kept)) r c → Leads (FitsOn run.n) (SearchArrives run facts.held unread kept arguments x) ((r >>= λ known. row.count_checked s known.first known.value facts.position.distances >>= λ u. Ok taking) >>= λ taken. transfers.search_allowed x.inside x.colon >>= λ allowed. row.facts_found s x.element taken >>= λ found. transfers.search_outcomes x.colon found (row.facts_failed s x.element.colons taken)) (c >>>= λ t. searching.search s x.element t kept)
   at_search (Err why) c h = tt
   at_search (Ok k) (Err c) h = absurd h
-  at_search (Ok k) (Ok t) h = by_count _ (counted run facts unread kept whole d.state k.first k.value t.first t.value h.first h.value) where
+  at_search (Ok k) (Ok t) h = by_count _ (counted run facts unread kept whole d.state s k.first k.value t.first t.value h.first h.value) where
     by_count : (r : Result (Unit {0}) Refusal) → IfOk r (λ u. Counts t.first t.value) → Leads (FitsOn run.n) (SearchArrives run facts.held unread kept arguments x) ((r >>= λ u. Ok taking) >>= λ taken. transfers.search_allowed x.inside x.colon >>= λ allowed. row.facts_found s x.element taken >>= λ found. transfers.search_outcomes x.colon found (row.facts_failed s x.element.colons taken)) (searching.search s x.element t kept)
     by_count (Err why) n = tt
     by_count (Ok u) (m, e) = allowed_first _ _ _ (searched t m e)

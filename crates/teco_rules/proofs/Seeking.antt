@@ -388,10 +388,10 @@ module _ (run : Run) (facts : Facts) (world : World) (pending : model.Arguments)
         always_ok (Ok u) = tt
         always_ok (Err why) = tt
 
-    taken_seek : (output : Output) → world.files.output ≡ Some output → (r : Result KnownTaken Refusal) (c : Result Taken Code) → Covers (IsTaken (fore_of world.kept) (back_of world.kept)) r c → Leads (FitsOn run.n) (Seeks run seeking world pending x s) ((r >>= λ k. row.count_checked k.first k.value facts.position.distances >>= λ u. Ok (facts_taken facts)) >>= λ taken. transfers.search_allowed x.inside x.colon >>= λ allowed. row.facts_found s x.element taken >>= λ found. transfers.search_outcomes x.colon found (row.facts_failed s x.element.colons taken)) c
+    taken_seek : (output : Output) → world.files.output ≡ Some output → (r : Result KnownTaken Refusal) (c : Result Taken Code) → Covers (IsTaken (fore_of world.kept) (back_of world.kept)) r c → Leads (FitsOn run.n) (Seeks run seeking world pending x s) ((r >>= λ k. row.count_checked s k.first k.value facts.position.distances >>= λ u. Ok (facts_taken facts)) >>= λ taken. transfers.search_allowed x.inside x.colon >>= λ allowed. row.facts_found s x.element taken >>= λ found. transfers.search_outcomes x.colon found (row.facts_failed s x.element.colons taken)) c
     taken_seek output out (Err why) c h = tt
     taken_seek output out (Ok k) (Err c) h = absurd h
-    taken_seek output out (Ok k) (Ok t) h = as_leads _ (counted_seek output out t _ (counted run facts (unread_of world) world.kept whole d.state k.first k.value t.first t.value h.first h.value)) where
+    taken_seek output out (Ok k) (Ok t) h = as_leads _ (counted_seek output out t _ (counted run facts (unread_of world) world.kept whole d.state s k.first k.value t.first t.value h.first h.value)) where
       as_leads : (r : Result Edges Refusal) → IfOk r (λ edges. FitsOn run.n edges → Seeks run seeking world pending x s edges t) → Leads (FitsOn run.n) (Seeks run seeking world pending x s) r (Ok t)
       as_leads (Ok edges) h = h
       as_leads (Err why) h = tt

@@ -19,17 +19,27 @@ use Rattle.teco_rules.specs.Motions.{count_of, success}
 use Rattle.teco_rules.specs.Shifts.{Shift, moving, ending, shifted, position_after}
 use Rattle.teco_rules.specs.Values.{value_in}
 
--- A first value, and a count that may be 0, may be refused by the machine; a count that may be negative is not
--- verified.
-abbrev pub count_allowed : Interval → Result (Unit {0}) Refusal
-count_allowed n =
+-- S and FS: a count that may be 0 may be refused by the machine; one that may be negative is not verified.
+abbrev pub count_in_buffer : Interval → Result (Unit {0}) Refusal
+count_in_buffer n =
     if int_le n.lo (pos 0) && int_le (pos 0) n.hi then Err refusal.Argument
     else if int_lt n.lo (pos 1) then Err refusal.Unverified
     else Ok tt
 
-abbrev pub count_checked : Option Value → Option Value → Distances → Result (Unit {0}) Refusal
-count_checked None n distances = count_allowed (count_of n distances)
-count_checked (Some m) n distances = Err refusal.Argument
+-- N and FN: one that may be below 1 may be refused by the machine.
+abbrev pub count_in_pages : Interval → Result (Unit {0}) Refusal
+count_in_pages n = if int_lt n.lo (pos 1) then Err refusal.Argument else Ok tt
+
+abbrev pub count_allowed : Search → Interval → Result (Unit {0}) Refusal
+count_allowed Find n = count_in_buffer n
+count_allowed Replace n = count_in_buffer n
+count_allowed FindInPages n = count_in_pages n
+count_allowed ReplaceInPages n = count_in_pages n
+
+-- So may a first value be.
+abbrev pub count_checked : Search → Option Value → Option Value → Distances → Result (Unit {0}) Refusal
+count_checked s None n distances = count_allowed s (count_of n distances)
+count_checked s (Some m) n distances = Err refusal.Argument
 
 -- the minimum length of what is sought: an empty text means the last one, and one with a register's text has none
 abbrev pub known_minimum : Result (Option ℕ) Code → Result ℕ Refusal
@@ -91,8 +101,8 @@ facts_of_answer found failed = do
   })
 
 -- what is known before a search that took its arguments
-abbrev pub facts_at_search : Facts → Result Facts Refusal
-facts_at_search facts = do
+abbrev pub facts_at_search : Search → Facts → Result Facts Refusal
+facts_at_search s facts = do
   taken ← arguments_of facts.arguments.level
-  counted ← count_checked taken.first taken.value facts.position.distances
+  counted ← count_checked s taken.first taken.value facts.position.distances
   Ok (with_arguments (levels_after_taking facts.arguments) facts)

@@ -118,7 +118,7 @@ search_outcomes false found failed = Ok (record { on = Some found; away = Some (
 
 abbrev pub search_edges : Search → Placed → Facts → Result Edges Refusal
 search_edges s x facts = do
-  taken ← facts_at_search facts
+  taken ← facts_at_search s facts
   allowed ← search_allowed x.inside x.colon
   found ← facts_found s x.element taken
   search_outcomes x.colon found (facts_failed s x.element.colons taken)

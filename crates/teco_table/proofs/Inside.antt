@@ -166,7 +166,7 @@ module _ (library : Library) (entry : ℕ) (nodes : List Node) (table : Table) (
 
     pub search_start : (q : Search) → e.kind ≡ kind.Search q → (placed nodes here.node e).colon ≡ false → HasStart here.node.stand.position.running.starts
     search_start q is colon =
-        let taken = bound (facts_at_search (without_answer here.facts)) _ edges (kind_edges nodes here.node e (kind.Search q) here.facts edges reads is leads) in
+        let taken = bound (facts_at_search q (without_answer here.facts)) _ edges (kind_edges nodes here.node e (kind.Search q) here.facts edges reads is leads) in
         let free = bound (search_allowed (placed nodes here.node e).inside (placed nodes here.node e).colon) _ edges taken.gives in
         start_of_text here.node.stand.position.running.starts (allowed (placed nodes here.node e).inside (placed nodes here.node e).colon free.before free.was colon)
 

@@ -63,7 +63,7 @@ const ACCEPTED: [(&[u8], &str); 10] = [
     ),
 ];
 
-const REFUSED: [(&[u8], &str, u8, usize); 16] = [
+const REFUSED: [(&[u8], &str, u8, usize); 18] = [
     (b"", "X11", b'A', 0),
     (b"@^UB//", "X11", b'A', 0),
     (b"@^UA/MB/", "X11", b'A', 0),
@@ -85,6 +85,8 @@ const REFUSED: [(&[u8], &str, u8, usize); 16] = [
         33,
     ),
     (b"@^UA/3<MB>/@^UB/Sx\x1b/", "X15", b'B', 0),
+    (b"@^UA/-1:Nfoo\x1b=/", "X4", b'A', 2),
+    (b"@^UA/-1:Sfoo\x1b=/", "X15", b'A', 2),
 ];
 
 // A library, what stands in the place of a part of the certificate of its macro A, and whether that is accepted.
