@@ -15,6 +15,7 @@ use Rattle.teco_model.specs.Element.{Element, blank_len, element_from, element_a
 use Rattle.teco_model.specs.Letters.{letters}
 use Rattle.teco_expand.specs.Refusal.{Reason, Unpaired, Recursion, TooLarge, Refusal, unless}
 use Rattle.teco_expand.specs.Library.{Library, macro}
+use Rattle.teco_expand.specs.Overlap.{overlaps}
 use Rattle.teco_expand.specs.Position.{Spot, Position, spot_at, starts_in, depth}
 use Rattle.teco_expand.specs.Ways.{past, read_at, end_ways, call_ways, flow_ways, return_ways, element_ways, ways_at}
 use Rattle.teco_expand.specs.Node.{Stand, Node, call_of, beginning, over, stand_of_node, stands, numbered, stand_at, base_of}
@@ -247,7 +248,8 @@ unfolding next_visit
 next_is library number v next h =
     let read = bound_way (read_at v.stand.position) _ next h in
     let ways = bound_way (ways_at library read.before v.stand.position) _ next read.gives in
-    let once = bound_way (unless (is_recursion read.before v.registers) Recursion) _ next ways.gives in
+    let apart = bound_way (unless (overlaps read.before ways.before v.stand.position) Unpaired) _ next ways.gives in
+    let once = bound_way (unless (is_recursion read.before v.registers) Recursion) _ next apart.gives in
     let few = bound_way (unless (not (is_within number (visit_behind library number read.before v))) TooLarge) _ next once.gives in
     let is : visit_behind library number read.before v ≡ next = ok _ next few.gives in
     record {

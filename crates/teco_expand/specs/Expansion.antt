@@ -10,6 +10,7 @@ use Rattle.teco_expand.specs.Library.{Library}
 use Rattle.teco_expand.specs.Names.{names_macro}
 use Rattle.teco_expand.specs.Node.{Stand, Node, beginning, over, stand_at, base_of}
 use Rattle.teco_expand.specs.Order.{stand_behind}
+use Rattle.teco_expand.specs.Overlap.{overlaps}
 use Rattle.teco_expand.specs.Position.{Spot, Position, place_at}
 use Rattle.teco_expand.specs.Refusal.{Reason, Unpaired, Recursion, TooLarge, Refusal, unless, ◌>>=◌}
 use Rattle.teco_expand.specs.Ways.{read_at, ways_at}
@@ -65,12 +66,13 @@ is_within number next =
     && nat_le (length next.registers) MOST_OPEN
     && nat_le (length next.stand.iterations) MOST_OPEN
 
--- The visit that follows one of a number. What is read there may be refused, then its ways, then what it calls, and
--- then how much there is.
+-- The visit that follows one of a number. What is read there may be refused, then its ways, then pairs that overlap, then
+-- what it calls, and then how much there is.
 unfoldable pub next_visit : Library → ℕ → Visit → Result Visit Reason
 next_visit library number v = do
   read ← read_at v.stand.position
   ways ← ways_at library read v.stand.position
+  apart ← unless (overlaps read ways v.stand.position) Unpaired
   once ← unless (is_recursion read v.registers) Recursion
   few ← unless (not (is_within number (visit_behind library number read v))) TooLarge
   Ok (visit_behind library number read v)

@@ -10,6 +10,7 @@ pub mod Loaded
 pub mod Names
 pub mod Node
 pub mod Order
+pub mod Overlap
 pub mod Expansion
 pub mod Linked
 pub mod Iterations

@@ -109,6 +109,12 @@ pub record WorkedExpansions : Type 0 where
   pub overlap_of_end : Refuses (only (codes "1\"N2<'>")) Unpaired 0 1
   pub overlap_of_ahead : Refuses (only (codes "0\"E1<F'>'")) Unpaired 0 5
   pub overlap_before_fault : Refuses (only (codes "2<0\"N>'?")) Unpaired 0 3
+  -- an overlap comes before what is refused on the way; an iteration without an end is none
+  pub overlap_before_fault_inside : Refuses (only (codes "1\"E2<?'>")) Unpaired 0 1
+  pub overlap_before_call : Refuses (only (codes "1\"E2<MC'>")) Unpaired 0 1
+  pub overlap_before_iteration : Refuses (only (codes "1\"E2<<'>")) Unpaired 0 1
+  pub overlap_of_other_branch : Refuses (only (codes "1\"E|2<MC'>")) Unpaired 0 3
+  pub end_alone_inside : Refuses (only (codes "1\"E>'>")) Unpaired 0 3
   pub fault_within : Refuses (only (codes "1<?>")) Fault 0 2
   -- calls
   pub no_entry : Refuses [] NoMacro 0 0

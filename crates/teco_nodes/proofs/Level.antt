@@ -10,8 +10,9 @@ use Rattle.teco_expand.specs.Expansion.{Visit, MOST_OPEN, first_visit, open_behi
 use Rattle.teco_expand.specs.Library.{Library, macro}
 use Rattle.teco_expand.specs.Node.{Stand}
 use Rattle.teco_expand.specs.Order.{position_in_text, position_behind_call, stand_behind_kind}
+use Rattle.teco_expand.specs.Overlap.{overlaps}
 use Rattle.teco_expand.specs.Position.{Spot, Position, starts_in, depth}
-use Rattle.teco_expand.specs.Refusal.{Reason, Recursion, TooLarge, unless, ◌>>=◌}
+use Rattle.teco_expand.specs.Refusal.{Reason, Unpaired, Recursion, TooLarge, unless, ◌>>=◌}
 use Rattle.teco_expand.specs.Ways.{read_at, end_ways, flow_ways, return_ways, call_ways, element_ways, ways_at}
 use Rattle.teco_nodes.specs.Few.{listed}
 use Rattle.teco_nodes.specs.Room.{HasRoom}
@@ -113,7 +114,8 @@ unfolding next_visit
 level_next library number v next h level =
     let a = bound (read_at v.stand.position) _ next h in
     let b = bound (ways_at library a.before v.stand.position) _ next a.gives in
-    let c = bound (unless (is_recursion a.before v.registers) Recursion) _ next b.gives in
+    let apart = bound (unless (overlaps a.before b.before v.stand.position) Unpaired) _ next b.gives in
+    let c = bound (unless (is_recursion a.before v.registers) Recursion) _ next apart.gives in
     let d = bound (unless (not (is_within number (visit_behind library number a.before v))) TooLarge) _ next c.gives in
     let is = same (visit_behind library number a.before v) next d.gives in
     let within = not_refused (is_within number (visit_behind library number a.before v)) TooLarge d.before d.was in

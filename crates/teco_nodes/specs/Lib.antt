@@ -1,4 +1,5 @@
 -- What the contracts of this crate say of its types.
+pub mod Crossed
 pub mod Expands
 pub mod Few
 pub mod Linking

@@ -8,6 +8,7 @@ mod names;
 mod node;
 mod nodes;
 mod order;
+mod overlap;
 mod reading;
 mod refusal;
 mod same;

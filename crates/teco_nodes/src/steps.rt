@@ -13,6 +13,7 @@ ghost use Rattle.teco_nodes.specs.declared.texts.Texts.{Texts};
 
 use crate::few::Few;
 use crate::order::stand_behind;
+use crate::overlap::overlaps;
 use crate::reading::read_at;
 use crate::refusal::{Reason, Refusal};
 use crate::spot::{Position, Spot, Stand};
@@ -118,7 +119,10 @@ pub fn next_visit(texts: &Texts<'_>, number: usize, visit: &Visit) -> Result<Vis
         Ok(read) => read,
         Err(reason) => return Err(reason),
     };
-    let _ways = ways_at(texts, &read, position)?;
+    let ways = ways_at(texts, &read, position)?;
+    if overlaps(texts, &read, &ways, position) {
+        return Err(Reason::Unpaired);
+    }
     if is_recursion(&read, &visit.registers) {
         return Err(Reason::Recursion);
     }

@@ -136,7 +136,7 @@ const EXPANSIONS: [(&[u8], &[Told]); 9] = [
 ];
 
 /// The reason by its number, the place of the register, and the place in its text.
-const REFUSALS: [(&[u8], u8, usize, usize); 26] = [
+const REFUSALS: [(&[u8], u8, usize, usize); 32] = [
     (b"@^UA/1=?/", 0, 0, 2),
     (b"@^UA/1= ?/", 0, 0, 3),
     (b"@^UA/1Ia/", 0, 0, 1),
@@ -149,6 +149,12 @@ const REFUSALS: [(&[u8], u8, usize, usize); 26] = [
     (b"@^UA/2<0\"N>'/", 1, 0, 3),
     (b"@^UA/1\"N2<'>/", 1, 0, 1),
     (b"@^UA/2<0\"N>'?/", 1, 0, 3),
+    (b"@^UA/1\"E2<?'>/", 1, 0, 1),
+    (b"@^UA/1\"E2<MC'>/", 1, 0, 1),
+    (b"@^UA/1\"E2<<'>/", 1, 0, 1),
+    (b"@^UA/0\"E2<F>0\"E''>/", 1, 0, 1),
+    (b"@^UA/1\"E>'>/", 1, 0, 3),
+    (b"@^UA/1\"E?'/", 0, 0, 3),
     (b"@^UA/F>/", 1, 0, 0),
     (b"@^UA/1=F>>/", 1, 0, 2),
     (b"@^UA/1<F'>/", 1, 0, 2),
