@@ -88,9 +88,7 @@ fn is_branch(kind: &Kind) -> bool
 {
     matches!(
         *kind,
-        Kind::Flow(
-            Flow::Test(_) | Flow::Otherwise | Flow::GoAhead(Goal::EndTest | Goal::Otherwise)
-        )
+        Kind::Flow(Flow::Test(_) | Flow::Otherwise | Flow::GoAhead(Goal::EndTest | Goal::Otherwise))
     )
 }
 
