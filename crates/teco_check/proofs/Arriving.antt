@@ -7,7 +7,8 @@ use Rattle.std.specs.Option.{option_and_then}
 use Rattle.teco_expand.specs.Node.{Node}
 use Rattle.teco_rules.specs.declared.refusal.Refusal.{Refusal}
 use Rattle.teco_rules.specs.Attempt.{◌>>=◌}
-use Rattle.teco_rules.specs.Facts.{Facts, entry_facts}
+use Rattle.teco_rules.specs.Argument.{ArgumentRange, facts_given}
+use Rattle.teco_rules.specs.Facts.{Facts}
 use Rattle.teco_table.specs.Behind.{edges_at}
 use Rattle.teco_table.specs.Deriving.{Chosen, Arrival, Derived, met, met_with, derived_at, derive, derive_from}
 use Rattle.teco_table.specs.Table.{Row, Table, facts_in, facts_at}
@@ -137,29 +138,29 @@ nothing_at (suc count) zero h = refl
 nothing_at (suc count) (suc k) h = nothing_at count k (omega arith)
 
 -- the edges that arrived before the node behind a number
-unfoldable pub arrivals_before : List Node → List Chosen → ℕ → List Arrival
-arrivals_before nodes chosen zero = record { target = 1; facts = entry_facts } ∷ []
-arrivals_before nodes chosen (suc k) =
-    let before = arrivals_before nodes chosen k in
+unfoldable pub arrivals_before : Option ArgumentRange → List Node → List Chosen → ℕ → List Arrival
+arrivals_before argument nodes chosen zero = record { target = 1; facts = facts_given argument } ∷ []
+arrivals_before argument nodes chosen (suc k) =
+    let before = arrivals_before argument nodes chosen k in
     before ++ arrivals_of (met (suc k) before None >>= derived_at nodes chosen (suc k) (node_at nodes (suc k)))
 
 -- so far a table is derived
-pub record AreDerived (nodes : List Node) (chosen : List Chosen) (k : ℕ) (slots : Slots) (table : Table) : Type 0 where
-  pub met : AreMet slots (arrivals_before nodes chosen k) k (length nodes)
-  pub derived : derive None nodes chosen ≡ (derive_from nodes chosen (suc k) (drop k nodes) (arrivals_before nodes chosen k) >>= (λ rows. Ok (table ++ rows)))
+pub record AreDerived (argument : Option ArgumentRange) (nodes : List Node) (chosen : List Chosen) (k : ℕ) (slots : Slots) (table : Table) : Type 0 where
+  pub met : AreMet slots (arrivals_before argument nodes chosen k) k (length nodes)
+  pub derived : derive argument nodes chosen ≡ (derive_from nodes chosen (suc k) (drop k nodes) (arrivals_before argument nodes chosen k) >>= (λ rows. Ok (table ++ rows)))
   pub rows : length table ≡ k
 
-pub begun : (nodes : List Node) (chosen : List Chosen) (slots : Slots) → slots ≡ arrived_at 1 entry_facts (replicate (length nodes) (Ok None)) → AreDerived nodes chosen 0 slots []
+pub begun : (argument : Option ArgumentRange) (nodes : List Node) (chosen : List Chosen) (slots : Slots) → slots ≡ arrived_at 1 (facts_given argument) (replicate (length nodes) (Ok None)) → AreDerived argument nodes chosen 0 slots []
 unfolding arrivals_before derive
-begun nodes chosen slots e = record {
-  met = rw e (met_one (replicate (length nodes) (Ok None)) [] 0 (length nodes) 1 entry_facts (record { long = length-replicate (length nodes) (Ok None); each = λ k h l. nothing_at (length nodes) k l }));
-  derived = sym (done (derive_from nodes chosen 1 nodes (record { target = 1; facts = entry_facts } ∷ [])));
+begun argument nodes chosen slots e = record {
+  met = rw e (met_one (replicate (length nodes) (Ok None)) [] 0 (length nodes) 1 (facts_given argument) (record { long = length-replicate (length nodes) (Ok None); each = λ k h l. nothing_at (length nodes) k l }));
+  derived = sym (done (derive_from nodes chosen 1 nodes (record { target = 1; facts = facts_given argument } ∷ [])));
   rows = refl;
 }
 
 -- what is derived at the node behind a number
-derived_is : (nodes : List Node) (chosen : List Chosen) (k : ℕ) (slots : Slots) → k < length nodes → AreMet slots (arrivals_before nodes chosen k) k (length nodes) → derived_from nodes chosen (k + 1) slots ≡ (met (suc k) (arrivals_before nodes chosen k) None >>= derived_at nodes chosen (suc k) (node_at nodes (suc k)))
-derived_is nodes chosen k slots h m =
+derived_is : (argument : Option ArgumentRange) (nodes : List Node) (chosen : List Chosen) (k : ℕ) (slots : Slots) → k < length nodes → AreMet slots (arrivals_before argument nodes chosen k) k (length nodes) → derived_from nodes chosen (k + 1) slots ≡ (met (suc k) (arrivals_before argument nodes chosen k) None >>= derived_at nodes chosen (suc k) (node_at nodes (suc k)))
+derived_is argument nodes chosen k slots h m =
     let same : k + 1 - 1 ≡ k = omega arith in
     rw (same, add-one) (ap (λ r. r >>= derived_at nodes chosen (suc k) (node_at nodes (suc k))) (m.each k (omega arith) h))
 
@@ -180,11 +181,11 @@ refused_node nodes chosen k before why h e = rw (nodes_from nodes k h) (by_met (
     by_met (Ok known) e = rw e refl
 
 -- one row more
-pub row_more : (nodes : List Node) (chosen : List Chosen) (k : ℕ) (slots new : Slots) (table : Table) (row : Row) → k < length nodes → AreDerived nodes chosen k slots table → DerivesTo (derived_from nodes chosen (k + 1) slots) (set slots (k + 1 - 1) (Ok None)) new row → AreDerived nodes chosen (k + 1) new (table ++ row ∷ [])
+pub row_more : (argument : Option ArgumentRange) (nodes : List Node) (chosen : List Chosen) (k : ℕ) (slots new : Slots) (table : Table) (row : Row) → k < length nodes → AreDerived argument nodes chosen k slots table → DerivesTo (derived_from nodes chosen (k + 1) slots) (set slots (k + 1 - 1) (Ok None)) new row → AreDerived argument nodes chosen (k + 1) new (table ++ row ∷ [])
 unfolding arrivals_before
-row_more nodes chosen k slots new table row h a d =
-    let before = arrivals_before nodes chosen k in
-    let is = derived_is nodes chosen k slots h a.met in
+row_more argument nodes chosen k slots new table row h a d =
+    let before = arrivals_before argument nodes chosen k in
+    let is = derived_is argument nodes chosen k slots h a.met in
     let derived = rw is at d.derived in
     let same : k + 1 - 1 ≡ k = omega arith in
     rw add-one (record {
@@ -194,12 +195,12 @@ row_more nodes chosen k slots new table row h a d =
     })
 
 -- a row that is refused
-pub row_refused : (nodes : List Node) (chosen : List Chosen) (k : ℕ) (slots : Slots) (table : Table) (why : Refusal) → k < length nodes → AreDerived nodes chosen k slots table → derived_from nodes chosen (k + 1) slots ≡ Err why → derive None nodes chosen ≡ Err why
-row_refused nodes chosen k slots table why h a e =
-    a.derived ∙ rw (refused_node nodes chosen k (arrivals_before nodes chosen k) why h (sym (derived_is nodes chosen k slots h a.met) ∙ e)) refl
+pub row_refused : (argument : Option ArgumentRange) (nodes : List Node) (chosen : List Chosen) (k : ℕ) (slots : Slots) (table : Table) (why : Refusal) → k < length nodes → AreDerived argument nodes chosen k slots table → derived_from nodes chosen (k + 1) slots ≡ Err why → derive argument nodes chosen ≡ Err why
+row_refused argument nodes chosen k slots table why h a e =
+    a.derived ∙ rw (refused_node nodes chosen k (arrivals_before argument nodes chosen k) why h (sym (derived_is argument nodes chosen k slots h a.met) ∙ e)) refl
 
-pub all_derived : (nodes : List Node) (chosen : List Chosen) (k : ℕ) (slots : Slots) (table : Table) → length nodes ≤ k → AreDerived nodes chosen k slots table → derive None nodes chosen ≡ Ok table
-all_derived nodes chosen k slots table h a = a.derived ∙ rw (drop_all k nodes h, append-nil) refl
+pub all_derived : (argument : Option ArgumentRange) (nodes : List Node) (chosen : List Chosen) (k : ℕ) (slots : Slots) (table : Table) → length nodes ≤ k → AreDerived argument nodes chosen k slots table → derive argument nodes chosen ≡ Ok table
+all_derived argument nodes chosen k slots table h a = a.derived ∙ rw (drop_all k nodes h, append-nil) refl
 
 -- what the row of a node that is reached says
 facts_of : Result Derived Refusal → Option Facts
@@ -225,22 +226,22 @@ table_of : Result Table Refusal → Table
 table_of (Ok table) = table
 table_of (Err why) = []
 
-large_in : (nodes : List Node) (chosen : List Chosen) (k : ℕ) (slots : Slots) (table : Table) → k < length nodes → AreDerived nodes chosen k slots table → HasLarge (derived_from nodes chosen (k + 1) slots) (k + 1) (k + 1) → (whole : Table) → derive None nodes chosen ≡ Ok whole → AreLarge (facts_at whole (k + 1))
+large_in : (argument : Option ArgumentRange) (nodes : List Node) (chosen : List Chosen) (k : ℕ) (slots : Slots) (table : Table) → k < length nodes → AreDerived argument nodes chosen k slots table → HasLarge (derived_from nodes chosen (k + 1) slots) (k + 1) (k + 1) → (whole : Table) → derive argument nodes chosen ≡ Ok whole → AreLarge (facts_at whole (k + 1))
 unfolding ok_of table_of
-large_in nodes chosen k slots table h a l whole e =
-    let before = arrivals_before nodes chosen k in
+large_in argument nodes chosen k slots table h a l whole e =
+    let before = arrivals_before argument nodes chosen k in
     let rows = ok_of (derive_from nodes chosen (suc k) (drop k nodes) before) _ whole (sym a.derived ∙ e) in
     let known = ok_of (met (suc k) before None) _ rows.0 (ap (λ nodes_here. derive_from nodes chosen (suc k) nodes_here before) (sym (nodes_from nodes k h)) ∙ rows.1) in
     let here = ok_of (derived_at nodes chosen (suc k) (node_at nodes (suc k)) known.0) _ rows.0 known.2 in
     let rest = ok_of (derive_from nodes chosen (suc (suc k)) (drop (suc k) nodes) (before ++ here.0.arrivals)) _ rows.0 here.2 in
-    let is : derived_from nodes chosen (k + 1) slots ≡ Ok here.0 = derived_is nodes chosen k slots h a.met ∙ (ap (λ r. r >>= derived_at nodes chosen (suc k) (node_at nodes (suc k))) known.1 ∙ here.1) in
+    let is : derived_from nodes chosen (k + 1) slots ≡ Ok here.0 = derived_is argument nodes chosen k slots h a.met ∙ (ap (λ r. r >>= derived_at nodes chosen (suc k) (node_at nodes (suc k))) known.1 ∙ here.1) in
     let same : table ++ here.0.row ∷ rest.0 ≡ whole = ap (λ more. table ++ more) (ap table_of rest.2) ∙ ap table_of rows.2 in
     let there : facts_at whole (suc k) ≡ here.0.row.facts = ap (λ t. facts_at t (suc k)) (sym same) ∙ ap (option_and_then facts_in) (row_there table k here.0.row rest.0 a.rows) in
     subst (λ n. AreLarge (facts_at whole n)) (sym (add-one k)) (subst AreLarge (sym there) (l.large here.0 is))
 
 -- what is said of a row is said of the whole
-pub row_said : (nodes : List Node) (chosen : List Chosen) (k : ℕ) (slots new : Slots) (table : Table) (why : NotDerived) → k < length nodes → AreDerived nodes chosen k slots table → DerivesFrom nodes chosen (k + 1) slots new (Err why) → Derives (derive None nodes chosen) (Err why)
-row_said nodes chosen k slots new table (fault.Refused why node) h a e = row_refused nodes chosen k slots table why h a e
-row_said nodes chosen k slots new table (fault.Large node) h a e =
-    subst (λ n. (whole : Table) → derive None nodes chosen ≡ Ok whole → AreLarge (facts_at whole n)) (sym e.here) (large_in nodes chosen k slots table h a (record { here = refl; large = e.large }))
-row_said nodes chosen k slots new table fault.Memory h a e = tt
+pub row_said : (argument : Option ArgumentRange) (nodes : List Node) (chosen : List Chosen) (k : ℕ) (slots new : Slots) (table : Table) (why : NotDerived) → k < length nodes → AreDerived argument nodes chosen k slots table → DerivesFrom nodes chosen (k + 1) slots new (Err why) → Derives (derive argument nodes chosen) (Err why)
+row_said argument nodes chosen k slots new table (fault.Refused why node) h a e = row_refused argument nodes chosen k slots table why h a e
+row_said argument nodes chosen k slots new table (fault.Large node) h a e =
+    subst (λ n. (whole : Table) → derive argument nodes chosen ≡ Ok whole → AreLarge (facts_at whole n)) (sym e.here) (large_in argument nodes chosen k slots table h a (record { here = refl; large = e.large }))
+row_said argument nodes chosen k slots new table fault.Memory h a e = tt

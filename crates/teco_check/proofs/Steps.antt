@@ -7,6 +7,7 @@ use Rattle.teco_expand.specs.Ends.{ends, first_end}
 use Rattle.teco_expand.specs.Node.{Node}
 use Rattle.teco_poly.specs.Polynomial.{Polynomial}
 use Rattle.teco_rules.specs.declared.refusal.Refusal.{Refusal}
+use Rattle.teco_rules.specs.Argument.{ArgumentRange}
 use Rattle.teco_rules.specs.Facts.{Facts, join_of}
 use Rattle.teco_rules.specs.Flows.{Edges}
 use Rattle.teco_rules.specs.Printed.{Needs, no_needs}
@@ -134,9 +135,9 @@ needs_more nodes table (suc k) needs h l e =
     rw (same, nodes_from nodes k within, e, add-one) refl
 
 -- what is said of a node is said of the whole
-pub says_of : (nodes : List Node) (table : Table) (k : ℕ) (why : Bad) → k < length nodes → check None nodes table ≡ check_from nodes table (suc k) (drop k nodes) → SaysAt (k + 1) (closed_at nodes table (k + 1) (node_at nodes (k + 1))) (Err why) → Says (check None nodes table) (Err why)
-says_of nodes table k (bad.Edge node) h e s = e ∙ check_fails nodes table k h s.0 ∙ ap Err (sym s.1)
-says_of nodes table k bad.Memory h e s = tt
+pub says_of : (argument : Option ArgumentRange) (nodes : List Node) (table : Table) (k : ℕ) (why : Bad) → k < length nodes → check argument nodes table ≡ check_from nodes table (suc k) (drop k nodes) → SaysAt (k + 1) (closed_at nodes table (k + 1) (node_at nodes (k + 1))) (Err why) → Says (check argument nodes table) (Err why)
+says_of argument nodes table k (bad.Edge node) h e s = e ∙ check_fails nodes table k h s.0 ∙ ap Err (sym s.1)
+says_of argument nodes table k bad.Memory h e s = tt
 
 -- edges that arrive
 module _ (changes : Changes) (choice : Option Choice) (read : Option Element) (edges : Edges) (k target : ℕ) (ways : List ℕ) (slots : Slots) (is : slice_get ways k ≡ Some target) where

@@ -18,6 +18,7 @@ use std::alloc::Global;
 use teco_facts::{Edges, Facts, Fault};
 use teco_model::Element;
 use teco_nodes::Nodes;
+use teco_rules::ArgumentRange;
 
 // Whether an edge is covered where it leads. Behind all nodes nothing is known; the return of the entry alone leads there.
 fn arrives(
@@ -169,12 +170,17 @@ fn check_at(nodes: &Nodes<'_>, table: &Table, number: usize) -> Result<(), Bad>
     }
 }
 
-/// Whether a table is closed, or else the number of the first node at which a condition fails. It takes about as long as there
-/// are nodes and registers.
-pub fn check(alloc: Global, nodes: &Nodes<'_>, table: &Table) -> Result<(), Bad>
-    ensures { Says (rules.check None nodes.now table.now) result }
+/// Whether a table is closed for an entry that takes the declared argument, if there is one; or else the number of the first node
+/// at which a condition fails. It takes about as long as there are nodes and registers.
+pub fn check(
+    alloc: Global,
+    argument: Option<ArgumentRange>,
+    nodes: &Nodes<'_>,
+    table: &Table,
+) -> Result<(), Bad>
+    ensures { Says (rules.check argument nodes.now table.now) result }
 {
-    if !is_entry(alloc, table.facts(1)) {
+    if !is_entry(alloc, argument, table.facts(1)) {
         return Err(Bad::Edge { node: 1 });
     }
     for at in 0..nodes.len() {

@@ -18,7 +18,7 @@ use teco_certificate::LoopLine;
 use teco_facts::{Choice, Edges, Facts, Fault, body_start};
 use teco_model::Element;
 use teco_nodes::Nodes;
-use teco_rules::Refusal;
+use teco_rules::{ArgumentRange, Refusal};
 
 /// Why no table is derived.
 #[derive(Clone, Copy)]
@@ -173,14 +173,20 @@ fn row_at(
     }
 }
 
-/// The table that is derived with these choices. It takes about as long as there are nodes and registers.
-pub fn derive(alloc: Global, nodes: &Nodes<'_>, chosen: &[LoopLine]) -> Result<Table, NotDerived>
-    ensures { Derives (rules.derive None nodes.now chosen.now) result }
+/// The table that is derived with these choices, for an entry that takes the declared argument, if there is one. It takes about as
+/// long as there are nodes and registers.
+pub fn derive(
+    alloc: Global,
+    argument: Option<ArgumentRange>,
+    nodes: &Nodes<'_>,
+    chosen: &[LoopLine],
+) -> Result<Table, NotDerived>
+    ensures { Derives (rules.derive argument nodes.now chosen.now) result }
 {
     let Ok(mut arrived) = Arrived::new(alloc, nodes.len()) else {
         return Err(NotDerived::Memory);
     };
-    arrived.put(1, Facts::entry(alloc));
+    arrived.put(1, Facts::entry(alloc, argument));
     let mut table = Table::new(alloc);
     for at in 0..nodes.len() {
         let row = row_at(nodes, chosen, at + 1, &mut arrived)?;

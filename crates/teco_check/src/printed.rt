@@ -15,7 +15,7 @@ use teco_facts::{Facts, Needs, needs_of, steps, turns};
 use teco_model::Element;
 use teco_nodes::Nodes;
 use teco_poly::Poly;
-use teco_rules::Refusal;
+use teco_rules::{ArgumentRange, Refusal};
 
 /// A printed number overflows at the node of this number.
 #[derive(Clone, Copy, Debug, PartialEq, Eq)]
@@ -104,11 +104,26 @@ fn counted_with(
     total.add(&more).ok_or(Refusal::Overflow)
 }
 
-/// The most steps that a run takes: the sum over the nodes, each with its steps, once for each turn round it.
-pub fn commands(nodes: &Nodes<'_>, table: &Table) -> Result<Poly, Overflow>
-    ensures { Prints (rules.commands None nodes.now table.now) result }
+// The steps before the first node: the digits of the argument are one, where one is declared.
+fn steps_before(argument: Option<ArgumentRange>) -> u64
+    ensures { result ≡ rules.steps_before argument }
 {
-    let mut total = Poly::number(0);
+    match argument {
+        None => 0,
+        Some(_) => 1,
+    }
+}
+
+/// The most steps that a run takes: the sum over the nodes, each with its steps, once for each turn round it; and the digits of the
+/// argument, where one is declared.
+pub fn commands(
+    argument: Option<ArgumentRange>,
+    nodes: &Nodes<'_>,
+    table: &Table,
+) -> Result<Poly, Overflow>
+    ensures { Prints (rules.commands argument nodes.now table.now) result }
+{
+    let mut total = Poly::number(steps_before(argument));
     for at in 0..nodes.len() {
         match counted_with(nodes, table, at + 1, &total) {
             Ok(more) => total = more,

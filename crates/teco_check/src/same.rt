@@ -1,9 +1,10 @@
 //! Facts that say the same, or less.
-ghost use Rattle.std.specs.Prelude.{◌≡◌, None, option_copied};
+ghost use Rattle.std.specs.Prelude.{◌≡◌, option_copied};
 ghost use Rattle.teco_table.specs.Closed as rules;
 
 use std::alloc::Global;
 use teco_facts::Facts;
+use teco_rules::ArgumentRange;
 
 /// Whether two facts say the same.
 pub fn say_same(one: &Facts, other: &Facts) -> bool
@@ -12,13 +13,13 @@ pub fn say_same(one: &Facts, other: &Facts) -> bool
     one.covers(other) && other.covers(one)
 }
 
-/// Whether nothing but what is always known is known at the entry.
-pub fn is_entry(alloc: Global, facts: Option<&Facts>) -> bool
-    ensures { result ≡ rules.is_entry None (option_copied facts.entry) }
+/// Whether nothing is known at the entry but what is always known there, and the argument that is declared.
+pub fn is_entry(alloc: Global, argument: Option<ArgumentRange>, facts: Option<&Facts>) -> bool
+    ensures { result ≡ rules.is_entry argument (option_copied facts.entry) }
 {
     match facts {
         None => false,
-        Some(facts) => say_same(facts, &Facts::entry(alloc)),
+        Some(facts) => say_same(facts, &Facts::entry(alloc, argument)),
     }
 }
 

@@ -9,6 +9,7 @@ use teco_certificate::LoopLine;
 use teco_library::Library;
 use teco_nodes::{ExpandFault, Nodes, expand};
 use teco_poly::Poly;
+use teco_rules::ArgumentRange;
 
 // A library, the number of its `<` and what is held there at the start of a turn, or 0, commands and size.
 type Row = (
@@ -72,9 +73,15 @@ fn choices(rt: &impl Abort, alloc: Global, number: usize, held: &[u8]) -> Vec<Lo
 }
 
 // The table of such choices.
-fn table_of(rt: &impl Abort, alloc: Global, nodes: &Nodes<'_>, lines: &[LoopLine]) -> Table {
-    let answer = match derive(alloc, nodes, lines) {
-        Err(NotDerived::Memory) => derive(alloc, nodes, lines),
+fn table_of(
+    rt: &impl Abort,
+    alloc: Global,
+    argument: Option<ArgumentRange>,
+    nodes: &Nodes<'_>,
+    lines: &[LoopLine],
+) -> Table {
+    let answer = match derive(alloc, argument, nodes, lines) {
+        Err(NotDerived::Memory) => derive(alloc, argument, nodes, lines),
         answer => answer,
     };
     match answer {
@@ -84,9 +91,14 @@ fn table_of(rt: &impl Abort, alloc: Global, nodes: &Nodes<'_>, lines: &[LoopLine
 }
 
 // What the checker says of a table.
-fn checked(alloc: Global, nodes: &Nodes<'_>, table: &Table) -> Result<(), Bad> {
-    match check(alloc, nodes, table) {
-        Err(Bad::Memory) => check(alloc, nodes, table),
+fn checked(
+    alloc: Global,
+    argument: Option<ArgumentRange>,
+    nodes: &Nodes<'_>,
+    table: &Table,
+) -> Result<(), Bad> {
+    match check(alloc, argument, nodes, table) {
+        Err(Bad::Memory) => check(alloc, argument, nodes, table),
         answer => answer,
     }
 }
@@ -97,10 +109,10 @@ fn prints_what_is_closed(rt: HostRuntime) {
         let library = library_of(&rt, rt.alloc(), file);
         let nodes = nodes_of(&rt, rt.alloc(), &library);
         let lines = choices(&rt, rt.alloc(), number, held);
-        let table = table_of(&rt, rt.alloc(), &nodes, &lines);
+        let table = table_of(&rt, rt.alloc(), None, &nodes, &lines);
         assert!(rt; table.len() == nodes.len());
-        assert!(rt; checked(rt.alloc(), &nodes, &table).is_ok());
-        assert!(rt; commands(&nodes, &table).ok() == Poly::read(commands_text));
+        assert!(rt; checked(rt.alloc(), None, &nodes, &table).is_ok());
+        assert!(rt; commands(None, &nodes, &table).ok() == Poly::read(commands_text));
         assert!(rt; size(&nodes, &table).ok() == Poly::read(size_text));
         let needs = needs_in(&nodes, &table);
         assert!(rt; !needs.input && !needs.output);
@@ -120,8 +132,23 @@ fn refuses_too_small_a_choice(rt: HostRuntime) {
         let library = library_of(&rt, rt.alloc(), file);
         let nodes = nodes_of(&rt, rt.alloc(), &library);
         let lines = choices(&rt, rt.alloc(), number, held);
-        let table = table_of(&rt, rt.alloc(), &nodes, &lines);
+        let table = table_of(&rt, rt.alloc(), None, &nodes, &lines);
         let wanted = Bad::Edge { node: number };
-        assert!(rt; checked(rt.alloc(), &nodes, &table) == Err(wanted));
+        assert!(rt; checked(rt.alloc(), None, &nodes, &table) == Err(wanted));
+    }
+}
+
+#[test]
+fn counts_the_digits_of_an_argument(rt: HostRuntime) {
+    let argument = ArgumentRange::between(1, 10);
+    let library = library_of(&rt, rt.alloc(), b"@^UA/<Ia\x1b>/");
+    let nodes = nodes_of(&rt, rt.alloc(), &library);
+    let lines = choices(&rt, rt.alloc(), 2, b"9 + N");
+    let table = table_of(&rt, rt.alloc(), argument, &nodes, &lines);
+    assert!(rt; checked(rt.alloc(), argument, &nodes, &table).is_ok());
+    assert!(rt; commands(argument, &nodes, &table).ok() == Poly::read(b"24"));
+    assert!(rt; size(&nodes, &table).ok() == Poly::read(b"10 + N"));
+    for other in [None, ArgumentRange::between(1, 11)] {
+        assert!(rt; checked(rt.alloc(), other, &nodes, &table) == Err(Bad::Edge { node: 1 }));
     }
 }

@@ -10,7 +10,7 @@ use teco_certificate::LoopLine;
 use teco_check::{along, are_kept, begins_iteration, begins_turn, edges_at};
 use teco_facts::{Edges, Facts, turns};
 use teco_nodes::Nodes;
-use teco_rules::Refusal;
+use teco_rules::{ArgumentRange, Refusal};
 
 // How often the body of the innermost of six iterations may be passed: three times for each of them.
 const PASSES: u64 = 729;
@@ -29,10 +29,10 @@ struct Search {
 
 impl Search {
     // None of so many nodes is passed.
-    fn new(alloc: Global, nodes: usize) -> Result<Search, Unfit> {
+    fn new(alloc: Global, argument: Option<ArgumentRange>, nodes: usize) -> Result<Search, Unfit> {
         Ok(Search {
             alloc,
-            carried: Some(Facts::entry(alloc)),
+            carried: Some(Facts::entry(alloc, argument)),
             pending: Pending::new(alloc, nodes)?,
             memo: Memo::new(alloc, nodes)?,
             attempts: Vec::new(alloc),
@@ -179,11 +179,16 @@ fn joined(known: Option<Facts>, more: Facts, number: usize) -> Result<Facts, Unf
     }
 }
 
-/// Finds a choice for each iteration whose body is reached, by the numbers of their `<`.
+/// Finds a choice for each iteration whose body is reached, by the numbers of their `<`; the entry takes the declared argument, if
+/// there is one.
 ///
 /// The body of each iteration is passed at most three times for each pass of the one round it.
-pub fn choose(alloc: Global, nodes: &Nodes<'_>) -> Result<Vec<LoopLine>, Unfit> {
-    let mut search = Search::new(alloc, nodes.len())?;
+pub fn choose(
+    alloc: Global,
+    argument: Option<ArgumentRange>,
+    nodes: &Nodes<'_>,
+) -> Result<Vec<LoopLine>, Unfit> {
+    let mut search = Search::new(alloc, argument, nodes.len())?;
     let mut number = 1;
     for _ in 0..PASSES.saturating_mul(nodes.len() as u64) {
         if number > nodes.len() {

@@ -1,5 +1,6 @@
 //! What is known of the pending arguments.
 ghost use Rattle.std.specs.Prelude.{◌≡◌, ◌<◌, IfOk, OnOk, length, slice_index_or};
+ghost use Rattle.teco_rules.specs.Argument as given;
 ghost use Rattle.teco_rules.specs.Arguments as rules;
 ghost use Rattle.teco_rules.specs.Joins as joins;
 ghost use Rattle.teco_facts.specs.Does.{Closes};
@@ -9,7 +10,7 @@ use crate::margins::Margins;
 use crate::number::Number;
 use std::alloc::{AllocError, Global};
 use std::marker::Model;
-use teco_rules::Refusal;
+use teco_rules::{ArgumentRange, Refusal};
 
 /// The innermost level, and those outside it, the innermost of which stands last.
 #[derive(Drop)]
@@ -34,6 +35,20 @@ impl Arguments {
     {
         Arguments {
             level: Level::empty(),
+            outer: Vec::new(alloc),
+        }
+    }
+
+    /// Nothing is pending but the argument that is declared.
+    pub fn declared(alloc: Global, argument: Option<ArgumentRange>) -> Arguments
+        ensures { result ≡ (given.facts_given argument).arguments }
+    {
+        let level = match argument {
+            None => Level::empty(),
+            Some(range) => Level::of(Number::declared(range)),
+        };
+        Arguments {
+            level,
             outer: Vec::new(alloc),
         }
     }

@@ -3,6 +3,7 @@ ghost use Rattle.std.specs.Prelude.{◌≡◌, ◌∷◌, ◌<◌, IfOk, length}
 ghost use Rattle.teco_base.specs.declared.TheConstants.{REGISTERS};
 ghost use Rattle.teco_rules.specs.Facts as rules;
 ghost use Rattle.teco_rules.specs.Shifts as shifts;
+ghost use Rattle.teco_rules.specs.Argument as given;
 ghost use Rattle.teco_rules.specs.Arguments as arguments;
 ghost use Rattle.teco_facts.specs.Numbers.{AreSmall};
 ghost use Rattle.teco_facts.specs.Room.{innermost};
@@ -19,7 +20,7 @@ use std::alloc::{AllocError, Global};
 use std::marker::Model;
 use teco_base::{REGISTERS, Reg};
 use teco_poly::Poly;
-use teco_rules::Refusal;
+use teco_rules::{ArgumentRange, Refusal};
 
 /// The positions where a search found, and where it failed.
 #[derive(Drop)]
@@ -139,12 +140,12 @@ fn answer_copied(answer: &Option<Answer>) -> Option<Answer>
 }
 
 impl Facts {
-    /// Before the first element: nothing is pending, and N holds all.
-    pub fn entry(alloc: Global) -> Facts
-        ensures { result ≡ rules.entry_facts }
+    /// Before the first element: nothing is pending but the argument that is declared, and N holds all.
+    pub fn entry(alloc: Global, argument: Option<ArgumentRange>) -> Facts
+        ensures { result ≡ given.facts_given argument }
     {
         Facts {
-            arguments: Arguments::none(alloc),
+            arguments: Arguments::declared(alloc, argument),
             answer: None,
             position: Position::start(),
             iterations: Few::empty(Iteration {

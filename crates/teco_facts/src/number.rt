@@ -1,5 +1,5 @@
 //! What is known of numbers that are pending.
-ghost use Rattle.std.specs.Prelude.{◌≡◌, FitsSigned, if◌then◌else◌};
+ghost use Rattle.std.specs.Prelude.{◌≡◌, pos, FitsSigned, if◌then◌else◌};
 ghost use Rattle.std.specs.Int.{w32};
 ghost use Rattle.teco_base.specs.Arithmetic as bits;
 ghost use Rattle.teco_rules.specs.Arguments as rules;
@@ -12,7 +12,7 @@ use crate::place::Place;
 use crate::range::Range;
 use crate::whole::Whole;
 use std::marker::Model;
-use teco_rules::Refusal;
+use teco_rules::{ArgumentRange, Refusal};
 
 /// A number that is pending: so often each distance of the pointer, and something of a range; where it is saved, it is a
 /// place of the buffer.
@@ -65,6 +65,13 @@ impl Number {
         ensures { result ≡ values.value_in range }
     {
         Number::saved_within(range, false)
+    }
+
+    /// An argument of a range that is declared.
+    pub fn declared(range: ArgumentRange) -> Number
+        ensures { result ≡ values.value_in (record { lo = pos range.low; hi = pos range.high }) }
+    {
+        Number::within(Range::declared(range))
     }
 
     /// The same, which may be a place of the buffer.

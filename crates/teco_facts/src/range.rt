@@ -1,10 +1,11 @@
 //! Ranges of 32-bit numbers.
-ghost use Rattle.std.specs.Prelude.{◌≡◌, ◌≤ℤ◌};
+ghost use Rattle.std.specs.Prelude.{◌≡◌, ◌≤ℤ◌, pos};
 ghost use Rattle.teco_rules.specs.Values as values;
 ghost use Rattle.teco_facts.specs.Numbers.{IsRange};
 
 use crate::whole::Whole;
 use std::marker::Model;
+use teco_rules::ArgumentRange;
 
 const LEAST: i64 = -2_147_483_648;
 
@@ -59,6 +60,15 @@ impl Range {
         } else {
             Range::any()
         }
+    }
+
+    /// The arguments from the least to the greatest.
+    pub fn declared(range: ArgumentRange) -> Range
+        ensures { result ≡ record { lo = pos range.low; hi = pos range.high } }
+    {
+        let lo = Whole::natural(range.low());
+        let hi = Whole::natural(range.high());
+        Range::between(lo, hi)
     }
 
     /// The least of the numbers.

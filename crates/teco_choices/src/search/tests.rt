@@ -37,7 +37,7 @@ fn nodes_of<'l>(rt: &impl Abort, alloc: Global, library: &'l Library) -> Nodes<'
 
 // How many nodes are passed, and how many choices are found.
 fn counted(alloc: Global, nodes: &Nodes<'_>) -> Result<(u64, usize), Unfit> {
-    let mut search = Search::new(alloc, nodes.len())?;
+    let mut search = Search::new(alloc, None, nodes.len())?;
     let mut number = 1;
     for passed in 0..PASSES.saturating_mul(nodes.len() as u64) {
         if number > nodes.len() {

@@ -4,17 +4,17 @@ use Rattle.teco_check.proofs.derivation.derive.Goals as goal
 
 pub loop-at-init : goal.loop-at-init
 loop-at-init c =
-    rw c.new-table.ensures (begun c.args.nodes.now c.args.chosen.now c.put.new.self (rw (c.put.ensures, c.entry.ensures, c.in-Ok.ensures, c.len.ensures) refl))
+    rw c.new-table.ensures (begun c.args.argument c.args.nodes.now c.args.chosen.now c.put.new.self (rw (c.put.ensures, c.entry.ensures, c.in-Ok.ensures, c.len.ensures) refl))
 
 pub returns-in_err-row : goal.returns-in_err-row
 returns-in_err-row c =
     let within : c.loop-at.at < length c.args.nodes.now = omega (arith, c.len-at-end.ensures) in
-    let said = row_said c.args.nodes.now c.args.chosen.now c.loop-at.at c.loop-at.arrived c.row_at.new.arrived c.loop-at.table c.in_err-row.field-0.0 within c.loop-at.invariant (rw c.in_err-row.was at c.row_at.ensures) in
+    let said = row_said c.args.argument c.args.nodes.now c.args.chosen.now c.loop-at.at c.loop-at.arrived c.row_at.new.arrived c.loop-at.table c.in_err-row.field-0.0 within c.loop-at.invariant (rw c.in_err-row.was at c.row_at.ensures) in
     let is : c.from_residual.result ≡ Err c.in_err-row.field-0.0 = search rules in
     rw is said
 
 pub loop-at-preserved : goal.loop-at-preserved
 loop-at-preserved c =
     let within : c.loop-at.at < length c.args.nodes.now = omega (arith, c.len-at-end.ensures) in
-    let more = row_more c.args.nodes.now c.args.chosen.now c.loop-at.at c.loop-at.arrived c.row_at.new.arrived c.loop-at.table c.in_ok-row.row within c.loop-at.invariant (rw c.in_ok-row.was at c.row_at.ensures) in
+    let more = row_more c.args.argument c.args.nodes.now c.args.chosen.now c.loop-at.at c.loop-at.arrived c.row_at.new.arrived c.loop-at.table c.in_ok-row.row within c.loop-at.invariant (rw c.in_ok-row.was at c.row_at.ensures) in
     rw c.in-Ok-push.ensures more

@@ -5,7 +5,7 @@ use Rattle.teco_check.proofs.printed.commands.Goals as goal
 
 pub loop-at-init : goal.loop-at-init
 unfolding commands
-loop-at-init c = rw c.number-total.ensures refl
+loop-at-init c = rw (c.number-total.ensures, c.steps_before.ensures) refl
 
 pub returns-in-Err : goal.returns-in-Err
 returns-in-Err c =

@@ -4,4 +4,4 @@ use Rattle.teco_check.proofs.printed.commands.Given as goal
 
 -- the nodes before this one are counted
 abbrev pub invariant-loop-at : goal.invariant-loop-at
-invariant-loop-at l = commands None l.nodes l.table ≡ count_from l.table (suc l.at) (drop l.at l.nodes) l.total
+invariant-loop-at l = commands l.fn.argument l.nodes l.table ≡ count_from l.table (suc l.at) (drop l.at l.nodes) l.total
