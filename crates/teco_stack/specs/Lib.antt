@@ -1,0 +1,3 @@
+-- What stacks hold.
+pub mod Items
+pub mod Parts

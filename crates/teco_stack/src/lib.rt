@@ -1,0 +1,9 @@
+//! Stacks that share what lies below: a copy takes no memory.
+#![tactic(auto)]
+
+mod stack;
+
+pub use stack::Stack;
+
+#[cfg(test)]
+mod tests;

@@ -1,0 +1,51 @@
+// Stacks that share. A call that is refused memory is made once more, so that the rows also hold where one allocation fails.
+use super::*;
+use std::alloc::{AllocError, Global};
+use std::process::Abort;
+use std::test::*;
+
+// A stack of the numbers below one, the greatest on top.
+fn numbers(alloc: Global, count: u32) -> Result<Stack<u32>, AllocError> {
+    let mut stack = Stack::new(alloc);
+    for number in 0..count {
+        stack = stack.with(number)?;
+    }
+    Ok(stack)
+}
+
+// The same, once more where memory was refused.
+fn stack_of(rt: &impl Abort, alloc: Global, count: u32) -> Stack<u32> {
+    match numbers(alloc, count) {
+        Ok(stack) => stack,
+        Err(_) => numbers(alloc, count).expect(rt, "a stack"),
+    }
+}
+
+// How many numbers are taken off a copy, from the top down, each with as many below it.
+fn taken(stack: &Stack<u32>) -> Result<usize, AllocError> {
+    let mut rest = stack.copied()?;
+    for at in 0..stack.len() {
+        match rest.into_parts()? {
+            Some((number, below)) if number as usize == below.len() => rest = below,
+            _ => return Ok(at),
+        }
+    }
+    Ok(stack.len())
+}
+
+#[test]
+fn items_come_off_as_they_went_on(rt: HostRuntime) {
+    let stack = stack_of(&rt, rt.alloc(), 100);
+    assert!(rt; stack.len() == 100);
+    assert!(rt; taken(&stack).ok() == Some(100));
+    assert!(rt; stack.len() == 100);
+    let top = stack.parts().map(|parts| (*parts.0, parts.1.len()));
+    assert!(rt; top == Some((99, 99)));
+}
+
+#[test]
+fn a_cleared_stack_is_empty(rt: HostRuntime) {
+    let mut stack = stack_of(&rt, rt.alloc(), 3);
+    stack.clear();
+    assert!(rt; stack.len() == 0 && stack.parts().is_none());
+}
