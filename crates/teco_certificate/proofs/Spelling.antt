@@ -12,10 +12,11 @@ use Rattle.teco_base.specs.Register.{register_name}
 use Rattle.teco_base.specs.declared.bytes.TheConstants.{LF}
 use Rattle.teco_certificate.specs.Fields.{Fields}
 use Rattle.teco_certificate.specs.Front.{EndsPolynomial, LooksFor}
-use Rattle.teco_certificate.specs.Text.{line, letters_of, kept_text, longer_text, longer_texts, behind_comma, chosen_text}
+use Rattle.teco_certificate.specs.Text.{line, version_text, letters_of, kept_text, longer_text, longer_texts, behind_comma, chosen_text}
 use Rattle.teco_certificate.specs.WellFormed.{IsLongerText}
 use Rattle.teco_poly.specs.Polynomial.{Polynomial}
 use Rattle.teco_poly.specs.Text.{text as poly_text}
+use Rattle.teco_rules.specs.Argument.{ArgumentRange}
 use Rattle.teco_rules.specs.Printed.{Needs}
 use Rattle.teco_table.specs.Deriving.{LongerText, Chosen}
 
@@ -56,6 +57,15 @@ module _ (text one two three rest : List ℕ) (input output dash : Bool) (first 
       let i : input ≡ needs.input = read.0 in
       let o : output ≡ needs.output = read.1 in
       (rw (i, o) refl, read.2)
+
+-- 1, or 2
+pub version_read : (text one two : List ℕ) (a b : Bool) (argument : Option ArgumentRange) (rest : List ℕ) → LooksFor text (codes "1") a one → LooksFor one (codes "2") b two → text ≡ version_text argument ++ LF ∷ rest → two ≡ LF ∷ rest
+version_read text one two a b None rest first second e =
+    let o = first.there (LF ∷ rest) e in
+    (second.not_there (other_byte one [] rest 10 50 o.1 (λ (same : 10 ≡ 50). omega arith))).1 ∙ o.1
+version_read text one two a b (Some range) rest first second e =
+    let o = first.not_there (other_byte text [] (LF ∷ rest) 50 49 e (λ (same : 50 ≡ 49). omega arith)) in
+    (second.there (LF ∷ rest) (o.1 ∙ e)).1
 
 -- the space behind a polynomial is left out
 pub without_space : (words p : List ℕ) (r : Option (Bor (List ℕ))) (x d : Bor (List ℕ))
@@ -113,7 +123,7 @@ pub same_chosen : (chosen : Chosen) {begin : ℕ} {held : Polynomial} {kept : Bo
     → record { begin = begin; held = held; kept = kept; longer = longer } ≡ chosen
 same_chosen chosen b h k l = rw (b, h, k, l) refl
 
-pub same_fields : (fields : Fields) {entry : ℕ} {needs : Needs} {commands size : Polynomial} {loops : List Chosen}
-    → entry ≡ fields.entry → needs ≡ fields.needs → commands ≡ fields.commands → size ≡ fields.size → loops ≡ fields.loops
-    → record { entry = entry; needs = needs; commands = commands; size = size; loops = loops } ≡ fields
-same_fields fields e n c s l = rw (e, n, c, s, l) refl
+pub same_fields : (fields : Fields) {entry : ℕ} {argument : Option ArgumentRange} {needs : Needs} {commands size : Polynomial} {loops : List Chosen}
+    → entry ≡ fields.entry → argument ≡ fields.argument → needs ≡ fields.needs → commands ≡ fields.commands → size ≡ fields.size → loops ≡ fields.loops
+    → record { entry = entry; argument = argument; needs = needs; commands = commands; size = size; loops = loops } ≡ fields
+same_fields fields e a n c s l = rw (e, a, n, c, s, l) refl

@@ -1,18 +1,18 @@
 -- A text is that of one certificate: each part of it ends where it has to, and is the text of one value.
-use Rattle.std.proofs.Common.{◌≡◌, ℕ, ◌+◌, ◌-◌, ◌^◌, ◌<◌, Bool, true, false, cond, List, [], ◌∷◌, ◌++◌, sym, ap, ◌∙◌, refl, arith, append_assoc, ltb, flat_map, ◌||◌}
+use Rattle.std.proofs.Common.{◌≡◌, ℕ, ◌+◌, ◌-◌, ◌^◌, ◌<◌, Bool, true, false, cond, Option, Some, None, List, [], ◌∷◌, ◌++◌, sym, ap, ◌∙◌, refl, arith, append_assoc, ltb, flat_map, ◌||◌}
 use Rattle.std.proofs.lemmas.Bool.{ltb-false}
 use Rattle.std.proofs.lemmas.Fmt.{decimal_injective}
 use Rattle.std.proofs.lemmas.List.{append_cancel_left, append_cancel_right}
 use Rattle.std.specs.Char.{is_ascii_digit}
 use Rattle.std.specs.Fmt.{decimal}
 use Rattle.std.specs.List.{AllByRecursion}
-use Rattle.std.specs.Prelude.{codes, ◌==◌, ◌≢◌}
+use Rattle.std.specs.Prelude.{IfSome, codes, ◌==◌, ◌≢◌}
 use Rattle.teco_base.specs.Register.{register_name}
 use Rattle.teco_base.specs.declared.TheConstants.{REGISTERS}
 use Rattle.teco_base.specs.declared.bytes.TheConstants.{LF}
 use Rattle.teco_certificate.specs.Fields.{Fields}
 use Rattle.teco_certificate.specs.Front.{is_of_polynomial, EndsPolynomial}
-use Rattle.teco_certificate.specs.Text.{line, letters_of, needs_text, longer_text, longer_texts, behind_comma, kept_text, chosen_text, loop_line, certificate_text}
+use Rattle.teco_certificate.specs.Text.{line, version_text, range_text, argument_line, letters_of, needs_text, longer_text, longer_texts, behind_comma, kept_text, chosen_text, loop_line, certificate_text}
 use Rattle.teco_certificate.specs.WellFormed.{IsLongerText, IsChosen, HasText}
 use Rattle.teco_certificate.proofs.Fronts.{one_front, decimal_digits, ends_number, ends_polynomial, polynomial_passes, passes_append}
 use Rattle.teco_certificate.proofs.Items.{one_list}
@@ -21,6 +21,7 @@ use Rattle.teco_poly.specs.Laws.{OneText}
 use Rattle.teco_poly.specs.Polynomial.{Polynomial}
 use Rattle.teco_poly.specs.Reading.{IsPoly, EndsNumber}
 use Rattle.teco_poly.specs.Text.{text}
+use Rattle.teco_rules.specs.Argument.{ArgumentRange, IsArgumentRange}
 use Rattle.teco_rules.specs.Printed.{Needs}
 use Rattle.teco_table.specs.Deriving.{LongerText, Chosen}
 
@@ -86,10 +87,32 @@ one_kept kept other x y e =
     let same = sym (kept_is kept x) ∙ ap has_kept e ∙ kept_is other y in
     (same, append_cancel_left (kept_text other) x y (ap (λ k. kept_text k ++ x) (sym same) ∙ e))
 
+same_range : (range other : ArgumentRange) → range.low ≡ other.low → range.high ≡ other.high → range ≡ other
+same_range range other l h = ap (λ k. record { low = k; high = range.high }) l ∙ ap (λ k. record { low = other.low; high = k }) h
+
 one_number : (m n : ℕ) (x y : List ℕ) → m < 2 ^ 64 → n < 2 ^ 64 → EndsNumber x → EndsNumber y → decimal m ++ x ≡ decimal n ++ y → (m ≡ n) × (x ≡ y)
 one_number m n x y small other ends ended e =
     let front = one_front is_ascii_digit (decimal m) (decimal n) x y (decimal_digits m small) (decimal_digits n other) (ends_number x ends) (ends_number y ended) e in
     (decimal_injective m n small other front.0, front.1)
+
+-- the version tells what comes behind it
+one_version : (a b : Option ArgumentRange) (x y : List ℕ) → (version_text a ++ LF ∷ []) ++ x ≡ (version_text b ++ LF ∷ []) ++ y → x ≡ y
+one_version None None x y e = other_bytes (other_bytes e)
+one_version (Some range) (Some other) x y e = other_bytes (other_bytes e)
+one_version None (Some other) x y e = let same : 49 ≡ 50 = first_byte e in absurd (omega (arith, same))
+one_version (Some range) None x y e = let same : 50 ≡ 49 = first_byte e in absurd (omega (arith, same))
+
+one_argument : (a b : Option ArgumentRange) (x y : List ℕ) → IfSome a IsArgumentRange → IfSome b IsArgumentRange → argument_line a ++ (codes "needs " ++ x) ≡ argument_line b ++ (codes "needs " ++ y) → (a ≡ b) × (x ≡ y)
+one_argument None None x y is other e = (refl, append_cancel_left (codes "needs ") x y e)
+one_argument None (Some range) x y is other e = let same : 110 ≡ 97 = first_byte e in absurd (omega (arith, same))
+one_argument (Some range) None x y is other e = let same : 97 ≡ 110 = first_byte e in absurd (omega (arith, same))
+one_argument (Some r) (Some s) x y is other e =
+    let behind_low = λ (range : ArgumentRange) (rest : List ℕ). codes " " ++ (decimal range.high ++ LF ∷ (codes "needs " ++ rest)) in
+    let parts = λ (range : ArgumentRange) (rest : List ℕ). append_assoc (range_text range) (LF ∷ []) (codes "needs " ++ rest) ∙ append_assoc (decimal range.low) (codes " " ++ decimal range.high) (LF ∷ (codes "needs " ++ rest)) in
+    let at = append_cancel_left (codes "argument ") ((range_text r ++ LF ∷ []) ++ (codes "needs " ++ x)) ((range_text s ++ LF ∷ []) ++ (codes "needs " ++ y)) e in
+    let low = one_number r.low s.low (behind_low r x) (behind_low s y) (omega (arith, is.ordered, is.small)) (omega (arith, other.ordered, other.small)) refl refl (sym (parts r x) ∙ at ∙ parts s y) in
+    let high = one_number r.high s.high (LF ∷ (codes "needs " ++ x)) (LF ∷ (codes "needs " ++ y)) (omega (arith, is.small)) (omega (arith, other.small)) refl refl (append_cancel_left (codes " ") (decimal r.high ++ LF ∷ (codes "needs " ++ x)) (decimal s.high ++ LF ∷ (codes "needs " ++ y)) low.1) in
+    (ap Some (same_range r s low.0 high.0), append_cancel_left (codes "needs ") x y (other_bytes high.1))
 
 module _ (one_text : OneText) where
   one_polynomial : (p q : Polynomial) (x y : List ℕ) → IsPoly p → IsPoly q → EndsPolynomial x → EndsPolynomial y → text p ++ x ≡ text q ++ y → (p ≡ q) × (x ≡ y)
@@ -159,11 +182,14 @@ module _ (one_text : OneText) where
       let sizes = λ (fields : Fields). line (codes "size " ++ text fields.size) ++ loops fields in
       let commands = λ (fields : Fields). line (codes "commands " ++ text fields.commands) ++ sizes fields in
       let needs = λ (fields : Fields). line (codes "needs " ++ needs_text fields.needs) ++ commands fields in
-      let at_entry = append_cancel_left (codes "TECO-CERT 1" ++ LF ∷ codes "entry ") (register_name f.entry ∷ LF ∷ needs f) (register_name g.entry ∷ LF ∷ needs g) e in
-      let at_needs = append_cancel_left (LF ∷ codes "needs ") ((needs_text f.needs ++ LF ∷ []) ++ commands f) ((needs_text g.needs ++ LF ∷ []) ++ commands g) (other_bytes at_entry) in
-      let need = one_needs f.needs g.needs (commands f) (commands g) (sym (append_assoc (needs_text f.needs) (LF ∷ []) (commands f)) ∙ at_needs ∙ append_assoc (needs_text g.needs) (LF ∷ []) (commands g)) in
+      let arguments = λ (fields : Fields). argument_line fields.argument ++ needs fields in
+      let entries = λ (fields : Fields). line (codes "entry " ++ register_name fields.entry ∷ []) ++ arguments fields in
+      let at_version = append_cancel_left (codes "TECO-CERT ") ((version_text f.argument ++ LF ∷ []) ++ entries f) ((version_text g.argument ++ LF ∷ []) ++ entries g) e in
+      let at_entry = append_cancel_left (codes "entry ") (register_name f.entry ∷ LF ∷ arguments f) (register_name g.entry ∷ LF ∷ arguments g) (one_version f.argument g.argument (entries f) (entries g) at_version) in
+      let argument = one_argument f.argument g.argument ((needs_text f.needs ++ LF ∷ []) ++ commands f) ((needs_text g.needs ++ LF ∷ []) ++ commands g) is.argument other.argument (other_bytes (other_bytes at_entry)) in
+      let need = one_needs f.needs g.needs (commands f) (commands g) (sym (append_assoc (needs_text f.needs) (LF ∷ []) (commands f)) ∙ argument.1 ∙ append_assoc (needs_text g.needs) (LF ∷ []) (commands g)) in
       let at_commands = append_cancel_left (codes "commands ") ((text f.commands ++ LF ∷ []) ++ sizes f) ((text g.commands ++ LF ∷ []) ++ sizes g) need.1 in
       let most = one_polynomial f.commands g.commands (LF ∷ sizes f) (LF ∷ sizes g) is.commands other.commands refl refl (sym (append_assoc (text f.commands) (LF ∷ []) (sizes f)) ∙ at_commands ∙ append_assoc (text g.commands) (LF ∷ []) (sizes g)) in
       let at_size = append_cancel_left (LF ∷ codes "size ") ((text f.size ++ LF ∷ []) ++ loops f) ((text g.size ++ LF ∷ []) ++ loops g) most.1 in
       let size = one_polynomial f.size g.size (LF ∷ loops f) (LF ∷ loops g) is.size other.size refl refl (sym (append_assoc (text f.size) (LF ∷ []) (loops f)) ∙ at_size ∙ append_assoc (text g.size) (LF ∷ []) (loops g)) in
-      same_fields g (one_register f.entry g.entry is.entry other.entry (first_byte at_entry)) need.0 most.0 size.0 (one_loops f.loops g.loops is.loops other.loops (other_bytes size.1))
+      same_fields g (one_register f.entry g.entry is.entry other.entry (first_byte at_entry)) argument.0 need.0 most.0 size.0 (one_loops f.loops g.loops is.loops other.loops (other_bytes size.1))

@@ -1,11 +1,12 @@
 -- The text of a certificate: lines that end with LF.
-use Rattle.std.specs.Prelude.{ℕ, List, [], ◌∷◌, ◌++◌, codes, Bool, true, false}
+use Rattle.std.specs.Prelude.{ℕ, List, [], ◌∷◌, ◌++◌, codes, Bool, true, false, Option, Some, None}
 use Rattle.std.specs.Fmt.{decimal}
 use Rattle.std.specs.List.{flat_map}
 use Rattle.teco_base.specs.Register.{register_name}
 use Rattle.teco_base.specs.declared.bytes.TheConstants.{LF}
 use Rattle.teco_certificate.specs.Fields.{Fields}
 use Rattle.teco_poly.specs.Text.{text}
+use Rattle.teco_rules.specs.Argument.{ArgumentRange}
 use Rattle.teco_rules.specs.Printed.{Needs}
 use Rattle.teco_table.specs.Deriving.{LongerText, Chosen}
 
@@ -47,12 +48,25 @@ chosen_text chosen =
 abbrev pub loop_line : Chosen → List ℕ
 loop_line chosen = line (codes "loop " ++ chosen_text chosen)
 
+-- a certificate for an argument is of version 2, and has the least and the greatest
+abbrev pub version_text : Option ArgumentRange → List ℕ
+version_text None = codes "1"
+version_text (Some range) = codes "2"
+
+abbrev pub range_text : ArgumentRange → List ℕ
+range_text range = decimal range.low ++ (codes " " ++ decimal range.high)
+
+abbrev pub argument_line : Option ArgumentRange → List ℕ
+argument_line None = []
+argument_line (Some range) = line (codes "argument " ++ range_text range)
+
 abbrev pub certificate_text : Fields → List ℕ
 certificate_text fields =
-    line (codes "TECO-CERT 1")
+    line (codes "TECO-CERT " ++ version_text fields.argument)
     ++ (line (codes "entry " ++ register_name fields.entry ∷ [])
+    ++ (argument_line fields.argument
     ++ (line (codes "needs " ++ needs_text fields.needs)
     ++ (line (codes "commands " ++ text fields.commands)
     ++ (line (codes "size " ++ text fields.size)
     ++ (flat_map loop_line fields.loops
-    ++ line (codes "end"))))))
+    ++ line (codes "end")))))))

@@ -1,12 +1,14 @@
 -- Which fields a certificate may have.
-use Rattle.std.specs.Prelude.{◌<◌, ◌^◌, List, length}
+use Rattle.std.specs.Prelude.{◌<◌, ◌^◌, List, IfSome, length}
 use Rattle.std.specs.List.{AllAdjacentBelow, AllByRecursion}
 use Rattle.teco_base.specs.declared.TheConstants.{REGISTERS}
 use Rattle.teco_certificate.specs.Fields.{Fields}
 use Rattle.teco_poly.specs.Reading.{IsPoly}
+use Rattle.teco_rules.specs.Argument.{IsArgumentRange}
 use Rattle.teco_table.specs.Deriving.{LongerText, Chosen}
 
--- Each part is one that has a text: registers, numbers of 64 bits, and polynomials that a `Poly` may be.
+-- Each part is one that has a text: registers, numbers of 64 bits, ranges of arguments, and polynomials that a `Poly` may
+-- be.
 pub record IsLongerText (longer : LongerText) : Type 0 where
   pub register : longer.register < REGISTERS
   pub text : IsPoly longer.text
@@ -18,6 +20,7 @@ pub record IsChosen (chosen : Chosen) : Type 0 where
 
 pub record HasText (fields : Fields) : Type 0 where
   pub entry : fields.entry < REGISTERS
+  pub argument : IfSome fields.argument IsArgumentRange
   pub commands : IsPoly fields.commands
   pub size : IsPoly fields.size
   pub loops : AllByRecursion IsChosen fields.loops

@@ -6,12 +6,13 @@ ghost use Rattle.teco_certificate.specs.WellFormed.{HasText};
 
 use crate::fault::CertificateFault;
 use crate::order::is_in_order;
-use crate::printing::{name_of, push_line, push_loops};
+use crate::printing::{name_of, push_argument, push_line, push_loops, version};
 use crate::reading::certificate_in;
 use std::alloc::{AllocError, Global};
 use std::marker::Model;
 use teco_base::Reg;
 use teco_poly::Poly;
+use teco_rules::ArgumentRange;
 
 /// The files that must be open.
 #[derive(Clone, Copy, Debug, PartialEq, Eq)]
@@ -87,6 +88,8 @@ impl Model for LoopLine {
 pub struct Certificate {
     /// The register that is called.
     pub entry: Reg,
+    /// The argument that it takes, if any.
+    pub argument: Option<ArgumentRange>,
     /// The files that must be open.
     pub needs: Needs,
     /// The most commands that a run takes.
@@ -104,6 +107,7 @@ impl Model for Certificate {
 
     ghost view = { λ c. record {
       entry = c.entry;
+      argument = c.argument;
       needs = c.needs;
       commands = c.commands;
       size = c.size;
@@ -119,8 +123,9 @@ impl Certificate {
         ensures parts { OnOk result (HasText self.now) }
     {
         let mut text = Vec::new(alloc);
-        push_line(&mut text, b"TECO-CERT 1", b"")?;
+        push_line(&mut text, b"TECO-CERT ", version(self.argument).as_bytes())?;
         push_line(&mut text, b"entry ", &[name_of(self.entry)])?;
+        push_argument(&mut text, alloc, self.argument)?;
         push_line(&mut text, b"needs ", self.needs.letters().as_bytes())?;
         let commands = self.commands.print(alloc)?;
         push_line(&mut text, b"commands ", commands.as_bytes())?;

@@ -1,6 +1,6 @@
 // What a text says if it is that of a certificate. These functions judge nothing: of another text they read anything at
 // all, and who calls them has to see whether what was read has this text.
-ghost use Rattle.std.specs.Prelude.{◌≡◌, ◌++◌, ◌∷◌, ◌≤◌, ◌<◌, ◌^◌, ℕ, Bool, true, List, length, flat_map, codes, IfOk};
+ghost use Rattle.std.specs.Prelude.{◌≡◌, ◌++◌, ◌∷◌, ◌≤◌, ◌<◌, ◌^◌, ℕ, Bool, true, List, length, flat_map, codes, Option, Some, IfOk, IfSome};
 ghost use Rattle.std.specs.List.{AllByRecursion, list_all, prefix_len};
 ghost use Rattle.std.specs.Char.{is_ascii_digit};
 ghost use Rattle.std.specs.Fmt.{decimal};
@@ -10,11 +10,12 @@ ghost use Rattle.teco_base.specs.declared.bytes.TheConstants.{LF};
 ghost use Rattle.teco_certificate.specs.Fields.{Fields};
 ghost use Rattle.teco_certificate.specs.Front as front;
 ghost use Rattle.teco_certificate.specs.Front.{EndsPolynomial, LooksFor};
-ghost use Rattle.teco_certificate.specs.Text.{needs_text, longer_text, longer_texts, behind_comma, kept_text, chosen_text, loop_line, certificate_text, line as line_of};
+ghost use Rattle.teco_certificate.specs.Text.{version_text, range_text, argument_line, needs_text, longer_text, longer_texts, behind_comma, kept_text, chosen_text, loop_line, certificate_text, line as line_of};
 ghost use Rattle.teco_certificate.specs.WellFormed.{IsLongerText, IsChosen, HasText};
 ghost use Rattle.teco_poly.specs.Polynomial.{Polynomial};
 ghost use Rattle.teco_poly.specs.Reading.{IsPoly, EndsNumber};
 ghost use Rattle.teco_poly.specs.Text.{text as poly_text};
+ghost use Rattle.teco_rules.specs.Argument.{IsArgumentRange, ArgumentRange as RangeOf};
 ghost use Rattle.teco_rules.specs.Printed.{Needs as NeedsOf};
 ghost use Rattle.teco_table.specs.Deriving.{LongerText as LongerTextOf, Chosen};
 
@@ -23,6 +24,7 @@ use std::alloc::{AllocError, Global};
 use std::str;
 use teco_base::Reg;
 use teco_poly::Poly;
+use teco_rules::ArgumentRange;
 
 // Whether a word stands at the front of a text, and what comes behind it.
 fn word_at<'a>(text: &'a [u8], word: &[u8]) -> (bool, &'a [u8])
@@ -114,6 +116,47 @@ fn register_at(text: &[u8]) -> (Reg, &[u8])
         Some((name, rest)) => (Reg::of(*name).unwrap_or_default(), rest),
         None => (Reg::default(), text),
     }
+}
+
+// What comes behind the first words and the version.
+fn behind_version(text: &[u8]) -> &[u8]
+    ensures { (argument : Option RangeOf) (rest : List ℕ)
+        → text.now ≡ codes "TECO-CERT " ++ (version_text argument ++ LF ∷ rest) → result.now ≡ LF ∷ rest }
+{
+    let version = behind(text, b"TECO-CERT ");
+    let rest = behind(version, b"1");
+    behind(rest, b"2")
+}
+
+// The range between two numbers, or any.
+fn range_of(low: usize, high: usize) -> Option<ArgumentRange>
+    ensures { (range : RangeOf) → IsArgumentRange range → low ≡ range.low → high ≡ range.high
+        → result ≡ Some range }
+{
+    let (Ok(low), Ok(high)) = (u32::try_from(low), u32::try_from(high)) else {
+        return None;
+    };
+    ArgumentRange::between(low, high)
+}
+
+// The range with whose numbers a line ends, and the lines behind it.
+fn range_at(text: &[u8]) -> (Option<ArgumentRange>, &[u8])
+    ensures { (range : RangeOf) (rest : List ℕ) → IsArgumentRange range → text.now ≡ range_text range ++ LF ∷ rest
+        → (result.0 ≡ Some range) × (result.1.now ≡ rest) }
+{
+    let (low, rest) = number_at(text);
+    let (high, rest) = number_at(behind(rest, b" "));
+    (range_of(low, high), behind(rest, b"\n"))
+}
+
+// The argument whose line a text begins with, if it does, and what comes behind that.
+fn argument_at(text: &[u8]) -> (Option<ArgumentRange>, &[u8])
+    ensures { (argument : Option RangeOf) (rest : List ℕ) → IfSome argument IsArgumentRange
+        → text.now ≡ argument_line argument ++ (codes "needs " ++ rest)
+        → (result.0 ≡ argument) × (result.1.now ≡ codes "needs " ++ rest) }
+{
+    let (found, rest) = word_at(text, b"argument ");
+    if found { range_at(rest) } else { (None, rest) }
 }
 
 // The files at the front of a text, and what comes behind them.
@@ -241,13 +284,15 @@ fn loops_at(alloc: Global, text: &[u8]) -> Result<Vec<LoopLine>, AllocError>
 pub fn certificate_in(alloc: Global, text: &[u8]) -> Result<Certificate, AllocError>
     ensures { (f : Fields) → HasText f → text.now ≡ certificate_text f → IfOk result (λ c. c ≡ f) }
 {
-    let (entry, rest) = register_at(behind(text, b"TECO-CERT 1\nentry "));
-    let (needs, rest) = needs_at(behind(rest, b"\nneeds "));
+    let (entry, rest) = register_at(behind(behind_version(text), b"\nentry "));
+    let (argument, rest) = argument_at(behind(rest, b"\n"));
+    let (needs, rest) = needs_at(behind(rest, b"needs "));
     let (commands, rest) = polynomial_at(behind(rest, b"\ncommands "));
     let (size, rest) = polynomial_at(behind(rest, b"\nsize "));
     let loops = loops_at(alloc, behind(rest, b"\n"))?;
     Ok(Certificate {
         entry,
+        argument,
         needs,
         commands,
         size,

@@ -18,7 +18,7 @@ end
 ";
 
 // What else may be the certificate of some macro.
-const CERTIFICATES: [&str; 7] = [
+const CERTIFICATES: [&str; 9] = [
     "TECO-CERT 1\nentry A\nneeds -\ncommands 8 + 4*N\nsize 1 + 3*N\nloop 3 held 3*N kept texts -\nend\n",
     "TECO-CERT 1\nentry A\nneeds -\ncommands 6 + 3*N\nsize 1 + N\nloop 2 held N kept texts -\nend\n",
     "TECO-CERT 1\nentry 0\nneeds IO\ncommands 2\nsize N\nend\n",
@@ -27,6 +27,37 @@ const CERTIFICATES: [&str; 7] = [
     "TECO-CERT 1\nentry B\nneeds -\ncommands 9\nsize 4*N\nloop 5 held N lost texts A=0,B=3*N,Z=N,0=1 + N,9=N^2\nend\n",
     "TECO-CERT 1\nentry B\nneeds -\ncommands 9\nsize 4*N\nloop 0 held 0 lost texts 9=7\nloop 9 held N kept texts -\n\
      loop 10 held 1 + N kept texts A=N,B=N\nloop 18446744073709551615 held N lost texts -\nend\n",
+    "TECO-CERT 2\nentry 0\nargument 0 2147483647\nneeds -\ncommands 4\nsize N\nend\n",
+    "TECO-CERT 2\nentry Z\nargument 7 7\nneeds IO\ncommands 4\nsize N\nend\n",
+];
+
+// A text is put in as often as an argument says.
+const REPEAT: &str = "TECO-CERT 2
+entry A
+argument 1 10
+needs -
+commands 24
+size 10 + N
+loop 2 held 9 + N kept texts -
+end
+";
+
+// What stands in the place of a part of that, and the part.
+const OTHER_ARGUMENTS: [(&str, &str); 14] = [
+    ("TECO-CERT 2", "TECO-CERT 1"),
+    ("TECO-CERT 2", "TECO-CERT 3"),
+    ("TECO-CERT 2", "TECO-CERT 12"),
+    ("argument 1 10\n", ""),
+    ("argument 1 10\n", "argument 1 10\nargument 1 10\n"),
+    ("argument 1 10", "argument 10 1"),
+    ("argument 1 10", "argument 01 10"),
+    ("argument 1 10", "argument 1  10"),
+    ("argument 1 10", "argument 1 10 "),
+    ("argument 1 10", "argument 1"),
+    ("argument 1 10", "argument -1 10"),
+    ("argument 1 10", "argument 1 2147483648"),
+    ("argument 1 10", "argument 1 4294967297"),
+    ("entry A\nargument 1 10\n", "argument 1 10\nentry A\n"),
 ];
 
 // What stands in the place of a part of that for marks, and the part.
@@ -143,6 +174,7 @@ fn reads_the_fields(rt: HostRuntime) {
     );
     assert!(rt; Poly::read(b"8 + 4*N") == Some(certificate.commands));
     assert!(rt; Poly::read(b"1 + 2*N") == Some(certificate.size));
+    assert!(rt; certificate.argument.is_none());
     assert!(rt; certificate.loops.len() == 1);
     let line = &certificate.loops[0];
     assert!(rt; line.number == 3 && line.kept && line.longer.is_empty());
@@ -166,6 +198,7 @@ fn prints_the_fields(rt: HostRuntime) {
     push(&rt, &mut loops, line);
     let certificate = Certificate {
         entry: Reg::default(),
+        argument: None,
         needs: Needs {
             input: true,
             output: true,
@@ -192,6 +225,23 @@ fn reads_what_it_prints(rt: HostRuntime) {
 fn refuses_other_spellings(rt: HostRuntime) {
     for (part, other) in OTHERS {
         let (before, after) = MARK.split_once(part).expect(&rt, "a part");
+        let text = with_other(&rt, rt.alloc(), before, other, after);
+        assert!(rt; is_refused(rt.alloc(), text.as_bytes()), "{text}");
+    }
+}
+
+#[test]
+fn reads_an_argument(rt: HostRuntime) {
+    let certificate = read(rt.alloc(), REPEAT.as_bytes()).expect(&rt, "a certificate");
+    let argument = certificate.argument.expect(&rt, "an argument");
+    assert!(rt; argument.low() == 1 && argument.high() == 10);
+    assert!(rt; is_read(&rt, rt.alloc(), REPEAT.as_bytes()));
+}
+
+#[test]
+fn refuses_other_arguments(rt: HostRuntime) {
+    for (part, other) in OTHER_ARGUMENTS {
+        let (before, after) = REPEAT.split_once(part).expect(&rt, "a part");
         let text = with_other(&rt, rt.alloc(), before, other, after);
         assert!(rt; is_refused(rt.alloc(), text.as_bytes()), "{text}");
     }
