@@ -4,6 +4,11 @@ use Rattle.std.proofs.lemmas.List.{append_cancel_left, append-nil}
 use Rattle.std.specs.List.{AllByRecursion}
 use Rattle.std.specs.Prelude.{◌≢◌}
 
+-- one more of which it holds
+pub all_and : {X : Type 0} (P : X → Type 0) (xs : List X) (x : X) → AllByRecursion P xs → P x → AllByRecursion P (xs ++ x ∷ [])
+all_and P [] x are is = (is, tt)
+all_and P (y ∷ ys) x are is = (are.0, all_and P ys x are.1 is)
+
 module _ {X : Type 0} (word : List ℕ) (item : X → List ℕ) where
   -- the item with its word
   abbrev pub spelled : X → List ℕ

@@ -1,4 +1,5 @@
 pub mod Fronts
 pub mod Items
+pub mod Rising
 pub mod Spelling
 pub mod Unique

@@ -29,8 +29,11 @@ pub record HasText (fields : Fields) : Type 0 where
 abbrev pub StandsBefore : LongerText → LongerText → Type 0
 StandsBefore longer next = longer.register < next.register
 
+abbrev pub TextsRise : List LongerText → Type 0
+TextsRise texts = AllAdjacentBelow StandsBefore texts (length texts)
+
 abbrev pub RegistersRise : Chosen → Type 0
-RegistersRise chosen = AllAdjacentBelow StandsBefore chosen.longer (length chosen.longer)
+RegistersRise chosen = TextsRise chosen.longer
 
 abbrev pub BeginsBefore : Chosen → Chosen → Type 0
 BeginsBefore chosen next = chosen.begin < next.begin

@@ -5,7 +5,7 @@ ghost use Rattle.teco_certificate.specs.Text.{needs_text, certificate_text};
 ghost use Rattle.teco_certificate.specs.WellFormed.{HasText};
 
 use crate::fault::CertificateFault;
-use crate::order::is_in_order;
+use crate::order::numbers_rise;
 use crate::printing::{name_of, push_argument, push_line, push_loops, version};
 use crate::reading::certificate_in;
 use std::alloc::{AllocError, Global};
@@ -143,7 +143,7 @@ impl Certificate {
     {
         let certificate = certificate_in(alloc, bytes)?;
         let printed = certificate.print(alloc)?;
-        if printed.as_slice() == bytes && is_in_order(&certificate.loops) {
+        if printed.as_slice() == bytes && numbers_rise(&certificate.loops) {
             Ok(certificate)
         } else {
             Err(CertificateFault::NotACertificate)

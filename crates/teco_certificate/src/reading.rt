@@ -1,6 +1,6 @@
 // What a text says if it is that of a certificate. These functions judge nothing: of another text they read anything at
 // all, and who calls them has to see whether what was read has this text.
-ghost use Rattle.std.specs.Prelude.{◌≡◌, ◌++◌, ◌∷◌, ◌≤◌, ◌<◌, ◌^◌, ℕ, Bool, true, List, length, flat_map, codes, Option, Some, IfOk, IfSome};
+ghost use Rattle.std.specs.Prelude.{◌≡◌, ◌++◌, ◌∷◌, [], ◌≤◌, ◌<◌, ◌^◌, ◌↔◌, ℕ, Bool, true, IsTrue, List, length, flat_map, codes, Option, Some, IfOk, OnOk, IfSome};
 ghost use Rattle.std.specs.List.{AllByRecursion, list_all, prefix_len};
 ghost use Rattle.std.specs.Char.{is_ascii_digit};
 ghost use Rattle.std.specs.Fmt.{decimal};
@@ -11,7 +11,7 @@ ghost use Rattle.teco_certificate.specs.Fields.{Fields};
 ghost use Rattle.teco_certificate.specs.Front as front;
 ghost use Rattle.teco_certificate.specs.Front.{EndsPolynomial, LooksFor};
 ghost use Rattle.teco_certificate.specs.Text.{version_text, range_text, argument_line, needs_text, longer_text, longer_texts, behind_comma, kept_text, chosen_text, loop_line, certificate_text, line as line_of};
-ghost use Rattle.teco_certificate.specs.WellFormed.{IsLongerText, IsChosen, HasText};
+ghost use Rattle.teco_certificate.specs.WellFormed.{IsLongerText, IsChosen, TextsRise, RegistersRise, IsWellFormed};
 ghost use Rattle.teco_poly.specs.Polynomial.{Polynomial};
 ghost use Rattle.teco_poly.specs.Reading.{IsPoly, EndsNumber};
 ghost use Rattle.teco_poly.specs.Text.{text as poly_text};
@@ -214,16 +214,33 @@ fn longer_at(text: &[u8]) -> (LongerText, &[u8])
     (LongerText { register, text }, rest)
 }
 
-// Adds to `longer` the texts at the front of a text, each behind a comma. It is what comes behind them.
+// May this text stand behind these, whose registers rise?
+fn is_behind(other: &LongerText, longer: &[LongerText]) -> bool
+    requires { TextsRise longer.now }
+    ensures { IsTrue result ↔ TextsRise (longer.now ++ other.now ∷ []) }
+{
+    match longer.last() {
+        Some(last) => last.register.index() < other.register.index(),
+        None => true,
+    }
+}
+
+// Adds to `longer` the texts at the front of a text, each behind a comma. It is what comes behind them. It ends before one
+// whose register doesn't rise: so there are never more of them than registers, whatever the text.
 fn others_at<'a>(longer: &mut Vec<LongerText>, text: &'a [u8]) -> Result<&'a [u8], AllocError>
+    requires { TextsRise longer.old.items }
     ensures text { (ls : List LongerTextOf) (rest : List ℕ) → AllByRecursion IsLongerText ls
-        → text.now ≡ flat_map behind_comma ls ++ LF ∷ rest
+        → TextsRise (longer.old.items ++ ls) → text.now ≡ flat_map behind_comma ls ++ LF ∷ rest
         → IfOk result (λ r. (longer.new.items ≡ longer.old.items ++ ls) × (r.now ≡ LF ∷ rest)) }
+    ensures rise { OnOk result (TextsRise longer.new.items) }
     ensures within { IfOk result (λ r. length r.now ≤ length text.now) }
 {
     let mut rest = text;
     while let Some(words) = rest.strip_prefix(b",") {
         let (other, behind) = longer_at(words);
+        if !is_behind(&other, longer) {
+            return Ok(rest);
+        }
         longer.push(other)?;
         rest = behind;
     }
@@ -232,8 +249,9 @@ fn others_at<'a>(longer: &mut Vec<LongerText>, text: &'a [u8]) -> Result<&'a [u8
 
 // The texts at the front of a text, and what comes behind them.
 fn texts_at(alloc: Global, text: &[u8]) -> Result<(Vec<LongerText>, &[u8]), AllocError>
-    ensures text { (ls : List LongerTextOf) (rest : List ℕ) → AllByRecursion IsLongerText ls
+    ensures text { (ls : List LongerTextOf) (rest : List ℕ) → AllByRecursion IsLongerText ls → TextsRise ls
         → text.now ≡ longer_texts ls ++ LF ∷ rest → IfOk result (λ r. (r.0.items ≡ ls) × (r.1.now ≡ LF ∷ rest)) }
+    ensures rise { IfOk result (λ r. TextsRise r.0.items) }
     ensures within { IfOk result (λ r. length r.1.now ≤ length text.now) }
 {
     let mut longer = Vec::new(alloc);
@@ -248,8 +266,9 @@ fn texts_at(alloc: Global, text: &[u8]) -> Result<(Vec<LongerText>, &[u8]), Allo
 
 // What was chosen for an iteration, and the lines behind it.
 fn loop_at(alloc: Global, text: &[u8]) -> Result<(LoopLine, &[u8]), AllocError>
-    ensures text { (c : Chosen) (rest : List ℕ) → IsChosen c → text.now ≡ line_of (chosen_text c) ++ rest
-        → IfOk result (λ r. (r.0 ≡ c) × (r.1.now ≡ rest)) }
+    ensures text { (c : Chosen) (rest : List ℕ) → IsChosen c → RegistersRise c
+        → text.now ≡ line_of (chosen_text c) ++ rest → IfOk result (λ r. (r.0 ≡ c) × (r.1.now ≡ rest)) }
+    ensures rise { IfOk result (λ r. RegistersRise r.0) }
     ensures within { IfOk result (λ r. length r.1.now ≤ length text.now) }
 {
     let (number, rest) = number_at(text);
@@ -267,8 +286,9 @@ fn loop_at(alloc: Global, text: &[u8]) -> Result<(LoopLine, &[u8]), AllocError>
 
 // The loops whose lines a text begins with.
 fn loops_at(alloc: Global, text: &[u8]) -> Result<Vec<LoopLine>, AllocError>
-    ensures { (cs : List Chosen) → AllByRecursion IsChosen cs
+    ensures text { (cs : List Chosen) → AllByRecursion IsChosen cs → AllByRecursion RegistersRise cs
         → text.now ≡ flat_map loop_line cs ++ line_of (codes "end") → IfOk result (λ r. r.items ≡ cs) }
+    ensures rise { IfOk result (λ r. AllByRecursion RegistersRise r.items) }
 {
     let mut loops = Vec::new(alloc);
     let mut rest = text;
@@ -280,9 +300,10 @@ fn loops_at(alloc: Global, text: &[u8]) -> Result<Vec<LoopLine>, AllocError>
     Ok(loops)
 }
 
-/// The certificate whose text this is, or any.
+/// The certificate whose text this is, or any. The registers of each line rise.
 pub fn certificate_in(alloc: Global, text: &[u8]) -> Result<Certificate, AllocError>
-    ensures { (f : Fields) → HasText f → text.now ≡ certificate_text f → IfOk result (λ c. c ≡ f) }
+    ensures text { (f : Fields) → IsWellFormed f → text.now ≡ certificate_text f → IfOk result (λ c. c ≡ f) }
+    ensures rise { IfOk result (λ c. AllByRecursion RegistersRise c.loops) }
 {
     let (entry, rest) = register_at(behind(behind_version(text), b"\nentry "));
     let (argument, rest) = argument_at(behind(rest, b"\n"));

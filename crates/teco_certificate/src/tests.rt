@@ -60,6 +60,20 @@ const OTHER_ARGUMENTS: [(&str, &str); 14] = [
     ("entry A\nargument 1 10\n", "argument 1 10\nentry A\n"),
 ];
 
+// The texts of all registers may be longer.
+const ALL_TEXTS: &str = "TECO-CERT 1
+entry A
+needs -
+commands 8
+size 1 + 2*N
+loop 3 held 2*N lost texts A=0,B=0,C=0,D=0,E=0,F=0,G=0,H=0,I=0,J=0,K=0,L=0,M=0,N=0,O=0,P=0,Q=0,R=0,S=0,T=0,\
+U=0,V=0,W=0,X=0,Y=0,Z=0,0=0,1=0,2=0,3=0,4=0,5=0,6=0,7=0,8=0,9=0
+end
+";
+
+// What stands in the place of the last of them.
+const MORE_TEXTS: [&str; 5] = ["8=0", "9=0,9=0", "9=0,A=0", "9=0,:=0", "9=0,-"];
+
 // What stands in the place of a part of that for marks, and the part.
 const OTHERS: [(&str, &str); 40] = [
     ("TECO-CERT 1\n", ""),
@@ -243,6 +257,16 @@ fn refuses_other_arguments(rt: HostRuntime) {
     for (part, other) in OTHER_ARGUMENTS {
         let (before, after) = REPEAT.split_once(part).expect(&rt, "a part");
         let text = with_other(&rt, rt.alloc(), before, other, after);
+        assert!(rt; is_refused(rt.alloc(), text.as_bytes()), "{text}");
+    }
+}
+
+#[test]
+fn reads_at_most_one_text_of_a_register(rt: HostRuntime) {
+    assert!(rt; is_read(&rt, rt.alloc(), ALL_TEXTS.as_bytes()));
+    let (before, after) = ALL_TEXTS.split_once("9=0").expect(&rt, "the last text");
+    for more in MORE_TEXTS {
+        let text = with_other(&rt, rt.alloc(), before, more, after);
         assert!(rt; is_refused(rt.alloc(), text.as_bytes()), "{text}");
     }
 }

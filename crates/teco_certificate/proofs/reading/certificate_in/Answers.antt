@@ -7,8 +7,9 @@ use Rattle.teco_certificate.proofs.Spelling.{same_fields}
 use Rattle.teco_poly.specs.Text.{text}
 use Rattle.teco_certificate.proofs.reading.certificate_in.Goals as goal
 
-pub returns : goal.returns
-returns c = λ f has e.
+pub returns-clause-text : goal.returns-clause-text
+returns-clause-text c = λ f is e.
+    let has = is.parts in
     let loops = flat_map loop_line f.loops ++ line (codes "end") in
     let sizes = line (codes "size " ++ text f.size) ++ loops in
     let commands = line (codes "commands " ++ text f.commands) ++ sizes in
@@ -27,4 +28,4 @@ returns c = λ f has e.
     let of_size = c.behind-5.ensures.word.1.there ((text f.size ++ LF ∷ []) ++ loops) most.1 in
     let size = c.polynomial_at-size.ensures.text f.size (LF ∷ loops) has.size refl (of_size.1 ∙ append_assoc (text f.size) (LF ∷ []) loops) in
     let of_loops = c.behind-6.ensures.word.1.there loops size.1 in
-    same_fields f entry.0 argument.0 need.0 most.0 size.0 (c.in_ok-loops.ensures f.loops has.loops of_loops.1)
+    same_fields f entry.0 argument.0 need.0 most.0 size.0 (c.in_ok-loops.ensures.text f.loops has.loops is.order.registers of_loops.1)

@@ -2,7 +2,7 @@ use Rattle.std.proofs.Common.{◌≡◌, ◌++◌, ℕ, List, length, flat_map}
 use Rattle.std.specs.List.{AllByRecursion}
 use Rattle.std.specs.Prelude.{codes}
 use Rattle.teco_certificate.specs.Text.{line, chosen_text, loop_line}
-use Rattle.teco_certificate.specs.WellFormed.{IsChosen}
+use Rattle.teco_certificate.specs.WellFormed.{IsChosen, RegistersRise}
 use Rattle.teco_table.specs.Deriving.{Chosen}
 use Rattle.teco_certificate.proofs.Items.{AreLeft}
 use Rattle.teco_certificate.proofs.reading.loops_at.Given as goal
@@ -10,11 +10,18 @@ use Rattle.teco_certificate.proofs.reading.loops_at.Given as goal
 abbrev pub loop_rest : Chosen → List ℕ
 loop_rest c = line (chosen_text c)
 
--- of whatever loops there are, those that are read and those that are left are all
+-- such a line has a text, and its registers rise
+pub record IsLine (line : Chosen) : Type 0 where
+  pub chosen : IsChosen line
+  pub rises : RegistersRise line
+
+-- of whatever loops there are, those that are read and those that are left are all; the registers of each that is read rise
 abbrev pub invariant-loop-words : goal.invariant-loop-words
-invariant-loop-words l =
-    (cs : List Chosen) → AllByRecursion IsChosen cs → l.fn.text ≡ flat_map loop_line cs ++ line (codes "end")
-    → AreLeft (codes "loop ") loop_rest IsChosen (line (codes "end")) cs l.loops.items l.rest
+invariant-loop-words l = record {
+  rise : AllByRecursion RegistersRise l.loops.items;
+  left : (cs : List Chosen) → AllByRecursion IsChosen cs → AllByRecursion RegistersRise cs → l.fn.text ≡ flat_map loop_line cs ++ line (codes "end")
+      → AreLeft (codes "loop ") loop_rest IsLine (line (codes "end")) cs l.loops.items l.rest;
+}
 
 abbrev pub decreases-loop-words : goal.decreases-loop-words
 decreases-loop-words l = length l.rest

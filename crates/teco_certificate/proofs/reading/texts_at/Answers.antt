@@ -1,18 +1,19 @@
-use Rattle.std.proofs.Common.{◌++◌, ◌∷◌, [], None, flat_map, ap, sym, ◌∙◌}
+use Rattle.std.proofs.Common.{◌++◌, ◌∷◌, [], None, flat_map, ap, sym, subst, ◌∙◌}
 use Rattle.std.proofs.lemmas.Bool.Decides.{Decides-eqb}
 use Rattle.std.proofs.lemmas.Slice.Eq.{strip_prefix_is}
 use Rattle.std.specs.Prelude.{codes}
 use Rattle.teco_base.specs.declared.bytes.TheConstants.{LF}
 use Rattle.teco_certificate.specs.Text.{behind_comma}
+use Rattle.teco_certificate.specs.WellFormed.{TextsRise}
 use Rattle.teco_certificate.proofs.Spelling.{texts_first, ends_longer}
 use Rattle.teco_certificate.proofs.reading.texts_at.Goals as goal
 
 pub returns-clause-text : goal.returns-clause-text
-returns-clause-text c = λ ls rest are e.
+returns-clause-text c = λ ls rest are rise e.
+    let pushed = c.in_ok-push.ensures.items ∙ ap (λ xs. xs ++ c.longer_at-first.result.0 ∷ []) c.new-longer.ensures.items in
     let has = texts_first ls c.args.text.now rest are (λ words f. strip_prefix_is Decides-eqb c.args.text.now (codes "-") None c.in_default.ensures.cases words f) e in
     let one = c.longer_at-first.ensures.text has.first (flat_map behind_comma has.others ++ LF ∷ rest) has.is_first (ends_longer has.others rest) has.spelled in
-    let more = c.in_ok-rest.ensures.text has.others rest has.are_others one.1 in (
-      more.0 ∙ ap (λ xs. xs ++ has.others) (c.in_ok-push.ensures.items ∙ ap (λ xs. xs ++ c.longer_at-first.result.0 ∷ []) c.new-longer.ensures.items)
-          ∙ ap (λ l. l ∷ has.others) one.0 ∙ sym has.all,
-      more.1,
-    )
+    let all = ap (λ xs. xs ++ has.others) pushed ∙ ap (λ l. l ∷ has.others) one.0 ∙ sym has.all in
+    let rises = subst TextsRise (sym all) rise in
+    let more = c.in_ok-rest.ensures.text has.others rest has.are_others rises one.1 in
+    (more.0 ∙ all, more.1)
