@@ -32,6 +32,9 @@ StandsBefore longer next = longer.register < next.register
 abbrev pub TextsRise : List LongerText → Type 0
 TextsRise texts = AllAdjacentBelow StandsBefore texts (length texts)
 
+abbrev pub AreOfRegisters : List LongerText → Type 0
+AreOfRegisters texts = AllByRecursion (λ longer. longer.register < REGISTERS) texts
+
 abbrev pub RegistersRise : Chosen → Type 0
 RegistersRise chosen = TextsRise chosen.longer
 

@@ -11,7 +11,7 @@ ghost use Rattle.teco_certificate.specs.Fields.{Fields};
 ghost use Rattle.teco_certificate.specs.Front as front;
 ghost use Rattle.teco_certificate.specs.Front.{EndsPolynomial, LooksFor};
 ghost use Rattle.teco_certificate.specs.Text.{version_text, range_text, argument_line, needs_text, longer_text, longer_texts, behind_comma, kept_text, chosen_text, loop_line, certificate_text, line as line_of};
-ghost use Rattle.teco_certificate.specs.WellFormed.{IsLongerText, IsChosen, TextsRise, RegistersRise, IsWellFormed};
+ghost use Rattle.teco_certificate.specs.WellFormed.{IsLongerText, IsChosen, TextsRise, AreOfRegisters, RegistersRise, IsWellFormed};
 ghost use Rattle.teco_poly.specs.Polynomial.{Polynomial};
 ghost use Rattle.teco_poly.specs.Reading.{IsPoly, EndsNumber};
 ghost use Rattle.teco_poly.specs.Text.{text as poly_text};
@@ -22,7 +22,7 @@ ghost use Rattle.teco_table.specs.Deriving.{LongerText as LongerTextOf, Chosen};
 use crate::certificate::{Certificate, LongerText, LoopLine, Needs};
 use std::alloc::{AllocError, Global};
 use std::str;
-use teco_base::Reg;
+use teco_base::{REGISTERS, Reg};
 use teco_poly::Poly;
 use teco_rules::ArgumentRange;
 
@@ -207,9 +207,11 @@ fn held_at(text: &[u8]) -> (Poly, &[u8])
 fn longer_at(text: &[u8]) -> (LongerText, &[u8])
     ensures text { (l : LongerTextOf) (rest : List ℕ) → IsLongerText l → EndsPolynomial rest
         → text.now ≡ longer_text l ++ rest → (result.0 ≡ l) × (result.1.now ≡ rest) }
+    ensures register { result.0.register < REGISTERS }
     ensures within { length result.1.now ≤ length text.now }
 {
     let (register, rest) = register_at(text);
+    prove!(register.index() < REGISTERS);
     let (text, rest) = polynomial_at(behind(rest, b"="));
     (LongerText { register, text }, rest)
 }
@@ -228,11 +230,13 @@ fn is_behind(other: &LongerText, longer: &[LongerText]) -> bool
 // Adds to `longer` the texts at the front of a text, each behind a comma. It is what comes behind them. It ends before one
 // whose register doesn't rise: so there are never more of them than registers, whatever the text.
 fn others_at<'a>(longer: &mut Vec<LongerText>, text: &'a [u8]) -> Result<&'a [u8], AllocError>
-    requires { TextsRise longer.old.items }
+    requires rise { TextsRise longer.old.items }
+    requires registers { AreOfRegisters longer.old.items }
     ensures text { (ls : List LongerTextOf) (rest : List ℕ) → AllByRecursion IsLongerText ls
         → TextsRise (longer.old.items ++ ls) → text.now ≡ flat_map behind_comma ls ++ LF ∷ rest
         → IfOk result (λ r. (longer.new.items ≡ longer.old.items ++ ls) × (r.now ≡ LF ∷ rest)) }
     ensures rise { OnOk result (TextsRise longer.new.items) }
+    ensures registers { OnOk result (AreOfRegisters longer.new.items) }
     ensures within { IfOk result (λ r. length r.now ≤ length text.now) }
 {
     let mut rest = text;
@@ -252,6 +256,7 @@ fn texts_at(alloc: Global, text: &[u8]) -> Result<(Vec<LongerText>, &[u8]), Allo
     ensures text { (ls : List LongerTextOf) (rest : List ℕ) → AllByRecursion IsLongerText ls → TextsRise ls
         → text.now ≡ longer_texts ls ++ LF ∷ rest → IfOk result (λ r. (r.0.items ≡ ls) × (r.1.now ≡ LF ∷ rest)) }
     ensures rise { IfOk result (λ r. TextsRise r.0.items) }
+    ensures few { IfOk result (λ r. length r.0.items ≤ REGISTERS) }
     ensures within { IfOk result (λ r. length r.1.now ≤ length text.now) }
 {
     let mut longer = Vec::new(alloc);
@@ -269,6 +274,7 @@ fn loop_at(alloc: Global, text: &[u8]) -> Result<(LoopLine, &[u8]), AllocError>
     ensures text { (c : Chosen) (rest : List ℕ) → IsChosen c → RegistersRise c
         → text.now ≡ line_of (chosen_text c) ++ rest → IfOk result (λ r. (r.0 ≡ c) × (r.1.now ≡ rest)) }
     ensures rise { IfOk result (λ r. RegistersRise r.0) }
+    ensures few { IfOk result (λ r. length r.0.longer ≤ REGISTERS) }
     ensures within { IfOk result (λ r. length r.1.now ≤ length text.now) }
 {
     let (number, rest) = number_at(text);

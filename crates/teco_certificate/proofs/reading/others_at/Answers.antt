@@ -1,11 +1,12 @@
-use Rattle.std.proofs.Common.{◌≡◌, ◌++◌, ◌∷◌, [], Some, None, flat_map, arith, refl, sym, subst}
+use Rattle.std.proofs.Common.{◌≡◌, ◌<◌, ◌++◌, ◌∷◌, [], Some, None, flat_map, arith, refl, sym, subst}
 use Rattle.std.proofs.lemmas.Bool.Decides.{Decides-eqb}
 use Rattle.std.proofs.lemmas.Slice.Eq.{strip_prefix_is}
 use Rattle.std.specs.Prelude.{codes}
+use Rattle.teco_base.specs.declared.TheConstants.{REGISTERS}
 use Rattle.teco_base.specs.declared.bytes.TheConstants.{LF}
 use Rattle.teco_certificate.specs.Text.{longer_text, behind_comma}
 use Rattle.teco_certificate.specs.WellFormed.{IsLongerText, TextsRise}
-use Rattle.teco_certificate.proofs.Items.{more_read, all_read}
+use Rattle.teco_certificate.proofs.Items.{all_and, more_read, all_read}
 use Rattle.teco_certificate.proofs.Rising.{front_rises}
 use Rattle.teco_certificate.proofs.Spelling.{other_byte, ends_longer}
 use Rattle.teco_certificate.proofs.reading.others_at.Goals as goal
@@ -13,7 +14,8 @@ use Rattle.teco_certificate.proofs.reading.others_at.Goals as goal
 pub loop-words-init : goal.loop-words-init
 loop-words-init c = record {
   within = omega arith;
-  rise = c.requires;
+  rise = c.requires.rise;
+  registers = c.requires.registers;
   left = λ ls rest are e. record { left = ls; are = are; whole = refl; text = e };
 }
 
@@ -21,6 +23,9 @@ pub loop-words-preserved : goal.loop-words-preserved
 loop-words-preserved c = record {
   within = omega (arith, c.in-Some.ensures.cases);
   rise = rw (c.in_ok-push.ensures.items, ← c.deref.ensures.value) (c.if-not-is_behind.ensures.0 refl);
+  registers =
+      rw c.in_ok-push.ensures.items
+      (all_and (λ l. l.register < REGISTERS) c.loop-words.longer.items c.longer_at-other.result.0 c.loop-words.invariant.registers c.longer_at-other.ensures.register);
   left = λ ls rest are e.
       rw c.in_ok-push.ensures.items
       (more_read (codes ",") longer_text IsLongerText (LF ∷ rest) (other_byte (LF ∷ rest) [] rest 10 44 refl (λ (same : 10 ≡ 44). omega arith))

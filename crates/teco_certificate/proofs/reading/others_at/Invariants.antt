@@ -3,7 +3,7 @@ use Rattle.std.specs.List.{AllByRecursion}
 use Rattle.std.specs.Prelude.{codes}
 use Rattle.teco_base.specs.declared.bytes.TheConstants.{LF}
 use Rattle.teco_certificate.specs.Text.{longer_text, behind_comma}
-use Rattle.teco_certificate.specs.WellFormed.{IsLongerText, TextsRise}
+use Rattle.teco_certificate.specs.WellFormed.{IsLongerText, TextsRise, AreOfRegisters}
 use Rattle.teco_table.specs.Deriving.{LongerText}
 use Rattle.teco_certificate.proofs.Items.{AreLeft}
 use Rattle.teco_certificate.proofs.reading.others_at.Given as goal
@@ -13,6 +13,7 @@ abbrev pub invariant-loop-words : goal.invariant-loop-words
 invariant-loop-words l = record {
   within : length l.rest ≤ length l.fn.text;
   rise : TextsRise l.longer.items;
+  registers : AreOfRegisters l.longer.items;
   left : (ls : List LongerText) (rest : List ℕ) → AllByRecursion IsLongerText ls → l.fn.text ≡ flat_map behind_comma ls ++ LF ∷ rest
       → AreLeft (codes ",") longer_text IsLongerText (LF ∷ rest) (l.fn.longer.items ++ ls) l.longer.items l.rest;
 }

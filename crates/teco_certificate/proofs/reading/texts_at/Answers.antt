@@ -5,6 +5,7 @@ use Rattle.std.specs.Prelude.{codes}
 use Rattle.teco_base.specs.declared.bytes.TheConstants.{LF}
 use Rattle.teco_certificate.specs.Text.{behind_comma}
 use Rattle.teco_certificate.specs.WellFormed.{TextsRise}
+use Rattle.teco_certificate.proofs.Rising.{few_rise}
 use Rattle.teco_certificate.proofs.Spelling.{texts_first, ends_longer}
 use Rattle.teco_certificate.proofs.reading.texts_at.Goals as goal
 
@@ -17,3 +18,6 @@ returns-clause-text c = λ ls rest are rise e.
     let rises = subst TextsRise (sym all) rise in
     let more = c.in_ok-rest.ensures.text has.others rest has.are_others rises one.1 in
     (more.0 ∙ all, more.1)
+
+pub returns-clause-few : goal.returns-clause-few
+returns-clause-few c = few_rise c.others_at.new.longer.items c.in_ok-rest.ensures.rise c.in_ok-rest.ensures.registers
