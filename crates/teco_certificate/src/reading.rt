@@ -1,5 +1,5 @@
-// What a text says if it is that of a certificate. These functions judge nothing: of another text they read anything at
-// all, and who calls them has to see whether what was read has this text.
+// What a text says if it is that of a certificate. These functions judge nothing but that the registers of a line rise: of
+// another text they read anything at all, and who calls them has to see whether what was read has this text.
 ghost use Rattle.std.specs.Prelude.{◌≡◌, ◌++◌, ◌∷◌, [], ◌≤◌, ◌<◌, ◌^◌, ◌↔◌, ℕ, Bool, true, IsTrue, List, length, flat_map, codes, Option, Some, IfOk, OnOk, IfSome};
 ghost use Rattle.std.specs.List.{AllByRecursion, list_all, prefix_len};
 ghost use Rattle.std.specs.Char.{is_ascii_digit};
