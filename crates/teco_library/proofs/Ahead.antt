@@ -1,5 +1,5 @@
 -- What was read of a file so far, and the spans of its texts.
-use Rattle.std.proofs.Common.{◌≡◌, ◌≢◌, ℕ, ◌<◌, List, [], ◌∷◌, ◌++◌, length, get_or, set, replicate, Bool, true, false, Option, Some, None, option_map, Ok, refl, sym, ap, ◌∙◌, arith, inl, inr, append_assoc, append-nil}
+use Rattle.std.proofs.Common.{subst, ◌≡◌, ◌≢◌, ℕ, ◌<◌, List, [], ◌∷◌, ◌++◌, length, get_or, set, replicate, Bool, true, false, Option, Some, None, option_map, Ok, refl, sym, ap, ◌∙◌, arith, inl, inr, append_assoc, append-nil}
 use Rattle.std.specs.Prelude.{find, All, if◌then◌else◌, OnSome}
 use Rattle.std.proofs.Math.ListN.{get_or-map as get_or-map_at}
 use Rattle.std.proofs.lemmas.Bool.{cases_eq, cases_lt, false≢true, eq-eqb, ne_eqb}
@@ -11,6 +11,7 @@ use Rattle.teco_model.specs.declared.pattern.Span.{Span}
 use Rattle.teco_model.specs.Ahead.{Reading, Whole, Faulty, place_of, next_of, reading_at, readings}
 use Rattle.teco_model.specs.Element.{Element}
 use Rattle.teco_model.proofs.Ahead.{readings-some, readings-none}
+use Rattle.teco_library.specs.Header.{Declares, HasNoOtherHeader, first_comment}
 use Rattle.teco_library.specs.Library.{AreOfLibrary, IsFirstNotAllowed, is_allowed, register_set, sets, own_text, text_set, texts_set}
 use Rattle.teco_library.specs.Spans.{EndsItsText, Finds, IsWithin, admitted, part_of, span_of, texts_at, with_span}
 use Rattle.teco_library.proofs.OwnText.{HasItsText, has_its_text}
@@ -24,6 +25,17 @@ pub record IsReadTo (file : List ℕ) (at : ℕ) (spans : List (Option Span)) : 
   pub count : length spans ≡ REGISTERS
   pub texts : texts_at file spans ≡ texts_set before
   pub within : All (IsWithin file) spans
+
+-- The first comment of what was read so far and one reading more is that of the file.
+first_of : (before behind : List Reading) (r : Reading) → first_comment (before ++ r ∷ []) ≡ first_comment (before ++ r ∷ behind)
+first_of [] behind (Whole e) = refl
+first_of [] behind (Faulty c place next) = refl
+first_of (Whole e ∷ before) behind r = refl
+first_of (Faulty c place next ∷ before) behind r = refl
+
+headed : (file : List ℕ) (before behind : List Reading) (r : Reading) → before ++ r ∷ behind ≡ readings file 0 → HasNoOtherHeader (readings file 0) → HasNoOtherHeader (before ++ r ∷ [])
+headed file before behind r e header =
+    (header.0, subst (λ comment. Declares comment header.0) (sym (first_of before behind r ∙ ap first_comment e)) header.1)
 
 pub ends_its_text : (file : List ℕ) (at : ℕ) (r : Reading) → reading_at file at ≡ Some r → EndsItsText r
 ends_its_text file at (Faulty c place next) h = tt
@@ -42,7 +54,7 @@ pub nothing_read : (file : List ℕ) → IsReadTo file 0 (replicate REGISTERS No
 nothing_read file = record {
   before = [];
   read = refl;
-  library = record { allowed = All-nil (λ x. is_allowed x ≡ true); once = λ q l. omega arith };
+  library = record { allowed = All-nil (λ x. is_allowed x ≡ true); once = λ q l. omega arith; header = (None, λ text h. absurd (cc)) };
   count = refl;
   texts = sym texts_set-nil;
   within = All-replicate (IsWithin file) REGISTERS None (λ s h. absurd (cc));
@@ -66,22 +78,22 @@ free_before : (file : List ℕ) (at : ℕ) (spans : List (Option Span)) (i : IsR
 free_before file at spans i k l free = none_from (find (sets k) i.before) (sym (text_by_span file at spans i k l) ∙ ap (option_map (part_of file)) free)
 
 -- one more reading that sets no register
-passes : (file : List ℕ) (at : ℕ) (spans : List (Option Span)) (e : Element) → IsReadTo file at spans → reading_at file at ≡ Some (Whole e) → is_allowed (Whole e) ≡ true → register_set e.kind ≡ None → IsReadTo file e.next spans
-passes file at spans e i h a none = record {
+passes : (file : List ℕ) (at : ℕ) (spans : List (Option Span)) (e : Element) → HasNoOtherHeader (readings file 0) → IsReadTo file at spans → reading_at file at ≡ Some (Whole e) → is_allowed (Whole e) ≡ true → register_set e.kind ≡ None → IsReadTo file e.next spans
+passes file at spans e header i h a none = let read = rw (readings-some file at (Whole e) h) at i.read in record {
   before = i.before ++ Whole e ∷ [];
-  read = rw append_assoc (rw (readings-some file at (Whole e) h) at i.read);
-  library = once_more i.before (Whole e) i.library a (λ q l s. absurd (false≢true (sym (sets_none e q none) ∙ s)));
+  read = rw append_assoc read;
+  library = once_more i.before (Whole e) i.library a (λ q l s. absurd (false≢true (sym (sets_none e q none) ∙ s))) (headed file i.before (readings file e.next) (Whole e) read header);
   count = i.count;
   texts = texts_set-from (i.before ++ Whole e ∷ []) (texts_at file spans) (length-map spans (option_map (part_of file)) ∙ i.count) (λ k l. get_or-map_at (option_map (part_of file)) spans k None ∙ text_by_span file at spans i k l ∙ sym (text_set-other i.before (Whole e) k (sets_none e k none)));
   within = i.within;
 }
 
 -- one more reading that sets a register, which had no span
-keeps : (file : List ℕ) (at q : ℕ) (spans : List (Option Span)) (e : Element) → IsReadTo file at spans → reading_at file at ≡ Some (Whole e) → is_allowed (Whole e) ≡ true → register_set e.kind ≡ Some q → get_or spans q None ≡ None → IsReadTo file e.next (set spans q (Some (span_of e)))
-keeps file at q spans e i h a is_set free = record {
+keeps : (file : List ℕ) (at q : ℕ) (spans : List (Option Span)) (e : Element) → HasNoOtherHeader (readings file 0) → IsReadTo file at spans → reading_at file at ≡ Some (Whole e) → is_allowed (Whole e) ≡ true → register_set e.kind ≡ Some q → get_or spans q None ≡ None → IsReadTo file e.next (set spans q (Some (span_of e)))
+keeps file at q spans e header i h a is_set free = let read = rw (readings-some file at (Whole e) h) at i.read in record {
   before = i.before ++ Whole e ∷ [];
-  read = rw append_assoc (rw (readings-some file at (Whole e) h) at i.read);
-  library = once_more i.before (Whole e) i.library a fresh;
+  read = rw append_assoc read;
+  library = once_more i.before (Whole e) i.library a fresh (headed file i.before (readings file e.next) (Whole e) read header);
   count = length-set spans q (Some (span_of e)) ∙ i.count;
   texts = texts_set-from (i.before ++ Whole e ∷ []) (texts_at file (set spans q (Some (span_of e)))) (length-map _ (option_map (part_of file)) ∙ length-set spans q (Some (span_of e)) ∙ i.count) (λ k l. get_or-map_at (option_map (part_of file)) (set spans q (Some (span_of e))) k None ∙ same k l);
   within = All-set (IsWithin file) spans q (Some (span_of e)) stands_within i.within;
@@ -106,19 +118,19 @@ keeps file at q spans e i h a is_set free = record {
     ]
 
 -- one more reading is admitted
-pub read_on : (file : List ℕ) (at : ℕ) (r : Reading) (spans new : List (Option Span)) → IsReadTo file at spans → reading_at file at ≡ Some r → admitted r spans ≡ Some new → IsReadTo file (next_of r) new
-read_on file at (Faulty c place next) spans new i h a = absurd (cc)
-read_on file at (Whole e) spans new i h a = among (is_allowed (Whole e)) refl (register_set e.kind) refl a
+pub read_on : (file : List ℕ) (at : ℕ) (r : Reading) (spans new : List (Option Span)) → HasNoOtherHeader (readings file 0) → IsReadTo file at spans → reading_at file at ≡ Some r → admitted r spans ≡ Some new → IsReadTo file (next_of r) new
+read_on file at (Faulty c place next) spans new header i h a = absurd (cc)
+read_on file at (Whole e) spans new header i h a = among (is_allowed (Whole e)) refl (register_set e.kind) refl a
   where
     among : (t : Bool) → is_allowed (Whole e) ≡ t → (o : Option ℕ) → register_set e.kind ≡ o →
         Path (Option (List (Option Span))) (if t then with_span o (span_of e) spans else None) (Some new) → IsReadTo file e.next new
     among false t o s a = absurd (cc)
-    among true t None s a = let same : spans ≡ new = cc in rw (← same) (passes file at spans e i h t s)
+    among true t None s a = let same : spans ≡ new = cc in rw (← same) (passes file at spans e header i h t s)
     among true t (Some q) s a = free (get_or spans q None) refl a
       where
         free : (o : Option Span) → get_or spans q None ≡ o →
             Path (Option (List (Option Span))) (elim o [ None ↦ Some (set spans q (Some (span_of e))) | Some earlier ↦ None ]) (Some new) → IsReadTo file e.next new
-        free None f a = let same : set spans q (Some (span_of e)) ≡ new = cc in rw (← same) (keeps file at q spans e i h t s f)
+        free None f a = let same : set spans q (Some (span_of e)) ≡ new = cc in rw (← same) (keeps file at q spans e header i h t s f)
         free (Some earlier) f a = absurd (cc)
 
 -- a register that has a span was set

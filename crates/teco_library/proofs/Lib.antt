@@ -1,3 +1,4 @@
+pub mod Declaring
 pub mod OwnText
 pub mod Registers
 pub mod Ahead

@@ -10,6 +10,7 @@ use Rattle.std.proofs.lemmas.List.FromFn.{fill_by_all, get_or-map-range_with_len
 use Rattle.std.proofs.lemmas.List.Sums.{sum_by-append, sum_by-cons}
 use Rattle.teco_base.specs.declared.TheConstants.{REGISTERS}
 use Rattle.teco_model.specs.Ahead.{Reading}
+use Rattle.teco_library.specs.Header.{HasNoOtherHeader}
 use Rattle.teco_library.specs.Library.{AreOfLibrary, is_allowed, sets, own_text, text_set, texts_set}
 
 abbrev pub one_if : Bool → ℕ
@@ -36,10 +37,11 @@ count_some p (r ∷ rs) found h = rw (sum_by-cons (λ x. one_if (p x)) r rs) (am
 
 -- A library may have one more reading, if that is allowed and sets no register that was set before.
 pub once_more : (before : List Reading) (r : Reading) → AreOfLibrary before → is_allowed r ≡ true →
-    ((q : ℕ) → q < REGISTERS → sets q r ≡ true → find (sets q) before ≡ None) → AreOfLibrary (before ++ r ∷ [])
-once_more before r a h fresh = record {
+    ((q : ℕ) → q < REGISTERS → sets q r ≡ true → find (sets q) before ≡ None) → HasNoOtherHeader (before ++ r ∷ []) → AreOfLibrary (before ++ r ∷ [])
+once_more before r a h fresh header = record {
   allowed = All-push (λ x. is_allowed x ≡ true) before r a.allowed h;
   once = λ q l. rw (count_more q before r) (among q l (sets q r) refl);
+  header = header;
 }
   where
     among : (q : ℕ) → q < REGISTERS → (b : Bool) → sets q r ≡ b → count_by (sets q) before + one_if b ≤ 1

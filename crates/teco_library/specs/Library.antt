@@ -1,6 +1,6 @@
 -- A library: a text whose elements are comments, ESC and ^U without a colon, which set the text of each register at
--- most once.
-use Rattle.std.specs.Prelude.{◌≡◌, ℕ, ◌<◌, ◌≤◌, List, [], ◌∷◌, ◌++◌, map, count_by, find, Bool, true, false, ◌==◌, ◌&&◌, Option, Some, None, option_map}
+-- most once. A comment at its first place may declare the argument of a register.
+use Rattle.std.specs.Prelude.{◌≡◌, ℕ, ◌<◌, ◌≤◌, List, [], ◌∷◌, ◌++◌, map, count_by, find, Bool, true, false, ◌==◌, ◌&&◌, Option, Some, None, option_map, option_and_then}
 use Rattle.std.specs.List.{AllPass, range_with_len}
 use Rattle.std.specs.Option.{option_map_or}
 use Rattle.teco_base.specs.declared.TheConstants.{REGISTERS}
@@ -11,6 +11,8 @@ use Rattle.teco_model.specs.declared.kind.Command.TheVariants as command
 use Rattle.teco_model.specs.declared.kind.Flow.TheVariants as flow
 use Rattle.teco_model.specs.declared.kind.Storage.TheVariants as storage
 use Rattle.teco_model.specs.Ahead.{Reading, Whole, Faulty, place_of, readings}
+use Rattle.teco_library.specs.Header.{Declared, Declares, HasNoOtherHeader, first_comment, range_of}
+use Rattle.teco_rules.specs.Argument.{ArgumentRange}
 
 -- the register whose text an element sets
 abbrev pub register_set : Kind → Option ℕ
@@ -38,6 +40,7 @@ sets q (Faulty c place next) = false
 pub record AreOfLibrary (readings : List Reading) : Type 0 where
   pub allowed : AllPass is_allowed readings
   pub once : (q : ℕ) → q < REGISTERS → count_by (sets q) readings ≤ 1
+  pub header : HasNoOtherHeader readings
 
 abbrev pub IsLibrary : List ℕ → Type 0
 IsLibrary text = AreOfLibrary (readings text 0)
@@ -67,3 +70,17 @@ texts_set readings = map (text_set readings) (range_with_len 0 REGISTERS)
 
 abbrev pub texts_of : List ℕ → List (Option (List ℕ))
 texts_of text = texts_set (readings text 0)
+
+-- What a library gives: the texts of the registers, by their places, and the argument that it declares, if it does.
+pub record LibraryFile : Type 0 where
+  pub texts : List (Option (List ℕ))
+  pub argument : Option Declared
+
+-- the arguments that a register may be called with, if these are declared
+abbrev pub argument_of : LibraryFile → ℕ → Option ArgumentRange
+argument_of library q = option_and_then (range_of q) library.argument
+
+-- what a text gives, if it is a library
+pub record IsGivenBy (text : List ℕ) (library : LibraryFile) : Type 0 where
+  pub texts : library.texts ≡ texts_of text
+  pub argument : Declares (first_comment (readings text 0)) library.argument

@@ -2,10 +2,11 @@
 use Rattle.std.specs.Prelude.{◌≡◌, ℕ, ◌-◌, ◌<◌, ◌≤◌, List, length, map, All, slice_range, slice_set, slice_index_or, Bool, true, false, if◌then◌else◌, Option, Some, None, option_map, OnSome, Result, Ok, Err}
 use Rattle.std.specs.Option.{ForSome}
 use Rattle.teco_model.specs.declared.pattern.Span.{Span}
-use Rattle.teco_model.specs.Ahead.{Reading, Whole, Faulty}
+use Rattle.teco_model.specs.Ahead.{Reading, Whole, Faulty, readings}
 use Rattle.teco_model.specs.Element.{Element}
 use Rattle.teco_library.specs.declared.fault.LibraryFault.{LibraryFault}
 use Rattle.teco_library.specs.declared.fault.LibraryFault.TheVariants.{NotALibrary, Memory}
+use Rattle.teco_library.specs.Header.{Declared, Declares, first_comment}
 use Rattle.teco_library.specs.Library.{IsLibrary, IsFirstNotAllowed, is_allowed, register_set, texts_of}
 
 abbrev pub part_of : List ℕ → Span → List ℕ
@@ -44,6 +45,12 @@ admitted (Faulty c place next) spans = None
 abbrev pub Admits : Reading → List (Option Span) → List (Option Span) → Bool → Type 0
 Admits reading old new true = admitted reading old ≡ Some new
 Admits reading old new false = admitted reading old ≡ None
+
+-- what a function that looks for the header of a library finds
+abbrev pub FindsHeader : List ℕ → Result (Option Declared) LibraryFault → Type 0
+FindsHeader file (Ok declared) = Declares (first_comment (readings file 0)) declared
+FindsHeader file (Err (NotALibrary place)) = IsFirstNotAllowed file place
+FindsHeader file (Err Memory) = ⊥
 
 -- what a function that looks for the spans of a library finds
 abbrev pub Finds : List ℕ → Result (List (Option Span)) LibraryFault → Type 0

@@ -1,7 +1,9 @@
-//! Library files: TECO text that gives texts to registers, and nothing else.
+//! Library files: TECO text that gives texts to registers, and nothing else but that a comment at its front may declare
+//! the argument of a register.
 #![tactic(auto)]
 
 mod fault;
+mod header;
 mod library;
 mod reading;
 

@@ -2,32 +2,38 @@
 ghost use Rattle.std.specs.Prelude.{◌≡◌, ◌<◌, ◌≤◌, length, map, slice_index_or, is_some, All, None};
 ghost use Rattle.std.specs.Option.{option_copied, ForSome};
 ghost use Rattle.teco_base.specs.declared.TheConstants.{LIMIT, REGISTERS};
+ghost use Rattle.teco_library.specs.Library.{argument_of};
 ghost use Rattle.teco_library.specs.Reads.{Reads};
 
 use crate::fault::LibraryFault;
+use crate::header::{Declared, declared_in};
 use crate::reading::spans_of;
 use std::alloc::Global;
 use std::marker::Model;
 use teco_base::{REGISTERS, Reg};
 use teco_model::Span;
+use teco_rules::ArgumentRange;
 
-/// The texts that a library file gives to registers. It is seen as these, with none for each register that it leaves.
+/// The texts that a library file gives to registers, and the argument that it may declare. It is seen as these, with no
+/// text for each register that it leaves.
 #[derive(Drop)]
 pub struct Library {
     // a copy
     file: Vec<u8>,
     // where the texts stand in it, by the places of their registers
     spans: [Option<Span>; REGISTERS],
+    argument: Option<Declared>,
 }
 
 impl Model for Library {
-    ghost use Rattle.std.specs.Prelude.{◌≡◌, ◌≤◌, ℕ, List, Option, length, All};
+    ghost use Rattle.std.specs.Prelude.{◌≡◌, ◌≤◌, length, All};
     ghost use Rattle.teco_base.specs.declared.TheConstants.{LIMIT, REGISTERS};
+    ghost use Rattle.teco_library.specs.Library.{LibraryFile};
     ghost use Rattle.teco_library.specs.Spans.{IsWithin, texts_at};
 
-    ghost Value = { List (Option (List ℕ)) };
+    ghost Value = { LibraryFile };
 
-    ghost view = { λ l. texts_at l.file.items l.spans };
+    ghost view = { λ l. record { texts = texts_at l.file.items l.spans; argument = l.argument } };
 
     ghost invariant = { λ l. (length l.file.items ≤ LIMIT) × (length l.spans ≡ REGISTERS)
         × All (IsWithin l.file.items) l.spans };
@@ -39,18 +45,23 @@ impl Library {
         requires { length file.now ≤ LIMIT }
         ensures { Reads file.now result }
     {
+        let argument = declared_in(file)?;
         let spans = spans_of(file)?;
         let mut copy = Vec::new(alloc);
         copy.extend_from_slice(file)?;
-        Ok(Library { file: copy, spans })
+        Ok(Library {
+            file: copy,
+            spans,
+            argument,
+        })
     }
 
     // The text of the register at a place.
     fn text_at(&self, place: usize) -> Option<&[u8]>
         requires { place < REGISTERS }
-        ensures value { option_copied result ≡ slice_index_or self.now place None }
+        ensures value { option_copied result ≡ slice_index_or self.now.texts place None }
         ensures within_limit { ForSome result (λ text. length text.now ≤ LIMIT) }
-        ensures count { length self.now ≡ REGISTERS }
+        ensures count { length self.now.texts ≡ REGISTERS }
     {
         let span = self.spans[place]?;
         Some(&self.file[span.start..span.end])
@@ -58,7 +69,7 @@ impl Library {
 
     /// The text that a register gets; `None` where the library leaves it.
     pub fn text(&self, reg: Reg) -> Option<&[u8]>
-        ensures value { option_copied result ≡ slice_index_or self.now reg None }
+        ensures value { option_copied result ≡ slice_index_or self.now.texts reg None }
         ensures within_limit { ForSome result (λ text. length text.now ≤ LIMIT) }
     {
         self.text_at(reg.index())
@@ -66,14 +77,14 @@ impl Library {
 
     /// Does a register get a text?
     pub fn contains(&self, reg: Reg) -> bool
-        ensures { result ≡ is_some (slice_index_or self.now reg None) }
+        ensures { result ≡ is_some (slice_index_or self.now.texts reg None) }
     {
         self.text(reg).is_some()
     }
 
     /// The texts that registers get, `A` to `Z` and then `0` to `9`.
     pub fn texts(&self) -> [Option<&[u8]>; REGISTERS]
-        ensures value { map option_copied result ≡ self.now }
+        ensures value { map option_copied result ≡ self.now.texts }
         ensures within_limit { All (λ text. ForSome text (λ shown. length shown.now ≤ LIMIT)) result }
     {
         let mut texts = [None; REGISTERS];
@@ -81,5 +92,13 @@ impl Library {
             texts[place] = self.text_at(place);
         }
         texts
+    }
+
+    /// The arguments that a register may be called with, where the library declares these.
+    pub fn argument(&self, reg: Reg) -> Option<ArgumentRange>
+        ensures { result ≡ argument_of self.now reg }
+    {
+        let declared = self.argument?;
+        (declared.register.index() == reg.index()).then_some(declared.range)
     }
 }

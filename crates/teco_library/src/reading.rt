@@ -1,10 +1,11 @@
 //! What is read of a library file.
 ghost use Rattle.std.specs.Prelude.{◌≡◌, ◌<◌, length};
 ghost use Rattle.teco_lex.specs.Ahead.{seen};
+ghost use Rattle.teco_library.specs.Header.{HasNoOtherHeader};
 ghost use Rattle.teco_library.specs.Library as model;
 ghost use Rattle.teco_library.specs.Spans as spans;
 ghost use Rattle.teco_library.specs.Spans.{Admits, EndsItsText, Finds};
-ghost use Rattle.teco_model.specs.Ahead.{Whole};
+ghost use Rattle.teco_model.specs.Ahead.{Whole, readings};
 ghost use Rattle.teco_model.specs.Element.{seen as element_seen};
 
 use crate::fault::LibraryFault;
@@ -72,6 +73,7 @@ fn admit(spans: &mut [Option<Span>; REGISTERS], reading: &Reading) -> bool
 
 /// Where the texts that a library sets stand in its file, by the places of their registers.
 pub fn spans_of(file: &[u8]) -> Result<[Option<Span>; REGISTERS], LibraryFault>
+    requires { HasNoOtherHeader (readings file.now 0) }
     ensures { Finds file.now result }
 {
     let mut spans = [None; REGISTERS];

@@ -12,12 +12,19 @@ const NAMES: [u8; 36] = *b"ABCDEFGHIJKLMNOPQRSTUVWXYZ0123456789";
 /// A register's name and text.
 type Given = (u8, &'static [u8]);
 
-const LIBRARIES: [(&[u8], &[Given]); 14] = [
+const LIBRARIES: [(&[u8], &[Given]); 20] = [
     (b"", &[]),
     (b" \r\n^M^J", &[]),
     (b"\x1b\x1b", &[]),
     (b"!5C!", &[]),
-    (b"!TECO-LIB 2 x!", &[]),
+    // a header, and comments that are none
+    (b"!TECO-LIB 2 A 1 10!@^UA/<Ia\x1b>/", &[(b'A', b"<Ia\x1b>")]),
+    (b"!TECO-LIB2 x!", &[]),
+    (b"!TECO-LIB!", &[]),
+    (b"!teco-lib 2 A 1 10!", &[]),
+    (b" !TECO-LIB 2 x!", &[]),
+    (b"!x!!TECO-LIB 2 x!", &[]),
+    (b"^UA\x1b!TECO-LIB 2 x!", &[(b'A', b"")]),
     (
         b"@^UA/J<Sfoo\x1b;I!\x1b>/",
         &[(b'A', b"J<Sfoo\x1b;I!\x1b>")],
@@ -39,7 +46,7 @@ const LIBRARIES: [(&[u8], &[Given]); 14] = [
 ];
 
 /// The place is that of the first element that is not allowed.
-const NO_LIBRARIES: [(&[u8], usize); 29] = [
+const NO_LIBRARIES: [(&[u8], usize); 32] = [
     (b"1@^UA/J/", 0),
     (b"@\x15A/J/@\x15A/J/", 6),
     (b"@^UA/J", 0),
@@ -70,6 +77,63 @@ const NO_LIBRARIES: [(&[u8], usize); 29] = [
     (b"^U?x\x1b", 0),
     (b"\x00", 0),
     (b"!\xff!\xff", 3),
+    // other elements behind a header
+    (b"!TECO-LIB 2 A 1 10!@^UA/x/@^UA/x/", 26),
+    (b"!TECO-LIB 2 A 1 10!J", 19),
+    (b"!TECO-LIB 2 A 1 10", 0),
+];
+
+/// Headers, with the register, the least and the greatest argument.
+const HEADERS: [(&[u8], (u8, u32, u32)); 9] = [
+    (b"!TECO-LIB 2 A 1 10!", (b'A', 1, 10)),
+    (b"!TECO-LIB 2 Z 0 0!", (b'Z', 0, 0)),
+    (b"!TECO-LIB 2 0 7 7!", (b'0', 7, 7)),
+    (b"!TECO-LIB 2 9 0 2147483647!", (b'9', 0, 2147483647)),
+    (
+        b"!TECO-LIB 2 Q 2147483647 2147483647!",
+        (b'Q', 2147483647, 2147483647),
+    ),
+    (b"!TECO-LIB 2 A 1 10!@^UA/x/", (b'A', 1, 10)),
+    (b"!TECO-LIB 2 A 1 10!@^UB/x/", (b'A', 1, 10)),
+    (b"!TECO-LIB 2 A 1 10!!TECO-LIB 2 B 2 20!", (b'A', 1, 10)),
+    (b"!TECO-LIB 2 B 9 10!\x1b\x1b", (b'B', 9, 10)),
+];
+
+/// Headers that declare nothing.
+const BAD_HEADERS: [&[u8]; 33] = [
+    b"!TECO-LIB !",
+    b"!TECO-LIB 1!",
+    b"!TECO-LIB 1 A 1 10!",
+    b"!TECO-LIB 2!",
+    b"!TECO-LIB 2 !",
+    b"!TECO-LIB 2 x!",
+    b"!TECO-LIB 2 A!",
+    b"!TECO-LIB 2 A !",
+    b"!TECO-LIB 2 A 1!",
+    b"!TECO-LIB 2 A 1 !",
+    b"!TECO-LIB 2 A 1 10 !",
+    b"!TECO-LIB 2 A 1 10 20!",
+    b"!TECO-LIB 2 A 1 10\r\n!",
+    b"!TECO-LIB  2 A 1 10!",
+    b"!TECO-LIB 2  A 1 10!",
+    b"!TECO-LIB 2 A  1 10!",
+    b"!TECO-LIB 2 A 1  10!",
+    b"!TECO-LIB 2 A1 10!",
+    b"!TECO-LIB 2 AB 1 10!",
+    b"!TECO-LIB 2 a 1 10!",
+    b"!TECO-LIB 2 ? 1 10!",
+    b"!TECO-LIB 2 A 01 10!",
+    b"!TECO-LIB 2 A 00 10!",
+    b"!TECO-LIB 2 A 1 010!",
+    b"!TECO-LIB 2 A +1 10!",
+    b"!TECO-LIB 2 A -1 10!",
+    b"!TECO-LIB 2 A 10 1!",
+    b"!TECO-LIB 2 A 1 2147483648!",
+    b"!TECO-LIB 2 A 2147483648 2147483648!",
+    b"!TECO-LIB 2 A 1 4294967298!",
+    b"!TECO-LIB 2 A 1 18446744073709551617!",
+    b"!TECO-LIB 02 A 1 10!",
+    b"!TECO-LIB 2\tA\t1\t10!",
 ];
 
 fn read(rt: &impl Abort, alloc: Global, file: &[u8]) -> Result<Library, LibraryFault> {
@@ -121,6 +185,51 @@ fn first_element_that_is_not_allowed_is_told(rt: HostRuntime) {
         match read(&rt, rt.alloc(), file) {
             Err(LibraryFault::NotALibrary { place }) => {
                 assert!(rt; place == *wanted, "row {row}: {place}");
+            }
+            _ => panic!(rt; "row {row}: a library"),
+        }
+    }
+}
+
+// What a library declares, by register.
+fn check_arguments(rt: &impl Abort, library: &Library, wanted: Option<(u8, u32, u32)>, row: usize) {
+    for name in NAMES {
+        let reg = Reg::of(name).expect(rt, "a register");
+        let range = library.argument(reg);
+        let range = range.map(|range| (name, range.low(), range.high()));
+        let own = wanted.filter(|declared| declared.0 == name);
+        assert!(rt; range == own, "row {row}, register {name}");
+    }
+}
+
+#[test]
+fn headers_declare_arguments(rt: HostRuntime) {
+    for (row, (file, wanted)) in HEADERS.iter().enumerate() {
+        let Ok(library) = read(&rt, rt.alloc(), file) else {
+            panic!(rt; "row {row}: no library");
+        };
+        check_arguments(&rt, &library, Some(*wanted), row);
+    }
+}
+
+#[test]
+fn other_comments_declare_nothing(rt: HostRuntime) {
+    for (row, (file, _)) in LIBRARIES.iter().enumerate() {
+        let Ok(library) = read(&rt, rt.alloc(), file) else {
+            panic!(rt; "row {row}: no library");
+        };
+        if !file.starts_with(b"!TECO-LIB 2 ") {
+            check_arguments(&rt, &library, None, row);
+        }
+    }
+}
+
+#[test]
+fn other_headers_are_no_libraries(rt: HostRuntime) {
+    for (row, file) in BAD_HEADERS.iter().enumerate() {
+        match read(&rt, rt.alloc(), file) {
+            Err(LibraryFault::NotALibrary { place }) => {
+                assert!(rt; place == 0, "row {row}: {place}");
             }
             _ => panic!(rt; "row {row}: a library"),
         }

@@ -122,7 +122,7 @@ fn nodes_of(
 /// The time grows as the nodes and the texts do, for each jump as it is far, and for each element as the texts that it skips.
 #[tactic(auto, unfolding(teco_expand::specs::Expansion::expansion))]
 pub fn expand<'a>(alloc: Global, library: &'a Library, entry: Reg) -> Result<Nodes<'a>, ExpandFault>
-    ensures { Expands library.now entry result }
+    ensures { Expands library.now.texts entry result }
 {
     let texts = Texts::new(library, entry);
     let walk = whole_walk(alloc, &texts)?;

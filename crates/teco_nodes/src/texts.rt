@@ -44,7 +44,7 @@ impl<'a> Texts<'a> {
 
     /// Those of a library.
     pub fn new(library: &'a Library, entry: Reg) -> Texts<'a>
-        ensures library { library_of result ≡ library.now }
+        ensures library { library_of result ≡ library.now.texts }
         ensures entry { result.entry ≡ entry }
     {
         Texts {

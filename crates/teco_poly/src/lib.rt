@@ -7,6 +7,7 @@ mod poly;
 mod text;
 
 pub use poly::Poly;
+pub use text::number_at;
 
 #[cfg(test)]
 mod tests;

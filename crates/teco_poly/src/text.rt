@@ -93,8 +93,8 @@ fn number(digits: &[u8]) -> Option<u64>
     digits_value(digits)
 }
 
-// The number at the front of a text, and what comes behind it.
-fn number_at(text: &[u8]) -> Option<(u64, &[u8])>
+/// The number at the front of a text, and what comes behind it.
+pub fn number_at(text: &[u8]) -> Option<(u64, &[u8])>
     ensures found { IfSome result (λ r. IsNumberAt text.now r.0 r.1.now) }
     ensures none { IfNone result ((n : ℕ) (rest : List ℕ) → IsNumberAt text.now n rest → ⊥) }
 {

@@ -4,6 +4,7 @@ pub mod Values
 pub mod Arguments
 pub mod Facts
 pub mod Argument
+pub mod ArgumentText
 pub mod Shifts
 pub mod Motions
 pub mod Deletions

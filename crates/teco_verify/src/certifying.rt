@@ -60,8 +60,8 @@ pub fn certified<'l>(
     nodes: &Nodes<'_>,
     table: &Table,
 ) -> Result<Verified<'l>, Flaw>
-    requires { expansion library.now entry ≡ Ok nodes.now }
-    ensures library { IfOk result (λ verified. verified.library ≡ library.now) }
+    requires { expansion library.now.texts entry ≡ Ok nodes.now }
+    ensures library { IfOk result (λ verified. verified.library ≡ library.now.texts) }
     ensures entry { IfOk result (λ verified. verified.fields.entry ≡ entry) }
     ensures value { Certifies nodes.now table.now entry result }
 {

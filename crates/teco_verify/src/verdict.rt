@@ -27,7 +27,7 @@ use teco_straight::laws::straight_texts_are_accepted;
 // The texts of a library have no more than LIMIT characters.
 #[tactic(auto, using(crate::proofs::Accepted::within))]
 fn texts_are_within(library: &Library)
-    ensures { TextsAreWithin library.now }
+    ensures { TextsAreWithin library.now.texts }
 {
     let _texts = library.texts();
 }
@@ -51,10 +51,10 @@ fn certified_with<'l>(
     nodes: &Nodes<'_>,
     chosen: &[LoopLine],
 ) -> Result<Verified<'l>, Refusal>
-    requires { expansion library.now entry ≡ Ok nodes.now }
-    ensures library { IfOk result (λ verified. verified.library ≡ library.now) }
+    requires { expansion library.now.texts entry ≡ Ok nodes.now }
+    ensures library { IfOk result (λ verified. verified.library ≡ library.now.texts) }
     ensures entry { IfOk result (λ verified. verified.fields.entry ≡ entry) }
-    ensures accepted { chosen.now ≡ [] → AcceptedIsFound library.now entry result }
+    ensures accepted { chosen.now ≡ [] → AcceptedIsFound library.now.texts entry result }
 {
     let table = match derive(alloc, nodes, chosen) {
         Ok(table) => table,
@@ -81,9 +81,9 @@ fn choices(alloc: Global, nodes: &Nodes<'_>) -> Result<Vec<LoopLine>, Unfit>
 
 // The same with the choices that are found.
 fn verified<'l>(alloc: Global, library: &'l Library, entry: Reg) -> Result<Verified<'l>, Refusal>
-    ensures library { IfOk result (λ verified. verified.library ≡ library.now) }
+    ensures library { IfOk result (λ verified. verified.library ≡ library.now.texts) }
     ensures entry { IfOk result (λ verified. verified.fields.entry ≡ entry) }
-    ensures accepted { AcceptedIsFound library.now entry result }
+    ensures accepted { AcceptedIsFound library.now.texts entry result }
 {
     let nodes = expand(alloc, library, entry)?;
     match choices(alloc, &nodes) {
@@ -97,9 +97,9 @@ fn verified<'l>(alloc: Global, library: &'l Library, entry: Reg) -> Result<Verif
 ///
 /// It takes time by the elements of the texts that are called, and for each iteration up to three times those in its body.
 pub fn verify<'l>(alloc: Global, library: &'l Library, entry: Reg) -> Result<Verified<'l>, Refusal>
-    ensures library { IfOk result (λ verified. verified.library ≡ library.now) }
+    ensures library { IfOk result (λ verified. verified.library ≡ library.now.texts) }
     ensures entry { IfOk result (λ verified. verified.fields.entry ≡ entry) }
-    ensures straight { StraightIsVerified library.now entry result }
+    ensures straight { StraightIsVerified library.now.texts entry result }
 {
     straight_texts_are_accepted();
     texts_are_within(library);
@@ -122,8 +122,8 @@ fn certified_by<'l>(
     library: &'l Library,
     bytes: &[u8],
 ) -> Result<Verified<'l>, Refusal>
-    ensures library { IfOk result (λ verified. verified.library ≡ library.now) }
-    ensures accepted { AcceptedIsChecked library.now bytes.now result }
+    ensures library { IfOk result (λ verified. verified.library ≡ library.now.texts) }
+    ensures accepted { AcceptedIsChecked library.now.texts bytes.now result }
 {
     one_spelling();
     let claimed = match Certificate::read(alloc, bytes) {
@@ -137,9 +137,9 @@ fn certified_by<'l>(
 
 // The same, where the certificate's text is that of what is found.
 fn checked<'l>(alloc: Global, library: &'l Library, bytes: &[u8]) -> Result<Verified<'l>, Refusal>
-    ensures library { IfOk result (λ verified. verified.library ≡ library.now) }
+    ensures library { IfOk result (λ verified. verified.library ≡ library.now.texts) }
     ensures text { IfOk result (λ verified. certificate_text verified.fields ≡ bytes.now) }
-    ensures accepted { AcceptedIsChecked library.now bytes.now result }
+    ensures accepted { AcceptedIsChecked library.now.texts bytes.now result }
 {
     let verified = match certified_by(alloc, library, bytes) {
         Ok(verified) => verified,
@@ -161,9 +161,9 @@ pub fn check_certificate<'l>(
     bytes: &[u8],
 ) -> Result<Verified<'l>, Refusal>
     requires { length bytes.now ≤ LIMIT }
-    ensures library { IfOk result (λ verified. verified.library ≡ library.now) }
+    ensures library { IfOk result (λ verified. verified.library ≡ library.now.texts) }
     ensures text { IfOk result (λ verified. certificate_text verified.fields ≡ bytes.now) }
-    ensures straight { StraightIsChecked library.now bytes.now result }
+    ensures straight { StraightIsChecked library.now.texts bytes.now result }
 {
     straight_texts_are_accepted();
     texts_are_within(library);

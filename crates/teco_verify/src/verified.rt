@@ -24,9 +24,9 @@ impl<'l> Model for Verified<'l> {
 
     ghost Value = { Finding };
 
-    ghost view = { λ v. record { library = v.library.now; fields = v.certificate } };
+    ghost view = { λ v. record { library = v.library.now.texts; fields = v.certificate } };
 
-    ghost invariant = { λ v. IsCertified v.library.now v.certificate };
+    ghost invariant = { λ v. IsCertified v.library.now.texts v.certificate };
 }
 
 impl<'l> Verified<'l> {

@@ -31,7 +31,7 @@ loop-reading-preserved c =
     record {
       text = c.next.ensures.text ∙ c.loop-reading.invariant.text;
       within = omega (arith, c.next.ensures.within, ap length c.next.ensures.text, ap length c.loop-reading.invariant.text);
-      read = rw c.in-Some.ensures.place (read_on c.args.file.now c.loop-reading.ahead.place (seen c.in-Some.reading) c.loop-reading.spans c.admit.new.spans c.loop-reading.invariant.read read admitted);
+      read = rw c.in-Some.ensures.place (read_on c.args.file.now c.loop-reading.ahead.place (seen c.in-Some.reading) c.loop-reading.spans c.admit.new.spans c.requires c.loop-reading.invariant.read read admitted);
     }
 
 pub returns : goal.returns

@@ -15,7 +15,7 @@ pub returns-clause-value : goal.returns-clause-value
 returns-clause-value c =
     let all = c.loop-place.invariant in
     let count = all.count (omega arith) in
-    all_shown c.loop-place.texts c.args.self.now (all.long ∙ sym count) (λ k below. all.shown k (omega (arith, count)))
+    all_shown c.loop-place.texts c.args.self.now.texts (all.long ∙ sym count) (λ k below. all.shown k (omega (arith, count)))
 
 pub returns-clause-within_limit : goal.returns-clause-within_limit
 returns-clause-within_limit c k d below text is =
