@@ -16,11 +16,13 @@ use Rattle.teco_expand.specs.Refusal as expanding
 use Rattle.teco_facts.specs.Numbers.{AreSmall, IsSmallFall}
 use Rattle.teco_facts.specs.declared.few.TheConstants.{DEPTH}
 use Rattle.teco_poly.specs.Polynomial.{Polynomial}
+use Rattle.teco_rules.specs.Argument.{ArgumentRange}
 use Rattle.teco_rules.specs.declared.refusal.Refusal.{Refusal}
 use Rattle.teco_rules.specs.Facts.{Facts}
 use Rattle.teco_straight.specs.Accepted.{BeginsNoIteration, Prints, RowIsOutside, IsAccepted}
 use Rattle.teco_table.specs.Closed.{check}
 use Rattle.teco_table.specs.Deriving.{Chosen, derive}
+use Rattle.teco_table.specs.Printed.{commands}
 use Rattle.teco_table.specs.Table.{Table, facts_at}
 use Rattle.teco_verify.specs.Certifying.{AreFieldsOf}
 use Rattle.teco_verify.specs.Straight.{plain_fields}
@@ -82,7 +84,7 @@ record AcceptsNodes (nodes : List Node) (table : Table) (steps most : Polynomial
 module _ (library : Library) (entry : ℕ) (steps most : Polynomial) (accepted : IsAccepted library entry steps most) where
   pub is_well_formed : entry < REGISTERS → IsWellFormed (plain_fields entry steps most)
   is_well_formed h = record {
-    parts = record { entry = h; commands = accepted.prints.steps_fit; size = accepted.prints.most_fits; loops = tt };
+    parts = record { entry = h; argument = tt; commands = accepted.prints.steps_fit; size = accepted.prints.most_fits; loops = tt };
     order = record { numbers = λ k d h. absurd (omega (arith, h)); registers = tt };
   }
 
@@ -94,22 +96,24 @@ module _ (library : Library) (entry : ℕ) (steps most : Polynomial) (accepted :
     pub begins_none : list_any begins nodes ≡ false
     begins_none = none_begins nodes these.prints.has_no_lines
 
-    module _ (chosen : List Chosen) (nothing : chosen ≡ []) where
-      derived : derive None nodes chosen ≡ Ok accepted.table
-      derived = subst (λ c. derive None nodes c ≡ Ok accepted.table) (sym nothing) these.derived
+    module _ (chosen : List Chosen) (nothing : chosen ≡ []) (argument : Option ArgumentRange) (takes_none : argument ≡ None) where
+      derived : derive argument nodes chosen ≡ Ok accepted.table
+      derived = subst (λ a. derive a nodes chosen ≡ Ok accepted.table) (sym takes_none) (subst (λ c. derive None nodes c ≡ Ok accepted.table) (sym nothing) these.derived)
 
-      pub is_kept : (node : ℕ) → ((table : Table) → derive None nodes chosen ≡ Ok table → AreLarge (facts_at table node)) → ⊥
+      pub is_kept : (node : ℕ) → ((table : Table) → derive argument nodes chosen ≡ Ok table → AreLarge (facts_at table node)) → ⊥
       is_kept node l = none_large accepted.table node these.outside (l accepted.table derived)
 
-      module _ (table : Table) (is : derive None nodes chosen ≡ Ok table) where
+      module _ (table : Table) (is : derive argument nodes chosen ≡ Ok table) where
         here : AcceptsNodes nodes table steps most
         unfolding table_of
         here = subst (λ t. AcceptsNodes nodes t steps most) (ap table_of (sym derived ∙ is)) these
 
-        pub is_certified : (fields : Fields) → AreFieldsOf nodes table entry fields → fields ≡ plain_fields entry steps most
+        pub is_certified : (fields : Fields) → AreFieldsOf argument nodes table entry fields → fields ≡ plain_fields entry steps most
         is_certified fields f =
-            let first : fields.commands ≡ steps = let e : Ok fields.commands ≡ Ok steps = sym f.commands_are ∙ here.prints.commands_are in cc in
+            let argument_is : fields.argument ≡ None = f.argument_is ∙ takes_none in
+            let counted : commands None nodes table ≡ Ok fields.commands = subst (λ a. commands a nodes table ≡ Ok fields.commands) takes_none f.commands_are in
+            let first : fields.commands ≡ steps = let e : Ok fields.commands ≡ Ok steps = sym counted ∙ here.prints.commands_are in cc in
             let second : fields.size ≡ most = let e : Ok fields.size ≡ Ok most = sym f.size_is ∙ here.prints.size_is in cc in
             let needs = f.needs_are ∙ here.prints.needs_nothing in
             let loops = f.loops_are ∙ no_lines nodes table here.prints.has_no_lines in
-            rw (← f.entry_is, ← first, ← second, ← needs, ← loops) refl
+            rw (← f.entry_is, ← argument_is, ← first, ← second, ← needs, ← loops) refl

@@ -1,9 +1,10 @@
 -- What is found where a library is accepted with nothing chosen.
-use Rattle.std.specs.Prelude.{◌≡◌, ℕ, ◌<◌, ◌≤◌, List, [], length, Result, Ok, Err, Some, Vec}
+use Rattle.std.specs.Prelude.{◌≡◌, ℕ, ◌<◌, ◌≤◌, List, [], length, Result, Ok, Err, Some, None, Vec}
 use Rattle.std.specs.declared.alloc.Global.{Global}
 use Rattle.teco_base.specs.declared.TheConstants.{LIMIT, REGISTERS}
 use Rattle.teco_certificate.specs.Text.{certificate_text}
 use Rattle.teco_expand.specs.Library.{Library, macro}
+use Rattle.teco_library.specs.Library.{LibraryFile, argument_of}
 use Rattle.teco_poly.specs.Polynomial.{Polynomial}
 use Rattle.teco_straight.specs.Accepted.{IsAccepted}
 use Rattle.teco_table.specs.Deriving.{Chosen}
@@ -20,12 +21,13 @@ abbrev pub ChoosesNothing : {E : Type 0} → Result (Vec Chosen Global) E → Ty
 ChoosesNothing (Ok choices) = choices.items ≡ []
 ChoosesNothing (Err why) = ⊥
 
-abbrev pub AcceptedIsFound : Library → ℕ → Result Finding Refusal → Type 0
+abbrev pub AcceptedIsFound : LibraryFile → ℕ → Result Finding Refusal → Type 0
 AcceptedIsFound library entry result =
-    (steps most : Polynomial) → IsAccepted library entry steps most → IsFound (plain_fields entry steps most) result
+    (steps most : Polynomial) → argument_of library entry ≡ None → IsAccepted library.texts entry steps most
+    → IsFound (plain_fields entry steps most) result
 
-abbrev pub AcceptedIsChecked : Library → List ℕ → Result Finding Refusal → Type 0
+abbrev pub AcceptedIsChecked : LibraryFile → List ℕ → Result Finding Refusal → Type 0
 AcceptedIsChecked library bytes result =
     (entry : ℕ) (steps most : Polynomial)
-    → entry < REGISTERS → IsAccepted library entry steps most → bytes ≡ certificate_text (plain_fields entry steps most)
+    → entry < REGISTERS → argument_of library entry ≡ None → IsAccepted library.texts entry steps most → bytes ≡ certificate_text (plain_fields entry steps most)
     → IsFound (plain_fields entry steps most) result

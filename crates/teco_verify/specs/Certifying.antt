@@ -1,10 +1,11 @@
 -- What a table certifies.
-use Rattle.std.specs.Prelude.{◌≡◌, ◌⊎◌, ℕ, List, None, Result, Ok, Err, ⊤}
+use Rattle.std.specs.Prelude.{◌≡◌, ◌⊎◌, ℕ, List, Option, Result, Ok, Err, ⊤}
 use Rattle.teco_certificate.specs.Fields.{Fields}
 use Rattle.teco_check.specs.declared.bad.Bad.{Bad}
 use Rattle.teco_check.specs.declared.bad.Bad.TheVariants as bad
 use Rattle.teco_check.specs.Loops.{loops_of}
 use Rattle.teco_expand.specs.Node.{Node}
+use Rattle.teco_rules.specs.Argument.{ArgumentRange}
 use Rattle.teco_table.specs.Closed.{check}
 use Rattle.teco_table.specs.Printed.{commands, size, needs_in}
 use Rattle.teco_table.specs.Table.{Table}
@@ -12,21 +13,22 @@ use Rattle.teco_verify.specs.declared.certifying.Flaw.{Flaw}
 use Rattle.teco_verify.specs.declared.certifying.Flaw.TheVariants as flaw
 use Rattle.teco_verify.specs.Finding.{Finding}
 
--- its numbers, needs and lines
-pub record AreFieldsOf (nodes : List Node) (table : Table) (entry : ℕ) (fields : Fields) : Type 0 where
+-- its argument, numbers, needs and lines
+pub record AreFieldsOf (argument : Option ArgumentRange) (nodes : List Node) (table : Table) (entry : ℕ) (fields : Fields) : Type 0 where
   pub entry_is : fields.entry ≡ entry
+  pub argument_is : fields.argument ≡ argument
   pub needs_are : fields.needs ≡ needs_in nodes table
-  pub commands_are : commands None nodes table ≡ Ok fields.commands
+  pub commands_are : commands argument nodes table ≡ Ok fields.commands
   pub size_is : size nodes table ≡ Ok fields.size
   pub loops_are : fields.loops ≡ loops_of nodes table
 
 -- These, or the node at which it is not closed or a number overflows.
-abbrev pub Certifies : List Node → Table → ℕ → Result Finding Flaw → Type 0
-Certifies nodes table entry (Ok found) = AreFieldsOf nodes table entry found.fields
-Certifies nodes table entry (Err (flaw.Open number)) = check None nodes table ≡ Err number
-Certifies nodes table entry (Err (flaw.Overflow number)) =
-    (commands None nodes table ≡ Err number) ⊎ (size nodes table ≡ Err number)
-Certifies nodes table entry (Err flaw.Memory) = ⊤
+abbrev pub Certifies : Option ArgumentRange → List Node → Table → ℕ → Result Finding Flaw → Type 0
+Certifies argument nodes table entry (Ok found) = AreFieldsOf argument nodes table entry found.fields
+Certifies argument nodes table entry (Err (flaw.Open number)) = check argument nodes table ≡ Err number
+Certifies argument nodes table entry (Err (flaw.Overflow number)) =
+    (commands argument nodes table ≡ Err number) ⊎ (size nodes table ≡ Err number)
+Certifies argument nodes table entry (Err flaw.Memory) = ⊤
 
 -- why, where it is not closed
 abbrev pub flaw_by : Bad → Flaw

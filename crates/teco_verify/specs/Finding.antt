@@ -1,9 +1,11 @@
 -- What the verifier has found of a macro, and that it is so.
-use Rattle.std.specs.Prelude.{◌≡◌, List, None, Ok}
+use Rattle.std.specs.Prelude.{◌≡◌, ℤ, pos, List, Ok}
 use Rattle.teco_certificate.specs.Fields.{Fields}
 use Rattle.teco_expand.specs.Expansion.{expansion}
 use Rattle.teco_expand.specs.Library.{Library}
 use Rattle.teco_expand.specs.Node.{Node}
+use Rattle.teco_library.specs.Library.{LibraryFile, argument_of}
+use Rattle.teco_rules.specs.Argument.{ArgumentRange}
 use Rattle.teco_table.specs.Printed.{needs_in}
 use Rattle.teco_table.specs.Table.{Table}
 use Rattle.teco_table.specs.Verified.{IsPrinted}
@@ -14,11 +16,19 @@ pub record Finding : Type 0 where
   pub library : Library
   pub fields : Fields
 
--- There is a closed table of the expansion, and the certificate's numbers, needs and choices are those of that table.
+-- There is a table of the expansion that is closed for the argument, and the certificate's numbers, needs and choices are those of that table.
 pub record IsCertified (library : Library) (fields : Fields) : Type 0 where
   pub nodes : List Node
   pub table : Table
   pub expanded : expansion library fields.entry ≡ Ok nodes
-  pub printed : IsPrinted None nodes table fields.commands fields.size
+  pub printed : IsPrinted fields.argument nodes table fields.commands fields.size
   pub needs_are : fields.needs ≡ needs_in nodes table
   pub loops_are : fields.loops ≡ loops_of nodes table
+
+-- the least and the greatest argument
+abbrev pub bounds_of : ArgumentRange → ℤ × ℤ
+bounds_of range = (pos range.low, pos range.high)
+
+-- The argument is the one that the library declares for the entry, if it declares one.
+abbrev pub TakesDeclared : LibraryFile → Fields → Type 0
+TakesDeclared library fields = fields.argument ≡ argument_of library fields.entry

@@ -1,8 +1,8 @@
 -- What is found of straight text: the rules refuse none.
-use Rattle.std.specs.Prelude.{◌≡◌, ℕ, ◌+◌, List, [], length, Result, Ok, Err, ⊤}
+use Rattle.std.specs.Prelude.{◌≡◌, ℕ, ◌+◌, List, [], length, None, Result, Ok, Err, ⊤}
 use Rattle.teco_certificate.specs.Fields.{Fields}
 use Rattle.teco_certificate.specs.Text.{certificate_text}
-use Rattle.teco_expand.specs.Library.{Library}
+use Rattle.teco_library.specs.Library.{LibraryFile, argument_of}
 use Rattle.teco_model.specs.Element.{Element}
 use Rattle.teco_poly.specs.Polynomial.{Polynomial, number}
 use Rattle.teco_rules.specs.Printed.{no_needs}
@@ -15,7 +15,7 @@ use Rattle.teco_verify.specs.Finding.{Finding}
 -- no file must be open, and there is no iteration
 abbrev pub plain_fields : ℕ → Polynomial → Polynomial → Fields
 plain_fields entry steps most =
-    record { entry = entry; needs = no_needs; commands = steps; size = most; loops = [] }
+    record { entry = entry; argument = None; needs = no_needs; commands = steps; size = most; loops = [] }
 
 -- two commands more than it has elements, and N with what it inserts
 abbrev pub straight_fields : ℕ → List Element → Fields
@@ -27,15 +27,17 @@ IsFound fields (Ok found) = found.fields ≡ fields
 IsFound fields (Err refusal.Memory) = ⊤
 IsFound fields (Err refused) = ⊥
 
--- A straight text is verified.
-abbrev pub StraightIsVerified : Library → ℕ → Result Finding Refusal → Type 0
+-- A straight text is verified, where no argument is declared.
+abbrev pub StraightIsVerified : LibraryFile → ℕ → Result Finding Refusal → Type 0
 StraightIsVerified library entry result =
     (text : List ℕ) (elements : List Element)
-    → IsStraight library entry text elements → IsFound (straight_fields entry elements) result
+    → argument_of library entry ≡ None → IsStraight library.texts entry text elements
+    → IsFound (straight_fields entry elements) result
 
 -- The certificate of a straight text is accepted.
-abbrev pub StraightIsChecked : Library → List ℕ → Result Finding Refusal → Type 0
+abbrev pub StraightIsChecked : LibraryFile → List ℕ → Result Finding Refusal → Type 0
 StraightIsChecked library bytes result =
     (entry : ℕ) (text : List ℕ) (elements : List Element)
-    → IsStraight library entry text elements → bytes ≡ certificate_text (straight_fields entry elements)
+    → argument_of library entry ≡ None → IsStraight library.texts entry text elements
+    → bytes ≡ certificate_text (straight_fields entry elements)
     → IsFound (straight_fields entry elements) result

@@ -1,7 +1,9 @@
 //! What a closed table certifies.
 ghost use Rattle.std.specs.Prelude.{◌≡◌, IfOk, Ok};
 ghost use Rattle.teco_expand.specs.Expansion.{expansion};
+ghost use Rattle.teco_library.specs.Library.{argument_of};
 ghost use Rattle.teco_verify.specs.Certifying.{flaw_by, Certifies};
+ghost use Rattle.teco_verify.specs.Finding.{TakesDeclared};
 ghost use Rattle.teco_verify.specs.declared.certifying.Flaw.TheVariants as flaw;
 
 use crate::verified::Verified;
@@ -62,18 +64,21 @@ pub fn certified<'l>(
 ) -> Result<Verified<'l>, Flaw>
     requires { expansion library.now.texts entry ≡ Ok nodes.now }
     ensures library { IfOk result (λ verified. verified.library ≡ library.now.texts) }
+    ensures argument { IfOk result (λ verified. TakesDeclared library.now verified.fields) }
     ensures entry { IfOk result (λ verified. verified.fields.entry ≡ entry) }
-    ensures value { Certifies nodes.now table.now entry result }
+    ensures value { Certifies (argument_of library.now entry) nodes.now table.now entry result }
 {
-    check(alloc, nodes, table)?;
+    let argument = library.argument(entry);
+    check(alloc, argument, nodes, table)?;
     let needs = needs_in(nodes, table);
     let certificate = Certificate {
         entry,
+        argument,
         needs: Needs {
             input: needs.input,
             output: needs.output,
         },
-        commands: commands(nodes, table)?,
+        commands: commands(argument, nodes, table)?,
         size: size(nodes, table)?,
         loops: loops_of(alloc, nodes, table)?,
     };

@@ -23,8 +23,26 @@ const TWICE: &[u8] = b"@^UA/HXB2<GB>/";
 
 const FILL: &[u8] = b"@^UA/<Ia\x1b1;>/";
 
-const ACCEPTED: [(&[u8], &str); 10] = [
+// Inserts as many characters as its argument says.
+const ASKED: &[u8] = b"!TECO-LIB 2 A 1 10!@^UA/<Ia\x1b>/";
+
+const ASKED_CERTIFICATE: &str = "TECO-CERT 2
+entry A
+argument 1 10
+needs -
+commands 24
+size 10 + N
+loop 2 held 9 + N kept texts -
+end
+";
+
+const ACCEPTED: [(&[u8], &str); 12] = [
     (MARK, MARK_CERTIFICATE),
+    (ASKED, ASKED_CERTIFICATE),
+    (
+        b"!TECO-LIB 2 B 1 10!@^UA/10<Ia\x1b>/",
+        "TECO-CERT 1\nentry A\nneeds -\ncommands 24\nsize 10 + N\nloop 3 held 9 + N kept texts -\nend\n",
+    ),
     (
         b"@^UA/!a! Iab\x1b\x1bIc\x1b/",
         "TECO-CERT 1\nentry A\nneeds -\ncommands 6\nsize 3 + N\nend\n",
@@ -90,7 +108,17 @@ const REFUSED: [(&[u8], &str, u8, usize); 18] = [
 ];
 
 // A library, what stands in the place of a part of the certificate of its macro A, and whether that is accepted.
-const CHECKED: [(&[u8], &str, bool); 8] = [
+const CHECKED: [(&[u8], &str, bool); 11] = [
+    (
+        ASKED,
+        "TECO-CERT 1\nentry A\nneeds -\ncommands 24\nsize 10 + N\nloop 2 held 9 + N kept texts -\nend\n",
+        false,
+    ),
+    (
+        ASKED,
+        "TECO-CERT 2\nentry A\nargument 1 9\nneeds -\ncommands 24\nsize 10 + N\nloop 2 held 9 + N kept texts -\nend\n",
+        false,
+    ),
     (
         MARK,
         "TECO-CERT 1\nentry A\nneeds -\ncommands 7 + 4*N\nsize 1 + 2*N\nloop 3 held 2*N kept texts -\nend\n",
@@ -119,6 +147,11 @@ const CHECKED: [(&[u8], &str, bool); 8] = [
     (
         MARK,
         "TECO-CERT 1\nentry A\nneeds -\ncommands 8 + 4*N\nsize 1 + 2*N\nend\n",
+        false,
+    ),
+    (
+        MARK,
+        "TECO-CERT 2\nentry A\nargument 1 10\nneeds -\ncommands 8 + 4*N\nsize 1 + 2*N\nloop 3 held 2*N kept texts -\nend\n",
         false,
     ),
     (
@@ -275,6 +308,7 @@ fn tells_what_it_found(rt: HostRuntime) {
     };
     assert!(rt; verified.entry().name() == b'A');
     assert!(rt; verified.text(verified.entry()).map(|text| text.len()) == Some(12));
+    assert!(rt; verified.argument().is_none());
     assert!(rt; verified.commands().at(18) == Some(80));
     assert!(rt; verified.size().at(18) == Some(37));
     let needs = verified.needs();

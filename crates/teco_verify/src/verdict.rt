@@ -6,6 +6,7 @@ ghost use Rattle.teco_certificate.specs.Text.{certificate_text};
 ghost use Rattle.teco_check.specs.Loops.{begins};
 ghost use Rattle.teco_expand.specs.Expansion.{expansion};
 ghost use Rattle.teco_verify.specs.Accepting.{AcceptedIsChecked, AcceptedIsFound, ChoosesNothing, TextsAreWithin};
+ghost use Rattle.teco_verify.specs.Finding.{TakesDeclared};
 ghost use Rattle.teco_verify.specs.Straight.{StraightIsChecked, StraightIsVerified};
 ghost use Rattle.teco_verify.specs.declared.certifying.Flaw.TheVariants as flaws;
 ghost use Rattle.teco_verify.specs.declared.refusal.Refusal.TheVariants as refusals;
@@ -21,7 +22,7 @@ use teco_check::{NotDerived, derive, has_iterations};
 use teco_choices::{Unfit, choose};
 use teco_library::Library;
 use teco_nodes::{Nodes, expand};
-use teco_rules::Refusal as Why;
+use teco_rules::{ArgumentRange, Refusal as Why};
 use teco_straight::laws::straight_texts_are_accepted;
 
 // The texts of a library have no more than LIMIT characters.
@@ -53,10 +54,11 @@ fn certified_with<'l>(
 ) -> Result<Verified<'l>, Refusal>
     requires { expansion library.now.texts entry ≡ Ok nodes.now }
     ensures library { IfOk result (λ verified. verified.library ≡ library.now.texts) }
+    ensures argument { IfOk result (λ verified. TakesDeclared library.now verified.fields) }
     ensures entry { IfOk result (λ verified. verified.fields.entry ≡ entry) }
-    ensures accepted { chosen.now ≡ [] → AcceptedIsFound library.now.texts entry result }
+    ensures accepted { chosen.now ≡ [] → AcceptedIsFound library.now entry result }
 {
-    let table = match derive(alloc, nodes, chosen) {
+    let table = match derive(alloc, library.argument(entry), nodes, chosen) {
         Ok(table) => table,
         Err(NotDerived::Memory) => return Err(Refusal::Memory),
         Err(NotDerived::Refused { why, node }) => return Err(Refusal::at(why, nodes, node)),
@@ -69,11 +71,15 @@ fn certified_with<'l>(
 }
 
 // What is chosen for the iterations. Where there are none it is nothing.
-fn choices(alloc: Global, nodes: &Nodes<'_>) -> Result<Vec<LoopLine>, Unfit>
+fn choices(
+    alloc: Global,
+    argument: Option<ArgumentRange>,
+    nodes: &Nodes<'_>,
+) -> Result<Vec<LoopLine>, Unfit>
     ensures { list_any begins nodes.now ≡ false → ChoosesNothing result }
 {
     if has_iterations(nodes) {
-        choose(alloc, nodes)
+        choose(alloc, argument, nodes)
     } else {
         Ok(Vec::new(alloc))
     }
@@ -82,24 +88,27 @@ fn choices(alloc: Global, nodes: &Nodes<'_>) -> Result<Vec<LoopLine>, Unfit>
 // The same with the choices that are found.
 fn verified<'l>(alloc: Global, library: &'l Library, entry: Reg) -> Result<Verified<'l>, Refusal>
     ensures library { IfOk result (λ verified. verified.library ≡ library.now.texts) }
+    ensures argument { IfOk result (λ verified. TakesDeclared library.now verified.fields) }
     ensures entry { IfOk result (λ verified. verified.fields.entry ≡ entry) }
-    ensures accepted { AcceptedIsFound library.now.texts entry result }
+    ensures accepted { AcceptedIsFound library.now entry result }
 {
     let nodes = expand(alloc, library, entry)?;
-    match choices(alloc, &nodes) {
+    match choices(alloc, library.argument(entry), &nodes) {
         Ok(choices) => certified_with(alloc, library, entry, &nodes, &choices),
         Err(unfit) => Err(Refusal::unfit(unfit, &nodes)),
     }
 }
 
-/// Verifies a macro of a library: a bound is found on what a run of it does, or it is refused. Straight text, of which each
-/// element is ESC, a comment or a plain insertion, is not refused.
+/// Verifies a macro of a library: a bound is found on what a run of it does, with any argument that the library declares for it, or
+/// it is refused. Straight text, of which each element is ESC, a comment or a plain insertion, is not refused where none is
+/// declared.
 ///
 /// It takes time by the elements of the texts that are called, and for each iteration up to three times those in its body.
 pub fn verify<'l>(alloc: Global, library: &'l Library, entry: Reg) -> Result<Verified<'l>, Refusal>
     ensures library { IfOk result (λ verified. verified.library ≡ library.now.texts) }
+    ensures argument { IfOk result (λ verified. TakesDeclared library.now verified.fields) }
     ensures entry { IfOk result (λ verified. verified.fields.entry ≡ entry) }
-    ensures straight { StraightIsVerified library.now.texts entry result }
+    ensures straight { StraightIsVerified library.now entry result }
 {
     straight_texts_are_accepted();
     texts_are_within(library);
@@ -123,7 +132,8 @@ fn certified_by<'l>(
     bytes: &[u8],
 ) -> Result<Verified<'l>, Refusal>
     ensures library { IfOk result (λ verified. verified.library ≡ library.now.texts) }
-    ensures accepted { AcceptedIsChecked library.now.texts bytes.now result }
+    ensures argument { IfOk result (λ verified. TakesDeclared library.now verified.fields) }
+    ensures accepted { AcceptedIsChecked library.now bytes.now result }
 {
     one_spelling();
     let claimed = match Certificate::read(alloc, bytes) {
@@ -138,8 +148,9 @@ fn certified_by<'l>(
 // The same, where the certificate's text is that of what is found.
 fn checked<'l>(alloc: Global, library: &'l Library, bytes: &[u8]) -> Result<Verified<'l>, Refusal>
     ensures library { IfOk result (λ verified. verified.library ≡ library.now.texts) }
+    ensures argument { IfOk result (λ verified. TakesDeclared library.now verified.fields) }
     ensures text { IfOk result (λ verified. certificate_text verified.fields ≡ bytes.now) }
-    ensures accepted { AcceptedIsChecked library.now.texts bytes.now result }
+    ensures accepted { AcceptedIsChecked library.now bytes.now result }
 {
     let verified = match certified_by(alloc, library, bytes) {
         Ok(verified) => verified,
@@ -153,8 +164,8 @@ fn checked<'l>(alloc: Global, library: &'l Library, bytes: &[u8]) -> Result<Veri
     }
 }
 
-/// Checks a certificate for a library: its choices make a closed table, and it is the text of that table's certificate. That
-/// of straight text is not refused.
+/// Checks a certificate for a library: its choices make a table that is closed for the argument that the library declares, and it
+/// is the text of that table's certificate. That of straight text is not refused.
 pub fn check_certificate<'l>(
     alloc: Global,
     library: &'l Library,
@@ -162,8 +173,9 @@ pub fn check_certificate<'l>(
 ) -> Result<Verified<'l>, Refusal>
     requires { length bytes.now ≤ LIMIT }
     ensures library { IfOk result (λ verified. verified.library ≡ library.now.texts) }
+    ensures argument { IfOk result (λ verified. TakesDeclared library.now verified.fields) }
     ensures text { IfOk result (λ verified. certificate_text verified.fields ≡ bytes.now) }
-    ensures straight { StraightIsChecked library.now.texts bytes.now result }
+    ensures straight { StraightIsChecked library.now bytes.now result }
 {
     straight_texts_are_accepted();
     texts_are_within(library);

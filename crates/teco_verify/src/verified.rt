@@ -1,8 +1,8 @@
 //! Macros that were verified.
-ghost use Rattle.std.specs.Prelude.{◌≡◌, IfOk, slice_index_or, None};
+ghost use Rattle.std.specs.Prelude.{◌≡◌, IfOk, slice_index_or, None, option_map};
 ghost use Rattle.std.specs.Option.{option_copied};
 ghost use Rattle.teco_certificate.specs.Text.{certificate_text};
-ghost use Rattle.teco_verify.specs.Finding.{IsCertified};
+ghost use Rattle.teco_verify.specs.Finding.{IsCertified, bounds_of};
 
 use std::alloc::{AllocError, Global};
 use std::marker::Model;
@@ -44,9 +44,17 @@ impl<'l> Verified<'l> {
         self.certificate.entry
     }
 
+    /// The least and the greatest argument that a run may be given; `None` where it takes none.
+    pub fn argument(&self) -> Option<(i32, i32)>
+        ensures { result ≡ option_map bounds_of self.now.fields.argument }
+    {
+        let range = self.certificate.argument?;
+        Some((range.low() as i32, range.high() as i32))
+    }
+
     /// The library.
     pub fn library(&self) -> &'l Library
-        ensures { result.now ≡ self.now.library }
+        ensures { result.now.texts ≡ self.now.library }
     {
         self.library
     }
