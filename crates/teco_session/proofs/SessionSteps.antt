@@ -19,7 +19,7 @@ use Rattle.teco_session.specs.Sessions.{Setting, Serves, Finishes, BreaksOff, Co
 use Rattle.teco_session.specs.Strings.{IsPiece, IsRest, IsUnended}
 use Rattle.teco_session.specs.declared.ahead.TheConstants.{CHUNK}
 use Rattle.teco_session.specs.declared.fault.SessionFault.{SessionFault}
-use Rattle.teco_session.specs.declared.fault.SessionFault.TheVariants.{Read, Write, Memory}
+use Rattle.teco_session.specs.declared.fault.SessionFault.TheVariants.{Read, Write, Memory, Argument}
 use Rattle.teco_session.specs.declared.sessions.Done.{Done}
 use Rattle.teco_session.specs.declared.sessions.TheConstants.{STRINGS}
 use Rattle.teco_session.specs.declared.strings.Piece.{Piece}
@@ -181,10 +181,11 @@ BreaksOff-behind limits count old new left coded ahead part fault served came un
 }
 
 -- no piece came
-pub Converses-break : (limits : Limits) (count : ℕ) (old new : Setting) (left : Option (List ℕ)) (coded : Bool) (ahead part : List ℕ) (fault : SessionFault) → Serves limits count old (record new { unread = left }) coded → Consumes left (prepend_known ahead new.unread) part → IsUnended limits part → length ahead ≤ CHUNK → (fault ≡ Read → ahead ≡ []) → fault ≢ Write → Converses limits old new (Err fault)
-Converses-break limits count old new left coded ahead part Read served came unended one_read all other = BreaksOff-behind limits count old new left coded ahead part Read served came unended one_read (λ e. inl (all e))
-Converses-break limits count old new left coded ahead part Memory served came unended one_read all other = BreaksOff-behind limits count old new left coded ahead part Memory served came unended one_read (λ e. inl (all e))
-Converses-break limits count old new left coded ahead part Write served came unended one_read all other = absurd (other refl)
+pub Converses-break : (limits : Limits) (count : ℕ) (old new : Setting) (left : Option (List ℕ)) (coded : Bool) (ahead part : List ℕ) (fault : SessionFault) → Serves limits count old (record new { unread = left }) coded → Consumes left (prepend_known ahead new.unread) part → IsUnended limits part → length ahead ≤ CHUNK → (fault ≡ Read → ahead ≡ []) → fault ≢ Write → fault ≢ Argument → Converses limits old new (Err fault)
+Converses-break limits count old new left coded ahead part Read served came unended one_read all other uncalled = BreaksOff-behind limits count old new left coded ahead part Read served came unended one_read (λ e. inl (all e))
+Converses-break limits count old new left coded ahead part Memory served came unended one_read all other uncalled = BreaksOff-behind limits count old new left coded ahead part Memory served came unended one_read (λ e. inl (all e))
+Converses-break limits count old new left coded ahead part Write served came unended one_read all other uncalled = absurd (other refl)
+Converses-break limits count old new left coded ahead part Argument served came unended one_read all other uncalled = absurd (uncalled refl)
 
 -- a session takes no more strings
 pub Converses-full : (limits : Limits) (count : ℕ) (old new : Setting) (coded : Bool) (ahead : List ℕ) → Serves limits count old (record new { unread = prepend_known ahead new.unread }) coded → length ahead ≤ CHUNK → count ≡ STRINGS → Converses limits old new (Err Read)

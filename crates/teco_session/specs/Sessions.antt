@@ -8,7 +8,7 @@ use Rattle.teco_session.specs.Output.{WritesPart}
 use Rattle.teco_session.specs.Strings.{IsRest, IsUnended}
 use Rattle.teco_session.specs.declared.ahead.TheConstants.{CHUNK}
 use Rattle.teco_session.specs.declared.fault.SessionFault.{SessionFault}
-use Rattle.teco_session.specs.declared.fault.SessionFault.TheVariants.{Read, Write, Memory}
+use Rattle.teco_session.specs.declared.fault.SessionFault.TheVariants.{Read, Write, Memory, Argument}
 use Rattle.teco_session.specs.declared.sessions.Done.{Done}
 use Rattle.teco_session.specs.declared.sessions.TheConstants.{STRINGS}
 
@@ -79,3 +79,4 @@ Converses limits old new (Ok done) = Finishes limits old new done.coded done.exi
 Converses limits old new (Err Read) = BreaksOff limits old new Read
 Converses limits old new (Err Memory) = BreaksOff limits old new Memory
 Converses limits old new (Err Write) = CutsShort limits old new
+Converses limits old new (Err Argument) = ⊥

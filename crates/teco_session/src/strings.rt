@@ -83,6 +83,7 @@ pub fn next_piece<R: Read>(
     ensures fault { OnErr result (IsUnended limits string.new.items) }
     ensures all_used { IfErr result (λ e. e ≡ fault.Read → ahead.new ≡ []) }
     ensures not_writing { IfErr result (λ e. e ≢ fault.Write) }
+    ensures not_calling { IfErr result (λ e. e ≢ fault.Argument) }
     ensures one_read { length ahead.old ≤ CHUNK → length ahead.new ≤ CHUNK }
 {
     string.clear();

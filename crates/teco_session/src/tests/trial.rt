@@ -66,6 +66,7 @@ pub fn word(outcome: Result<Done, SessionFault>) -> &'static str {
         Err(SessionFault::Read) => "read",
         Err(SessionFault::Write) => "write",
         Err(SessionFault::Memory) => "memory",
+        Err(SessionFault::Argument) => "argument",
     }
 }
 

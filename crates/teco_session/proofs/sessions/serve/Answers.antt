@@ -45,7 +45,7 @@ returns-in_err-piece g c =
     let fault = c.in_err-piece.ensures in
     let left = err_from_is_err_and c.from_residual.result c.from_residual.ensures.1 in
     rw (left.1, left.2) (Joined-map served _ c.args.machine.now now.machine (g.H.Host.files c.args.host.now) (g.H.Host.files now.host)
-    (λ (old : World) (new : World) s. Converses-break _ _ _ _ _ _ _ _ _ s fault.came fault.fault (fault.one_read now.invariant.one_read) fault.all_used fault.not_writing)
+    (λ (old : World) (new : World) s. Converses-break _ _ _ _ _ _ _ _ _ s fault.came fault.fault (fault.one_read now.invariant.one_read) fault.all_used fault.not_writing fault.not_calling)
     now.invariant.served)
 
 pub returns-in_err-done : goal.returns-in_err-done
