@@ -123,6 +123,8 @@ pub fn check_macro<R: Print + Files>(
 pub struct Edit<'a> {
     pub library: &'a str,
     pub entry: Reg,
+    /// The argument that the macro is called with, if it is.
+    pub argument: Option<i32>,
     pub source: &'a [u8],
     pub target: &'a [u8],
     /// The bytes that each run may type, and that its calls may take.
@@ -154,6 +156,7 @@ pub fn apply_macro<R: Print + Files, H: Host>(
         alloc,
         &mut machine,
         &verified,
+        edit.argument,
         edit.source,
         edit.target,
         host,

@@ -88,6 +88,7 @@ fn obey(rt: &HostRuntime) -> anyhow::Result<ExitCode> {
             let edit = Edit {
                 library: words::word(given, "LIB"),
                 entry: words::register(given)?,
+                argument: words::given(given)?,
                 source: words::file_name(given, "IN", &arguments)?,
                 target: words::file_name(given, "OUT", &arguments)?,
                 cap: words::cap(given),

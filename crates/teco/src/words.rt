@@ -22,6 +22,9 @@ pub enum WordsFault {
     /// A register has another name.
     #[error("a register is A to Z or 0 to 9")]
     Register,
+    /// An argument is another number.
+    #[error("an argument is a number of decimal digits, 0 to 2147483647")]
+    Argument,
     /// A file's name has an ESC in it, or is too long.
     #[error("a file's name holds no ESC and at most 4096 bytes")]
     FileName,
@@ -42,6 +45,7 @@ pub fn command<'a>(alloc: Global) -> Result<Command<'a>, AllocError> {
         .subcommand(
             of_macro(alloc, apply)?
                 .arg(memory(alloc))?
+                .arg(argument(alloc))?
                 .arg(file(alloc, "IN", "The file that is read"))?
                 .arg(file(alloc, "OUT", "The file that is written"))?,
         )
@@ -71,6 +75,13 @@ fn memory<'a>(alloc: Global) -> Arg<'a> {
         )
         .value_parser(value_parser!(u64))
         .default_value(DEFAULT_MEMORY)
+}
+
+// The argument of a macro.
+fn argument<'a>(alloc: Global) -> Arg<'a> {
+    Arg::new(alloc, "arg").long("arg").value_name("N").help(
+        "The argument of the macro, where its library declares one: 0 to 2147483647",
+    )
 }
 
 // A command for a macro of a library.
@@ -109,6 +120,20 @@ pub fn register(words: &ArgMatches<'_>) -> Result<Reg, WordsFault> {
     match word(words, "REGISTER").as_bytes() {
         [name] => Reg::of(*name).ok_or(WordsFault::Register),
         _ => Err(WordsFault::Register),
+    }
+}
+
+/// The argument of the macro, if one is given.
+pub fn given(words: &ArgMatches<'_>) -> Result<Option<i32>, WordsFault> {
+    let Some(digits) = words.get_str("arg") else {
+        return Ok(None);
+    };
+    if !digits.bytes().all(|byte| byte.is_ascii_digit()) {
+        return Err(WordsFault::Argument);
+    }
+    match digits.parse() {
+        Ok(number) => Ok(Some(number)),
+        Err(_) => Err(WordsFault::Argument),
     }
 }
 

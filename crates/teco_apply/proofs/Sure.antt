@@ -1,30 +1,34 @@
 -- A verified macro is sure to end.
-use Rattle.std.proofs.Common.{◌≡◌, ℕ, zero, suc, ◌<◌, ◌≤◌, List, [], ◌∷◌, length, Option, Some, None, option_map, IsSome, refl, subst, arith, get_or}
+use Rattle.std.proofs.Common.{◌≡◌, ℕ, zero, suc, ◌<◌, ◌≤◌, ℤ, pos, negsuc, List, [], ◌∷◌, length, Option, Some, None, option_map, IsSome, refl, subst, arith, get_or}
+use Rattle.std.proofs.lemmas.Bool.Decides.{nat_tests}
 use Rattle.std.specs.List.{sum_by}
 use Rattle.std.proofs.lemmas.List.Sums.{sum_by-cons}
-use Rattle.teco_apply.specs.Sure.{MOST, Calls, Runs, IsThere, kept_loaded, n_of}
+use Rattle.teco_apply.specs.Sure.{Call, Calls, HasFiles, IsReady, IsTaken, IsThere, MOST, Runs, TakesArgument, call_text, kept_loaded, n_of}
+use Rattle.teco_base.specs.Register.{register_name}
 use Rattle.teco_base.specs.declared.TheConstants.{REGISTERS}
+use Rattle.teco_expand.specs.Given.{call_given}
 use Rattle.teco_expand.specs.Library.{IsLoaded}
 use Rattle.teco_expand.specs.Linked.{ExpansionsAreLinked}
-use Rattle.teco_expand.specs.Node.{call_of}
 use Rattle.teco_poly.specs.Polynomial.{value}
 use Rattle.teco_model.specs.Registers.{Pair, empty_pair, held_length_of_pair}
 use Rattle.teco_model.specs.Run.{Stops}
 use Rattle.teco_model.specs.State.{Kept, World, start}
-use Rattle.teco_model.specs.Whole.{AreBytes, IsWhole}
+use Rattle.teco_model.specs.Whole.{IsWhole}
 use Rattle.teco_model.specs.declared.stop.Stop.{Stop}
 use Rattle.teco_model.specs.Files.{Input, Output}
 use Rattle.teco_pages.specs.Held.{Held, IsSameOutput, input_of, unread_bytes}
 use Rattle.teco_pages.specs.HostFiles.{HostFiles}
 use Rattle.teco_paging.specs.Worlds.{world}
+use Rattle.teco_rules.specs.Argument.{IsAsked}
 use Rattle.teco_rules.specs.Laws.{IsEntry}
 use Rattle.teco_rules.specs.Printed.{Needs}
 use Rattle.teco_rules.specs.SoundPages.{unread_of}
 use Rattle.teco_rules.specs.SoundSteps.{AreOpen}
 use Rattle.teco_run.specs.Holdings.{Holdings, Joined}
-use Rattle.teco_table.specs.Sure.{RunsAreSure}
+use Rattle.teco_table.specs.Ending.{EndsWithin}
+use Rattle.teco_table.specs.Sure.{IsSure, RunsAreSure}
 use Rattle.teco_table.specs.Verified.{RunsAreVerified}
-use Rattle.teco_verify.specs.Finding.{Finding, IsCertified}
+use Rattle.teco_verify.specs.Finding.{IsCertified}
 
 -- ---- N
 -- one of some pairs holds no more than all
@@ -64,40 +68,59 @@ pub record Laws : Type 0 where
   pub sure : RunsAreSure
 
 -- where a verified macro is called
-pub record IsCalled (found : Finding) (kept : Kept) (held : Held) : Type 0 where
-  pub certified : IsCertified found.library found.fields
-  pub loaded : IsLoaded found.library kept
+pub record IsCalled (call : Call) (kept : Kept) (held : Held) : Type 0 where
+  pub certified : IsCertified call.found.library call.found.fields
+  pub loaded : IsLoaded call.found.library kept
   pub whole : IsWhole kept
-  pub named : found.fields.entry < REGISTERS
-  pub call : AreBytes (call_of found.fields.entry)
-  pub input : IsThere found.fields.needs.input held.input
-  pub output : IsThere found.fields.needs.output held.output
+  pub named : call.found.fields.entry < REGISTERS
+  pub files : HasFiles call.found.fields.needs held
+  pub taken : TakesArgument call
 
-surely : Laws → (found : Finding) (kept : Kept) (held : Held) → IsCalled found kept held → (files : HostFiles) (answer : Stop) (new : World) → IsSameOutput held files → Stops (start (call_of found.fields.entry) (world kept held files)) MOST answer new → Calls found.fields answer (world kept held files) new
-surely laws found kept held is files answer new same stops = record {
-  stops = stops;
-  sure = λ ready.
+-- a register's name is a byte
+name_small : (r : ℕ) → r < REGISTERS → register_name r < 256
+name_small r small = grind (arith, nat_tests)
+
+module _ (laws : Laws) (call : Call) (kept : Kept) (held : Held) (is : IsCalled call kept held) (files : HostFiles) (same : IsSameOutput held files)
+    (ready : IsReady call.found.fields (world kept held files)) where
+  -- with an argument that is asked for
+  ends : (given : Option ℕ) → IsAsked call.found.fields.argument given → EndsWithin (start (call_given call.found.fields.entry given) (world kept held files)) (value call.found.fields.commands (n_of (world kept held files)))
+  ends given asked =
       let certified = is.certified in
+      let fields = call.found.fields in
       let now = world kept held files in
-      let files_open = are_open found.fields.needs kept held files same is.input is.output in
-      let ends = laws.verified found.library found.fields.entry None None certified.nodes certified.table found.fields.commands found.fields.size (n_of now) now (laws.linked found.library found.fields.entry certified.nodes certified.expanded) certified.printed tt (record {
+      let files_open = are_open fields.needs kept held files same is.files.input is.files.output in
+      laws.verified call.found.library fields.entry fields.argument given certified.nodes certified.table fields.commands fields.size (n_of now) now (laws.linked call.found.library fields.entry certified.nodes certified.expanded) certified.printed asked (record {
         named = is.named;
         loaded = is.loaded;
         whole = record { kept = is.whole; files = ready.files };
-        call = is.call;
+        call = (omega arith, (name_small fields.entry is.named, tt));
         begins = enters now;
         small = ready.fits;
-      }) (subst (λ needs. AreOpen needs now.files) certified.needs_are files_open) in
-      laws.sure (start (call_of found.fields.entry) now) (value found.fields.commands (n_of now)) MOST answer new ends ready.counts stops;
+      }) (subst (λ needs. AreOpen needs now.files) certified.needs_are files_open)
+
+  ends_with : (given : Option ℤ) → IsTaken call.found.fields.argument given → EndsWithin (start (call_text call.found.fields.entry given) (world kept held files)) (value call.found.fields.commands (n_of (world kept held files)))
+  ends_with None taken = ends None taken
+  ends_with (Some (pos n)) taken = ends (Some n) taken
+  ends_with (Some (negsuc n)) taken = absurd taken
+
+  pub is_sure : (answer : Stop) (new : World) → Stops (start (call_text call.found.fields.entry call.given) (world kept held files)) MOST answer new → IsSure (value call.found.fields.commands (n_of (world kept held files))) answer
+  is_sure answer new stops =
+      laws.sure (start (call_text call.found.fields.entry call.given) (world kept held files)) (value call.found.fields.commands (n_of (world kept held files))) MOST answer new (ends_with call.given is.taken) ready.counts stops
+
+surely : Laws → (call : Call) (kept : Kept) (held : Held) → IsCalled call kept held → (files : HostFiles) (answer : Stop) (new : World) → IsSameOutput held files → Stops (start (call_text call.found.fields.entry call.given) (world kept held files)) MOST answer new → Calls call.found.fields call.given answer (world kept held files) new
+surely laws call kept held is files answer new same stops = record {
+  taken = is.taken;
+  stops = stops;
+  sure = λ ready. is_sure laws call kept held is files same ready answer new stops;
 }
 
-pub calls : Laws → (found : Finding) (answer : Stop) (a b : Holdings) (f g : Option HostFiles) → IsCalled found a.kept a.held → Joined (λ old new. Stops (start (call_of found.fields.entry) old) MOST answer new) a b f g → Joined (Calls found.fields answer) a b f g
-calls laws found answer a b None g is t = tt
-calls laws found answer a b (Some files) None is t = t
-calls laws found answer a b (Some files) (Some left) is t = λ same. (surely laws found a.kept a.held is files answer _ same (t same).0, (t same).1)
+pub calls : Laws → (call : Call) (answer : Stop) (a b : Holdings) (f g : Option HostFiles) → IsCalled call a.kept a.held → Joined (λ old new. Stops (start (call_text call.found.fields.entry call.given) old) MOST answer new) a b f g → Joined (Calls call.found.fields call.given answer) a b f g
+calls laws call answer a b None g is t = tt
+calls laws call answer a b (Some files) None is t = t
+calls laws call answer a b (Some files) (Some left) is t = λ same. (surely laws call a.kept a.held is files answer _ same (t same).0, (t same).1)
 
 -- what is so of a call where the library is loaded is so of a run
-pub runs : (found : Finding) (answer : Stop) (a loaded b : Holdings) (f g : Option HostFiles) → loaded ≡ record a { kept = kept_loaded found.library a.kept } → Joined (Calls found.fields answer) loaded b f g → Joined (Runs found answer) a b f g
-runs found answer a loaded b None g e t = tt
-runs found answer a loaded b (Some files) None e t = t
-runs found answer a loaded b (Some files) (Some left) e t = subst (λ l. Joined (Calls found.fields answer) l b (Some files) (Some left)) e t
+pub runs : (call : Call) (answer : Stop) (a loaded b : Holdings) (f g : Option HostFiles) → loaded ≡ record a { kept = kept_loaded call.found.library a.kept } → Joined (Calls call.found.fields call.given answer) loaded b f g → Joined (Runs call answer) a b f g
+runs call answer a loaded b None g e t = tt
+runs call answer a loaded b (Some files) None e t = t
+runs call answer a loaded b (Some files) (Some left) e t = subst (λ l. Joined (Calls call.found.fields call.given answer) l b (Some files) (Some left)) e t

@@ -17,10 +17,9 @@ use Rattle.teco_session.specs.Output.{Writes}
 use Rattle.teco_session.specs.declared.fault.SessionFault.{SessionFault}
 use Rattle.teco_session.specs.declared.fault.SessionFault.TheVariants as fault
 use Rattle.teco_session.specs.declared.sessions.Done.{Done}
-use Rattle.teco_verify.specs.Finding.{Finding}
-use Rattle.teco_apply.specs.Sure.{MOST, Runs, IsMissing}
+use Rattle.teco_apply.specs.Sure.{Call, MOST, Runs, IsMissing}
 use Rattle.teco_apply.specs.declared.ready.NotReady.{NotReady}
-use Rattle.teco_apply.specs.declared.ready.NotReady.TheVariants.{NoInput, NoOutput, Memory}
+use Rattle.teco_apply.specs.declared.ready.NotReady.TheVariants.{NoInput, NoOutput, Argument, Memory}
 
 -- ---- command strings
 -- what opens the input and the output, and reads the first page
@@ -46,12 +45,14 @@ dropping = codes "EK"
 abbrev pub stop_of : NotReady → Stop
 stop_of NoInput = stop.Error code.Nfi
 stop_of NoOutput = stop.Error code.Nfo
+stop_of Argument = stop.Error code.Arg
 stop_of Memory = stop.Memory
 
--- a file that it needs is not open; or there is no memory
+-- a file that it needs is not open, or there is no memory; the argument is one that it takes
 abbrev pub Lacks : Needs → Files → NotReady → Type 0
 Lacks needs files NoInput = IsMissing needs.input files.input
 Lacks needs files NoOutput = IsMissing needs.output files.output
+Lacks needs files Argument = ⊥
 Lacks needs files Memory = ⊤
 
 -- an input and an output are open
@@ -76,9 +77,9 @@ abbrev pub TextStops : List ℕ → World → Stop → World → Type 0
 TextStops text old stop new = Stops (start text old) MOST stop new
 
 -- The macro is run, or it is not; where both files are known to be open, only want of memory keeps it from that.
-abbrev pub MacroStops : Bool → Finding → World → Stop → World → Type 0
-MacroStops true found old stop new = Runs found stop old new ⊎ WantsMemory old stop new
-MacroStops false found old stop new = Runs found stop old new ⊎ IsNotRun found.fields.needs old stop new
+abbrev pub MacroStops : Bool → Call → World → Stop → World → Type 0
+MacroStops true call old stop new = Runs call stop old new ⊎ WantsMemory old stop new
+MacroStops false call old stop new = Runs call stop old new ⊎ IsNotRun call.found.fields.needs old stop new
 
 -- What a run types is written, and its code line; or with a fault a part of that. Says whether there is a code line. The host's
 -- count of failures goes from f to g: it rises where the host stops the run, and nowhere else.
@@ -99,8 +100,8 @@ Course = World → World → ℕ → ℕ → Option (List ℕ) → Option (List 
 abbrev pub AnswersText : List ℕ → Course
 AnswersText text old new f g sink sunk result = RunWrites (TextStops text old) new f g sink sunk result
 
-abbrev pub AnswersMacro : Bool → Finding → Course
-AnswersMacro opened found old new f g sink sunk result = RunWrites (MacroStops opened found old) new f g sink sunk result
+abbrev pub AnswersMacro : Bool → Call → Course
+AnswersMacro opened call old new f g sink sunk result = RunWrites (MacroStops opened call old) new f g sink sunk result
 
 -- ---- one after another
 -- one run, and another behind it where it is no code and all is written
@@ -113,12 +114,12 @@ pub data Then (First Next : Course) (old new : World) (f g : ℕ) (sink sunk : O
       Then First Next old new f g sink sunk result
 
 -- the macro is run, and the output is closed
-abbrev pub Finishes : Bool → Finding → Course
-Finishes opened found = Then (AnswersMacro opened found) (AnswersText closing)
+abbrev pub Finishes : Bool → Call → Course
+Finishes opened call = Then (AnswersMacro opened call) (AnswersText closing)
 
 -- the files are opened before
-abbrev pub Edits : Bool → Finding → List ℕ → Course
-Edits opened found text = Then (AnswersText text) (Finishes opened found)
+abbrev pub Edits : Bool → Call → List ℕ → Course
+Edits opened call text = Then (AnswersText text) (Finishes opened call)
 
 -- behind a code the output is dropped, and what stops that is not told
 pub record DropsOutput (old new : World) (f g : ℕ) : Type 0 where
@@ -132,21 +133,23 @@ DropsIfCoded (Ok false) old new f g = (new ≡ old) × (g ≡ f)
 DropsIfCoded (Err cannot) old new f g = (new ≡ old) × (g ≡ f)
 
 -- The edit of one file into another. Where no name has an ESC, both are open when the macro is to be run.
-pub record Applies (found : Finding) (source target : List ℕ) (old new : World) (f g : ℕ) (sink sunk : Option (List ℕ))
+pub record Applies (call : Call) (source target : List ℕ) (old new : World) (f g : ℕ) (sink sunk : Option (List ℕ))
     (result : Result Done SessionFault) : Type 0 where
   pub edited : World
   pub count : ℕ
   pub line : Result Bool SessionFault
-  pub edits : Edits (are_plain source target) found (opening source target) old edited f count sink sunk line
+  pub edits : Edits (are_plain source target) call (opening source target) old edited f count sink sunk line
   pub drops : DropsIfCoded line edited new count g
   pub said : Said line false result
 
--- What comes of it. Without memory for the first command string nothing is done.
-abbrev pub Applied : Finding → List ℕ → List ℕ → World → World → ℕ → ℕ → Option (List ℕ) → Option (List ℕ) → Result Done SessionFault → Type 0
-Applied found source target old new f g sink sunk (Ok done) = Applies found source target old new f g sink sunk (Ok done)
-Applied found source target old new f g sink sunk (Err fault.Write) = Applies found source target old new f g sink sunk (Err fault.Write)
-Applied found source target old new f g sink sunk (Err fault.Memory) = (new ≡ old) × Keeps sink sunk
-Applied found source target old new f g sink sunk (Err fault.Read) = ⊥
+-- What comes of it. With an argument that the macro does not take, or without memory for the first command string, nothing is
+-- done.
+abbrev pub Applied : Call → List ℕ → List ℕ → World → World → ℕ → ℕ → Option (List ℕ) → Option (List ℕ) → Result Done SessionFault → Type 0
+Applied call source target old new f g sink sunk (Ok done) = Applies call source target old new f g sink sunk (Ok done)
+Applied call source target old new f g sink sunk (Err fault.Write) = Applies call source target old new f g sink sunk (Err fault.Write)
+Applied call source target old new f g sink sunk (Err fault.Memory) = (new ≡ old) × Keeps sink sunk
+Applied call source target old new f g sink sunk (Err fault.Argument) = (new ≡ old) × Keeps sink sunk
+Applied call source target old new f g sink sunk (Err fault.Read) = ⊥
 
 -- ---- counts, for every host
 -- The host's count of failures rises only in runs of which one is a code, or whose bytes cannot be written; no other fault comes.
@@ -155,6 +158,7 @@ LineCounts (Ok true) f g = f ≤ g
 LineCounts (Ok false) f g = g ≡ f
 LineCounts (Err fault.Write) f g = f ≤ g
 LineCounts (Err fault.Memory) f g = ⊥
+LineCounts (Err fault.Argument) f g = ⊥
 LineCounts (Err fault.Read) f g = ⊥
 
 -- Dropping the output comes behind a code alone.
@@ -163,9 +167,11 @@ DropCounts (Ok true) f g = f ≤ g
 DropCounts (Ok false) f g = g ≡ f
 DropCounts (Err cannot) f g = g ≡ f
 
--- The same of the whole: without memory for the first command string no call of the host is made.
+-- The same of the whole: with an argument that is not taken, or without memory for the first command string, no call of the
+-- host is made.
 abbrev pub EditCounts : Result Done SessionFault → ℕ → ℕ → Type 0
 EditCounts (Ok done) f g = LineCounts (Ok done.coded) f g
 EditCounts (Err fault.Write) f g = f ≤ g
 EditCounts (Err fault.Memory) f g = g ≡ f
+EditCounts (Err fault.Argument) f g = g ≡ f
 EditCounts (Err fault.Read) f g = ⊥

@@ -1,5 +1,6 @@
 -- What the run of a verified macro does.
-use Rattle.std.specs.Prelude.{◌≡◌, ℕ, ◌+◌, ◌-◌, ◌^◌, ◌≤◌, Bool, true, Option, None, Result, Ok, Err, IsSome}
+use Rattle.std.specs.Prelude.{◌≡◌, ℕ, ◌+◌, ◌-◌, ◌^◌, ◌≤◌, ℤ, pos, negsuc, List, ◌++◌, Bool, true, Option, Some, None, Result, Ok, Err, IsSome}
+use Rattle.teco_base.specs.NumberText.{decimal}
 use Rattle.teco_base.specs.declared.TheConstants.{LIMIT}
 use Rattle.teco_certificate.specs.Fields.{Fields}
 use Rattle.teco_expand.specs.Library.{Library}
@@ -11,12 +12,13 @@ use Rattle.teco_model.specs.Whole.{AreWholeFiles}
 use Rattle.teco_model.specs.declared.stop.Stop.{Stop}
 use Rattle.teco_pages.specs.Held.{Held}
 use Rattle.teco_poly.specs.Polynomial.{value}
+use Rattle.teco_rules.specs.Argument.{ArgumentRange, IsAsked}
 use Rattle.teco_rules.specs.Printed.{Needs}
 use Rattle.teco_rules.specs.SoundPages.{unread_of}
 use Rattle.teco_table.specs.Sure.{IsSure}
 use Rattle.teco_verify.specs.Finding.{Finding}
 use Rattle.teco_apply.specs.declared.ready.NotReady.{NotReady}
-use Rattle.teco_apply.specs.declared.ready.NotReady.TheVariants.{NoInput, NoOutput, Memory}
+use Rattle.teco_apply.specs.declared.ready.NotReady.TheVariants.{NoInput, NoOutput, Argument, Memory}
 
 -- the most steps that a run may be allowed
 abbrev pub MOST : ℕ
@@ -29,6 +31,25 @@ kept_loaded library kept = record kept { registers = with_texts library kept.reg
 abbrev pub loaded : Library → World → World
 loaded library world = record world { kept = kept_loaded library world.kept }
 
+-- a verified macro, and the argument that it is given
+pub record Call : Type 0 where
+  pub found : Finding
+  pub given : Option ℤ
+
+-- It is given one where it takes one, and then in the range; no range has a negative number.
+abbrev pub IsTaken : Option ArgumentRange → Option ℤ → Type 0
+IsTaken argument None = IsAsked argument None
+IsTaken argument (Some (pos n)) = IsAsked argument (Some n)
+IsTaken argument (Some (negsuc n)) = ⊥
+
+abbrev pub TakesArgument : Call → Type 0
+TakesArgument call = IsTaken call.found.fields.argument call.given
+
+-- the argument in decimal, and the call
+abbrev pub call_text : ℕ → Option ℤ → List ℕ
+call_text entry None = call_of entry
+call_text entry (Some n) = decimal n ++ call_of entry
+
 -- N: what is held, and what is unread
 abbrev pub n_of : World → ℕ
 n_of world = held_length world.kept + unread_of world
@@ -39,15 +60,16 @@ pub record IsReady (fields : Fields) (world : World) : Type 0 where
   pub counts : value fields.commands (n_of world) ≤ MOST
   pub files : AreWholeFiles world.files
 
--- The macro is called as the command machine does it; and where it is ready, it is sure to end within the printed number of
--- commands.
-pub record Calls (fields : Fields) (answer : Stop) (old new : World) : Type 0 where
-  pub stops : Stops (start (call_of fields.entry) old) MOST answer new
+-- The macro is called as the command machine does it, with an argument that it takes; and where it is ready, it is sure to end
+-- within the printed number of commands.
+pub record Calls (fields : Fields) (given : Option ℤ) (answer : Stop) (old new : World) : Type 0 where
+  pub taken : IsTaken fields.argument given
+  pub stops : Stops (start (call_text fields.entry given) old) MOST answer new
   pub sure : IsReady fields old → IsSure (value fields.commands (n_of old)) answer
 
 -- the same where the library is loaded first
-abbrev pub Runs : Finding → Stop → World → World → Type 0
-Runs found answer old new = Calls found.fields answer (loaded found.library old) new
+abbrev pub Runs : Call → Stop → World → World → Type 0
+Runs call answer old new = Calls call.found.fields call.given answer (loaded call.found.library old) new
 
 -- a file is needed and not open
 abbrev pub IsMissing : {X : Type 0} → Bool → Option X → Type 0
@@ -56,9 +78,17 @@ IsMissing needed file = (needed ≡ true) × (file ≡ None)
 abbrev pub IsThere : {X : Type 0} → Bool → Option X → Type 0
 IsThere needed file = needed ≡ true → IsSome file
 
--- Whether the macro is run: not where a file is missing that it needs, the input first.
-abbrev pub Answers : {X : Type 0} → Needs → Held → Result X NotReady → Type 0
-Answers needs held (Ok x) = IsThere needs.input held.input × IsThere needs.output held.output
-Answers needs held (Err NoInput) = IsMissing needs.input held.input
-Answers needs held (Err NoOutput) = IsThere needs.input held.input × IsMissing needs.output held.output
-Answers needs held (Err Memory) = IsThere needs.input held.input × IsThere needs.output held.output
+-- The files that it needs are open.
+pub record HasFiles (needs : Needs) (held : Held) : Type 0 where
+  pub input : IsThere needs.input held.input
+  pub output : IsThere needs.output held.output
+
+-- Whether the macro is run: not where a file is missing that it needs, the input first, nor with an argument that it does not
+-- take.
+abbrev pub Answers : {X : Type 0} → Call → Held → Result X NotReady → Type 0
+Answers call held (Ok x) = HasFiles call.found.fields.needs held × TakesArgument call
+Answers call held (Err NoInput) = IsMissing call.found.fields.needs.input held.input
+Answers call held (Err NoOutput) =
+    IsThere call.found.fields.needs.input held.input × IsMissing call.found.fields.needs.output held.output
+Answers call held (Err Argument) = HasFiles call.found.fields.needs held × ¬ TakesArgument call
+Answers call held (Err Memory) = HasFiles call.found.fields.needs held × TakesArgument call

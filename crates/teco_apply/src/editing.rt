@@ -1,17 +1,19 @@
 //! Editing a file by a verified macro.
-ghost use Rattle.std.specs.Prelude.{◌≡◌, ◌≤◌, IfOk, length, false};
+ghost use Rattle.std.specs.Prelude.{◌≡◌, ◌≤◌, ◌↔◌, Err, IfOk, length, false};
 ghost use Rattle.teco_apply.specs.Apply as edit;
 ghost use Rattle.teco_apply.specs.Apply.{AnswersMacro, AnswersText, Applied, DropCounts, DropsIfCoded, EditCounts, Edits, Finishes, LineCounts, MacroStops, opening};
+ghost use Rattle.teco_apply.specs.Sure.{IsTaken};
 ghost use Rattle.teco_base.specs.declared.TheConstants.{LIMIT};
 ghost use Rattle.teco_run.specs.Counts.{StopCounts};
 ghost use Rattle.teco_run.specs.Holdings.{Joined};
 ghost use Rattle.teco_session.specs.Answers.{Said};
+ghost use Rattle.teco_session.specs.declared.fault.SessionFault.TheVariants as fault;
 
 #[cfg(test)]
 mod tests;
 
 use crate::ready::NotReady;
-use crate::run::run_verified;
+use crate::run::{run_given, takes};
 use std::alloc::{AllocError, Global};
 use std::io::Write;
 use teco_base::Code;
@@ -46,6 +48,7 @@ fn stop_of(not_ready: NotReady) -> Stop
     match not_ready {
         NotReady::NoInput => Stop::Error(Code::Nfi),
         NotReady::NoOutput => Stop::Error(Code::Nfo),
+        NotReady::Argument => Stop::Error(Code::Arg),
         NotReady::Memory => Stop::Memory,
     }
 }
@@ -54,13 +57,15 @@ fn stop_of(not_ready: NotReady) -> Stop
 fn run_macro<T: TextStore, H: Host>(
     machine: &mut Machine<T>,
     verified: &Verified<'_>,
+    given: Option<i32>,
     host: &mut H,
 ) -> Stop
-    ensures stops { Joined (λ old new. MacroStops false verified.now old result new)
+    requires { IsTaken verified.now.fields.argument given }
+    ensures stops { Joined (λ old new. MacroStops false (record { found = verified.now; given = given }) old result new)
         machine.old machine.new (H.files host.old) (H.files host.new) }
     ensures counted { StopCounts result (H.failures host.old) (H.failures host.new) }
 {
-    match run_verified(machine, verified, host) {
+    match run_given(machine, verified, given, host) {
         Ok(stop) => stop,
         Err(not_ready) => stop_of(not_ready),
     }
@@ -70,15 +75,17 @@ fn run_macro<T: TextStore, H: Host>(
 fn answer_macro<T: TextStore, H: Host, W: Write>(
     machine: &mut Machine<T>,
     verified: &Verified<'_>,
+    given: Option<i32>,
     host: &mut H,
     writer: &mut W,
 ) -> Result<bool, SessionFault>
-    ensures answers { Joined (λ old new. AnswersMacro false verified.now old new (H.failures host.old) (H.failures host.new)
+    requires { IsTaken verified.now.fields.argument given }
+    ensures answers { Joined (λ old new. AnswersMacro false (record { found = verified.now; given = given }) old new (H.failures host.old) (H.failures host.new)
         (W.contents writer.old) (W.contents writer.new) result)
         machine.old machine.new (H.files host.old) (H.files host.new) }
     ensures counted { LineCounts result (H.failures host.old) (H.failures host.new) }
 {
-    let stop = run_macro(machine, verified, host);
+    let stop = run_macro(machine, verified, given, host);
     write_stop(machine, stop, writer)
 }
 
@@ -103,15 +110,17 @@ fn answer_text<T: TextStore, H: Host, W: Write>(
 fn finish<T: TextStore, H: Host, W: Write>(
     machine: &mut Machine<T>,
     verified: &Verified<'_>,
+    given: Option<i32>,
     host: &mut H,
     writer: &mut W,
 ) -> Result<bool, SessionFault>
-    ensures answers { Joined (λ old new. Finishes false verified.now old new (H.failures host.old) (H.failures host.new)
+    requires { IsTaken verified.now.fields.argument given }
+    ensures answers { Joined (λ old new. Finishes false (record { found = verified.now; given = given }) old new (H.failures host.old) (H.failures host.new)
         (W.contents writer.old) (W.contents writer.new) result)
         machine.old machine.new (H.files host.old) (H.files host.new) }
     ensures counted { LineCounts result (H.failures host.old) (H.failures host.new) }
 {
-    match answer_macro(machine, verified, host, writer) {
+    match answer_macro(machine, verified, given, host, writer) {
         Ok(false) => answer_text(machine, b"EC", host, writer),
         stopped => stopped,
     }
@@ -121,18 +130,20 @@ fn finish<T: TextStore, H: Host, W: Write>(
 fn edit<T: TextStore, H: Host, W: Write>(
     machine: &mut Machine<T>,
     verified: &Verified<'_>,
+    given: Option<i32>,
     opening: &[u8],
     host: &mut H,
     writer: &mut W,
 ) -> Result<bool, SessionFault>
-    requires { length opening.now ≤ LIMIT }
-    ensures answers { Joined (λ old new. Edits false verified.now opening.now old new (H.failures host.old) (H.failures host.new)
+    requires taken { IsTaken verified.now.fields.argument given }
+    requires opening { length opening.now ≤ LIMIT }
+    ensures answers { Joined (λ old new. Edits false (record { found = verified.now; given = given }) opening.now old new (H.failures host.old) (H.failures host.new)
         (W.contents writer.old) (W.contents writer.new) result)
         machine.old machine.new (H.files host.old) (H.files host.new) }
     ensures counted { LineCounts result (H.failures host.old) (H.failures host.new) }
 {
     match answer_text(machine, opening, host, writer) {
-        Ok(false) => finish(machine, verified, host, writer),
+        Ok(false) => finish(machine, verified, given, host, writer),
         stopped => stopped,
     }
 }
@@ -166,12 +177,16 @@ fn said(line: Result<bool, SessionFault>) -> Result<Done, SessionFault>
 /// the macro is run, and the rest is copied and the output closed. What each of these runs types is written behind it, and its
 /// code line. After the first code no more is run, and the output is dropped.
 ///
+/// The macro is called with an argument, if one is given. Where that is none that it takes, or where it takes one and none is
+/// given, this is told first, and nothing is done.
+///
 /// Without memory for the first command string nothing is done. With a fault of writing, the run whose bytes were being
 /// written is the last: a part of what it writes is written.
 pub fn apply<T: TextStore, H: Host, W: Write>(
     alloc: Global,
     machine: &mut Machine<T>,
     verified: &Verified<'_>,
+    given: Option<i32>,
     source: &[u8],
     target: &[u8],
     host: &mut H,
@@ -179,13 +194,17 @@ pub fn apply<T: TextStore, H: Host, W: Write>(
 ) -> Result<Done, SessionFault>
     requires source { length source.now ≤ NAME }
     requires target { length target.now ≤ NAME }
-    ensures edits { Joined (λ old new. Applied verified.now source.now target.now old new
+    ensures edits { Joined (λ old new. Applied (record { found = verified.now; given = given }) source.now target.now old new
         (H.failures host.old) (H.failures host.new) (W.contents writer.old) (W.contents writer.new) result)
         machine.old machine.new (H.files host.old) (H.files host.new) }
+    ensures argument { (result ≡ Err fault.Argument) ↔ (¬ IsTaken verified.now.fields.argument given) }
     ensures counted { EditCounts result (H.failures host.old) (H.failures host.new) }
 {
+    if !takes(verified, given) {
+        return Err(SessionFault::Argument);
+    }
     let opening = opening(alloc, source, target)?;
-    let line = edit(machine, verified, opening.as_slice(), host, writer);
+    let line = edit(machine, verified, given, opening.as_slice(), host, writer);
     drop_if_coded(machine, line, host);
     said(line)
 }

@@ -7,7 +7,7 @@ mod run;
 
 pub use editing::{NAME, apply};
 pub use ready::NotReady;
-pub use run::run_verified;
+pub use run::{run_verified, run_verified_with};
 
 #[cfg(test)]
 mod tests;

@@ -14,6 +14,9 @@ pub enum NotReady {
     /// It needs an output, and none is open.
     #[error("no output file")]
     NoOutput,
+    /// It is given no argument though it takes one, one that is not in its range, or one though it takes none.
+    #[error("the argument is missing, not asked for, or not in its range")]
+    Argument,
     /// There is no memory for the library's texts.
     #[error("out of memory")]
     Memory,

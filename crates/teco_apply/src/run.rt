@@ -1,31 +1,61 @@
 //! The run of a verified macro.
-ghost use Rattle.std.specs.Prelude.{◌≡◌, ◌≤◌, IfOk, OnErr, IfSome, length};
-ghost use Rattle.teco_apply.specs.Sure.{Answers, Calls, Runs, IsThere};
+ghost use Rattle.std.specs.Prelude.{◌≡◌, ◌↔◌, Some, None, IfOk, OnErr, IsTrue};
+ghost use Rattle.teco_apply.specs.Sure.{Answers, Calls, HasFiles, IsTaken, Runs, call_text as text_of_call};
 ghost use Rattle.teco_expand.specs.Library.{IsLoaded};
-ghost use Rattle.teco_pages.specs.HostFiles.{Stays};
 ghost use Rattle.teco_run.specs.Counts.{StopCounts};
 ghost use Rattle.teco_run.specs.Holdings.{Joined};
-ghost use Rattle.teco_verify.specs.Finding.{Finding};
 
 use crate::ready::NotReady;
+use arrayvec::ArrayVec;
+use teco_base::{Reg, decimal};
 use teco_expand::laws::{expansions_are_linked, loading_loads};
-use teco_model::{Stop, are_bytes};
+use teco_model::Stop;
 use teco_pages::Host;
 use teco_run::Machine;
 use teco_table::laws::{runs_are_sure, runs_are_verified};
 use teco_text::TextStore;
 use teco_verify::Verified;
 
+// How long the text of a call may be: a number's text, and two characters.
+const CALL: usize = 13;
+
+/// Is a macro called with this argument, or with none?
+pub fn takes(verified: &Verified<'_>, given: Option<i32>) -> bool
+    ensures { IsTrue result ↔ IsTaken verified.now.fields.argument given }
+{
+    match (verified.argument(), given) {
+        (None, None) => true,
+        (Some((low, high)), Some(n)) => low <= n && n <= high,
+        _ => false,
+    }
+}
+
+// The text that calls a macro.
+fn call_text(entry: Reg, given: Option<i32>) -> ArrayVec<u8, CALL>
+    ensures { result.items ≡ text_of_call entry given }
+{
+    let mut text = ArrayVec::new();
+    if let Some(n) = given {
+        for digit in decimal(n).as_bytes() {
+            text.push(*digit);
+        }
+    }
+    text.push(b'M');
+    text.push(entry.name());
+    text
+}
+
 // Calls a verified macro where its library is loaded, and the files that it needs are open.
 fn call_verified<T: TextStore, H: Host>(
     machine: &mut Machine<T>,
     verified: &Verified<'_>,
+    given: Option<i32>,
     host: &mut H,
 ) -> Stop
     requires loaded { IsLoaded verified.now.library machine.old.kept }
-    requires input { IsThere verified.now.fields.needs.input machine.old.held.input }
-    requires output { IsThere verified.now.fields.needs.output machine.old.held.output }
-    ensures calls { Joined (Calls verified.now.fields result)
+    requires files { HasFiles verified.now.fields.needs machine.old.held }
+    requires taken { IsTaken verified.now.fields.argument given }
+    ensures calls { Joined (Calls verified.now.fields given result)
         machine.old machine.new (H.files host.old) (H.files host.new) }
     ensures counted { StopCounts result (H.failures host.old) (H.failures host.new) }
 {
@@ -36,25 +66,20 @@ fn call_verified<T: TextStore, H: Host>(
     runs_are_sure();
     let entry = verified.entry();
     entry.index();
-    let call = [b'M', entry.name()];
-    are_bytes(&call);
-    machine.run(&call, u64::MAX, host)
+    let call = call_text(entry, given);
+    machine.run(call.as_slice(), u64::MAX, host)
 }
 
-/// Runs a verified macro, over the files of a host: the texts of its library are loaded into their registers, and the macro is
-/// called without a limit of steps. A refusal leaves all as it is.
-///
-/// Where the printed size at N fits, and the printed number of commands is one of 64 bits, it comes to its end within that
-/// number of commands, and never to a code; or want of memory stops it, or the host. N is what is held and what is unread
-/// once the library is loaded.
-pub fn run_verified<T: TextStore, H: Host>(
+/// Runs a verified macro with an argument, or with none.
+pub fn run_given<T: TextStore, H: Host>(
     machine: &mut Machine<T>,
     verified: &Verified<'_>,
+    given: Option<i32>,
     host: &mut H,
 ) -> Result<Stop, NotReady>
-    ensures answer { Answers verified.now.fields.needs machine.old.held result }
-    ensures runs { IfOk result (λ stop.
-        Joined (Runs verified.now stop) machine.old machine.new (H.files host.old) (H.files host.new)) }
+    ensures answer { Answers (record { found = verified.now; given = given }) machine.old.held result }
+    ensures runs { IfOk result (λ stop. Joined (Runs (record { found = verified.now; given = given }) stop)
+        machine.old machine.new (H.files host.old) (H.files host.new)) }
     ensures counted { IfOk result (λ stop. StopCounts stop (H.failures host.old) (H.failures host.new)) }
     ensures machine { OnErr result (machine.new ≡ machine.old) }
     ensures host { OnErr result (host.new ≡ host.old) }
@@ -66,8 +91,50 @@ pub fn run_verified<T: TextStore, H: Host>(
     if needs.output && !machine.has_output() {
         return Err(NotReady::NoOutput);
     }
+    if !takes(verified, given) {
+        return Err(NotReady::Argument);
+    }
     machine.is_whole();
     machine.load(verified.library().texts())?;
     loading_loads();
-    Ok(call_verified(machine, verified, host))
+    Ok(call_verified(machine, verified, given, host))
+}
+
+/// Runs a verified macro that takes no argument, over the files of a host: the texts of its library are loaded into their
+/// registers, and the macro is called without a limit of steps. A refusal leaves all as it is.
+///
+/// Where the printed size at N fits, and the printed number of commands is one of 64 bits, it comes to its end within that
+/// number of commands, and never to a code; or want of memory stops it, or the host. N is what is held and what is unread
+/// once the library is loaded.
+pub fn run_verified<T: TextStore, H: Host>(
+    machine: &mut Machine<T>,
+    verified: &Verified<'_>,
+    host: &mut H,
+) -> Result<Stop, NotReady>
+    ensures answer { Answers (record { found = verified.now; given = None }) machine.old.held result }
+    ensures runs { IfOk result (λ stop. Joined (Runs (record { found = verified.now; given = None }) stop)
+        machine.old machine.new (H.files host.old) (H.files host.new)) }
+    ensures counted { IfOk result (λ stop. StopCounts stop (H.failures host.old) (H.failures host.new)) }
+    ensures machine { OnErr result (machine.new ≡ machine.old) }
+    ensures host { OnErr result (host.new ≡ host.old) }
+{
+    run_given(machine, verified, None, host)
+}
+
+/// The same for a macro that takes an argument, in the range for which it was verified: that stands before the call. It is
+/// so for each argument in the range.
+pub fn run_verified_with<T: TextStore, H: Host>(
+    machine: &mut Machine<T>,
+    verified: &Verified<'_>,
+    n: i32,
+    host: &mut H,
+) -> Result<Stop, NotReady>
+    ensures answer { Answers (record { found = verified.now; given = Some n }) machine.old.held result }
+    ensures runs { IfOk result (λ stop. Joined (Runs (record { found = verified.now; given = Some n }) stop)
+        machine.old machine.new (H.files host.old) (H.files host.new)) }
+    ensures counted { IfOk result (λ stop. StopCounts stop (H.failures host.old) (H.failures host.new)) }
+    ensures machine { OnErr result (machine.new ≡ machine.old) }
+    ensures host { OnErr result (host.new ≡ host.old) }
+{
+    run_given(machine, verified, Some(n), host)
 }

@@ -150,6 +150,90 @@ fn ends_in_so_many_steps(rt: HostRuntime) {
     }
 }
 
+// How its run with an argument stops.
+fn run_with(
+    machine: &mut Machine<VecText>,
+    verified: &Verified<'_>,
+    n: i32,
+    host: &mut MemHost,
+) -> Result<Stop, NotReady> {
+    match run_verified_with(machine, verified, n, host) {
+        Err(NotReady::Memory) => run_verified_with(machine, verified, n, host),
+        answer => answer,
+    }
+}
+
+/// A text is put in as often as an argument says.
+const REPEAT: &[u8] = b"!TECO-LIB 2 A 1 10!@^UA/<Ia\x1b>/";
+
+#[test]
+fn arguments_are_given(rt: HostRuntime) {
+    let library = library_of(&rt, rt.alloc(), REPEAT);
+    let verified = verified_of(&rt, rt.alloc(), &library);
+    for (n, steps, text) in [(1, 6, "a"), (3, 10, "aaa"), (10, 24, "aaaaaaaaaa")] {
+        let mut machine = Machine::new(rt.alloc(), VecText::new(rt.alloc()));
+        let mut host = MemHost::new(rt.alloc());
+        match run_with(&mut machine, &verified, n, &mut host) {
+            Ok(Stop::Ended { steps: taken }) => {
+                let (front, back) = machine.text();
+                assert!(rt; taken == steps, "{n}: {taken}");
+                assert!(rt; front == text.as_bytes() && back.is_empty(), "{n}");
+            }
+            Ok(Stop::Memory) => {}
+            _ => panic!(rt; "it ends"),
+        }
+    }
+}
+
+#[test]
+fn other_arguments_are_refused(rt: HostRuntime) {
+    let library = library_of(&rt, rt.alloc(), REPEAT);
+    let verified = verified_of(&rt, rt.alloc(), &library);
+    let mut machine = Machine::new(rt.alloc(), VecText::new(rt.alloc()));
+    let mut host = MemHost::new(rt.alloc());
+    for n in [i32::MIN, -3, 0, 11, i32::MAX] {
+        let answer = run_with(&mut machine, &verified, n, &mut host);
+        assert!(rt; matches!(answer, Err(NotReady::Argument)), "{n}");
+    }
+    let answer = run(&mut machine, &verified, &mut host);
+    assert!(rt; matches!(answer, Err(NotReady::Argument)));
+}
+
+#[test]
+fn unasked_arguments_are_refused(rt: HostRuntime) {
+    let files: [&[u8]; 2] = [b"@^UA/3<Ia\x1b>/", b"!TECO-LIB 2 B 1 10!@^UA/3<Ia\x1b>/"];
+    for file in files {
+        let library = library_of(&rt, rt.alloc(), file);
+        let verified = verified_of(&rt, rt.alloc(), &library);
+        let mut machine = Machine::new(rt.alloc(), VecText::new(rt.alloc()));
+        let mut host = MemHost::new(rt.alloc());
+        let answer = run_with(&mut machine, &verified, 3, &mut host);
+        assert!(rt; matches!(answer, Err(NotReady::Argument)));
+        let answer = run(&mut machine, &verified, &mut host);
+        assert!(rt; matches!(answer, Ok(_)));
+    }
+}
+
+#[test]
+fn files_are_asked_for_first(rt: HostRuntime) {
+    let rows: [(&[u8], bool); 2] = [
+        (b"!TECO-LIB 2 A 1 10!@^UA/<A>/", true),
+        (b"!TECO-LIB 2 A 1 10!@^UA/<P>/", false),
+    ];
+    for (file, input) in rows {
+        let library = library_of(&rt, rt.alloc(), file);
+        let verified = verified_of(&rt, rt.alloc(), &library);
+        let mut machine = Machine::new(rt.alloc(), VecText::new(rt.alloc()));
+        let mut host = MemHost::new(rt.alloc());
+        let answer = run_with(&mut machine, &verified, 0, &mut host);
+        if input {
+            assert!(rt; matches!(answer, Err(NotReady::NoInput)));
+        } else {
+            assert!(rt; matches!(answer, Err(NotReady::NoOutput)));
+        }
+    }
+}
+
 #[test]
 fn asks_for_files(rt: HostRuntime) {
     let rows: [(&[u8], bool); 3] = [

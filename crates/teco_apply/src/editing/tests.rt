@@ -36,7 +36,7 @@ fn is_coded<H: Host>(
     host: &mut H,
     writer: &mut Vec<u8>,
 ) -> Result<bool, SessionFault> {
-    let done = apply(alloc, machine, verified, b"in", b"out", host, writer)?;
+    let done = apply(alloc, machine, verified, None, b"in", b"out", host, writer)?;
     assert!(rt; !done.exit);
     Ok(done.coded)
 }

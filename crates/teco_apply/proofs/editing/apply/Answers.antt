@@ -4,7 +4,7 @@ use Rattle.teco_apply.proofs.editing.apply.Goals as goal
 pub returns-clause-edits : goal.returns-clause-edits
 returns-clause-edits g c =
     let text = rw (c.as_slice.ensures.value, c.in_ok-opening.ensures) at c.edit-line.ensures.answers in
-    applies c.args.verified.now c.args.source.now c.args.target.now
+    applies (record { found = c.args.verified.now; given = c.args.given }) c.args.source.now c.args.target.now
     c.args.machine.now c.edit-line.new.machine c.drop_if_coded.new.machine
     (g.H.Host.files c.args.host.now) (g.H.Host.files c.edit-line.new.host) (g.H.Host.files c.drop_if_coded.new.host)
     (g.H.Host.failures c.args.host.now) (g.H.Host.failures c.edit-line.new.host) (g.H.Host.failures c.drop_if_coded.new.host)
