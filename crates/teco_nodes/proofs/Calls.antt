@@ -1,9 +1,7 @@
 -- The table of command strings has them.
-use Rattle.std.proofs.Common.{◌≡◌, refl, ℕ, zero, suc, ◌*◌, ◌<◌, List, take, drop, Bool, true, false, bytes_eq, ◌&&◌, codes, ⊎_elim, sym, ap, ◌∙◌, ◌≤◌, [], ◌∷◌, map, length, Option, None, slice_index_or, arith}
+use Rattle.std.proofs.Common.{◌≡◌, refl, ℕ, zero, suc, ◌*◌, ◌<◌, List, take, drop, Bool, true, false, bytes_eq, ◌&&◌, codes, ⊎_elim, sym, ap, ◌∙◌, ◌≤◌, [], ◌∷◌, map, length, Option, Some, None, Bor, slice_index_or, arith}
 use Rattle.std.specs.Option.{option_copied}
 use Rattle.teco_expand.specs.Library.{macro}
-use Rattle.teco_nodes.specs.Texts.{library_of}
-use Rattle.teco_nodes.specs.declared.texts.Texts.{Texts}
 use Rattle.std.proofs.lemmas.Bool.{cases_lt}
 use Rattle.std.proofs.lemmas.Slice.Eq.{bytes_eq-Decides}
 use Rattle.teco_base.specs.declared.TheConstants.{REGISTERS}
@@ -38,5 +36,10 @@ beyond f [] r h = refl
 beyond f (x ∷ xs) zero h = absurd (omega (arith, h))
 beyond f (x ∷ xs) (suc r) h = beyond f xs r (omega (arith, h))
 
-pub no_macro : (texts : Texts) (r : ℕ) → REGISTERS ≤ r → macro (library_of texts) r ≡ None
-no_macro texts r h = beyond option_copied texts.texts r (omega (arith, h, texts.whole))
+pub no_macro : (texts : List (Option (Bor (List ℕ)))) (r : ℕ) → length texts ≤ r → macro (map option_copied texts) r ≡ None
+no_macro texts r h = beyond option_copied texts r h
+
+pub macro_at : (texts : List (Option (Bor (List ℕ)))) (r : ℕ) → r < length texts → option_copied (slice_index_or texts r None) ≡ macro (map option_copied texts) r
+macro_at [] r h = absurd (omega (arith, h))
+macro_at (x ∷ xs) zero h = refl
+macro_at (x ∷ xs) (suc r) h = macro_at xs r (omega (arith, h))

@@ -6,6 +6,7 @@ pub mod Linking
 pub mod Refused
 pub mod Room
 pub mod Same
+pub mod Scanned
 pub mod Seen
 pub mod Texts
 pub mod Walks

@@ -124,12 +124,14 @@ fn nodes_of(
 pub fn expand<'a>(alloc: Global, library: &'a Library, entry: Reg) -> Result<Nodes<'a>, ExpandFault>
     ensures { Expands library.now.texts entry result }
 {
-    let texts = Texts::new(library, entry);
+    let whole = Texts::new(library, entry);
+    let jumps = whole.jumps(alloc)?;
+    let texts = whole.with_jumps(&jumps);
     let walk = whole_walk(alloc, &texts)?;
     let stands = stands_of(alloc, &texts, &walk)?;
     let nodes = nodes_of(alloc, &texts, &walk, &stands)?;
     match walk.refusal {
         Some(refusal) => Err(ExpandFault::Refused(refusal)),
-        None => Ok(Nodes::new(texts, nodes)),
+        None => Ok(Nodes::new(whole, nodes)),
     }
 }

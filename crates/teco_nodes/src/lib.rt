@@ -3,6 +3,7 @@
 
 mod few;
 mod gather;
+mod kept;
 mod link;
 mod names;
 mod node;

@@ -3,6 +3,7 @@
 ghost use Rattle.std.specs.Prelude.{◌<◌, ◌≤◌, length};
 
 use super::*;
+use crate::texts::Texts;
 use std::alloc::Global;
 use std::process::Abort;
 use std::test::*;
@@ -302,6 +303,46 @@ fn far_jumps_are_followed(rt: HostRuntime) {
         panic!(rt; "refused");
     };
     assert!(rt; nodes.len() == 2_998 && nodes.way(2, 1) == Some(1_998));
+}
+
+/// Of the texts that may be called each of the first elements is kept, so that none of them is read on from.
+#[test]
+fn jumps_are_kept(rt: HostRuntime) {
+    let file = b"@^UA/Oa\x1b?MC2<1;>!a!/@^UB/JJJ/@^UC/1\"EOb\x1b'/";
+    let library = library(&rt, rt.alloc(), file);
+    let texts = Texts::new(&library, Reg::A);
+    let jumps = texts.jumps(rt.alloc()).expect(&rt, "memory");
+    assert!(rt; jumps.len() == 13);
+    let texts = texts.with_jumps(&jumps);
+    for (place, to) in [(0, Some(14)), (7, Some(11)), (9, Some(11)), (11, None)] {
+        let Some(skip) = texts.skip(Some(0), place) else {
+            panic!(rt; "place {place}");
+        };
+        assert!(rt; skip.to == to, "place {place}");
+    }
+    assert!(rt; texts.skip(Some(0), 3).is_none() && texts.skip(Some(1), 0).is_none());
+    assert!(rt; texts.skip(Some(2), 1).is_some() && texts.skip(None, 0).is_none());
+}
+
+/// So many jumps before so many elements are followed without reading on for each.
+#[test]
+fn many_jumps_are_followed(rt: HostRuntime) {
+    let mut file = [b'J'; 200_000];
+    for i in 0..4_000 {
+        file[3 * i + 5] = b'O';
+        file[3 * i + 6] = b'x';
+        file[3 * i + 7] = 0x1b;
+    }
+    file[199_996] = b'!';
+    file[199_998] = b'!';
+    let library = of_length(&rt, rt.alloc(), &mut file);
+    let texts = Texts::new(&library, Reg::A);
+    let jumps = texts.jumps(rt.alloc()).expect(&rt, "memory");
+    assert!(rt; jumps.len() == 4_097);
+    let Err(ExpandFault::Refused(refusal)) = expanded(rt.alloc(), &library) else {
+        panic!(rt; "expanded");
+    };
+    assert!(rt; number_of(refusal.reason) == 4 && refusal.place == 12_095);
 }
 
 #[test]

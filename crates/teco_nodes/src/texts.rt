@@ -1,25 +1,36 @@
 //! The texts that an expansion goes through.
-ghost use Rattle.std.specs.Prelude.{◌≡◌, ◌+◌, ◌<◌, ◌≤◌, length, take, drop, is_some, All};
+ghost use Rattle.std.specs.Prelude.{◌≡◌, ◌+◌, ◌<◌, ◌≤◌, List, length, map, take, drop, is_some, All, IfOk, IfSome, OnOk};
 ghost use Rattle.std.specs.Option.{option_copied, ForSome};
 ghost use Rattle.teco_base.specs.declared.TheConstants.{LIMIT, REGISTERS};
 ghost use Rattle.teco_expand.specs.Library.{macro, is_macro};
 ghost use Rattle.teco_expand.specs.Node as model;
+ghost use Rattle.teco_model.specs.Skip.{skip_at};
+ghost use Rattle.teco_nodes.specs.Scanned.{IsKeptOf};
 
+use crate::kept::{Kept, keep_steps, kept_at};
+use crate::steps::MOST_ELEMENTS;
+use std::alloc::{AllocError, Global};
 use teco_base::{REGISTERS, Reg};
+use teco_lex::{Reading, Readings, Skip};
 use teco_library::Library;
+use teco_model::Kind;
+use teco_scan::first_skips;
 
 /// The command strings that call each register.
 static CALLS: [u8; 72] =
     *b"MAMBMCMDMEMFMGMHMIMJMKMLMMMNMOMPMQMRMSMTMUMVMWMXMYMZM0M1M2M3M4M5M6M7M8M9";
 
-/// The texts of a library by the places of their registers, and the place of the entry.
+/// The texts of a library by the places of their registers, and the place of the entry. Of each text that may be called is
+/// kept where its first elements jump ahead.
 #[derive(Clone, Copy)]
 pub struct Texts<'a> {
     texts: [Option<&'a [u8]>; REGISTERS],
     pub entry: usize,
+    kept: &'a [Kept],
     ghost whole: { length texts ≡ REGISTERS },
     ghost short: { All (λ text. ForSome text (λ shown. length shown.now ≤ LIMIT)) texts },
     ghost register: { entry < REGISTERS },
+    ghost right: { All (IsKeptOf (map option_copied texts)) kept.now },
 }
 
 /// Two bytes of a table.
@@ -39,10 +50,97 @@ fn call_of(entry: usize) -> &'static [u8]
     two_at(&CALLS, 2 * entry)
 }
 
+/// The text that a register gets of these, if any.
+#[tactic(auto, using(crate::proofs::Calls::no_macro, crate::proofs::Calls::macro_at))]
+fn macro_in<'a>(texts: &[Option<&'a [u8]>], register: usize) -> Option<&'a [u8]>
+    requires { All (λ text. ForSome text (λ shown. length shown.now ≤ LIMIT)) texts.now }
+    ensures value { option_copied result ≡ macro (map option_copied texts.now) register }
+    ensures within_limit { ForSome result (λ text. length text.now ≤ LIMIT) }
+{
+    if register < texts.len() {
+        texts[register]
+    } else {
+        None
+    }
+}
+
+/// Marks the registers that the first elements of a text call.
+fn mark_calls(text: &[u8], called: &mut [bool])
+    requires { length called.old ≡ REGISTERS }
+    ensures { length called.new ≡ REGISTERS }
+{
+    let mut ahead = Readings::from(text, 0);
+    for _ in 0..MOST_ELEMENTS {
+        match ahead.next() {
+            Some(Reading::Whole(element)) => {
+                if let Kind::Call(call) = element.kind {
+                    called[call.register.index()] = true;
+                }
+            }
+            Some(_) => {}
+            None => return,
+        }
+    }
+}
+
+/// The registers whose texts may be called: the entry, and those that the first elements of such texts name.
+fn called_from(texts: &[Option<&[u8]>], entry: usize) -> [bool; REGISTERS]
+    requires short { All (λ text. ForSome text (λ shown. length shown.now ≤ LIMIT)) texts.now }
+    requires register { entry < REGISTERS }
+{
+    let mut called = [false; REGISTERS];
+    let mut read = [false; REGISTERS];
+    called[entry] = true;
+    for _ in 0..REGISTERS {
+        for register in 0..REGISTERS {
+            if called[register] && !read[register] {
+                read[register] = true;
+                mark_calls(macro_in(texts, register).unwrap_or(&[]), &mut called);
+            }
+        }
+    }
+    called
+}
+
+/// Keeps where the first elements of a register's text jump ahead.
+fn keep_text(
+    alloc: Global,
+    texts: &[Option<&[u8]>],
+    kept: &mut Vec<Kept>,
+    register: usize,
+) -> Result<(), AllocError>
+    requires { All (λ text. ForSome text (λ shown. length shown.now ≤ LIMIT)) texts.now }
+    ensures { OnOk result (All (IsKeptOf (map option_copied texts.now)) kept.old.items → All (IsKeptOf (map option_copied texts.now)) kept.new.items) }
+{
+    let Some(text) = macro_in(texts, register) else {
+        return Ok(());
+    };
+    let steps = first_skips(alloc, text, MOST_ELEMENTS + 1)?;
+    keep_steps(kept, register, &steps)
+}
+
+/// The same of each register whose text may be called.
+fn kept_of(alloc: Global, texts: &[Option<&[u8]>], entry: usize) -> Result<Vec<Kept>, AllocError>
+    requires short { All (λ text. ForSome text (λ shown. length shown.now ≤ LIMIT)) texts.now }
+    requires register { entry < REGISTERS }
+    ensures { IfOk result (λ kept. All (IsKeptOf (map option_copied texts.now)) kept.items) }
+{
+    let called = called_from(texts, entry);
+    let mut kept = Vec::new(alloc);
+    for register in 0..REGISTERS {
+        if called[register] {
+            keep_text(alloc, texts, &mut kept, register)?;
+        }
+    }
+    Ok(kept)
+}
+
 impl<'a> Texts<'a> {
+    ghost use Rattle.teco_nodes.specs.declared.node.Node.{Node};
+    ghost use Rattle.teco_nodes.specs.Seen.{node_seen};
     ghost use Rattle.teco_nodes.specs.Texts.{library_of, text_of};
 
-    /// Those of a library.
+    /// Those of a library, of which nothing is kept.
     pub fn new(library: &'a Library, entry: Reg) -> Texts<'a>
         ensures library { library_of result ≡ library.now.texts }
         ensures entry { result.entry ≡ entry }
@@ -50,20 +148,44 @@ impl<'a> Texts<'a> {
         Texts {
             texts: library.texts(),
             entry: entry.index(),
+            kept: &[],
         }
     }
 
+    /// Where the first elements of the texts jump ahead that may be called.
+    pub fn jumps(&self, alloc: Global) -> Result<Vec<Kept>, AllocError>
+        ensures { IfOk result (λ kept. All (IsKeptOf (library_of self.now)) kept.items) }
+    {
+        kept_of(alloc, &self.texts, self.entry)
+    }
+
+    /// The same texts, with this kept of them.
+    pub fn with_jumps(&self, kept: &'a [Kept]) -> Texts<'a>
+        requires { All (IsKeptOf (library_of self.now)) kept.now }
+        ensures library { library_of result ≡ library_of self.now }
+        ensures entry { result.entry ≡ self.now.entry }
+        ensures nodes { (nodes : List Node) → map (node_seen result) nodes ≡ map (node_seen self.now) nodes }
+    {
+        Texts {
+            texts: self.texts,
+            entry: self.entry,
+            kept,
+        }
+    }
+
+    /// Where the element at a place of a register's text jumps ahead, if that is kept.
+    pub fn skip(&self, register: Option<usize>, place: usize) -> Option<Skip>
+        ensures { IfSome result (λ skip. skip ≡ skip_at (text_of self.now register) place) }
+    {
+        kept_at(self.kept, register?, place)
+    }
+
     /// The text that a register gets, if any.
-    #[tactic(auto, using(crate::proofs::Calls::no_macro))]
     fn macro_of(&self, register: usize) -> Option<&'a [u8]>
         ensures value { option_copied result ≡ macro (library_of self.now) register }
         ensures within_limit { ForSome result (λ text. length text.now ≤ LIMIT) }
     {
-        if register < REGISTERS {
-            self.texts[register]
-        } else {
-            None
-        }
+        macro_in(&self.texts, register)
     }
 
     /// Does a register get a text?

@@ -42,7 +42,10 @@ fn skip_at(texts: &Texts<'_>, element: &Element<'_>, spot: &Spot) -> Skip
     requires { element_at (text_of texts.now spot.now.register) spot.now.place ≡ Ok (Some (seen element.now)) }
     ensures { result ≡ skip_of (text_of texts.now spot.now.register) (Whole (seen element.now)) }
 {
-    skip_from(texts.text(spot.register), spot.place)
+    match texts.skip(spot.register, spot.place) {
+        Some(skip) => skip,
+        None => skip_from(texts.text(spot.register), spot.place),
+    }
 }
 
 // Where it jumps ahead.
