@@ -119,7 +119,7 @@ fn nodes_of(
 
 /// The nodes that a library comes to from an entry, or why it is not expanded.
 ///
-/// The time grows as the nodes and the texts do, for each jump as it is far, and for each element as the texts that it skips.
+/// The time grows as the nodes and the texts do, for each conditional as it is far, and for each element as the blanks behind it.
 #[tactic(auto, unfolding(teco_expand::specs::Expansion::expansion))]
 pub fn expand<'a>(alloc: Global, library: &'a Library, entry: Reg) -> Result<Nodes<'a>, ExpandFault>
     ensures { Expands library.now.texts entry result }

@@ -310,9 +310,9 @@ fn far_jumps_are_followed(rt: HostRuntime) {
 fn jumps_are_kept(rt: HostRuntime) {
     let file = b"@^UA/Oa\x1b?MC2<1;>!a!/@^UB/JJJ/@^UC/1\"EOb\x1b'/";
     let library = library(&rt, rt.alloc(), file);
-    let texts = Texts::new(&library, Reg::A);
+    let texts = Texts::new(&library, Reg::default());
     let jumps = texts.jumps(rt.alloc()).expect(&rt, "memory");
-    assert!(rt; jumps.len() == 13);
+    assert!(rt; jumps.len() == 12);
     let texts = texts.with_jumps(&jumps);
     for (place, to) in [(0, Some(14)), (7, Some(11)), (9, Some(11)), (11, None)] {
         let Some(skip) = texts.skip(Some(0), place) else {
@@ -334,9 +334,10 @@ fn many_jumps_are_followed(rt: HostRuntime) {
         file[3 * i + 7] = 0x1b;
     }
     file[199_996] = b'!';
+    file[199_997] = b'x';
     file[199_998] = b'!';
     let library = of_length(&rt, rt.alloc(), &mut file);
-    let texts = Texts::new(&library, Reg::A);
+    let texts = Texts::new(&library, Reg::default());
     let jumps = texts.jumps(rt.alloc()).expect(&rt, "memory");
     assert!(rt; jumps.len() == 4_097);
     let Err(ExpandFault::Refused(refusal)) = expanded(rt.alloc(), &library) else {
