@@ -7,6 +7,7 @@ use Rattle.teco_base.specs.declared.bytes.TheConstants.{LF}
 use Rattle.teco_certificate.specs.Fields.{Fields}
 use Rattle.teco_poly.specs.Text.{text}
 use Rattle.teco_rules.specs.Argument.{ArgumentRange}
+use Rattle.teco_rules.specs.ArgumentText.{range_text}
 use Rattle.teco_rules.specs.Printed.{Needs}
 use Rattle.teco_table.specs.Deriving.{LongerText, Chosen}
 
@@ -52,9 +53,6 @@ loop_line chosen = line (codes "loop " ++ chosen_text chosen)
 abbrev pub version_text : Option ArgumentRange → List ℕ
 version_text None = codes "1"
 version_text (Some range) = codes "2"
-
-abbrev pub range_text : ArgumentRange → List ℕ
-range_text range = decimal range.low ++ (codes " " ++ decimal range.high)
 
 abbrev pub argument_line : Option ArgumentRange → List ℕ
 argument_line None = []
