@@ -158,6 +158,50 @@ fn caps_are_read(rt: HostRuntime) -> Result<(), Fail> {
     Ok(())
 }
 
+// What a word says of the argument, if that is none of other words.
+#[test]
+fn arguments_are_read(rt: HostRuntime) -> Result<(), Fail> {
+    let rows: [(&str, Option<i32>); 12] = [
+        ("--arg=0", Some(0)),
+        ("--arg=3", Some(3)),
+        ("--arg=2147483647", Some(2_147_483_647)),
+        ("--arg=2147483648", None),
+        ("--arg=18446744073709551617", None),
+        ("--arg=-1", None),
+        ("--arg=+3", None),
+        ("--arg= 3", None),
+        ("--arg=3,4", None),
+        ("--arg=0x3", None),
+        ("--arg=x", None),
+        ("--arg=", None),
+    ];
+    for (word, argument) in rows {
+        let command = words::command(rt.alloc())?;
+        let found = match command.try_get_matches_from(&[
+            "teco", "apply", word, "LIB", "A", "in", "out",
+        ]) {
+            Ok(matches) => match matches.subcommand() {
+                Some((_, given)) => words::given(given).unwrap_or(None),
+                None => None,
+            },
+            Err(_) => None,
+        };
+        assert_eq!(rt; found, argument, "{word}");
+    }
+    Ok(())
+}
+
+#[test]
+fn an_argument_may_be_left_out(rt: HostRuntime) -> Result<(), Fail> {
+    let command = words::command(rt.alloc())?;
+    let matches = command.try_get_matches_from(&["teco", "apply", "LIB", "A", "in", "out"])?;
+    let Some((_, given)) = matches.subcommand() else {
+        return Err(WordsFault::Argument)?;
+    };
+    assert_eq!(rt; words::given(given)?, None);
+    Ok(())
+}
+
 #[test]
 fn refusals_are_printed(rt: HostRuntime) -> Result<(), Fail> {
     let rows: [(Why, Option<Reg>, usize, &str); 5] = [

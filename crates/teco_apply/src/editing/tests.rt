@@ -32,11 +32,12 @@ fn is_coded<H: Host>(
     rt: &impl Abort,
     alloc: Global,
     verified: &Verified<'_>,
+    given: Option<i32>,
     machine: &mut Machine<VecText>,
     host: &mut H,
     writer: &mut Vec<u8>,
 ) -> Result<bool, SessionFault> {
-    let done = apply(alloc, machine, verified, None, b"in", b"out", host, writer)?;
+    let done = apply(alloc, machine, verified, given, b"in", b"out", host, writer)?;
     assert!(rt; !done.exit);
     Ok(done.coded)
 }
@@ -97,7 +98,15 @@ fn expect_edit(
     let mut host = TestHost::new(mem, piece, call, nth);
     let mut machine = Machine::new(alloc, VecText::new(alloc));
     let mut writer = Vec::new(alloc);
-    let coded = is_coded(rt, alloc, &verified, &mut machine, &mut host, &mut writer)?;
+    let coded = is_coded(
+        rt,
+        alloc,
+        &verified,
+        None,
+        &mut machine,
+        &mut host,
+        &mut writer,
+    )?;
     assert_eq!(rt; coded, out.is_none(), "row {number}");
     assert_eq!(rt; writer.as_slice(), written, "row {number}");
     assert_eq!(rt; host.mem().file(b"out"), out, "row {number}");
@@ -125,7 +134,81 @@ fn an_edit_fails_in_writing(rt: HostRuntime) -> Result<(), Fail> {
     let mut host = TestHost::new(mem, 1, HostCall::Write, 2);
     let mut machine = Machine::new(alloc, VecText::new(alloc));
     let mut writer = Vec::new(alloc);
-    assert!(rt; is_coded(&rt, alloc, &verified, &mut machine, &mut host, &mut writer)?);
+    assert!(rt;
+        is_coded(
+            &rt,
+            alloc,
+            &verified,
+            None,
+            &mut machine,
+            &mut host,
+            &mut writer
+        )?
+    );
     assert!(rt; is_edited(&machine, b"xfoo!"));
+    Ok(())
+}
+
+/// A text is put in as often as an argument says.
+const REPEAT: &[u8] = b"!TECO-LIB 2 A 1 10!@^UA/<Ia\x1b>/";
+
+/// A library, the argument that its macro is given, and what the file `out` has then; none where that is not taken.
+type Given = (&'static [u8], Option<i32>, Option<&'static [u8]>);
+
+const GIVEN: [Given; 10] = [
+    (REPEAT, Some(1), Some(b"axfoo\x0cfoo")),
+    (REPEAT, Some(3), Some(b"aaaxfoo\x0cfoo")),
+    (REPEAT, Some(10), Some(b"aaaaaaaaaaxfoo\x0cfoo")),
+    (REPEAT, Some(0), None),
+    (REPEAT, Some(11), None),
+    (REPEAT, Some(-1), None),
+    (REPEAT, None, None),
+    (MARKS, None, Some(b"xfoo!\x0cfoo")),
+    (MARKS, Some(0), None),
+    (b"!TECO-LIB 2 B 1 10!@^UA/Ia\x1b/", Some(1), None),
+];
+
+// Edits what is edited with an argument, or does nothing.
+fn expect_given(
+    rt: &impl Abort,
+    alloc: Global,
+    row: Given,
+    number: usize,
+) -> Result<(), SessionFault> {
+    let (file, given, out) = row;
+    assert!(rt; file.len() <= LIMIT);
+    let Ok(library) = Library::read(alloc, file) else {
+        panic!(rt; "no library");
+    };
+    let verified = macro_of(rt, alloc, &library);
+    let mut host = MemHost::new(alloc);
+    host.put(b"in", INPUT)?;
+    let mut machine = Machine::new(alloc, VecText::new(alloc));
+    let mut writer = Vec::new(alloc);
+    match is_coded(
+        rt,
+        alloc,
+        &verified,
+        given,
+        &mut machine,
+        &mut host,
+        &mut writer,
+    ) {
+        Ok(coded) => assert!(rt; out.is_some() && !coded, "row {number}"),
+        Err(SessionFault::Argument) => {
+            assert!(rt; out.is_none() && is_edited(&machine, b""), "row {number}");
+        }
+        Err(other) => return Err(other),
+    }
+    assert_eq!(rt; host.file(b"out"), out, "row {number}");
+    assert!(rt; writer.is_empty(), "row {number}");
+    Ok(())
+}
+
+#[test]
+fn arguments_are_judged_first(rt: HostRuntime) -> Result<(), Fail> {
+    for (i, row) in GIVEN.iter().enumerate() {
+        expect_given(&rt, rt.alloc(), *row, i)?;
+    }
     Ok(())
 }
