@@ -175,7 +175,7 @@ impl Search {
 fn joined(known: Option<Facts>, more: Facts, number: usize) -> Result<Facts, Unfit> {
     match known {
         None => Ok(more),
-        Some(facts) => facts.joined(&more).map_err(|why| Unfit::at(why, number)),
+        Some(facts) => facts.joined(&more).map_err(|fault| Unfit::by(fault, number)),
     }
 }
 

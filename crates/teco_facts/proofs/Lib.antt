@@ -8,3 +8,4 @@ pub mod Popping
 pub mod Each
 pub mod Unknown
 pub mod Joins
+pub mod Settles

@@ -15,6 +15,7 @@ use crate::saved::covers_saved;
 use crate::whole::Whole;
 use teco_model::Operator;
 use teco_poly::Poly;
+use teco_stack::Stack;
 
 /// Whether a range is wider, or the same.
 pub fn covers_range(one: Range, edge: Range) -> bool
@@ -175,34 +176,24 @@ fn covers_iterations(one: &Few<Iteration>, edge: &Few<Iteration>) -> bool
     true
 }
 
-// Whether each outer level is covered, of as many.
-fn covers_outer(one: &Arguments, edge: &Arguments, margins: Margins) -> bool
-    ensures { result ≡ covers.each_covers (covers.covers_level margins) one.now.outer edge.now.outer }
+// Whether each pair is covered, of as many.
+fn covers_pairs(one: &Stack<Pushed>, edge: &Stack<Pushed>) -> bool
+    ensures { result ≡ covers.each_covers covers.covers_pushed one.now edge.now }
 {
-    if one.depth() != edge.depth() {
+    let Some((pair, one_below)) = one.parts() else {
+        return edge.parts().is_none();
+    };
+    let Some((arriving, edge_below)) = edge.parts() else {
         return false;
-    }
-    for at in (0..one.depth()).rev() {
-        if !one.outer_at(at).covers(edge.outer_at(at), margins) {
-            return false;
-        }
-    }
-    true
+    };
+    covers_pushed(pair, arriving) && covers_pairs(one_below, edge_below)
 }
 
 /// Whether each pushed pair is covered, of as many.
 pub fn covers_pushes(one: &Facts, edge: &Facts) -> bool
     ensures { result ≡ covers.each_covers covers.covers_pushed one.now.pushes edge.now.pushes }
 {
-    if one.pushed() != edge.pushed() {
-        return false;
-    }
-    for at in (0..one.pushed()).rev() {
-        if !covers_pushed(&one.pushed_at(at), &edge.pushed_at(at)) {
-            return false;
-        }
-    }
-    true
+    covers_pairs(&one.pushes, &edge.pushes)
 }
 
 /// Whether each number is covered, of as many.
@@ -239,7 +230,7 @@ pub fn covers_lengths(one: &[Poly], edge: &[Poly]) -> bool
 fn covers_arguments(one: &Arguments, edge: &Arguments, margins: Margins) -> bool
     ensures { result ≡ covers.covers_arguments margins one.now edge.now }
 {
-    one.level().covers(edge.level(), margins) && covers_outer(one, edge, margins)
+    one.level().covers(edge.level(), margins) && one.covers_outer(edge, margins)
 }
 
 impl Position {

@@ -148,8 +148,8 @@ fn facts_after_open(mut facts: Facts) -> Result<Facts, AllocError>
 }
 
 // The facts behind a parenthesis that closes.
-fn facts_after_close(mut facts: Facts) -> Result<Facts, Refusal>
-    ensures { result ≡ rules.facts_after_levels (arguments.levels_closed_onto facts.position.distances facts.arguments.level facts.arguments.outer) facts }
+fn facts_after_close(mut facts: Facts) -> Result<Facts, Fault>
+    ensures { Gives (rules.facts_after_levels (arguments.levels_closed_onto facts.position.distances facts.arguments.level facts.arguments.outer) facts) result }
 {
     let margins = facts.margins();
     facts.arguments.close(margins)?;
@@ -171,7 +171,7 @@ fn facts_after_argument(argument: Argument, text: &[u8], facts: Facts) -> Result
         }
         Argument::Operate(operator) => facts_with_level(level.operating(operator), facts),
         Argument::Comma => facts_with_level(level.parted(margins), facts),
-        Argument::Close => facts_after_close(facts),
+        Argument::Close => return facts_after_close(facts),
         Argument::Open => return facts_after_open(facts).map_err(|_| Fault::Memory),
     };
     changed.map_err(Fault::Refused)
@@ -294,7 +294,7 @@ fn stack_edges(kind: Stack, library: bool, facts: Facts) -> Result<Edges, Fault>
             Ok(facts) => Ok(Edges::on(facts)),
             Err(_) => Err(Fault::Memory),
         },
-        Stack::Pop(register) => on(stack::pop(library, register, facts)),
+        Stack::Pop(register) => on_with_memory(stack::pop(library, register, facts)),
     }
 }
 

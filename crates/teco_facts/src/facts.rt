@@ -21,6 +21,7 @@ use std::marker::Model;
 use teco_base::{REGISTERS, Reg};
 use teco_poly::Poly;
 use teco_rules::{ArgumentRange, Refusal};
+use teco_stack::Stack;
 
 /// The positions where a search found, and where it failed.
 #[derive(Drop)]
@@ -114,17 +115,17 @@ pub struct Facts {
     pub(crate) held: Poly,
     pub(crate) numbers: [Range; REGISTERS],
     pub(crate) texts: [Poly; REGISTERS],
-    pub(crate) pushes: Vec<Pushed>,
+    pub(crate) pushes: Stack<Pushed>,
 }
 
 impl Model for Facts {
-    ghost use Rattle.std.specs.Prelude.{◌≡◌, reverse, length};
+    ghost use Rattle.std.specs.Prelude.{◌≡◌, length};
     ghost use Rattle.teco_base.specs.declared.TheConstants.{REGISTERS};
     ghost use Rattle.teco_rules.specs.Facts as rules;
 
     ghost Value = { rules.Facts };
 
-    ghost view = { λ f. record { arguments = f.arguments; answer = f.answer; position = f.position; iterations = f.iterations; held = f.held; numbers = f.numbers; texts = f.texts; pushes = reverse f.pushes.items } };
+    ghost view = { λ f. record { arguments = f.arguments; answer = f.answer; position = f.position; iterations = f.iterations; held = f.held; numbers = f.numbers; texts = f.texts; pushes = f.pushes } };
 
     ghost invariant = { λ f. (length f.numbers ≡ REGISTERS) × (length f.texts ≡ REGISTERS) };
 }
@@ -155,7 +156,7 @@ impl Facts {
             held: Poly::variable(),
             numbers: [Range::any(); REGISTERS],
             texts: [Poly::variable(); REGISTERS],
-            pushes: Vec::new(alloc),
+            pushes: Stack::new(alloc),
         }
     }
 
@@ -171,7 +172,7 @@ impl Facts {
             held: self.held,
             numbers: self.numbers,
             texts: self.texts,
-            pushes: self.pushes.clone()?,
+            pushes: self.pushes.copied()?,
         })
     }
 

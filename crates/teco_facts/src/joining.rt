@@ -1,15 +1,18 @@
 //! Where ways meet: what is known on both.
-ghost use Rattle.std.specs.Prelude.{◌≡◌, ◌<◌, length, slice_set, Result, Ok, Err};
+ghost use Rattle.std.specs.Prelude.{◌≡◌, ◌<◌, length, [], IsTrue, Result, Ok, Err};
 ghost use Rattle.teco_base.specs.declared.TheConstants.{REGISTERS};
 ghost use Rattle.teco_rules.specs.Joins as joins;
+ghost use Rattle.teco_facts.specs.Does.{Gives, JoinsPairs};
 ghost use Rattle.teco_facts.specs.Joined as joined;
 
 use crate::facts::{Facts, Pushed};
+use crate::fault::Fault;
 use crate::position::join_of;
 use crate::range::Range;
 use teco_base::REGISTERS;
 use teco_poly::Poly;
 use teco_rules::Refusal;
+use teco_stack::Stack;
 
 // The hull of two ranges.
 fn hull(one: Range, two: Range) -> Range
@@ -55,29 +58,59 @@ fn joined_pair(one: &Pushed, two: &Pushed) -> Result<Pushed, Refusal>
     })
 }
 
-impl Facts {
-    // Puts another pair in the place of the one that was pushed before so many others.
-    fn put_pushed(&mut self, at: usize, pair: Pushed)
-        requires { at < length self.old.pushes }
-        ensures { self.new ≡ record self.old { pushes = slice_set self.old.pushes at pair } }
-    {
-        let place = self.pushes.len() - 1 - at;
-        self.pushes[place] = pair;
-    }
+// Whether two pairs are the same.
+fn are_same(one: &Pushed, two: &Pushed) -> bool
+    ensures { IsTrue result → one.now ≡ two.now }
+{
+    one.number.is(two.number) && one.text == two.text
+}
 
-    // The facts with what is known of each pair on both ways, which meet with as many.
-    fn with_pushes_joined(mut self, other: &Facts) -> Result<Facts, Refusal>
-        ensures { result ≡ joined.with_pushes_joined self other.now }
+// No pair of the first way is left: so it must be of the second.
+fn none_left(two: &Stack<Pushed>) -> Result<Option<Stack<Pushed>>, Fault>
+    ensures { JoinsPairs (joins.joined_pushes [] two.now) [] result }
+{
+    if two.parts().is_none() {
+        Ok(None)
+    } else {
+        Err(Fault::Refused(Refusal::Pop))
+    }
+}
+
+// What is known of each pair of two ways, which meet with as many; none where that is what the first way knows. What lies below
+// the last pair that is known less well is shared.
+fn joined_pairs(
+    one: &Stack<Pushed>,
+    two: &Stack<Pushed>,
+) -> Result<Option<Stack<Pushed>>, Fault>
+    ensures { JoinsPairs (joins.joined_pushes one.now two.now) one.now result }
+{
+    let Some((first, one_below)) = one.parts() else {
+        return none_left(two);
+    };
+    let Some((second, two_below)) = two.parts() else {
+        return Err(Fault::Refused(Refusal::Pop));
+    };
+    let pair = joined_pair(first, second)?;
+    let below = joined_pairs(one_below, two_below)?;
+    if below.is_none() && are_same(first, &pair) {
+        return Ok(None);
+    }
+    let below = match below {
+        None => one_below.copied()?,
+        Some(below) => below,
+    };
+    Ok(Some(below.with(pair)?))
+}
+
+impl Facts {
+    // The facts with what is known of each pair on both ways.
+    fn with_pushes_joined(mut self, other: &Facts) -> Result<Facts, Fault>
+        ensures { Gives (joined.with_pushes_joined self other.now) result }
     {
-        for at in 0..self.pushed().min(other.pushed()) {
-            let pair = joined_pair(&self.pushed_at(at), &other.pushed_at(at))?;
-            self.put_pushed(at, pair);
+        if let Some(pairs) = joined_pairs(&self.pushes, &other.pushes)? {
+            self.pushes = pairs;
         }
-        if self.pushed() == other.pushed() {
-            Ok(self)
-        } else {
-            Err(Refusal::Pop)
-        }
+        Ok(self)
     }
 
     // The facts with what is known of the position, of what is held, and of the registers on both ways.
@@ -92,8 +125,8 @@ impl Facts {
     }
 
     /// What is known where two ways meet: on both, with nothing pending.
-    pub fn joined(self, other: &Facts) -> Result<Facts, Refusal>
-        ensures { result ≡ joins.joined self other.now }
+    pub fn joined(self, other: &Facts) -> Result<Facts, Fault>
+        ensures { Gives (joins.joined self other.now) result }
     {
         self.arguments.none_pending()?;
         other.arguments.none_pending()?;

@@ -1,7 +1,8 @@
 //! What is known of what is pending at one depth of parentheses.
-ghost use Rattle.std.specs.Prelude.{◌≡◌};
+ghost use Rattle.std.specs.Prelude.{◌≡◌, IsTrue};
 ghost use Rattle.teco_rules.specs.Arguments as rules;
 ghost use Rattle.teco_rules.specs.Joins as joins;
+ghost use Rattle.teco_rules.specs.declared.values.Distances.{Distances};
 
 use crate::margins::Margins;
 use crate::number::Number;
@@ -240,6 +241,13 @@ impl Level {
         }
     }
 
+    /// Whether it stays as it is where it settles.
+    pub fn is_settled(self, ends: bool) -> bool
+        ensures { IsTrue result → (margins : Distances) → rules.settled_level margins ends self ≡ self }
+    {
+        is_settled(self.first, ends) && is_settled(self.value, ends)
+    }
+
     /// Whether nothing is pending.
     pub fn is_empty(self) -> bool
         ensures { result ≡ joins.is_empty_level self }
@@ -261,6 +269,16 @@ fn first_value(value: Option<Number>, margins: Margins) -> Result<Number, Refusa
                 Err(Refusal::Argument)
             }
         }
+    }
+}
+
+// Whether a value stays as it is where it settles.
+fn is_settled(value: Option<Number>, ends: bool) -> bool
+    ensures { IsTrue result → (margins : Distances) → rules.settled_value margins ends value ≡ value }
+{
+    match value {
+        None => true,
+        Some(value) => value.is_settled(ends),
     }
 }
 

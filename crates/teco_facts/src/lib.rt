@@ -27,6 +27,7 @@ mod query;
 mod range;
 mod saved;
 mod search;
+mod settling;
 mod shift;
 mod stack;
 mod storage;

@@ -1,9 +1,10 @@
 //! What is known of numbers that are pending.
-ghost use Rattle.std.specs.Prelude.{◌≡◌, pos, FitsSigned, if◌then◌else◌};
+ghost use Rattle.std.specs.Prelude.{◌≡◌, pos, Some, IsTrue, FitsSigned, if◌then◌else◌};
 ghost use Rattle.std.specs.Int.{w32};
 ghost use Rattle.teco_base.specs.Arithmetic as bits;
 ghost use Rattle.teco_rules.specs.Arguments as rules;
 ghost use Rattle.teco_rules.specs.Values as values;
+ghost use Rattle.teco_rules.specs.declared.values.Distances.{Distances};
 ghost use Rattle.teco_facts.specs.Numbers.{IsNumber};
 
 use crate::arithmetic::{self, range_of};
@@ -92,6 +93,14 @@ impl Number {
         ensures { result ≡ self.saved }
     {
         self.saved
+    }
+
+    /// Whether it stays as it is where the pointer may move, and where all that is saved is ended too.
+    #[tactic(auto, using(crate::proofs::Settles::value_stays))]
+    pub fn is_settled(self, ends: bool) -> bool
+        ensures { IsTrue result → (margins : Distances) → rules.settled_value margins ends (Some self) ≡ Some self }
+    {
+        self.ahead.is(Whole::ZERO) && self.behind.is(Whole::ZERO) && !(ends && self.saved)
     }
 
     /// Z.

@@ -1,11 +1,12 @@
 //! The push-down list.
-ghost use Rattle.std.specs.Prelude.{◌≡◌, IfOk, ◌<◌, length, nat_lt, slice_index_or};
+ghost use Rattle.std.specs.Prelude.{◌≡◌, IfOk, length, nat_lt};
 ghost use Rattle.std.specs.List.{list_all};
-ghost use Rattle.teco_facts.specs.Does.{Pops};
+ghost use Rattle.teco_facts.specs.Does.{Gives, Pops};
 ghost use Rattle.teco_rules.specs.Facts as rules;
 ghost use Rattle.teco_rules.specs.Storages as storages;
 
 use crate::facts::{Facts, Pushed};
+use crate::fault::Fault;
 use crate::storage::{not_of_library, with_number, with_text};
 use std::alloc::AllocError;
 use teco_base::Reg;
@@ -19,19 +20,16 @@ impl Facts {
         self.pushes.len()
     }
 
-    /// The pair that was pushed before so many others.
-    pub fn pushed_at(&self, at: usize) -> Pushed
-        requires { at < length self.now.pushes }
-        ensures { result ≡ slice_index_or self.now.pushes at result }
-    {
-        self.pushes[self.pushes.len() - 1 - at]
-    }
-
     // Takes the pair that was pushed last.
-    fn pop_pushed(&mut self) -> Option<Pushed>
+    fn pop_pushed(&mut self) -> Result<Option<Pushed>, AllocError>
         ensures { Pops self.old self.new result }
     {
-        self.pushes.pop()
+        let Some((pair, below)) = self.pushes.parts() else {
+            return Ok(None);
+        };
+        let pair = *pair;
+        self.pushes = below.copied()?;
+        Ok(Some(pair))
     }
 
     // Whether so many pairs are more than at the < of each open iteration.
@@ -55,31 +53,32 @@ pub fn push(register: Reg, mut facts: Facts) -> Result<Facts, AllocError>
         number: facts.number_of(register),
         text: facts.text_of(register),
     };
-    facts.pushes.push(pair)?;
+    facts.pushes = facts.pushes.copied()?.with(pair)?;
     Ok(facts)
 }
 
 // The pair is popped, but none from below the entry, or from below the < of an open iteration.
-fn with_popped(register: Reg, mut facts: Facts) -> Result<Facts, Refusal>
-    ensures { result ≡ storages.with_popped register facts.pushes facts }
+fn with_popped(register: Reg, mut facts: Facts) -> Result<Facts, Fault>
+    ensures { Gives (storages.with_popped register facts.pushes facts) result }
 {
     let above = facts.is_above(facts.pushed());
-    match facts.pop_pushed() {
-        None => Err(Refusal::Pop),
+    let popped = facts.pop_pushed()?;
+    match popped {
+        None => Err(Fault::Refused(Refusal::Pop)),
         Some(pair) => {
             if above {
                 let facts = with_number(register, pair.number, false, facts);
                 Ok(with_text(register, pair.text, facts))
             } else {
-                Err(Refusal::Pop)
+                Err(Fault::Refused(Refusal::Pop))
             }
         }
     }
 }
 
 /// A pair is popped into a register whose text is none of the library's.
-pub fn pop(library: bool, register: Reg, facts: Facts) -> Result<Facts, Refusal>
-    ensures { result ≡ storages.pop library register facts }
+pub fn pop(library: bool, register: Reg, facts: Facts) -> Result<Facts, Fault>
+    ensures { Gives (storages.pop library register facts) result }
 {
     not_of_library(library)?;
     with_popped(register, facts)
