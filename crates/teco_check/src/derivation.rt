@@ -183,7 +183,7 @@ fn begun(
     ensures { IfOk result (λ arrived. arrived ≡ arrived_at 1 (given.facts_given argument) (replicate count (Ok None))) }
 {
     let mut arrived = Arrived::new(alloc, count)?;
-    arrived.put(1, Facts::entry(alloc, argument))?;
+    arrived.put(1, Facts::entry(alloc, argument)?)?;
     Ok(arrived)
 }
 

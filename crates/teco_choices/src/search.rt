@@ -32,7 +32,7 @@ impl Search {
     fn new(alloc: Global, argument: Option<ArgumentRange>, nodes: usize) -> Result<Search, Unfit> {
         Ok(Search {
             alloc,
-            carried: Some(Facts::entry(alloc, argument)),
+            carried: Some(Facts::entry(alloc, argument)?),
             pending: Pending::new(alloc, nodes)?,
             memo: Memo::new(alloc, nodes)?,
             attempts: Vec::new(alloc),

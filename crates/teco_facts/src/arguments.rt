@@ -36,30 +36,22 @@ impl Model for Arguments {
 }
 
 impl Arguments {
-    /// Nothing is pending.
-    pub fn none(alloc: Global) -> Arguments
-        ensures { result ≡ rules.no_arguments }
-    {
-        Arguments {
-            level: Level::empty(),
-            outer: Stack::new(alloc),
-            settling: None,
-        }
-    }
-
-    /// Nothing is pending but the argument that is declared.
-    pub fn declared(alloc: Global, argument: Option<ArgumentRange>) -> Arguments
-        ensures { result ≡ (given.facts_given argument).arguments }
+    /// Nothing is pending but the argument that is declared, if there is memory.
+    pub fn declared(
+        alloc: Global,
+        argument: Option<ArgumentRange>,
+    ) -> Result<Arguments, AllocError>
+        ensures { IfOk result (λ arguments. arguments ≡ (given.facts_given argument).arguments) }
     {
         let level = match argument {
             None => Level::empty(),
             Some(range) => Level::of(Number::declared(range)),
         };
-        Arguments {
+        Ok(Arguments {
             level,
-            outer: Stack::new(alloc),
+            outer: Stack::new(alloc)?,
             settling: None,
-        }
+        })
     }
 
     /// The same arguments once more, if there is memory.

@@ -141,12 +141,15 @@ fn answer_copied(answer: &Option<Answer>) -> Option<Answer>
 }
 
 impl Facts {
-    /// Before the first element: nothing is pending but the argument that is declared, and N holds all.
-    pub fn entry(alloc: Global, argument: Option<ArgumentRange>) -> Facts
-        ensures { result ≡ given.facts_given argument }
+    /// Before the first element: nothing is pending but the argument that is declared, and N holds all. It is there if there is
+    /// memory.
+    pub fn entry(alloc: Global, argument: Option<ArgumentRange>) -> Result<Facts, AllocError>
+        ensures { IfOk result (λ facts. facts ≡ given.facts_given argument) }
     {
-        Facts {
-            arguments: Arguments::declared(alloc, argument),
+        let arguments = Arguments::declared(alloc, argument)?;
+        let pushes = Stack::new(alloc)?;
+        Ok(Facts {
+            arguments,
             answer: None,
             position: Position::start(),
             iterations: Few::empty(Iteration {
@@ -156,8 +159,8 @@ impl Facts {
             held: Poly::variable(),
             numbers: [Range::any(); REGISTERS],
             texts: [Poly::variable(); REGISTERS],
-            pushes: Stack::new(alloc),
-        }
+            pushes,
+        })
     }
 
     /// The same facts once more, if there is memory.

@@ -51,7 +51,7 @@ fn stepped(text: &[u8], at: usize, library: bool, facts: &Facts) -> Result<(Fact
 
 // The facts behind so many elements.
 fn behind(alloc: Global, text: &[u8], count: usize, library: bool) -> Result<Facts, Fault> {
-    let mut facts = Facts::entry(alloc, None);
+    let mut facts = Facts::entry(alloc, None)?;
     let mut at = 0;
     for _ in 0..count {
         let (after, next) = stepped(text, at, library, &facts)?;

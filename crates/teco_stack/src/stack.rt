@@ -6,13 +6,13 @@ use std::alloc::{AllocError, Global};
 use std::marker::Model;
 use std::rc::Rc;
 
-/// Items, the last of which stands on top. Copies share them, so that each takes as little time and memory as an empty one.
+/// Items, the last of which stands on top. Copies share them, so that each takes as little time and memory as one of a single item.
 #[cycle(stack)]
 #[derive(Drop)]
 pub struct Stack<T> {
     alloc: Global,
     height: usize,
-    top: Link<T>,
+    top: Box<Link<T>>,
 }
 
 #[cycle(stack)]
@@ -29,9 +29,9 @@ impl<T> Model for Stack<T> {
 
     ghost use Rattle.teco_stack.specs.Items.{items};
 
-    ghost view = { λ s. items s.top };
+    ghost view = { λ s. items s.top.value };
 
-    ghost invariant = { λ s. s.height ≡ length (items s.top) };
+    ghost invariant = { λ s. s.height ≡ length (items s.top.value) };
 
     ghost size = { length };
 
@@ -41,15 +41,16 @@ impl<T> Model for Stack<T> {
 }
 
 impl<T: Copy> Stack<T> {
-    /// A stack without items.
-    pub fn new(alloc: Global) -> Stack<T>
-        ensures { result ≡ [] }
+    /// A stack without items, if there is memory.
+    pub fn new(alloc: Global) -> Result<Stack<T>, AllocError>
+        ensures { IfOk result (λ stack. stack ≡ []) }
     {
-        Stack {
+        let top = Box::new(alloc, Link::End)?;
+        Ok(Stack {
             alloc,
             height: 0,
-            top: Link::End,
-        }
+            top,
+        })
     }
 
     /// How many items there are.
@@ -59,28 +60,27 @@ impl<T: Copy> Stack<T> {
         self.height
     }
 
-    /// The same items once more, unless there are too many copies to be counted.
+    /// The same items once more, if there is memory.
     pub fn copied(&self) -> Result<Stack<T>, AllocError>
         ensures { IfOk result (λ copy. copy ≡ self.now) }
     {
-        match &self.top {
-            Link::End => Ok(Stack::new(self.alloc)),
-            Link::More(item, below) => {
-                let below = below.clone()?;
-                Ok(Stack {
-                    alloc: self.alloc,
-                    height: self.height,
-                    top: Link::More(*item, below),
-                })
-            }
-        }
+        let link = match &*self.top {
+            Link::End => Link::End,
+            Link::More(item, below) => Link::More(*item, below.clone()?),
+        };
+        let top = Box::new(self.alloc, link)?;
+        Ok(Stack {
+            alloc: self.alloc,
+            height: self.height,
+            top,
+        })
     }
 
     /// The item on top, and those below.
     pub fn parts(&self) -> Option<(&T, &Stack<T>)>
         ensures { IsParted self.now result }
     {
-        match &self.top {
+        match &*self.top {
             Link::End => None,
             Link::More(item, below) => Some((item, below)),
         }
@@ -91,14 +91,14 @@ impl<T: Copy> Stack<T> {
         ensures { self.new ≡ [] }
     {
         self.height = 0;
-        self.top = Link::End;
+        *self.top = Link::End;
     }
 
-    /// The item on top, and the stack of those below, unless there are too many copies to be counted.
+    /// The item on top, and the stack of those below, if there is memory.
     pub fn into_parts(self) -> Result<Option<(T, Stack<T>)>, AllocError>
         ensures { IfOk result (λ parts. IsTakenApart self parts) }
     {
-        match self.top {
+        match Box::into_inner(self.top) {
             Link::End => Ok(None),
             Link::More(item, below) => match Rc::try_unwrap(below) {
                 Ok(below) => Ok(Some((item, below))),
@@ -117,10 +117,11 @@ impl<T: Copy> Stack<T> {
         let alloc = self.alloc;
         let height = self.height.checked_add(1).ok_or(AllocError)?;
         let below = Rc::new(alloc, self)?;
+        let top = Box::new(alloc, Link::More(item, below))?;
         Ok(Stack {
             alloc,
             height,
-            top: Link::More(item, below),
+            top,
         })
     }
 }

@@ -6,7 +6,7 @@ use std::test::*;
 
 // A stack of the numbers below one, the greatest on top.
 fn numbers(alloc: Global, count: u32) -> Result<Stack<u32>, AllocError> {
-    let mut stack = Stack::new(alloc);
+    let mut stack = Stack::new(alloc)?;
     for number in 0..count {
         stack = stack.with(number)?;
     }
