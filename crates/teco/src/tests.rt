@@ -1,12 +1,10 @@
 //! The words of the command line, and what is printed of refusals.
 use crate::arguments::Arguments;
-use crate::verdict::Verdict;
 use crate::words;
 use crate::words::WordsFault;
 use std::env::{Env, FillError};
 use std::test::Fail;
-use teco_base::Reg;
-use teco_rules::Refusal as Why;
+use teco_tools::Script;
 
 #[test]
 fn words_are_read(rt: HostRuntime) -> Result<(), Fail> {
@@ -21,7 +19,7 @@ fn words_are_read(rt: HostRuntime) -> Result<(), Fail> {
         (&["teco", "run", "--limit", "4294967296"], None, 2),
         (&["teco", "run", "--limit", "0"], None, 2),
         (&["teco", "run", "--limit", "x"], None, 2),
-        (&["teco", "run", "1"], None, 2),
+        (&["teco", "run", "--go"], None, 2),
         (&["teco", "go"], None, 2),
         (&["teco"], None, 2),
     ];
@@ -54,7 +52,7 @@ fn macros_are_named(rt: HostRuntime) -> Result<(), Fail> {
         let command = words::command(rt.alloc())?;
         let matches = command.try_get_matches_from(*words)?;
         let found = match matches.subcommand() {
-            Some((_, given)) => words::register(given).ok(),
+            Some((_, given)) => words::entry(given).ok(),
             None => None,
         };
         assert_eq!(rt; found.map(|register| register.name()), *name, "row {i}");
@@ -66,7 +64,7 @@ fn macros_are_named(rt: HostRuntime) -> Result<(), Fail> {
 fn words_are_missing(rt: HostRuntime) -> Result<(), Fail> {
     let rows: [&[&str]; 6] = [
         &["teco", "verify"],
-        &["teco", "verify", "LIB"],
+        &["teco", "explain"],
         &["teco", "verify", "LIB", "A", "CERT"],
         &["teco", "check", "LIB", "A"],
         &["teco", "apply", "LIB", "A", "IN"],
@@ -202,23 +200,42 @@ fn an_argument_may_be_left_out(rt: HostRuntime) -> Result<(), Fail> {
     Ok(())
 }
 
+// What a script is called in the rows below.
+fn name_of<'a>(script: &Script<'a>) -> &'a str {
+    match script {
+        Script::Stream => "stream",
+        Script::File(name) => name,
+        Script::Word(text) => text,
+    }
+}
+
+// Words behind run, and the scripts that they name.
 #[test]
-fn refusals_are_printed(rt: HostRuntime) -> Result<(), Fail> {
-    let rows: [(Why, Option<Reg>, usize, &str); 5] = [
-        (Why::Place, Reg::of(b'a'), 1, "refused X6 in A at 1"),
-        (Why::Bound, Reg::of(b'0'), 12, "refused X10 in 0 at 12"),
-        (Why::Overflow, Reg::of(b'Z'), 0, "refused X17 in Z at 0"),
-        (Why::Library, None, 3, "refused X1 at 3"),
-        (Why::Certificate, None, 0, "refused X18"),
+fn scripts_come_in_the_order_of_the_words(rt: HostRuntime) -> Result<(), Fail> {
+    let rows: [(&[&str], &[&str]); 4] = [
+        (&["teco", "run"], &["stream"]),
+        (&["teco", "run", "a", "-e", "1=", "b"], &["a", "1=", "b"]),
+        (
+            &["teco", "run", "-e", "1=", "-e", "2=", "a"],
+            &["1=", "2=", "a"],
+        ),
+        (
+            &["teco", "run", "--stop", "a", "b", "-e", "1="],
+            &["a", "b", "1="],
+        ),
     ];
-    for (i, (why, register, place, line)) in rows.iter().enumerate() {
-        let verdict = Verdict {
-            why: *why,
-            register: *register,
-            place: *place,
+    for (i, (words, names)) in rows.iter().enumerate() {
+        let command = words::command(rt.alloc())?;
+        let matches = command.try_get_matches_from(*words)?;
+        let Some((_, given)) = matches.subcommand() else {
+            return Err(WordsFault::Unknown)?;
         };
-        let printed = format!(in rt.alloc(); "{verdict}")?;
-        assert_eq!(rt; printed.as_str(), *line, "row {i}");
+        let scripts = words::scripts(rt.alloc(), given)?;
+        assert_eq!(rt; scripts.len(), names.len(), "row {i}");
+        for (at, script) in scripts.iter().enumerate() {
+            assert!(rt; at < names.len());
+            assert_eq!(rt; name_of(script), names[at], "row {i}");
+        }
     }
     Ok(())
 }

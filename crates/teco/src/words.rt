@@ -3,11 +3,13 @@ ghost use Rattle.std.specs.Prelude.{◌≤◌, IfOk, length};
 ghost use Rattle.teco_apply.specs.declared.editing.TheConstants.{NAME};
 
 use crate::arguments::Arguments;
-use clap::{Arg, ArgMatches, Command, value_parser};
+use clap::{Arg, ArgAction, ArgMatches, Command, value_parser};
 use std::alloc::{AllocError, Global};
 use teco_apply::NAME;
 use teco_base::Reg;
 use teco_base::bytes::ESC;
+use teco_source::Form;
+use teco_tools::{Escape, Script};
 use thiserror::Error;
 
 /// The step limit of each command string where no other is given.
@@ -15,6 +17,9 @@ const DEFAULT_LIMIT: &str = "100000000";
 
 /// The bytes that a command string may type, and that its calls may take, where no other number is given.
 const DEFAULT_MEMORY: &str = "1073741824";
+
+/// The character that is shown for ESC where no other is given.
+const DEFAULT_MARK: u8 = b'$';
 
 /// Why words are not obeyed.
 #[derive(Clone, Copy, Debug, Error)]
@@ -28,27 +33,27 @@ pub enum WordsFault {
     /// A file's name has an ESC in it, or is too long.
     #[error("a file's name holds no ESC and at most 4096 bytes")]
     FileName,
+    /// What stands for ESC is more than a character, or no ASCII.
+    #[error("--esc takes one ASCII character, or none")]
+    Escape,
+    /// A word is neither a code nor a refusal.
+    #[error("explain takes a code, as POP, or a refusal, as X7")]
+    Unknown,
 }
 
 /// The commands of the program and their options.
 pub fn command<'a>(alloc: Global) -> Result<Command<'a>, AllocError> {
-    let verify = Command::new(alloc, "verify").about("Prints the certificate of a macro");
-    let check = Command::new(alloc, "check").about("Checks a certificate");
-    let apply = Command::new(alloc, "apply").about("Edits a file by a verified macro");
     Command::new(alloc, "teco")
         .about("TECO, the Text Editor and Corrector")
         .version("0.1.0")
         .subcommand_required(true)
         .subcommand(run(alloc)?)?
-        .subcommand(of_macro(alloc, verify)?)?
-        .subcommand(of_macro(alloc, check)?.arg(file(alloc, "CERT", "A certificate"))?)?
-        .subcommand(
-            of_macro(alloc, apply)?
-                .arg(memory(alloc))?
-                .arg(argument(alloc))?
-                .arg(file(alloc, "IN", "The file that is read"))?
-                .arg(file(alloc, "OUT", "The file that is written"))?,
-        )
+        .subcommand(verify(alloc)?)?
+        .subcommand(check(alloc)?)?
+        .subcommand(apply(alloc)?)?
+        .subcommand(edit(alloc)?)?
+        .subcommand(show(alloc)?)?
+        .subcommand(explain(alloc)?)
 }
 
 // A session.
@@ -59,10 +64,135 @@ fn run<'a>(alloc: Global) -> Result<Command<'a>, AllocError> {
         .help("Steps that each command string may take, 1 to 4294967295")
         .value_parser(value_parser!(u32).range(1..))
         .default_value(DEFAULT_LIMIT);
+    let stop = Arg::new(alloc, "stop")
+        .long("stop")
+        .action(ArgAction::SetTrue)
+        .help("End with the first code, and drop an output that is open then");
+    let text = Arg::new(alloc, "text")
+        .short('e')
+        .value_name("TEXT")
+        .action(ArgAction::Append)
+        .help(
+            "Command strings in the readable form, with $ for ESC; the two ESC at the end may be left out",
+        );
+    let files = Arg::new(alloc, "FILE")
+        .num_args(0..)
+        .action(ArgAction::Append)
+        .help("Files of command strings; standard input where neither a file nor a text is given");
     Command::new(alloc, "run")
-        .about("Runs the command strings on standard input")
+        .about("Runs command strings on standard input, in files or in words")
+        .after_help(
+            "Examples:\n  teco run -e 'ERin$EWout$YJ<FSfoo$bar$;>EC'\n  teco run edit.tes\n  printf 'Iabc\\033HT\\033\\033' | teco run",
+        )
         .arg(limit)?
-        .arg(memory(alloc))
+        .arg(memory(alloc))?
+        .arg(stop)?
+        .arg(escape(alloc))?
+        .arg(text)?
+        .arg(files)
+}
+
+// Verifying a macro, or all of a library.
+fn verify<'a>(alloc: Global) -> Result<Command<'a>, AllocError> {
+    let register = Arg::new(alloc, "REGISTER").help(
+        "The register of the macro; each macro of LIB where it is left out",
+    );
+    Command::new(alloc, "verify")
+        .about("Prints the certificate of a macro, or a verdict on each macro of a library")
+        .after_help("Example:\n  teco verify trim.tes A")
+        .arg(file(alloc, "LIB", "A file of macros, or - for standard input"))?
+        .arg(register)?
+        .arg(escape(alloc))
+}
+
+// Checking a certificate.
+fn check<'a>(alloc: Global) -> Result<Command<'a>, AllocError> {
+    Command::new(alloc, "check")
+        .about("Checks a certificate")
+        .after_help(
+            "Example:\n  teco verify trim.tes A > trim.cert\n  teco check trim.tes A trim.cert",
+        )
+        .arg(file(alloc, "LIB", "A file of macros, or - for standard input"))?
+        .arg(register(alloc))?
+        .arg(file(alloc, "CERT", "A certificate"))?
+        .arg(escape(alloc))
+}
+
+// Editing a file.
+fn apply<'a>(alloc: Global) -> Result<Command<'a>, AllocError> {
+    Command::new(alloc, "apply")
+        .about("Edits a file by a verified macro")
+        .after_help("Example:\n  teco apply trim.tes A in.txt out.txt")
+        .arg(memory(alloc))?
+        .arg(argument(alloc))?
+        .arg(escape(alloc))?
+        .arg(file(alloc, "LIB", "A file of macros, or - for standard input"))?
+        .arg(register(alloc))?
+        .arg(file(alloc, "IN", "The file that is read"))?
+        .arg(file(alloc, "OUT", "The file that is written"))
+}
+
+// Editing files in place.
+fn edit<'a>(alloc: Global) -> Result<Command<'a>, AllocError> {
+    let dry = Arg::new(alloc, "dry-run")
+        .long("dry-run")
+        .action(ArgAction::SetTrue)
+        .help("Say which files would change, and change none");
+    let quiet = Arg::new(alloc, "quiet")
+        .long("quiet")
+        .action(ArgAction::SetTrue)
+        .help("Say nothing but what fails");
+    let files = Arg::new(alloc, "FILE")
+        .num_args(1..)
+        .action(ArgAction::Append)
+        .required(true)
+        .help("The files that are edited");
+    Command::new(alloc, "edit")
+        .about("Edits files in place by a verified macro; one that fails is left as it was")
+        .after_help(
+            "Examples:\n  teco edit --dry-run trim.tes A *.txt\n  teco edit trim.tes A *.txt",
+        )
+        .arg(memory(alloc))?
+        .arg(argument(alloc))?
+        .arg(escape(alloc))?
+        .arg(dry)?
+        .arg(quiet)?
+        .arg(file(alloc, "LIB", "A file of macros, or - for standard input"))?
+        .arg(register(alloc))?
+        .arg(files)
+}
+
+// Showing a text.
+fn show<'a>(alloc: Global) -> Result<Command<'a>, AllocError> {
+    let source = Arg::new(alloc, "source")
+        .long("source")
+        .action(ArgAction::SetTrue)
+        .help(
+            "Print a source that reads as the same bytes: readable, or with the character of --esc",
+        );
+    Command::new(alloc, "show")
+        .about("Prints a file of TECO text as its elements, safe for a terminal")
+        .after_help("Examples:\n  teco show trim.tec\n  teco show --source trim.tec > trim.tes")
+        .arg(source)?
+        .arg(escape(alloc))?
+        .arg(file(
+            alloc,
+            "FILE",
+            "A file of TECO text, or - for standard input",
+        ))
+}
+
+// Explaining a code or a refusal.
+fn explain<'a>(alloc: Global) -> Result<Command<'a>, AllocError> {
+    let word = Arg::new(alloc, "WORD")
+        .help("A code, as POP, or a refusal, as X7")
+        .required(true);
+    Command::new(alloc, "explain")
+        .about(
+            "Says what a code or a refusal means, with an example, and how to mend what causes it",
+        )
+        .after_help("Example:\n  teco explain X9")
+        .arg(word)
 }
 
 // The bytes that may be typed, and that calls may take.
@@ -84,19 +214,49 @@ fn argument<'a>(alloc: Global) -> Arg<'a> {
     )
 }
 
-// A command for a macro of a library.
-fn of_macro<'a>(alloc: Global, command: Command<'a>) -> Result<Command<'a>, AllocError> {
-    let register = Arg::new(alloc, "REGISTER")
+// What stands for ESC.
+fn escape<'a>(alloc: Global) -> Arg<'a> {
+    Arg::new(alloc, "esc").long("esc").value_name("C").help(
+        "The character that stands for ESC; none for the byte ESC itself. Without it files whose names end in .tes are readable: $ is ESC and ^$ a dollar",
+    )
+}
+
+// The register of the macro.
+fn register<'a>(alloc: Global) -> Arg<'a> {
+    Arg::new(alloc, "REGISTER")
         .help("The register of the macro")
-        .required(true);
-    command
-        .arg(file(alloc, "LIB", "A file of macros"))?
-        .arg(register)
+        .required(true)
 }
 
 // The name of a file.
 fn file<'a>(alloc: Global, id: &'a str, help: &'a str) -> Arg<'a> {
     Arg::new(alloc, id).help(help).required(true)
+}
+
+/// The scripts that are run, in the order of the words.
+pub fn scripts<'a>(alloc: Global, words: &ArgMatches<'a>) -> Result<Vec<Script<'a>>, AllocError> {
+    let files = words.get_strs("FILE").unwrap_or(&[]);
+    let texts = words.get_strs("text").unwrap_or(&[]);
+    let file_places = words.indices_of("FILE").unwrap_or(&[]);
+    let text_places = words.indices_of("text").unwrap_or(&[]);
+    let mut scripts = Vec::new(alloc);
+    let mut file = 0usize;
+    let mut text = 0usize;
+    for _ in 0..files.len().saturating_add(texts.len()) {
+        let file_place = file_places.get(file).copied().unwrap_or(usize::MAX);
+        let text_place = text_places.get(text).copied().unwrap_or(usize::MAX);
+        if file_place < text_place {
+            scripts.push(Script::File(files.get(file).copied().unwrap_or("")))?;
+            file = file.saturating_add(1);
+        } else {
+            scripts.push(Script::Word(texts.get(text).copied().unwrap_or("")))?;
+            text = text.saturating_add(1);
+        }
+    }
+    if scripts.is_empty() {
+        scripts.push(Script::Stream)?;
+    }
+    Ok(scripts)
 }
 
 /// The step limit.
@@ -116,11 +276,16 @@ pub fn word<'a>(words: &ArgMatches<'a>, id: &str) -> &'a str {
 }
 
 /// The register of the macro.
-pub fn register(words: &ArgMatches<'_>) -> Result<Reg, WordsFault> {
+pub fn entry(words: &ArgMatches<'_>) -> Result<Reg, WordsFault> {
     match word(words, "REGISTER").as_bytes() {
         [name] => Reg::of(*name).ok_or(WordsFault::Register),
         _ => Err(WordsFault::Register),
     }
+}
+
+/// Is a register named?
+pub fn names_register(words: &ArgMatches<'_>) -> bool {
+    words.get_str("REGISTER").is_some()
 }
 
 /// The argument of the macro, if one is given.
@@ -134,6 +299,34 @@ pub fn given(words: &ArgMatches<'_>) -> Result<Option<i32>, WordsFault> {
     match digits.parse() {
         Ok(number) => Ok(Some(number)),
         Err(_) => Err(WordsFault::Argument),
+    }
+}
+
+/// What stands for ESC.
+pub fn escape_of(words: &ArgMatches<'_>) -> Result<Escape, WordsFault> {
+    let Some(word) = words.get_str("esc") else {
+        return Ok(Escape::ByName);
+    };
+    match word.as_bytes() {
+        b"none" => Ok(Escape::Mark(ESC)),
+        [mark] if mark.is_ascii() => Ok(Escape::Mark(*mark)),
+        _ => Err(WordsFault::Escape),
+    }
+}
+
+/// The character that is shown for ESC.
+pub fn mark_of(escape: Escape) -> u8 {
+    match escape {
+        Escape::Mark(mark) if mark != ESC => mark,
+        _ => DEFAULT_MARK,
+    }
+}
+
+/// The form of a source that is printed.
+pub fn form_of_source(escape: Escape) -> Form {
+    match escape {
+        Escape::Mark(mark) => Form::Marked(mark),
+        Escape::ByName => Form::Readable,
     }
 }
 

@@ -12,7 +12,6 @@ use Rattle.teco_model.specs.declared.stop.Stop.{Stop}
 use Rattle.teco_pages.specs.Held.{Held, IsSameOutput}
 use Rattle.teco_pages.specs.HostFiles.{HostFiles}
 use Rattle.teco_paging.specs.Worlds.{world}
-use Rattle.teco_rules.specs.Printed.{Needs}
 use Rattle.teco_run.specs.Holdings.{Holdings, Joined}
 use Rattle.teco_session.proofs.Together.{Joined-then}
 use Rattle.teco_session.specs.Answers.{Said}
@@ -79,7 +78,7 @@ finishes call old new f g sink sunk result both (Then.stops other first) = Then.
 finishes call old new f g sink sunk result both (Then.goes_on mid count written first next) = Then.goes_on mid count written (answers call old mid f count sink written (Ok false) both first) next
 
 -- the run that opens them leaves them open
-leaves_open : (source target : List ℕ) → has_esc source ≡ false → has_esc target ≡ false → (old new : World) (f g : ℕ) (sink sunk : Option (List ℕ)) → AnswersText (opening source target) old new f g sink sunk (Ok false) → BothOpen new.files
+pub leaves_open : (source target : List ℕ) → has_esc source ≡ false → has_esc target ≡ false → (old new : World) (f g : ℕ) (sink sunk : Option (List ℕ)) → AnswersText (opening source target) old new f g sink sunk (Ok false) → BothOpen new.files
 leaves_open source target plain plain' old new f g sink sunk a =
     let both : BothOpen a.after.files = opens_both source target plain plain' old a.stop a.after a.ran (sym a.told) in
     subst (λ (w : World). BothOpen w.files) (sym a.stays) both

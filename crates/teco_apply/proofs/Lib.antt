@@ -1,4 +1,5 @@
 -- Lemmas of runs.
+mod ByPages
 mod Edits
 mod Opening
 mod Sure

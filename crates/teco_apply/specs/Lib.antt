@@ -1,3 +1,4 @@
 -- What the runs of verified macros do.
 pub mod Apply
+pub mod ByPages
 pub mod Sure

@@ -1,12 +1,14 @@
 //! Editing a file by a verified macro.
-ghost use Rattle.std.specs.Prelude.{◌≡◌, ◌≤◌, ◌↔◌, Err, IfOk, length, false};
+ghost use Rattle.std.specs.Prelude.{◌≡◌, ◌≤◌, ◌↔◌, ◌++◌, [], Err, IfOk, length, false};
 ghost use Rattle.teco_apply.specs.Apply as edit;
 ghost use Rattle.teco_apply.specs.Apply.{AnswersMacro, AnswersText, Applied, DropCounts, DropsIfCoded, EditCounts, Edits, Finishes, LineCounts, MacroStops, opening};
 ghost use Rattle.teco_apply.specs.Sure.{IsTaken};
 ghost use Rattle.teco_base.specs.declared.TheConstants.{LIMIT};
+ghost use Rattle.teco_model.specs.Session.{code_of, code_line, is_code};
 ghost use Rattle.teco_run.specs.Counts.{StopCounts};
 ghost use Rattle.teco_run.specs.Holdings.{Joined};
 ghost use Rattle.teco_session.specs.Answers.{Said};
+ghost use Rattle.teco_session.specs.Output.{Writes};
 ghost use Rattle.teco_session.specs.declared.fault.SessionFault.TheVariants as fault;
 
 #[cfg(test)]
@@ -20,16 +22,16 @@ use teco_base::Code;
 use teco_base::bytes::ESC;
 use teco_model::Stop;
 use teco_pages::Host;
-use teco_run::Machine;
-use teco_session::{Done, SessionFault, write_stop};
+use teco_run::{Machine, Stopped};
+use teco_session::{Done, Listener, SessionFault, Silent, write_stop};
 use teco_text::TextStore;
 use teco_verify::Verified;
 
 /// How many bytes the name of a file has, at most.
 pub const NAME: usize = 4096;
 
-// The command string that opens an input and an output, and reads the first page.
-fn opening(alloc: Global, source: &[u8], target: &[u8]) -> Result<Vec<u8>, AllocError>
+/// The command string that opens an input and an output, and reads the first page.
+pub fn opening(alloc: Global, source: &[u8], target: &[u8]) -> Result<Vec<u8>, AllocError>
     ensures { IfOk result (λ text. text.items ≡ opening source.now target.now) }
 {
     let mut text = Vec::new(alloc);
@@ -41,8 +43,8 @@ fn opening(alloc: Global, source: &[u8], target: &[u8]) -> Result<Vec<u8>, Alloc
     Ok(text)
 }
 
-// What stops a macro that is not run.
-fn stop_of(not_ready: NotReady) -> Stop
+/// What stops a macro that is not run.
+pub fn stop_of(not_ready: NotReady) -> Stop
     ensures { result ≡ edit.stop_of not_ready }
 {
     match not_ready {
@@ -89,12 +91,33 @@ fn answer_macro<T: TextStore, H: Host, W: Write>(
     write_stop(machine, stop, writer)
 }
 
-// Runs a command string, and writes what it types and its code line. Says whether there is such a line.
-fn answer_text<T: TextStore, H: Host, W: Write>(
+/// Writes what a run typed and its code line, which a listener hears. Says whether there is such a line.
+pub fn tell<T: TextStore, H: Host, W: Write, L: Listener<H>>(
+    machine: &mut Machine<T>,
+    text: &[u8],
+    stopped: &Stopped,
+    host: &H,
+    writer: &mut W,
+    listener: &mut L,
+) -> Result<bool, SessionFault>
+    ensures lines { Writes (W.contents writer.old) (W.contents writer.new)
+        (machine.old.kept.typed ++ code_line (code_of stopped.now.stop)) result }
+    ensures told { IfOk result (λ line. line ≡ is_code (code_of stopped.now.stop)) }
+    ensures taken { machine.new ≡ record machine.old { kept = record machine.old.kept { typed = [] } } }
+{
+    let line = write_stop(machine, stopped.stop, writer);
+    listener.stopped(text, stopped, machine, host);
+    line
+}
+
+/// Runs a command string, and writes what it types and its code line, which a listener hears. Says whether there is such a
+/// line.
+pub fn answer_text<T: TextStore, H: Host, W: Write, L: Listener<H>>(
     machine: &mut Machine<T>,
     text: &[u8],
     host: &mut H,
     writer: &mut W,
+    listener: &mut L,
 ) -> Result<bool, SessionFault>
     requires { length text.now ≤ LIMIT }
     ensures answers { Joined (λ old new. AnswersText text.now old new (H.failures host.old) (H.failures host.new)
@@ -102,8 +125,8 @@ fn answer_text<T: TextStore, H: Host, W: Write>(
         machine.old machine.new (H.files host.old) (H.files host.new) }
     ensures counted { LineCounts result (H.failures host.old) (H.failures host.new) }
 {
-    let stop = machine.run(text, u64::MAX, host);
-    write_stop(machine, stop, writer)
+    let stopped = machine.run_to_stop(text, u64::MAX, host);
+    tell(machine, text, &stopped, host, writer, listener)
 }
 
 // Runs the macro and then, but behind a code, what closes the output; what they type is written. Says whether there is a code.
@@ -121,7 +144,7 @@ fn finish<T: TextStore, H: Host, W: Write>(
     ensures counted { LineCounts result (H.failures host.old) (H.failures host.new) }
 {
     match answer_macro(machine, verified, given, host, writer) {
-        Ok(false) => answer_text(machine, b"EC", host, writer),
+        Ok(false) => answer_text(machine, b"EC", host, writer, &mut Silent),
         stopped => stopped,
     }
 }
@@ -142,14 +165,14 @@ fn edit<T: TextStore, H: Host, W: Write>(
         machine.old machine.new (H.files host.old) (H.files host.new) }
     ensures counted { LineCounts result (H.failures host.old) (H.failures host.new) }
 {
-    match answer_text(machine, opening, host, writer) {
+    match answer_text(machine, opening, host, writer, &mut Silent) {
         Ok(false) => finish(machine, verified, given, host, writer),
         stopped => stopped,
     }
 }
 
-// Drops the output behind a code.
-fn drop_if_coded<T: TextStore, H: Host>(
+/// Drops the output behind a code.
+pub fn drop_if_coded<T: TextStore, H: Host>(
     machine: &mut Machine<T>,
     line: Result<bool, SessionFault>,
     host: &mut H,

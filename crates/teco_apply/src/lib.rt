@@ -1,11 +1,16 @@
 //! Running verified macros.
 #![tactic(auto)]
 
+mod by_pages;
 mod editing;
+mod guard;
 mod ready;
 mod run;
+mod stages;
 
+pub use by_pages::{Edit, Edited, PAGES, Pages, edit_file};
 pub use editing::{NAME, apply};
+pub use guard::Guard;
 pub use ready::NotReady;
 pub use run::{run_verified, run_verified_with};
 

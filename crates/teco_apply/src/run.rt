@@ -1,6 +1,6 @@
 //! The run of a verified macro.
-ghost use Rattle.std.specs.Prelude.{◌≡◌, ◌↔◌, Some, None, IfOk, OnErr, IsTrue};
-ghost use Rattle.teco_apply.specs.Sure.{Answers, Calls, HasFiles, IsTaken, Runs, call_text as text_of_call};
+ghost use Rattle.std.specs.Prelude.{◌≡◌, ◌↔◌, Some, None, IfOk, OnOk, OnErr, IsTrue};
+ghost use Rattle.teco_apply.specs.Sure.{Answers, Calls, HasFiles, IsTaken, Runs, call_text as text_of_call, kept_loaded};
 ghost use Rattle.teco_expand.specs.Library.{IsLoaded};
 ghost use Rattle.teco_run.specs.Counts.{StopCounts};
 ghost use Rattle.teco_run.specs.Holdings.{Joined};
@@ -11,7 +11,7 @@ use teco_base::{Reg, decimal};
 use teco_expand::laws::{expansions_are_linked, loading_loads};
 use teco_model::Stop;
 use teco_pages::Host;
-use teco_run::Machine;
+use teco_run::{Machine, Stopped};
 use teco_table::laws::{runs_are_sure, runs_are_verified};
 use teco_text::TextStore;
 use teco_verify::Verified;
@@ -30,8 +30,8 @@ pub fn takes(verified: &Verified<'_>, given: Option<i32>) -> bool
     }
 }
 
-// The text that calls a macro.
-fn call_text(entry: Reg, given: Option<i32>) -> ArrayVec<u8, CALL>
+/// The text that calls a macro.
+pub fn call_text(entry: Reg, given: Option<i32>) -> ArrayVec<u8, CALL>
     ensures { result.items ≡ text_of_call entry given }
 {
     let mut text = ArrayVec::new();
@@ -45,19 +45,19 @@ fn call_text(entry: Reg, given: Option<i32>) -> ArrayVec<u8, CALL>
     text
 }
 
-// Calls a verified macro where its library is loaded, and the files that it needs are open.
-fn call_verified<T: TextStore, H: Host>(
+/// Calls a verified macro where its library is loaded, and the files that it needs are open.
+pub fn call_verified<T: TextStore, H: Host>(
     machine: &mut Machine<T>,
     verified: &Verified<'_>,
     given: Option<i32>,
     host: &mut H,
-) -> Stop
+) -> Stopped
     requires loaded { IsLoaded verified.now.library machine.old.kept }
     requires files { HasFiles verified.now.fields.needs machine.old.held }
     requires taken { IsTaken verified.now.fields.argument given }
-    ensures calls { Joined (Calls verified.now.fields given result)
+    ensures calls { Joined (Calls verified.now.fields given result.stop)
         machine.old machine.new (H.files host.old) (H.files host.new) }
-    ensures counted { StopCounts result (H.failures host.old) (H.failures host.new) }
+    ensures counted { StopCounts result.stop (H.failures host.old) (H.failures host.new) }
 {
     machine.is_whole();
     verified.is_certified();
@@ -67,7 +67,35 @@ fn call_verified<T: TextStore, H: Host>(
     let entry = verified.entry();
     entry.index();
     let call = call_text(entry, given);
-    machine.run(call.as_slice(), u64::MAX, host)
+    machine.run_to_stop(call.as_slice(), u64::MAX, host)
+}
+
+/// Loads the library of a verified macro, if it may be run with an argument, or with none. A refusal leaves all as it is.
+pub fn make_ready<T: TextStore>(
+    machine: &mut Machine<T>,
+    verified: &Verified<'_>,
+    given: Option<i32>,
+) -> Result<(), NotReady>
+    ensures answer { Answers (record { found = verified.now; given = given }) machine.old.held result }
+    ensures loaded { OnOk result (machine.new ≡
+        record machine.old { kept = kept_loaded verified.now.library machine.old.kept }) }
+    ensures ready { OnOk result (IsLoaded verified.now.library machine.new.kept) }
+    ensures err { OnErr result (machine.new ≡ machine.old) }
+{
+    let needs = verified.needs();
+    if needs.input && !machine.has_input() {
+        return Err(NotReady::NoInput);
+    }
+    if needs.output && !machine.has_output() {
+        return Err(NotReady::NoOutput);
+    }
+    if !takes(verified, given) {
+        return Err(NotReady::Argument);
+    }
+    machine.is_whole();
+    machine.load(verified.library().texts())?;
+    loading_loads();
+    Ok(())
 }
 
 /// Runs a verified macro with an argument, or with none.
@@ -84,20 +112,8 @@ pub fn run_given<T: TextStore, H: Host>(
     ensures machine { OnErr result (machine.new ≡ machine.old) }
     ensures host { OnErr result (host.new ≡ host.old) }
 {
-    let needs = verified.needs();
-    if needs.input && !machine.has_input() {
-        return Err(NotReady::NoInput);
-    }
-    if needs.output && !machine.has_output() {
-        return Err(NotReady::NoOutput);
-    }
-    if !takes(verified, given) {
-        return Err(NotReady::Argument);
-    }
-    machine.is_whole();
-    machine.load(verified.library().texts())?;
-    loading_loads();
-    Ok(call_verified(machine, verified, given, host))
+    make_ready(machine, verified, given)?;
+    Ok(call_verified(machine, verified, given, host).stop)
 }
 
 /// Runs a verified macro that takes no argument, over the files of a host: the texts of its library are loaded into their

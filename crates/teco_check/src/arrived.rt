@@ -1,11 +1,11 @@
 //! What has arrived at each node, as a table is derived.
-ghost use Rattle.std.specs.Prelude.{◌≡◌, ◌-◌, ◌<◌, ◌≤◌, replicate, length, slice_set, slice_index_or, IfOk, Ok, None};
+ghost use Rattle.std.specs.Prelude.{◌≡◌, ◌-◌, ◌<◌, ◌≤◌, replicate, length, slice_set, slice_index_or, IfOk, OnOk, Ok, None};
 ghost use Rattle.teco_check.specs.Derived as derived;
 
 use std::alloc::{AllocError, Global};
 use std::marker::Model;
 use std::mem;
-use teco_facts::Facts;
+use teco_facts::{Facts, Fault};
 use teco_rules::Refusal;
 
 /// For each node in the order of their numbers, what is known of all edges that arrived there, or why it is refused.
@@ -22,17 +22,22 @@ impl Model for Arrived {
     ghost view = { λ a. a.slots.items };
 }
 
-// One more edge arrives.
-fn met_more(slot: Result<Option<Facts>, Refusal>, facts: Facts) -> Result<Option<Facts>, Refusal>
-    ensures { result ≡ derived.met_more slot facts }
+// One more edge arrives, if there is memory.
+fn met_more(
+    slot: Result<Option<Facts>, Refusal>,
+    facts: Facts,
+) -> Result<Result<Option<Facts>, Refusal>, AllocError>
+    ensures { IfOk result (λ met. met ≡ derived.met_more slot facts) }
 {
-    match slot {
-        Err(why) => Err(why),
-        Ok(None) => Ok(Some(facts)),
-        Ok(Some(others)) => {
-            let join = others.joined(&facts)?;
-            Ok(Some(join))
-        }
+    let others = match slot {
+        Err(why) => return Ok(Err(why)),
+        Ok(None) => return Ok(Ok(Some(facts))),
+        Ok(Some(others)) => others,
+    };
+    match others.joined(&facts) {
+        Ok(join) => Ok(Ok(Some(join))),
+        Err(Fault::Refused(why)) => Ok(Err(why)),
+        Err(Fault::Memory) => Err(AllocError),
     }
 }
 
@@ -48,14 +53,15 @@ impl Arrived {
         Ok(Arrived { slots })
     }
 
-    /// An edge arrives at the node of a number, if there is one.
-    pub fn put(&mut self, target: usize, facts: Facts)
-        ensures { self.new ≡ derived.arrived_at target facts self.old }
+    /// An edge arrives at the node of a number, if there is one, and if there is memory.
+    pub fn put(&mut self, target: usize, facts: Facts) -> Result<(), AllocError>
+        ensures { OnOk result (self.new ≡ derived.arrived_at target facts self.old) }
     {
         if target > 0 && target <= self.slots.len() {
             let slot = mem::replace(&mut self.slots[target - 1], Ok(None));
-            self.slots[target - 1] = met_more(slot, facts);
+            self.slots[target - 1] = met_more(slot, facts)?;
         }
+        Ok(())
     }
 
     /// Takes out what arrived at the node of a number.

@@ -1,6 +1,7 @@
 //! What is known behind a node, on each of its ways.
-ghost use Rattle.std.specs.Prelude.{◌≡◌, ◌<◌, ◌≤◌, length, get_or, option_map, option_copied, Some};
+ghost use Rattle.std.specs.Prelude.{◌≡◌, ◌<◌, ◌≤◌, length, get_or, option_map, option_copied, Some, if◌then◌else◌};
 ghost use Rattle.teco_model.specs.Element as elements;
+ghost use Rattle.teco_rules.specs.Flows as flows;
 ghost use Rattle.teco_facts.specs.Does.{Gives};
 ghost use Rattle.teco_facts.specs.Placed.{seen};
 ghost use Rattle.teco_table.specs.Behind as rules;
@@ -9,7 +10,7 @@ ghost use Rattle.teco_check.specs.Kept.{AreKept};
 ghost use Rattle.teco_check.specs.Ways as ways;
 
 use crate::node::{colon, depth, element, inside, names_macro, way};
-use teco_facts::{Edges, Facts, Fault, Placed, transfer, transfer_return};
+use teco_facts::{Edges, Facts, Fault, Placed, return_from, transfer_from};
 use teco_model::Element;
 use teco_model::kind::{Flow, Kind};
 use teco_nodes::Nodes;
@@ -46,15 +47,15 @@ fn left_by(nodes: &Nodes<'_>, number: usize) -> usize
     depth(nodes, number).saturating_sub(after)
 }
 
-/// What is known behind it, if there is memory.
-pub fn edges_at(nodes: &Nodes<'_>, number: usize, facts: &Facts) -> Result<Edges, Fault>
+/// What is known behind it, from what is known there, which is taken; if there is memory.
+pub fn edges_from(nodes: &Nodes<'_>, number: usize, facts: Facts) -> Result<Edges, Fault>
     requires one { 0 < number }
     requires last { number ≤ length nodes.now }
-    requires kept { AreKept facts.now }
-    ensures { Gives (rules.edges_at nodes.now (node_at nodes.now number) facts.now) result }
+    requires kept { AreKept facts }
+    ensures { Gives (rules.edges_at nodes.now (node_at nodes.now number) facts) result }
 {
     match element(nodes, number) {
-        None => transfer_return(facts).map_err(|_| Fault::Memory),
+        None => Ok(return_from(facts)),
         Some(element) => {
             let placed = Placed {
                 element,
@@ -63,9 +64,20 @@ pub fn edges_at(nodes: &Nodes<'_>, number: usize, facts: &Facts) -> Result<Edges
                 colon: colon(nodes, number),
                 leaves: left_by(nodes, number),
             };
-            transfer(&placed, facts)
+            transfer_from(&placed, facts)
         }
     }
+}
+
+/// What is known behind it, if there is memory.
+pub fn edges_at(nodes: &Nodes<'_>, number: usize, facts: &Facts) -> Result<Edges, Fault>
+    requires one { 0 < number }
+    requires last { number ≤ length nodes.now }
+    requires kept { AreKept facts.now }
+    ensures { Gives (rules.edges_at nodes.now (node_at nodes.now number) facts.now) result }
+{
+    let here = facts.copied().map_err(|_| Fault::Memory)?;
+    edges_from(nodes, number, here)
 }
 
 // Whether a way of an element of flow takes the edge that goes on.
@@ -89,19 +101,36 @@ fn goes_on(kind: Kind, first: bool) -> bool
     }
 }
 
-/// What is known on a way.
+// Whether a way takes the edge that goes on.
 #[tactic(auto, using(crate::proofs::Ways::along_is))]
+fn takes_on(read: &Option<Element<'_>>, way: usize) -> bool
+    ensures { (edges : flows.Edges) → rules.along (option_map elements.seen read.now) way edges ≡ (if result then edges.on else edges.away) }
+{
+    match read {
+        None => true,
+        Some(element) => goes_on(element.kind, way == 0),
+    }
+}
+
+/// What is known on a way.
 pub fn along<'e>(read: &Option<Element<'_>>, way: usize, edges: &'e Edges) -> Option<&'e Facts>
     ensures { option_copied result ≡ rules.along (option_map elements.seen read.now) way edges.now }
 {
-    let on = match read {
-        None => true,
-        Some(element) => goes_on(element.kind, way == 0),
-    };
-    if on {
+    if takes_on(read, way) {
         edges.on.as_ref()
     } else {
         edges.away.as_ref()
+    }
+}
+
+/// Takes out what is known on a way.
+pub fn take_along(read: &Option<Element<'_>>, way: usize, edges: &mut Edges) -> Option<Facts>
+    ensures { result ≡ rules.along (option_map elements.seen read.now) way edges.old }
+{
+    if takes_on(read, way) {
+        edges.on.take()
+    } else {
+        edges.away.take()
     }
 }
 

@@ -180,7 +180,10 @@ pub fn check(
 ) -> Result<(), Bad>
     ensures { Says (rules.check argument nodes.now table.now) result }
 {
-    if !is_entry(alloc, argument, table.facts(1)) {
+    let Ok(begins) = is_entry(alloc, argument, table.facts(1)) else {
+        return Err(Bad::Memory);
+    };
+    if !begins {
         return Err(Bad::Edge { node: 1 });
     }
     for at in 0..nodes.len() {

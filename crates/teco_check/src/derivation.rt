@@ -1,9 +1,10 @@
 //! A table that is derived in one pass over the nodes, where what is chosen for the iterations is given.
-ghost use Rattle.std.specs.Prelude.{◌≡◌, ◌<◌, ◌≤◌, length, option_map, option_copied, IfOk, OnOk, None, Some};
+ghost use Rattle.std.specs.Prelude.{◌≡◌, ◌<◌, ◌≤◌, length, replicate, option_map, option_copied, IfOk, OnOk, None, Some, Ok};
 ghost use Rattle.teco_model.specs.Element as elements;
 ghost use Rattle.teco_table.specs.Deriving as rules;
 ghost use Rattle.teco_table.specs.Written as writing;
-ghost use Rattle.teco_check.specs.Derived.{arrived_all, Derives, DerivesFrom, DerivesRow};
+ghost use Rattle.teco_rules.specs.Argument as given;
+ghost use Rattle.teco_check.specs.Derived.{arrived_all, arrived_at, Derives, DerivesFrom, DerivesRow};
 ghost use Rattle.teco_check.specs.Here.{node_at};
 
 use crate::arrived::Arrived;
@@ -103,7 +104,7 @@ fn arrive_behind(
     for at in 0..ways(nodes, number) {
         if let Some(target) = way(nodes, number, at) {
             if let Some(facts) = arriving(nodes, number, choice, &read, at, edges)? {
-                arrived.put(target, facts);
+                arrived.put(target, facts)?;
             }
         }
     }
@@ -173,6 +174,19 @@ fn row_at(
     }
 }
 
+// Nothing but what is known at the entry has arrived at so many nodes, if there is memory.
+fn begun(
+    alloc: Global,
+    argument: Option<ArgumentRange>,
+    count: usize,
+) -> Result<Arrived, AllocError>
+    ensures { IfOk result (λ arrived. arrived ≡ arrived_at 1 (given.facts_given argument) (replicate count (Ok None))) }
+{
+    let mut arrived = Arrived::new(alloc, count)?;
+    arrived.put(1, Facts::entry(alloc, argument)?)?;
+    Ok(arrived)
+}
+
 /// The table that is derived with these choices, for an entry that takes the declared argument, if there is one. It takes about as
 /// long as there are nodes and registers.
 pub fn derive(
@@ -183,10 +197,9 @@ pub fn derive(
 ) -> Result<Table, NotDerived>
     ensures { Derives (rules.derive argument nodes.now chosen.now) result }
 {
-    let Ok(mut arrived) = Arrived::new(alloc, nodes.len()) else {
+    let Ok(mut arrived) = begun(alloc, argument, nodes.len()) else {
         return Err(NotDerived::Memory);
     };
-    arrived.put(1, Facts::entry(alloc, argument));
     let mut table = Table::new(alloc);
     for at in 0..nodes.len() {
         let row = row_at(nodes, chosen, at + 1, &mut arrived)?;

@@ -16,7 +16,7 @@ mod same;
 mod table;
 
 pub use bad::Bad;
-pub use behind::{along, begins_turn, edges_at};
+pub use behind::{along, begins_turn, edges_at, edges_from, take_along};
 pub use bodies::begins_iteration;
 pub use closed::check;
 pub use derivation::{NotDerived, derive};

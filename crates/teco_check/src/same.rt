@@ -1,8 +1,8 @@
 //! Facts that say the same, or less.
-ghost use Rattle.std.specs.Prelude.{◌≡◌, option_copied};
+ghost use Rattle.std.specs.Prelude.{◌≡◌, IfOk, option_copied};
 ghost use Rattle.teco_table.specs.Closed as rules;
 
-use std::alloc::Global;
+use std::alloc::{AllocError, Global};
 use teco_facts::Facts;
 use teco_rules::ArgumentRange;
 
@@ -13,14 +13,19 @@ pub fn say_same(one: &Facts, other: &Facts) -> bool
     one.covers(other) && other.covers(one)
 }
 
-/// Whether nothing is known at the entry but what is always known there, and the argument that is declared.
-pub fn is_entry(alloc: Global, argument: Option<ArgumentRange>, facts: Option<&Facts>) -> bool
-    ensures { result ≡ rules.is_entry argument (option_copied facts.entry) }
+/// Whether nothing is known at the entry but what is always known there, and the argument that is declared; told if there is memory.
+pub fn is_entry(
+    alloc: Global,
+    argument: Option<ArgumentRange>,
+    facts: Option<&Facts>,
+) -> Result<bool, AllocError>
+    ensures { IfOk result (λ yes. yes ≡ rules.is_entry argument (option_copied facts.entry)) }
 {
-    match facts {
+    let entry = Facts::entry(alloc, argument)?;
+    Ok(match facts {
         None => false,
-        Some(facts) => say_same(facts, &Facts::entry(alloc, argument)),
-    }
+        Some(facts) => say_same(facts, &entry),
+    })
 }
 
 /// Whether what is known at a node covers an edge.

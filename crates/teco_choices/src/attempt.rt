@@ -111,19 +111,37 @@ impl Attempt {
         }
     }
 
-    /// What the facts at the `>` say of this try. Where another choice is to be tried, it is made.
-    pub fn judged(&mut self, end: &Facts) -> Result<Verdict, Refusal> {
-        if let Some(why) = self.fault(end) {
-            return Err(why);
-        }
+    // Whether the choice stands.
+    fn stands(&self, end: &Facts) -> bool {
         let counted = self.is_counted();
-        if self.choice.stands(
+        self.choice.stands(
             &self.changes,
             counted,
             &self.turns,
             &self.entering,
             Some(end),
-        ) {
+        )
+    }
+
+    // The same. Where all pairs that were pushed lie at the same place, they need not be compared.
+    fn stands_here(&mut self, end: &mut Facts) -> bool {
+        if !self.entering.has_pushes_of(end) {
+            return self.stands(end);
+        }
+        let entering = self.entering.take_pushes();
+        let pushes = end.take_pushes();
+        let stands = self.stands(end);
+        self.entering.put_pushes(entering);
+        end.put_pushes(pushes);
+        stands
+    }
+
+    /// What the facts at the `>` say of this try. Where another choice is to be tried, it is made.
+    pub fn judged(&mut self, end: &mut Facts) -> Result<Verdict, Refusal> {
+        if let Some(why) = self.fault(end) {
+            return Err(why);
+        }
+        if self.stands_here(end) {
             return Ok(Verdict::Stands);
         }
         if self.tries >= TRIES {

@@ -4,6 +4,7 @@
 #![tactic(auto)]
 
 mod attempt;
+mod meeting;
 mod memo;
 mod named;
 mod pending;

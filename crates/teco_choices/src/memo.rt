@@ -89,7 +89,10 @@ impl Body {
             written: self.others(),
             ends: false,
         };
-        Ok(body_start(&choice, &changes, entering.copied()?))
+        let mut start = body_start(&choice, &changes, entering.copied()?);
+        // Pairs that were pushed before it cannot be popped in it, and how many there are stands with the iteration.
+        let _pushes = start.take_pushes();
+        Ok(start)
     }
 
     // A choice that was found, with the texts that the body does not name as they are now.

@@ -8,7 +8,7 @@ use teco_facts::Facts;
 struct Arrival {
     target: usize,
     // until its node is passed
-    facts: Option<Box<Facts>>,
+    facts: Option<Facts>,
     // the place of the one before it that leads to the same node
     before: Option<usize>,
 }
@@ -61,7 +61,7 @@ impl Pending {
     pub fn put(&mut self, target: usize, facts: Facts) -> Result<(), AllocError> {
         let place = self.arrivals.len();
         let before = self.newest_at(target);
-        let facts = Some(Box::new(self.alloc, facts)?);
+        let facts = Some(facts);
         self.arrivals.push(Arrival {
             target,
             facts,
@@ -72,7 +72,7 @@ impl Pending {
     }
 
     /// Takes out what is known on the edges to a node, from the last that came to the first.
-    pub fn take(&mut self, number: usize) -> Result<Vec<Box<Facts>>, AllocError> {
+    pub fn take(&mut self, number: usize) -> Result<Vec<Facts>, AllocError> {
         let mut taken = Vec::new(self.alloc);
         let mut at = self.newest_at(number);
         self.set_newest(number, None);

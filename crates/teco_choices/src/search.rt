@@ -1,15 +1,19 @@
 //! The pass over the nodes that finds the choices.
 ghost use Rattle.std.specs.Prelude.{◌<◌, ◌≤◌, length, IfOk};
+ghost use Rattle.teco_check.specs.Kept.{AreKept};
 
 use crate::attempt::{Attempt, Verdict};
+use crate::meeting::met;
 use crate::memo::Memo;
 use crate::pending::Pending;
 use crate::unfit::Unfit;
 use std::alloc::Global;
 use teco_certificate::LoopLine;
-use teco_check::{along, are_kept, begins_iteration, begins_turn, edges_at};
+use teco_check::{are_kept, begins_iteration, begins_turn, edges_from, take_along};
 use teco_facts::{Edges, Facts, turns};
+use teco_model::Element;
 use teco_nodes::Nodes;
+use teco_poly::Poly;
 use teco_rules::{ArgumentRange, Refusal};
 
 // How often the body of the innermost of six iterations may be passed: three times for each of them.
@@ -32,7 +36,7 @@ impl Search {
     fn new(alloc: Global, argument: Option<ArgumentRange>, nodes: usize) -> Result<Search, Unfit> {
         Ok(Search {
             alloc,
-            carried: Some(Facts::entry(alloc, argument)),
+            carried: Some(Facts::entry(alloc, argument)?),
             pending: Pending::new(alloc, nodes)?,
             memo: Memo::new(alloc, nodes)?,
             attempts: Vec::new(alloc),
@@ -46,12 +50,12 @@ impl Search {
         let mut known: Option<Facts> = None;
         for _ in 0..arrived.len() {
             if let Some(facts) = arrived.pop() {
-                known = Some(joined(known, Box::into_inner(facts), number)?);
+                known = Some(joined(self.alloc, known, facts, number)?);
             }
         }
         match self.carried.take() {
             None => Ok(known),
-            Some(last) => Ok(Some(joined(known, last, number)?)),
+            Some(last) => Ok(Some(joined(self.alloc, known, last, number)?)),
         }
     }
 
@@ -70,10 +74,9 @@ impl Search {
         &mut self,
         nodes: &Nodes<'_>,
         number: usize,
-        facts: &Facts,
+        turns: Poly,
         entering: Facts,
     ) -> Result<(), Unfit> {
-        let turns = turns(facts).map_err(|why| Unfit::at(why, number))?;
         self.memo.learn(nodes, number)?;
         let body = self.memo.body(nodes, number);
         let attempt = Attempt::first(number, &body, turns, entering)
@@ -84,24 +87,29 @@ impl Search {
         Ok(())
     }
 
-    // The > of the innermost try is passed: the choice stands, or the body is passed again. Answers whether it is.
-    fn turn(&mut self, number: usize, known: &Option<Facts>) -> Result<bool, Unfit> {
-        let Some(mut attempt) = self.attempts.pop() else {
-            return Ok(false);
-        };
-        if attempt.end != number {
-            self.attempts.push(attempt)?;
-            return Ok(false);
+    // The try whose > is passed, if that is the innermost.
+    fn ended(&mut self, number: usize) -> Option<Attempt> {
+        if self.attempts.last()?.end == number {
+            self.attempts.pop()
+        } else {
+            None
         }
+    }
+
+    // The > of the innermost try is passed: the choice stands, or the body is passed again, from the number that is answered.
+    fn turn(&mut self, number: usize, known: &mut Option<Facts>) -> Result<Option<usize>, Unfit> {
+        let Some(mut attempt) = self.ended(number) else {
+            return Ok(None);
+        };
         let verdict = match known {
             None => Verdict::Stands,
             Some(end) => attempt.judged(end).map_err(|why| Unfit::at(why, number))?,
         };
         match verdict {
             Verdict::Stands => self.settle(&attempt)?,
-            Verdict::Again => return self.again(attempt),
+            Verdict::Again => return Ok(Some(self.again(attempt)?)),
         }
-        Ok(false)
+        Ok(None)
     }
 
     // A choice is found; it stands before those for the iterations inside.
@@ -113,38 +121,60 @@ impl Search {
         Ok(())
     }
 
-    // The body is passed again, and all that came of it is dropped.
-    fn again(&mut self, attempt: Attempt) -> Result<bool, Unfit> {
+    // The body is passed again, from the number that is answered, and all that came of it is dropped.
+    fn again(&mut self, attempt: Attempt) -> Result<usize, Unfit> {
         self.pending.truncate(attempt.pending);
         self.found.truncate(attempt.found);
         self.carried = Some(attempt.start()?);
+        let begin = attempt.begin;
         self.attempts.push(attempt)?;
-        Ok(true)
+        Ok(begin.saturating_add(1))
     }
 
-    // Follows the ways of a node that is reached.
+    // Follows the ways of a node that is reached, but for those that begin a turn.
     fn depart(
         &mut self,
         nodes: &Nodes<'_>,
         number: usize,
-        facts: &Facts,
-        edges: Edges,
+        read: &Option<Element<'_>>,
+        edges: &mut Edges,
     ) -> Result<(), Unfit>
         requires one { 0 < number }
         requires last { number ≤ length nodes.now }
     {
-        let read = nodes.element(number);
         for at in 0..nodes.ways(number) {
-            if begins_turn(&read, at) {
+            if begins_turn(read, at) {
                 continue;
             }
-            if let (Some(target), Some(edge)) = (nodes.way(number, at), along(&read, at, &edges)) {
-                self.arrive(number, target, edge.copied()?)?;
+            let Some(target) = nodes.way(number, at) else {
+                continue;
+            };
+            if let Some(edge) = take_along(read, at, edges) {
+                self.arrive(number, target, edge)?;
             }
         }
-        let Edges { on, away: _ } = edges;
-        match on {
-            Some(entering) if begins_iteration(&read) => self.begin(nodes, number, facts, entering),
+        Ok(())
+    }
+
+    // Goes on from a node that is reached.
+    fn go_on(&mut self, nodes: &Nodes<'_>, number: usize, facts: Facts) -> Result<(), Unfit>
+        requires one { 0 < number }
+        requires last { number ≤ length nodes.now }
+        requires kept { AreKept facts }
+    {
+        let read = nodes.element(number);
+        let turns = if begins_iteration(&read) {
+            Some(turns(&facts))
+        } else {
+            None
+        };
+        let mut edges = edges_from(nodes, number, facts).map_err(|fault| Unfit::by(fault, number))?;
+        self.depart(nodes, number, &read, &mut edges)?;
+        match (edges.on.take(), turns) {
+            (Some(entering), Some(turns)) => {
+                let turns = turns.map_err(|why| Unfit::at(why, number))?;
+                self.begin(nodes, number, turns, entering)
+            }
             _ => Ok(()),
         }
     }
@@ -155,27 +185,25 @@ impl Search {
         requires last { number ≤ length nodes.now }
         ensures { IfOk result (λ next. 0 < next) }
     {
-        let known = self.met(number)?;
-        let begin = self.attempts.last().map(|attempt| attempt.begin);
-        if let (true, Some(begin)) = (self.turn(number, &known)?, begin) {
-            return Ok(begin.saturating_add(1));
+        let mut known = self.met(number)?;
+        if let Some(next) = self.turn(number, &mut known)? {
+            return Ok(next.max(1));
         }
         if let Some(facts) = known {
             if !are_kept(&facts) {
                 return Err(Unfit::at(Refusal::Bound, number));
             }
-            let edges = edges_at(nodes, number, &facts).map_err(|fault| Unfit::by(fault, number))?;
-            self.depart(nodes, number, &facts, edges)?;
+            self.go_on(nodes, number, facts)?;
         }
         Ok(number.saturating_add(1))
     }
 }
 
 // What is known where another edge leads to a node.
-fn joined(known: Option<Facts>, more: Facts, number: usize) -> Result<Facts, Unfit> {
+fn joined(alloc: Global, known: Option<Facts>, more: Facts, number: usize) -> Result<Facts, Unfit> {
     match known {
         None => Ok(more),
-        Some(facts) => facts.joined(&more).map_err(|why| Unfit::at(why, number)),
+        Some(facts) => met(alloc, facts, more).map_err(|fault| Unfit::by(fault, number)),
     }
 }
 

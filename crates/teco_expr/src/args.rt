@@ -117,6 +117,13 @@ impl Args {
         };
     }
 
+    /// The value so far in the innermost level, if there is one.
+    pub fn value_so_far(&self) -> Option<i32>
+        ensures { result ≡ self.now.level.value }
+    {
+        self.level.value
+    }
+
     /// Takes the value that stands in the innermost level, with no operator behind it, and what else is pending there; `None`
     /// where none stands, and then nothing changes.
     #[inline(always)]

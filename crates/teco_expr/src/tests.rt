@@ -75,12 +75,14 @@ fn rows_of_arguments(rt: HostRuntime) -> Result<(), Fail> {
     }
     arguments.drop_all();
     assert_eq!(rt; arguments.take_standing(), None);
+    assert_eq!(rt; arguments.value_so_far(), None);
     assert!(rt; arguments.digit_run(b"4294967298").is_ok());
     assert_eq!(rt; arguments.take_standing(), Some(2));
     assert_eq!(rt; arguments.take_standing(), None);
     assert!(rt; arguments.value(2).is_ok());
     assert!(rt; arguments.op(Operator::Plus).is_ok());
     assert_eq!(rt; arguments.take_standing(), None);
+    assert_eq!(rt; arguments.value_so_far(), Some(2));
     assert!(rt; arguments.value(3).is_ok());
     assert_eq!(rt; taken(&rt, &mut arguments, b""), Ok((None, Some(5))));
     // an answer takes the place of what is pending

@@ -8,3 +8,5 @@ pub mod Popping
 pub mod Each
 pub mod Unknown
 pub mod Joins
+pub mod Settles
+pub mod Pairs

@@ -1,15 +1,17 @@
 -- What a call did, beside the definition.
 use Rattle.std.specs.Prelude.{◌≡◌, [], ◌∷◌, Option, Some, None, Result, Ok, Err}
+use Rattle.std.specs.declared.alloc.AllocError.{AllocError}
 use Rattle.teco_rules.specs.declared.refusal.Refusal.{Refusal}
 use Rattle.teco_rules.specs.Arguments.{KnownArguments}
 use Rattle.teco_rules.specs.Facts.{Pushed, Facts}
 use Rattle.teco_facts.specs.declared.fault.Fault.{Fault}
 use Rattle.teco_facts.specs.declared.fault.Fault.TheVariants as fault
 
--- it left what the definition says, or is its refusal
-abbrev pub Closes : Result KnownArguments Refusal → KnownArguments → Result (Unit {0}) Refusal → Type 0
+-- it left what the definition says, or is its refusal, or memory was refused
+abbrev pub Closes : Result KnownArguments Refusal → KnownArguments → Result (Unit {0}) Fault → Type 0
 Closes defined new (Ok done) = defined ≡ Ok new
-Closes defined new (Err why) = defined ≡ Err why
+Closes defined new (Err (fault.Refused why)) = defined ≡ Err why
+Closes defined new (Err fault.Memory) = Unit {0}
 
 -- it is what the definition says, or its refusal, or memory was refused
 abbrev pub Gives : {X : Type 0} → Result X Refusal → Result X Fault → Type 0
@@ -17,7 +19,8 @@ Gives defined (Ok x) = defined ≡ Ok x
 Gives defined (Err (fault.Refused why)) = defined ≡ Err why
 Gives defined (Err fault.Memory) = Unit {0}
 
--- the pair that was pushed last is gone, or there was none
-abbrev pub Pops : Facts → Facts → Option Pushed → Type 0
-Pops old new None = old.pushes ≡ []
-Pops old new (Some pair) = (old.pushes ≡ pair ∷ new.pushes) × (new ≡ record old { pushes = new.pushes })
+-- the pair that was pushed last is gone, or there was none, or memory was refused
+abbrev pub Pops : Facts → Facts → Result (Option Pushed) AllocError → Type 0
+Pops old new (Ok None) = old.pushes ≡ []
+Pops old new (Ok (Some pair)) = (old.pushes ≡ pair ∷ new.pushes) × (new ≡ record old { pushes = new.pushes })
+Pops old new (Err refused) = Unit {0}

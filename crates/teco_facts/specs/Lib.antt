@@ -7,3 +7,5 @@ pub mod Placed
 pub mod Room
 pub mod Chosen
 pub mod Joined
+pub mod Settled
+pub mod Pages

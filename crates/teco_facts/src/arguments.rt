@@ -1,44 +1,41 @@
 //! What is known of the pending arguments.
-ghost use Rattle.std.specs.Prelude.{◌≡◌, ◌<◌, IfOk, OnOk, length, slice_index_or};
+ghost use Rattle.std.specs.Prelude.{◌≡◌, IfOk, OnOk};
 ghost use Rattle.teco_rules.specs.Argument as given;
 ghost use Rattle.teco_rules.specs.Arguments as rules;
+ghost use Rattle.teco_rules.specs.Covers as covers;
 ghost use Rattle.teco_rules.specs.Joins as joins;
 ghost use Rattle.teco_facts.specs.Does.{Closes};
 
+use crate::fault::Fault;
 use crate::level::Level;
 use crate::margins::Margins;
 use crate::number::Number;
+use crate::settling::{Opened, Settling, both, covers_levels, settled, settled_again};
 use std::alloc::{AllocError, Global};
 use std::marker::Model;
 use teco_rules::{ArgumentRange, Refusal};
+use teco_stack::Stack;
 
-/// The innermost level, and those outside it, the innermost of which stands last.
+/// The innermost level, and those outside it.
 #[derive(Drop)]
 pub struct Arguments {
     level: Level,
-    outer: Vec<Level>,
+    // as they were when a parenthesis opened behind each
+    outer: Stack<Opened>,
+    // what has become of them since
+    settling: Option<Settling>,
 }
 
 impl Model for Arguments {
-    ghost use Rattle.std.specs.Prelude.{reverse};
+    ghost use Rattle.teco_facts.specs.Settled.{levels_since};
     ghost use Rattle.teco_rules.specs.Arguments.{KnownArguments};
 
     ghost Value = { KnownArguments };
 
-    ghost view = { λ a. record { level = a.level; outer = reverse a.outer.items } };
+    ghost view = { λ a. record { level = a.level; outer = levels_since a.settling a.outer } };
 }
 
 impl Arguments {
-    /// Nothing is pending.
-    pub fn none(alloc: Global) -> Arguments
-        ensures { result ≡ rules.no_arguments }
-    {
-        Arguments {
-            level: Level::empty(),
-            outer: Vec::new(alloc),
-        }
-    }
-
     /// Nothing is pending but the argument that is declared.
     pub fn declared(alloc: Global, argument: Option<ArgumentRange>) -> Arguments
         ensures { result ≡ (given.facts_given argument).arguments }
@@ -49,7 +46,8 @@ impl Arguments {
         };
         Arguments {
             level,
-            outer: Vec::new(alloc),
+            outer: Stack::new(alloc),
+            settling: None,
         }
     }
 
@@ -59,7 +57,8 @@ impl Arguments {
     {
         Ok(Arguments {
             level: self.level,
-            outer: self.outer.clone()?,
+            outer: self.outer.copied()?,
+            settling: self.settling,
         })
     }
 
@@ -83,26 +82,35 @@ impl Arguments {
     {
         self.level = Level::empty();
         self.outer.clear();
+        self.settling = None;
     }
 
     /// Opens a parenthesis, if there is memory.
+    #[tactic(auto, using(crate::proofs::Settles::as_opened))]
     pub fn open(&mut self) -> Result<(), AllocError>
         ensures { OnOk result (self.new ≡ rules.levels_after_open self.old) }
     {
-        self.outer.push(self.level)?;
+        let opened = Opened {
+            level: self.level,
+            below: self.settling,
+        };
+        self.outer = self.outer.copied()?.with(opened)?;
+        self.settling = None;
         self.level = Level::empty();
         Ok(())
     }
 
     /// Closes the innermost parenthesis, and gives its value outside.
-    pub fn close(&mut self, margins: Margins) -> Result<(), Refusal>
+    pub fn close(&mut self, margins: Margins) -> Result<(), Fault>
         ensures { Closes (rules.levels_closed_onto margins self.old.level self.old.outer) self.new result }
     {
-        let Some(outside) = self.outer.pop() else {
-            return Err(Refusal::Argument);
+        let Some(opened) = self.outer.pop()? else {
+            return Err(Fault::Refused(Refusal::Argument));
         };
+        let outside = settled(self.settling, opened.level);
         let value = self.level.inner()?;
         self.level = outside.given(value, margins)?;
+        self.settling = both(opened.below, self.settling);
         Ok(())
     }
 
@@ -128,32 +136,34 @@ impl Arguments {
         ensures { self.new ≡ rules.settled margins ends self.old }
     {
         self.level = self.level.settled(margins, ends);
-        for at in 0..self.outer.len() {
-            let level = self.outer[at];
-            self.outer[at] = level.settled(margins, ends);
-        }
+        self.settling = Some(settled_again(self.settling, margins, ends));
     }
 
-    /// How many parentheses are open.
-    pub fn depth(&self) -> usize
-        ensures { result ≡ length self.now.outer }
+    /// Whether each level outside the innermost covers that of an edge, of as many.
+    pub fn covers_outer(&self, edge: &Arguments, margins: Margins) -> bool
+        ensures { result ≡ covers.each_covers (covers.covers_level margins) self.now.outer edge.now.outer }
     {
-        self.outer.len()
+        covers_levels(
+            self.outer.chain(),
+            self.settling,
+            edge.outer.chain(),
+            edge.settling,
+            margins,
+        )
     }
 
-    /// The level outside so many others.
-    pub fn outer_at(&self, at: usize) -> Level
-        requires { at < length self.now.outer }
-        ensures { result ≡ slice_index_or self.now.outer at result }
+    // Whether no parenthesis is open.
+    fn is_alone(&self) -> bool
+        ensures { result ≡ joins.is_empty self.now.outer }
     {
-        self.outer[self.outer.len() - 1 - at]
+        self.outer.chain().parts().is_none()
     }
 
     /// Whether nothing is pending.
     pub fn none_pending(&self) -> Result<(), Refusal>
         ensures { result ≡ joins.none_pending self.now }
     {
-        if self.level.is_empty() && self.outer.is_empty() {
+        if self.level.is_empty() && self.is_alone() {
             Ok(())
         } else {
             Err(Refusal::Pending)

@@ -105,7 +105,7 @@ impl Facts {
     pub fn has_fallen(&self, least: u32) -> bool
         ensures { result ≡ bodies.has_own_fall least self.now.position }
     {
-        self.position.has_own_fall(least)
+        self.known.position.has_own_fall(least)
     }
 }
 
@@ -147,8 +147,8 @@ fn held_at_last(
 ) -> Result<Poly, Refusal>
     ensures { result ≡ chosen.held_at_last choice.now turns.now entering.now end.now }
 {
-    let growth = growth_of(&choice.held, &end.held)?;
-    held_last(&entering.held, turns, &growth)
+    let growth = growth_of(&choice.held, &end.known.held)?;
+    held_last(&entering.known.held, turns, &growth)
 }
 
 // Whether no more is held at the start of the last turn than was chosen.
@@ -166,7 +166,7 @@ impl Choice {
     pub fn begins(&self, entering: &Facts) -> bool
         ensures { result ≡ bodies.begins self.now entering.now }
     {
-        entering.held.le(&self.held) && covers_lengths(&self.texts, &entering.texts)
+        entering.known.held.le(&self.held) && covers_lengths(&self.texts, &entering.known.texts)
     }
 }
 
@@ -188,10 +188,10 @@ fn unknown_where(written: &[bool; REGISTERS], numbers: &[Range; REGISTERS]) -> [
 pub fn body_start(choice: &Choice, changes: &Changes, mut entering: Facts) -> Facts
     ensures { result ≡ bodies.body_start choice.now changes.now entering }
 {
-    entering.position = entering.position.at_start(choice, changes);
-    entering.held = choice.held;
-    entering.numbers = unknown_where(&changes.written, &entering.numbers);
-    entering.texts = choice.texts;
+    entering.known.position = entering.known.position.at_start(choice, changes);
+    entering.known.held = choice.held;
+    entering.known.numbers = unknown_where(&changes.written, &entering.known.numbers);
+    entering.known.texts = choice.texts;
     entering
 }
 
@@ -199,12 +199,12 @@ pub fn body_start(choice: &Choice, changes: &Changes, mut entering: Facts) -> Fa
 fn begins_again(choice: &Choice, changes: &Changes, entering: &Facts, end: &Facts) -> bool
     ensures { result ≡ bodies.begins_again (bodies.body_start choice.now changes.now entering.now) end.now }
 {
-    let numbers = unknown_where(&changes.written, &entering.numbers);
-    let saved = entering.position.saved_at_start(changes);
-    covers_numbers(&numbers, &end.numbers)
-        && covers_lengths(&choice.texts, &end.texts)
+    let numbers = unknown_where(&changes.written, &entering.known.numbers);
+    let saved = entering.known.position.saved_at_start(changes);
+    covers_numbers(&numbers, &end.known.numbers)
+        && covers_lengths(&choice.texts, &end.known.texts)
         && covers_pushes(entering, end)
-        && saved.covers(end.position.saved())
+        && saved.covers(end.known.position.saved())
 }
 
 impl Choice {
@@ -219,8 +219,8 @@ impl Choice {
     ) -> bool
         ensures { result ≡ bodies.returns self.now changes.now counted turns.now entering.now end.now }
     {
-        counts(counted, &end.position)
-            && keeps(self.kept, &end.position)
+        counts(counted, &end.known.position)
+            && keeps(self.kept, &end.known.position)
             && has_room(self, turns, entering, end)
             && begins_again(self, changes, entering, end)
     }

@@ -15,6 +15,7 @@ use crate::saved::covers_saved;
 use crate::whole::Whole;
 use teco_model::Operator;
 use teco_poly::Poly;
+use teco_stack::Chain;
 
 /// Whether a range is wider, or the same.
 pub fn covers_range(one: Range, edge: Range) -> bool
@@ -175,34 +176,32 @@ fn covers_iterations(one: &Few<Iteration>, edge: &Few<Iteration>) -> bool
     true
 }
 
-// Whether each outer level is covered, of as many.
-fn covers_outer(one: &Arguments, edge: &Arguments, margins: Margins) -> bool
-    ensures { result ≡ covers.each_covers (covers.covers_level margins) one.now.outer edge.now.outer }
+// Whether each pair is covered, of as many.
+fn covers_pairs(one: &Chain<Pushed>, edge: &Chain<Pushed>) -> bool
+    ensures { result ≡ covers.each_covers covers.covers_pushed one.now edge.now }
 {
-    if one.depth() != edge.depth() {
-        return false;
-    }
-    for at in (0..one.depth()).rev() {
-        if !one.outer_at(at).covers(edge.outer_at(at), margins) {
+    let mut one = one;
+    let mut edge = edge;
+    loop {
+        let Some((pair, one_below)) = one.parts() else {
+            return edge.parts().is_none();
+        };
+        let Some((arriving, edge_below)) = edge.parts() else {
+            return false;
+        };
+        if !covers_pushed(pair, arriving) {
             return false;
         }
+        one = one_below;
+        edge = edge_below;
     }
-    true
 }
 
 /// Whether each pushed pair is covered, of as many.
 pub fn covers_pushes(one: &Facts, edge: &Facts) -> bool
     ensures { result ≡ covers.each_covers covers.covers_pushed one.now.pushes edge.now.pushes }
 {
-    if one.pushed() != edge.pushed() {
-        return false;
-    }
-    for at in (0..one.pushed()).rev() {
-        if !covers_pushed(&one.pushed_at(at), &edge.pushed_at(at)) {
-            return false;
-        }
-    }
-    true
+    covers_pairs(one.known.pushes.chain(), edge.known.pushes.chain())
 }
 
 /// Whether each number is covered, of as many.
@@ -239,7 +238,7 @@ pub fn covers_lengths(one: &[Poly], edge: &[Poly]) -> bool
 fn covers_arguments(one: &Arguments, edge: &Arguments, margins: Margins) -> bool
     ensures { result ≡ covers.covers_arguments margins one.now edge.now }
 {
-    one.level().covers(edge.level(), margins) && covers_outer(one, edge, margins)
+    one.level().covers(edge.level(), margins) && one.covers_outer(edge, margins)
 }
 
 impl Position {
@@ -279,20 +278,23 @@ impl Facts {
     pub fn has_iterations_of(&self, edge: &Facts) -> bool
         ensures { result ≡ covers.each_covers covers.is_same_iteration self.now.iterations edge.now.iterations }
     {
-        covers_iterations(&self.iterations, &edge.iterations)
+        covers_iterations(&self.known.iterations, &edge.known.iterations)
     }
 
     /// Whether what is known here covers what is known at the end of an edge: it says no more.
     pub fn covers(&self, edge: &Facts) -> bool
         ensures { result ≡ covers.covers self.now edge.now }
     {
-        covers_arguments(&self.arguments, &edge.arguments, edge.position.margins())
-            && covers_answer(&self.answer, &edge.answer)
-            && self.position.covers(&edge.position)
-            && covers_iterations(&self.iterations, &edge.iterations)
-            && edge.held.le(&self.held)
-            && covers_numbers(&self.numbers, &edge.numbers)
-            && covers_lengths(&self.texts, &edge.texts)
+        covers_arguments(
+            &self.known.arguments,
+            &edge.known.arguments,
+            edge.known.position.margins(),
+        ) && covers_answer(&self.known.answer, &edge.known.answer)
+            && self.known.position.covers(&edge.known.position)
+            && covers_iterations(&self.known.iterations, &edge.known.iterations)
+            && edge.known.held.le(&self.known.held)
+            && covers_numbers(&self.known.numbers, &edge.known.numbers)
+            && covers_lengths(&self.known.texts, &edge.known.texts)
             && covers_pushes(self, edge)
     }
 }

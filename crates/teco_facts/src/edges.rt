@@ -142,18 +142,18 @@ fn facts_with_level(changed: Result<Level, Refusal>, facts: Facts) -> Result<Fac
 fn facts_after_open(mut facts: Facts) -> Result<Facts, AllocError>
     ensures { IfOk result (λ opened. opened ≡ known.with_arguments (arguments.levels_after_open facts.arguments) facts) }
 {
-    facts.arguments.open()?;
-    facts.answer = None;
+    facts.known.arguments.open()?;
+    facts.known.answer = None;
     Ok(facts)
 }
 
 // The facts behind a parenthesis that closes.
-fn facts_after_close(mut facts: Facts) -> Result<Facts, Refusal>
-    ensures { result ≡ rules.facts_after_levels (arguments.levels_closed_onto facts.position.distances facts.arguments.level facts.arguments.outer) facts }
+fn facts_after_close(mut facts: Facts) -> Result<Facts, Fault>
+    ensures { Gives (rules.facts_after_levels (arguments.levels_closed_onto facts.position.distances facts.arguments.level facts.arguments.outer) facts) result }
 {
     let margins = facts.margins();
-    facts.arguments.close(margins)?;
-    facts.answer = None;
+    facts.known.arguments.close(margins)?;
+    facts.known.answer = None;
     Ok(facts)
 }
 
@@ -171,7 +171,7 @@ fn facts_after_argument(argument: Argument, text: &[u8], facts: Facts) -> Result
         }
         Argument::Operate(operator) => facts_with_level(level.operating(operator), facts),
         Argument::Comma => facts_with_level(level.parted(margins), facts),
-        Argument::Close => facts_after_close(facts),
+        Argument::Close => return facts_after_close(facts),
         Argument::Open => return facts_after_open(facts).map_err(|_| Fault::Memory),
     };
     changed.map_err(Fault::Refused)
@@ -249,27 +249,38 @@ fn search_edges(
     search_outcomes(placed.colon, found, failed, again.taking())
 }
 
-// The edges behind an element of flow, from the same facts twice.
+// The edges behind an element of flow, if there is memory: one that may go two ways takes the facts twice.
 fn flow_edges(
     kind: Flow,
     colons: u8,
     leaves: usize,
     answer: &Option<Answer>,
     facts: Facts,
-    again: Facts,
-) -> Result<Edges, Refusal>
-    requires same { again ≡ facts }
+) -> Result<Edges, Fault>
     requires room { kind ≡ flow.Iterate → HasRoom facts }
-    ensures { result ≡ flows.flow_edges kind colons leaves answer.now facts }
+    ensures { Gives (flows.flow_edges kind colons leaves answer.now facts) result }
 {
     match kind {
-        Flow::Iterate => flow::iterate(facts, again),
-        Flow::EndTurn => flow::turn_end(facts, again),
-        Flow::Leave => flow::leave(colons, answer, facts, again),
-        Flow::Test(test) => flow::conditional(Numbers::holding(test), answer, facts, again),
+        Flow::Iterate => {
+            let again = facts.copied().map_err(|_| Fault::Memory)?;
+            flow::iterate(facts, again).map_err(Fault::Refused)
+        }
+        Flow::EndTurn => {
+            let again = facts.copied().map_err(|_| Fault::Memory)?;
+            flow::turn_end(facts, again).map_err(Fault::Refused)
+        }
+        Flow::Leave => {
+            let again = facts.copied().map_err(|_| Fault::Memory)?;
+            flow::leave(colons, answer, facts, again).map_err(Fault::Refused)
+        }
+        Flow::Test(test) => {
+            let again = facts.copied().map_err(|_| Fault::Memory)?;
+            let numbers = Numbers::holding(test);
+            flow::conditional(numbers, answer, facts, again).map_err(Fault::Refused)
+        }
         Flow::Otherwise | Flow::GoAhead(_) => Ok(Edges::away(facts)),
         Flow::EndTest | Flow::Comment => Ok(Edges::on(facts)),
-        Flow::GoTo => flow::go_to(leaves, facts),
+        Flow::GoTo => flow::go_to(leaves, facts).map_err(Fault::Refused),
     }
 }
 
@@ -294,7 +305,7 @@ fn stack_edges(kind: Stack, library: bool, facts: Facts) -> Result<Edges, Fault>
             Ok(facts) => Ok(Edges::on(facts)),
             Err(_) => Err(Fault::Memory),
         },
-        Stack::Pop(register) => on(stack::pop(library, register, facts)),
+        Stack::Pop(register) => on_with_memory(stack::pop(library, register, facts)),
     }
 }
 
@@ -306,14 +317,19 @@ fn file_edges(facts: &Facts) -> Result<Edges, Refusal>
     Err(Refusal::Unverified)
 }
 
-// The edges behind an element of a kind, from the same facts twice.
-fn edges_of(
-    placed: &Placed<'_>,
-    answer: &Option<Answer>,
-    facts: Facts,
-    again: Facts,
-) -> Result<Edges, Fault>
-    requires same { again ≡ facts }
+// The edges behind a search, if there is memory.
+fn edges_of_search(kind: Search, placed: &Placed<'_>, facts: Facts) -> Result<Edges, Fault>
+    requires small { AreSmall facts.position.falls }
+    requires within { length placed.now.element.text.now ≤ LIMIT }
+    requires second_within { length placed.now.element.second.now ≤ LIMIT }
+    ensures { Gives (rules.search_edges kind (seen placed.now) facts) result }
+{
+    let again = facts.copied().map_err(|_| Fault::Memory)?;
+    search_edges(kind, placed, facts, again).map_err(Fault::Refused)
+}
+
+// The edges behind an element of a kind, if there is memory.
+fn edges_of(placed: &Placed<'_>, answer: &Option<Answer>, facts: Facts) -> Result<Edges, Fault>
     requires small { AreSmall facts.position.falls }
     requires room { placed.now.element.kind ≡ kind.Flow flow.Iterate → HasRoom facts }
     requires within { length placed.now.element.text.now ≤ LIMIT }
@@ -330,23 +346,28 @@ fn edges_of(
         }
         Kind::Stack(kind) => stack_edges(kind, placed.library, facts),
         Kind::Call(_) => Ok(Edges::on(facts)),
-        Kind::Flow(kind) => flow_edges(
-            kind,
-            element.colons,
-            placed.leaves,
-            answer,
-            facts,
-            again,
-        ).map_err(Fault::Refused),
+        Kind::Flow(kind) => flow_edges(kind, element.colons, placed.leaves, answer, facts),
         Kind::Command(kind) => on(facts_after_command(kind, placed, facts)),
         Kind::Page(kind) => on(facts_after_page(kind, facts)),
-        Kind::Search(kind) => search_edges(kind, placed, facts, again).map_err(Fault::Refused),
+        Kind::Search(kind) => edges_of_search(kind, placed, facts),
         Kind::File(_) => file_edges(&facts).map_err(Fault::Refused),
     }
 }
 
-/// The edges behind an element, from what is known before it, if there is memory.
+/// The edges behind an element, from what is known before it, which is taken, if there is memory.
 #[tactic(auto, unfolding(teco_rules::specs::Transfer::transfer))]
+pub fn transfer_from(placed: &Placed<'_>, mut facts: Facts) -> Result<Edges, Fault>
+    requires small { AreSmall facts.position.falls }
+    requires room { placed.now.element.kind ≡ kind.Flow flow.Iterate → HasRoom facts }
+    requires within { length placed.now.element.text.now ≤ LIMIT }
+    requires second_within { length placed.now.element.second.now ≤ LIMIT }
+    ensures { Gives (rules.transfer (seen placed.now) facts) result }
+{
+    let answer = answer_for(&placed.element.kind, &mut facts);
+    edges_of(placed, &answer, facts)
+}
+
+/// The same, where what is known before it stays.
 pub fn transfer(placed: &Placed<'_>, facts: &Facts) -> Result<Edges, Fault>
     requires small { AreSmall facts.now.position.falls }
     requires room { placed.now.element.kind ≡ kind.Flow flow.Iterate → HasRoom facts.now }
@@ -354,16 +375,20 @@ pub fn transfer(placed: &Placed<'_>, facts: &Facts) -> Result<Edges, Fault>
     requires second_within { length placed.now.element.second.now ≤ LIMIT }
     ensures { Gives (rules.transfer (seen placed.now) facts.now) result }
 {
-    let mut here = facts.copied().map_err(|_| Fault::Memory)?;
-    let again = facts.copied().map_err(|_| Fault::Memory)?;
-    let answer = answer_for(&placed.element.kind, &mut here);
-    edges_of(placed, &answer, here, again.without_answer())
+    let here = facts.copied().map_err(|_| Fault::Memory)?;
+    transfer_from(placed, here)
 }
 
 /// The edge behind the end of a called text, which goes back and leaves the arguments.
+pub fn return_from(facts: Facts) -> Edges
+    ensures { result ≡ rules.transfer_return facts }
+{
+    Edges::on(facts.without_answer())
+}
+
+/// The same, where what is known there stays, if there is memory.
 pub fn transfer_return(facts: &Facts) -> Result<Edges, AllocError>
     ensures { IfOk result (λ edges. edges ≡ rules.transfer_return facts.now) }
 {
-    let here = facts.copied()?;
-    Ok(Edges::on(here.without_answer()))
+    Ok(return_from(facts.copied()?))
 }

@@ -21,6 +21,7 @@ use std::marker::Model;
 use teco_base::{REGISTERS, Reg};
 use teco_poly::Poly;
 use teco_rules::{ArgumentRange, Refusal};
+use teco_stack::Stack;
 
 /// The positions where a search found, and where it failed.
 #[derive(Drop)]
@@ -104,29 +105,36 @@ impl Model for Pushed {
     ghost inverse = { λ p. record { number = p.number; text = p.text } };
 }
 
-/// What is known before an element.
+/// What is known before an element. It lies on the heap, so that it moves without being copied.
 #[derive(Drop)]
 pub struct Facts {
-    pub(crate) arguments: Arguments,
-    pub(crate) answer: Option<Answer>,
-    pub(crate) position: Position,
-    pub(crate) iterations: Few<Iteration>,
-    pub(crate) held: Poly,
-    pub(crate) numbers: [Range; REGISTERS],
-    pub(crate) texts: [Poly; REGISTERS],
-    pub(crate) pushes: Vec<Pushed>,
+    pub(crate) alloc: Global,
+    pub(crate) known: Box<Known>,
+}
+
+// What facts say.
+#[derive(Drop)]
+pub(crate) struct Known {
+    pub arguments: Arguments,
+    pub answer: Option<Answer>,
+    pub position: Position,
+    pub iterations: Few<Iteration>,
+    pub held: Poly,
+    pub numbers: [Range; REGISTERS],
+    pub texts: [Poly; REGISTERS],
+    pub pushes: Stack<Pushed>,
 }
 
 impl Model for Facts {
-    ghost use Rattle.std.specs.Prelude.{◌≡◌, reverse, length};
+    ghost use Rattle.std.specs.Prelude.{◌≡◌, length};
     ghost use Rattle.teco_base.specs.declared.TheConstants.{REGISTERS};
     ghost use Rattle.teco_rules.specs.Facts as rules;
 
     ghost Value = { rules.Facts };
 
-    ghost view = { λ f. record { arguments = f.arguments; answer = f.answer; position = f.position; iterations = f.iterations; held = f.held; numbers = f.numbers; texts = f.texts; pushes = reverse f.pushes.items } };
+    ghost view = { λ f. let k = f.known.value in record { arguments = k.arguments; answer = k.answer; position = k.position; iterations = k.iterations; held = k.held; numbers = k.numbers; texts = k.texts; pushes = k.pushes } };
 
-    ghost invariant = { λ f. (length f.numbers ≡ REGISTERS) × (length f.texts ≡ REGISTERS) };
+    ghost invariant = { λ f. (length f.known.value.numbers ≡ REGISTERS) × (length f.known.value.texts ≡ REGISTERS) };
 }
 
 // The same answer once more, if there is one.
@@ -140,11 +148,12 @@ fn answer_copied(answer: &Option<Answer>) -> Option<Answer>
 }
 
 impl Facts {
-    /// Before the first element: nothing is pending but the argument that is declared, and N holds all.
-    pub fn entry(alloc: Global, argument: Option<ArgumentRange>) -> Facts
-        ensures { result ≡ given.facts_given argument }
+    /// Before the first element: nothing is pending but the argument that is declared, and N holds all. It is there if there is
+    /// memory.
+    pub fn entry(alloc: Global, argument: Option<ArgumentRange>) -> Result<Facts, AllocError>
+        ensures { IfOk result (λ facts. facts ≡ given.facts_given argument) }
     {
-        Facts {
+        let known = Known {
             arguments: Arguments::declared(alloc, argument),
             answer: None,
             position: Position::start(),
@@ -155,23 +164,30 @@ impl Facts {
             held: Poly::variable(),
             numbers: [Range::any(); REGISTERS],
             texts: [Poly::variable(); REGISTERS],
-            pushes: Vec::new(alloc),
-        }
+            pushes: Stack::new(alloc),
+        };
+        let known = Box::new(alloc, known)?;
+        Ok(Facts { alloc, known })
     }
 
     /// The same facts once more, if there is memory.
     pub fn copied(&self) -> Result<Facts, AllocError>
         ensures { IfOk result (λ copy. copy ≡ self.now) }
     {
+        let known = Known {
+            arguments: self.known.arguments.copied()?,
+            answer: answer_copied(&self.known.answer),
+            position: self.known.position.copied(),
+            iterations: self.known.iterations.copied(),
+            held: self.known.held,
+            numbers: self.known.numbers,
+            texts: self.known.texts,
+            pushes: self.known.pushes.copied()?,
+        };
+        let known = Box::new(self.alloc, known)?;
         Ok(Facts {
-            arguments: self.arguments.copied()?,
-            answer: answer_copied(&self.answer),
-            position: self.position.copied(),
-            iterations: self.iterations.copied(),
-            held: self.held,
-            numbers: self.numbers,
-            texts: self.texts,
-            pushes: self.pushes.clone()?,
+            alloc: self.alloc,
+            known,
         })
     }
 
@@ -179,49 +195,49 @@ impl Facts {
     pub fn margins(&self) -> Margins
         ensures { result ≡ self.now.position.distances }
     {
-        self.position.margins()
+        self.known.position.margins()
     }
 
     /// The innermost level of the arguments.
     pub fn level(&self) -> Level
         ensures { result ≡ self.now.arguments.level }
     {
-        self.arguments.level()
+        self.known.arguments.level()
     }
 
     /// How much is held.
     pub fn held(&self) -> Poly
         ensures { result ≡ self.now.held }
     {
-        self.held
+        self.known.held
     }
 
     /// How much is ahead.
     pub fn ahead(&self) -> Poly
         ensures { result ≡ self.now.position.ahead }
     {
-        self.position.ahead()
+        self.known.position.ahead()
     }
 
     /// The number of a register.
     pub fn number_of(&self, register: Reg) -> Range
         ensures { result ≡ rules.number_of register self.now }
     {
-        self.numbers[register.index()]
+        self.known.numbers[register.index()]
     }
 
     /// Whether the number of a register is saved.
     pub fn is_saved(&self, register: Reg) -> bool
         ensures { result ≡ rules.is_saved register self.now }
     {
-        self.position.saved().has(register)
+        self.known.position.saved().has(register)
     }
 
     /// The length of a register's text.
     pub fn text_of(&self, register: Reg) -> Poly
         ensures { result ≡ rules.text_of register self.now }
     {
-        self.texts[register.index()]
+        self.known.texts[register.index()]
     }
 
     /// The lengths of all registers' texts.
@@ -229,17 +245,17 @@ impl Facts {
         ensures value { result ≡ self.now.texts }
         ensures all { length result ≡ REGISTERS }
     {
-        self.texts
+        self.known.texts
     }
 
     /// The innermost open iteration.
     pub fn innermost(&self) -> Option<Iteration>
         ensures { result ≡ innermost self.now.iterations }
     {
-        if self.iterations.len() == 0 {
+        if self.known.iterations.len() == 0 {
             None
         } else {
-            Some(self.iterations.get(0))
+            Some(self.known.iterations.get(0))
         }
     }
 
@@ -248,14 +264,14 @@ impl Facts {
         ensures value { result ≡ self.old.answer }
         ensures left { self.new ≡ record self.old { answer = None } }
     {
-        self.answer.take()
+        self.known.answer.take()
     }
 
     /// The facts with no search's answer.
     pub fn without_answer(mut self) -> Facts
         ensures { result ≡ record self { answer = None } }
     {
-        self.answer = None;
+        self.known.answer = None;
         self
     }
 
@@ -263,8 +279,8 @@ impl Facts {
     pub fn without_arguments(mut self) -> Facts
         ensures { result ≡ rules.without_arguments self }
     {
-        self.arguments.drop_all();
-        self.answer = None;
+        self.known.arguments.drop_all();
+        self.known.answer = None;
         self
     }
 
@@ -272,8 +288,8 @@ impl Facts {
     pub fn taking(mut self) -> Facts
         ensures { result ≡ rules.with_arguments (arguments.levels_after_taking self.arguments) self }
     {
-        self.arguments.take();
-        self.answer = None;
+        self.known.arguments.take();
+        self.known.answer = None;
         self
     }
 
@@ -281,8 +297,8 @@ impl Facts {
     pub fn with_level(mut self, level: Level) -> Facts
         ensures { result ≡ rules.with_arguments (record self.arguments { level = level }) self }
     {
-        self.arguments.put(level);
-        self.answer = None;
+        self.known.arguments.put(level);
+        self.known.answer = None;
         self
     }
 
@@ -290,7 +306,7 @@ impl Facts {
     pub fn at_position(mut self, position: Position) -> Facts
         ensures { result ≡ rules.at_position position self }
     {
-        self.position = position;
+        self.known.position = position;
         self
     }
 
@@ -299,10 +315,11 @@ impl Facts {
         requires { AreSmall self.position.falls }
         ensures { result ≡ shifts.shifted shift.now self }
     {
-        let held = sum_of(&self.held, &shift.growth())?;
-        self.arguments.settle(self.position.margins(), shift.ends());
-        self.position = self.position.after(shift, held);
-        self.held = held;
+        let held = sum_of(&self.known.held, &shift.growth())?;
+        let margins = self.known.position.margins();
+        self.known.arguments.settle(margins, shift.ends());
+        self.known.position = self.known.position.after(shift, held);
+        self.known.held = held;
         Ok(self)
     }
 }
@@ -357,8 +374,8 @@ impl Foreseen {
         ensures { result ≡ shifts.facts_answered self }
     {
         let mut facts = self.facts;
-        facts.arguments.answer(self.answer);
-        facts.answer = None;
+        facts.known.arguments.answer(self.answer);
+        facts.known.answer = None;
         facts
     }
 }

@@ -1,4 +1,8 @@
 //! Why a call on facts gives none.
+ghost use Rattle.std.specs.Prelude.{◌≡◌};
+ghost use Rattle.teco_facts.specs.declared.fault.Fault.TheVariants as fault;
+
+use std::alloc::AllocError;
 use teco_rules::Refusal;
 
 /// Why there are no edges.
@@ -8,4 +12,20 @@ pub enum Fault {
     Refused(Refusal),
     /// A growth was refused.
     Memory,
+}
+
+impl From<Refusal> for Fault {
+    ghost from_gives = { λ why told. told ≡ fault.Refused why };
+
+    fn from(why: Refusal) -> Fault {
+        Fault::Refused(why)
+    }
+}
+
+impl From<AllocError> for Fault {
+    ghost from_gives = { λ _ told. told ≡ fault.Memory };
+
+    fn from(_refused: AllocError) -> Fault {
+        Fault::Memory
+    }
 }

@@ -67,10 +67,10 @@ impl Facts {
     pub fn leaving(mut self, count: usize) -> Facts
         ensures { result ≡ flows.leaving count self }
     {
-        self.arguments.drop_all();
-        self.answer = None;
-        self.position = self.position.leaving(count);
-        self.iterations.drop_front(count);
+        self.known.arguments.drop_all();
+        self.known.answer = None;
+        self.known.position = self.known.position.leaving(count);
+        self.known.iterations.drop_front(count);
         self
     }
 
@@ -78,7 +78,7 @@ impl Facts {
     pub fn open(&self) -> usize
         ensures { result ≡ length self.now.iterations }
     {
-        self.iterations.len()
+        self.known.iterations.len()
     }
 
     /// Whether more may be added to each fall.
@@ -86,7 +86,7 @@ impl Facts {
         ensures yes { IsTrue result → AreSmall self.now.position.falls }
         ensures no { AreSmall self.now.position.falls → IsTrue result }
     {
-        are_small(&self.position.falls)
+        are_small(&self.known.position.falls)
     }
 
     /// Whether one more iteration may be open.
@@ -94,7 +94,7 @@ impl Facts {
         ensures yes { IsTrue result → HasRoom self.now }
         ensures no { HasRoom self.now → IsTrue result }
     {
-        self.position.falls.len() < DEPTH && self.iterations.len() < DEPTH
+        self.known.position.falls.len() < DEPTH && self.known.iterations.len() < DEPTH
     }
 
     // The facts in the body of an iteration that begins.
@@ -103,9 +103,9 @@ impl Facts {
         requires iterations { length self.iterations < DEPTH }
         ensures { result ≡ flows.entering counted self }
     {
-        let pushes = self.pushes.len();
-        self.position = self.position.begun();
-        self.iterations.put(Iteration { counted, pushes });
+        let pushes = self.known.pushes.len();
+        self.known.position = self.known.position.begun();
+        self.known.iterations.put(Iteration { counted, pushes });
         self
     }
 }
@@ -199,7 +199,7 @@ pub fn iterate(facts: Facts, again: Facts) -> Result<Edges, Refusal>
 {
     let taken = facts.level().taken()?;
     let facts = facts.taking();
-    facts.arguments.none_pending()?;
+    facts.known.arguments.none_pending()?;
     let _most = turns_of(taken.value(), &facts)?;
     Ok(iteration(
         taken.value(),
@@ -213,15 +213,15 @@ pub fn turn_end(facts: Facts, again: Facts) -> Result<Edges, Refusal>
     requires same { again ≡ facts }
     ensures { result ≡ flows.turn_end facts.iterations facts }
 {
-    if facts.iterations.len() == 0 {
+    if facts.known.iterations.len() == 0 {
         return Err(Refusal::Partner);
     }
-    let on = if facts.iterations.get(0).counted {
+    let on = if facts.known.iterations.get(0).counted {
         Some(facts.leaving(1))
     } else {
         None
     };
-    let begun = again.position.turned();
+    let begun = again.known.position.turned();
     let again = again.without_arguments();
     Ok(Edges {
         on,

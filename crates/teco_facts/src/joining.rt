@@ -1,15 +1,19 @@
 //! Where ways meet: what is known on both.
-ghost use Rattle.std.specs.Prelude.{◌≡◌, ◌<◌, length, slice_set, Result, Ok, Err};
+ghost use Rattle.std.specs.Prelude.{◌≡◌, ◌++◌, ◌∷◌, [], length, IsTrue, IfOk, OnOk};
 ghost use Rattle.teco_base.specs.declared.TheConstants.{REGISTERS};
 ghost use Rattle.teco_rules.specs.Joins as joins;
+ghost use Rattle.teco_facts.specs.Does.{Gives};
 ghost use Rattle.teco_facts.specs.Joined as joined;
 
 use crate::facts::{Facts, Pushed};
+use crate::fault::Fault;
 use crate::position::join_of;
 use crate::range::Range;
+use std::alloc::{AllocError, Global};
 use teco_base::REGISTERS;
 use teco_poly::Poly;
 use teco_rules::Refusal;
+use teco_stack::{Chain, Stack};
 
 // The hull of two ranges.
 fn hull(one: Range, two: Range) -> Range
@@ -44,8 +48,8 @@ pub fn joined_lengths(
     Ok(joined)
 }
 
-// What is known of two pairs.
-fn joined_pair(one: &Pushed, two: &Pushed) -> Result<Pushed, Refusal>
+/// What is known of a pair on two ways.
+pub fn joined_pair(one: &Pushed, two: &Pushed) -> Result<Pushed, Refusal>
     ensures { result ≡ joins.joined_pair one.now two.now }
 {
     let text = join_of(&one.text, &two.text)?;
@@ -55,48 +59,94 @@ fn joined_pair(one: &Pushed, two: &Pushed) -> Result<Pushed, Refusal>
     })
 }
 
-impl Facts {
-    // Puts another pair in the place of the one that was pushed before so many others.
-    fn put_pushed(&mut self, at: usize, pair: Pushed)
-        requires { at < length self.old.pushes }
-        ensures { self.new ≡ record self.old { pushes = slice_set self.old.pushes at pair } }
-    {
-        let place = self.pushes.len() - 1 - at;
-        self.pushes[place] = pair;
-    }
+// Whether two pairs are the same.
+fn are_same(one: &Pushed, two: &Pushed) -> bool
+    ensures { IsTrue result → one.now ≡ two.now }
+{
+    one.number.is(two.number) && one.text == two.text
+}
 
-    // The facts with what is known of each pair on both ways, which meet with as many.
-    fn with_pushes_joined(mut self, other: &Facts) -> Result<Facts, Refusal>
-        ensures { result ≡ joined.with_pushes_joined self other.now }
+// These pairs on top of those of a stack, if there is memory.
+fn stacked(pairs: &[Pushed], below: Stack<Pushed>) -> Result<Stack<Pushed>, AllocError>
+    ensures { IfOk result (λ stack. stack ≡ pairs.now ++ below) }
+{
+    let mut stack = below;
+    for at in (0..pairs.len()).rev() {
+        stack = stack.with(pairs[at])?;
+    }
+    Ok(stack)
+}
+
+// Puts a pair behind others, if there is memory.
+fn put_pair(pairs: &mut Vec<Pushed>, pair: Pushed) -> Result<(), AllocError>
+    ensures { OnOk result (pairs.new.items ≡ pairs.old.items ++ pair ∷ []) }
+{
+    pairs.push(pair)?;
+    Ok(())
+}
+
+// What is known of each pair of two ways, which meet with as many. What lies below the last pair that is known less well than on
+// the first way is shared with that.
+fn joined_pairs(
+    alloc: Global,
+    first: &Chain<Pushed>,
+    second: &Chain<Pushed>,
+) -> Result<Stack<Pushed>, Fault>
+    ensures { Gives (joins.joined_pushes first.now second.now) result }
+{
+    let mut pairs = Vec::new(alloc);
+    let mut changed = 0;
+    let (mut one, mut two, mut shared) = (first, second, first);
+    while let Some((of_one, one_below)) = one.parts() {
+        let Some((of_two, two_below)) = two.parts() else {
+            return Err(Fault::Refused(Refusal::Pop));
+        };
+        let pair = joined_pair(of_one, of_two)?;
+        put_pair(&mut pairs, pair)?;
+        if !are_same(of_one, &pair) {
+            changed = pairs.len();
+            shared = one_below;
+        }
+        one = one_below;
+        two = two_below;
+    }
+    if two.parts().is_some() {
+        return Err(Fault::Refused(Refusal::Pop));
+    }
+    let below = Stack::of(alloc, shared)?;
+    Ok(stacked(&pairs[..changed], below)?)
+}
+
+impl Facts {
+    // The facts with what is known of each pair on both ways.
+    fn with_pushes_joined(mut self, other: &Facts) -> Result<Facts, Fault>
+        ensures { Gives (joined.with_pushes_joined self other.now) result }
     {
-        for at in 0..self.pushed().min(other.pushed()) {
-            let pair = joined_pair(&self.pushed_at(at), &other.pushed_at(at))?;
-            self.put_pushed(at, pair);
-        }
-        if self.pushed() == other.pushed() {
-            Ok(self)
-        } else {
-            Err(Refusal::Pop)
-        }
+        self.known.pushes = joined_pairs(
+            self.alloc,
+            self.known.pushes.chain(),
+            other.known.pushes.chain(),
+        )?;
+        Ok(self)
     }
 
     // The facts with what is known of the position, of what is held, and of the registers on both ways.
     fn with_rest_joined(mut self, other: &Facts) -> Result<Facts, Refusal>
         ensures { result ≡ joined.with_rest_joined self other.now }
     {
-        self.position = self.position.joined(&other.position)?;
-        self.held = join_of(&self.held, &other.held)?;
-        self.texts = joined_lengths(&self.texts, &other.texts)?;
-        self.numbers = hulls(&self.numbers, &other.numbers);
+        self.known.position = self.known.position.joined(&other.known.position)?;
+        self.known.held = join_of(&self.known.held, &other.known.held)?;
+        self.known.texts = joined_lengths(&self.known.texts, &other.known.texts)?;
+        self.known.numbers = hulls(&self.known.numbers, &other.known.numbers);
         Ok(self)
     }
 
     /// What is known where two ways meet: on both, with nothing pending.
-    pub fn joined(self, other: &Facts) -> Result<Facts, Refusal>
-        ensures { result ≡ joins.joined self other.now }
+    pub fn joined(self, other: &Facts) -> Result<Facts, Fault>
+        ensures { Gives (joins.joined self other.now) result }
     {
-        self.arguments.none_pending()?;
-        other.arguments.none_pending()?;
+        self.known.arguments.none_pending()?;
+        other.known.arguments.none_pending()?;
         let facts = self.with_pushes_joined(other)?;
         let facts = facts.with_rest_joined(other)?;
         Ok(facts.without_arguments())

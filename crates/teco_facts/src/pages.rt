@@ -2,6 +2,7 @@
 ghost use Rattle.std.specs.Prelude.{◌≡◌};
 ghost use Rattle.teco_rules.specs.Pages as pages;
 ghost use Rattle.teco_facts.specs.Numbers.{AreSmall};
+ghost use Rattle.teco_facts.specs.Pages as parts;
 
 use crate::facts::{Facts, Foreseen};
 use crate::level::Taken;
@@ -43,14 +44,25 @@ fn append(value: Option<Number>, facts: Facts) -> Result<Foreseen, Refusal>
     Foreseen::behind(&shift, facts)
 }
 
+// A part that is written leaves all as it is.
+fn part_left(
+    first: Option<Number>,
+    value: Option<Number>,
+    facts: Facts,
+) -> Result<Foreseen, Refusal>
+    ensures { result ≡ parts.part_left first value facts }
+{
+    part_named(first, value, facts.margins())?;
+    Ok(Foreseen::silent(facts))
+}
+
 // To the begin of another page, where nothing is saved; a part is written.
 fn turning(first: Option<Number>, value: Option<Number>, facts: Facts) -> Result<Foreseen, Refusal>
     requires { AreSmall facts.position.falls }
     ensures { result ≡ pages.turning first value facts }
 {
     if first.is_some() && value.is_some() {
-        part_named(first, value, facts.margins())?;
-        return Ok(Foreseen::silent(facts));
+        return part_left(first, value, facts);
     }
     some_pages(count_of(value, facts.margins()))?;
     Foreseen::behind(&Shift::moving(0, 0, Some(Whole::ZERO)).ending(), facts)
@@ -61,10 +73,9 @@ fn writing(first: Option<Number>, value: Option<Number>, facts: Facts) -> Result
     ensures { result ≡ pages.writing first value facts }
 {
     if first.is_some() && value.is_some() {
-        part_named(first, value, facts.margins())?;
-    } else {
-        some_pages(count_of(value, facts.margins()))?;
+        return part_left(first, value, facts);
     }
+    some_pages(count_of(value, facts.margins()))?;
     Ok(Foreseen::silent(facts))
 }
 

@@ -1,5 +1,5 @@
 //! Ranges of 32-bit numbers.
-ghost use Rattle.std.specs.Prelude.{◌≡◌, ◌≤ℤ◌, pos};
+ghost use Rattle.std.specs.Prelude.{◌≡◌, ◌≤ℤ◌, pos, IsTrue};
 ghost use Rattle.teco_rules.specs.Values as values;
 ghost use Rattle.teco_facts.specs.Numbers.{IsRange};
 
@@ -85,6 +85,13 @@ impl Range {
         ensures range { IsRange self.lo self.hi }
     {
         self.hi
+    }
+
+    /// Whether two ranges are the same.
+    pub fn is(self, other: Range) -> bool
+        ensures { IsTrue result → self ≡ other }
+    {
+        self.lo.is(other.lo) && self.hi.is(other.hi)
     }
 
     /// Whether there is one number alone.

@@ -104,11 +104,12 @@ fn position_failed_in(colons: u8, facts: &Facts) -> Position
     ensures { result ≡ searches.position_failed_in colons facts.now }
 {
     if colons >= 2 {
-        return facts.position.copied();
+        return facts.known.position.copied();
     }
     let margins = facts.margins();
     let fore = u64::from(margins.back()) + u64::from(margins.fore());
     facts
+        .known
         .position
         .after(&Shift::moving(0, fore, None), facts.held())
 }
@@ -120,6 +121,7 @@ pub fn position_failed(search: Search, colons: u8, facts: &Facts) -> Position
 {
     match search {
         Search::FindInPages | Search::ReplaceInPages => facts
+            .known
             .position
             .after(&Shift::moving(0, 0, None).ending(), facts.held()),
         Search::Find | Search::Replace => position_failed_in(colons, facts),
@@ -147,10 +149,13 @@ pub fn facts_found(
 pub fn facts_of_answer(mut found: Facts, failed: Position) -> Result<Facts, Refusal>
     ensures { result ≡ searched.facts_of_answer found failed }
 {
-    let position = found.position.joined(&failed)?;
-    found.arguments.answer(Some(Number::within(success())));
-    found.answer = Some(Answer::of(found.position.copied(), failed));
-    found.position = position;
+    let position = found.known.position.joined(&failed)?;
+    found
+        .known
+        .arguments
+        .answer(Some(Number::within(success())));
+    found.known.answer = Some(Answer::of(found.known.position.copied(), failed));
+    found.known.position = position;
     Ok(found)
 }
 

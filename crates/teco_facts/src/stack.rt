@@ -1,45 +1,62 @@
 //! The push-down list.
-ghost use Rattle.std.specs.Prelude.{◌≡◌, IfOk, ◌<◌, length, nat_lt, slice_index_or};
+ghost use Rattle.std.specs.Prelude.{◌≡◌, [], IfOk, length, nat_lt};
 ghost use Rattle.std.specs.List.{list_all};
-ghost use Rattle.teco_facts.specs.Does.{Pops};
+ghost use Rattle.teco_facts.specs.Does.{Gives, Pops};
 ghost use Rattle.teco_rules.specs.Facts as rules;
 ghost use Rattle.teco_rules.specs.Storages as storages;
 
 use crate::facts::{Facts, Pushed};
+use crate::fault::Fault;
 use crate::storage::{not_of_library, with_number, with_text};
 use std::alloc::AllocError;
+use std::mem;
 use teco_base::Reg;
 use teco_rules::Refusal;
+use teco_stack::Stack;
 
 impl Facts {
     /// How many pairs were pushed since the entry.
     pub fn pushed(&self) -> usize
         ensures { result ≡ length self.now.pushes }
     {
-        self.pushes.len()
+        self.known.pushes.len()
     }
 
-    /// The pair that was pushed before so many others.
-    pub fn pushed_at(&self, at: usize) -> Pushed
-        requires { at < length self.now.pushes }
-        ensures { result ≡ slice_index_or self.now.pushes at result }
+    /// Takes all pairs out that were pushed.
+    pub fn take_pushes(&mut self) -> Stack<Pushed>
+        ensures value { result ≡ self.old.pushes }
+        ensures left { self.new ≡ record self.old { pushes = [] } }
     {
-        self.pushes[self.pushes.len() - 1 - at]
+        let none = Stack::new(self.alloc);
+        mem::replace(&mut self.known.pushes, none)
+    }
+
+    /// Puts these pairs in the place of those that were pushed.
+    pub fn put_pushes(&mut self, pushes: Stack<Pushed>)
+        ensures { self.new ≡ record self.old { pushes = pushes } }
+    {
+        self.known.pushes = pushes;
+    }
+
+    /// Whether the pairs that were pushed lie at the same place as those of other facts, so that they need not be compared. No clause
+    /// says that they are then the same.
+    pub fn has_pushes_of(&self, other: &Facts) -> bool {
+        self.known.pushes.chain().is_at(other.known.pushes.chain())
     }
 
     // Takes the pair that was pushed last.
-    fn pop_pushed(&mut self) -> Option<Pushed>
+    fn pop_pushed(&mut self) -> Result<Option<Pushed>, AllocError>
         ensures { Pops self.old self.new result }
     {
-        self.pushes.pop()
+        self.known.pushes.pop()
     }
 
     // Whether so many pairs are more than at the < of each open iteration.
     fn is_above(&self, count: usize) -> bool
         ensures { result ≡ list_all (λ (i : rules.Iteration). nat_lt i.pushes count) self.now.iterations }
     {
-        for at in (0..self.iterations.len()).rev() {
-            if self.iterations.get(at).pushes >= count {
+        for at in (0..self.known.iterations.len()).rev() {
+            if self.known.iterations.get(at).pushes >= count {
                 return false;
             }
         }
@@ -55,31 +72,32 @@ pub fn push(register: Reg, mut facts: Facts) -> Result<Facts, AllocError>
         number: facts.number_of(register),
         text: facts.text_of(register),
     };
-    facts.pushes.push(pair)?;
+    facts.known.pushes = facts.known.pushes.copied()?.with(pair)?;
     Ok(facts)
 }
 
 // The pair is popped, but none from below the entry, or from below the < of an open iteration.
-fn with_popped(register: Reg, mut facts: Facts) -> Result<Facts, Refusal>
-    ensures { result ≡ storages.with_popped register facts.pushes facts }
+fn with_popped(register: Reg, mut facts: Facts) -> Result<Facts, Fault>
+    ensures { Gives (storages.with_popped register facts.pushes facts) result }
 {
     let above = facts.is_above(facts.pushed());
-    match facts.pop_pushed() {
-        None => Err(Refusal::Pop),
+    let popped = facts.pop_pushed()?;
+    match popped {
+        None => Err(Fault::Refused(Refusal::Pop)),
         Some(pair) => {
             if above {
                 let facts = with_number(register, pair.number, false, facts);
                 Ok(with_text(register, pair.text, facts))
             } else {
-                Err(Refusal::Pop)
+                Err(Fault::Refused(Refusal::Pop))
             }
         }
     }
 }
 
 /// A pair is popped into a register whose text is none of the library's.
-pub fn pop(library: bool, register: Reg, facts: Facts) -> Result<Facts, Refusal>
-    ensures { result ≡ storages.pop library register facts }
+pub fn pop(library: bool, register: Reg, facts: Facts) -> Result<Facts, Fault>
+    ensures { Gives (storages.pop library register facts) result }
 {
     not_of_library(library)?;
     with_popped(register, facts)

@@ -23,8 +23,8 @@ use teco_rules::Refusal;
 pub fn with_number(register: Reg, number: Range, saved: bool, mut facts: Facts) -> Facts
     ensures { result ≡ storages.with_number register number saved facts }
 {
-    facts.numbers[register.index()] = number;
-    facts.position = facts.position.saving(register, saved);
+    facts.known.numbers[register.index()] = number;
+    facts.known.position = facts.known.position.saving(register, saved);
     facts
 }
 
@@ -32,7 +32,7 @@ pub fn with_number(register: Reg, number: Range, saved: bool, mut facts: Facts) 
 pub fn with_text(register: Reg, length: Poly, mut facts: Facts) -> Facts
     ensures { result ≡ storages.with_text register length facts }
 {
-    facts.texts[register.index()] = length;
+    facts.known.texts[register.index()] = length;
     facts
 }
 

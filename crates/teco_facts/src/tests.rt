@@ -51,7 +51,7 @@ fn stepped(text: &[u8], at: usize, library: bool, facts: &Facts) -> Result<(Fact
 
 // The facts behind so many elements.
 fn behind(alloc: Global, text: &[u8], count: usize, library: bool) -> Result<Facts, Fault> {
-    let mut facts = Facts::entry(alloc, None);
+    let mut facts = Facts::entry(alloc, None)?;
     let mut at = 0;
     for _ in 0..count {
         let (after, next) = stepped(text, at, library, &facts)?;
@@ -143,5 +143,31 @@ fn turns_of_a_search_loop(rt: HostRuntime) {
             Err(_) => assert!(rt; false),
         },
         Err(_) => assert!(rt; false),
+    }
+}
+
+// The least that the value is that stands behind so many elements, if it is known that one does.
+fn least_standing(answer: Result<Facts, Fault>) -> Option<i64> {
+    match answer {
+        Ok(facts) => facts
+            .level()
+            .standing()
+            .map(|value| value.range(facts.margins()).lo().get()),
+        Err(_) => None,
+    }
+}
+
+#[test]
+fn outer_values_stay_where_the_pointer_was(rt: HostRuntime) {
+    // Three characters are before the pointer as the outermost value is given. The next one is given at the begin, and two are
+    // inserted behind it.
+    let rows: [(&[u8], usize, i64); 3] = [
+        (b"Iabc\x1b.+(J2)", 7, 5),
+        (b"Iabc\x1b.+(J.+(Iab\x1b2)", 11, 2),
+        (b"Iabc\x1b.+(J.+(Iab\x1b2))", 12, 5),
+    ];
+    for (text, count, want) in rows {
+        let least = least_standing(known(rt.alloc(), text, count, false));
+        assert_eq!(rt; least, Some(want));
     }
 }

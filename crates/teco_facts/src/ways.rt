@@ -228,6 +228,6 @@ fn position_by(
 pub fn way(numbers: Numbers, answer: &Option<Answer>, number: Number, facts: Facts) -> Option<Facts>
     ensures { result ≡ ways.way (seen numbers) answer.now number facts }
 {
-    let position = position_by(numbers, answer, number, &facts.position)?;
+    let position = position_by(numbers, answer, number, &facts.known.position)?;
     Some(facts.at_position(position))
 }

@@ -1,5 +1,5 @@
 -- The table of command strings has them.
-use Rattle.std.proofs.Common.{◌≡◌, refl, ℕ, zero, suc, ◌*◌, ◌<◌, List, take, drop, Bool, true, false, bytes_eq, ◌&&◌, codes, ⊎_elim, sym, ap, ◌∙◌, ◌≤◌, [], ◌∷◌, map, length, Option, Some, None, Bor, slice_index_or, arith}
+use Rattle.std.proofs.Common.{◌≡◌, refl, ℕ, zero, suc, ◌*◌, ◌<◌, List, take, drop, Bool, true, false, bytes_eq, ◌&&◌, codes, ⊎_elim, sym, ap, ◌∙◌, ◌≤◌, [], ◌∷◌, map, length, Option, None, Bor, slice_index_or, arith}
 use Rattle.std.specs.Option.{option_copied}
 use Rattle.teco_expand.specs.Library.{macro}
 use Rattle.std.proofs.lemmas.Bool.{cases_lt}

@@ -1,5 +1,5 @@
 -- What is crossed on a way, one reading after another.
-use Rattle.std.proofs.Common.{◌≡◌, ℕ, ◌<◌, List, [], length, true, false, nat_le, Some, None, refl}
+use Rattle.std.proofs.Common.{◌≡◌, ℕ, ◌<◌, List, length, true, false, nat_le, Some, None, refl}
 use Rattle.teco_base.specs.declared.code.Code.{Code}
 use Rattle.teco_model.specs.declared.skip.Pairs.TheVariants.{Iterations}
 use Rattle.teco_model.specs.Ahead.{Whole, Faulty, reading_at, readings}

@@ -1,9 +1,11 @@
 -- What is read of a text.
-use Rattle.std.proofs.Common.{◌≡◌, ℕ, ◌<◌, List, [], length, drop, true, Some, None, Ok, nat_le, refl, arith}
+use Rattle.std.proofs.Common.{◌≡◌, ℕ, ◌<◌, List, [], length, drop, true, Some, None, Ok, nat_le, refl, ap, ◌∙◌, arith}
 use Rattle.std.proofs.lemmas.Bool.{le-leb}
 use Rattle.std.proofs.lemmas.List.{drop_all}
 use Rattle.teco_model.specs.Ahead.{Whole, reading_at}
 use Rattle.teco_model.specs.Element.{Element, blank_len, blank_end, element_at}
+use Rattle.teco_model.specs.Searching.{is_leave}
+use Rattle.teco_model.proofs.Ahead.{element_at-again}
 use Rattle.teco_model.specs.Skip.{no_skip, skip_of, skip_at}
 
 -- behind the end nothing is read
@@ -25,6 +27,15 @@ unfolding reading_at
 no_skip_behind text at l =
     let none = none_behind text at l in
     rw (reading_at, none) refl
+
+-- a search counts as having a colon by what stands behind the blanks
+pub leaves_again : (text : List ℕ) (at behind : ℕ) → behind ≡ blank_end text at → is_leave (element_at text behind) ≡ is_leave (element_at text at)
+leaves_again text at behind h = ap (λ place. is_leave (element_at text place)) h ∙ ap is_leave (element_at-again text at)
+
+-- an element is read ahead as it is read
+pub ahead_of_element : (text : List ℕ) (at : ℕ) (e : Element) → element_at text at ≡ Ok (Some e) → reading_at text at ≡ Some (Whole e)
+unfolding reading_at
+ahead_of_element text at e h = rw (reading_at, h) refl
 
 -- the skip at a place is that of the element there
 pub skip_of_element : (text : List ℕ) (at : ℕ) (e : Element) → element_at text at ≡ Ok (Some e) → skip_at text at ≡ skip_of text (Whole e)

@@ -8,6 +8,7 @@ mod Gathering
 mod Level
 mod Lists
 mod Numbered
+mod Passing
 mod Crossing
 mod ShortTexts
 mod Stepping

@@ -119,14 +119,15 @@ fn nodes_of(
 
 /// The nodes that a library comes to from an entry, or why it is not expanded.
 ///
-/// The time grows as the nodes and the texts do, for each conditional as it is far, and for each element as the blanks behind it.
+/// The time grows as the nodes and the texts do: what an element jumps over, and the blanks behind it, are not read again for it.
 #[tactic(auto, unfolding(teco_expand::specs::Expansion::expansion))]
 pub fn expand<'a>(alloc: Global, library: &'a Library, entry: Reg) -> Result<Nodes<'a>, ExpandFault>
     ensures { Expands library.now.texts entry result }
 {
     let whole = Texts::new(library, entry);
     let jumps = whole.jumps(alloc)?;
-    let texts = whole.with_jumps(&jumps);
+    let gaps = whole.gaps(alloc)?;
+    let texts = whole.with_kept(&jumps, &gaps);
     let walk = whole_walk(alloc, &texts)?;
     let stands = stands_of(alloc, &texts, &walk)?;
     let nodes = nodes_of(alloc, &texts, &walk, &stands)?;

@@ -2,6 +2,7 @@
 #![tactic(auto)]
 
 mod few;
+mod gaps;
 mod gather;
 mod kept;
 mod link;

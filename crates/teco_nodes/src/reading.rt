@@ -57,11 +57,13 @@ fn leaves_at(text: &[u8], place: usize) -> bool
     }
 }
 
-/// Whether a search counts as having a colon: it has one, or `;` stands behind it.
-pub fn has_colon(element: &Element<'_>, text: &[u8]) -> bool
+/// Whether a search counts as having a colon: it has one, or `;` stands at the place behind the blanks behind it.
+#[tactic(auto, using(crate::proofs::Elements::leaves_again))]
+pub fn has_colon(element: &Element<'_>, text: &[u8], behind: usize) -> bool
+    requires { behind ≡ model_element.blank_end text.now element.now.next }
     ensures { result ≡ model.has_colon (seen element.now) (frame_of text.now) }
 {
-    element.colons > 0 || leaves_at(text, element.next)
+    element.colons > 0 || leaves_at(text, behind)
 }
 
 /// Whether a search at a place counts as having a colon.
@@ -69,7 +71,7 @@ pub fn colon_at(text: &[u8], place: usize) -> bool
     ensures { (e : model_element.Element) → read_of (element_at text.now place) ≡ Some e → result ≡ model.has_colon e (frame_of text.now) }
 {
     match read_element(text, place) {
-        Ok(Some(element)) => has_colon(&element, text),
+        Ok(Some(element)) => { has_colon(&element, text, place_behind_blanks(text, element.next)) }
         _ => false,
     }
 }

@@ -2,7 +2,6 @@
 ghost use Rattle.std.specs.Prelude.{◌≡◌};
 
 use crate::few::Few;
-use crate::reading::place_behind_blanks;
 use crate::texts::Texts;
 
 /// The place of an element in a text, and the starts of the iterations that are open in it, the innermost first. The text
@@ -40,7 +39,7 @@ impl Spot {
     {
         Spot {
             register,
-            place: place_behind_blanks(texts.text(register), place),
+            place: texts.behind_blanks(register, place),
             starts,
         }
     }

@@ -137,7 +137,7 @@ const EXPANSIONS: [(&[u8], &[Told]); 9] = [
 ];
 
 /// The reason by its number, the place of the register, and the place in its text.
-const REFUSALS: [(&[u8], u8, usize, usize); 32] = [
+const REFUSALS: [(&[u8], u8, usize, usize); 38] = [
     (b"@^UA/1=?/", 0, 0, 2),
     (b"@^UA/1= ?/", 0, 0, 3),
     (b"@^UA/1Ia/", 0, 0, 1),
@@ -153,6 +153,12 @@ const REFUSALS: [(&[u8], u8, usize, usize); 32] = [
     (b"@^UA/1\"E2<?'>/", 1, 0, 1),
     (b"@^UA/1\"E2<MC'>/", 1, 0, 1),
     (b"@^UA/1\"E2<<'>/", 1, 0, 1),
+    (b"@^UA/2<1\"E?>'/", 1, 0, 3),
+    (b"@^UA/1\"E2<Ox\x1b'>/", 1, 0, 1),
+    (b"@^UA/1\"E2<Sx^N\x1b'>/", 1, 0, 1),
+    (b"@^UA/1\"E;2<'>/", 1, 0, 1),
+    (b"@^UA/2<1\"E>2<|?'>/", 1, 0, 3),
+    (b"@^UA/1\"E|2<F''>/", 1, 0, 3),
     (b"@^UA/0\"E2<F>0\"E''>/", 1, 0, 1),
     (b"@^UA/1\"E>'>/", 1, 0, 3),
     (b"@^UA/1\"E?'/", 0, 0, 3),
@@ -313,7 +319,7 @@ fn jumps_are_kept(rt: HostRuntime) {
     let texts = Texts::new(&library, Reg::default());
     let jumps = texts.jumps(rt.alloc()).expect(&rt, "memory");
     assert!(rt; jumps.len() == 12);
-    let texts = texts.with_jumps(&jumps);
+    let texts = texts.with_kept(&jumps, &[]);
     for (place, to) in [(0, Some(14)), (7, Some(11)), (9, Some(11)), (11, None)] {
         let Some(skip) = texts.skip(Some(0), place) else {
             panic!(rt; "place {place}");
@@ -322,6 +328,78 @@ fn jumps_are_kept(rt: HostRuntime) {
     }
     assert!(rt; texts.skip(Some(0), 3).is_none() && texts.skip(Some(1), 0).is_none());
     assert!(rt; texts.skip(Some(2), 1).is_some() && texts.skip(None, 0).is_none());
+}
+
+/// What a jump past a pair crosses is kept with it.
+#[test]
+fn crossings_are_kept(rt: HostRuntime) {
+    let library = library(&rt, rt.alloc(), b"@^UA/2<1\"E3>2<|'1>/");
+    let texts = Texts::new(&library, Reg::default());
+    let jumps = texts.jumps(rt.alloc()).expect(&rt, "memory");
+    let texts = texts.with_kept(&jumps, &[]);
+    let crossing = texts.crossing(Some(0), 3).expect(&rt, "what it crosses");
+    assert!(rt; crossing.end == Some(6) && crossing.depth == 1);
+    assert!(rt; crossing.outer == Some(6));
+    assert!(rt; texts.crossing(Some(1), 3).is_none() && texts.crossing(None, 3).is_none());
+}
+
+/// So many conditionals before so many elements are gone through without reading on for each.
+#[test]
+fn many_conditionals_are_followed(rt: HostRuntime) {
+    let mut file = [b'J'; 100_000];
+    for i in 0..2_000 {
+        file[3 * i + 5] = b'1';
+        file[3 * i + 6] = b'"';
+        file[3 * i + 7] = b'E';
+    }
+    for i in 97_999..99_999 {
+        file[i] = b'\'';
+    }
+    let library = of_length(&rt, rt.alloc(), &mut file);
+    let Err(ExpandFault::Refused(refusal)) = expanded(rt.alloc(), &library) else {
+        panic!(rt; "expanded");
+    };
+    assert!(rt; number_of(refusal.reason) == 4 && refusal.place == 6_095);
+}
+
+/// Long runs of blanks are kept of the texts that may be called, and no others.
+#[test]
+fn gaps_are_kept(rt: HostRuntime) {
+    let mut file = [b' '; 300];
+    file[100] = b'J';
+    file[200] = b'M';
+    file[201] = b'A';
+    file[230] = b'J';
+    let library = of_length(&rt, rt.alloc(), &mut file);
+    let texts = Texts::new(&library, Reg::default());
+    let gaps = texts.gaps(rt.alloc()).expect(&rt, "memory");
+    assert!(rt; gaps.len() == 3);
+    let texts = texts.with_kept(&[], &gaps);
+    for (place, behind) in [(0, 95), (96, 195), (197, 225), (226, 294), (90, 95)] {
+        assert!(rt;
+            texts.behind_blanks(Some(0), place) == behind,
+            "place {place}"
+        );
+    }
+}
+
+/// So many jumps to one place before so many blanks are followed without reading the blanks for each.
+#[test]
+fn many_jumps_over_blanks_are_followed(rt: HostRuntime) {
+    let mut file = [b' '; 100_000];
+    for i in 0..4_000 {
+        file[3 * i + 5] = b'O';
+        file[3 * i + 6] = b'x';
+        file[3 * i + 7] = 0x1b;
+    }
+    file[12_005] = b'!';
+    file[12_006] = b'x';
+    file[12_007] = b'!';
+    let library = of_length(&rt, rt.alloc(), &mut file);
+    let Ok(nodes) = expanded(rt.alloc(), &library) else {
+        panic!(rt; "refused");
+    };
+    assert!(rt; nodes.len() == 4_003 && nodes.way(3, 0) == Some(4_003));
 }
 
 /// So many jumps before so many elements are followed without reading on for each.

@@ -1,36 +1,43 @@
 //! The texts that an expansion goes through.
-ghost use Rattle.std.specs.Prelude.{◌≡◌, ◌+◌, ◌<◌, ◌≤◌, List, length, map, take, drop, is_some, All, IfOk, IfSome, OnOk};
+ghost use Rattle.std.specs.Prelude.{◌≡◌, ◌+◌, ◌<◌, ◌≤◌, ℕ, List, length, map, take, drop, is_some, All, IfOk, IfSome, OnOk, Some};
 ghost use Rattle.std.specs.Option.{option_copied, ForSome};
 ghost use Rattle.teco_base.specs.declared.TheConstants.{LIMIT, REGISTERS};
 ghost use Rattle.teco_expand.specs.Library.{macro, is_macro};
 ghost use Rattle.teco_expand.specs.Node as model;
-ghost use Rattle.teco_model.specs.Skip.{skip_at};
-ghost use Rattle.teco_nodes.specs.Scanned.{IsKeptOf};
+ghost use Rattle.teco_model.specs.Ahead.{Whole, reading_at};
+ghost use Rattle.teco_model.specs.Element as element;
+ghost use Rattle.teco_model.specs.Skip.{route_of, skip_at};
+ghost use Rattle.teco_nodes.specs.Scanned.{IsGapOf, IsKeptOf};
+ghost use Rattle.teco_scan.specs.Skips.{crossing, IsStepOf};
 
+use crate::gaps::{Gap, gap_at, keep_gaps};
 use crate::kept::{Kept, keep_steps, kept_at};
+use crate::reading::place_behind_blanks;
 use crate::steps::MOST_ELEMENTS;
 use std::alloc::{AllocError, Global};
 use teco_base::{REGISTERS, Reg};
 use teco_lex::{Reading, Readings, Skip};
 use teco_library::Library;
-use teco_model::Kind;
-use teco_scan::first_skips;
+use teco_model::{Kind, Pairs, Route};
+use teco_scan::{Crossing, Step, first_skips};
 
 /// The command strings that call each register.
 static CALLS: [u8; 72] =
     *b"MAMBMCMDMEMFMGMHMIMJMKMLMMMNMOMPMQMRMSMTMUMVMWMXMYMZM0M1M2M3M4M5M6M7M8M9";
 
 /// The texts of a library by the places of their registers, and the place of the entry. Of each text that may be called is
-/// kept where its first elements jump ahead.
+/// kept where its first elements jump ahead, and where long runs of blanks end.
 #[derive(Clone, Copy)]
 pub struct Texts<'a> {
     texts: [Option<&'a [u8]>; REGISTERS],
     pub entry: usize,
     kept: &'a [Kept],
+    gaps: &'a [Gap],
     ghost whole: { length texts ≡ REGISTERS },
     ghost short: { All (λ text. ForSome text (λ shown. length shown.now ≤ LIMIT)) texts },
     ghost register: { entry < REGISTERS },
     ghost right: { All (IsKeptOf (map option_copied texts)) kept.now },
+    ghost gaps_right: { All (IsGapOf (map option_copied texts)) gaps.now },
 }
 
 /// Two bytes of a table.
@@ -135,6 +142,24 @@ fn kept_of(alloc: Global, texts: &[Option<&[u8]>], entry: usize) -> Result<Vec<K
     Ok(kept)
 }
 
+/// The long runs of blanks of each register's text that may be called.
+fn gaps_of(alloc: Global, texts: &[Option<&[u8]>], entry: usize) -> Result<Vec<Gap>, AllocError>
+    requires short { All (λ text. ForSome text (λ shown. length shown.now ≤ LIMIT)) texts.now }
+    requires register { entry < REGISTERS }
+    ensures { IfOk result (λ gaps. All (IsGapOf (map option_copied texts.now)) gaps.items) }
+{
+    let called = called_from(texts, entry);
+    let mut gaps = Vec::new(alloc);
+    for register in 0..REGISTERS {
+        if called[register] {
+            if let Some(text) = macro_in(texts, register) {
+                keep_gaps(&mut gaps, register, text)?;
+            }
+        }
+    }
+    Ok(gaps)
+}
+
 impl<'a> Texts<'a> {
     ghost use Rattle.teco_nodes.specs.declared.node.Node.{Node};
     ghost use Rattle.teco_nodes.specs.Seen.{node_seen};
@@ -149,6 +174,7 @@ impl<'a> Texts<'a> {
             texts: library.texts(),
             entry: entry.index(),
             kept: &[],
+            gaps: &[],
         }
     }
 
@@ -159,9 +185,17 @@ impl<'a> Texts<'a> {
         kept_of(alloc, &self.texts, self.entry)
     }
 
+    /// Where long runs of blanks end in the texts that may be called.
+    pub fn gaps(&self, alloc: Global) -> Result<Vec<Gap>, AllocError>
+        ensures { IfOk result (λ gaps. All (IsGapOf (library_of self.now)) gaps.items) }
+    {
+        gaps_of(alloc, &self.texts, self.entry)
+    }
+
     /// The same texts, with this kept of them.
-    pub fn with_jumps(&self, kept: &'a [Kept]) -> Texts<'a>
-        requires { All (IsKeptOf (library_of self.now)) kept.now }
+    pub fn with_kept(&self, kept: &'a [Kept], gaps: &'a [Gap]) -> Texts<'a>
+        requires jumps { All (IsKeptOf (library_of self.now)) kept.now }
+        requires gaps { All (IsGapOf (library_of self.now)) gaps.now }
         ensures library { library_of result ≡ library_of self.now }
         ensures entry { result.entry ≡ self.now.entry }
         ensures nodes { (nodes : List Node) → map (node_seen result) nodes ≡ map (node_seen self.now) nodes }
@@ -170,14 +204,49 @@ impl<'a> Texts<'a> {
             texts: self.texts,
             entry: self.entry,
             kept,
+            gaps,
         }
+    }
+
+    /// The step of the element at a place of a register's text, if that is kept.
+    fn step(&self, register: Option<usize>, place: usize) -> Option<Step>
+        ensures place { IfSome result (λ step. step.place ≡ place) }
+        ensures step { IfSome result (IsStepOf (text_of self.now register)) }
+    {
+        kept_at(self.kept, register?, place)
     }
 
     /// Where the element at a place of a register's text jumps ahead, if that is kept.
     pub fn skip(&self, register: Option<usize>, place: usize) -> Option<Skip>
         ensures { IfSome result (λ skip. skip ≡ skip_at (text_of self.now register) place) }
     {
-        kept_at(self.kept, register?, place)
+        Some(self.step(register, place)?.skip)
+    }
+
+    /// What its jump past a pair crosses, if that is kept.
+    pub fn crossing(&self, register: Option<usize>, place: usize) -> Option<Crossing>
+        ensures { IfSome result (λ crossed. (e : element.Element) (pairs : Pairs) (leaves : ℕ) →
+            reading_at (text_of self.now register) place ≡ Some (Whole e) → route_of e.kind ≡ Route.Past pairs leaves
+            → crossed ≡ crossing (text_of self.now register) pairs e.next) }
+    {
+        Some(self.step(register, place)?.crossing)
+    }
+
+    /// The place after the blanks at a place of a register's text.
+    pub fn behind_blanks(&self, register: Option<usize>, place: usize) -> usize
+        ensures { result ≡ element.blank_end (text_of self.now register) place }
+    {
+        match self.gap(register, place) {
+            Some(end) => end,
+            None => place_behind_blanks(self.text(register), place),
+        }
+    }
+
+    /// That place, if it is kept.
+    fn gap(&self, register: Option<usize>, place: usize) -> Option<usize>
+        ensures { IfSome result (λ end. end ≡ element.blank_end (text_of self.now register) place) }
+    {
+        gap_at(self.gaps, register?, place)
     }
 
     /// The text that a register gets, if any.

@@ -37,8 +37,8 @@ pub fn past(texts: &Texts<'_>, element: &Element<'_>, position: &Position) -> Po
     position.moved_to(texts, element.next, position.running.starts)
 }
 
-// The skip of an element that is read at a spot.
-fn skip_at(texts: &Texts<'_>, element: &Element<'_>, spot: &Spot) -> Skip
+/// The skip of an element that is read at a spot.
+pub fn skip_at(texts: &Texts<'_>, element: &Element<'_>, spot: &Spot) -> Skip
     requires { element_at (text_of texts.now spot.now.register) spot.now.place ≡ Ok (Some (seen element.now)) }
     ensures { result ≡ skip_of (text_of texts.now spot.now.register) (Whole (seen element.now)) }
 {
@@ -160,7 +160,8 @@ fn search_ways(
         (listed position.now.running.starts) (seen element.now) (position_seen texts.now position.now)) }
 {
     let spot = &position.running;
-    if has_colon(element, texts.text(spot.register)) || spot.starts.len() == 0 {
+    let behind = texts.behind_blanks(spot.register, element.next);
+    if has_colon(element, texts.text(spot.register), behind) || spot.starts.len() == 0 {
         return Ok(Ways::One(past(texts, element, position)));
     }
     way_or_jump(texts, past(texts, element, position), element, position)

@@ -1,5 +1,5 @@
 // A host of the files of the system.
-ghost use Rattle.std.specs.Prelude.{◌≤◌, ◌<◌, None, length, IfOk};
+ghost use Rattle.std.specs.Prelude.{◌≡◌, ◌≤◌, ◌<◌, suc, None, length, IfOk, IsErr};
 ghost use Rattle.teco_base.specs.declared.TheConstants.{LIMIT};
 
 mod descriptor;
@@ -8,14 +8,17 @@ mod links;
 mod size_limit;
 mod source;
 mod target;
+mod trouble;
 mod unfinished;
 
 use self::source::Source;
+pub use self::trouble::{Purpose, Reason, Trouble};
 use self::unfinished::Unfinished;
+pub use self::unfinished::{Closed, Closing};
 use crate::count::Count;
 use crate::fault::Failed;
 use crate::host::Host;
-use std::alloc::Global;
+use std::alloc::{AllocError, Global};
 use std::fs::{Files, OpenFile};
 use std::io::Write;
 use std::time::Clock;
@@ -43,6 +46,12 @@ pub struct FileHost<R: Files + Clock + Drop> {
     // a byte came behind the first `LIMIT` of the input
     is_past: bool,
     output: Option<Unfinished<R::File>>,
+    // the names that were opened last
+    input_name: Vec<u8>,
+    output_name: Vec<u8>,
+    trouble: Option<Trouble>,
+    closing: Closing,
+    closed: Option<Closed>,
     failures: Count,
     ghost within: { given ≤ LIMIT },
 }
@@ -57,8 +66,75 @@ impl<R: Files + Clock + Drop> FileHost<R> {
             given: 0,
             is_past: false,
             output: None,
+            input_name: Vec::new(alloc),
+            output_name: Vec::new(alloc),
+            trouble: None,
+            closing: Closing::Replaces,
+            closed: None,
             failures: Count::new(),
         }
+    }
+
+    /// From now on this becomes of outputs that are closed. A new host replaces their targets.
+    pub fn set_closing(&mut self, closing: Closing) {
+        self.closing = closing;
+    }
+
+    /// What became of the output that was closed last.
+    pub fn closed(&self) -> Option<Closed> {
+        self.closed
+    }
+
+    /// What could not be done in the last call that failed.
+    pub fn trouble(&self) -> Option<&Trouble> {
+        self.trouble.as_ref()
+    }
+
+    /// How many bytes of the open input were not given yet, where it is a regular file.
+    pub fn left_of_input(&self) -> Option<u64> {
+        let length = self.input.as_ref()?.length()?;
+        Some(length.saturating_sub(self.given as u64))
+    }
+
+    // The open input could not be read.
+    fn cannot_read<T>(&mut self, reason: Reason) -> Result<T, Failed>
+        ensures failed { IsErr result }
+        ensures counted { self.new.failures.value ≡ suc self.old.failures.value }
+        ensures given { self.new.given ≡ self.old.given }
+    {
+        let trouble = Trouble::of(self.alloc, Purpose::ReadInput, &self.input_name, reason);
+        self.trouble = Some(trouble);
+        self.failures.failed()
+    }
+
+    // The output could not be used.
+    fn cannot_write<T>(&mut self, purpose: Purpose, reason: Reason) -> Result<T, Failed>
+        ensures failed { IsErr result }
+        ensures counted { self.new.failures.value ≡ suc self.old.failures.value }
+        ensures given { self.new.given ≡ self.old.given }
+    {
+        let trouble = Trouble::of(self.alloc, purpose, &self.output_name, reason);
+        self.trouble = Some(trouble);
+        self.failures.failed()
+    }
+
+    // A file could not be opened.
+    fn cannot_open<T>(&mut self, purpose: Purpose, name: &[u8], reason: Reason) -> Result<T, Failed>
+        ensures failed { IsErr result }
+        ensures counted { self.new.failures.value ≡ suc self.old.failures.value }
+        ensures given { self.new.given ≡ self.old.given }
+    {
+        let trouble = Trouble::of(self.alloc, purpose, name, reason);
+        self.trouble = Some(trouble);
+        self.failures.failed()
+    }
+}
+
+// A name for messages: empty where memory is refused.
+fn kept_name(alloc: Global, name: &[u8]) -> Vec<u8> {
+    match name.to_vec(alloc) {
+        Ok(name) => name,
+        Err(AllocError) => Vec::new(alloc),
     }
 }
 
@@ -71,6 +147,11 @@ impl<R: Files + Clock + Drop> Drop for FileHost<R> {
             given: _,
             is_past: _,
             output,
+            input_name: _,
+            output_name: _,
+            trouble: _,
+            closing: _,
+            closed: _,
             failures: _,
         } = self;
         if let Some(output) = output {
@@ -90,22 +171,23 @@ impl<R: Files + Clock + Drop> Host for FileHost<R> {
         match Source::open(&self.rt, self.alloc, name) {
             Ok(file) => {
                 self.input = Some(file);
+                self.input_name = kept_name(self.alloc, name);
                 self.given = 0;
                 self.is_past = false;
                 Ok(())
             }
-            Err(Failed) => self.failures.failed(),
+            Err(reason) => self.cannot_open(Purpose::OpenInput, name, reason),
         }
     }
 
     fn read(&mut self, buf: &mut [u8]) -> Result<usize, Failed> {
         let Some(file) = &mut self.input else {
-            return self.failures.failed();
+            return self.cannot_read(Reason::NotOpen);
         };
         if self.given == LIMIT {
             self.is_past = self.is_past || file.is_more();
             if self.is_past {
-                return self.failures.failed();
+                return self.cannot_read(Reason::Long);
             }
             return Ok(0);
         }
@@ -115,34 +197,39 @@ impl<R: Files + Clock + Drop> Host for FileHost<R> {
                 self.given += n;
                 Ok(n)
             }
-            Err(_) => self.failures.failed(),
+            Err(error) => self.cannot_read(Reason::System(error)),
         }
     }
 
     fn open_out(&mut self, name: &[u8]) -> Result<(), Failed> {
         if self.output.is_some() {
-            return self.failures.failed();
+            return self.cannot_open(Purpose::OpenOutput, name, Reason::NotOpen);
         }
         match Unfinished::begin(&self.rt, self.alloc, name) {
             Ok(output) => {
                 self.output = Some(output);
+                self.output_name = kept_name(self.alloc, name);
                 Ok(())
             }
-            Err(Failed) => self.failures.failed(),
+            Err(reason) => self.cannot_open(Purpose::OpenOutput, name, reason),
         }
     }
 
     fn write(&mut self, bytes: &[u8]) -> Result<usize, Failed> {
         match write_some(&mut self.output, bytes) {
             Ok(n) => Ok(n),
-            Err(Failed) => self.failures.failed(),
+            Err(reason) => self.cannot_write(Purpose::WriteOutput, reason),
         }
     }
 
     fn close_out(&mut self) -> Result<(), Failed> {
-        match close(&self.rt, self.output.take()) {
-            Ok(()) => Ok(()),
-            Err(Failed) => self.failures.failed(),
+        let output = self.output.take();
+        match close(&self.rt, self.alloc, output, self.closing) {
+            Ok(closed) => {
+                self.closed = Some(closed);
+                Ok(())
+            }
+            Err(reason) => self.cannot_write(Purpose::CloseOutput, reason),
         }
     }
 
@@ -152,7 +239,7 @@ impl<R: Files + Clock + Drop> Host for FileHost<R> {
         };
         match output.abandon(&self.rt) {
             Ok(()) => Ok(()),
-            Err(_) => self.failures.failed(),
+            Err(error) => self.cannot_write(Purpose::DropOutput, Reason::System(error)),
         }
     }
 }
@@ -161,21 +248,26 @@ impl<R: Files + Clock + Drop> Host for FileHost<R> {
 fn write_some<F: OpenFile + Write + Drop>(
     output: &mut Option<Unfinished<F>>,
     bytes: &[u8],
-) -> Result<usize, Failed>
+) -> Result<usize, Reason>
     ensures bound { IfOk result (λ n. n ≤ length bytes.now) }
     ensures some { IfOk result (λ n. 0 < length bytes.now → 0 < n) }
 {
     match output {
         Some(output) => output.write_some(bytes),
-        None => Err(Failed),
+        None => Err(Reason::NotOpen),
     }
 }
 
 // Closes the output that is open.
-fn close<R: Files>(rt: &R, output: Option<Unfinished<R::File>>) -> Result<(), Failed> {
+fn close<R: Files>(
+    rt: &R,
+    alloc: Global,
+    output: Option<Unfinished<R::File>>,
+    closing: Closing,
+) -> Result<Closed, Reason> {
     match output {
-        Some(output) => output.finish(rt),
-        None => Err(Failed),
+        Some(output) => output.finish(rt, alloc, closing),
+        None => Err(Reason::NotOpen),
     }
 }
 

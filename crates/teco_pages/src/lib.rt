@@ -12,7 +12,7 @@ mod test_host;
 mod write;
 
 pub use fault::{Failed, Fault};
-pub use file_host::FileHost;
+pub use file_host::{Closed, Closing, FileHost, Purpose, Reason, Trouble};
 pub use host::Host;
 pub use mem_host::MemHost;
 pub use pages::Pages;

@@ -3,7 +3,7 @@ ghost use Rattle.std.specs.Prelude.{◌≡◌, ◌≤◌, ◌++◌, [], ◌∷�
 ghost use Rattle.teco_base.specs.declared.TheConstants.{LIMIT};
 ghost use Rattle.teco_base.specs.declared.bytes.TheConstants.{FF};
 ghost use Rattle.teco_model.specs.Pages.{first_page, behind_first_page, has_form_feed, written_page};
-ghost use Rattle.teco_pages.specs.Held.{nothing_held, with_input, without_input, without_page, with_all_read, unread_bytes};
+ghost use Rattle.teco_pages.specs.Held.{nothing_held, with_input, without_input, without_page, with_all_read, unread_bytes, written_if_any};
 ghost use Rattle.teco_pages.specs.HostCalls.{OpensIn, OpensOut, Closes};
 ghost use Rattle.teco_pages.specs.HostFiles.{HostFiles, Told, Becomes, after_dropping};
 ghost use Rattle.teco_pages.specs.PageCalls.{OkOrNoFile, OkOrCannotOpen, OkOrOut, OkOrCannotRead, OkOrInOut, MakesReady, WritesBytes, CopiesRest};
@@ -189,6 +189,17 @@ impl Pages {
         match self.ready {
             Some(ff) => Some((&self.page, ff)),
             None => None,
+        }
+    }
+
+    /// How many bytes of the unread input it holds.
+    pub fn read_ahead(&self) -> usize
+        ensures { result ≡ length (written_if_any self.now.ready ++ self.now.ahead) }
+    {
+        let bytes = self.page.len() + self.ahead.bytes().len();
+        match self.ready {
+            Some(true) => bytes + 1,
+            Some(false) | None => bytes,
         }
     }
 

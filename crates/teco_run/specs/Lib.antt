@@ -12,8 +12,11 @@ pub mod Frames
 pub mod Holdings
 pub mod Counts
 pub mod Courses
+pub mod Executions
 pub mod Outside
 pub mod Pending
 pub mod Ways
 pub mod Seeks
 pub mod Steps
+pub mod Stopped
+pub mod Unread

@@ -5,6 +5,7 @@ mod arguments;
 mod body;
 mod course;
 mod desk;
+mod execution;
 mod files;
 mod flow;
 mod frames;
@@ -17,10 +18,13 @@ mod pace;
 mod pending;
 mod perform;
 mod seek;
+mod site;
 mod way;
 
+pub use execution::{Execution, Progress};
 pub use machine::Machine;
-pub use teco_model::Stop;
+pub use site::{Site, Stopped};
+pub use teco_model::{HostFault, Stop};
 
 #[cfg(test)]
 mod tests;

@@ -1,6 +1,7 @@
 // Command strings on new machines: what they answer, type and leave. A machine answers `Memory` only where memory is refused;
 // such a run is made once more, so that the rows also hold where one allocation fails.
 mod counting;
+mod sites;
 
 ghost use Rattle.std.specs.Prelude.{IsTrue};
 ghost use Rattle.teco_regs.specs.Texts.{IsTextWithinLimit};

@@ -1,3 +1,4 @@
+pub mod FirstCode
 pub mod Known
 pub mod Pairs
 pub mod Said

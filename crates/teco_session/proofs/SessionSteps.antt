@@ -15,7 +15,7 @@ use Rattle.teco_model.specs.declared.stop.Stop.TheVariants as stop_kind
 use Rattle.teco_session.proofs.Known.{Consumes-ahead}
 use Rattle.teco_session.proofs.Pairs.{string_end-nil}
 use Rattle.teco_session.specs.Answers.{Runs, RunsNot, MayRun, Answers}
-use Rattle.teco_session.specs.Sessions.{Setting, Serves, Finishes, BreaksOff, Converses}
+use Rattle.teco_session.specs.Sessions.{Setting, Serves, Finishes, BreaksOff, CutsShort, Converses}
 use Rattle.teco_session.specs.Strings.{IsPiece, IsRest, IsUnended}
 use Rattle.teco_session.specs.declared.ahead.TheConstants.{CHUNK}
 use Rattle.teco_session.specs.declared.fault.SessionFault.{SessionFault}
@@ -80,11 +80,17 @@ exit_of stop_kind.Limit e = cc
 exit_of stop_kind.Memory e = cc
 exit_of (stop_kind.HostFault fault) e = cc
 
+-- the end of the session is no code
+pub no_code_at_exit : (limits : Limits) (string : List ℕ) (old new : World) (lines : List ℕ) (coded : Bool) → Runs limits string old new lines coded true → coded ≡ false
+no_code_at_exit limits string old new lines coded runs =
+    let exits = exit_of runs.stop (sym runs.an_exit) in
+    runs.a_line ∙ ap (λ stop. is_code (code_of stop)) exits.same
+
 -- the session that a command string ends, behind others
 session_to : (limits : Limits) (count : ℕ) (old mid new : World) (strings lines string more : List ℕ) (own : List ℕ) (line coded : Bool) → Executes limits old count strings mid lines line → IsCommandString limits string → Runs limits string mid new own coded true → SessionToExit limits old (strings ++ (string ++ more)) new (lines ++ own) (line || coded)
 session_to limits count old mid new strings lines string more own line coded executed is runs =
     let exits = exit_of runs.stop (sym runs.an_exit) in
-    let no_line : coded ≡ false = runs.a_line ∙ ap (λ stop. is_code (code_of stop)) exits.same in
+    let no_line : coded ≡ false = no_code_at_exit limits string mid new own coded runs in
     record {
       count = count;
       strings = strings;
@@ -118,7 +124,7 @@ nothing_left limits string is =
     rw short refl
 
 -- the session of a command string
-string_session : (limits : Limits) (old new : Setting) (string lines : List ℕ) (coded exit : Bool) → IsCommandString limits string → Runs limits string old.world new.world lines coded exit → Session limits old.world string new.world lines coded exit
+pub string_session : (limits : Limits) (old new : Setting) (string lines : List ℕ) (coded exit : Bool) → IsCommandString limits string → Runs limits string old.world new.world lines coded exit → Session limits old.world string new.world lines coded exit
 string_session limits old new string lines coded false is runs = record {
   count = 1;
   strings = string;
@@ -135,28 +141,31 @@ string_session limits old new string lines coded true is runs =
     subst (λ l. SessionToExit limits old.world l new.world lines coded) (append-nil string) (session_to limits 0 old.world old.world new.world [] [] string [] lines false coded none is runs)
 
 -- the session of a rest
-rest_session : (limits : Limits) (old new : Setting) (rest lines : List ℕ) (coded : Bool) → length rest ≤ limits.length → string_end rest ≡ None → RunsNot limits rest old.world new.world lines coded → SessionToEnd limits old.world rest new.world lines coded
+pub rest_session : (limits : Limits) (old new : Setting) (rest lines : List ℕ) (coded : Bool) → length rest ≤ limits.length → string_end rest ≡ None → RunsNot limits rest old.world new.world lines coded → SessionToEnd limits old.world rest new.world lines coded
 rest_session limits old new rest lines coded short endless runs_not =
     rw (runs_not.stays, runs_not.all_lines, runs_not.a_line) (session_of limits 0 old old [] [] rest false none (short_rest limits rest short endless))
 
--- the output of a piece was cut short
-pub Converses-write : (limits : Limits) (count : ℕ) (old mid new : Setting) (coded : Bool) (ahead bytes : List ℕ) (piece : Piece) (fault : SessionFault) → Serves limits count old mid coded → Consumes mid.unread (prepend_known ahead new.unread) bytes → IsPiece limits (prepend_known ahead new.unread) bytes piece → length ahead ≤ CHUNK → Answers limits piece bytes mid.world new.world mid.written new.written (Err fault) → Converses limits old new (Err fault)
-Converses-write limits count old mid new coded ahead bytes piece fault served came is one_read answers = rw answers.writes.0 (record {
-  count = count;
-  coded = coded;
-  last = mid;
-  piece = bytes;
-  unused = ahead;
-  lines = answers.lines;
-  line = answers.coded;
-  exit = answers.exit;
-  served = served;
-  came = Consumes-ahead mid.unread new.unread bytes ahead came;
-  one_piece = one piece is;
-  one_read = one_read;
-  session = session piece is answers.ran;
-  part = answers.writes.1;
-}) where
+-- the output of a piece was cut short, and as many codes came before as were told
+pub cuts-short : (limits : Limits) (count : ℕ) (old mid new : Setting) (coded : Bool) (ahead bytes : List ℕ) (piece : Piece) (fault : SessionFault) → Serves limits count old mid coded → Consumes mid.unread (prepend_known ahead new.unread) bytes → IsPiece limits (prepend_known ahead new.unread) bytes piece → length ahead ≤ CHUNK → Answers limits piece bytes mid.world new.world mid.written new.written (Err fault) → (cut : CutsShort limits old new) × (cut.coded ≡ coded)
+cuts-short limits count old mid new coded ahead bytes piece fault served came is one_read answers = (
+  record {
+    count = count;
+    coded = coded;
+    last = mid;
+    piece = bytes;
+    unused = ahead;
+    lines = answers.lines;
+    line = answers.coded;
+    exit = answers.exit;
+    served = served;
+    came = Consumes-ahead mid.unread new.unread bytes ahead came;
+    one_piece = one piece is;
+    one_read = one_read;
+    session = session piece is answers.ran;
+    part = answers.writes.1;
+  },
+  refl,
+) where
   one : (p : Piece) → IsPiece limits (prepend_known ahead new.unread) bytes p → IsCommandString limits bytes ⊎ IsRest limits (prepend_known ahead new.unread) bytes
   one Command is = inl is
   one Rest is = inr is
@@ -165,33 +174,42 @@ Converses-write limits count old mid new coded ahead bytes piece fault served ca
   session Command is ran = string_session limits mid new bytes answers.lines answers.coded answers.exit is ran
   session Rest is ran = rw ran.1 (rest_session limits mid new bytes answers.lines answers.coded is.within is.endless ran.0)
 
--- such a fault came behind the strings
-BreaksOff-behind : (limits : Limits) (count : ℕ) (old new : Setting) (left : Option (List ℕ)) (coded : Bool) (ahead part : List ℕ) (fault : SessionFault) → Serves limits count old (record new { unread = left }) coded → Consumes left (prepend_known ahead new.unread) part → IsUnended limits part → length ahead ≤ CHUNK → (fault ≡ Read → (ahead ≡ []) ⊎ (count ≡ STRINGS)) → BreaksOff limits old new fault
-BreaksOff-behind limits count old new left coded ahead part fault served came unended one_read all_used = record {
-  count = count;
-  coded = coded;
-  left = left;
-  part = part;
-  unused = ahead;
-  served = served;
-  came = Consumes-ahead left new.unread part ahead came;
-  unended = unended;
-  one_read = one_read;
-  all_used = all_used;
-}
+pub Converses-write : (limits : Limits) (count : ℕ) (old mid new : Setting) (coded : Bool) (ahead bytes : List ℕ) (piece : Piece) (fault : SessionFault) → Serves limits count old mid coded → Consumes mid.unread (prepend_known ahead new.unread) bytes → IsPiece limits (prepend_known ahead new.unread) bytes piece → length ahead ≤ CHUNK → Answers limits piece bytes mid.world new.world mid.written new.written (Err fault) → Converses limits old new (Err fault)
+Converses-write limits count old mid new coded ahead bytes piece fault served came is one_read answers = rw answers.writes.0 (cuts-short limits count old mid new coded ahead bytes piece fault served came is one_read answers).0
+
+-- such a fault came behind the strings, and as many codes as were told
+pub breaks-behind : (limits : Limits) (count : ℕ) (old new : Setting) (left : Option (List ℕ)) (coded : Bool) (ahead part : List ℕ) (fault : SessionFault) → Serves limits count old (record new { unread = left }) coded → Consumes left (prepend_known ahead new.unread) part → IsUnended limits part → length ahead ≤ CHUNK → (fault ≡ Read → (ahead ≡ []) ⊎ (count ≡ STRINGS)) → (breaks : BreaksOff limits old new fault) × (breaks.coded ≡ coded)
+breaks-behind limits count old new left coded ahead part fault served came unended one_read all_used = (
+  record {
+    count = count;
+    coded = coded;
+    left = left;
+    part = part;
+    unused = ahead;
+    served = served;
+    came = Consumes-ahead left new.unread part ahead came;
+    unended = unended;
+    one_read = one_read;
+    all_used = all_used;
+  },
+  refl,
+)
 
 -- no piece came
 pub Converses-break : (limits : Limits) (count : ℕ) (old new : Setting) (left : Option (List ℕ)) (coded : Bool) (ahead part : List ℕ) (fault : SessionFault) → Serves limits count old (record new { unread = left }) coded → Consumes left (prepend_known ahead new.unread) part → IsUnended limits part → length ahead ≤ CHUNK → (fault ≡ Read → ahead ≡ []) → fault ≢ Write → fault ≢ Argument → Converses limits old new (Err fault)
-Converses-break limits count old new left coded ahead part Read served came unended one_read all other uncalled = BreaksOff-behind limits count old new left coded ahead part Read served came unended one_read (λ e. inl (all e))
-Converses-break limits count old new left coded ahead part Memory served came unended one_read all other uncalled = BreaksOff-behind limits count old new left coded ahead part Memory served came unended one_read (λ e. inl (all e))
+Converses-break limits count old new left coded ahead part Read served came unended one_read all other uncalled = (breaks-behind limits count old new left coded ahead part Read served came unended one_read (λ e. inl (all e))).0
+Converses-break limits count old new left coded ahead part Memory served came unended one_read all other uncalled = (breaks-behind limits count old new left coded ahead part Memory served came unended one_read (λ e. inl (all e))).0
 Converses-break limits count old new left coded ahead part Write served came unended one_read all other uncalled = absurd (other refl)
 Converses-break limits count old new left coded ahead part Argument served came unended one_read all other uncalled = absurd (uncalled refl)
 
 -- a session takes no more strings
-pub Converses-full : (limits : Limits) (count : ℕ) (old new : Setting) (coded : Bool) (ahead : List ℕ) → Serves limits count old (record new { unread = prepend_known ahead new.unread }) coded → length ahead ≤ CHUNK → count ≡ STRINGS → Converses limits old new (Err Read)
-Converses-full limits count old new coded ahead served one_read full =
+pub breaks-full : (limits : Limits) (count : ℕ) (old new : Setting) (coded : Bool) (ahead : List ℕ) → Serves limits count old (record new { unread = prepend_known ahead new.unread }) coded → length ahead ≤ CHUNK → count ≡ STRINGS → (breaks : BreaksOff limits old new Read) × (breaks.coded ≡ coded)
+breaks-full limits count old new coded ahead served one_read full =
     let left = prepend_known ahead new.unread in
-    BreaksOff-behind limits count old new left coded ahead [] Read served (Consumes-nil left) (record { endless = string_end-nil; short = served_room limits count _ _ _ _ _ served.executed (omega arith) }) one_read (λ _. inr full)
+    breaks-behind limits count old new left coded ahead [] Read served (Consumes-nil left) (record { endless = string_end-nil; short = served_room limits count _ _ _ _ _ served.executed (omega arith) }) one_read (λ _. inr full)
+
+pub Converses-full : (limits : Limits) (count : ℕ) (old new : Setting) (coded : Bool) (ahead : List ℕ) → Serves limits count old (record new { unread = prepend_known ahead new.unread }) coded → length ahead ≤ CHUNK → count ≡ STRINGS → Converses limits old new (Err Read)
+Converses-full limits count old new coded ahead served one_read full = (breaks-full limits count old new coded ahead served one_read full).0
 
 -- a rest of as many bytes as a string may have, or more, is FUL, whatever follows
 full_code : (limits : Limits) (rest more : List ℕ) → length rest ≡ limits.length → rest_code limits (rest ++ more) ≡ rest_code limits rest

@@ -3,13 +3,16 @@
 
 mod ahead;
 mod fault;
+mod listener;
 mod output;
 mod sessions;
 mod strings;
 
 pub use ahead::CHUNK;
 pub use fault::SessionFault;
-pub use sessions::{Done, STRINGS, session, session_max, write_stop};
+pub use listener::{Listener, Silent};
+pub use sessions::{Conduct, Done, STRINGS, session, session_heard, session_max, write_stop};
+pub use teco_model::Limits;
 
 #[cfg(test)]
 mod tests;

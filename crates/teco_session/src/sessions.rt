@@ -7,12 +7,14 @@ ghost use Rattle.teco_model.specs.Session as model;
 ghost use Rattle.teco_model.specs.Session.{rest_code, code_of, code_line, is_code};
 ghost use Rattle.teco_run.specs.Holdings.{Joined};
 ghost use Rattle.teco_session.specs.Answers.{Answers, Said};
+ghost use Rattle.teco_session.specs.FirstCode.{Hears};
 ghost use Rattle.teco_session.specs.Output.{Writes};
 ghost use Rattle.teco_session.specs.Sessions.{Converses, setting};
 ghost use Rattle.teco_session.specs.declared.strings.Piece.TheVariants as piece;
 
 use crate::ahead::Ahead;
 use crate::fault::SessionFault;
+use crate::listener::{Listener, Silent};
 use crate::output::write_bytes;
 use crate::strings::{Piece, next_piece};
 use std::alloc::Global;
@@ -34,6 +36,15 @@ pub struct Done {
     pub coded: bool,
     /// Did a command string end the session?
     pub exit: bool,
+}
+
+/// How a session goes on.
+#[derive(Clone, Copy)]
+pub struct Conduct {
+    /// What its command strings may have.
+    pub limits: Limits,
+    /// Does the first code end it?
+    pub until_code: bool,
 }
 
 // The code that is typed for what the host could not do.
@@ -141,87 +152,64 @@ fn said(line: Result<bool, SessionFault>, exit: bool) -> Result<Done, SessionFau
 }
 
 // Runs a command string, and writes what it types and its code line.
-fn answer_command<T: TextStore, W: Write, H: Host>(
+fn answer_command<T: TextStore, W: Write, H: Host, L: Listener<H>>(
     machine: &mut Machine<T>,
     bytes: &[u8],
     writer: &mut W,
     host: &mut H,
     limits: Limits,
+    listener: &mut L,
 ) -> Result<Done, SessionFault>
     requires { length bytes.now ≤ LIMIT }
     ensures { Joined (λ old new. Answers limits piece.Command bytes.now old new (W.contents writer.old) (W.contents writer.new) result)
         machine.old machine.new (H.files host.old) (H.files host.new) }
 {
-    let stop = machine.run(bytes, limits.steps, host);
-    let line = write_stop(machine, stop, writer);
-    said(line, is_exit(stop))
+    let stopped = machine.run_to_stop(bytes, limits.steps, host);
+    let line = write_stop(machine, stopped.stop, writer);
+    listener.stopped(bytes, &stopped, machine, host);
+    said(line, is_exit(stopped.stop))
 }
 
 // Writes the code line of a rest, which is not run.
-fn answer_rest<T: TextStore, W: Write, H: Host>(
+fn answer_rest<T: TextStore, W: Write, H: Host, L: Listener<H>>(
     machine: &Machine<T>,
     bytes: &[u8],
     writer: &mut W,
     host: &H,
     limits: Limits,
+    listener: &mut L,
 ) -> Result<Done, SessionFault>
     requires { length bytes.now ≤ LIMIT }
     ensures { Joined (λ old new. Answers limits piece.Rest bytes.now old new (W.contents writer.old) (W.contents writer.new) result)
         machine.now machine.now (H.files host.now) (H.files host.now) }
 {
-    said(write_lines(writer, &[], code_of_rest(bytes, limits)), false)
+    let code = code_of_rest(bytes, limits);
+    let line = write_lines(writer, &[], code);
+    if code.is_some() {
+        listener.rest(code);
+    }
+    said(line, false)
 }
 
 // Runs a piece of the input, if it is a command string, and writes what it types and its code line. Says whether there is
 // such a line, and whether it ends the session.
-fn answer<T: TextStore, W: Write, H: Host>(
+fn answer<T: TextStore, W: Write, H: Host, L: Listener<H>>(
     machine: &mut Machine<T>,
     piece: Piece,
     bytes: &[u8],
     writer: &mut W,
     host: &mut H,
     limits: Limits,
+    listener: &mut L,
 ) -> Result<Done, SessionFault>
     requires { length bytes.now ≤ LIMIT }
     ensures { Joined (λ old new. Answers limits piece bytes.now old new (W.contents writer.old) (W.contents writer.new) result)
         machine.old machine.new (H.files host.old) (H.files host.new) }
 {
     match piece {
-        Piece::Command => answer_command(machine, bytes, writer, host, limits),
-        Piece::Rest => answer_rest(machine, bytes, writer, host, limits),
+        Piece::Command => answer_command(machine, bytes, writer, host, limits, listener),
+        Piece::Rest => answer_rest(machine, bytes, writer, host, limits, listener),
     }
-}
-
-// Runs the command strings that a reader gives, and writes what they type and their code lines.
-fn serve<T: TextStore, R: Read, W: Write, H: Host>(
-    alloc: Global,
-    machine: &mut Machine<T>,
-    reader: &mut R,
-    writer: &mut W,
-    host: &mut H,
-    limits: Limits,
-) -> Result<Done, SessionFault>
-    requires { limits.length ≤ LIMIT }
-    ensures { Joined (λ old new. Converses limits
-        (setting old (R.remaining reader.old) (W.contents writer.old))
-        (setting new (R.remaining reader.new) (W.contents writer.new))
-        result) machine.old machine.new (H.files host.old) (H.files host.new) }
-{
-    let mut string = Vec::new(alloc);
-    let mut ahead = Ahead::new();
-    let mut coded = false;
-    for _ in 0..STRINGS {
-        let piece = next_piece(&mut string, &mut ahead, reader, limits)?;
-        let done = answer(machine, piece, string.as_slice(), writer, host, limits)?;
-        coded |= done.coded;
-        if done.exit {
-            return Ok(Done { coded, exit: true });
-        }
-        if let Piece::Rest = piece {
-            return Ok(Done { coded, exit: false });
-        }
-    }
-    Err(SessionFault::Read)
 }
 
 /// Runs the command strings that a reader gives, each for at most `limit` steps, over the files of a host. What a string
@@ -269,5 +257,55 @@ pub fn session_max<T: TextStore, R: Read, W: Write, H: Host>(
         steps: limit,
         length: max,
     };
-    serve(alloc, machine, reader, writer, host, limits)
+    let conduct = Conduct {
+        limits,
+        until_code: false,
+    };
+    session_heard(alloc, machine, reader, writer, host, conduct, &mut Silent)
+}
+
+/// A session that a listener hears: it is told how each command string stopped, once that was run. Where the conduct says so the
+/// first code ends the session: no later string is run, and the end is not that of a string that ends the session.
+pub fn session_heard<T: TextStore, R: Read, W: Write, H: Host, L: Listener<H>>(
+    alloc: Global,
+    machine: &mut Machine<T>,
+    reader: &mut R,
+    writer: &mut W,
+    host: &mut H,
+    conduct: Conduct,
+    listener: &mut L,
+) -> Result<Done, SessionFault>
+    requires { conduct.limits.length ≤ LIMIT }
+    ensures { Joined (λ old new. Hears conduct.until_code conduct.limits
+        (setting old (R.remaining reader.old) (W.contents writer.old))
+        (setting new (R.remaining reader.new) (W.contents writer.new))
+        result) machine.old machine.new (H.files host.old) (H.files host.new) }
+{
+    let limits = conduct.limits;
+    let mut string = Vec::new(alloc);
+    let mut ahead = Ahead::new();
+    let mut coded = false;
+    for _ in 0..STRINGS {
+        let piece = next_piece(&mut string, &mut ahead, reader, limits)?;
+        let done = answer(
+            machine,
+            piece,
+            string.as_slice(),
+            writer,
+            host,
+            limits,
+            listener,
+        )?;
+        coded |= done.coded;
+        if done.exit {
+            return Ok(Done { coded, exit: true });
+        }
+        if let Piece::Rest = piece {
+            return Ok(Done { coded, exit: false });
+        }
+        if conduct.until_code && coded {
+            return Ok(Done { coded, exit: false });
+        }
+    }
+    Err(SessionFault::Read)
 }

@@ -1,6 +1,7 @@
 //! Sessions over memory. Expected bytes are worked by hand from the rules.
 mod files;
 mod flow;
+mod heard;
 mod malformed;
 mod manual;
 mod searches;

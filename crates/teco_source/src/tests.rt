@@ -1,7 +1,7 @@
 // Sources and the texts that they say, worked by hand. A call that is refused memory is made once more, so that the rows also
 // hold where one allocation fails.
 use super::*;
-use std::alloc::Global;
+use std::alloc::{AllocError, Global};
 use std::process::Abort;
 use std::test::*;
 
@@ -97,4 +97,88 @@ fn lines_and_columns_count_from_one(rt: HostRuntime) {
     for (file, place, line, column) in rows {
         assert_eq!(rt; Position::of(file, place), Position { line, column });
     }
+}
+
+#[test]
+fn texts_are_shown_without_controls(rt: HostRuntime) -> Result<(), Fail> {
+    let rows: [(&[u8], &str, usize); 7] = [
+        (b"FSfoo\x1bbar\x1b;", "FSfoo$bar$;", 11),
+        (b"a\tb\x0c\x00\x7f", "a^Ib^L^@^?", 10),
+        (b"\x1bc", "$c", 2),
+        ("\u{c9}t\u{e9}".as_bytes(), "\u{c9}t\u{e9}", 3),
+        ("\u{6f22}".as_bytes(), "\u{6f22}", 2),
+        ("\u{9b}\u{202e}".as_bytes(), "\\u{9b}\\u{202e}", 14),
+        (b"\xff\xc3", "\\xff\\xc3", 8),
+    ];
+    for (text, shown, width) in rows {
+        let printed = format!(in rt.alloc(); "{}", Shown(text))?;
+        assert_eq!(rt; printed.as_str(), shown);
+        assert_eq!(rt; Shown(text).width(), width);
+    }
+    Ok(())
+}
+
+#[test]
+fn excerpts_mark_the_place(rt: HostRuntime) -> Result<(), Fail> {
+    let rows: [(&[u8], usize, &str); 4] = [
+        (b"ab\ncd\x1be\nf", 5, "    cd$e\n      ^"),
+        (b"\xc3\xa9\tD", 3, "    \u{e9}^ID\n       ^"),
+        (b"ab", 9, "    ab\n      ^"),
+        (b"", 0, "    \n    ^"),
+    ];
+    for (file, place, shown) in rows {
+        let printed = format!(in rt.alloc(); "{}", Excerpt::of(file, place))?;
+        assert_eq!(rt; printed.as_str(), shown);
+    }
+    Ok(())
+}
+
+#[test]
+fn long_lines_are_cut(rt: HostRuntime) -> Result<(), Fail> {
+    let line = [b'x'; 200];
+    let printed = format!(in rt.alloc(); "{}", Excerpt::of(&line, 100))?;
+    let lines = printed.as_str().split_once('\n');
+    assert_eq!(rt; lines.map(|(first, _)| first.len()), Some(4 + 3 + 80 + 3));
+    assert_eq!(rt; lines.map(|(_, second)| second.len()), Some(4 + 3 + 56 + 1));
+    Ok(())
+}
+
+#[test]
+fn scripts_begin_behind_their_first_line(rt: HostRuntime) {
+    let rows: [(&[u8], usize); 5] = [
+        (b"#!/usr/bin/teco run\n1=", 20),
+        (b"#!", 2),
+        (b"#1\n", 0),
+        (b"#", 0),
+        (b"1=\n#!", 0),
+    ];
+    for (file, begin) in rows {
+        assert_eq!(rt; text_begin(file), begin);
+    }
+}
+
+// A source of these bytes, in the readable form.
+fn readable(rt: &HostRuntime, bytes: &[u8]) -> Result<Source, AllocError> {
+    let copy = bytes.to_vec(rt.alloc())?;
+    Source::new(rt.alloc(), "in.tes", copy, Form::Readable)
+}
+
+#[test]
+fn sources_know_their_places(rt: HostRuntime) -> Result<(), Fail> {
+    let source = readable(&rt, b"Ia$\nI^$$5C")?;
+    assert_eq!(rt; source.name(), "in.tes");
+    assert_eq!(rt; source.text(), b"Ia\x1b\nI$\x1b5C".as_slice());
+    assert_eq!(rt; source.position(5), Position { line: 2, column: 3 });
+    let shown = format!(in rt.alloc(); "{}", source.excerpt(7))?;
+    assert_eq!(rt; shown.as_str(), "    I^$$5C\n        ^");
+    Ok(())
+}
+
+#[test]
+fn scripts_count_their_first_line(rt: HostRuntime) -> Result<(), Fail> {
+    let bytes = b"#!teco\n5C".to_vec(rt.alloc())?;
+    let source = Source::script(rt.alloc(), "s", bytes, Form::Readable)?;
+    assert_eq!(rt; source.text(), b"5C".as_slice());
+    assert_eq!(rt; source.position(1), Position { line: 2, column: 2 });
+    Ok(())
 }

@@ -1,8 +1,9 @@
 -- The items of a stack, from the top down.
-use Rattle.std.specs.Prelude.{ℕ, List, [], ◌∷◌}
+use Rattle.std.specs.Prelude.{List, [], ◌∷◌, Option, Some, None}
+use Rattle.std.specs.declared.alloc.Global.{Global}
+use Rattle.std.specs.declared.rc.Rc.{Rc}
 use Rattle.teco_stack.specs.declared.stack.Link.{Link}
-use Rattle.teco_stack.specs.declared.stack.Link.TheVariants.{End, More}
 
-abbrev pub items : {T : Type 0} → Link T → List T
-items End = []
-items (More item below) = item ∷ below.value
+abbrev pub items : {T : Type 0} → Option (Rc (Link T) Global) → List T
+items None = []
+items (Some link) = link.value.item ∷ link.value.below

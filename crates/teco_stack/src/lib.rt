@@ -3,7 +3,7 @@
 
 mod stack;
 
-pub use stack::Stack;
+pub use stack::{Chain, Stack};
 
 #[cfg(test)]
 mod tests;

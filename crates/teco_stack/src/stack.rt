@@ -1,28 +1,27 @@
 //! Stacks that share what lies below.
-ghost use Rattle.std.specs.Prelude.{◌≡◌, ◌∷◌, [], length, IfOk, OnOk, OnErr};
-ghost use Rattle.teco_stack.specs.Parts.{IsParted, IsTakenApart};
+ghost use Rattle.std.specs.Prelude.{◌≡◌, ◌∷◌, [], length, IfOk};
+ghost use Rattle.teco_stack.specs.Parts.{IsParted, IsPopped};
 
 use std::alloc::{AllocError, Global};
 use std::marker::Model;
 use std::rc::Rc;
 
-/// Items, the last of which stands on top. Copies share them, so that each takes as little time and memory as an empty one.
+/// Items from the top down, as a stack has them. Copies share them.
 #[cycle(stack)]
 #[derive(Drop)]
-pub struct Stack<T> {
-    alloc: Global,
+pub struct Chain<T> {
     height: usize,
-    top: Link<T>,
+    top: Option<Rc<Link<T>>>,
 }
 
 #[cycle(stack)]
 #[derive(Drop)]
-enum Link<T> {
-    End,
-    More(T, Rc<Stack<T>>),
+struct Link<T> {
+    item: T,
+    below: Chain<T>,
 }
 
-impl<T> Model for Stack<T> {
+impl<T> Model for Chain<T> {
     ghost use Rattle.std.specs.Prelude.{◌≡◌, List, length};
 
     ghost Value = { List T };
@@ -40,18 +39,7 @@ impl<T> Model for Stack<T> {
     ghost size_decreases = { λ a h. Prim.grind (arith) };
 }
 
-impl<T: Copy> Stack<T> {
-    /// A stack without items.
-    pub fn new(alloc: Global) -> Stack<T>
-        ensures { result ≡ [] }
-    {
-        Stack {
-            alloc,
-            height: 0,
-            top: Link::End,
-        }
-    }
-
+impl<T: Drop> Chain<T> {
     /// How many items there are.
     pub fn len(&self) -> usize
         ensures { result ≡ length self.now }
@@ -59,68 +47,159 @@ impl<T: Copy> Stack<T> {
         self.height
     }
 
+    /// The item on top, and those below.
+    pub fn parts(&self) -> Option<(&T, &Chain<T>)>
+        ensures { IsParted self.now result }
+    {
+        match &self.top {
+            None => None,
+            Some(link) => Some((&link.item, &link.below)),
+        }
+    }
+
+    /// Whether the items of two chains lie at the same place, or there are none, so that they need not be compared. No clause says
+    /// that they are then the same, since none speaks of places.
+    pub fn is_at(&self, other: &Chain<T>) -> bool {
+        match (&self.top, &other.top) {
+            (None, None) => true,
+            (Some(link), Some(others)) => Rc::ptr_eq(link, others),
+            _ => false,
+        }
+    }
+
+    // The same items once more, unless there are too many copies to be counted.
+    fn copied(&self) -> Result<Chain<T>, AllocError>
+        ensures { IfOk result (λ copy. copy ≡ self.now) }
+    {
+        let top = match &self.top {
+            None => None,
+            Some(link) => Some(link.clone()?),
+        };
+        Ok(Chain {
+            height: self.height,
+            top,
+        })
+    }
+}
+
+// Lets the items go that no other chain has, from the top down. A loop does that, so that a high stack does not run out of the
+// program's own.
+fn unwind<T: Drop>(mut chain: Chain<T>) {
+    loop {
+        let Chain { height: _, top } = chain;
+        let Some(link) = top else {
+            return;
+        };
+        let Ok(last) = Rc::try_unwrap(link) else {
+            return;
+        };
+        chain = last.below;
+    }
+}
+
+/// Items, the last of which stands on top. Copies share them, so that each takes as little time and memory as an empty one.
+pub struct Stack<T> {
+    alloc: Global,
+    chain: Chain<T>,
+}
+
+impl<T> Model for Stack<T> {
+    ghost use Rattle.std.specs.Prelude.{List};
+
+    ghost Value = { List T };
+
+    ghost view = { λ s. s.chain };
+}
+
+impl<T: Drop> Drop for Stack<T> {
+    fn drop(self) {
+        let Stack { alloc: _, chain } = self;
+        unwind(chain);
+    }
+}
+
+impl<T: Copy> Stack<T> {
+    /// A stack without items.
+    pub fn new(alloc: Global) -> Stack<T>
+        ensures { result ≡ [] }
+    {
+        Stack {
+            alloc,
+            chain: Chain {
+                height: 0,
+                top: None,
+            },
+        }
+    }
+
+    /// How many items there are.
+    pub fn len(&self) -> usize
+        ensures { result ≡ length self.now }
+    {
+        self.chain.len()
+    }
+
+    /// The items from the top down.
+    pub fn chain(&self) -> &Chain<T>
+        ensures { result.now ≡ self.now }
+    {
+        &self.chain
+    }
+
+    /// The stack of a chain's items, unless there are too many copies to be counted.
+    pub fn of(alloc: Global, chain: &Chain<T>) -> Result<Stack<T>, AllocError>
+        ensures { IfOk result (λ stack. stack ≡ chain.now) }
+    {
+        let chain = chain.copied()?;
+        Ok(Stack { alloc, chain })
+    }
+
     /// The same items once more, unless there are too many copies to be counted.
     pub fn copied(&self) -> Result<Stack<T>, AllocError>
         ensures { IfOk result (λ copy. copy ≡ self.now) }
     {
-        match &self.top {
-            Link::End => Ok(Stack::new(self.alloc)),
-            Link::More(item, below) => {
-                let below = below.clone()?;
-                Ok(Stack {
-                    alloc: self.alloc,
-                    height: self.height,
-                    top: Link::More(*item, below),
-                })
-            }
-        }
+        Stack::of(self.alloc, &self.chain)
     }
 
-    /// The item on top, and those below.
-    pub fn parts(&self) -> Option<(&T, &Stack<T>)>
-        ensures { IsParted self.now result }
+    /// Takes the item on top off, if there is one, unless there are too many copies to be counted.
+    pub fn pop(&mut self) -> Result<Option<T>, AllocError>
+        ensures { IsPopped self.old self.new result }
     {
-        match &self.top {
-            Link::End => None,
-            Link::More(item, below) => Some((item, below)),
-        }
+        let Some((item, below)) = self.chain.parts() else {
+            return Ok(None);
+        };
+        let item = *item;
+        let below = Stack::of(self.alloc, below)?;
+        *self = below;
+        Ok(Some(item))
     }
 
     /// Drops all items.
     pub fn clear(&mut self)
         ensures { self.new ≡ [] }
     {
-        self.height = 0;
-        self.top = Link::End;
-    }
-
-    /// The item on top, and the stack of those below, unless there are too many copies to be counted.
-    pub fn into_parts(self) -> Result<Option<(T, Stack<T>)>, AllocError>
-        ensures { IfOk result (λ parts. IsTakenApart self parts) }
-    {
-        match self.top {
-            Link::End => Ok(None),
-            Link::More(item, below) => match Rc::try_unwrap(below) {
-                Ok(below) => Ok(Some((item, below))),
-                Err(shared) => {
-                    let below = shared.copied()?;
-                    Ok(Some((item, below)))
-                }
-            },
-        }
+        *self = Stack::new(self.alloc);
     }
 
     /// The stack with one item more on top, if there is memory.
     pub fn with(self, item: T) -> Result<Stack<T>, AllocError>
         ensures { IfOk result (λ stack. stack ≡ item ∷ self) }
     {
-        let alloc = self.alloc;
-        let height = self.height.checked_add(1).ok_or(AllocError)?;
-        let below = Rc::new(alloc, self)?;
-        Ok(Stack {
-            alloc,
-            height,
-            top: Link::More(item, below),
-        })
+        let Stack { alloc, chain } = self;
+        let Some(height) = chain.height.checked_add(1) else {
+            unwind(chain);
+            return Err(AllocError);
+        };
+        match Rc::new(alloc, Link { item, below: chain }) {
+            Ok(link) => {
+                let top = Some(link);
+                let chain = Chain { height, top };
+                Ok(Stack { alloc, chain })
+            }
+            Err(refused) => {
+                unwind(refused.value.below);
+                Err(AllocError)
+            }
+        }
     }
 }

@@ -25,8 +25,8 @@ fn stack_of(rt: &impl Abort, alloc: Global, count: u32) -> Stack<u32> {
 fn taken(stack: &Stack<u32>) -> Result<usize, AllocError> {
     let mut rest = stack.copied()?;
     for at in 0..stack.len() {
-        match rest.into_parts()? {
-            Some((number, below)) if number as usize == below.len() => rest = below,
+        match rest.pop()? {
+            Some(number) if number as usize == rest.len() => {}
             _ => return Ok(at),
         }
     }
@@ -39,7 +39,7 @@ fn items_come_off_as_they_went_on(rt: HostRuntime) {
     assert!(rt; stack.len() == 100);
     assert!(rt; taken(&stack).ok() == Some(100));
     assert!(rt; stack.len() == 100);
-    let top = stack.parts().map(|parts| (*parts.0, parts.1.len()));
+    let top = stack.chain().parts().map(|parts| (*parts.0, parts.1.len()));
     assert!(rt; top == Some((99, 99)));
 }
 
@@ -47,5 +47,5 @@ fn items_come_off_as_they_went_on(rt: HostRuntime) {
 fn a_cleared_stack_is_empty(rt: HostRuntime) {
     let mut stack = stack_of(&rt, rt.alloc(), 3);
     stack.clear();
-    assert!(rt; stack.len() == 0 && stack.parts().is_none());
+    assert!(rt; stack.len() == 0 && stack.chain().parts().is_none());
 }

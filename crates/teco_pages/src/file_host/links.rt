@@ -1,6 +1,6 @@
 // Names that lead to files that a process has open.
 use super::target::folder_of;
-use crate::fault::Failed;
+use super::trouble::Reason;
 use std::alloc::Global;
 use std::fs::Files;
 use std::{fs, io};
@@ -10,7 +10,7 @@ const LINKS: usize = 40;
 
 /// Does a name lead to a file that a process has open, as `/dev/stdout` does? What such a link is resolved to is the file
 /// behind it, which somebody else is writing.
-pub fn leads_to_open_file<R: Files>(rt: &R, alloc: Global, name: &str) -> Result<bool, Failed> {
+pub fn leads_to_open_file<R: Files>(rt: &R, alloc: Global, name: &str) -> Result<bool, Reason> {
     let mut path = String::from_str(alloc, name)?;
     for _ in 0..LINKS {
         if is_open_files(rt.canonicalize(alloc, folder_of(&path))?.as_str()) {
@@ -21,7 +21,7 @@ pub fn leads_to_open_file<R: Files>(rt: &R, alloc: Global, name: &str) -> Result
             None => return Ok(false),
         }
     }
-    Err(Failed)
+    Err(Reason::NoPlace)
 }
 
 // Does the system keep the links to a process's open files in this folder?
@@ -30,12 +30,12 @@ fn is_open_files(folder: &str) -> bool {
 }
 
 // Where a link leads, or none where the path is no link.
-fn next_of<R: Files>(rt: &R, alloc: Global, path: &str) -> Result<Option<String>, Failed> {
+fn next_of<R: Files>(rt: &R, alloc: Global, path: &str) -> Result<Option<String>, Reason> {
     match fs::symlink_metadata(rt, path) {
         Ok(metadata) if metadata.is_symlink() => {}
         Ok(_) => return Ok(None),
         Err(e) if e.kind() == io::ErrorKind::NotFound => return Ok(None),
-        Err(_) => return Err(Failed),
+        Err(error) => return Err(Reason::System(error)),
     }
     let mut next = String::new(alloc);
     let link = rt.read_link(alloc, path)?.into_string();

@@ -2,7 +2,7 @@
 ghost use Rattle.std.specs.Prelude.{◌≤◌, length, vec_len, IfOk};
 
 use super::descriptor::above_standard;
-use crate::fault::Failed;
+use super::trouble::Reason;
 use std::alloc::Global;
 use std::fs::{Files, OpenFile};
 use std::io::Read;
@@ -21,6 +21,8 @@ pub struct Source<F: Drop> {
     // the bytes of it that were read, and those that were given
     filled: usize,
     given: usize,
+    // the length that a regular file had when it was opened
+    length: Option<u64>,
     ghost in_order: { given ≤ filled },
     ghost within: { filled ≤ vec_len ahead },
 }
@@ -31,11 +33,11 @@ impl<F: OpenFile + Read + Drop> Source<F> {
         rt: &R,
         alloc: Global,
         name: &[u8],
-    ) -> Result<Source<F>, Failed> {
+    ) -> Result<Source<F>, Reason> {
         let file = above_standard(fs::open(rt, str::from_utf8(name)?)?)?;
         let metadata = file.metadata()?;
         if metadata.is_dir() {
-            return Err(Failed);
+            return Err(Reason::Folder);
         }
         let room = usize::try_from(metadata.len()).unwrap_or(MOST);
         Ok(Source {
@@ -43,7 +45,13 @@ impl<F: OpenFile + Read + Drop> Source<F> {
             ahead: vec![in alloc; 0; room.clamp(LEAST, MOST)]?,
             filled: 0,
             given: 0,
+            length: metadata.is_file().then_some(metadata.len()),
         })
+    }
+
+    /// How many bytes the file had when it was opened, where it is a regular one.
+    pub fn length(&self) -> Option<u64> {
+        self.length
     }
 
     /// Reads the next bytes, one at least unless the file is at its end.

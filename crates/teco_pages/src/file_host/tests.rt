@@ -345,3 +345,87 @@ fn no_more_than_the_limit_is_read(rt: HostRuntime) -> Result<(), Fail> {
     }
     Ok(remove(&rt, "somleut_test_limit")?)
 }
+
+// What could not be done last, in words.
+fn told(host: &FileHost<HostRuntime>, alloc: Global) -> Result<String, AllocError> {
+    match host.trouble() {
+        None => String::from_str(alloc, "nothing"),
+        Some(trouble) => {
+            let Trouble {
+                purpose,
+                name,
+                reason,
+            } = trouble;
+            let name = String::from_utf8_lossy(alloc, name)?;
+            format!(in alloc; "{purpose} {name}: {reason}")
+        }
+    }
+}
+
+#[test]
+fn troubles_name_file_and_reason(rt: HostRuntime) -> Result<(), Fail> {
+    scratch(&rt, "somleut_test_trouble")?;
+    let mut host = host(&rt);
+    assert!(rt; host.open_in(b"somleut_test_trouble/none").is_err());
+    assert_eq!(rt;
+        told(&host, rt.alloc())?.as_str(),
+        "open input somleut_test_trouble/none: No such file or directory (os error 2)"
+    );
+    assert!(rt; host.open_in(b"somleut_test_trouble").is_err());
+    assert_eq!(rt;
+        told(&host, rt.alloc())?.as_str(),
+        "open input somleut_test_trouble: it is a folder"
+    );
+    assert!(rt; host.open_out(b"somleut_test_trouble/a/b").is_err());
+    assert_eq!(rt;
+        told(&host, rt.alloc())?.as_str(),
+        "open output somleut_test_trouble/a/b: No such file or directory (os error 2)"
+    );
+    assert!(rt; host.open_out(b"somleut_test_trouble/\xff").is_err());
+    assert_eq!(rt;
+        told(&host, rt.alloc())?.as_str(),
+        "open output somleut_test_trouble/\u{fffd}: its name is no UTF-8 text"
+    );
+    remove(&rt, "somleut_test_trouble")?;
+    Ok(())
+}
+
+#[test]
+fn an_input_tells_what_is_left(rt: HostRuntime) -> Result<(), Fail> {
+    scratch(&rt, "somleut_test_left")?;
+    fs::write(&rt, "somleut_test_left/in", b"abcde")?;
+    let mut host = host(&rt);
+    assert_eq!(rt; host.left_of_input(), None);
+    host.open_in(b"somleut_test_left/in")?;
+    assert_eq!(rt; host.left_of_input(), Some(5));
+    let mut two = [0; 2];
+    assert_eq!(rt; host.read(&mut two)?, 2);
+    assert_eq!(rt; host.left_of_input(), Some(3));
+    remove(&rt, "somleut_test_left")?;
+    Ok(())
+}
+
+#[test]
+fn equal_outputs_leave_their_targets(rt: HostRuntime) -> Result<(), Fail> {
+    scratch(&rt, "somleut_test_equal")?;
+    let path = "somleut_test_equal/out";
+    fs::write(&rt, path, b"same")?;
+    let rows: [(Closing, &[u8], Closed, &[u8]); 5] = [
+        (Closing::ReplacesOther, b"same", Closed::Same, b"same"),
+        (Closing::Compares, b"new", Closed::Changed, b"same"),
+        (Closing::Compares, b"sam", Closed::Changed, b"same"),
+        (Closing::ReplacesOther, b"new", Closed::Changed, b"new"),
+        (Closing::Replaces, b"new", Closed::Changed, b"new"),
+    ];
+    for (closing, bytes, closed, left) in rows {
+        let mut host = host(&rt);
+        host.set_closing(closing);
+        begin_out(&mut host, path, bytes)?;
+        host.close_out()?;
+        assert_eq!(rt; host.closed(), Some(closed));
+        assert!(rt; is_file(&rt, path, left)?);
+        assert_eq!(rt; names(&rt, "somleut_test_equal")?, 1);
+    }
+    remove(&rt, "somleut_test_equal")?;
+    Ok(())
+}

@@ -5,10 +5,10 @@ use super::descriptor::above_standard;
 use super::inheritance::inherit_owner;
 use super::size_limit::size_limit;
 use super::target::{Target, folder_of};
-use crate::fault::Failed;
+use super::trouble::Reason;
 use std::alloc::Global;
 use std::fs::{Files, OpenFile, OpenOptions, Permissions};
-use std::io::Write;
+use std::io::{BufRead, BufReader, Write};
 use std::os::unix::fs::{MetadataExt, OpenOptionsExt};
 use std::time::{Clock, Duration};
 use std::{fs, io, str};
@@ -21,6 +21,26 @@ const PRIVATE: u32 = 0o600;
 
 // How many bytes of small writes are kept together.
 const KEPT: usize = 1 << 16;
+
+/// What becomes of an output that is closed.
+#[derive(Clone, Copy, Debug, PartialEq, Eq)]
+pub enum Closing {
+    /// It replaces its target.
+    Replaces,
+    /// It replaces its target, unless that has the same bytes already.
+    ReplacesOther,
+    /// It is compared with its target, and dropped.
+    Compares,
+}
+
+/// What became of an output that was closed.
+#[derive(Clone, Copy, Debug, PartialEq, Eq)]
+pub enum Closed {
+    /// Its target has other bytes now, or would have, where it was only compared.
+    Changed,
+    /// Its target has the same bytes as before.
+    Same,
+}
 
 /// An output that is not closed yet: a new file beside its target.
 #[derive(Drop)]
@@ -46,7 +66,7 @@ impl<F: OpenFile + Write + Drop> Unfinished<F> {
         rt: &R,
         alloc: Global,
         name: &[u8],
-    ) -> Result<Unfinished<F>, Failed> {
+    ) -> Result<Unfinished<F>, Reason> {
         let target = Target::of(rt, alloc, str::from_utf8(name)?)?;
         let (file, beside) = make_beside(rt, alloc, &target)?;
         let permissions = target
@@ -65,7 +85,7 @@ impl<F: OpenFile + Write + Drop> Unfinished<F> {
     }
 
     /// Writes the first of some bytes, one at least of any.
-    pub fn write_some(&mut self, bytes: &[u8]) -> Result<usize, Failed>
+    pub fn write_some(&mut self, bytes: &[u8]) -> Result<usize, Reason>
         ensures bound { IfOk result (λ n. n ≤ length bytes.now) }
         ensures some { IfOk result (λ n. 0 < length bytes.now → 0 < n) }
     {
@@ -73,7 +93,7 @@ impl<F: OpenFile + Write + Drop> Unfinished<F> {
             .len()
             .min(usize::try_from(self.room).unwrap_or(usize::MAX));
         if most == 0 && !bytes.is_empty() {
-            return Err(Failed);
+            return Err(Reason::SizeLimit);
         }
         let n = self.keep_or_send(&bytes[..most])?;
         self.room = self.room.saturating_sub(n as u64);
@@ -81,7 +101,7 @@ impl<F: OpenFile + Write + Drop> Unfinished<F> {
     }
 
     // Keeps bytes for later, or writes the first of them, one at least of any.
-    fn keep_or_send(&mut self, bytes: &[u8]) -> Result<usize, Failed>
+    fn keep_or_send(&mut self, bytes: &[u8]) -> Result<usize, Reason>
         ensures bound { IfOk result (λ n. n ≤ length bytes.now) }
         ensures some { IfOk result (λ n. 0 < length bytes.now → 0 < n) }
     {
@@ -93,19 +113,19 @@ impl<F: OpenFile + Write + Drop> Unfinished<F> {
             return Ok(bytes.len());
         }
         match self.file.write(bytes)? {
-            0 => Err(Failed),
+            0 => Err(no_room()),
             n => Ok(n),
         }
     }
 
     // Writes what was kept. What a failure leaves of it is kept on.
-    fn send(&mut self) -> Result<(), Failed> {
+    fn send(&mut self) -> Result<(), Reason> {
         for _ in 0..u64::MAX {
             if self.sent == self.kept.len() {
                 break;
             }
             match self.file.write(&self.kept[self.sent..])? {
-                0 => return Err(Failed),
+                0 => return Err(no_room()),
                 n => self.sent += n,
             }
         }
@@ -121,21 +141,59 @@ impl<F: OpenFile + Write + Drop> Unfinished<F> {
         }
     }
 
-    /// Moves it over its target, or removes it.
-    pub fn finish<R: Files>(mut self, rt: &R) -> Result<(), Failed> {
-        let is_written = self.send().is_ok();
-        self.give_permissions();
-        if is_written
-            && self.file.sync_all().is_ok()
-            && self.is_in_place(rt)
-            && fs::rename(rt, &self.beside, &self.target).is_ok()
-        {
-            // the name is there, and may only be lost with the power
-            let _synced = sync_folder(rt, &self.target);
-            return Ok(());
+    /// Moves it over its target or removes it, as the closing says.
+    pub fn finish<R: Files>(
+        mut self,
+        rt: &R,
+        alloc: Global,
+        closing: Closing,
+    ) -> Result<Closed, Reason> {
+        match self.settle(rt, alloc, closing) {
+            Ok(Settled::Moved) => Ok(Closed::Changed),
+            Ok(Settled::Left(closed)) => {
+                self.abandon(rt)?;
+                Ok(closed)
+            }
+            Err(reason) => {
+                self.abandon(rt)?;
+                Err(reason)
+            }
         }
-        self.abandon(rt)?;
-        Err(Failed)
+    }
+
+    // Writes what was kept, and moves it over its target where that is asked for.
+    fn settle<R: Files>(
+        &mut self,
+        rt: &R,
+        alloc: Global,
+        closing: Closing,
+    ) -> Result<Settled, Reason> {
+        let written = self.send();
+        self.give_permissions();
+        written?;
+        if closing != Closing::Replaces {
+            let is_same = is_same_file(rt, alloc, &self.beside, &self.target)?;
+            if is_same {
+                return Ok(Settled::Left(Closed::Same));
+            }
+            if closing == Closing::Compares {
+                return Ok(Settled::Left(Closed::Changed));
+            }
+        }
+        self.move_over(rt)?;
+        Ok(Settled::Moved)
+    }
+
+    // Moves it over its target.
+    fn move_over<R: Files>(&self, rt: &R) -> Result<(), Reason> {
+        self.file.sync_all()?;
+        if !self.is_in_place(rt) {
+            return Err(Reason::Taken);
+        }
+        fs::rename(rt, &self.beside, &self.target)?;
+        // the name is there, and may only be lost with the power
+        let _synced = sync_folder(rt, &self.target);
+        Ok(())
     }
 
     /// Removes it.
@@ -158,12 +216,53 @@ impl<F: OpenFile + Write + Drop> Unfinished<F> {
     }
 }
 
+// What became of the file that was written.
+#[derive(Clone, Copy)]
+enum Settled {
+    Moved,
+    Left(Closed),
+}
+
+// Have two files the same bytes? A file that isn't there has others.
+fn is_same_file<R: Files>(rt: &R, alloc: Global, one: &str, other: &str) -> Result<bool, Reason> {
+    if !fs::exists(rt, other)? {
+        return Ok(false);
+    }
+    let mut one = BufReader::new(alloc, fs::open(rt, one)?)?;
+    let mut other = BufReader::new(alloc, fs::open(rt, other)?)?;
+    for _ in 0..u64::MAX {
+        let used = match same_front(one.fill_buf()?, other.fill_buf()?) {
+            None => return Ok(false),
+            Some(0) => return Ok(true),
+            Some(used) => used,
+        };
+        one.consume(used);
+        other.consume(used);
+    }
+    Ok(false)
+}
+
+// How many bytes at the front of two texts are the same, all of the shorter; none where they differ, or where one is at its
+// end and the other is not.
+fn same_front(one: &[u8], other: &[u8]) -> Option<usize> {
+    let length = one.len().min(other.len());
+    if one.is_empty() != other.is_empty() || one[..length] != other[..length] {
+        return None;
+    }
+    Some(length)
+}
+
+// A write that took nothing.
+fn no_room() -> Reason {
+    Reason::System(io::ErrorKind::WriteZero.into())
+}
+
 // Makes a file in the target's folder, under a name that no file has.
 fn make_beside<R: Files + Clock>(
     rt: &R,
     alloc: Global,
     target: &Target,
-) -> Result<(R::File, String), Failed> {
+) -> Result<(R::File, String), Reason> {
     let mut options = OpenOptions::new();
     options.write(true).create_new(true);
     if target.replaced.is_some() {
@@ -175,10 +274,10 @@ fn make_beside<R: Files + Clock>(
         match options.open(rt, &beside) {
             Ok(file) => return Ok((above_standard(file)?, beside)),
             Err(e) if e.kind() == io::ErrorKind::AlreadyExists => {}
-            Err(_) => return Err(Failed),
+            Err(error) => return Err(Reason::System(error)),
         }
     }
-    Err(Failed)
+    Err(Reason::NoPlace)
 }
 
 // A number that was hardly given before: the time of day.
@@ -190,7 +289,7 @@ fn stamp<R: Clock>(rt: &R) -> u64 {
 }
 
 // The name of a number in the folder of a path.
-fn name_beside(alloc: Global, path: &str, n: u64) -> Result<String, Failed> {
+fn name_beside(alloc: Global, path: &str, n: u64) -> Result<String, Reason> {
     match path.rsplit_once('/') {
         Some((folder, _)) => Ok(format!(in alloc; "{folder}/.somleut-{n:x}")?),
         None => Ok(format!(in alloc; ".somleut-{n:x}")?),

@@ -228,6 +228,7 @@ fn what_is_open(rt: HostRuntime) -> Result<(), Fail> {
     let mut host = files(rt.alloc(), b"ab\x0ccd")?;
     let mut pages = Pages::new(rt.alloc());
     assert!(rt; pages.page().is_none() && pages.input_name().is_none());
+    assert_eq!(rt; pages.read_ahead(), 0);
     // without an input the next page is empty
     assert!(rt; pages.next_page(&mut host).is_ok());
     assert_eq!(rt; pages.page(), Some((b"".as_slice(), false)));
@@ -242,7 +243,12 @@ fn what_is_open(rt: HostRuntime) -> Result<(), Fail> {
     assert!(rt; pages.open_in(b"no", &mut host).is_err());
     assert_eq!(rt; pages.input_name(), Some(b"in".as_slice()));
     assert_eq!(rt; pages.page(), Some((b"ab".as_slice(), true)));
+    // all five bytes were given at once
+    assert_eq!(rt; pages.read_ahead(), 5);
+    pages.accept_page();
+    assert_eq!(rt; pages.read_ahead(), 2);
     pages.close_in();
+    assert_eq!(rt; pages.read_ahead(), 0);
     assert!(rt; pages.page().is_none() && pages.input_name().is_none());
     if pages.open_out(b"out", &mut host).is_err() {
         pages.open_out(b"out", &mut host)?;

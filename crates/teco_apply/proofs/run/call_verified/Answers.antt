@@ -15,11 +15,11 @@ returns-clause-calls g c =
       linked = c.expansions_are_linked.ensures;
       verified = c.runs_are_verified.ensures;
       sure = c.runs_are_sure.ensures;
-    }) (record { found = found; given = c.args.given }) c.run.result c.args.machine.now c.run.new.self (g.H.Host.files c.args.host.now) (g.H.Host.files c.run.new.host) (record {
+    }) (record { found = found; given = c.args.given }) c.run_to_stop.result.stop c.args.machine.now c.run_to_stop.new.self (g.H.Host.files c.args.host.now) (g.H.Host.files c.run_to_stop.new.host) (record {
       certified = c.is_certified.ensures;
       loaded = c.requires.loaded;
       whole = c.is_whole.ensures;
       named = subst (λ r. r < REGISTERS) (c.index.ensures.value ∙ c.entry-entry.ensures) c.index.ensures.within;
       files = c.requires.files;
       taken = c.requires.taken;
-    }) (subst (λ call. Joined (λ old new. Stops (start call old) MOST c.run.result new) c.args.machine.now c.run.new.self (g.H.Host.files c.args.host.now) (g.H.Host.files c.run.new.host)) text c.run.ensures.stops)
+    }) (subst (λ call. Joined (λ old new. Stops (start call old) MOST c.run_to_stop.result.stop new) c.args.machine.now c.run_to_stop.new.self (g.H.Host.files c.args.host.now) (g.H.Host.files c.run_to_stop.new.host)) text c.run_to_stop.ensures.stops)

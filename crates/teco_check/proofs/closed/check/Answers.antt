@@ -3,9 +3,9 @@ use Rattle.teco_table.specs.Closed.{check_nodes, check}
 use Rattle.teco_check.proofs.Steps.{check_more, says_of}
 use Rattle.teco_check.proofs.closed.check.Goals as goal
 
-pub returns-then-not-is_entry : goal.returns-then-not-is_entry
+pub returns-then-not-begins : goal.returns-then-not-begins
 unfolding check_nodes check
-returns-then-not-is_entry c = search rules
+returns-then-not-begins c = search rules
 
 pub loop-at-init : goal.loop-at-init
 unfolding check_nodes check

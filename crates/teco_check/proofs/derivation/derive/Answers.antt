@@ -1,10 +1,10 @@
-use Rattle.std.proofs.Common.{◌≡◌, ◌<◌, Err, length, rules, refl, arith}
+use Rattle.std.proofs.Common.{◌≡◌, ◌∙◌, ◌<◌, Err, length, rules, refl, arith}
 use Rattle.teco_check.proofs.Arriving.{begun, row_more, row_said}
 use Rattle.teco_check.proofs.derivation.derive.Goals as goal
 
 pub loop-at-init : goal.loop-at-init
 loop-at-init c =
-    rw c.new-table.ensures (begun c.args.argument c.args.nodes.now c.args.chosen.now c.put.new.self (rw (c.put.ensures, c.entry.ensures, c.in-Ok.ensures, c.len.ensures) refl))
+    rw c.new-table.ensures (begun c.args.argument c.args.nodes.now c.args.chosen.now c.in-Ok.arrived (c.in-Ok.ensures ∙ rw c.len.ensures refl))
 
 pub returns-in_err-row : goal.returns-in_err-row
 returns-in_err-row c =

@@ -1,4 +1,4 @@
-use Rattle.std.proofs.Common.{◌∙◌, ap, get_or, false, add-one, arith}
+use Rattle.std.proofs.Common.{◌∙◌, false, add-one, arith}
 use Rattle.std.proofs.lemmas.List.{get_or_default}
 use Rattle.teco_facts.proofs.Joins.{saved_more, saved_all, length-saved}
 use Rattle.teco_facts.proofs.saved.joined_saved.Goals as goal

@@ -10,13 +10,13 @@ use Rattle.teco_session.specs.declared.strings.Piece.TheVariants as piece
 
 pub returns : goal.returns
 returns g c =
-    let stop = c.run-stop.result in
+    let stop = c.run_to_stop-stopped.result.stop in
     Joined-typed (λ (old : World) (after : World). Stops (start c.args.bytes.now old) c.args.limits.steps stop after)
     (λ (old : World) (new : World). Answers c.args.limits piece.Command c.args.bytes.now old new (g.W.Write.contents c.args.writer.now) (g.W.Write.contents c.write_stop-line.new.writer) c.said.result)
-    c.args.machine.now c.run-stop.new.self c.write_stop-line.new.machine
-    (g.H.Host.files c.args.host.now) (g.H.Host.files c.run-stop.new.host) c.write_stop-line.ensures.taken
+    c.args.machine.now c.run_to_stop-stopped.new.self c.write_stop-line.new.machine
+    (g.H.Host.files c.args.host.now) (g.H.Host.files c.run_to_stop-stopped.new.host) c.write_stop-line.ensures.taken
     (λ (old : World) (after : World) same stops. record {
-      lines = c.run-stop.new.self.kept.typed ++ code_line (code_of stop);
+      lines = c.run_to_stop-stopped.new.self.kept.typed ++ code_line (code_of stop);
       coded = is_code (code_of stop);
       exit = is_exit stop;
       ran = record { stop = stop; after = after; stops = stops; stays = refl; all_lines = ap (λ (kept : Kept). kept.typed ++ code_line (code_of stop)) (sym same); a_line = refl; an_exit = refl };
@@ -24,4 +24,4 @@ returns g c =
       coded_told = said-coded _ _ _ _ c.said.ensures c.write_stop-line.ensures.told;
       exit_told = rw c.is_exit.ensures at (said-exit _ _ _ c.said.ensures);
     })
-    c.run-stop.ensures.stops
+    c.run_to_stop-stopped.ensures.stops

@@ -1,0 +1,53 @@
+//! What keeps the program from obeying its words.
+use crate::words::WordsFault;
+use std::alloc::{AllocError, AllocFailed};
+use std::io;
+use teco_tools::ToolFault;
+use thiserror::Error;
+
+/// Why the program ends with its status of failure.
+#[derive(Debug, Drop, Error)]
+pub enum ProgramFault {
+    /// The command line is not valid.
+    #[error("{0}")]
+    Words(WordsFault),
+    /// What was asked for can't be done.
+    #[error("{0}")]
+    Tool(ToolFault),
+    /// The system failed.
+    #[error("{0}")]
+    System(io::Error),
+    /// A growth was refused.
+    #[error("out of memory")]
+    Memory,
+}
+
+impl From<WordsFault> for ProgramFault {
+    fn from(fault: WordsFault) -> ProgramFault {
+        ProgramFault::Words(fault)
+    }
+}
+
+impl From<ToolFault> for ProgramFault {
+    fn from(fault: ToolFault) -> ProgramFault {
+        ProgramFault::Tool(fault)
+    }
+}
+
+impl From<io::Error> for ProgramFault {
+    fn from(error: io::Error) -> ProgramFault {
+        ProgramFault::System(error)
+    }
+}
+
+impl From<AllocError> for ProgramFault {
+    fn from(_refused: AllocError) -> ProgramFault {
+        ProgramFault::Memory
+    }
+}
+
+impl<T: Drop> From<AllocFailed<T>> for ProgramFault {
+    fn from(_refused: AllocFailed<T>) -> ProgramFault {
+        ProgramFault::Memory
+    }
+}

@@ -1,0 +1,137 @@
+use Rattle.std.proofs.Common.{◌≡◌, ◌+◌, ◌∙◌, ℕ, Ok, Err, true, refl, ap, arith}
+use Rattle.teco_apply.proofs.ByPages.{Joined-too_many, each-ends, each-full, each-more, each-stops, macro-goes_on, macro-stops, page-closes}
+use Rattle.teco_apply.specs.ByPages.{BehindPage, PagesTurned, nothing_done}
+use Rattle.teco_apply.specs.Sure.{Call}
+use Rattle.teco_apply.specs.declared.by_pages.TheConstants.{PAGES}
+use Rattle.teco_apply.specs.declared.stages.Ran.TheVariants as ran
+use Rattle.teco_apply.specs.declared.stages.Tally.{Tally}
+use Rattle.teco_model.specs.State.{World}
+use Rattle.teco_session.proofs.Together.{Joined-stays}
+use Rattle.teco_apply.proofs.by_pages.edit_each.Goals as goal
+
+pub loop-init : goal.loop-init
+loop-init g c = record {
+  turned =
+      rw c.new-done.ensures (Joined-stays (λ (old : World) (new : World). PagesTurned (record { found = c.args.verified.now; given = c.args.given }) old (g.H.Host.failures c.args.host.now) (g.W.Write.contents c.args.writer.now) nothing_done new (g.H.Host.failures c.args.host.now) (g.W.Write.contents c.args.writer.now))
+      c.args.machine.now (g.H.Host.files c.args.host.now) (λ world. PagesTurned.none));
+  failures = refl;
+  pages = ap (λ (t : Tally). t.pages) c.new-done.ensures;
+}
+
+-- an edit that ends with the macro
+pub returns-in-Ok-Coded-clause-edits : goal.returns-in-Ok-Coded-clause-edits
+returns-in-Ok-Coded-clause-edits g c =
+    let now = c.loop in
+    let call : Call = record { found = c.args.verified.now; given = c.args.given } in
+    each-ends call now.done c.args.machine.now now.machine c.run_admitted.new.machine
+    (g.H.Host.files c.args.host.now) (g.H.Host.files now.host) (g.H.Host.files c.run_admitted.new.host)
+    (g.H.Host.failures c.args.host.now) (g.H.Host.failures now.host) (g.H.Host.failures c.run_admitted.new.host)
+    (g.W.Write.contents c.args.writer.now) (g.W.Write.contents now.writer) (g.W.Write.contents c.run_admitted.new.writer)
+    (Ok c.edited.result) now.invariant.turned
+    (macro-stops call now.done BehindPage now.machine c.run_admitted.new.machine (g.H.Host.files now.host) (g.H.Host.files c.run_admitted.new.host)
+    (g.H.Host.failures now.host) (g.H.Host.failures c.run_admitted.new.host) (g.W.Write.contents now.writer) (g.W.Write.contents c.run_admitted.new.writer)
+    (Ok ran.Coded) (Ok c.edited.result) (ap Ok c.edited.ensures) (rw c.in-Ok-Coded.field-0-is at c.in-Ok-Coded.ensures.runs))
+
+pub returns-in-Ok-Refused-clause-edits : goal.returns-in-Ok-Refused-clause-edits
+returns-in-Ok-Refused-clause-edits g c =
+    let now = c.loop in
+    let call : Call = record { found = c.args.verified.now; given = c.args.given } in
+    each-ends call now.done c.args.machine.now now.machine c.run_admitted.new.machine
+    (g.H.Host.files c.args.host.now) (g.H.Host.files now.host) (g.H.Host.files c.run_admitted.new.host)
+    (g.H.Host.failures c.args.host.now) (g.H.Host.failures now.host) (g.H.Host.failures c.run_admitted.new.host)
+    (g.W.Write.contents c.args.writer.now) (g.W.Write.contents now.writer) (g.W.Write.contents c.run_admitted.new.writer)
+    (Ok c.edited-in-Ok-Refused.result) now.invariant.turned
+    (macro-stops call now.done BehindPage now.machine c.run_admitted.new.machine (g.H.Host.files now.host) (g.H.Host.files c.run_admitted.new.host)
+    (g.H.Host.failures now.host) (g.H.Host.failures c.run_admitted.new.host) (g.W.Write.contents now.writer) (g.W.Write.contents c.run_admitted.new.writer)
+    (Ok ran.Refused) (Ok c.edited-in-Ok-Refused.result) (ap Ok c.edited-in-Ok-Refused.ensures) (rw c.in-Ok-Refused.field-0-is at c.in-Ok-Refused.ensures.runs))
+
+pub returns-in-Err-clause-edits : goal.returns-in-Err-clause-edits
+returns-in-Err-clause-edits g c =
+    let now = c.loop in
+    let call : Call = record { found = c.args.verified.now; given = c.args.given } in
+    each-ends call now.done c.args.machine.now now.machine c.run_admitted.new.machine
+    (g.H.Host.files c.args.host.now) (g.H.Host.files now.host) (g.H.Host.files c.run_admitted.new.host)
+    (g.H.Host.failures c.args.host.now) (g.H.Host.failures now.host) (g.H.Host.failures c.run_admitted.new.host)
+    (g.W.Write.contents c.args.writer.now) (g.W.Write.contents now.writer) (g.W.Write.contents c.run_admitted.new.writer)
+    (Err c.in-Err.fault) now.invariant.turned
+    (macro-stops call now.done BehindPage now.machine c.run_admitted.new.machine (g.H.Host.files now.host) (g.H.Host.files c.run_admitted.new.host)
+    (g.H.Host.failures now.host) (g.H.Host.failures c.run_admitted.new.host) (g.W.Write.contents now.writer) (g.W.Write.contents c.run_admitted.new.writer)
+    (Err c.in-Err.fault) (Err c.in-Err.fault) refl c.in-Err.ensures.runs)
+
+-- an edit that ends behind the macro
+pub returns-in-Ok-Through-clause-edits : goal.returns-in-Ok-Through-clause-edits
+returns-in-Ok-Through-clause-edits g c =
+    let now = c.loop in
+    let call : Call = record { found = c.args.verified.now; given = c.args.given } in
+    let closing = rw c.after-done.ensures at c.close.ensures.closes in
+    each-ends call now.done c.args.machine.now now.machine c.close.new.machine
+    (g.H.Host.files c.args.host.now) (g.H.Host.files now.host) (g.H.Host.files c.close.new.host)
+    (g.H.Host.failures c.args.host.now) (g.H.Host.failures now.host) (g.H.Host.failures c.close.new.host)
+    (g.W.Write.contents c.args.writer.now) (g.W.Write.contents now.writer) (g.W.Write.contents c.close.new.writer)
+    c.close.result now.invariant.turned
+    (macro-goes_on call now.done BehindPage now.machine c.run_admitted.new.machine c.close.new.machine
+    (g.H.Host.files now.host) (g.H.Host.files c.run_admitted.new.host) (g.H.Host.files c.close.new.host)
+    (g.H.Host.failures now.host) (g.H.Host.failures c.run_admitted.new.host) (g.H.Host.failures c.close.new.host)
+    (g.W.Write.contents now.writer) (g.W.Write.contents c.run_admitted.new.writer) (g.W.Write.contents c.close.new.writer)
+    c.in-Ok-On.steps c.close.result (rw c.in-Ok-On.field-0-is at c.in-Ok-On.ensures.runs)
+    (page-closes _ c.run_admitted.new.machine c.turn.new.machine c.close.new.machine
+    (g.H.Host.files c.run_admitted.new.host) (g.H.Host.files c.turn.new.host) (g.H.Host.files c.close.new.host)
+    (g.H.Host.failures c.run_admitted.new.host) (g.H.Host.failures c.turn.new.host) (g.H.Host.failures c.close.new.host)
+    (g.W.Write.contents c.run_admitted.new.writer) (g.W.Write.contents c.turn.new.writer) (g.W.Write.contents c.close.new.writer)
+    c.close.result (rw c.in-Ok-Through.field-0-is at c.in-Ok-Through.ensures.turns) closing))
+
+pub returns-in-Ok-Coded-turn-clause-edits : goal.returns-in-Ok-Coded-turn-clause-edits
+returns-in-Ok-Coded-turn-clause-edits g c =
+    let now = c.loop in
+    let call : Call = record { found = c.args.verified.now; given = c.args.given } in
+    let told = rw c.after-done.ensures at c.edited-in-Ok-Coded-turn.ensures in
+    each-stops call now.done c.args.machine.now now.machine c.run_admitted.new.machine c.turn.new.machine
+    (g.H.Host.files c.args.host.now) (g.H.Host.files now.host) (g.H.Host.files c.run_admitted.new.host) (g.H.Host.files c.turn.new.host)
+    (g.H.Host.failures c.args.host.now) (g.H.Host.failures now.host) (g.H.Host.failures c.run_admitted.new.host) (g.H.Host.failures c.turn.new.host)
+    (g.W.Write.contents c.args.writer.now) (g.W.Write.contents now.writer) (g.W.Write.contents c.run_admitted.new.writer) (g.W.Write.contents c.turn.new.writer)
+    c.in-Ok-On.steps (Ok true) (Ok c.edited-in-Ok-Coded-turn.result) (λ same. cc) (ap Ok told) now.invariant.turned
+    (rw c.in-Ok-On.field-0-is at c.in-Ok-On.ensures.runs) (rw c.in-Ok-Coded-turn.field-0-is at c.in-Ok-Coded-turn.ensures.turns)
+
+pub returns-in-Err-turn-clause-edits : goal.returns-in-Err-turn-clause-edits
+returns-in-Err-turn-clause-edits g c =
+    let now = c.loop in
+    let call : Call = record { found = c.args.verified.now; given = c.args.given } in
+    each-stops call now.done c.args.machine.now now.machine c.run_admitted.new.machine c.turn.new.machine
+    (g.H.Host.files c.args.host.now) (g.H.Host.files now.host) (g.H.Host.files c.run_admitted.new.host) (g.H.Host.files c.turn.new.host)
+    (g.H.Host.failures c.args.host.now) (g.H.Host.failures now.host) (g.H.Host.failures c.run_admitted.new.host) (g.H.Host.failures c.turn.new.host)
+    (g.W.Write.contents c.args.writer.now) (g.W.Write.contents now.writer) (g.W.Write.contents c.run_admitted.new.writer) (g.W.Write.contents c.turn.new.writer)
+    c.in-Ok-On.steps (Err c.in-Err-turn.fault) (Err c.in-Err-turn.fault) (λ same. cc) refl now.invariant.turned
+    (rw c.in-Ok-On.field-0-is at c.in-Ok-On.ensures.runs) c.in-Err-turn.ensures.turns
+
+pub loop-preserved : goal.loop-preserved
+loop-preserved g c =
+    let now = c.loop in
+    let call : Call = record { found = c.args.verified.now; given = c.args.given } in
+    let ran_on = rw c.in-Ok-On.field-0-is at c.in-Ok-On.ensures.counted in
+    let turned_on = rw c.in-Ok-On-turn.field-0-is at c.in-Ok-On-turn.ensures.counted in
+    record {
+      turned =
+          rw c.after-done.ensures
+          (each-more call now.done c.args.machine.now now.machine c.run_admitted.new.machine c.turn.new.machine
+          (g.H.Host.files c.args.host.now) (g.H.Host.files now.host) (g.H.Host.files c.run_admitted.new.host) (g.H.Host.files c.turn.new.host)
+          (g.H.Host.failures c.args.host.now) (g.H.Host.failures now.host) (g.H.Host.failures c.run_admitted.new.host) (g.H.Host.failures c.turn.new.host)
+          (g.W.Write.contents c.args.writer.now) (g.W.Write.contents now.writer) (g.W.Write.contents c.run_admitted.new.writer) (g.W.Write.contents c.turn.new.writer)
+          c.in-Ok-On.steps now.invariant.turned
+          (rw c.in-Ok-On.field-0-is at c.in-Ok-On.ensures.runs) (rw c.in-Ok-On-turn.field-0-is at c.in-Ok-On-turn.ensures.turns));
+      failures = turned_on ∙ (ran_on ∙ now.invariant.failures);
+      pages = rw c.after-done.ensures (ap (λ (n : ℕ). n + 1) now.invariant.pages);
+    }
+
+pub returns-clause-edits : goal.returns-clause-edits
+returns-clause-edits g c =
+    let now = c.loop in
+    let call : Call = record { found = c.args.verified.now; given = c.args.given } in
+    let all : now.done.pages ≡ PAGES = omega arith in
+    let lines = rw c.not_begun.ensures at c.tell.ensures.lines in
+    let told = rw c.not_begun.ensures at c.tell.ensures.told in
+    each-full call now.done c.args.machine.now now.machine c.tell.new.machine
+    (g.H.Host.files c.args.host.now) (g.H.Host.files now.host) (g.H.Host.files now.host)
+    (g.H.Host.failures c.args.host.now) (g.H.Host.failures now.host) (g.H.Host.failures now.host)
+    (g.W.Write.contents c.args.writer.now) (g.W.Write.contents now.writer) (g.W.Write.contents c.tell.new.writer)
+    c.tell.result c.ended.result all c.ended.ensures now.invariant.turned
+    (Joined-too_many now.machine c.tell.new.machine (g.H.Host.files now.host) (g.H.Host.failures now.host) (g.W.Write.contents now.writer) (g.W.Write.contents c.tell.new.writer) c.tell.result lines told c.tell.ensures.taken)

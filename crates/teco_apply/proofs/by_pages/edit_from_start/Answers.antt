@@ -1,0 +1,30 @@
+use Rattle.std.proofs.Common.{Ok, Err, true, refl}
+use Rattle.teco_apply.proofs.ByPages.{behind-goes_on, behind-stops, ends-coded}
+use Rattle.teco_apply.specs.Apply.{AnswersText}
+use Rattle.teco_apply.specs.ByPages.{Once, to_start}
+use Rattle.teco_apply.proofs.by_pages.edit_from_start.Goals as goal
+
+pub returns-in-Ok-false-clause-edits : goal.returns-in-Ok-false-clause-edits
+returns-in-Ok-false-clause-edits g c =
+    behind-goes_on (AnswersText to_start) (Once (record { found = c.args.verified.now; given = c.args.given }))
+    c.args.machine.now c.answer_text.new.machine c.edit_once.new.machine
+    (g.H.Host.files c.args.host.now) (g.H.Host.files c.answer_text.new.host) (g.H.Host.files c.edit_once.new.host)
+    (g.H.Host.failures c.args.host.now) (g.H.Host.failures c.answer_text.new.host) (g.H.Host.failures c.edit_once.new.host)
+    (g.W.Write.contents c.args.writer.now) (g.W.Write.contents c.answer_text.new.writer) (g.W.Write.contents c.edit_once.new.writer)
+    c.edit_once.result (rw c.in-Ok-false.field-0-test at c.in-Ok-false.ensures.answers) c.edit_once.ensures.edits
+
+pub returns-in-Ok-true-clause-edits : goal.returns-in-Ok-true-clause-edits
+returns-in-Ok-true-clause-edits g c =
+    behind-stops (AnswersText to_start) (Once (record { found = c.args.verified.now; given = c.args.given }))
+    c.args.machine.now c.answer_text.new.machine (g.H.Host.files c.args.host.now) (g.H.Host.files c.answer_text.new.host)
+    (g.H.Host.failures c.args.host.now) (g.H.Host.failures c.answer_text.new.host)
+    (g.W.Write.contents c.args.writer.now) (g.W.Write.contents c.answer_text.new.writer)
+    (Ok true) (Ok c.edited.result) (λ same. cc) (ends-coded c.new.result c.edited.result c.new.ensures c.edited.ensures) (rw c.in-Ok-true.field-0-test at c.in-Ok-true.ensures.answers)
+
+pub returns-in-Err-clause-edits : goal.returns-in-Err-clause-edits
+returns-in-Err-clause-edits g c =
+    behind-stops (AnswersText to_start) (Once (record { found = c.args.verified.now; given = c.args.given }))
+    c.args.machine.now c.answer_text.new.machine (g.H.Host.files c.args.host.now) (g.H.Host.files c.answer_text.new.host)
+    (g.H.Host.failures c.args.host.now) (g.H.Host.failures c.answer_text.new.host)
+    (g.W.Write.contents c.args.writer.now) (g.W.Write.contents c.answer_text.new.writer)
+    (Err c.in-Err.fault) (Err c.in-Err.fault) (λ same. cc) refl c.in-Err.ensures.answers

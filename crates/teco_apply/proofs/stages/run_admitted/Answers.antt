@@ -1,0 +1,12 @@
+use Rattle.teco_apply.proofs.ByPages.{Joined-runs}
+use Rattle.teco_apply.proofs.stages.run_admitted.Goals as goal
+
+pub returns-clause-runs : goal.returns-clause-runs
+returns-clause-runs g c =
+    Joined-runs (record { found = c.args.verified.now; given = c.args.given })
+    c.args.machine.now c.run_guarded.new.machine c.tell-line.new.machine
+    (g.H.Host.files c.args.host.now) (g.H.Host.files c.run_guarded.new.host)
+    (g.H.Host.failures c.args.host.now) (g.H.Host.failures c.run_guarded.new.host)
+    (g.W.Write.contents c.args.writer.now) (g.W.Write.contents c.tell-line.new.writer)
+    c.in-Some.stopped.stop c.tell-line.result c.ran_by.result c.ran_by.ensures c.in-Some.ensures.counted
+    c.tell-line.ensures.lines c.tell-line.ensures.told c.tell-line.ensures.taken c.in-Some.ensures.stops

@@ -1,0 +1,287 @@
+//! Editing a file by a verified macro, by pages.
+ghost use Rattle.std.specs.Prelude.{◌≡◌, ◌≤◌, ◌<◌, ◌↔◌, Err, length};
+ghost use Rattle.teco_apply.specs.Apply.{LineCounts};
+ghost use Rattle.teco_apply.specs.ByPages.{AllPages, EachPage, EditsPages, EditsText, FileCounts, FileEdited, FromStart, Gathers, Once, PagesCount, is_dropped};
+ghost use Rattle.teco_apply.specs.Sure.{IsTaken};
+ghost use Rattle.teco_base.specs.declared.TheConstants.{LIMIT};
+ghost use Rattle.teco_run.specs.Holdings.{Joined};
+ghost use Rattle.teco_session.specs.declared.fault.SessionFault.TheVariants as fault;
+
+#[cfg(test)]
+mod tests;
+
+use crate::editing::{NAME, answer_text, drop_if_coded, opening, tell};
+use crate::guard::Guard;
+use crate::run::takes;
+use crate::stages::{Ran, Tally, Turned, close, not_begun, run_admitted, turn};
+use std::alloc::Global;
+use std::io::Write;
+use teco_base::bytes::ESC;
+use teco_model::Stop;
+use teco_pages::Host;
+use teco_run::Machine;
+use teco_session::SessionFault;
+use teco_text::TextStore;
+use teco_verify::Verified;
+
+/// How many pages an edit takes; more are answered with `LIM`.
+pub const PAGES: u64 = 4_294_967_296;
+
+/// Which pages of a file a macro edits.
+#[derive(Clone, Copy)]
+pub enum Pages {
+    /// The first; the others are copied.
+    First,
+    /// Each in turn, as long as bytes are unread.
+    Each,
+    /// All as one, with the form feeds between them.
+    Whole,
+}
+
+/// How a file is edited.
+#[derive(Clone, Copy)]
+pub struct Edit<'a> {
+    /// The name of the file.
+    pub source: &'a [u8],
+    /// The name of the file that is made.
+    pub target: &'a [u8],
+    /// The macro's argument.
+    pub given: Option<i32>,
+    /// The pages that are edited.
+    pub pages: Pages,
+}
+
+/// What came of an edit.
+#[derive(Clone, Copy)]
+pub struct Edited {
+    /// Was a code line written?
+    pub coded: bool,
+    /// Did the guard refuse a run?
+    pub refused: bool,
+    /// On how many pages the macro came to its end.
+    pub pages: u64,
+    /// In how many steps together, or the greatest number if it took more.
+    pub steps: u64,
+}
+
+// Runs the macro on what is read, and closes the output.
+fn edit_once<T: TextStore, H: Host, W: Write, G: Guard<H>>(
+    machine: &mut Machine<T>,
+    verified: &Verified<'_>,
+    given: Option<i32>,
+    host: &mut H,
+    writer: &mut W,
+    guard: &mut G,
+) -> Result<Edited, SessionFault>
+    requires { IsTaken verified.now.fields.argument given }
+    ensures edits { Joined (λ old new. Once (record { found = verified.now; given = given }) old new
+        (H.failures host.old) (H.failures host.new) (W.contents writer.old) (W.contents writer.new) result)
+        machine.old machine.new (H.files host.old) (H.files host.new) }
+    ensures counted { PagesCount result (H.failures host.old) (H.failures host.new) }
+{
+    let done = Tally::new();
+    match run_admitted(machine, verified, given, host, writer, guard) {
+        Ok(Ran::On { steps }) => close(machine, done.after(steps), host, writer, guard),
+        Ok(Ran::Coded) => Ok(done.edited(true, false)),
+        Ok(Ran::Refused) => Ok(done.edited(false, true)),
+        Err(fault) => Err(fault),
+    }
+}
+
+// Runs the macro on each page in turn, as long as bytes are unread behind it, and closes the output.
+fn edit_each<T: TextStore, H: Host, W: Write, G: Guard<H>>(
+    machine: &mut Machine<T>,
+    verified: &Verified<'_>,
+    given: Option<i32>,
+    host: &mut H,
+    writer: &mut W,
+    guard: &mut G,
+) -> Result<Edited, SessionFault>
+    requires { IsTaken verified.now.fields.argument given }
+    ensures edits { Joined (λ old new. EachPage (record { found = verified.now; given = given }) old new
+        (H.failures host.old) (H.failures host.new) (W.contents writer.old) (W.contents writer.new) result)
+        machine.old machine.new (H.files host.old) (H.files host.new) }
+    ensures counted { PagesCount result (H.failures host.old) (H.failures host.new) }
+{
+    let mut done = Tally::new();
+    for _ in 0..PAGES {
+        match run_admitted(machine, verified, given, host, writer, guard) {
+            Ok(Ran::On { steps }) => done = done.after(steps),
+            Ok(Ran::Coded) => return Ok(done.edited(true, false)),
+            Ok(Ran::Refused) => return Ok(done.edited(false, true)),
+            Err(fault) => return Err(fault),
+        }
+        match turn(machine, b"P", host, writer, guard) {
+            Ok(Turned::On) => {}
+            Ok(Turned::Through) => return close(machine, done, host, writer, guard),
+            Ok(Turned::Coded) => return Ok(done.edited(true, false)),
+            Err(fault) => return Err(fault),
+        }
+    }
+    done.ended(tell(machine, b"P", &not_begun(Stop::Limit), host, writer, guard))
+}
+
+// Reads all pages behind the first, as long as bytes are unread. Says whether there is a code.
+fn gather<T: TextStore, H: Host, W: Write, G: Guard<H>>(
+    machine: &mut Machine<T>,
+    host: &mut H,
+    writer: &mut W,
+    guard: &mut G,
+) -> Result<bool, SessionFault>
+    ensures gathers { Joined (λ old new. Gathers old new
+        (H.failures host.old) (H.failures host.new) (W.contents writer.old) (W.contents writer.new) result)
+        machine.old machine.new (H.files host.old) (H.files host.new) }
+    ensures counted { LineCounts result (H.failures host.old) (H.failures host.new) }
+{
+    let next = &[b'Z', b'J', b'1', b'2', b'I', ESC, b'A'];
+    for _ in 0..PAGES {
+        match turn(machine, next, host, writer, guard) {
+            Ok(Turned::On) => {}
+            Ok(Turned::Through) => return Ok(false),
+            Ok(Turned::Coded) => return Ok(true),
+            Err(fault) => return Err(fault),
+        }
+    }
+    tell(machine, next, &not_begun(Stop::Limit), host, writer, guard)
+}
+
+// Goes to the start of what is read, runs the macro, and closes the output.
+fn edit_from_start<T: TextStore, H: Host, W: Write, G: Guard<H>>(
+    machine: &mut Machine<T>,
+    verified: &Verified<'_>,
+    given: Option<i32>,
+    host: &mut H,
+    writer: &mut W,
+    guard: &mut G,
+) -> Result<Edited, SessionFault>
+    requires { IsTaken verified.now.fields.argument given }
+    ensures edits { Joined (λ old new. FromStart (record { found = verified.now; given = given }) old new
+        (H.failures host.old) (H.failures host.new) (W.contents writer.old) (W.contents writer.new) result)
+        machine.old machine.new (H.files host.old) (H.files host.new) }
+    ensures counted { PagesCount result (H.failures host.old) (H.failures host.new) }
+{
+    match answer_text(machine, b"J", host, writer, guard) {
+        Ok(false) => edit_once(machine, verified, given, host, writer, guard),
+        Ok(true) => Ok(Tally::new().edited(true, false)),
+        Err(fault) => Err(fault),
+    }
+}
+
+// Reads all pages, and runs the macro on them as one.
+fn edit_whole<T: TextStore, H: Host, W: Write, G: Guard<H>>(
+    machine: &mut Machine<T>,
+    verified: &Verified<'_>,
+    given: Option<i32>,
+    host: &mut H,
+    writer: &mut W,
+    guard: &mut G,
+) -> Result<Edited, SessionFault>
+    requires { IsTaken verified.now.fields.argument given }
+    ensures edits { Joined (λ old new. AllPages (record { found = verified.now; given = given }) old new
+        (H.failures host.old) (H.failures host.new) (W.contents writer.old) (W.contents writer.new) result)
+        machine.old machine.new (H.files host.old) (H.files host.new) }
+    ensures counted { PagesCount result (H.failures host.old) (H.failures host.new) }
+{
+    match gather(machine, host, writer, guard) {
+        Ok(false) => edit_from_start(machine, verified, given, host, writer, guard),
+        Ok(true) => Ok(Tally::new().edited(true, false)),
+        Err(fault) => Err(fault),
+    }
+}
+
+// Edits pages once the first is read.
+fn edit_pages<T: TextStore, H: Host, W: Write, G: Guard<H>>(
+    machine: &mut Machine<T>,
+    verified: &Verified<'_>,
+    edit: &Edit<'_>,
+    host: &mut H,
+    writer: &mut W,
+    guard: &mut G,
+) -> Result<Edited, SessionFault>
+    requires { IsTaken verified.now.fields.argument edit.now.given }
+    ensures edits { Joined (λ old new. EditsPages edit.now.pages (record { found = verified.now; given = edit.now.given }) old new
+        (H.failures host.old) (H.failures host.new) (W.contents writer.old) (W.contents writer.new) result)
+        machine.old machine.new (H.files host.old) (H.files host.new) }
+    ensures counted { PagesCount result (H.failures host.old) (H.failures host.new) }
+{
+    match edit.pages {
+        Pages::First => edit_once(machine, verified, edit.given, host, writer, guard),
+        Pages::Each => edit_each(machine, verified, edit.given, host, writer, guard),
+        Pages::Whole => edit_whole(machine, verified, edit.given, host, writer, guard),
+    }
+}
+
+// Opens the files, and edits the pages.
+fn edit_opened<T: TextStore, H: Host, W: Write, G: Guard<H>>(
+    machine: &mut Machine<T>,
+    verified: &Verified<'_>,
+    edit: &Edit<'_>,
+    opening: &[u8],
+    host: &mut H,
+    writer: &mut W,
+    guard: &mut G,
+) -> Result<Edited, SessionFault>
+    requires taken { IsTaken verified.now.fields.argument edit.now.given }
+    requires opening { length opening.now ≤ LIMIT }
+    ensures edits { Joined (λ old new. EditsText edit.now.pages (record { found = verified.now; given = edit.now.given }) opening.now old new
+        (H.failures host.old) (H.failures host.new) (W.contents writer.old) (W.contents writer.new) result)
+        machine.old machine.new (H.files host.old) (H.files host.new) }
+    ensures counted { PagesCount result (H.failures host.old) (H.failures host.new) }
+{
+    match answer_text(machine, opening, host, writer, guard) {
+        Ok(false) => edit_pages(machine, verified, edit, host, writer, guard),
+        Ok(true) => Ok(Tally::new().edited(true, false)),
+        Err(fault) => Err(fault),
+    }
+}
+
+// Is the output dropped?
+fn dropped(edited: Result<Edited, SessionFault>) -> Result<bool, SessionFault>
+    ensures { result ≡ is_dropped edited }
+{
+    match edited {
+        Ok(edited) => Ok(edited.coded || edited.refused),
+        Err(fault) => Err(fault),
+    }
+}
+
+/// Edits a file by a verified macro into another file, over the files of a host: both are opened and the first page is read; the
+/// macro is run on the pages that the edit names, and before each run the guard is asked; then the rest is copied and the output
+/// closed. The library's texts are loaded anew before each run. What each of these runs types is written behind it, and its
+/// code line. After the first code, and after a refusal of the guard, no more is run, and the output is dropped.
+///
+/// An argument, the first command string's memory, and a fault of writing are as with `apply`.
+pub fn edit_file<T: TextStore, H: Host, W: Write, G: Guard<H>>(
+    alloc: Global,
+    machine: &mut Machine<T>,
+    verified: &Verified<'_>,
+    edit: &Edit<'_>,
+    host: &mut H,
+    writer: &mut W,
+    guard: &mut G,
+) -> Result<Edited, SessionFault>
+    requires source { length edit.now.source.now ≤ NAME }
+    requires target { length edit.now.target.now ≤ NAME }
+    ensures edits { Joined (λ old new. FileEdited edit.now.pages (record { found = verified.now; given = edit.now.given })
+        edit.now.source.now edit.now.target.now old new
+        (H.failures host.old) (H.failures host.new) (W.contents writer.old) (W.contents writer.new) result)
+        machine.old machine.new (H.files host.old) (H.files host.new) }
+    ensures argument { (result ≡ Err fault.Argument) ↔ (¬ IsTaken verified.now.fields.argument edit.now.given) }
+    ensures counted { FileCounts result (H.failures host.old) (H.failures host.new) }
+{
+    if !takes(verified, edit.given) {
+        return Err(SessionFault::Argument);
+    }
+    let opening = opening(alloc, edit.source, edit.target)?;
+    let edited = edit_opened(
+        machine,
+        verified,
+        edit,
+        opening.as_slice(),
+        host,
+        writer,
+        guard,
+    );
+    drop_if_coded(machine, dropped(edited), host);
+    edited
+}

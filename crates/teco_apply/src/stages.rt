@@ -1,0 +1,226 @@
+//! What edits are made of: command strings, and the runs of a macro, which a guard admits and hears.
+ghost use Rattle.std.specs.Prelude.{◌≡◌, ◌≤◌, ◌<◌, ◌+◌, ◌^◌, MatchOption, length, false};
+ghost use Rattle.teco_apply.specs.Apply.{AnswersText, LineCounts, MacroStops};
+ghost use Rattle.teco_apply.specs.ByPages as edit;
+ghost use Rattle.teco_apply.specs.ByPages.{Closing, EndsWith, PagesCount, RanBy, RanCounts, RunsAdmitted, TurnCounts, TurnedBy, Turns, edited_with, nothing_done, tally_after};
+ghost use Rattle.teco_apply.specs.Sure.{IsTaken, kept_loaded};
+ghost use Rattle.teco_base.specs.declared.TheConstants.{LIMIT};
+ghost use Rattle.teco_run.specs.Counts.{StopCounts};
+ghost use Rattle.teco_run.specs.Holdings.{Joined};
+
+use crate::by_pages::Edited;
+use crate::editing::{answer_text, stop_of, tell};
+use crate::guard::Guard;
+use crate::run::{call_text, call_verified, make_ready};
+use std::io::Write;
+use teco_model::Stop;
+use teco_pages::Host;
+use teco_run::{Machine, Site, Stopped};
+use teco_session::SessionFault;
+use teco_text::TextStore;
+use teco_verify::Verified;
+
+/// What the macro came to.
+#[derive(Clone, Copy)]
+pub enum Ran {
+    /// An end, after this many steps.
+    On { steps: u64 },
+    /// A code.
+    Coded,
+    /// The guard did not admit it.
+    Refused,
+}
+
+/// What came of a command string that is run where bytes are unread.
+#[derive(Clone, Copy)]
+pub enum Turned {
+    /// It was run.
+    On,
+    /// No bytes are unread.
+    Through,
+    /// A code.
+    Coded,
+}
+
+/// How many pages are edited, and in how many steps.
+#[derive(Clone, Copy)]
+pub struct Tally {
+    pub pages: u64,
+    pub steps: u64,
+}
+
+impl Tally {
+    /// None yet.
+    pub fn new() -> Tally
+        ensures { result ≡ nothing_done }
+    {
+        Tally { pages: 0, steps: 0 }
+    }
+
+    /// One page more.
+    pub fn after(self, steps: u64) -> Tally
+        requires { self.pages + 1 < 2 ^ 64 }
+        ensures { result ≡ tally_after steps self }
+    {
+        Tally {
+            pages: self.pages + 1,
+            steps: self.steps.saturating_add(steps),
+        }
+    }
+
+    /// What is answered of them.
+    pub fn edited(self, coded: bool, refused: bool) -> Edited
+        ensures { result ≡ edited_with self coded refused }
+    {
+        Edited {
+            coded,
+            refused,
+            pages: self.pages,
+            steps: self.steps,
+        }
+    }
+
+    /// The same where the last command string was a code, or was none.
+    pub fn ended(self, line: Result<bool, SessionFault>) -> Result<Edited, SessionFault>
+        ensures { EndsWith self line result }
+    {
+        match line {
+            Ok(coded) => Ok(self.edited(coded, false)),
+            Err(fault) => Err(fault),
+        }
+    }
+}
+
+// The steps of a run that came to an end.
+fn steps_of(stop: Stop) -> u64
+    ensures { result ≡ edit.steps_of stop }
+{
+    match stop {
+        Stop::Ended { steps } => steps,
+        Stop::Exit { steps } => steps,
+        Stop::Error(_) | Stop::Limit | Stop::Memory | Stop::HostFault(_) => 0,
+    }
+}
+
+/// A command string that is not begun.
+pub fn not_begun(stop: Stop) -> Stopped
+    ensures { result.stop ≡ stop }
+{
+    Stopped {
+        stop,
+        steps: 0,
+        site: Site {
+            register: None,
+            place: 0,
+        },
+    }
+}
+
+// What the macro came to, by whether a code was written.
+fn ran_by(line: Result<bool, SessionFault>, stop: Stop) -> Result<Ran, SessionFault>
+    ensures { RanBy line stop result }
+{
+    match line {
+        Ok(false) => Ok(Ran::On {
+            steps: steps_of(stop),
+        }),
+        Ok(true) => Ok(Ran::Coded),
+        Err(fault) => Err(fault),
+    }
+}
+
+// Runs the macro, if the guard admits that; `None` where it does not, and the library is loaded then.
+fn run_guarded<T: TextStore, H: Host, G: Guard<H>>(
+    machine: &mut Machine<T>,
+    verified: &Verified<'_>,
+    given: Option<i32>,
+    host: &mut H,
+    guard: &mut G,
+) -> Option<Stopped>
+    requires { IsTaken verified.now.fields.argument given }
+    ensures stops { MatchOption result
+        ((machine.new ≡ record machine.old { kept = kept_loaded verified.now.library machine.old.kept }) × (host.new ≡ host.old))
+        (λ stopped. Joined (λ old new. MacroStops false (record { found = verified.now; given = given }) old stopped.stop new)
+        machine.old machine.new (H.files host.old) (H.files host.new)) }
+    ensures counted { MatchOption result (host.new ≡ host.old)
+        (λ stopped. StopCounts stopped.stop (H.failures host.old) (H.failures host.new)) }
+{
+    if let Err(not_ready) = make_ready(machine, verified, given) {
+        return Some(not_begun(stop_of(not_ready)));
+    }
+    if !guard.admits(machine.held(), machine.read_ahead(), host) {
+        return None;
+    }
+    Some(call_verified(machine, verified, given, host))
+}
+
+/// Runs the macro, if the guard admits that, and writes what it types and its code line.
+pub fn run_admitted<T: TextStore, H: Host, W: Write, G: Guard<H>>(
+    machine: &mut Machine<T>,
+    verified: &Verified<'_>,
+    given: Option<i32>,
+    host: &mut H,
+    writer: &mut W,
+    guard: &mut G,
+) -> Result<Ran, SessionFault>
+    requires { IsTaken verified.now.fields.argument given }
+    ensures runs { Joined (λ old new. RunsAdmitted (record { found = verified.now; given = given }) old new
+        (H.failures host.old) (H.failures host.new) (W.contents writer.old) (W.contents writer.new) result)
+        machine.old machine.new (H.files host.old) (H.files host.new) }
+    ensures counted { RanCounts result (H.failures host.old) (H.failures host.new) }
+{
+    let Some(stopped) = run_guarded(machine, verified, given, host, guard) else {
+        return Ok(Ran::Refused);
+    };
+    let call = call_text(verified.entry(), given);
+    let line = tell(machine, call.as_slice(), &stopped, host, writer, guard);
+    ran_by(line, stopped.stop)
+}
+
+// What came of a command string that was run, by whether a code was written.
+fn turned_by(line: Result<bool, SessionFault>) -> Result<Turned, SessionFault>
+    ensures { TurnedBy line result }
+{
+    match line {
+        Ok(false) => Ok(Turned::On),
+        Ok(true) => Ok(Turned::Coded),
+        Err(fault) => Err(fault),
+    }
+}
+
+/// Runs a command string, if bytes are unread. Where that cannot be told, why is written.
+pub fn turn<T: TextStore, H: Host, W: Write, G: Guard<H>>(
+    machine: &mut Machine<T>,
+    text: &[u8],
+    host: &mut H,
+    writer: &mut W,
+    guard: &mut G,
+) -> Result<Turned, SessionFault>
+    requires { length text.now ≤ LIMIT }
+    ensures turns { Joined (λ old new. Turns text.now old new (H.failures host.old) (H.failures host.new)
+        (W.contents writer.old) (W.contents writer.new) result)
+        machine.old machine.new (H.files host.old) (H.files host.new) }
+    ensures counted { TurnCounts result (H.failures host.old) (H.failures host.new) }
+{
+    match machine.has_unread(host) {
+        Ok(false) => Ok(Turned::Through),
+        Ok(true) => turned_by(answer_text(machine, text, host, writer, guard)),
+        Err(why) => turned_by(tell(machine, text, &not_begun(why), host, writer, guard)),
+    }
+}
+
+/// Closes the output.
+pub fn close<T: TextStore, H: Host, W: Write, G: Guard<H>>(
+    machine: &mut Machine<T>,
+    done: Tally,
+    host: &mut H,
+    writer: &mut W,
+    guard: &mut G,
+) -> Result<Edited, SessionFault>
+    ensures closes { Joined (λ old new. Closing done old new (H.failures host.old) (H.failures host.new)
+        (W.contents writer.old) (W.contents writer.new) result)
+        machine.old machine.new (H.files host.old) (H.files host.new) }
+    ensures counted { PagesCount result (H.failures host.old) (H.failures host.new) }
+{
+    done.ended(answer_text(machine, b"EC", host, writer, guard))
+}

@@ -1,0 +1,302 @@
+//! What stands about a place of a text.
+
+use arrayvec::ArrayVec;
+use teco_lex::element;
+use teco_model::Element;
+use teco_model::kind::{Argument, Command, Flow, Kind, Motion, Page, Query, Storage, Unit, Value};
+
+/// How many iterations in one another are followed.
+const DEPTH: usize = 8;
+
+/// What an element is, as far as hints go.
+#[derive(Clone, Copy, PartialEq, Eq)]
+pub enum Role {
+    /// A comma.
+    Comma,
+    /// The number 0.
+    Zero,
+    /// Another number, operator or parenthesis, or a place of the machine's.
+    Number,
+    /// `^S`
+    LastLength,
+    /// `Q`
+    Saved,
+    /// `nA`, or A alone.
+    Character,
+    /// `J`
+    Jump,
+    /// `R`
+    Back,
+    /// `L`
+    Lines,
+    /// `K`
+    Kill,
+    /// `X`
+    Copy,
+    /// `G`
+    Get,
+    /// `P`
+    NextPage,
+    Search,
+    File,
+    Begin,
+    End,
+    Test,
+    EndTest,
+    Other,
+}
+
+/// An element of a text, as far as hints go.
+#[derive(Clone, Copy)]
+pub struct Sign {
+    pub role: Role,
+    /// Does it have a `:`, or answer a number in any case?
+    pub answers: bool,
+    /// Is its text empty?
+    pub is_empty: bool,
+    /// Does its text have `^EQ` in it?
+    pub has_register: bool,
+    // where the next element begins
+    next: usize,
+}
+
+/// What an iteration does.
+#[derive(Clone, Copy, Default)]
+pub struct Body {
+    pub searches: bool,
+    /// `R`, or `0L`.
+    pub goes_back: bool,
+    /// `L` or `K`.
+    pub moves_lines: bool,
+    pub turns_pages: bool,
+    /// `X`.
+    pub copies: bool,
+    /// `G`.
+    pub gets: bool,
+}
+
+/// The element at a place, and what comes before it.
+#[derive(Clone, Copy)]
+pub struct Around {
+    pub here: Option<Sign>,
+    pub before: Option<Sign>,
+    /// The innermost iteration that is open there, or that ends there, up to the place.
+    pub body: Option<Body>,
+    /// Is a register's number a part of the range that ends there?
+    pub has_saved_range: bool,
+    /// Was a character looked at for the conditional round it?
+    pub tests_character: bool,
+    /// Is the answer of an earlier command still pending?
+    pub answers_before: bool,
+}
+
+// The role of a value or an argument.
+fn role_of_number(kind: &Kind, text: &[u8]) -> Role {
+    match kind {
+        Kind::Argument(Argument::DropAll) => Role::Other,
+        Kind::Argument(Argument::Comma) => Role::Comma,
+        Kind::Argument(Argument::Digits) if text == b"0".as_slice() => Role::Zero,
+        Kind::Value(Value::LastLength) => Role::LastLength,
+        Kind::Query(Query::Number(_)) => Role::Saved,
+        Kind::Argument(_) | Kind::Value(_) => Role::Number,
+        _ => Role::Other,
+    }
+}
+
+// The role of a command.
+fn role_of_command(command: &Command) -> Role {
+    match command {
+        Command::Motion(Motion::To) => Role::Jump,
+        Command::Motion(Motion::Backward) => Role::Back,
+        Command::Motion(Motion::Lines) => Role::Lines,
+        Command::Deletion(Unit::Lines) => Role::Kill,
+        Command::Storage(Storage::Copy(_)) => Role::Copy,
+        Command::Storage(Storage::Get(_)) => Role::Get,
+        _ => Role::Other,
+    }
+}
+
+// The role of what decides where execution goes on.
+fn role_of_flow(flow: &Flow) -> Role {
+    match flow {
+        Flow::Iterate => Role::Begin,
+        Flow::EndTurn => Role::End,
+        Flow::Test(_) => Role::Test,
+        Flow::EndTest => Role::EndTest,
+        _ => Role::Other,
+    }
+}
+
+// The role of an element.
+fn role_of(kind: &Kind, text: &[u8]) -> Role {
+    match kind {
+        Kind::Command(command) => role_of_command(command),
+        Kind::Flow(flow) => role_of_flow(flow),
+        Kind::Search(_) => Role::Search,
+        Kind::File(_) => Role::File,
+        Kind::Page(Page::Append) => Role::Character,
+        Kind::Page(Page::Next) => Role::NextPage,
+        _ => role_of_number(kind, text),
+    }
+}
+
+// Does an element answer a number beside what it does?
+fn has_answer(kind: &Kind, colons: u8) -> bool {
+    match kind {
+        Kind::Command(Command::Storage(Storage::Add(_))) => true,
+        Kind::Command(Command::Motion(_)) | Kind::Search(_) => colons > 0,
+        _ => false,
+    }
+}
+
+// Does a search text have ^EQ in it, by the control byte or the pair?
+fn names_register(text: &[u8]) -> bool {
+    let mut before = 0;
+    for byte in text {
+        if byte.eq_ignore_ascii_case(&b'q') && (before == 5 || before == b'E' || before == b'e') {
+            return true;
+        }
+        before = *byte;
+    }
+    false
+}
+
+// The element at a place of a text, if one can be read there.
+fn sign_at(text: &[u8], place: usize) -> Option<Sign> {
+    if place > text.len() {
+        return None;
+    }
+    match element(text, place) {
+        Ok(Some(found)) => Some(sign_of(&found)),
+        _ => None,
+    }
+}
+
+fn sign_of(found: &Element<'_>) -> Sign {
+    Sign {
+        role: role_of(&found.kind, found.text),
+        answers: has_answer(&found.kind, found.colons),
+        is_empty: found.text.is_empty(),
+        has_register: names_register(found.text),
+        next: found.next,
+    }
+}
+
+impl Body {
+    // One more element of it.
+    fn note(&mut self, role: Role, is_behind_zero: bool) {
+        match role {
+            Role::Search => self.searches = true,
+            Role::Back => self.goes_back = true,
+            Role::Lines if is_behind_zero => self.goes_back = true,
+            Role::Lines | Role::Kill => self.moves_lines = true,
+            Role::NextPage => self.turns_pages = true,
+            Role::Copy => self.copies = true,
+            Role::Get => self.gets = true,
+            _ => {}
+        }
+    }
+}
+
+// What is known as the elements before a place are passed.
+#[derive(Drop)]
+struct Walk {
+    around: Around,
+    // the iterations that are open
+    open: ArrayVec<Body, DEPTH>,
+    // a character was looked at, and only numbers came since
+    looks: bool,
+    has_comma: bool,
+    has_saved: bool,
+}
+
+impl Walk {
+    // Nothing is passed.
+    fn new() -> Walk {
+        Walk {
+            around: Around {
+                here: None,
+                before: None,
+                body: None,
+                has_saved_range: false,
+                tests_character: false,
+                answers_before: false,
+            },
+            open: ArrayVec::new(),
+            looks: false,
+            has_comma: false,
+            has_saved: false,
+        }
+    }
+
+    // Brackets are opened and closed.
+    fn pass_bracket(&mut self, role: Role) {
+        match role {
+            Role::Begin => {
+                let _known = self.open.try_push(Body::default());
+            }
+            Role::End => {
+                let _closed = self.open.pop();
+            }
+            Role::Test => self.around.tests_character = self.looks,
+            Role::EndTest => self.around.tests_character = false,
+            _ => {}
+        }
+    }
+
+    // The arguments go on, or are taken.
+    fn pass_argument(&mut self, sign: Sign) {
+        match sign.role {
+            Role::Comma => self.has_comma = true,
+            Role::Saved => self.has_saved = true,
+            Role::Zero | Role::Number | Role::LastLength => {}
+            role => {
+                self.has_comma = false;
+                self.has_saved = false;
+                self.looks = role == Role::Character;
+                self.around.answers_before = sign.answers;
+            }
+        }
+    }
+
+    // An element is passed.
+    fn pass(&mut self, sign: Sign) {
+        let is_behind_zero = match self.around.before {
+            Some(before) => before.role == Role::Zero,
+            None => false,
+        };
+        for body in self.open.as_mut_slice().iter_mut() {
+            body.note(sign.role, is_behind_zero);
+        }
+        self.pass_bracket(sign.role);
+        self.pass_argument(sign);
+        self.around.before = Some(sign);
+    }
+
+    // The place is reached.
+    fn end(mut self, here: Option<Sign>) -> Around {
+        self.around.here = here;
+        self.around.body = self.open.pop();
+        self.around.has_saved_range = self.has_comma && self.has_saved;
+        self.around
+    }
+}
+
+impl Around {
+    /// What stands about a place of a text. It takes time by the length of the text before it.
+    pub fn of(text: &[u8], place: usize) -> Around {
+        let mut walk = Walk::new();
+        let mut at = 0;
+        for _ in 0..text.len() {
+            let Some(sign) = sign_at(text, at) else {
+                break;
+            };
+            if sign.next > place {
+                return walk.end(Some(sign));
+            }
+            at = sign.next;
+            walk.pass(sign);
+        }
+        walk.end(None)
+    }
+}

@@ -1,0 +1,86 @@
+//! Refusals with their sources, for people.
+use crate::codes::note_of_code;
+use crate::faults::{code_at, flaw_of_library};
+use crate::hints::hint;
+use crate::places::text_begin_in;
+use crate::refusals::{note_of_refusal, number_of};
+use std::{fmt, str};
+use teco_base::{Code, Reg};
+use teco_rules::Refusal;
+use teco_source::{Shown, Source};
+
+/// Why a library, or a macro of it, is refused, where in its source, and what usually mends it.
+#[derive(Clone, Copy)]
+pub struct Explained<'a> {
+    /// The library file.
+    pub source: &'a Source,
+    pub why: Refusal,
+    /// The register in whose text the place is; none where it is one of the file's.
+    pub register: Option<Reg>,
+    pub place: usize,
+}
+
+// The three letters of a code.
+fn letters(code: Code) -> &'static str {
+    str::from_utf8(code.name().as_slice()).unwrap_or("")
+}
+
+impl Explained<'_> {
+    // The place in the text that the file says.
+    fn place_in_file(&self) -> Option<usize> {
+        match self.register {
+            None => Some(self.place),
+            Some(register) => {
+                let begin = text_begin_in(self.source.text(), register)?;
+                Some(begin.saturating_add(self.place))
+            }
+        }
+    }
+
+    // The text of the file from where the register's begins, whose places are the register's.
+    fn text(&self) -> &[u8] {
+        let text = self.source.text();
+        match self.register {
+            None => text,
+            Some(register) => match text_begin_in(text, register) {
+                Some(begin) => text.get(begin..).unwrap_or(&[]),
+                None => &[],
+            },
+        }
+    }
+
+    // What is wrong beside the reason, where that can be told.
+    fn detail<W: fmt::Write>(&self, f: &mut fmt::Formatter<W>) -> fmt::Result {
+        match self.why {
+            Refusal::Library => {
+                writeln!(f, "  {}", flaw_of_library(self.source.text(), self.place))
+            }
+            Refusal::Fault => match code_at(self.text(), self.place) {
+                None => Ok(()),
+                Some(code) => writeln!(f, "  ?{}: {}", letters(code), note_of_code(code).summary),
+            },
+            _ => Ok(()),
+        }
+    }
+}
+
+impl fmt::Display for Explained<'_> {
+    fn fmt<W: fmt::Write>(&self, f: &mut fmt::Formatter<W>) -> fmt::Result {
+        let name = Shown(self.source.name().as_bytes());
+        let number = number_of(self.why);
+        let note = note_of_refusal(self.why);
+        let Some(place) = self.place_in_file() else {
+            return write!(f, "{name}: refused X{number}: {}", note.summary);
+        };
+        let position = self.source.position(place);
+        writeln!(
+            f,
+            "{name}:{}:{}: refused X{number}: {}",
+            position.line, position.column, note.summary
+        )?;
+        writeln!(f, "{}", self.source.excerpt(place))?;
+        self.detail(f)?;
+        let remedy = hint(self.why, self.text(), self.place).unwrap_or(note.remedy);
+        write!(f, "  {remedy}")
+    }
+}

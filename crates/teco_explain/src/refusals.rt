@@ -1,0 +1,237 @@
+//! What the refusals of the verifier mean.
+use crate::note::Note;
+use teco_rules::Refusal;
+
+/// All reasons, in the order of their numbers.
+const REFUSALS: [Refusal; 18] = [
+    Refusal::Library,
+    Refusal::Fault,
+    Refusal::Partner,
+    Refusal::Argument,
+    Refusal::Pending,
+    Refusal::Place,
+    Refusal::Deletion,
+    Refusal::Divisor,
+    Refusal::Fall,
+    Refusal::Bound,
+    Refusal::Missing,
+    Refusal::Recursion,
+    Refusal::Written,
+    Refusal::Pop,
+    Refusal::Unverified,
+    Refusal::Size,
+    Refusal::Overflow,
+    Refusal::Certificate,
+];
+
+/// The number of a reason, from 1 to 18, as it is printed behind an X.
+pub fn number_of(refusal: Refusal) -> u8 {
+    match refusal {
+        Refusal::Library => 1,
+        Refusal::Fault => 2,
+        Refusal::Partner => 3,
+        Refusal::Argument => 4,
+        Refusal::Pending => 5,
+        Refusal::Place => 6,
+        Refusal::Deletion => 7,
+        Refusal::Divisor => 8,
+        Refusal::Fall => 9,
+        Refusal::Bound => 10,
+        Refusal::Missing => 11,
+        Refusal::Recursion => 12,
+        Refusal::Written => 13,
+        Refusal::Pop => 14,
+        Refusal::Unverified => 15,
+        Refusal::Size => 16,
+        Refusal::Overflow => 17,
+        Refusal::Certificate => 18,
+    }
+}
+
+/// The reason of a name: X or x, and its number.
+pub fn refusal_numbered(name: &str) -> Option<Refusal> {
+    let digits = match name.as_bytes() {
+        [b'X' | b'x', ..] => name.get(1..)?,
+        _ => return None,
+    };
+    let number: usize = digits.parse().ok()?;
+    REFUSALS.get(number.checked_sub(1)?).copied()
+}
+
+/// What a reason means.
+pub fn note_of_refusal(refusal: Refusal) -> Note {
+    match refusal {
+        Refusal::Library | Refusal::Fault | Refusal::Partner => of_reading(refusal),
+        Refusal::Argument | Refusal::Pending | Refusal::Divisor => of_arguments(refusal),
+        Refusal::Place | Refusal::Deletion => of_places(refusal),
+        Refusal::Fall | Refusal::Bound | Refusal::Overflow => of_bounds(refusal),
+        Refusal::Missing | Refusal::Recursion | Refusal::Size => of_calls(refusal),
+        Refusal::Written | Refusal::Pop => of_registers(refusal),
+        Refusal::Unverified | Refusal::Certificate => of_others(refusal),
+    }
+}
+
+// A note that has nothing to say.
+const NONE: Note = Note {
+    summary: "",
+    meaning: "",
+    example: "",
+    remedy: "",
+};
+
+// Reasons of how a library is written.
+fn of_reading(refusal: Refusal) -> Note {
+    match refusal {
+        Refusal::Library => Note {
+            summary: "this is no macro library",
+            meaning: "A library holds comments and ^U commands alone, each for another register: @^UA~..~ gives A its text. Something else stands here, a text isn't closed, or a register is given a text twice.",
+            example: "5C",
+            remedy: "Put the macro into a register, close each text by the character that opened it, and write ESC as the byte 27 or name the file .tes and write $.",
+        },
+        Refusal::Fault => Note {
+            summary: "this is no command, or a search text that can't be read",
+            meaning: "A run that came here would stop with a code.",
+            example: "@^UA~?~",
+            remedy: "See what the code says, and mend the command.",
+        },
+        Refusal::Partner => Note {
+            summary: "the partner of a bracket or a jump is missing",
+            meaning: "A <, a \" or a | isn't closed, a ; or a > stands outside an iteration, a tag isn't there, or an iteration and a conditional overlap. Each pair must stand in one text, one inside the other.",
+            example: "@^UA~2<J~",
+            remedy: "Close what is open, innermost first.",
+        },
+        _ => NONE,
+    }
+}
+
+// Reasons of arguments.
+fn of_arguments(refusal: Refusal) -> Note {
+    match refusal {
+        Refusal::Argument => Note {
+            summary: "an argument may be missing, or one that isn't allowed",
+            meaning: "On some text a run would stop here with ARG, NAC, NCA or IIA.",
+            example: "@^UA~=~",
+            remedy: "Give the command its number, or drop what is left over with ESC. A count that may be 0 or negative isn't allowed for a search.",
+        },
+        Refusal::Pending => Note {
+            summary: "a number is pending where two ways meet",
+            meaning: "Behind ' and >, and at <, no number may be left over: % answers a value, and so do :C and :S.",
+            example: "@^UA~.-Z\"L2'~",
+            remedy: "Write ESC behind the command whose answer isn't used, as in %A$.",
+        },
+        Refusal::Divisor => Note {
+            summary: "a divisor may be 0",
+            meaning: "On some text a run would stop here with DIV.",
+            example: "@^UA~1/0=~",
+            remedy: "Divide by a number that can't be 0, or test it first and divide by a number of its own.",
+        },
+        _ => NONE,
+    }
+}
+
+// Reasons of places in the buffer.
+fn of_places(refusal: Refusal) -> Note {
+    match refusal {
+        Refusal::Place => Note {
+            summary: "a place may be outside the buffer",
+            meaning: "On some text a run would stop here with POP. What is known of the room before and behind the pointer comes from J, from tests of . and Z, from insertions and from what searches found.",
+            example: "@^UA~5C~",
+            remedy: "Test before you move, as in .-Z;C or .\"GR', write :C, or go back to a place that .UQ kept with QQJ.",
+        },
+        Refusal::Deletion => Note {
+            summary: "a deletion may reach beyond the text",
+            meaning: "On some text a run would stop here with DTB.",
+            example: "@^UA~5D~",
+            remedy: "Test before you delete, as in .-Z\"LD' or .\"G-D', delete what a search found by its length, or delete lines with K.",
+        },
+        _ => NONE,
+    }
+}
+
+// Reasons of bounds.
+fn of_bounds(refusal: Refusal) -> Note {
+    match refusal {
+        Refusal::Fall => Note {
+            summary: "nothing is known to shrink from turn to turn",
+            meaning: "An iteration without a count must come nearer to the end of the text in each turn: by a search, by C or D behind the test .-Z; and not by L or K, which may stay where they are.",
+            example: "@^UA~<Ix$>~",
+            remedy: "Give the iteration a count that is surely enough, as in Z<..>, or move by what a search found and don't go back before it.",
+        },
+        Refusal::Bound => Note {
+            summary: "no bound was found in three tries",
+            meaning: "What is held grows from turn to turn by an amount that itself grows.",
+            example: "@^UA~3<HXBGB>~",
+            remedy: "Keep what is inserted in a turn at a fixed length, or empty the register that grows.",
+        },
+        Refusal::Overflow => Note {
+            summary: "a bound has too large a number in it",
+            meaning: "A number of the bound passes 64 bits, or its degree passes 8.",
+            example: "@^UA~2147483647<2147483647<2147483647<>>>~",
+            remedy: "Use smaller counts, or fewer iterations in one another.",
+        },
+        _ => NONE,
+    }
+}
+
+// Reasons of calls and sizes.
+fn of_calls(refusal: Refusal) -> Note {
+    match refusal {
+        Refusal::Missing => Note {
+            summary: "the library has no such macro",
+            meaning: "Only macros that the library itself holds can be verified.",
+            example: "@^UA~MB~",
+            remedy: "Add the macro to the library, or name another register.",
+        },
+        Refusal::Recursion => Note {
+            summary: "a macro calls itself",
+            meaning: "A macro that calls itself, on whatever way, isn't verified.",
+            example: "@^UA~MA~",
+            remedy: "Write an iteration in its place.",
+        },
+        Refusal::Size => Note {
+            summary: "the macro is too large",
+            meaning: "With all that it calls it has over 4,096 elements, or more than 6 iterations or calls are open at once.",
+            example: "@^UA~1<1<1<1<1<1<1<>>>>>>>~",
+            remedy: "Split it into macros that are verified and run one after another.",
+        },
+        _ => NONE,
+    }
+}
+
+// Reasons of registers.
+fn of_registers(refusal: Refusal) -> Note {
+    match refusal {
+        Refusal::Written => Note {
+            summary: "a macro of the library would be overwritten",
+            meaning: "The registers of the library keep their texts while it runs.",
+            example: "@^UA~[A]A~",
+            remedy: "Use a register that the library doesn't name.",
+        },
+        Refusal::Pop => Note {
+            summary: "a pop finds nothing that the macro pushed",
+            meaning: "]q takes back what [q pushed in the same macro and the same turn, as often on each way.",
+            example: "@^UA~]B~",
+            remedy: "Push and pop in pairs, within the same < and > and within the same \" and '.",
+        },
+        _ => NONE,
+    }
+}
+
+// Other reasons.
+fn of_others(refusal: Refusal) -> Note {
+    match refusal {
+        Refusal::Unverified => Note {
+            summary: "this command isn't verified",
+            meaning: "Not verified are the E commands, Y, ^Y, backward searches, searches with an empty text or with ^EQ, and outside an iteration searches that nothing asks about.",
+            example: "@^UA~Y~",
+            remedy: "Leave files to apply, which opens and closes them; search forward; write :S.., or put ; behind a search in an iteration.",
+        },
+        Refusal::Certificate => Note {
+            summary: "this is not the certificate of the macro",
+            meaning: "A certificate holds for one macro of one library, and each byte of it counts, line ends included.",
+            example: "",
+            remedy: "Make it anew: teco verify LIB q > CERT.",
+        },
+        _ => NONE,
+    }
+}

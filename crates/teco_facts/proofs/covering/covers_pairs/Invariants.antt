@@ -1,0 +1,7 @@
+use Rattle.std.proofs.Common.{◌≡◌}
+use Rattle.teco_rules.specs.Covers.{each_covers, covers_pushed}
+use Rattle.teco_facts.proofs.covering.covers_pairs.Given as goal
+
+-- all pairs are covered if those from here on are
+abbrev pub invariant-loop-pair : goal.invariant-loop-pair
+invariant-loop-pair l = each_covers covers_pushed l.initial.one l.initial.edge ≡ each_covers covers_pushed l.one l.edge

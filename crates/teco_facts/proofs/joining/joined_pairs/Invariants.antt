@@ -1,0 +1,12 @@
+use Rattle.std.proofs.Common.{◌≡◌, ◌≤◌, ◌++◌, length, take}
+use Rattle.teco_rules.specs.Joins.{joined_pushes}
+use Rattle.teco_facts.proofs.Pairs.{behind}
+use Rattle.teco_facts.proofs.joining.joined_pairs.Given as goal
+
+-- all pairs are joined if those from here on are; behind the last that is changed they are those of the first way
+abbrev pub invariant-loop-of_one : goal.invariant-loop-of_one
+invariant-loop-of_one l = record {
+  joined : joined_pushes l.first l.second ≡ behind l.pairs.items (joined_pushes l.one l.two);
+  shared : l.pairs.items ++ l.one ≡ take l.changed l.pairs.items ++ l.shared;
+  within : l.changed ≤ length l.pairs.items;
+}

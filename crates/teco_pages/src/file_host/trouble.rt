@@ -1,0 +1,116 @@
+// What kept a host of the system's files from its last call that failed.
+use std::alloc::{AllocError, AllocFailed, Global};
+use std::str::Utf8Error;
+use std::{fmt, io};
+use thiserror::Error;
+
+/// Why a file of the system could not be used.
+#[derive(Debug, Drop, Error)]
+pub enum Reason {
+    /// The system refused.
+    #[error("{0}")]
+    System(io::Error),
+    /// Its name is no UTF-8.
+    #[error("its name is no UTF-8 text")]
+    Name,
+    /// It is a folder.
+    #[error("it is a folder")]
+    Folder,
+    /// It exists and is no regular file.
+    #[error("it exists and is no regular file")]
+    NotRegular,
+    /// It leads to a file that a process has open, as `/dev/stdout` does.
+    #[error("it leads to a file that a process has open")]
+    InUse,
+    /// It leads through too many links, or no name beside it is free.
+    #[error("it has too many links, or no free name beside it")]
+    NoPlace,
+    /// It has more bytes than an input may have.
+    #[error("it has more than 268,435,456 bytes")]
+    Long,
+    /// It would pass the limit that the system sets on the size of files.
+    #[error("it would pass the limit on the size of files")]
+    SizeLimit,
+    /// Another file took the name of the unfinished output.
+    #[error("another file took the place of what was written")]
+    Taken,
+    /// No such file is open.
+    #[error("it is not open")]
+    NotOpen,
+    /// A growth was refused.
+    #[error("out of memory")]
+    Memory,
+}
+
+impl From<AllocError> for Reason {
+    fn from(_refused: AllocError) -> Reason {
+        Reason::Memory
+    }
+}
+
+impl<T: Drop> From<AllocFailed<T>> for Reason {
+    fn from(_refused: AllocFailed<T>) -> Reason {
+        Reason::Memory
+    }
+}
+
+impl From<io::Error> for Reason {
+    fn from(error: io::Error) -> Reason {
+        Reason::System(error)
+    }
+}
+
+impl From<Utf8Error> for Reason {
+    fn from(_error: Utf8Error) -> Reason {
+        Reason::Name
+    }
+}
+
+/// What was to be done with a file.
+#[derive(Clone, Copy, Debug, PartialEq, Eq)]
+pub enum Purpose {
+    OpenInput,
+    ReadInput,
+    OpenOutput,
+    WriteOutput,
+    CloseOutput,
+    DropOutput,
+}
+
+impl fmt::Display for Purpose {
+    fn fmt<W: fmt::Write>(&self, f: &mut fmt::Formatter<W>) -> fmt::Result {
+        let words = match self {
+            Purpose::OpenInput => "open input",
+            Purpose::ReadInput => "read input",
+            Purpose::OpenOutput => "open output",
+            Purpose::WriteOutput => "write output",
+            Purpose::CloseOutput => "close output",
+            Purpose::DropOutput => "drop output",
+        };
+        write!(f, "{words}")
+    }
+}
+
+/// What could not be done with which file, and why.
+#[derive(Debug, Drop)]
+pub struct Trouble {
+    pub purpose: Purpose,
+    /// The name of the file; empty where memory for it was refused.
+    pub name: Vec<u8>,
+    pub reason: Reason,
+}
+
+impl Trouble {
+    // What could not be done with the file of a name.
+    pub fn of(alloc: Global, purpose: Purpose, name: &[u8], reason: Reason) -> Trouble {
+        let name = match name.to_vec(alloc) {
+            Ok(name) => name,
+            Err(AllocError) => Vec::new(alloc),
+        };
+        Trouble {
+            purpose,
+            name,
+            reason,
+        }
+    }
+}

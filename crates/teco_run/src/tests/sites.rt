@@ -1,0 +1,231 @@
+// Where runs stop, and runs that are done one step at a time.
+use super::*;
+use std::alloc::Global;
+
+// Runs a command string to its stop, on a new machine.
+fn run_to_stop(alloc: Global, command: &[u8], limit: u64) -> (Machine<VecText>, Stopped) {
+    let mut machine = Machine::new(alloc, VecText::new(alloc));
+    let mut host = MemHost::new(alloc);
+    let mut stopped = Stopped {
+        stop: Stop::Limit,
+        steps: 0,
+        site: in_command(0),
+    };
+    if command.len() <= LIMIT {
+        stopped = machine.run_to_stop(command, limit, &mut host);
+    }
+    (machine, stopped)
+}
+
+// The same, and once more where memory was refused.
+fn run_surely(alloc: Global, command: &[u8], limit: u64) -> (Machine<VecText>, Stopped) {
+    let ran = run_to_stop(alloc, command, limit);
+    match ran.1.stop {
+        Stop::Memory => run_to_stop(alloc, command, limit),
+        _ => ran,
+    }
+}
+
+fn in_command(place: usize) -> Site {
+    Site {
+        register: None,
+        place,
+    }
+}
+
+fn in_text(name: u8, place: usize) -> Site {
+    Site {
+        register: Reg::of(name),
+        place,
+    }
+}
+
+#[test]
+fn runs_stop_at_sites(rt: HostRuntime) {
+    // a command string, a limit, the steps that are done, what comes of it, and where
+    let rows: [(&[u8], u64, u64, Result<u64, Code>, Site); 16] = [
+        (b"", 9, 0, Ok(0), in_command(0)),
+        (b"1=2=", 0, 0, Err(Code::Lim), in_command(0)),
+        (b"1=2=", 3, 3, Err(Code::Lim), in_command(3)),
+        (b"1=  2=", 2, 2, Err(Code::Lim), in_command(4)),
+        (b" 1= \r\n", 9, 2, Ok(2), in_command(6)),
+        (b"1=\x1b\x1b", 9, 4, Ok(4), in_command(4)),
+        (b"1= EX", 9, 2, Ok(3), in_command(3)),
+        (b"Iab\x1b  -3D", 9, 3, Err(Code::Dtb), in_command(8)),
+        (b"1= ^Y 2 ,", 9, 4, Err(Code::Arg), in_command(8)),
+        (b"<1= ", 9, 3, Err(Code::Utc), in_command(4)),
+        (b"1= ERno\x1b", 9, 2, Err(Code::Fnf), in_command(3)),
+        (b"@^UA/9C/MA", 9, 3, Err(Code::Pop), in_text(b'A', 1)),
+        (b"@^UA/ <1=/ MA", 9, 5, Err(Code::Utm), in_text(b'A', 4)),
+        (
+            b"@^UA/1=  2=/ MA 3=",
+            4,
+            4,
+            Err(Code::Lim),
+            in_text(b'A', 4),
+        ),
+        (b"@^UA/1=/MA -D", 9, 6, Err(Code::Dtb), in_command(12)),
+        (
+            b"@^UB/\r\n9C/@^UA/1= MB/MA",
+            9,
+            7,
+            Err(Code::Pop),
+            in_text(b'B', 3),
+        ),
+    ];
+    for (command, limit, steps, want, site) in rows {
+        let (_, stopped) = run_surely(rt.alloc(), command, limit);
+        assert_eq!(rt; answer(stopped.stop), want, "{command:?}");
+        assert_eq!(rt; stopped.steps, steps, "{command:?}");
+        assert_eq!(rt; stopped.site, site, "{command:?}");
+    }
+}
+
+#[test]
+fn want_of_memory_has_a_site(rt: HostRuntime) {
+    let mut machine = Machine::new(rt.alloc(), VecText::new(rt.alloc()));
+    let mut host = MemHost::new(rt.alloc());
+    machine.set_cap(2);
+    let mut stopped = machine.run_to_stop(b"1 =", 9, &mut host);
+    assert_eq!(rt; answer(stopped.stop), Err(Code::Mem));
+    if stopped.steps == 0 {
+        // an allocation failed
+        stopped = machine.run_to_stop(b"1 =", 9, &mut host);
+    }
+    assert_eq!(rt; stopped.steps, 1);
+    assert_eq!(rt; stopped.site, in_command(2));
+}
+
+// Does steps until the run stops, `limit` at most; answers how many were done, and what the last came to.
+fn step_on(
+    machine: &mut Machine<VecText>,
+    execution: &mut Execution<'_>,
+    limit: u64,
+    host: &mut MemHost,
+) -> (u64, Progress) {
+    for steps in 0..limit {
+        match machine.step(execution, host) {
+            Progress::On => {}
+            stopped => return (steps, stopped),
+        }
+    }
+    (limit, Progress::On)
+}
+
+// Does the last step of a run come to what the run answers? A run looks whether it is at its end where its limit is reached.
+fn agrees(stop: Stop, progress: Progress) -> bool {
+    match (answer(stop), progress) {
+        (Ok(_), Progress::Ended | Progress::Exit | Progress::On) => true,
+        (Err(code), Progress::Error(other)) => code == other,
+        (Err(code), Progress::On) => code == Code::Lim,
+        (Err(code), Progress::HostFault(_)) => code == Code::Fnf,
+        _ => false,
+    }
+}
+
+// Does steps of a command string on a new machine, and compares them with a run of that limit; says whether memory was refused.
+fn expect_steps(
+    rt: &impl Abort,
+    alloc: Global,
+    command: &[u8],
+    limit: u64,
+) -> Result<bool, AllocError> {
+    let (mut machine, stopped) = run_surely(alloc, command, limit);
+    let mut stepped = Machine::new(alloc, VecText::new(alloc));
+    let mut host = MemHost::new(alloc);
+    if command.len() > LIMIT {
+        return Ok(false);
+    }
+    let mut execution = stepped.begin(command)?;
+    let (steps, progress) = step_on(&mut stepped, &mut execution, limit, &mut host);
+    if let Progress::Memory = progress {
+        return Ok(true);
+    }
+    assert_eq!(rt; steps, stopped.steps, "{command:?}");
+    assert!(rt; agrees(stopped.stop, progress), "{command:?}");
+    assert_eq!(rt; execution.site(), stopped.site, "{command:?}");
+    assert_eq!(rt; stepped.dot(), machine.dot(), "{command:?}");
+    assert_eq!(rt;
+        stepped.take_typed().as_slice(),
+        machine.take_typed().as_slice()
+    );
+    Ok(false)
+}
+
+#[test]
+fn steps_are_a_run(rt: HostRuntime) -> Result<(), Fail> {
+    let commands: [&[u8]; 6] = [
+        b"Iabc\x1b J 2C HT",
+        b"@^UA/1=  2=/MA MA 3=",
+        b"3<1=> EX",
+        b"1= ERno\x1b",
+        b"Iab\x1b<1=0;>-3D",
+        b"@^UA/<1=/ MA",
+    ];
+    for command in commands {
+        for limit in 0..16 {
+            if !matches!(expect_steps(&rt, rt.alloc(), command, limit), Ok(false)) {
+                assert!(rt; !expect_steps(&rt, rt.alloc(), command, limit)?);
+            }
+        }
+    }
+    Ok(())
+}
+
+#[test]
+fn values_are_pending(rt: HostRuntime) -> Result<(), Fail> {
+    let mut machine = Machine::new(rt.alloc(), VecText::new(rt.alloc()));
+    let mut host = MemHost::new(rt.alloc());
+    let command = b"1,2+3*(4";
+    let mut execution = match machine.begin(command) {
+        Ok(execution) => execution,
+        Err(_) => machine.begin(command)?,
+    };
+    assert_eq!(rt; execution.value(), None);
+    let values = [
+        Some(1),
+        None,
+        Some(2),
+        Some(2),
+        Some(5),
+        Some(5),
+        None,
+        Some(4),
+    ];
+    for value in values {
+        assert!(rt; matches!(machine.step(&mut execution, &mut host), Progress::On));
+        assert_eq!(rt; execution.value(), value);
+    }
+    Ok(())
+}
+
+// Runs a command string, and once more where memory was refused.
+fn run_again(machine: &mut Machine<VecText>, host: &mut MemHost, command: &[u8]) -> bool {
+    let mut stop = run(machine, host, command, 100);
+    if let Stop::Memory = stop {
+        stop = run(machine, host, command, 100);
+    }
+    answer(stop).is_ok()
+}
+
+#[test]
+fn unread_input_is_told(rt: HostRuntime) -> Result<(), Fail> {
+    let mut machine = Machine::new(rt.alloc(), VecText::new(rt.alloc()));
+    let mut host = MemHost::new(rt.alloc());
+    if host.put(b"in", b"ab\x0ccd").is_err() {
+        host.put(b"in", b"ab\x0ccd")?;
+    }
+    assert!(rt; matches!(machine.has_unread(&mut host), Ok(false)));
+    // the command strings, and the bytes that are held once the next page is ready
+    let rows: [(&[u8], usize); 3] = [(b"ERin\x1b", 5), (b"Y", 2), (b"A", 0)];
+    for (command, held) in rows {
+        assert!(rt; run_again(&mut machine, &mut host, command));
+        let mut unread = machine.has_unread(&mut host);
+        if unread.is_err() {
+            unread = machine.has_unread(&mut host);
+        }
+        assert!(rt; matches!(unread, Ok(some) if some == (held > 0)));
+        assert_eq!(rt; machine.read_ahead(), held);
+    }
+    Ok(())
+}

@@ -1,0 +1,130 @@
+use Rattle.std.proofs.Common.{length, ap, arith, refl, false, true, Ok, Err, ◌||◌, ◌+◌}
+use Rattle.std.proofs.lemmas.Result.{err_from_is_err_and}
+use Rattle.std.specs.Io.KnownBytes.{prepend_known}
+use Rattle.teco_model.specs.State.{World}
+use Rattle.teco_session.proofs.FirstCode.{Hears-write, Hears-break, Hears-full, Hears-exit, Hears-rest, Hears-code}
+use Rattle.teco_session.proofs.SessionSteps.{Serves-start, Serves-more}
+use Rattle.teco_session.proofs.Together.{Joined-map, Joined-stays, Joined-then}
+use Rattle.teco_session.specs.Answers.{Answers}
+use Rattle.teco_session.specs.FirstCode.{Hears}
+use Rattle.teco_session.specs.Sessions.{Serves, setting}
+use Rattle.teco_session.proofs.sessions.session_heard.Goals as goal
+use Rattle.teco_session.proofs.sessions.session_heard.Goals.{else-conduct-via-then-conduct+else-coded, else-conduct-via-else-conduct}
+
+pub loop-init : goal.loop-init
+loop-init g c = record {
+  served =
+      Joined-stays (λ (old : World) (new : World). Serves c.args.conduct.limits 0 (setting old (g.R.Read.remaining c.args.reader.now) (g.W.Write.contents c.args.writer.now)) (setting new (prepend_known c.new-ahead.result (g.R.Read.remaining c.args.reader.now)) (g.W.Write.contents c.args.writer.now)) false)
+      c.args.machine.now (g.H.Host.files c.args.host.now)
+      (λ world. Serves-start _ _ _ c.new-ahead.ensures);
+  one_read = omega (arith, ap length c.new-ahead.ensures);
+  plain = λ until. refl;
+}
+
+pub loop-preserved : goal.loop-preserved
+loop-preserved g c =
+    let now = c.loop in
+    let before = λ (old : World). setting old (g.R.Read.remaining c.args.reader.now) (g.W.Write.contents c.args.writer.now) in
+    let served = λ (old : World) (new : World). Serves c.args.conduct.limits now.counter (before old) (setting new (prepend_known now.ahead (g.R.Read.remaining now.reader)) (g.W.Write.contents now.writer)) now.coded in
+    let piece = c.in_ok-piece.ensures in
+    let answers = λ (mid : World) (new : World). Answers c.args.conduct.limits c.in_ok-piece.piece c.as_slice.result.now mid new (g.W.Write.contents now.writer) (g.W.Write.contents c.answer.new.writer) c.answer.result in
+    let after = λ (new : World). setting new (prepend_known c.next_piece.new.ahead (g.R.Read.remaining c.next_piece.new.reader)) (g.W.Write.contents c.answer.new.writer) in
+    let more = λ (old : World) (new : World). Serves c.args.conduct.limits (now.counter + 1) (before old) (after new) (now.coded || c.in_ok-done.done.coded) in
+    let cut = rw c.in_default.is at piece.piece in
+    record {
+      served =
+          Joined-then served answers more
+          c.args.machine.now now.machine c.answer.new.machine
+          (g.H.Host.files c.args.host.now) (g.H.Host.files now.host) (g.H.Host.files c.answer.new.host)
+          (λ (old : World) (mid : World) (new : World) s (a : answers mid new). Serves-more _ _ _ _ _ _ c.in_ok-done.done _ c.if-done.false s piece.came cut (rw (c.as_slice.ensures.value, c.in_default.is, c.in_ok-done.was) at a))
+          now.invariant.served c.answer.ensures;
+      one_read = piece.one_read now.invariant.one_read;
+      plain = λ until. elim c.else-conduct.branch [
+        | else-conduct-via-then-conduct+else-coded w ↦ w.if-coded.false
+        | else-conduct-via-else-conduct w ↦ absurd (cc (w.if-conduct.false, until))
+      ];
+    }
+
+pub returns-in_err-piece : goal.returns-in_err-piece
+returns-in_err-piece g c =
+    let now = c.loop in
+    let before = λ (old : World). setting old (g.R.Read.remaining c.args.reader.now) (g.W.Write.contents c.args.writer.now) in
+    let served = λ (old : World) (new : World). Serves c.args.conduct.limits now.counter (before old) (setting new (prepend_known now.ahead (g.R.Read.remaining now.reader)) (g.W.Write.contents now.writer)) now.coded in
+    let fault = c.in_err-piece.ensures in
+    let left = err_from_is_err_and c.from_residual.result c.from_residual.ensures.1 in
+    rw (left.1, left.2) (Joined-map served _ c.args.machine.now now.machine (g.H.Host.files c.args.host.now) (g.H.Host.files now.host)
+    (λ (old : World) (new : World) s. Hears-break c.args.conduct.until_code _ _ _ _ _ _ _ _ _ now.invariant.plain s fault.came fault.fault (fault.one_read now.invariant.one_read) fault.all_used fault.not_writing fault.not_calling)
+    now.invariant.served)
+
+pub returns-in_err-done : goal.returns-in_err-done
+returns-in_err-done g c =
+    let now = c.loop in
+    let before = λ (old : World). setting old (g.R.Read.remaining c.args.reader.now) (g.W.Write.contents c.args.writer.now) in
+    let served = λ (old : World) (new : World). Serves c.args.conduct.limits now.counter (before old) (setting new (prepend_known now.ahead (g.R.Read.remaining now.reader)) (g.W.Write.contents now.writer)) now.coded in
+    let piece = c.in_ok-piece.ensures in
+    let answers = λ (mid : World) (new : World). Answers c.args.conduct.limits c.in_ok-piece.piece c.as_slice.result.now mid new (g.W.Write.contents now.writer) (g.W.Write.contents c.answer.new.writer) c.answer.result in
+    let after = λ (new : World). setting new (g.R.Read.remaining c.next_piece.new.reader) (g.W.Write.contents c.answer.new.writer) in
+    let left = err_from_is_err_and c.from_residual-in_err-done.result c.from_residual-in_err-done.ensures.1 in
+    let cut = λ (old : World) (new : World). Hears c.args.conduct.until_code c.args.conduct.limits (before old) (after new) (Err c.in_err-done.field-0.0) in
+    rw (left.1, left.2) (
+    Joined-then served answers cut
+    c.args.machine.now now.machine c.answer.new.machine
+    (g.H.Host.files c.args.host.now) (g.H.Host.files now.host) (g.H.Host.files c.answer.new.host)
+    (λ (old : World) (mid : World) (new : World) s (a : answers mid new). Hears-write c.args.conduct.until_code _ _ _ _ _ _ _ _ _ _ now.invariant.plain s piece.came piece.piece (piece.one_read now.invariant.one_read) (rw (c.as_slice.ensures.value, c.in_err-done.was) at a))
+    now.invariant.served c.answer.ensures)
+
+pub returns : goal.returns
+returns g c =
+    let now = c.loop in
+    let before = λ (old : World). setting old (g.R.Read.remaining c.args.reader.now) (g.W.Write.contents c.args.writer.now) in
+    let served = λ (old : World) (new : World). Serves c.args.conduct.limits now.counter (before old) (setting new (prepend_known now.ahead (g.R.Read.remaining now.reader)) (g.W.Write.contents now.writer)) now.coded in
+    Joined-map served _ c.args.machine.now now.machine (g.H.Host.files c.args.host.now) (g.H.Host.files now.host)
+    (λ (old : World) (new : World) s. Hears-full c.args.conduct.until_code _ _ _ _ _ _ now.invariant.plain s now.invariant.one_read (omega arith))
+    now.invariant.served
+
+pub returns-in-Rest : goal.returns-in-Rest
+returns-in-Rest g c =
+    let now = c.loop in
+    let before = λ (old : World). setting old (g.R.Read.remaining c.args.reader.now) (g.W.Write.contents c.args.writer.now) in
+    let served = λ (old : World) (new : World). Serves c.args.conduct.limits now.counter (before old) (setting new (prepend_known now.ahead (g.R.Read.remaining now.reader)) (g.W.Write.contents now.writer)) now.coded in
+    let piece = c.in_ok-piece.ensures in
+    let answers = λ (mid : World) (new : World). Answers c.args.conduct.limits c.in_ok-piece.piece c.as_slice.result.now mid new (g.W.Write.contents now.writer) (g.W.Write.contents c.answer.new.writer) c.answer.result in
+    let after = λ (new : World). setting new (g.R.Read.remaining c.next_piece.new.reader) (g.W.Write.contents c.answer.new.writer) in
+    let cut = rw c.in-Rest.is at piece.piece in
+    let finishes = λ (old : World) (new : World). Hears c.args.conduct.until_code c.args.conduct.limits (before old) (after new) (Ok (record { coded = now.coded || c.in_ok-done.done.coded; exit = false })) in
+    Joined-then served answers finishes
+    c.args.machine.now now.machine c.answer.new.machine
+    (g.H.Host.files c.args.host.now) (g.H.Host.files now.host) (g.H.Host.files c.answer.new.host)
+    (λ (old : World) (mid : World) (new : World) s (a : answers mid new). Hears-rest _ _ (before old) _ _ now.coded c.in_ok-done.done _ _ s piece.came (piece.one_read now.invariant.one_read) cut (rw (c.as_slice.ensures.value, c.in-Rest.is, c.in_ok-done.was) at a) c.args.conduct.until_code now.invariant.plain)
+    now.invariant.served c.answer.ensures
+
+pub returns-then-done : goal.returns-then-done
+returns-then-done g c =
+    let now = c.loop in
+    let before = λ (old : World). setting old (g.R.Read.remaining c.args.reader.now) (g.W.Write.contents c.args.writer.now) in
+    let served = λ (old : World) (new : World). Serves c.args.conduct.limits now.counter (before old) (setting new (prepend_known now.ahead (g.R.Read.remaining now.reader)) (g.W.Write.contents now.writer)) now.coded in
+    let piece = c.in_ok-piece.ensures in
+    let answers = λ (mid : World) (new : World). Answers c.args.conduct.limits c.in_ok-piece.piece c.as_slice.result.now mid new (g.W.Write.contents now.writer) (g.W.Write.contents c.answer.new.writer) c.answer.result in
+    let after = λ (new : World). setting new (g.R.Read.remaining c.next_piece.new.reader) (g.W.Write.contents c.answer.new.writer) in
+    let finishes = λ (old : World) (new : World). Hears c.args.conduct.until_code c.args.conduct.limits (before old) (after new) (Ok (record { coded = now.coded || c.in_ok-done.done.coded; exit = true })) in
+    Joined-then served answers finishes
+    c.args.machine.now now.machine c.answer.new.machine
+    (g.H.Host.files c.args.host.now) (g.H.Host.files now.host) (g.H.Host.files c.answer.new.host)
+    (λ (old : World) (mid : World) (new : World) s (a : answers mid new). Hears-exit _ _ (before old) _ _ now.coded c.in_ok-done.done _ _ s piece.came (piece.one_read now.invariant.one_read) c.if-done.true c.in_ok-piece.piece piece.piece (rw (c.as_slice.ensures.value, c.in_ok-done.was) at a) c.args.conduct.until_code now.invariant.plain)
+    now.invariant.served c.answer.ensures
+
+pub returns-then-coded : goal.returns-then-coded
+returns-then-coded g c =
+    let now = c.loop in
+    let before = λ (old : World). setting old (g.R.Read.remaining c.args.reader.now) (g.W.Write.contents c.args.writer.now) in
+    let served = λ (old : World) (new : World). Serves c.args.conduct.limits now.counter (before old) (setting new (prepend_known now.ahead (g.R.Read.remaining now.reader)) (g.W.Write.contents now.writer)) now.coded in
+    let piece = c.in_ok-piece.ensures in
+    let answers = λ (mid : World) (new : World). Answers c.args.conduct.limits c.in_ok-piece.piece c.as_slice.result.now mid new (g.W.Write.contents now.writer) (g.W.Write.contents c.answer.new.writer) c.answer.result in
+    let after = λ (new : World). setting new (g.R.Read.remaining c.next_piece.new.reader) (g.W.Write.contents c.answer.new.writer) in
+    let cut = rw c.in_default.is at piece.piece in
+    let finishes = λ (old : World) (new : World). Hears c.args.conduct.until_code c.args.conduct.limits (before old) (after new) (Ok (record { coded = now.coded || c.in_ok-done.done.coded; exit = false })) in
+    Joined-then served answers finishes
+    c.args.machine.now now.machine c.answer.new.machine
+    (g.H.Host.files c.args.host.now) (g.H.Host.files now.host) (g.H.Host.files c.answer.new.host)
+    (λ (old : World) (mid : World) (new : World) s (a : answers mid new). Hears-code _ _ (before old) _ _ now.coded c.in_ok-done.done _ _ s piece.came (piece.one_read now.invariant.one_read) cut (rw (c.as_slice.ensures.value, c.in_default.is, c.in_ok-done.was) at a) c.args.conduct.until_code c.if-conduct.true now.invariant.plain c.if-coded.true c.if-done.false)
+    now.invariant.served c.answer.ensures

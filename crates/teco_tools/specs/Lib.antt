@@ -1,0 +1,2 @@
+-- Up to which N a promise holds.
+pub mod Premise

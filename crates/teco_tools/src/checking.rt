@@ -1,0 +1,169 @@
+//! `check`: certificates are checked.
+ghost use Rattle.std.specs.Prelude.{◌≤◌, length};
+ghost use Rattle.teco_base.specs.declared.TheConstants.{LIMIT};
+
+use crate::console::Console;
+use crate::fault::ToolFault;
+use crate::files::read_file;
+use crate::library::{explained, library_of, read_source};
+use crate::outcome::Outcome;
+use crate::request::Request;
+use crate::verdict::Verdict;
+use crate::verifying::{refuse, tell_premise};
+use std::alloc::Global;
+use std::io::{Input, Write};
+use std::rt::Files;
+use teco_base::Reg;
+use teco_base::bytes::LF;
+use teco_library::Library;
+use teco_source::{Shown, Source};
+use teco_verify::{Refusal, Verified, check_certificate, verify};
+
+/// The macro that a certificate is that of, if it is the entry's.
+pub fn accept<'l>(
+    alloc: Global,
+    library: &'l Library,
+    entry: Reg,
+    certificate: &[u8],
+) -> Result<Verified<'l>, Refusal>
+    requires { length certificate.now ≤ LIMIT }
+{
+    let verified = check_certificate(alloc, library, certificate)?;
+    if verified.entry().index() == entry.index() {
+        Ok(verified)
+    } else {
+        Err(Refusal::certificate())
+    }
+}
+
+// The first line of a text, and what comes behind its end.
+fn split_line(text: &[u8]) -> (&[u8], &[u8]) {
+    match text.iter().position(|byte| *byte == LF) {
+        Some(at) if at < text.len() => (&text[..at], &text[at + 1..]),
+        _ => (text, &[]),
+    }
+}
+
+// A line of a certificate that isn't as it should be.
+#[derive(Clone, Copy)]
+struct Difference<'a> {
+    number: usize,
+    found: &'a [u8],
+    wanted: &'a [u8],
+}
+
+// The first line in which two texts differ, if they do.
+fn first_difference<'a>(found: &'a [u8], wanted: &'a [u8]) -> Option<Difference<'a>> {
+    let mut found_rest = found;
+    let mut wanted_rest = wanted;
+    for number in 1..usize::MAX {
+        if found_rest.is_empty() && wanted_rest.is_empty() {
+            return None;
+        }
+        let (found, behind_found) = split_line(found_rest);
+        let (wanted, behind_wanted) = split_line(wanted_rest);
+        if found != wanted {
+            return Some(Difference {
+                number,
+                found,
+                wanted,
+            });
+        }
+        found_rest = behind_found;
+        wanted_rest = behind_wanted;
+    }
+    None
+}
+
+// Says in which line a certificate is another than that of the macro.
+fn tell_difference<O: Write + Drop, E: Write + Drop>(
+    console: &mut Console<O, E>,
+    name: &str,
+    found: &[u8],
+    wanted: &[u8],
+) {
+    let name = Shown(name.as_bytes());
+    match first_difference(found, wanted) {
+        None => console.say(format_args!("{name}: its line ends are not those of a certificate")),
+        Some(difference) => {
+            let Difference {
+                number,
+                found,
+                wanted,
+            } = difference;
+            console.say(format_args!(
+                "{name}:{number}: refused X18: the certificate has \"{}\", the macro \"{}\"",
+                Shown(found),
+                Shown(wanted)
+            ));
+        }
+    }
+}
+
+// Says why a certificate is refused: the macro is, or a line is another.
+fn tell_why<O: Write + Drop, E: Write + Drop>(
+    alloc: Global,
+    console: &mut Console<O, E>,
+    source: &Source,
+    library: &Library,
+    claim: &Claim<'_>,
+) -> Result<(), ToolFault> {
+    match verify(alloc, library, claim.entry) {
+        Ok(verified) => {
+            let wanted = verified.certificate(alloc)?;
+            tell_difference(console, claim.name, claim.certificate, &wanted);
+        }
+        Err(refusal) => {
+            if let Some(told) = explained(source, &refusal) {
+                console.say(told);
+            }
+        }
+    }
+    Ok(())
+}
+
+// A certificate, and the macro that it should be that of.
+#[derive(Clone, Copy)]
+struct Claim<'a> {
+    entry: Reg,
+    // the name of its file
+    name: &'a str,
+    certificate: &'a [u8],
+}
+
+/// Checks a certificate of a macro of a library.
+pub fn check_macro<R: Files + Input, O: Write + Drop, E: Write + Drop>(
+    rt: &R,
+    alloc: Global,
+    console: &mut Console<O, E>,
+    request: Request<'_>,
+    entry: Reg,
+    name: &str,
+) -> Result<Outcome, ToolFault> {
+    let source = read_source(rt, alloc, request.library, request.escape)?;
+    let certificate = read_file(rt, alloc, name)?;
+    let library = match library_of(alloc, &source) {
+        Ok(library) => library,
+        Err(refusal) => return refuse(console, &source, refusal),
+    };
+    match accept(alloc, &library, entry, &certificate) {
+        Ok(verified) => {
+            console.answer("accepted\n")?;
+            tell_premise(console, &verified);
+            Ok(Outcome::Done)
+        }
+        Err(refusal) => {
+            let Some(verdict) = Verdict::of(&refusal) else {
+                return Err(ToolFault::Memory);
+            };
+            console.answer(format_args!("{verdict}\n"))?;
+            let claim = Claim {
+                entry,
+                name,
+                certificate: &certificate,
+            };
+            tell_why(alloc, console, &source, &library, &claim)?;
+            Ok(Outcome::Refused)
+        }
+    }
+}

@@ -1,0 +1,93 @@
+//! Where the program writes: its answers, and what it says of them to people.
+use std::alloc::Global;
+use std::io::Write;
+use std::{fmt, io};
+
+/// What is said to people, a message at a time.
+#[derive(Drop)]
+pub struct Voice<E: Write + Drop> {
+    alloc: Global,
+    messages: E,
+    // nothing is said but faults
+    is_quiet: bool,
+}
+
+impl<E: Write + Drop> Voice<E> {
+    /// Says what there is to be said to a writer. Memory for messages comes from `alloc`.
+    pub fn new(alloc: Global, messages: E) -> Voice<E> {
+        Voice {
+            alloc,
+            messages,
+            is_quiet: false,
+        }
+    }
+
+    /// From now on nothing is said but faults.
+    pub fn hush(&mut self) {
+        self.is_quiet = true;
+    }
+
+    // Writes a message in one piece. A message that can't be written is lost.
+    fn write<D: fmt::Display + Drop>(&mut self, message: D) {
+        if let Ok(text) = format!(in self.alloc; "{message}\n") {
+            let _written = self.messages.write_all(text.as_bytes());
+        }
+    }
+
+    /// Says a message, unless it is to be quiet.
+    pub fn say<D: fmt::Display + Drop>(&mut self, message: D) {
+        if !self.is_quiet {
+            self.write(message);
+        }
+    }
+
+    /// Says why something could not be done, in any case.
+    pub fn complain<D: fmt::Display + Drop>(&mut self, message: D) {
+        self.write(format_args!("teco: {message}"));
+    }
+}
+
+/// A writer for what was asked for, and a voice for what is said of it.
+#[derive(Drop)]
+pub struct Console<O: Write + Drop, E: Write + Drop> {
+    alloc: Global,
+    pub out: O,
+    pub voice: Voice<E>,
+}
+
+impl<O: Write + Drop, E: Write + Drop> Console<O, E> {
+    /// A console over two writers. Memory for lines comes from `alloc`.
+    pub fn new(alloc: Global, out: O, messages: E) -> Console<O, E> {
+        Console {
+            alloc,
+            out,
+            voice: Voice::new(alloc, messages),
+        }
+    }
+
+    /// The two writers.
+    pub fn into_parts(self) -> (O, E) {
+        let Console {
+            alloc: _,
+            out,
+            voice,
+        } = self;
+        (out, voice.messages)
+    }
+
+    /// Writes an answer, in one piece.
+    pub fn answer<D: fmt::Display + Drop>(&mut self, answer: D) -> io::Result<()> {
+        let text = format!(in self.alloc; "{answer}")?;
+        self.out.write_all(text.as_bytes())
+    }
+
+    /// Says a message.
+    pub fn say<D: fmt::Display + Drop>(&mut self, message: D) {
+        self.voice.say(message);
+    }
+
+    /// Says why something could not be done.
+    pub fn complain<D: fmt::Display + Drop>(&mut self, message: D) {
+        self.voice.complain(message);
+    }
+}

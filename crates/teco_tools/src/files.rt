@@ -1,0 +1,56 @@
+//! Files that are read whole.
+ghost use Rattle.std.specs.Prelude.{◌≤◌, IfOk, length, vec_len};
+ghost use Rattle.teco_base.specs.declared.TheConstants.{LIMIT};
+
+use crate::fault::ToolFault;
+use std::alloc::{AllocError, Global};
+use std::io::{Input, Read};
+use std::rt::Files;
+use std::{fs, io};
+use teco_base::LIMIT;
+use teco_source::Shown;
+
+/// The name of a standard stream.
+pub const STREAM: &str = "-";
+
+// A name as messages have it.
+fn shown(alloc: Global, name: &str) -> Result<String, AllocError> {
+    format!(in alloc; "{}", Shown(name.as_bytes()))
+}
+
+// Why a file can't be read.
+fn unread(alloc: Global, name: &str, reason: io::Error) -> ToolFault {
+    match shown(alloc, name) {
+        Ok(name) => ToolFault::Read { name, reason },
+        Err(AllocError) => ToolFault::Memory,
+    }
+}
+
+// Reads what a reader has, at most a byte more than `LIMIT`.
+fn read_all<F: Read + Drop>(alloc: Global, reader: F) -> io::Result<Vec<u8>> {
+    let mut bytes = Vec::new(alloc);
+    reader.take(LIMIT as u64 + 1).read_to_end(&mut bytes)?;
+    Ok(bytes)
+}
+
+// Reads a file, or standard input.
+fn read_named<R: Files + Input>(rt: &R, alloc: Global, name: &str) -> io::Result<Vec<u8>> {
+    if name == STREAM {
+        read_all(alloc, rt.reader())
+    } else {
+        read_all(alloc, fs::open(rt, name)?)
+    }
+}
+
+/// Reads a file of at most `LIMIT` bytes; `-` is standard input.
+pub fn read_file<R: Files + Input>(rt: &R, alloc: Global, name: &str) -> Result<Vec<u8>, ToolFault>
+    ensures { IfOk result (λ bytes. vec_len bytes ≤ LIMIT) }
+{
+    match read_named(rt, alloc, name) {
+        Err(reason) => Err(unread(alloc, name, reason)),
+        Ok(bytes) if bytes.len() > LIMIT => Err(ToolFault::Long {
+            name: shown(alloc, name)?,
+        }),
+        Ok(bytes) => Ok(bytes),
+    }
+}

@@ -1,0 +1,32 @@
+//! How files and words of the command line write ESC.
+use teco_base::bytes::ESC;
+use teco_source::Form;
+
+/// What stands for ESC, by the words of the command line.
+#[derive(Clone, Copy, Debug, PartialEq, Eq)]
+pub enum Escape {
+    /// Nothing is said of it: the name of a file tells.
+    ByName,
+    /// This character; ESC itself where it is none.
+    Mark(u8),
+}
+
+/// What the names of files end in that are in the readable form.
+const READABLE: &str = ".tes";
+
+/// The form of a file of a name.
+pub fn form_of(name: &str, escape: Escape) -> Form {
+    match escape {
+        Escape::Mark(mark) => Form::Marked(mark),
+        Escape::ByName if name.ends_with(READABLE) => Form::Readable,
+        Escape::ByName => Form::Marked(ESC),
+    }
+}
+
+/// The form of a text on the command line.
+pub fn form_of_word(escape: Escape) -> Form {
+    match escape {
+        Escape::Mark(mark) => Form::Marked(mark),
+        Escape::ByName => Form::Readable,
+    }
+}

@@ -1,0 +1,76 @@
+//! Library files with their sources.
+ghost use Rattle.std.specs.Prelude.{◌≤◌, IfOk, length, vec_len};
+ghost use Rattle.teco_base.specs.declared.TheConstants.{LIMIT};
+
+use crate::fault::ToolFault;
+use crate::files::read_file;
+use crate::forms::{Escape, form_of};
+use std::alloc::Global;
+use std::io::Input;
+use std::rt::Files;
+use teco_base::{LIMIT, Reg};
+use teco_explain::Explained;
+use teco_library::{Library, LibraryFault};
+use teco_rules::Refusal as Why;
+use teco_source::Source;
+use teco_verify::Refusal;
+
+/// Reads the source of a library: a file, or standard input where the name is `-`.
+pub fn read_source<R: Files + Input>(
+    rt: &R,
+    alloc: Global,
+    name: &str,
+    escape: Escape,
+) -> Result<Source, ToolFault> {
+    let bytes = read_file(rt, alloc, name)?;
+    Ok(Source::new(alloc, name, bytes, form_of(name, escape))?)
+}
+
+/// The library that a source says.
+pub fn library_of(alloc: Global, source: &Source) -> Result<Library, Refusal> {
+    if source.text().len() > LIMIT {
+        return Err(Refusal::Memory);
+    }
+    match Library::read(alloc, source.text()) {
+        Ok(library) => Ok(library),
+        Err(LibraryFault::NotALibrary { place }) => Err(Refusal::No {
+            why: Why::Library,
+            register: None,
+            place,
+        }),
+        Err(LibraryFault::Memory) => Err(Refusal::Memory),
+    }
+}
+
+/// What a refusal of a macro of this source is for people; none for want of memory.
+pub fn explained<'a>(source: &'a Source, refusal: &Refusal) -> Option<Explained<'a>> {
+    match refusal {
+        Refusal::No {
+            why,
+            register,
+            place,
+        } => Some(Explained {
+            source,
+            why: *why,
+            register: *register,
+            place: *place,
+        }),
+        Refusal::Memory => None,
+    }
+}
+
+/// The registers in the order of their names: A to Z, and then 0 to 9.
+pub const NAMES: &[u8; 36] = b"ABCDEFGHIJKLMNOPQRSTUVWXYZ0123456789";
+
+/// The registers that a library gives a text.
+pub fn macros_of(alloc: Global, library: &Library) -> Result<Vec<Reg>, ToolFault> {
+    let mut macros = Vec::new(alloc);
+    for name in NAMES {
+        if let Some(register) = Reg::of(*name) {
+            if library.contains(register) {
+                macros.push(register)?;
+            }
+        }
+    }
+    Ok(macros)
+}

@@ -1,0 +1,32 @@
+//! What came of a word of the program.
+
+/// What came of a word of the program, beside faults.
+#[derive(Clone, Copy, Debug, PartialEq, Eq)]
+pub enum Outcome {
+    /// It is done.
+    Done,
+    /// A code was typed.
+    Coded,
+    /// A library, a macro or a certificate is refused, or a run that is outside its promise.
+    Refused,
+}
+
+impl Outcome {
+    /// The status that the program ends with.
+    pub fn status(self) -> u8 {
+        match self {
+            Outcome::Done => 0,
+            Outcome::Coded => 1,
+            Outcome::Refused => 3,
+        }
+    }
+
+    /// The one of the greater status.
+    pub fn worse(self, other: Outcome) -> Outcome {
+        if self.status() < other.status() {
+            other
+        } else {
+            self
+        }
+    }
+}

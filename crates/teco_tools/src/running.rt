@@ -1,0 +1,413 @@
+//! `run`: sessions on standard input, on files and on words of the command line.
+use crate::console::{Console, Voice};
+use crate::fault::ToolFault;
+use crate::files::read_file;
+use crate::forms::{Escape, form_of, form_of_word};
+use crate::messages::tell_trouble;
+use crate::outcome::Outcome;
+use std::alloc::{AllocError, Global};
+use std::fs::Files;
+use std::io::{Input, Read, Write};
+use std::str;
+use std::time::Clock;
+use teco_base::bytes::ESC;
+use teco_base::{Code, LIMIT, Reg};
+use teco_explain::note_of_code;
+use teco_gap::GapText;
+use teco_lex::element;
+use teco_model::{HostFault, Limits};
+use teco_pages::FileHost;
+use teco_run::{Machine, Stop, Stopped};
+use teco_session::{Conduct, Done, Listener, session_heard};
+use teco_source::{Position, Shown, Source};
+use teco_text::TextStore;
+
+/// What command strings are read from.
+#[derive(Clone, Copy)]
+pub enum Script<'a> {
+    /// Standard input.
+    Stream,
+    /// The file of a name.
+    File(&'a str),
+    /// A word of the command line. It gets the two ESC at its end that it lacks.
+    Word(&'a str),
+}
+
+/// What is run, and how.
+#[derive(Clone, Copy)]
+pub struct Run<'a> {
+    pub scripts: &'a [Script<'a>],
+    pub escape: Escape,
+    /// Steps that each command string may take.
+    pub limit: u64,
+    /// Bytes that each command string may type, and that its calls may take.
+    pub cap: usize,
+    /// Does the first code end it?
+    pub until_code: bool,
+}
+
+// The code that was typed for a stop.
+fn code_of(stop: Stop) -> Option<Code> {
+    match stop {
+        Stop::Ended { .. } | Stop::Exit { .. } => None,
+        Stop::Error(code) => Some(code),
+        Stop::Limit => Some(Code::Lim),
+        Stop::Memory => Some(Code::Mem),
+        Stop::HostFault(HostFault::NoFile) => Some(Code::Fnf),
+        Stop::HostFault(HostFault::In) => Some(Code::Inp),
+        Stop::HostFault(HostFault::Out) => Some(Code::Out),
+    }
+}
+
+// The letters of a code.
+fn letters(code: Code) -> &'static str {
+    str::from_utf8(code.name().as_slice()).unwrap_or("")
+}
+
+// The part of a text that the element at a place takes.
+fn element_at(text: &[u8], place: usize) -> &[u8] {
+    if place > text.len() {
+        return &[];
+    }
+    let behind = match element(text, place) {
+        Ok(Some(found)) => found.next,
+        _ => text.len().min(place.saturating_add(1)),
+    };
+    text.get(..behind)
+        .unwrap_or(text)
+        .get(place..)
+        .unwrap_or(&[])
+}
+
+// Says to people what a session stopped at.
+#[derive(Drop)]
+struct Teller<'v, 's, E: Write + Drop> {
+    voice: &'v mut Voice<E>,
+    source: Option<&'s Source>,
+    // where the next command string begins in the source, and its number
+    begin: usize,
+    number: u64,
+}
+
+impl<E: Write + Drop> Teller<'_, '_, E> {
+    // Says where in a command string it stopped.
+    fn tell_string<T: TextStore>(
+        &mut self,
+        text: &[u8],
+        stopped: &Stopped,
+        machine: &Machine<T>,
+        code: Code,
+    ) {
+        let place = stopped.site.place;
+        let found = Shown(element_at(text, place));
+        let name = letters(code);
+        let summary = note_of_code(code).summary;
+        let (pointer, length) = size_of(machine);
+        match self.source {
+            None => {
+                let number = self.number;
+                self.voice.say(format_args!(
+                    "?{name} in command string {number} at byte {place}: {found} (pointer {pointer}, length {length}): {summary}"
+                ));
+            }
+            Some(source) => {
+                let at = self.begin.saturating_add(place);
+                let position = source.position(at);
+                let file = Shown(source.name().as_bytes());
+                let line = position.line;
+                let column = position.column;
+                let excerpt = source.excerpt(at);
+                self.voice.say(format_args!(
+                    "{file}:{line}:{column}: ?{name} at {found} (pointer {pointer}, length {length}): {summary}\n{excerpt}"
+                ));
+            }
+        }
+    }
+
+    // Says where in a macro it stopped.
+    fn tell_macro<T: TextStore>(
+        &mut self,
+        stopped: &Stopped,
+        register: Reg,
+        machine: &Machine<T>,
+        code: Code,
+    ) {
+        let place = stopped.site.place;
+        let text = machine.regs().text(register);
+        let found = Shown(element_at(text, place));
+        let position = Position::of(text, place);
+        let name = letters(code);
+        let summary = note_of_code(code).summary;
+        let (pointer, length) = size_of(machine);
+        let line = position.line;
+        let column = position.column;
+        let register = char::from(register.name());
+        self.voice.say(format_args!(
+            "?{name} at {line}:{column} in macro {register}: {found} (pointer {pointer}, length {length}): {summary}"
+        ));
+    }
+}
+
+// The pointer, and the length of the buffer.
+fn size_of<T: TextStore>(machine: &Machine<T>) -> (usize, usize) {
+    let (first, second) = machine.text();
+    (machine.dot(), first.len().saturating_add(second.len()))
+}
+
+impl<F, E> Listener<FileHost<F>> for Teller<'_, '_, E>
+where
+    F: Files + Clock + Drop,
+    E: Write + Drop,
+{
+    fn stopped<T: TextStore>(
+        &mut self,
+        text: &[u8],
+        stopped: &Stopped,
+        machine: &Machine<T>,
+        host: &FileHost<F>,
+    ) {
+        self.number = self.number.saturating_add(1);
+        if let Some(code) = code_of(stopped.stop) {
+            match stopped.site.register {
+                None => self.tell_string(text, stopped, machine, code),
+                Some(register) => self.tell_macro(stopped, register, machine, code),
+            }
+            if let Stop::HostFault(_) = stopped.stop {
+                tell_trouble(self.voice, host);
+            }
+        }
+        self.begin = self.begin.saturating_add(text.len());
+    }
+
+    fn rest(&mut self, code: Option<Code>) {
+        let name = code.map_or("", letters);
+        let number = self.number.saturating_add(1);
+        match self.source {
+            None => self.voice.say(format_args!(
+                "?{name} in command string {number}: it has no end, which is two ESC"
+            )),
+            Some(source) => {
+                let position = source.position(self.begin);
+                let file = Shown(source.name().as_bytes());
+                let line = position.line;
+                let column = position.column;
+                self.voice.say(format_args!(
+                    "{file}:{line}:{column}: ?{name}: the command string that begins here has no end, which is two ESC"
+                ));
+            }
+        }
+    }
+}
+
+/// How many ESC a text lacks at its end, so that its last command string ends.
+pub fn lacking(text: &[u8]) -> usize {
+    let mut run = 0usize;
+    let mut rest = 0usize;
+    for byte in text {
+        if *byte == ESC && run == 1 {
+            run = 0;
+            rest = 0;
+        } else {
+            run = usize::from(*byte == ESC);
+            rest = rest.saturating_add(1);
+        }
+    }
+    match (rest, run) {
+        (0, _) => 0,
+        (_, 1) => 1,
+        _ => 2,
+    }
+}
+
+// The source of a word, with the ESC at its end that it lacks.
+fn word_source(alloc: Global, word: &str, escape: Escape) -> Result<Source, AllocError> {
+    let form = form_of_word(escape);
+    let bytes = word.as_bytes().to_vec(alloc)?;
+    let source = Source::new(alloc, "-e", bytes, form)?;
+    let count = lacking(source.text());
+    source.ended(count)
+}
+
+// The source of a script that is none of standard input.
+fn source_of<R: Files + Input>(
+    rt: &R,
+    alloc: Global,
+    script: Script<'_>,
+    escape: Escape,
+) -> Result<Option<Source>, ToolFault> {
+    match script {
+        Script::Stream => Ok(None),
+        Script::Word(word) => Ok(Some(word_source(alloc, word, escape)?)),
+        Script::File(name) => {
+            let bytes = read_file(rt, alloc, name)?;
+            let form = form_of(name, escape);
+            Ok(Some(Source::script(alloc, name, bytes, form)?))
+        }
+    }
+}
+
+// A session that a reader gives, whose stops are told.
+fn converse<T, S, O, F, E>(
+    alloc: Global,
+    machine: &mut Machine<T>,
+    reader: &mut S,
+    out: &mut O,
+    host: &mut FileHost<F>,
+    run: &Run<'_>,
+    teller: &mut Teller<'_, '_, E>,
+) -> Result<Done, ToolFault>
+where
+    T: TextStore,
+    S: Read,
+    O: Write,
+    F: Files + Clock + Drop,
+    E: Write + Drop,
+{
+    let conduct = Conduct {
+        limits: Limits {
+            steps: run.limit,
+            length: LIMIT,
+        },
+        until_code: run.until_code,
+    };
+    let done = session_heard(alloc, machine, reader, out, host, conduct, teller)?;
+    Ok(done)
+}
+
+// Runs what standard input gives.
+fn run_stream<R, F, O, E>(
+    rt: &R,
+    alloc: Global,
+    machine: &mut Machine<GapText>,
+    run: &Run<'_>,
+    console: &mut Console<O, E>,
+    host: &mut FileHost<F>,
+) -> Result<Done, ToolFault>
+where
+    R: Files + Input,
+    F: Files + Clock + Drop,
+    O: Write + Drop,
+    E: Write + Drop,
+{
+    let mut reader = rt.reader();
+    let mut teller = Teller {
+        voice: &mut console.voice,
+        source: None,
+        begin: 0,
+        number: 0,
+    };
+    converse(
+        alloc,
+        machine,
+        &mut reader,
+        &mut console.out,
+        host,
+        run,
+        &mut teller,
+    )
+}
+
+// Runs what a source says.
+fn run_source<F, O, E>(
+    alloc: Global,
+    machine: &mut Machine<GapText>,
+    source: &Source,
+    run: &Run<'_>,
+    console: &mut Console<O, E>,
+    host: &mut FileHost<F>,
+) -> Result<Done, ToolFault>
+where
+    F: Files + Clock + Drop,
+    O: Write + Drop,
+    E: Write + Drop,
+{
+    let mut text = source.text();
+    let mut teller = Teller {
+        voice: &mut console.voice,
+        source: Some(source),
+        begin: 0,
+        number: 0,
+    };
+    converse(
+        alloc,
+        machine,
+        &mut text,
+        &mut console.out,
+        host,
+        run,
+        &mut teller,
+    )
+}
+
+// Runs a script.
+fn run_script<R, F, O, E>(
+    rt: &R,
+    alloc: Global,
+    machine: &mut Machine<GapText>,
+    script: Script<'_>,
+    run: &Run<'_>,
+    console: &mut Console<O, E>,
+    host: &mut FileHost<F>,
+) -> Result<Done, ToolFault>
+where
+    R: Files + Input,
+    F: Files + Clock + Drop,
+    O: Write + Drop,
+    E: Write + Drop,
+{
+    match source_of(rt, alloc, script, run.escape)? {
+        None => run_stream(rt, alloc, machine, run, console, host),
+        Some(source) => run_source(alloc, machine, &source, run, console, host),
+    }
+}
+
+// Says what a run leaves that is lost: an output that isn't closed, and text that the end of the session drops.
+fn tell_left<O: Write + Drop, E: Write + Drop>(
+    console: &mut Console<O, E>,
+    machine: &Machine<GapText>,
+    is_exit: bool,
+) {
+    let (_, length) = size_of(machine);
+    if machine.has_output() {
+        console.complain(
+            "an output is still open, and what was written to it is dropped: close it with EC or EF",
+        );
+    } else if is_exit && length > 0 {
+        console.complain(format_args!(
+            "EX ended the session with {length} characters in the buffer and no output, and they are dropped"
+        ));
+    }
+}
+
+/// Runs scripts one after another on one machine, over the files of a host. A code does not keep later ones from running, unless
+/// the first is to end it; a command string that ends the session does.
+pub fn run_scripts<R, F, O, E>(
+    rt: &R,
+    alloc: Global,
+    console: &mut Console<O, E>,
+    run: &Run<'_>,
+    host: &mut FileHost<F>,
+) -> Result<Outcome, ToolFault>
+where
+    R: Files + Input,
+    F: Files + Clock + Drop,
+    O: Write + Drop,
+    E: Write + Drop,
+{
+    let mut machine = Machine::new(alloc, GapText::new(alloc));
+    machine.set_cap(run.cap);
+    let mut outcome = Outcome::Done;
+    let mut is_exit = false;
+    for script in run.scripts {
+        let done = run_script(rt, alloc, &mut machine, *script, run, console, host)?;
+        if done.coded {
+            outcome = Outcome::Coded;
+        }
+        is_exit = done.exit;
+        if done.exit || (done.coded && run.until_code) {
+            break;
+        }
+    }
+    tell_left(console, &machine, is_exit);
+    Ok(outcome)
+}

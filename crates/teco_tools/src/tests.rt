@@ -1,0 +1,239 @@
+// The words of the program over files in a scratch folder.
+use super::*;
+use std::fs;
+use std::test::Fail;
+use teco_base::Reg;
+use teco_pages::FileHost;
+use teco_rules::Refusal as Why;
+
+/// Writers over memory, in place of standard output and standard error.
+fn console(rt: &HostRuntime) -> Console<Vec<u8>, Vec<u8>> {
+    Console::new(rt.alloc(), Vec::new(rt.alloc()), Vec::new(rt.alloc()))
+}
+
+// A library in the file of a name.
+fn library<'a>(rt: &HostRuntime, name: &'a str, text: &[u8]) -> Result<Request<'a>, Fail> {
+    fs::write(rt, name, text)?;
+    Ok(Request {
+        library: name,
+        escape: Escape::Mark(b'$'),
+    })
+}
+
+#[test]
+fn premises_are_the_last(rt: HostRuntime) -> Result<(), Fail> {
+    let rows: [(&[u8], &[u8], &str); 4] = [
+        (
+            b"1 + 2*N",
+            b"8 + 4*N",
+            "holds for texts up to N = 134,217,727 characters",
+        ),
+        (
+            b"12 + 13*N",
+            b"7 + 9*N",
+            "holds for texts up to N = 20,648,880 characters",
+        ),
+        (b"2147483647 + N", b"4294967301", "holds for no text"),
+        (
+            b"N",
+            b"5",
+            "holds for texts up to N = 268,435,456 characters",
+        ),
+    ];
+    for (size, commands, said) in rows {
+        let (Some(size), Some(commands)) = (
+            teco_poly::Poly::read(size),
+            teco_poly::Poly::read(commands),
+        ) else {
+            panic!(rt; "polynomials");
+        };
+        let printed = format!(in rt.alloc(); "{}", Premise::of(&size, &commands))?;
+        assert_eq!(rt; printed.as_str(), said);
+    }
+    Ok(())
+}
+
+#[test]
+fn a_macro_is_verified(rt: HostRuntime) -> Result<(), Fail> {
+    let request = library(&rt, "somleut_tools_verified", b"@^UA/J<Sfoo$;I!$>/")?;
+    let mut console = console(&rt);
+    let Some(entry) = Reg::of(b'A') else {
+        panic!(rt; "a register");
+    };
+    let outcome = verify_macro(&rt, rt.alloc(), &mut console, request, entry);
+    fs::remove_file(&rt, "somleut_tools_verified")?;
+    assert!(rt; matches!(outcome, Ok(Outcome::Done)));
+    assert_eq!(rt;
+        console.out.as_slice(),
+        b"TECO-CERT 1\nentry A\nneeds -\ncommands 8 + 4*N\nsize 1 + 2*N\nloop 3 held 2*N kept texts -\nend\n".as_slice()
+    );
+    Ok(())
+}
+
+#[test]
+fn refusals_are_printed(rt: HostRuntime) -> Result<(), Fail> {
+    let rows: [(Why, Option<Reg>, usize, &str); 5] = [
+        (Why::Place, Reg::of(b'a'), 1, "refused X6 in A at 1"),
+        (Why::Bound, Reg::of(b'0'), 12, "refused X10 in 0 at 12"),
+        (Why::Overflow, Reg::of(b'Z'), 0, "refused X17 in Z at 0"),
+        (Why::Library, None, 3, "refused X1 at 3"),
+        (Why::Certificate, None, 0, "refused X18"),
+    ];
+    for (i, (why, register, place, line)) in rows.iter().enumerate() {
+        let verdict = Verdict {
+            why: *why,
+            register: *register,
+            place: *place,
+        };
+        let printed = format!(in rt.alloc(); "{verdict}")?;
+        assert_eq!(rt; printed.as_str(), *line, "row {i}");
+    }
+    Ok(())
+}
+
+// Words that are run, whether the first code ends it, what is typed, and what is said.
+#[test]
+fn words_are_run(rt: HostRuntime) -> Result<(), Fail> {
+    let rows: [(&[&str], bool, &str, &str); 8] = [
+        (&["1+2*3="], false, "9\r\n", ""),
+        (&["Iabc$HT", "Z="], false, "abc3\r\n", ""),
+        (
+            &["Iab$9C", "2="],
+            false,
+            "?POP\r\n2\r\n",
+            "-e:1:6: ?POP at C (pointer 2, length 2): the pointer, or a place, would be outside the buffer\n    Iab$9C\n         ^\n",
+        ),
+        (
+            &["Iab$9C", "2="],
+            true,
+            "?POP\r\n",
+            "-e:1:6: ?POP at C (pointer 2, length 2): the pointer, or a place, would be outside the buffer\n    Iab$9C\n         ^\n",
+        ),
+        (
+            &["@^UA/J\n9C/MA"],
+            false,
+            "?POP\r\n",
+            "?POP at 2:2 in macro A: C (pointer 0, length 0): the pointer, or a place, would be outside the buffer\n",
+        ),
+        (
+            &["ERsomleut_none"],
+            false,
+            "?FNF\r\n",
+            "-e:1:1: ?FNF at ERsomleut_none$ (pointer 0, length 0): the input can't be opened\n    ERsomleut_none\n    ^\nteco: cannot open input somleut_none: No such file or directory (os error 2) (?FNF)\n",
+        ),
+        (
+            &["Iabc$EX"],
+            false,
+            "",
+            "teco: EX ended the session with 3 characters in the buffer and no output, and they are dropped\n",
+        ),
+        (
+            &["<"],
+            false,
+            "?UTC\r\n",
+            "-e:1:2: ?UTC at  (pointer 0, length 0): the command string ends too early\n    <\n     ^\n",
+        ),
+    ];
+    for (i, (words, until_code, typed, said)) in rows.iter().enumerate() {
+        let mut scripts = Vec::new(rt.alloc());
+        for word in *words {
+            scripts.push(Script::Word(*word))?;
+        }
+        let run = Run {
+            scripts: &scripts,
+            escape: Escape::ByName,
+            limit: 1000,
+            cap: 1 << 20,
+            until_code: *until_code,
+        };
+        let mut console = console(&rt);
+        let mut host = FileHost::new(rt.alloc(), rt);
+        let outcome = run_scripts(&rt, rt.alloc(), &mut console, &run, &mut host);
+        assert!(rt; outcome.is_ok(), "row {i}");
+        let (written, messages) = console.into_parts();
+        assert_eq!(rt;
+            String::from_utf8_lossy(rt.alloc(), &written)?.as_str(),
+            *typed,
+            "row {i}"
+        );
+        assert_eq!(rt;
+            String::from_utf8_lossy(rt.alloc(), &messages)?.as_str(),
+            *said,
+            "row {i}"
+        );
+    }
+    Ok(())
+}
+
+#[test]
+fn words_get_the_escapes_that_they_lack(rt: HostRuntime) {
+    let rows: [(&[u8], usize); 8] = [
+        (b"", 0),
+        (b"1=", 2),
+        (b"1=\x1b", 1),
+        (b"1=\x1b\x1b", 0),
+        (b"FSa\x1b\x1b", 0),
+        (b"FSa\x1bb", 2),
+        (b"1=\x1b\x1b2=", 2),
+        (b"1=\x1b\x1b\x1b", 1),
+    ];
+    for (text, count) in rows {
+        assert_eq!(rt; running::lacking(text), count);
+    }
+}
+
+// The bytes of a file.
+fn bytes_of(rt: &HostRuntime, name: &str) -> Result<Vec<u8>, Fail> {
+    Ok(fs::read(rt, name)?)
+}
+
+#[test]
+fn files_are_edited_in_place(rt: HostRuntime) -> Result<(), Fail> {
+    let request = library(&rt, "somleut_tools_edit", b"@^UA/J<FSfoo$bar$;>/")?;
+    fs::write(&rt, "somleut_tools_one", b"a foo")?;
+    fs::write(&rt, "somleut_tools_two", b"nothing")?;
+    let Some(entry) = Reg::of(b'A') else {
+        panic!(rt; "a register");
+    };
+    let files = [
+        "somleut_tools_one",
+        "somleut_tools_none",
+        "somleut_tools_two",
+    ];
+    for (is_dry, said, left) in [
+        (true, "files: 3, would change: 1, failed: 1\n", b"a foo"),
+        (false, "files: 3, changed: 1, failed: 1\n", b"a bar"),
+    ] {
+        let given = EditInPlace {
+            library: request,
+            entry,
+            argument: None,
+            files: &files,
+            cap: 1 << 20,
+            is_dry,
+        };
+        let mut console = console(&rt);
+        let outcome = edit_files(&rt, rt.alloc(), &mut console, &given);
+        assert!(rt; matches!(outcome, Ok(Outcome::Coded)));
+        let (written, messages) = console.into_parts();
+        assert_eq!(rt; written.as_slice(), b"?FNF\r\n".as_slice());
+        let messages = String::from_utf8_lossy(rt.alloc(), &messages)?;
+        assert!(rt; messages.as_str().ends_with(said), "{messages}");
+        assert_eq!(rt;
+            bytes_of(&rt, "somleut_tools_one")?.as_slice(),
+            left.as_slice()
+        );
+    }
+    assert_eq!(rt;
+        bytes_of(&rt, "somleut_tools_two")?.as_slice(),
+        b"nothing".as_slice()
+    );
+    for name in [
+        "somleut_tools_edit",
+        "somleut_tools_one",
+        "somleut_tools_two",
+    ] {
+        fs::remove_file(&rt, name)?;
+    }
+    Ok(())
+}

@@ -1,0 +1,119 @@
+//! `verify`: macros of a library are verified.
+use crate::console::Console;
+use crate::fault::ToolFault;
+use crate::library::{explained, library_of, macros_of, read_source};
+use crate::outcome::Outcome;
+use crate::premise::Premise;
+use crate::request::Request;
+use crate::verdict::Verdict;
+use std::alloc::Global;
+use std::io::{Input, Write};
+use std::rt::Files;
+use teco_base::Reg;
+use teco_library::Library;
+use teco_source::Source;
+use teco_verify::{Refusal, Verified, verify};
+
+/// Says why a macro of a source is refused, behind its line.
+pub fn refuse<O: Write + Drop, E: Write + Drop>(
+    console: &mut Console<O, E>,
+    source: &Source,
+    refusal: Refusal,
+) -> Result<Outcome, ToolFault> {
+    let Some(verdict) = Verdict::of(&refusal) else {
+        return Err(ToolFault::Memory);
+    };
+    console.answer(format_args!("{verdict}\n"))?;
+    if let Some(told) = explained(source, &refusal) {
+        console.say(told);
+    }
+    Ok(Outcome::Refused)
+}
+
+/// Says up to which N the promise of a verified macro holds.
+pub fn tell_premise<O: Write + Drop, E: Write + Drop>(
+    console: &mut Console<O, E>,
+    verified: &Verified<'_>,
+) {
+    console.say(Premise::of(&verified.size(), &verified.commands()));
+}
+
+// Prints the certificate of a macro, and up to which N its promise holds.
+fn certify<O: Write + Drop, E: Write + Drop>(
+    alloc: Global,
+    console: &mut Console<O, E>,
+    verified: &Verified<'_>,
+) -> Result<Outcome, ToolFault> {
+    let text = verified.certificate(alloc)?;
+    console.out.write_all(text.as_slice())?;
+    tell_premise(console, verified);
+    Ok(Outcome::Done)
+}
+
+/// Verifies a macro of a library, and prints its certificate.
+pub fn verify_macro<R: Files + Input, O: Write + Drop, E: Write + Drop>(
+    rt: &R,
+    alloc: Global,
+    console: &mut Console<O, E>,
+    request: Request<'_>,
+    entry: Reg,
+) -> Result<Outcome, ToolFault> {
+    let source = read_source(rt, alloc, request.library, request.escape)?;
+    let library = match library_of(alloc, &source) {
+        Ok(library) => library,
+        Err(refusal) => return refuse(console, &source, refusal),
+    };
+    match verify(alloc, &library, entry) {
+        Ok(verified) => certify(alloc, console, &verified),
+        Err(refusal) => refuse(console, &source, refusal),
+    }
+}
+
+// Prints what comes of one macro of several.
+fn verify_one<O: Write + Drop, E: Write + Drop>(
+    alloc: Global,
+    console: &mut Console<O, E>,
+    source: &Source,
+    library: &Library,
+    entry: Reg,
+) -> Result<Outcome, ToolFault> {
+    let name = char::from(entry.name());
+    match verify(alloc, library, entry) {
+        Ok(verified) => {
+            console.answer(format_args!("{name}: accepted\n"))?;
+            let premise = Premise::of(&verified.size(), &verified.commands());
+            console.say(format_args!("{name}: {premise}"));
+            Ok(Outcome::Done)
+        }
+        Err(refusal) => {
+            let Some(verdict) = Verdict::of(&refusal) else {
+                return Err(ToolFault::Memory);
+            };
+            console.answer(format_args!("{name}: {verdict}\n"))?;
+            if let Some(told) = explained(source, &refusal) {
+                console.say(told);
+            }
+            Ok(Outcome::Refused)
+        }
+    }
+}
+
+/// Verifies each macro of a library, A to Z and then 0 to 9, and prints a line for each.
+pub fn verify_library<R: Files + Input, O: Write + Drop, E: Write + Drop>(
+    rt: &R,
+    alloc: Global,
+    console: &mut Console<O, E>,
+    request: Request<'_>,
+) -> Result<Outcome, ToolFault> {
+    let source = read_source(rt, alloc, request.library, request.escape)?;
+    let library = match library_of(alloc, &source) {
+        Ok(library) => library,
+        Err(refusal) => return refuse(console, &source, refusal),
+    };
+    let macros = macros_of(alloc, &library)?;
+    let mut outcome = Outcome::Done;
+    for entry in &macros {
+        outcome = outcome.worse(verify_one(alloc, console, &source, &library, *entry)?);
+    }
+    Ok(outcome)
+}
