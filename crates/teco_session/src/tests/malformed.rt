@@ -101,18 +101,26 @@ type Nest = (
     &'static str,
 );
 
-/// Sessions with brackets in brackets, ten thousand deep.
-const NESTED: [Nest; 10] = [
+/// Brackets that are entered, ten thousand deep.
+const ENTERED: [Nest; 3] = [
     (b"1<", b"2=", b">", b"\x1b\x1b", b"2\r\n", "done"),
-    (b"1<", b"2=", b"", b"\x1b\x1b", b"2\r\n?UTC\r\n", "coded"),
-    (b"1<", b"2=", b">", b">\x1b\x1b", b"2\r\n?BNI\r\n", "coded"),
-    (b"0<", b"2=", b">", b"3=\x1b\x1b", b"3\r\n", "done"),
-    (b"0<", b"2=", b"", b"\x1b\x1b", b"?UTC\r\n", "coded"),
     (b"1\"N", b"2=", b"'", b"\x1b\x1b", b"2\r\n", "done"),
+    (b"(", b"1", b")", b"=\x1b\x1b", b"1\r\n", "done"),
+];
+
+/// Brackets that are skipped, ten thousand deep.
+const SKIPPED: [Nest; 3] = [
+    (b"0<", b"2=", b">", b"3=\x1b\x1b", b"3\r\n", "done"),
     (b"0\"N", b"2=", b"'", b"3=\x1b\x1b", b"3\r\n", "done"),
     (b"0\"N", b"2=|", b"'", b"3=\x1b\x1b", b"3\r\n", "done"),
+];
+
+/// Brackets that are left by a jump, or that lack their end or their beginning, ten thousand deep.
+const LEFT: [Nest; 4] = [
     (b"1<", b"Oa\x1b", b">", b"!a!2=\x1b\x1b", b"2\r\n", "done"),
-    (b"(", b"1", b")", b"=\x1b\x1b", b"1\r\n", "done"),
+    (b"1<", b"2=", b"", b"\x1b\x1b", b"2\r\n?UTC\r\n", "coded"),
+    (b"1<", b"2=", b">", b">\x1b\x1b", b"2\r\n?BNI\r\n", "coded"),
+    (b"0<", b"2=", b"", b"\x1b\x1b", b"?UTC\r\n", "coded"),
 ];
 
 fn expect_nest(rt: &impl Abort, alloc: Global, nest: Nest, number: usize) -> Result<(), Fail> {
@@ -129,10 +137,24 @@ fn expect_nest(rt: &impl Abort, alloc: Global, nest: Nest, number: usize) -> Res
     Ok(())
 }
 
-#[test]
-fn nested_brackets(rt: HostRuntime) -> Result<(), Fail> {
-    for (i, nest) in NESTED.iter().enumerate() {
-        expect_nest(&rt, rt.alloc(), *nest, i)?;
+fn expect_nests(rt: &impl Abort, alloc: Global, nests: &[Nest]) -> Result<(), Fail> {
+    for (i, nest) in nests.iter().enumerate() {
+        expect_nest(rt, alloc, *nest, i)?;
     }
     Ok(())
+}
+
+#[test]
+fn nested_brackets_are_entered(rt: HostRuntime) -> Result<(), Fail> {
+    expect_nests(&rt, rt.alloc(), &ENTERED)
+}
+
+#[test]
+fn nested_brackets_are_skipped(rt: HostRuntime) -> Result<(), Fail> {
+    expect_nests(&rt, rt.alloc(), &SKIPPED)
+}
+
+#[test]
+fn nested_brackets_are_left(rt: HostRuntime) -> Result<(), Fail> {
+    expect_nests(&rt, rt.alloc(), &LEFT)
 }
