@@ -31,6 +31,7 @@ mod settling;
 mod shift;
 mod stack;
 mod storage;
+mod told;
 mod typing;
 mod ways;
 mod whole;
