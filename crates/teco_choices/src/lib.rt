@@ -10,6 +10,8 @@ mod named;
 mod pending;
 mod search;
 mod unfit;
+mod watching;
 
 pub use search::choose;
 pub use unfit::Unfit;
+pub use watching::watch;

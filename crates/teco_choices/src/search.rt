@@ -17,23 +17,27 @@ use teco_poly::Poly;
 use teco_rules::{ArgumentRange, Refusal};
 
 // How often the body of the innermost of six iterations may be passed: three times for each of them.
-const PASSES: u64 = 729;
+pub const PASSES: u64 = 729;
 
 // A pass over the nodes, in their order, with what is tried for the iterations that are open.
 #[derive(Drop)]
-struct Search {
-    alloc: Global,
+pub struct Search {
+    pub alloc: Global,
     // what comes from the node before
     carried: Option<Facts>,
     pending: Pending,
     memo: Memo,
-    attempts: Vec<Attempt>,
-    found: Vec<LoopLine>,
+    pub attempts: Vec<Attempt>,
+    pub found: Vec<LoopLine>,
 }
 
 impl Search {
-    // None of so many nodes is passed.
-    fn new(alloc: Global, argument: Option<ArgumentRange>, nodes: usize) -> Result<Search, Unfit> {
+    /// None of so many nodes is passed.
+    pub fn new(
+        alloc: Global,
+        argument: Option<ArgumentRange>,
+        nodes: usize,
+    ) -> Result<Search, Unfit> {
         Ok(Search {
             alloc,
             carried: Some(Facts::entry(alloc, argument)?),
@@ -44,8 +48,8 @@ impl Search {
         })
     }
 
-    // What is known at a node, where edges lead to it.
-    fn met(&mut self, number: usize) -> Result<Option<Facts>, Unfit> {
+    /// What is known at a node, where edges lead to it.
+    pub fn met(&mut self, number: usize) -> Result<Option<Facts>, Unfit> {
         let mut arrived = self.pending.take(number)?;
         let mut known: Option<Facts> = None;
         for _ in 0..arrived.len() {
@@ -103,7 +107,14 @@ impl Search {
         };
         let verdict = match known {
             None => Verdict::Stands,
-            Some(end) => attempt.judged(end).map_err(|why| Unfit::at(why, number))?,
+            Some(end) => match attempt.judged(end) {
+                Ok(verdict) => verdict,
+                Err(why) => {
+                    // It stays the one that is tried where this ends.
+                    self.attempts.push(attempt)?;
+                    return Err(Unfit::at(why, number));
+                }
+            },
         };
         match verdict {
             Verdict::Stands => self.settle(&attempt)?,
@@ -185,7 +196,21 @@ impl Search {
         requires last { number ≤ length nodes.now }
         ensures { IfOk result (λ next. 0 < next) }
     {
-        let mut known = self.met(number)?;
+        let known = self.met(number)?;
+        self.leave(nodes, number, known)
+    }
+
+    /// Goes on from a node at which this is known, if it is reached, and answers the number of the next.
+    pub fn leave(
+        &mut self,
+        nodes: &Nodes<'_>,
+        number: usize,
+        mut known: Option<Facts>,
+    ) -> Result<usize, Unfit>
+        requires one { 0 < number }
+        requires last { number ≤ length nodes.now }
+        ensures { IfOk result (λ next. 0 < next) }
+    {
         if let Some(next) = self.turn(number, &mut known)? {
             return Ok(next.max(1));
         }
