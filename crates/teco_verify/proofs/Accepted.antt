@@ -6,7 +6,9 @@ use Rattle.std.specs.Option.{option_copied, ForSome}
 use Rattle.teco_base.specs.declared.TheConstants.{LIMIT, REGISTERS}
 use Rattle.teco_certificate.specs.Fields.{Fields}
 use Rattle.teco_certificate.specs.WellFormed.{IsWellFormed}
-use Rattle.teco_check.specs.Derived.{AreLarge}
+use Rattle.teco_check.specs.Derived.{AreLarge, Derives}
+use Rattle.teco_check.specs.declared.derivation.NotDerived.{NotDerived}
+use Rattle.teco_check.specs.declared.derivation.NotDerived.TheVariants as fault
 use Rattle.teco_check.specs.Kept.{AreKept}
 use Rattle.teco_check.specs.Loops.{begins, loops_from, loops_of}
 use Rattle.teco_expand.specs.Expansion.{expansion}
@@ -102,6 +104,12 @@ module _ (library : Library) (entry : ℕ) (steps most : Polynomial) (accepted :
 
       pub is_kept : (node : ℕ) → ((table : Table) → derive argument nodes chosen ≡ Ok table → AreLarge (facts_at table node)) → ⊥
       is_kept node l = none_large accepted.table node these.outside (l accepted.table derived)
+
+      pub only_memory : (why : NotDerived) → Derives (derive argument nodes chosen) (Err why) → why ≡ fault.Memory
+      only_memory (fault.Refused refusal node) d =
+          let no : Ok accepted.table ≡ Err refusal = sym derived ∙ d in absurd cc
+      only_memory (fault.Large node) d = absurd (is_kept node d)
+      only_memory fault.Memory d = refl
 
       module _ (table : Table) (is : derive argument nodes chosen ≡ Ok table) where
         here : AcceptsNodes nodes table steps most

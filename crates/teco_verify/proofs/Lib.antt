@@ -1,3 +1,4 @@
 -- Lemmas of straight text.
 mod Accepted
 mod Refused
+mod Telling

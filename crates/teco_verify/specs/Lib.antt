@@ -3,3 +3,4 @@ pub mod Finding
 pub mod Straight
 pub mod Accepting
 pub mod Certifying
+pub mod Telling

@@ -4,6 +4,7 @@ ghost use Rattle.teco_expand.specs.Expansion.{expansion};
 ghost use Rattle.teco_library.specs.Library.{argument_of};
 ghost use Rattle.teco_verify.specs.Certifying.{flaw_by, Certifies};
 ghost use Rattle.teco_verify.specs.Finding.{TakesDeclared};
+ghost use Rattle.teco_verify.specs.Telling.{Tells};
 ghost use Rattle.teco_verify.specs.declared.certifying.Flaw.TheVariants as flaw;
 
 use crate::verified::Verified;
@@ -67,6 +68,7 @@ pub fn certified<'l>(
     ensures argument { IfOk result (λ verified. TakesDeclared library.now verified.fields) }
     ensures entry { IfOk result (λ verified. verified.fields.entry ≡ entry) }
     ensures value { Certifies (argument_of library.now entry) nodes.now table.now entry result }
+    ensures told { IfOk result (λ verified. Tells (argument_of library.now entry) nodes.now verified.fields table.now) }
 {
     let argument = library.argument(entry);
     check(alloc, argument, nodes, table)?;

@@ -1,16 +1,23 @@
 //! What the verifier says of a macro of a library: a bound on its commands, or a refusal.
 #![tactic(auto)]
 
+mod account;
 mod certifying;
+mod known;
 mod refusal;
 mod verdict;
 mod verified;
 
+pub use account::{Account, account_of};
+pub use known::Known;
 pub use refusal::Refusal;
 pub use teco_certificate::Needs;
+pub use teco_facts::Choice;
 pub use teco_library::Library;
 pub use verdict::{check_certificate, verify};
 pub use verified::Verified;
 
+#[cfg(test)]
+mod account_tests;
 #[cfg(test)]
 mod tests;

@@ -1,10 +1,15 @@
 //! Why a macro or a certificate is refused.
-ghost use Rattle.std.specs.Prelude.{◌≡◌};
+ghost use Rattle.std.specs.Prelude.{◌≡◌, IfSome};
+ghost use Rattle.teco_choices.specs.declared.unfit.Unfit.TheVariants as unfits;
+ghost use Rattle.teco_check.specs.declared.derivation.NotDerived.TheVariants as underived;
+ghost use Rattle.teco_verify.specs.declared.certifying.Flaw.TheVariants as flaws;
 ghost use Rattle.teco_nodes.specs.declared.refusal.ExpandFault.TheVariants as fault;
 ghost use Rattle.teco_verify.specs.declared.refusal.Refusal.TheVariants as refusal;
 
+use crate::certifying::Flaw;
 use std::alloc::AllocError;
 use teco_base::{REGISTERS, Reg};
+use teco_check::NotDerived;
 use teco_choices::Unfit;
 use teco_nodes::{ExpandFault, Nodes, Reason};
 use teco_rules::Refusal as Why;
@@ -33,8 +38,10 @@ impl From<AllocError> for Refusal {
     }
 }
 
-// The register at a place, if there is one.
-fn register_at(place: usize) -> Option<Reg> {
+/// The register at a place, if there is one.
+pub fn register_at(place: usize) -> Option<Reg>
+    ensures { IfSome result (λ register. register ≡ place) }
+{
     if place < REGISTERS {
         Some(teco_check::register_at(place))
     } else {
@@ -91,10 +98,43 @@ impl Refusal {
     }
 
     // Where no choices are found.
-    pub fn unfit(unfit: Unfit, nodes: &Nodes<'_>) -> Refusal {
+    pub fn unfit(unfit: Unfit, nodes: &Nodes<'_>) -> Refusal
+        ensures { unfit ≡ unfits.Memory → result ≡ refusal.Memory }
+    {
         match unfit {
             Unfit::Refused { why, number } => Refusal::at(why, nodes, number),
             Unfit::Memory => Refusal::Memory,
         }
+    }
+}
+
+/// Why no table is derived, as why no choices are found.
+pub fn unfit_underived(why: NotDerived) -> Unfit
+    ensures { why ≡ underived.Memory → result ≡ unfits.Memory }
+{
+    match why {
+        NotDerived::Memory => Unfit::Memory,
+        NotDerived::Refused { why, node } => Unfit::Refused { why, number: node },
+        NotDerived::Large { node } => Unfit::Refused {
+            why: Why::Bound,
+            number: node,
+        },
+    }
+}
+
+/// Why a table that was derived certifies nothing, in the same way.
+pub fn unfit_flawed(flaw: Flaw) -> Unfit
+    ensures { flaw ≡ flaws.Memory → result ≡ unfits.Memory }
+{
+    match flaw {
+        Flaw::Open { number } => Unfit::Refused {
+            why: Why::Bound,
+            number,
+        },
+        Flaw::Overflow { number } => Unfit::Refused {
+            why: Why::Overflow,
+            number,
+        },
+        Flaw::Memory => Unfit::Memory,
     }
 }

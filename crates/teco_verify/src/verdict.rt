@@ -1,72 +1,92 @@
 //! Verifying a macro, and checking a certificate.
-ghost use Rattle.std.specs.Prelude.{◌≡◌, ◌≤◌, [], length, false, IfOk, Ok};
+ghost use Rattle.std.specs.Prelude.{◌≡◌, ◌≤◌, [], length, false, IfOk, IsErr, IsSomeAnd, Ok, Err};
 ghost use Rattle.std.specs.List.{list_any};
 ghost use Rattle.teco_base.specs.declared.TheConstants.{LIMIT};
 ghost use Rattle.teco_certificate.specs.Text.{certificate_text};
 ghost use Rattle.teco_check.specs.Loops.{begins};
 ghost use Rattle.teco_expand.specs.Expansion.{expansion};
+ghost use Rattle.teco_library.specs.Library.{argument_of};
 ghost use Rattle.teco_verify.specs.Accepting.{AcceptedIsChecked, AcceptedIsFound, ChoosesNothing, TextsAreWithin};
 ghost use Rattle.teco_verify.specs.Finding.{TakesDeclared};
 ghost use Rattle.teco_verify.specs.Straight.{StraightIsChecked, StraightIsVerified};
-ghost use Rattle.teco_verify.specs.declared.certifying.Flaw.TheVariants as flaws;
+ghost use Rattle.teco_verify.specs.Telling.{Tells};
+ghost use Rattle.teco_choices.specs.declared.unfit.Unfit.TheVariants as unfits;
 ghost use Rattle.teco_verify.specs.declared.refusal.Refusal.TheVariants as refusals;
 
-use crate::certifying::{Flaw, certified};
-use crate::refusal::Refusal;
+use crate::certifying::certified;
+use crate::refusal::{Refusal, unfit_flawed, unfit_underived};
 use crate::verified::Verified;
 use std::alloc::Global;
 use teco_base::Reg;
 use teco_certificate::laws::one_spelling;
 use teco_certificate::{Certificate, CertificateFault, LoopLine};
-use teco_check::{NotDerived, derive, has_iterations};
+use teco_check::{Table, derive, has_iterations};
 use teco_choices::{Unfit, choose};
 use teco_library::Library;
 use teco_nodes::{Nodes, expand};
-use teco_rules::{ArgumentRange, Refusal as Why};
+use teco_rules::ArgumentRange;
 use teco_straight::laws::straight_texts_are_accepted;
 
-// The texts of a library have no more than LIMIT characters.
+/// The texts of a library have no more than LIMIT characters.
 #[tactic(auto, using(crate::proofs::Accepted::within))]
-fn texts_are_within(library: &Library)
+pub fn texts_are_within(library: &Library)
     ensures { TextsAreWithin library.now.texts }
 {
     let _texts = library.texts();
 }
 
-// Where a table that was derived certifies nothing.
-fn flawed(flaw: Flaw, nodes: &Nodes<'_>) -> Refusal
-    ensures { flaw ≡ flaws.Memory → result ≡ refusals.Memory }
-{
-    match flaw {
-        Flaw::Open { number } => Refusal::at(Why::Bound, nodes, number),
-        Flaw::Overflow { number } => Refusal::at(Why::Overflow, nodes, number),
-        Flaw::Memory => Refusal::Memory,
+/// What is found of a macro: the verdict, the table if one is derived, and the number of the node at which it is refused, if it is.
+#[derive(Drop)]
+pub struct Found<'l> {
+    pub verdict: Result<Verified<'l>, Refusal>,
+    pub table: Option<Table>,
+    pub stop: Option<usize>,
+}
+
+impl<'l> Found<'l> {
+    // It is refused.
+    fn unfit(why: Unfit, nodes: &Nodes<'_>, table: Option<Table>) -> Found<'l>
+        ensures refused { IsErr result.verdict }
+        ensures memory { why ≡ unfits.Memory → result.verdict ≡ Err refusals.Memory }
+    {
+        let stop = match why {
+            Unfit::Refused { number, .. } => Some(number),
+            Unfit::Memory => None,
+        };
+        Found {
+            verdict: Err(Refusal::unfit(why, nodes)),
+            table,
+            stop,
+        }
     }
 }
 
-// What is certified with these choices.
-fn certified_with<'l>(
+/// What is found with these choices.
+pub fn found_with<'l>(
     alloc: Global,
     library: &'l Library,
     entry: Reg,
     nodes: &Nodes<'_>,
     chosen: &[LoopLine],
-) -> Result<Verified<'l>, Refusal>
+) -> Found<'l>
     requires { expansion library.now.texts entry ≡ Ok nodes.now }
-    ensures library { IfOk result (λ verified. verified.library ≡ library.now.texts) }
-    ensures argument { IfOk result (λ verified. TakesDeclared library.now verified.fields) }
-    ensures entry { IfOk result (λ verified. verified.fields.entry ≡ entry) }
-    ensures accepted { chosen.now ≡ [] → AcceptedIsFound library.now entry result }
+    ensures library { IfOk result.verdict (λ verified. verified.library ≡ library.now.texts) }
+    ensures argument { IfOk result.verdict (λ verified. TakesDeclared library.now verified.fields) }
+    ensures entry { IfOk result.verdict (λ verified. verified.fields.entry ≡ entry) }
+    ensures told { IfOk result.verdict (λ verified. IsSomeAnd result.table (Tells (argument_of library.now entry) nodes.now verified.fields)) }
+    ensures accepted { chosen.now ≡ [] → AcceptedIsFound library.now entry result.verdict }
 {
     let table = match derive(alloc, library.argument(entry), nodes, chosen) {
         Ok(table) => table,
-        Err(NotDerived::Memory) => return Err(Refusal::Memory),
-        Err(NotDerived::Refused { why, node }) => return Err(Refusal::at(why, nodes, node)),
-        Err(NotDerived::Large { node }) => return Err(Refusal::at(Why::Bound, nodes, node)),
+        Err(why) => return Found::unfit(unfit_underived(why), nodes, None),
     };
     match certified(alloc, library, entry, nodes, &table) {
-        Ok(verified) => Ok(verified),
-        Err(flaw) => Err(flawed(flaw, nodes)),
+        Ok(verified) => Found {
+            verdict: Ok(verified),
+            table: Some(table),
+            stop: None,
+        },
+        Err(flaw) => Found::unfit(unfit_flawed(flaw), nodes, Some(table)),
     }
 }
 
@@ -85,7 +105,22 @@ fn choices(
     }
 }
 
-// The same with the choices that are found.
+/// What is found of the nodes that a macro comes to, with the choices that are found for them.
+pub fn found_of<'l>(alloc: Global, library: &'l Library, entry: Reg, nodes: &Nodes<'_>) -> Found<'l>
+    requires { expansion library.now.texts entry ≡ Ok nodes.now }
+    ensures library { IfOk result.verdict (λ verified. verified.library ≡ library.now.texts) }
+    ensures argument { IfOk result.verdict (λ verified. TakesDeclared library.now verified.fields) }
+    ensures entry { IfOk result.verdict (λ verified. verified.fields.entry ≡ entry) }
+    ensures told { IfOk result.verdict (λ verified. IsSomeAnd result.table (Tells (argument_of library.now entry) nodes.now verified.fields)) }
+    ensures accepted { AcceptedIsFound library.now entry result.verdict }
+{
+    match choices(alloc, library.argument(entry), nodes) {
+        Ok(choices) => found_with(alloc, library, entry, nodes, &choices),
+        Err(unfit) => Found::unfit(unfit, nodes, None),
+    }
+}
+
+// What is found of a macro.
 fn verified<'l>(alloc: Global, library: &'l Library, entry: Reg) -> Result<Verified<'l>, Refusal>
     ensures library { IfOk result (λ verified. verified.library ≡ library.now.texts) }
     ensures argument { IfOk result (λ verified. TakesDeclared library.now verified.fields) }
@@ -93,10 +128,7 @@ fn verified<'l>(alloc: Global, library: &'l Library, entry: Reg) -> Result<Verif
     ensures accepted { AcceptedIsFound library.now entry result }
 {
     let nodes = expand(alloc, library, entry)?;
-    match choices(alloc, library.argument(entry), &nodes) {
-        Ok(choices) => certified_with(alloc, library, entry, &nodes, &choices),
-        Err(unfit) => Err(Refusal::unfit(unfit, &nodes)),
-    }
+    found_of(alloc, library, entry, &nodes).verdict
 }
 
 /// Verifies a macro of a library: a bound is found on what a run of it does, with any argument that the library declares for it, or
@@ -142,7 +174,7 @@ fn certified_by<'l>(
         Err(CertificateFault::Memory) => return Err(Refusal::Memory),
     };
     let nodes = expand(alloc, library, claimed.entry)?;
-    certified_with(alloc, library, claimed.entry, &nodes, &claimed.loops)
+    found_with(alloc, library, claimed.entry, &nodes, &claimed.loops).verdict
 }
 
 // The same, where the certificate's text is that of what is found.

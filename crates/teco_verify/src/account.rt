@@ -1,0 +1,235 @@
+//! What the verifier knows of a macro, element by element.
+ghost use Rattle.std.specs.Prelude.{◌≡◌, ◌<◌, ◌≤◌, List, length, IfOk, IfSome, IsErr, Some, None, Ok, option_map, if◌then◌else◌};
+ghost use Rattle.std.specs.Option.{option_map_or};
+ghost use Rattle.std.specs.Result.{result_ok};
+ghost use Rattle.teco_expand.specs.Expansion.{expansion};
+ghost use Rattle.teco_expand.specs.Node.{Node, place_of};
+ghost use Rattle.teco_model.specs.Element as elements;
+ghost use Rattle.teco_check.specs.Loops.{begins};
+ghost use Rattle.teco_rules.specs.Facts.{Facts};
+ghost use Rattle.teco_rules.specs.Flows as rules;
+ghost use Rattle.teco_table.specs.Table.{facts_at, choice_at};
+ghost use Rattle.teco_verify.specs.Finding.{TakesDeclared};
+ghost use Rattle.teco_verify.specs.Straight.{StraightIsVerified};
+ghost use Rattle.teco_verify.specs.Accepting.{AcceptedIsFound};
+ghost use Rattle.teco_verify.specs.Telling.{AcceptedIsTold, IsVerdict, expanded, node_in};
+
+use crate::known::Known;
+use crate::refusal::{Refusal, register_at};
+use crate::verdict::{found_of, texts_are_within};
+use crate::verified::Verified;
+use std::alloc::{AllocError, Global};
+use std::marker::Model;
+use teco_base::Reg;
+use teco_check::{Table, begins_iteration};
+use teco_choices::watch;
+use teco_facts::{Choice, turns};
+use teco_library::Library;
+use teco_model::Element;
+use teco_nodes::{ExpandFault, Nodes, Refusal as Unexpanded, expand};
+use teco_poly::Poly;
+use teco_rules::ArgumentRange;
+use teco_straight::laws::straight_texts_are_accepted;
+
+/// What the verifier knows of a macro: the elements that it comes to, numbered from 1, what is known before each, and the verdict.
+///
+/// Where it is accepted, that is what the table of its certificate says. Where it is refused, it is what was known in the attempt
+/// that ended there, up to that element; of this no clause speaks.
+#[derive(Drop)]
+pub struct Account<'l> {
+    nodes: Option<Nodes<'l>>,
+    table: Table,
+    verdict: Result<Verified<'l>, Refusal>,
+    stop: Option<usize>,
+}
+
+impl<'l> Model for Account<'l> {
+    ghost use Rattle.teco_verify.specs.Telling.{Telling};
+
+    ghost Value = { Telling };
+
+    ghost view = { λ a. record { nodes = a.nodes; table = a.table; verdict = a.verdict; stop = a.stop } };
+}
+
+impl<'l> Account<'l> {
+    // The nodes, if there is one of a number.
+    #[tactic(auto, using(crate::proofs::Telling::none_behind))]
+    fn nodes_with(&self, number: usize) -> Option<&Nodes<'l>>
+        ensures some { IfSome result (λ nodes. self.now.nodes ≡ Some nodes.now) }
+        ensures first { IfSome result (λ nodes. 0 < number) }
+        ensures last { IfSome result (λ nodes. number ≤ length nodes.now) }
+        ensures none { result ≡ None → node_in self.now.nodes number ≡ None }
+    {
+        match &self.nodes {
+            None => None,
+            Some(nodes) => {
+                if number > 0 && number <= nodes.len() {
+                    Some(nodes)
+                } else {
+                    None
+                }
+            }
+        }
+    }
+
+    /// Whether it is accepted, as `verify` says it.
+    pub fn verdict(&self) -> Result<&Verified<'l>, Refusal>
+        ensures { IsVerdict self.now.verdict result }
+    {
+        match &self.verdict {
+            Ok(verified) => Ok(verified),
+            Err(refusal) => Err(*refusal),
+        }
+    }
+
+    /// The number of the element at which it is refused, if it is at one.
+    pub fn stop(&self) -> Option<usize>
+        ensures { result ≡ self.now.stop }
+    {
+        self.stop
+    }
+
+    /// How many elements there are; none where they cannot be told.
+    pub fn len(&self) -> usize
+        ensures { result ≡ option_map_or (λ (nodes : List Node). length nodes) self.now.nodes 0 }
+    {
+        match &self.nodes {
+            None => 0,
+            Some(nodes) => nodes.len(),
+        }
+    }
+
+    /// What is read as the element of a number; `None` at the end of a text, where it returns.
+    pub fn element(&self, number: usize) -> Option<Element<'l>>
+        ensures { (node : Node) → node_in self.now.nodes number ≡ Some node → option_map elements.seen result ≡ node.element }
+    {
+        match self.nodes_with(number) {
+            None => None,
+            Some(nodes) => nodes.element(number),
+        }
+    }
+
+    /// The register in whose text it stands; the call of the entry counts to the entry.
+    pub fn register(&self, number: usize) -> Option<Reg>
+        ensures { (node : Node) → node_in self.now.nodes number ≡ Some node → IfSome result (λ register. node.register ≡ register) }
+    {
+        match self.nodes_with(number) {
+            None => None,
+            Some(nodes) => register_at(nodes.register(number)),
+        }
+    }
+
+    /// The place of its first byte in that text, or of the text's end.
+    pub fn begin(&self, number: usize) -> Option<usize>
+        ensures { (node : Node) → node_in self.now.nodes number ≡ Some node → result ≡ Some (place_of node) }
+    {
+        match self.nodes_with(number) {
+            None => None,
+            Some(nodes) => Some(nodes.place(number)),
+        }
+    }
+
+    /// What is known before it; `None` where no run comes there, and behind the element at which the macro is refused.
+    pub fn known(&self, number: usize) -> Option<Known<'_>>
+        ensures { result ≡ facts_at self.now.table number }
+    {
+        match self.table.facts(number) {
+            None => None,
+            Some(facts) => Some(Known { facts }),
+        }
+    }
+
+    /// What is chosen for the body of the < of a number.
+    pub fn choice(&self, number: usize) -> Option<Choice>
+        ensures { result ≡ choice_at self.now.table number }
+    {
+        self.table.choice(number)
+    }
+
+    /// The most turns of the < of a number, if there is a most.
+    pub fn turns(&self, number: usize) -> Option<Poly>
+        ensures { (node : Node) (facts : Facts) → node_in self.now.nodes number ≡ Some node → facts_at self.now.table number ≡ Some facts
+            → result ≡ (if begins node then result_ok (rules.turns facts) else None) }
+    {
+        if !begins_iteration(&self.element(number)) {
+            return None;
+        }
+        match self.table.facts(number) {
+            None => None,
+            Some(facts) => turns(facts).ok(),
+        }
+    }
+}
+
+// There are no nodes.
+fn unexpanded<'l>(alloc: Global, refused: Unexpanded) -> Account<'l>
+    ensures nodes { result.nodes ≡ None }
+    ensures refused { IsErr result.verdict }
+{
+    Account {
+        nodes: None,
+        table: Table::new(alloc),
+        verdict: Err(Refusal::from(ExpandFault::Refused(refused))),
+        stop: None,
+    }
+}
+
+// The table that was derived, or what was known as the choices were searched.
+fn table_of(
+    alloc: Global,
+    argument: Option<ArgumentRange>,
+    nodes: &Nodes<'_>,
+    derived: Option<Table>,
+) -> Result<Table, AllocError>
+    ensures { IfOk result (λ table. IfSome derived (λ those. table ≡ those)) }
+{
+    match derived {
+        Some(table) => Ok(table),
+        None => watch(alloc, argument, nodes),
+    }
+}
+
+// What is known of a macro.
+fn accounted<'l>(alloc: Global, library: &'l Library, entry: Reg) -> Result<Account<'l>, AllocError>
+    ensures nodes { IfOk result (λ told. told.nodes ≡ expanded (expansion library.now.texts entry)) }
+    ensures library { IfOk result (λ told. IfOk told.verdict (λ verified. verified.library ≡ library.now.texts)) }
+    ensures argument { IfOk result (λ told. IfOk told.verdict (λ verified. TakesDeclared library.now verified.fields)) }
+    ensures entry { IfOk result (λ told. IfOk told.verdict (λ verified. verified.fields.entry ≡ entry)) }
+    ensures known { IfOk result (AcceptedIsTold library.now entry) }
+    ensures accepted { IfOk result (λ told. AcceptedIsFound library.now entry told.verdict) }
+{
+    let nodes = match expand(alloc, library, entry) {
+        Ok(nodes) => nodes,
+        Err(ExpandFault::Refused(refused)) => return Ok(unexpanded(alloc, refused)),
+        Err(ExpandFault::Memory) => return Err(AllocError),
+    };
+    let found = found_of(alloc, library, entry, &nodes);
+    if let Err(Refusal::Memory) = &found.verdict {
+        return Err(AllocError);
+    }
+    let table = table_of(alloc, library.argument(entry), &nodes, found.table)?;
+    Ok(Account {
+        nodes: Some(nodes),
+        table,
+        verdict: found.verdict,
+        stop: found.stop,
+    })
+}
+
+/// Tells what the verifier knows of a macro: the verdict of `verify`, and from what it comes. It takes up to twice as long.
+pub fn account_of<'l>(
+    alloc: Global,
+    library: &'l Library,
+    entry: Reg,
+) -> Result<Account<'l>, AllocError>
+    ensures nodes { IfOk result (λ told. told.nodes ≡ expanded (expansion library.now.texts entry)) }
+    ensures library { IfOk result (λ told. IfOk told.verdict (λ verified. verified.library ≡ library.now.texts)) }
+    ensures argument { IfOk result (λ told. IfOk told.verdict (λ verified. TakesDeclared library.now verified.fields)) }
+    ensures entry { IfOk result (λ told. IfOk told.verdict (λ verified. verified.fields.entry ≡ entry)) }
+    ensures known { IfOk result (AcceptedIsTold library.now entry) }
+    ensures straight { IfOk result (λ told. StraightIsVerified library.now entry told.verdict) }
+{
+    straight_texts_are_accepted();
+    texts_are_within(library);
+    accounted(alloc, library, entry)
+}
