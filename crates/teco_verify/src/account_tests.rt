@@ -18,8 +18,8 @@ struct Expected {
     begin: usize,
     back: u32,
     fore: u32,
-    held: (u64, u64),
-    ahead: (u64, u64),
+    held: (u32, u32),
+    ahead: (u32, u32),
     open: usize,
     fall: Option<i64>,
 }
@@ -123,7 +123,9 @@ fn account_in<'l>(rt: &impl Abort, alloc: Global, library: &'l Library) -> Accou
 }
 
 // Whether a polynomial is so often N, and so many more.
-fn is_linear(polynomial: &Poly, times: u64, more: u64) -> bool {
+fn is_linear(polynomial: &Poly, times: u32, more: u32) -> bool {
+    let times = u64::from(times);
+    let more = u64::from(more);
     polynomial.at(0) == Some(more)
         && polynomial.at(1) == Some(times + more)
         && polynomial.at(2) == Some(2 * times + more)
