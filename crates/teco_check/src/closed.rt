@@ -171,7 +171,8 @@ fn check_at(nodes: &Nodes<'_>, table: &Table, number: usize) -> Result<(), Bad>
 }
 
 /// Whether a table is closed for an entry that takes the declared argument, if there is one; or else the number of the first node
-/// at which a condition fails. It takes about as long as there are nodes and registers.
+/// at which a condition fails. It takes time by the nodes and registers, and at each node by the pairs that were pushed since the entry
+/// and the parentheses that are open.
 pub fn check(
     alloc: Global,
     argument: Option<ArgumentRange>,

@@ -32,6 +32,21 @@ pub enum NotDerived {
     Memory,
 }
 
+// At each node of a number that this divides, what is known is packed.
+const SPAN: usize = 128;
+
+// What is known at a node, which is packed now and then, if there is memory. Else what was pushed, one pair at a node each, would lie
+// as far apart as all that is known at these nodes, and comparing it at each node would take long.
+fn packed_at(number: usize, facts: Facts) -> Result<Facts, AllocError>
+    ensures { IfOk result (λ packed. packed ≡ facts) }
+{
+    if number % SPAN == 0 {
+        facts.packed()
+    } else {
+        Ok(facts)
+    }
+}
+
 // The facts once more, if there are any and there is memory.
 fn copied(facts: Option<&Facts>) -> Result<Option<Facts>, AllocError>
     ensures { IfOk result (λ copy. copy ≡ option_copied facts.entry) }
@@ -152,7 +167,10 @@ fn row_of(
 {
     match known {
         None => Ok(Row::of(None, None)),
-        Some(facts) => row_reached(nodes, chosen, number, facts, arrived),
+        Some(facts) => match packed_at(number, facts) {
+            Ok(facts) => row_reached(nodes, chosen, number, facts, arrived),
+            Err(_) => Err(NotDerived::Memory),
+        },
     }
 }
 
@@ -187,8 +205,8 @@ fn begun(
     Ok(arrived)
 }
 
-/// The table that is derived with these choices, for an entry that takes the declared argument, if there is one. It takes about as
-/// long as there are nodes and registers.
+/// The table that is derived with these choices, for an entry that takes the declared argument, if there is one. It takes time by
+/// the nodes and registers, and where ways meet by the pairs that were pushed since the entry.
 pub fn derive(
     alloc: Global,
     argument: Option<ArgumentRange>,

@@ -1,7 +1,7 @@
 // Small macros: a table is derived from a choice for their iteration, checked, and printed. A call that is refused memory is
 // made once more, so that the rows also hold where one allocation fails.
 use super::*;
-use std::alloc::Global;
+use std::alloc::{AllocError, Global};
 use std::process::Abort;
 use std::test::*;
 use teco_base::{LIMIT, Reg};
@@ -151,4 +151,43 @@ fn counts_the_digits_of_an_argument(rt: HostRuntime) {
     let other = ArgumentRange::between(1, 11);
     assert!(rt; checked(rt.alloc(), &other, &nodes, &table) == Err(Bad::Edge { node: 1 }));
     assert!(rt; checked(rt.alloc(), &None, &nodes, &table) == Err(Bad::Edge { node: 1 }));
+}
+
+// A text of A that pushes one pair, and then goes to the begin so often.
+fn pushing(alloc: Global, jumps: usize) -> Result<Vec<u8>, AllocError> {
+    let mut file = Vec::from_slice(alloc, b"@^UA/[B")?;
+    for _ in 0..jumps {
+        file.push(b'J')?;
+    }
+    file.push(b'/')?;
+    Ok(file)
+}
+
+// The same, once more where memory was refused.
+fn pushing_file(rt: &impl Abort, alloc: Global, jumps: usize) -> Vec<u8> {
+    match pushing(alloc, jumps) {
+        Ok(file) => file,
+        Err(_) => pushing(alloc, jumps).expect(rt, "a file"),
+    }
+}
+
+// Whether the pairs that were pushed before two nodes lie at the same place.
+fn lie_together(table: &Table, one: usize, other: usize) -> bool {
+    match (table.facts(one), table.facts(other)) {
+        (Some(one), Some(other)) => one.has_pushes_of(other),
+        _ => false,
+    }
+}
+
+#[test]
+fn packs_what_was_pushed(rt: HostRuntime) {
+    // It is pushed at the node 2, and packed at 128.
+    let file = pushing_file(&rt, rt.alloc(), 140);
+    let library = library_of(&rt, rt.alloc(), &file);
+    let nodes = nodes_of(&rt, rt.alloc(), &library);
+    let table = table_of(&rt, rt.alloc(), &None, &nodes, &[]);
+    assert!(rt; checked(rt.alloc(), &None, &nodes, &table).is_ok());
+    assert!(rt; lie_together(&table, 3, 127));
+    assert!(rt; !lie_together(&table, 127, 128));
+    assert!(rt; lie_together(&table, 128, 140));
 }

@@ -1,13 +1,16 @@
 -- Levels that settle once more, and levels that stay as they are.
-use Rattle.std.proofs.Common.{◌≡◌, refl, ap, ◌∙◌, ℤ, pos, ◌+ℤ◌, ◌*ℤ◌, Bool, true, false, ◌||◌, List, [], ◌∷◌, map, Option, Some, None, if◌then◌else◌}
+use Rattle.std.proofs.Common.{◌≡◌, refl, ap, ◌∙◌, ℤ, pos, ◌+ℤ◌, ◌*ℤ◌, Bool, true, false, ◌||◌, ◌&&◌, is_none, List, [], ◌∷◌, map, Option, Some, None, if◌then◌else◌}
 use Rattle.std.proofs.Math.IntN.{*ℤ-zero, +ℤ_idl}
 use Rattle.teco_base.specs.declared.TheConstants.{LIMIT}
-use Rattle.teco_rules.specs.Arguments.{KnownLevel, settled_value, settled_level}
+use Rattle.teco_model.specs.declared.arguments.Operator.{Operator}
+use Rattle.teco_rules.specs.Arguments.{KnownLevel, empty_level, settled_value, settled_level}
+use Rattle.teco_rules.specs.Covers.{covers_level}
+use Rattle.teco_rules.specs.Joins.{is_empty_level}
 use Rattle.teco_rules.specs.Values.{interval_of, value_in}
 use Rattle.teco_rules.specs.declared.values.Interval.{Interval}
 use Rattle.teco_rules.specs.declared.values.Value.{Value}
 use Rattle.teco_rules.specs.declared.values.Distances.{Distances}
-use Rattle.teco_facts.specs.Settled.{SettlesAgain, SettlesBoth, settled_since}
+use Rattle.teco_facts.specs.Settled.{SettlesAgain, SettlesBoth, settled_by, settled_since}
 use Rattle.teco_facts.specs.declared.settling.Settling.{Settling}
 
 nothing_added : (x y k : ℤ) → x *ℤ pos 0 +ℤ y *ℤ pos 0 +ℤ k ≡ k
@@ -69,3 +72,24 @@ settles_none earlier levels = as_opened (settled_since earlier levels)
 
 pub settles_both : (earlier : Option Settling) (later both : Settling) → SettlesAgain earlier later.margins later.ends both → SettlesBoth earlier (Some later) (Some both)
 settles_both earlier later both again levels = by_first later (settled_since earlier levels) ∙ again levels
+
+-- a level by its parts
+abbrev level_of : Option Value → Option Value → Option Operator → KnownLevel
+level_of first value operator = record { first = first; value = value; operator = operator }
+
+-- an empty level stays empty, and covers another
+parts_empty : (first value : Option Value) (operator : Option Operator) → (is_none first && is_none value && is_none operator) ≡ true → level_of first value operator ≡ empty_level
+parts_empty None None None e = refl
+parts_empty None None (Some o) e = cc
+parts_empty None (Some s) operator e = cc
+parts_empty (Some s) value operator e = cc
+
+empty_covers : (m : Distances) (s t : Option Settling) → true ≡ covers_level m (settled_by s empty_level) (settled_by t empty_level)
+empty_covers m None None = refl
+empty_covers m None (Some t) = refl
+empty_covers m (Some s) None = refl
+empty_covers m (Some s) (Some t) = refl
+
+pub empty_settled : (m : Distances) (s t : Option Settling) (one edge : KnownLevel) → is_empty_level one ≡ true → is_empty_level edge ≡ true → true ≡ covers_level m (settled_by s one) (settled_by t edge)
+empty_settled m s t one edge e f =
+    rw (parts_empty one.first one.value one.operator e, parts_empty edge.first edge.value edge.operator f) (empty_covers m s t)

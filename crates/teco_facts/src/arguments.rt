@@ -62,6 +62,14 @@ impl Arguments {
         })
     }
 
+    /// Puts the levels outside the innermost side by side, in memory of their own, if there is memory.
+    pub fn pack(&mut self) -> Result<(), AllocError>
+        ensures { OnOk result (self.new ≡ self.old) }
+    {
+        self.outer = self.outer.packed()?;
+        Ok(())
+    }
+
     /// The innermost level.
     pub fn level(&self) -> Level
         ensures { result ≡ self.now.level }

@@ -77,6 +77,24 @@ impl Opened {
     }
 }
 
+// Whether a level as it is by now covers another. Where both are empty nothing has to be settled.
+#[tactic(auto, using(crate::proofs::Settles::empty_settled))]
+fn covers_since(
+    one: &Opened,
+    one_since: &Option<Settling>,
+    edge: &Opened,
+    edge_since: &Option<Settling>,
+    margins: Margins,
+) -> bool
+    ensures { result ≡ covers.covers_level margins (settled_by one_since.now one.now.level) (settled_by edge_since.now edge.now.level) }
+{
+    if one.level.is_empty() && edge.level.is_empty() {
+        return true;
+    }
+    let there = one.level_since(one_since);
+    there.covers(edge.level_since(edge_since), margins)
+}
+
 /// Whether each level as it is by now is covered, of as many.
 pub fn covers_levels(
     mut one: &Chain<Opened>,
@@ -94,8 +112,7 @@ pub fn covers_levels(
         let Some((arriving, edge_below)) = edge.parts() else {
             return false;
         };
-        let there = level.level_since(&one_since);
-        if !there.covers(arriving.level_since(&edge_since), margins) {
+        if !covers_since(level, &one_since, arriving, &edge_since, margins) {
             return false;
         }
         one_since = level.below_since(&one_since);

@@ -22,6 +22,16 @@ impl Facts {
         self.known.pushes.len()
     }
 
+    /// The same facts, of which the pairs that were pushed lie side by side, and the levels of the arguments too, so that going
+    /// through them takes less time; if there is memory.
+    pub fn packed(mut self) -> Result<Facts, AllocError>
+        ensures { IfOk result (λ facts. facts ≡ self) }
+    {
+        self.known.pushes = self.known.pushes.packed()?;
+        self.known.arguments.pack()?;
+        Ok(self)
+    }
+
     /// Takes all pairs out that were pushed.
     pub fn take_pushes(&mut self) -> Stack<Pushed>
         ensures value { result ≡ self.old.pushes }

@@ -49,3 +49,21 @@ fn a_cleared_stack_is_empty(rt: HostRuntime) {
     stack.clear();
     assert!(rt; stack.len() == 0 && stack.chain().parts().is_none());
 }
+
+// The stack packed, once more where memory was refused.
+fn packed_of(rt: &impl Abort, stack: &Stack<u32>) -> Stack<u32> {
+    match stack.packed() {
+        Ok(packed) => packed,
+        Err(_) => stack.packed().expect(rt, "a packed stack"),
+    }
+}
+
+#[test]
+fn a_packed_stack_lies_elsewhere(rt: HostRuntime) {
+    let stack = stack_of(&rt, rt.alloc(), 100);
+    let packed = packed_of(&rt, &stack);
+    assert!(rt; !packed.chain().is_at(stack.chain()));
+    assert!(rt; packed.len() == 100);
+    assert!(rt; taken(&packed).ok() == Some(100));
+    assert!(rt; stack.len() == 100);
+}
