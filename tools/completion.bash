@@ -1,17 +1,19 @@
 # Completion of teco's words and options for bash.
 _teco() {
   local current=${COMP_WORDS[COMP_CWORD]}
-  local words="run verify check apply edit show explain help"
+  local words="run verify check apply edit trace show explain help"
   if [ "$COMP_CWORD" -eq 1 ]; then
     mapfile -t COMPREPLY < <(compgen -W "$words --help --version" -- "$current")
     return
   fi
   local options
   case ${COMP_WORDS[1]} in
-    run) options="--limit --memory --stop --esc -e --help" ;;
-    verify | check) options="--esc --help" ;;
-    apply) options="--memory --arg --esc --help" ;;
-    edit) options="--memory --arg --esc --dry-run --quiet --help" ;;
+    run) options="--limit --memory --stop --set --esc -e --help" ;;
+    verify) options="--json --esc --help" ;;
+    check) options="--esc --help" ;;
+    apply) options="--memory --arg --set --pages --strict --stats --cert --esc --help" ;;
+    edit) options="--memory --arg --set --pages --strict --stats --cert --esc --dry-run --backup --quiet --help" ;;
+    trace) options="--limit --memory --arg --set --esc --help" ;;
     show) options="--source --esc --help" ;;
     explain)
       mapfile -t COMPREPLY < <(compgen -W "X1 X2 X3 X4 X5 X6 X7 X8 X9 X10 X11 X12 X13 X14 X15 X16 X17 X18

@@ -12,12 +12,14 @@ use crate::fault::ProgramFault;
 use crate::words::WordsFault;
 use clap::ArgMatches;
 use std::io;
-use std::io::Write;
+use std::io::{Input, IsTerminal, Write};
 use std::process::ExitCode;
-use teco_pages::FileHost;
+use teco_apply::Pages;
+use teco_pages::{Closing, FileHost};
 use teco_tools::{
-    Console, Edit, EditInPlace, Outcome, Request, Run, apply_macro, check_macro, edit_files,
-    explain, run_scripts, show, show_source, verify_library, verify_macro,
+    Console, InPlace, Names, OUTPUT, Outcome, Preset, Prompting, Request, Run, Streams, Task,
+    apply_macro, check_macro, edit_files, explain, explain_macro, run_scripts, show, show_source,
+    trace_macro, verify_library, verify_library_as_json, verify_macro, verify_macro_as_json,
 };
 
 /// The words are no command, or a file of macros, a certificate, standard input, standard output or memory failed.
@@ -29,16 +31,23 @@ fn run<O: Write + Drop, E: Write + Drop>(
     console: &mut Console<O, E>,
     given: &ArgMatches<'_>,
 ) -> Result<Outcome, ProgramFault> {
+    let escape = words::escape_of(given)?;
     let scripts = words::scripts(rt.alloc(), given)?;
+    let settings = words::settings(rt.alloc(), given, escape)?;
+    let presets = words::presets(rt.alloc(), &settings)?;
     let run = Run {
         scripts: &scripts,
-        escape: words::escape_of(given)?,
+        escape,
         limit: u64::from(words::limit(given)),
         cap: words::cap(given),
         until_code: given.get_flag("stop"),
+        presets: &presets,
     };
+    let errors = rt.stderr();
+    let is_terminal = rt.stdin().is_terminal() && errors.is_terminal();
+    let mut reader = Prompting::new(rt.reader(), io::writer(&errors), is_terminal);
     let mut host = FileHost::new(rt.alloc(), *rt);
-    Ok(run_scripts(rt, rt.alloc(), console, &run, &mut host)?)
+    Ok(run_scripts(rt, rt.alloc(), console, &run, &mut reader, &mut host)?)
 }
 
 // The library that is named, and how it writes ESC.
@@ -72,11 +81,20 @@ fn verify<O: Write + Drop, E: Write + Drop>(
     given: &ArgMatches<'_>,
 ) -> Result<Outcome, ProgramFault> {
     let request = request(given)?;
-    if words::names_register(given) {
-        let entry = words::entry(given)?;
-        return Ok(verify_macro(rt, rt.alloc(), console, request, entry)?);
+    let is_json = given.get_flag("json");
+    if !words::names_register(given) {
+        return Ok(if is_json {
+            verify_library_as_json(rt, rt.alloc(), console, request)?
+        } else {
+            verify_library(rt, rt.alloc(), console, request)?
+        });
     }
-    Ok(verify_library(rt, rt.alloc(), console, request)?)
+    let entry = words::entry(given)?;
+    Ok(if is_json {
+        verify_macro_as_json(rt, rt.alloc(), console, request, entry)?
+    } else {
+        verify_macro(rt, rt.alloc(), console, request, entry)?
+    })
 }
 
 // `check`.
@@ -91,23 +109,45 @@ fn check<O: Write + Drop, E: Write + Drop>(
     Ok(check_macro(rt, rt.alloc(), console, request, entry, certificate)?)
 }
 
-// `apply`.
+// How a macro edits files.
+fn task<'a>(given: &ArgMatches<'a>, presets: &'a [Preset<'a>]) -> Result<Task<'a>, ProgramFault> {
+    Ok(Task {
+        library: request(given)?,
+        entry: words::entry(given)?,
+        certificate: given.get_str("cert"),
+        argument: words::given(given)?,
+        pages: words::pages(given)?,
+        presets,
+        cap: words::cap(given),
+        is_strict: given.get_flag("strict"),
+        tells_counts: given.get_flag("stats"),
+    })
+}
+
+// `apply`. Where the text goes to standard output, all else goes to standard error.
 fn apply<'a, O: Write + Drop, E: Write + Drop>(
     rt: &HostRuntime,
     console: &mut Console<O, E>,
     given: &ArgMatches<'a>,
     arguments: &'a Arguments,
 ) -> Result<Outcome, ProgramFault> {
-    let edit = Edit {
-        library: request(given)?,
-        entry: words::entry(given)?,
-        argument: words::given(given)?,
-        source: words::file_name(given, "IN", arguments)?,
-        target: words::file_name(given, "OUT", arguments)?,
-        cap: words::cap(given),
+    let settings = words::settings(rt.alloc(), given, words::escape_of(given)?)?;
+    let presets = words::presets(rt.alloc(), &settings)?;
+    let task = task(given, &presets)?;
+    words::check_streams(given, task.is_strict)?;
+    let names = Names {
+        source: words::source_name(given, arguments)?,
+        target: words::target_name(given, arguments)?,
     };
-    let mut host = FileHost::new(rt.alloc(), *rt);
-    Ok(apply_macro(rt, rt.alloc(), console, &edit, &mut host)?)
+    let mut files = FileHost::new(rt.alloc(), *rt);
+    files.set_closing(Closing::ReplacesOther);
+    let mut host = Streams::new(rt.alloc(), files, rt.reader(), io::writer(rt));
+    if names.target == OUTPUT {
+        let errors = rt.stderr();
+        let mut aside = Console::new(rt.alloc(), io::writer(&errors), io::writer(&errors));
+        return Ok(apply_macro(rt, rt.alloc(), &mut aside, &task, names, &mut host)?);
+    }
+    Ok(apply_macro(rt, rt.alloc(), console, &task, names, &mut host)?)
 }
 
 // `edit`.
@@ -119,23 +159,60 @@ fn edit<O: Write + Drop, E: Write + Drop>(
     if given.get_flag("quiet") {
         console.voice.hush();
     }
-    let edit = EditInPlace {
-        library: request(given)?,
-        entry: words::entry(given)?,
-        argument: words::given(given)?,
+    let settings = words::settings(rt.alloc(), given, words::escape_of(given)?)?;
+    let presets = words::presets(rt.alloc(), &settings)?;
+    let task = task(given, &presets)?;
+    let edit = InPlace {
         files: given.get_strs("FILE").unwrap_or(&[]),
-        cap: words::cap(given),
         is_dry: given.get_flag("dry-run"),
+        suffix: given.get_str("backup"),
     };
-    Ok(edit_files(rt, rt.alloc(), console, &edit)?)
+    Ok(edit_files(rt, rt.alloc(), console, &task, &edit)?)
 }
 
-// `explain`.
-fn explain_word<O: Write + Drop, E: Write + Drop>(
+// `trace`. What the macro writes to files is dropped.
+fn trace<'a, O: Write + Drop, E: Write + Drop>(
+    rt: &HostRuntime,
+    console: &mut Console<O, E>,
+    given: &ArgMatches<'a>,
+    arguments: &'a Arguments,
+) -> Result<Outcome, ProgramFault> {
+    let settings = words::settings(rt.alloc(), given, words::escape_of(given)?)?;
+    let presets = words::presets(rt.alloc(), &settings)?;
+    let task = Task {
+        library: request(given)?,
+        entry: words::entry(given)?,
+        certificate: None,
+        argument: words::given(given)?,
+        pages: Pages::First,
+        presets: &presets,
+        cap: words::cap(given),
+        is_strict: false,
+        tells_counts: false,
+    };
+    words::check_streams(given, false)?;
+    let names = Names {
+        source: words::source_name(given, arguments)?,
+        target: OUTPUT,
+    };
+    let mut files = FileHost::new(rt.alloc(), *rt);
+    files.set_closing(Closing::Compares);
+    let mut host = Streams::new(rt.alloc(), files, rt.reader(), io::sink());
+    let most = u64::from(words::limit(given));
+    Ok(trace_macro(rt, rt.alloc(), console, &task, names, most, &mut host)?)
+}
+
+// `explain`, of a macro where a register is named, or of a word.
+fn explain_what<O: Write + Drop, E: Write + Drop>(
+    rt: &HostRuntime,
     console: &mut Console<O, E>,
     given: &ArgMatches<'_>,
 ) -> Result<Outcome, ProgramFault> {
-    match explain(console, words::word(given, "WORD"))? {
+    if words::names_register(given) {
+        let entry = words::entry(given)?;
+        return Ok(explain_macro(rt, rt.alloc(), console, request(given)?, entry)?);
+    }
+    match explain(console, words::word(given, "LIB"))? {
         Some(outcome) => Ok(outcome),
         None => Err(WordsFault::Unknown.into()),
     }
@@ -154,8 +231,9 @@ fn obey<'a, O: Write + Drop, E: Write + Drop>(
         Some(("check", given)) => check(rt, console, given),
         Some(("apply", given)) => apply(rt, console, given, arguments),
         Some(("edit", given)) => edit(rt, console, given),
+        Some(("trace", given)) => trace(rt, console, given, arguments),
         Some(("show", given)) => show_file(rt, console, given),
-        Some(("explain", given)) => explain_word(console, given),
+        Some(("explain", given)) => explain_what(rt, console, given),
         _ => Err(WordsFault::Unknown.into()),
     }
 }

@@ -239,3 +239,50 @@ fn scripts_come_in_the_order_of_the_words(rt: HostRuntime) -> Result<(), Fail> {
     }
     Ok(())
 }
+
+// A word that a test leaves out.
+const PLAIN: &str = "--memory=1";
+
+// Whether the words of an edit are good.
+fn is_edit(rt: &HostRuntime, word: &str, names: [&str; 3]) -> Result<bool, Fail> {
+    let [library, source, target] = names;
+    let command = words::command(rt.alloc())?;
+    let words = ["teco", "apply", word, library, "A", source, target];
+    let matches = command.try_get_matches_from(&words)?;
+    let Some((_, given)) = matches.subcommand() else {
+        return Err(WordsFault::Unknown)?;
+    };
+    let escape = words::escape_of(given)?;
+    let is_strict = given.get_flag("strict");
+    Ok(
+        words::pages(given).is_ok()
+            && words::settings(rt.alloc(), given, escape).is_ok()
+            && words::check_streams(given, is_strict).is_ok(),
+    )
+}
+
+// A word, LIB, IN and OUT, and whether they are good.
+#[test]
+fn edits_are_asked_for(rt: HostRuntime) -> Result<(), Fail> {
+    let rows: [(&str, [&str; 3], bool); 15] = [
+        (PLAIN, ["lib", "in", "out"], true),
+        ("--pages=first", ["lib", "in", "out"], true),
+        ("--pages=each", ["lib", "in", "out"], true),
+        ("--pages=whole", ["lib", "in", "out"], true),
+        ("--pages=all", ["lib", "in", "out"], false),
+        ("--set=A=text", ["lib", "in", "out"], true),
+        ("--set=z=", ["lib", "in", "out"], true),
+        ("--set=A", ["lib", "in", "out"], false),
+        ("--set=AB=text", ["lib", "in", "out"], false),
+        ("--set=*=text", ["lib", "in", "out"], false),
+        (PLAIN, ["lib", "-", "-"], true),
+        (PLAIN, ["-", "in", "-"], true),
+        (PLAIN, ["-", "-", "out"], false),
+        ("--strict", ["lib", "-", "out"], false),
+        ("--strict", ["lib", "in", "-"], true),
+    ];
+    for (i, (word, names, is_good)) in rows.iter().enumerate() {
+        assert_eq!(rt; is_edit(&rt, word, *names)?, *is_good, "row {i}");
+    }
+    Ok(())
+}

@@ -3,13 +3,14 @@ ghost use Rattle.std.specs.Prelude.{◌≤◌, IfOk, length};
 ghost use Rattle.teco_apply.specs.declared.editing.TheConstants.{NAME};
 
 use crate::arguments::Arguments;
+use crate::fault::ProgramFault;
 use clap::{Arg, ArgAction, ArgMatches, Command, value_parser};
 use std::alloc::{AllocError, Global};
-use teco_apply::NAME;
+use teco_apply::{NAME, Pages};
 use teco_base::Reg;
 use teco_base::bytes::ESC;
 use teco_source::Form;
-use teco_tools::{Escape, Script};
+use teco_tools::{Escape, INPUT, OUTPUT, Preset, STREAM, Script, Setting};
 use thiserror::Error;
 
 /// The step limit of each command string where no other is given.
@@ -17,6 +18,9 @@ const DEFAULT_LIMIT: &str = "100000000";
 
 /// The bytes that a command string may type, and that its calls may take, where no other number is given.
 const DEFAULT_MEMORY: &str = "1073741824";
+
+/// The steps that are listed where no other number is given.
+const DEFAULT_STEPS: &str = "1000";
 
 /// The character that is shown for ESC where no other is given.
 const DEFAULT_MARK: u8 = b'$';
@@ -37,8 +41,20 @@ pub enum WordsFault {
     #[error("--esc takes one ASCII character, or none")]
     Escape,
     /// A word is neither a code nor a refusal.
-    #[error("explain takes a code, as POP, or a refusal, as X7")]
+    #[error("explain takes a code, as POP, a refusal, as X7, or a file and a register")]
     Unknown,
+    /// Which pages are edited is none of the three words for that.
+    #[error("--pages takes first, each or whole")]
+    Pages,
+    /// A text of a register is none.
+    #[error("--set takes a register and its text, as A=TEXT")]
+    Setting,
+    /// Standard input is to be two things.
+    #[error("LIB and IN cannot both be standard input")]
+    TwoStreams,
+    /// A stream is to be edited within the promise, which wants its length.
+    #[error("--strict wants a file as IN, since the length of standard input is not known")]
+    Strict,
 }
 
 /// The commands of the program and their options.
@@ -52,6 +68,7 @@ pub fn command<'a>(alloc: Global) -> Result<Command<'a>, AllocError> {
         .subcommand(check(alloc)?)?
         .subcommand(apply(alloc)?)?
         .subcommand(edit(alloc)?)?
+        .subcommand(trace(alloc)?)?
         .subcommand(show(alloc)?)?
         .subcommand(explain(alloc)?)
 }
@@ -87,6 +104,7 @@ fn run<'a>(alloc: Global) -> Result<Command<'a>, AllocError> {
         .arg(limit)?
         .arg(memory(alloc))?
         .arg(stop)?
+        .arg(setting(alloc))?
         .arg(escape(alloc))?
         .arg(text)?
         .arg(files)
@@ -97,9 +115,14 @@ fn verify<'a>(alloc: Global) -> Result<Command<'a>, AllocError> {
     let register = Arg::new(alloc, "REGISTER").help(
         "The register of the macro; each macro of LIB where it is left out",
     );
+    let json = Arg::new(alloc, "json")
+        .long("json")
+        .action(ArgAction::SetTrue)
+        .help("Print each verdict as an object of JSON in a line");
     Command::new(alloc, "verify")
         .about("Prints the certificate of a macro, or a verdict on each macro of a library")
-        .after_help("Example:\n  teco verify trim.tes A")
+        .after_help("Examples:\n  teco verify trim.tes A\n  teco verify --json lib.tes")
+        .arg(json)?
         .arg(file(alloc, "LIB", "A file of macros, or - for standard input"))?
         .arg(register)?
         .arg(escape(alloc))
@@ -120,16 +143,24 @@ fn check<'a>(alloc: Global) -> Result<Command<'a>, AllocError> {
 
 // Editing a file.
 fn apply<'a>(alloc: Global) -> Result<Command<'a>, AllocError> {
-    Command::new(alloc, "apply")
+    let command = Command::new(alloc, "apply")
         .about("Edits a file by a verified macro")
-        .after_help("Example:\n  teco apply trim.tes A in.txt out.txt")
-        .arg(memory(alloc))?
-        .arg(argument(alloc))?
-        .arg(escape(alloc))?
+        .after_help(
+            "Examples:\n  teco apply trim.tes A in.txt out.txt\n  teco apply --pages each --strict trim.tes A in.txt out.txt\n  printf 'a  \\n' | teco apply trim.tes A - -",
+        );
+    edit_options(alloc, command)?
         .arg(file(alloc, "LIB", "A file of macros, or - for standard input"))?
         .arg(register(alloc))?
-        .arg(file(alloc, "IN", "The file that is read"))?
-        .arg(file(alloc, "OUT", "The file that is written"))
+        .arg(file(
+            alloc,
+            "IN",
+            "The file that is read, or - for standard input",
+        ))?
+        .arg(file(
+            alloc,
+            "OUT",
+            "The file that is written, or - for standard output",
+        ))
 }
 
 // Editing files in place.
@@ -142,24 +173,84 @@ fn edit<'a>(alloc: Global) -> Result<Command<'a>, AllocError> {
         .long("quiet")
         .action(ArgAction::SetTrue)
         .help("Say nothing but what fails");
+    let backup = Arg::new(alloc, "backup")
+        .long("backup")
+        .value_name("SUFFIX")
+        .help("Keep each file that changes as it was, under its name with SUFFIX behind it");
     let files = Arg::new(alloc, "FILE")
         .num_args(1..)
         .action(ArgAction::Append)
         .required(true)
         .help("The files that are edited");
-    Command::new(alloc, "edit")
+    let command = Command::new(alloc, "edit")
         .about("Edits files in place by a verified macro; one that fails is left as it was")
         .after_help(
-            "Examples:\n  teco edit --dry-run trim.tes A *.txt\n  teco edit trim.tes A *.txt",
-        )
-        .arg(memory(alloc))?
-        .arg(argument(alloc))?
-        .arg(escape(alloc))?
+            "Examples:\n  teco edit --dry-run trim.tes A *.txt\n  teco edit --backup .old trim.tes A *.txt",
+        );
+    edit_options(alloc, command)?
         .arg(dry)?
+        .arg(backup)?
         .arg(quiet)?
         .arg(file(alloc, "LIB", "A file of macros, or - for standard input"))?
         .arg(register(alloc))?
         .arg(files)
+}
+
+// The options of what edits files.
+fn edit_options<'a>(alloc: Global, command: Command<'a>) -> Result<Command<'a>, AllocError> {
+    let pages = Arg::new(alloc, "pages")
+        .long("pages")
+        .value_name("WHICH")
+        .default_value("first")
+        .help(
+            "The pages that are edited, which form feeds end: first, and the others are copied; each in turn; or whole, all as one",
+        );
+    let strict = Arg::new(alloc, "strict")
+        .long("strict")
+        .action(ArgAction::SetTrue)
+        .help("Leave a file as it was where the promise does not hold for it");
+    let stats = Arg::new(alloc, "stats")
+        .long("stats")
+        .action(ArgAction::SetTrue)
+        .help("Say how many commands the runs took, and how many they may take");
+    let certificate = Arg::new(alloc, "cert")
+        .long("cert")
+        .value_name("CERT")
+        .help("Check this certificate in place of a search for one");
+    command
+        .arg(memory(alloc))?
+        .arg(argument(alloc))?
+        .arg(setting(alloc))?
+        .arg(escape(alloc))?
+        .arg(pages)?
+        .arg(strict)?
+        .arg(stats)?
+        .arg(certificate)
+}
+
+// Listing the steps of a macro.
+fn trace<'a>(alloc: Global) -> Result<Command<'a>, AllocError> {
+    let limit = Arg::new(alloc, "limit")
+        .long("limit")
+        .value_name("N")
+        .help("Steps that are listed at most")
+        .value_parser(value_parser!(u32).range(1..))
+        .default_value(DEFAULT_STEPS);
+    Command::new(alloc, "trace")
+        .about("Lists the steps of a macro on a file, and writes no file")
+        .after_help("Example:\n  teco trace --limit 100 trim.tes A in.txt")
+        .arg(limit)?
+        .arg(memory(alloc))?
+        .arg(argument(alloc))?
+        .arg(setting(alloc))?
+        .arg(escape(alloc))?
+        .arg(file(alloc, "LIB", "A file of macros, or - for standard input"))?
+        .arg(register(alloc))?
+        .arg(file(
+            alloc,
+            "IN",
+            "The file that is read, or - for standard input",
+        ))
 }
 
 // Showing a text.
@@ -182,17 +273,21 @@ fn show<'a>(alloc: Global) -> Result<Command<'a>, AllocError> {
         ))
 }
 
-// Explaining a code or a refusal.
+// Explaining a code, a refusal or a macro.
 fn explain<'a>(alloc: Global) -> Result<Command<'a>, AllocError> {
-    let word = Arg::new(alloc, "WORD")
-        .help("A code, as POP, or a refusal, as X7")
+    let word = Arg::new(alloc, "LIB")
+        .value_name("WORD|LIB")
+        .help("A code, as POP, a refusal, as X7, or a file of macros")
         .required(true);
+    let register = Arg::new(alloc, "REGISTER").help("The register of the macro in the file LIB");
     Command::new(alloc, "explain")
         .about(
-            "Says what a code or a refusal means, with an example, and how to mend what causes it",
+            "Says what a code or a refusal means and how to mend what causes it, or what is known at each element of a macro",
         )
-        .after_help("Example:\n  teco explain X9")
-        .arg(word)
+        .after_help("Examples:\n  teco explain X9\n  teco explain trim.tes A")
+        .arg(escape(alloc))?
+        .arg(word)?
+        .arg(register)
 }
 
 // The bytes that may be typed, and that calls may take.
@@ -212,6 +307,15 @@ fn argument<'a>(alloc: Global) -> Arg<'a> {
     Arg::new(alloc, "arg").long("arg").value_name("N").help(
         "The argument of the macro, where its library declares one: 0 to 2147483647",
     )
+}
+
+// What registers have.
+fn setting<'a>(alloc: Global) -> Arg<'a> {
+    Arg::new(alloc, "set")
+        .long("set")
+        .value_name("Q=TEXT")
+        .action(ArgAction::Append)
+        .help("Give register Q this text before the run, in the form of -e")
 }
 
 // What stands for ESC.
@@ -327,6 +431,94 @@ pub fn form_of_source(escape: Escape) -> Form {
     match escape {
         Escape::Mark(mark) => Form::Marked(mark),
         Escape::ByName => Form::Readable,
+    }
+}
+
+/// Which pages are edited.
+pub fn pages(words: &ArgMatches<'_>) -> Result<Pages, WordsFault> {
+    match word(words, "pages") {
+        "first" => Ok(Pages::First),
+        "each" => Ok(Pages::Each),
+        "whole" => Ok(Pages::Whole),
+        _ => Err(WordsFault::Pages),
+    }
+}
+
+/// The texts that registers are given.
+pub fn settings(
+    alloc: Global,
+    words: &ArgMatches<'_>,
+    escape: Escape,
+) -> Result<Vec<Setting>, ProgramFault> {
+    let mut settings = Vec::new(alloc);
+    for word in words.get_strs("set").unwrap_or(&[]) {
+        match Setting::read(alloc, *word, escape)? {
+            Some(setting) => settings.push(setting)?,
+            None => return Err(WordsFault::Setting.into()),
+        }
+    }
+    Ok(settings)
+}
+
+/// What registers have before a run.
+pub fn presets<'a>(
+    alloc: Global,
+    settings: &'a [Setting],
+) -> Result<Vec<Preset<'a>>, ProgramFault> {
+    let mut presets = Vec::new(alloc);
+    for setting in settings {
+        match setting.preset() {
+            Some(preset) => presets.push(preset)?,
+            None => return Err(WordsFault::Setting.into()),
+        }
+    }
+    Ok(presets)
+}
+
+// Is a word the name of a standard stream?
+fn is_stream(words: &ArgMatches<'_>, id: &str) -> bool {
+    word(words, id) == STREAM
+}
+
+/// Refuses words that ask for what a stream can't be.
+pub fn check_streams(words: &ArgMatches<'_>, is_strict: bool) -> Result<(), WordsFault> {
+    if !is_stream(words, "IN") {
+        return Ok(());
+    }
+    if is_stream(words, "LIB") {
+        return Err(WordsFault::TwoStreams);
+    }
+    if is_strict {
+        return Err(WordsFault::Strict);
+    }
+    Ok(())
+}
+
+/// The name of the file that is read, or of standard input.
+pub fn source_name<'a>(
+    words: &ArgMatches<'a>,
+    arguments: &'a Arguments,
+) -> Result<&'a [u8], WordsFault>
+    ensures { IfOk result (λ name. length name.now ≤ NAME) }
+{
+    if is_stream(words, "IN") {
+        Ok(INPUT)
+    } else {
+        file_name(words, "IN", arguments)
+    }
+}
+
+/// The name of the file that is written, or of standard output.
+pub fn target_name<'a>(
+    words: &ArgMatches<'a>,
+    arguments: &'a Arguments,
+) -> Result<&'a [u8], WordsFault>
+    ensures { IfOk result (λ name. length name.now ≤ NAME) }
+{
+    if is_stream(words, "OUT") {
+        Ok(OUTPUT)
+    } else {
+        file_name(words, "OUT", arguments)
     }
 }
 

@@ -7,7 +7,7 @@ use crate::refusals::{note_of_refusal, number_of};
 use std::{fmt, str};
 use teco_base::{Code, Reg};
 use teco_rules::Refusal;
-use teco_source::{Shown, Source};
+use teco_source::{Position, Shown, Source};
 
 /// Why a library, or a macro of it, is refused, where in its source, and what usually mends it.
 #[derive(Clone, Copy)]
@@ -35,6 +35,11 @@ impl Explained<'_> {
                 Some(begin.saturating_add(self.place))
             }
         }
+    }
+
+    /// The position of the place in the file, if the file says it.
+    pub fn position(&self) -> Option<Position> {
+        Some(self.source.position(self.place_in_file()?))
     }
 
     // The text of the file from where the register's begins, whose places are the register's.

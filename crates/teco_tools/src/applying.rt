@@ -2,81 +2,210 @@
 ghost use Rattle.std.specs.Prelude.{◌≤◌, length};
 ghost use Rattle.teco_apply.specs.declared.editing.TheConstants.{NAME};
 
+use crate::checking::refuse_claim;
+use crate::claim::{Claim, accepted, read_claim};
 use crate::console::Console;
 use crate::fault::ToolFault;
 use crate::library::{library_of, read_source};
-use crate::messages::tell_trouble;
 use crate::outcome::Outcome;
+use crate::premise::{Grouped, Known};
+use crate::preset::{Preset, check_presets, set_texts};
+use crate::promise::Promise;
+use crate::reporting::Reporting;
 use crate::request::Request;
-use crate::verifying::refuse;
+use crate::streams::told_name;
+use crate::verifying::{refuse, refuse_macro};
+use crate::watching::{Seen, Warden};
 use std::alloc::Global;
-use std::fs::Files;
 use std::io::{Input, Write};
-use std::time::Clock;
-use teco_apply::apply;
+use std::rt::Files;
+use teco_apply::{Edit, Edited, Pages, edit_file};
 use teco_base::Reg;
 use teco_gap::GapText;
-use teco_pages::FileHost;
+use teco_library::Library;
+use teco_pages::Host;
 use teco_run::Machine;
-use teco_verify::{Verified, verify};
+use teco_source::{Shown, Source};
+use teco_verify::{Refusal, Verified, account_of};
 
-/// What is edited: a macro of a library makes of one file another.
+/// A macro of a library, and how it is run on files.
 #[derive(Clone, Copy)]
-pub struct Edit<'a> {
+pub struct Task<'a> {
     pub library: Request<'a>,
     pub entry: Reg,
+    /// The file of its certificate, which is checked; without one the macro is verified.
+    pub certificate: Option<&'a str>,
     /// The argument that the macro is called with, if it is.
     pub argument: Option<i32>,
-    pub source: &'a [u8],
-    pub target: &'a [u8],
+    /// The pages that it edits.
+    pub pages: Pages,
+    /// What registers have before it is run.
+    pub presets: &'a [Preset<'a>],
     /// The bytes that each run may type, and that its calls may take.
     pub cap: usize,
+    /// Is a run outside its promise refused?
+    pub is_strict: bool,
+    /// Is it said how many commands the runs took?
+    pub tells_counts: bool,
+}
+
+/// A file that is edited into another.
+#[derive(Clone, Copy)]
+pub struct Names<'a> {
+    pub source: &'a [u8],
+    pub target: &'a [u8],
     ghost short_source: { length source.now ≤ NAME },
     ghost short_target: { length target.now ≤ NAME },
 }
 
-/// Edits a file by a verified macro, and says which file could not be used.
-pub fn edit_by<R: Files + Clock + Drop, O: Write + Drop, E: Write + Drop>(
+// Says how many commands the runs on a file took.
+fn tell_counts<O: Write + Drop, E: Write + Drop>(
+    console: &mut Console<O, E>,
+    name: &[u8],
+    edited: Edited,
+    seen: Seen,
+) {
+    let name = Shown(told_name(name));
+    let pages = Grouped(edited.pages);
+    let steps = Grouped(edited.steps);
+    let bound = Known(seen.bound);
+    let most = Known(seen.most);
+    console.say(format_args!(
+        "{name}: pages {pages}, commands {steps}, at most {bound} by the promise, N at most {most}"
+    ));
+}
+
+// Says how many bytes behind the first page were copied as they were.
+fn tell_unedited<O: Write + Drop, E: Write + Drop>(
+    console: &mut Console<O, E>,
+    name: &[u8],
+    unread: Option<u64>,
+) {
+    let name = Shown(told_name(name));
+    match unread {
+        Some(0) => {}
+        Some(count) => {
+            let count = Grouped(count);
+            console.say(format_args!(
+                "{name}: {count} bytes behind the first page were copied unedited; --pages each or --pages whole edits them too"
+            ));
+        }
+        None => {}
+    }
+}
+
+/// Edits a file by a verified macro over the files of a host, and says what there is to be said of it.
+pub fn edit_by<H: Host + Reporting, O: Write + Drop, E: Write + Drop>(
     alloc: Global,
     console: &mut Console<O, E>,
-    given: &Edit<'_>,
+    task: &Task<'_>,
+    names: Names<'_>,
     verified: &Verified<'_>,
-    host: &mut FileHost<R>,
+    host: &mut H,
 ) -> Result<Outcome, ToolFault> {
     let mut machine = Machine::new(alloc, GapText::new(alloc));
-    machine.set_cap(given.cap);
-    let done = apply(
+    machine.set_cap(task.cap);
+    set_texts(&mut machine, task.presets)?;
+    let edit = Edit {
+        source: names.source,
+        target: names.target,
+        given: task.argument,
+        pages: task.pages,
+    };
+    let mut warden = Warden::new(
+        &mut console.voice,
+        names.source,
+        Promise::of(verified),
+        task.is_strict,
+    );
+    let edited = edit_file(
         alloc,
         &mut machine,
         verified,
-        given.argument,
-        given.source,
-        given.target,
+        &edit,
         host,
         &mut console.out,
+        &mut warden,
     )?;
-    if !done.coded {
-        return Ok(Outcome::Done);
-    }
-    tell_trouble(&mut console.voice, host);
-    Ok(Outcome::Coded)
+    let seen = warden.seen();
+    conclude(console, task, names.source, edited, seen)
 }
 
-/// Verifies a macro of a library, and edits a file by it into another, over the files of a host.
-pub fn apply_macro<R: Files + Input, F: Files + Clock + Drop, O: Write + Drop, E: Write + Drop>(
+// Says what came of an edit.
+fn conclude<O: Write + Drop, E: Write + Drop>(
+    console: &mut Console<O, E>,
+    task: &Task<'_>,
+    name: &[u8],
+    edited: Edited,
+    seen: Seen,
+) -> Result<Outcome, ToolFault> {
+    if task.tells_counts {
+        tell_counts(console, name, edited, seen);
+    }
+    if edited.refused && seen.most.is_none() {
+        return Err(ToolFault::Unsized);
+    }
+    if edited.refused {
+        return Ok(Outcome::Refused);
+    }
+    if edited.coded {
+        return Ok(Outcome::Coded);
+    }
+    if let Pages::First = task.pages {
+        tell_unedited(console, name, seen.unread);
+    }
+    Ok(Outcome::Done)
+}
+
+/// Says why a macro is refused, by its certificate if there is one.
+pub fn refuse_task<O: Write + Drop, E: Write + Drop>(
+    alloc: Global,
+    console: &mut Console<O, E>,
+    source: &Source,
+    library: &Library,
+    entry: Reg,
+    claim: Option<&Claim<'_>>,
+    refusal: Refusal,
+) -> Result<Outcome, ToolFault> {
+    match claim {
+        None => {
+            let account = account_of(alloc, library, entry)?;
+            refuse_macro(alloc, console, source, &account, refusal)
+        }
+        Some(claim) => refuse_claim(alloc, console, source, library, entry, claim, refusal),
+    }
+}
+
+/// Edits a file into another by a macro of a library, which is verified first, or whose certificate is checked, over the files of
+/// a host.
+pub fn apply_macro<R: Files + Input, H: Host + Reporting, O: Write + Drop, E: Write + Drop>(
     rt: &R,
     alloc: Global,
     console: &mut Console<O, E>,
-    given: &Edit<'_>,
-    host: &mut FileHost<F>,
+    task: &Task<'_>,
+    names: Names<'_>,
+    host: &mut H,
 ) -> Result<Outcome, ToolFault> {
-    let source = read_source(rt, alloc, given.library.library, given.library.escape)?;
+    let source = read_source(rt, alloc, task.library.library, task.library.escape)?;
+    let claim = read_claim(rt, alloc, task.certificate)?;
     let library = match library_of(alloc, &source) {
         Ok(library) => library,
         Err(refusal) => return refuse(console, &source, refusal),
     };
-    match verify(alloc, &library, given.entry) {
-        Ok(verified) => edit_by(alloc, console, given, &verified, host),
-        Err(refusal) => refuse(console, &source, refusal),
+    check_presets(&library, task.presets)?;
+    let entry = task.entry;
+    match accepted(alloc, &library, entry, claim.as_ref()) {
+        Ok(verified) => edit_by(alloc, console, task, names, &verified, host),
+        Err(refusal) => {
+            refuse_task(
+                alloc,
+                console,
+                &source,
+                &library,
+                entry,
+                claim.as_ref(),
+                refusal,
+            )
+        }
     }
 }

@@ -1,10 +1,11 @@
 //! `check`: certificates are checked.
-ghost use Rattle.std.specs.Prelude.{◌≤◌, length};
-ghost use Rattle.teco_base.specs.declared.TheConstants.{LIMIT};
+ghost use Rattle.std.specs.Prelude.{◌≡◌, IfOk};
+ghost use Rattle.teco_tools.specs.Certificates.{IsCertificate};
+ghost use Rattle.teco_tools.specs.declared.outcome.Outcome.TheVariants.{Done, Refused};
 
+use crate::claim::Claim;
 use crate::console::Console;
 use crate::fault::ToolFault;
-use crate::files::read_file;
 use crate::library::{explained, library_of, read_source};
 use crate::outcome::Outcome;
 use crate::request::Request;
@@ -17,24 +18,7 @@ use teco_base::Reg;
 use teco_base::bytes::LF;
 use teco_library::Library;
 use teco_source::{Shown, Source};
-use teco_verify::{Refusal, Verified, check_certificate, verify};
-
-/// The macro that a certificate is that of, if it is the entry's.
-pub fn accept<'l>(
-    alloc: Global,
-    library: &'l Library,
-    entry: Reg,
-    certificate: &[u8],
-) -> Result<Verified<'l>, Refusal>
-    requires { length certificate.now ≤ LIMIT }
-{
-    let verified = check_certificate(alloc, library, certificate)?;
-    if verified.entry().index() == entry.index() {
-        Ok(verified)
-    } else {
-        Err(Refusal::certificate())
-    }
-}
+use teco_verify::{Refusal, verify};
 
 // The first line of a text, and what comes behind its end.
 fn split_line(text: &[u8]) -> (&[u8], &[u8]) {
@@ -106,12 +90,13 @@ fn tell_why<O: Write + Drop, E: Write + Drop>(
     console: &mut Console<O, E>,
     source: &Source,
     library: &Library,
+    entry: Reg,
     claim: &Claim<'_>,
 ) -> Result<(), ToolFault> {
-    match verify(alloc, library, claim.entry) {
+    match verify(alloc, library, entry) {
         Ok(verified) => {
             let wanted = verified.certificate(alloc)?;
-            tell_difference(console, claim.name, claim.certificate, &wanted);
+            tell_difference(console, claim.name, &claim.bytes, &wanted);
         }
         Err(refusal) => {
             if let Some(told) = explained(source, &refusal) {
@@ -122,13 +107,46 @@ fn tell_why<O: Write + Drop, E: Write + Drop>(
     Ok(())
 }
 
-// A certificate, and the macro that it should be that of.
-#[derive(Clone, Copy)]
-struct Claim<'a> {
+/// Prints why a certificate is refused, and says in which line it is another.
+pub fn refuse_claim<O: Write + Drop, E: Write + Drop>(
+    alloc: Global,
+    console: &mut Console<O, E>,
+    source: &Source,
+    library: &Library,
     entry: Reg,
-    // the name of its file
-    name: &'a str,
-    certificate: &'a [u8],
+    claim: &Claim<'_>,
+    refusal: Refusal,
+) -> Result<Outcome, ToolFault>
+    ensures { IfOk result (λ outcome. outcome ≡ Refused) }
+{
+    let Some(verdict) = Verdict::of(&refusal) else {
+        return Err(ToolFault::Memory);
+    };
+    console.answer(format_args!("{verdict}\n"))?;
+    tell_why(alloc, console, source, library, entry, claim)?;
+    Ok(Outcome::Refused)
+}
+
+// Accepts a certificate, or says why not.
+fn check_claim<O: Write + Drop, E: Write + Drop>(
+    alloc: Global,
+    console: &mut Console<O, E>,
+    source: &Source,
+    library: &Library,
+    entry: Reg,
+    claim: &Claim<'_>,
+) -> Result<Outcome, ToolFault>
+    ensures { IfOk result (λ outcome. outcome ≡ Done → IsCertificate library.now entry claim.now.bytes.items) }
+{
+    match claim.accept(alloc, library, entry) {
+        Ok(verified) => {
+            verified.is_certified();
+            console.answer("accepted\n")?;
+            tell_premise(&mut console.voice, &verified);
+            Ok(Outcome::Done)
+        }
+        Err(refusal) => refuse_claim(alloc, console, source, library, entry, claim, refusal),
+    }
 }
 
 /// Checks a certificate of a macro of a library.
@@ -141,29 +159,10 @@ pub fn check_macro<R: Files + Input, O: Write + Drop, E: Write + Drop>(
     name: &str,
 ) -> Result<Outcome, ToolFault> {
     let source = read_source(rt, alloc, request.library, request.escape)?;
-    let certificate = read_file(rt, alloc, name)?;
+    let claim = Claim::read(rt, alloc, name)?;
     let library = match library_of(alloc, &source) {
         Ok(library) => library,
         Err(refusal) => return refuse(console, &source, refusal),
     };
-    match accept(alloc, &library, entry, &certificate) {
-        Ok(verified) => {
-            console.answer("accepted\n")?;
-            tell_premise(console, &verified);
-            Ok(Outcome::Done)
-        }
-        Err(refusal) => {
-            let Some(verdict) = Verdict::of(&refusal) else {
-                return Err(ToolFault::Memory);
-            };
-            console.answer(format_args!("{verdict}\n"))?;
-            let claim = Claim {
-                entry,
-                name,
-                certificate: &certificate,
-            };
-            tell_why(alloc, console, &source, &library, &claim)?;
-            Ok(Outcome::Refused)
-        }
-    }
+    check_claim(alloc, console, &source, &library, entry, &claim)
 }

@@ -34,6 +34,11 @@ impl<E: Write + Drop> Voice<E> {
         }
     }
 
+    /// Says what another voice has said.
+    pub fn repeat(&mut self, messages: &[u8]) {
+        let _written = self.messages.write_all(messages);
+    }
+
     /// Says a message, unless it is to be quiet.
     pub fn say<D: fmt::Display + Drop>(&mut self, message: D) {
         if !self.is_quiet {
@@ -63,6 +68,21 @@ impl<O: Write + Drop, E: Write + Drop> Console<O, E> {
             out,
             voice: Voice::new(alloc, messages),
         }
+    }
+
+    /// A console that keeps in memory what it writes, and is quiet where this one is.
+    pub fn apart(&self) -> Console<Vec<u8>, Vec<u8>> {
+        let alloc = self.alloc;
+        let mut apart = Console::new(alloc, Vec::new(alloc), Vec::new(alloc));
+        apart.voice.is_quiet = self.voice.is_quiet;
+        apart
+    }
+
+    /// Writes what another console has kept.
+    pub fn repeat(&mut self, apart: Console<Vec<u8>, Vec<u8>>) -> io::Result<()> {
+        let (out, messages) = apart.into_parts();
+        self.voice.repeat(&messages);
+        self.out.write_all(&out)
     }
 
     /// The two writers.

@@ -2,45 +2,51 @@
 ghost use Rattle.std.specs.Prelude.{◌≤◌, length, IsTrue};
 ghost use Rattle.teco_apply.specs.declared.editing.TheConstants.{NAME};
 
-use crate::applying::{Edit, edit_by};
+use crate::applying::{Names, Task, edit_by, refuse_task};
+use crate::claim::{accepted, read_claim};
 use crate::console::Console;
 use crate::fault::ToolFault;
+use crate::keeping::keep;
 use crate::library::{library_of, read_source};
 use crate::outcome::Outcome;
-use crate::request::Request;
+use crate::preset::check_presets;
 use crate::verifying::refuse;
 use std::alloc::{AllocError, Global};
 use std::fs::Files;
 use std::io::{Input, Write};
 use std::time::Clock;
 use teco_apply::NAME;
-use teco_base::Reg;
 use teco_base::bytes::ESC;
 use teco_pages::{Closed, Closing, FileHost};
 use teco_source::Shown;
-use teco_verify::{Verified, verify};
+use teco_verify::Verified;
 
-/// What is edited in place: a macro of a library makes of each file another.
+/// Files that are edited in place, each by itself.
 #[derive(Clone, Copy)]
-pub struct EditInPlace<'a> {
-    pub library: Request<'a>,
-    pub entry: Reg,
-    /// The argument that the macro is called with, if it is.
-    pub argument: Option<i32>,
+pub struct InPlace<'a> {
     pub files: &'a [&'a str],
-    /// The bytes that each run may type, and that its calls may take.
-    pub cap: usize,
     /// Is it only said which files would change?
     pub is_dry: bool,
+    /// What the name of a file has behind it that is kept as it was, if one is.
+    pub suffix: Option<&'a str>,
 }
 
 /// How many files were edited.
-#[derive(Clone, Copy, Default)]
+#[derive(Clone, Copy)]
 struct Tally {
     files: usize,
     changed: usize,
     failed: usize,
+    outcome: Outcome,
 }
+
+/// None yet.
+const NONE: Tally = Tally {
+    files: 0,
+    changed: 0,
+    failed: 0,
+    outcome: Outcome::Done,
+};
 
 // The name that a file's new text is written to: another name of the same file, since an edit can't read and write one name.
 fn target_of(alloc: Global, name: &str) -> Result<String, AllocError> {
@@ -58,55 +64,152 @@ fn is_name(name: &[u8]) -> bool
     name.len() <= NAME && !name.contains(&ESC)
 }
 
-// The edit of one of the files.
-fn edit_of<'a>(given: &EditInPlace<'a>, source: &'a [u8], target: &'a [u8]) -> Edit<'a>
-    requires source { length source.now ≤ NAME }
-    requires target { length target.now ≤ NAME }
-{
-    Edit {
-        library: given.library,
-        entry: given.entry,
-        argument: given.argument,
-        source,
-        target,
-        cap: given.cap,
+// The names that a file is edited under, if it can be.
+fn names_of<'a>(source: &'a [u8], target: &'a [u8]) -> Option<Names<'a>> {
+    if is_name(source) && is_name(target) {
+        Some(Names { source, target })
+    } else {
+        None
     }
 }
 
-// Edits a file in place, and says what became of it.
-fn edit_one<R, O, E>(
+// Says that no file of this name can be edited.
+fn tell_name<O: Write + Drop, E: Write + Drop>(console: &mut Console<O, E>, name: &str) {
+    let shown = Shown(name.as_bytes());
+    console.complain(format_args!(
+        "{shown} is not edited: a file's name holds no ESC and at most 4096 bytes"
+    ));
+}
+
+// Edits a file, and says what became of it; none where it is left as it was because the edit failed.
+fn edit_with<R, O, E>(
     rt: R,
     alloc: Global,
     console: &mut Console<O, E>,
-    given: &EditInPlace<'_>,
+    task: &Task<'_>,
     verified: &Verified<'_>,
-    name: &str,
-) -> Result<Option<Closed>, ToolFault>
+    names: Names<'_>,
+    closing: Closing,
+) -> Result<Ended, ToolFault>
 where
     R: Files + Clock + Drop,
     O: Write + Drop,
     E: Write + Drop,
 {
-    let beside = target_of(alloc, name)?;
-    let source = name.as_bytes();
-    let target = beside.as_bytes();
-    if !is_name(source) || !is_name(target) {
-        let shown = Shown(name.as_bytes());
-        console.complain(format_args!(
-            "{shown} is not edited: a file's name holds no ESC and at most 4096 bytes"
-        ));
-        return Ok(None);
-    }
-    let edit = edit_of(given, source, target);
     let mut host = FileHost::new(alloc, rt);
-    host.set_closing(if given.is_dry {
-        Closing::Compares
-    } else {
-        Closing::ReplacesOther
-    });
-    match edit_by(alloc, console, &edit, verified, &mut host)? {
-        Outcome::Done => Ok(host.closed()),
-        _ => Ok(None),
+    host.set_closing(closing);
+    let outcome = edit_by(alloc, console, task, names, verified, &mut host)?;
+    Ok(Ended {
+        outcome,
+        closed: host.closed(),
+    })
+}
+
+// What came of the edit of a file.
+#[derive(Clone, Copy)]
+struct Ended {
+    outcome: Outcome,
+    closed: Option<Closed>,
+}
+
+impl Ended {
+    // Would the file change?
+    fn is_change(self) -> bool {
+        matches!(self.outcome, Outcome::Done) && matches!(self.closed, Some(Closed::Changed))
+    }
+}
+
+// A file that can't be edited.
+const FAILED: Ended = Ended {
+    outcome: Outcome::Coded,
+    closed: None,
+};
+
+// Edits a file in place, once a file that would change is kept under its other name.
+fn edit_kept<R, O, E>(
+    rt: &R,
+    alloc: Global,
+    console: &mut Console<O, E>,
+    task: &Task<'_>,
+    verified: &Verified<'_>,
+    names: Names<'_>,
+    suffix: &str,
+) -> Result<Ended, ToolFault>
+where
+    R: Files + Clock + Copy + Drop,
+    O: Write + Drop,
+    E: Write + Drop,
+{
+    let mut apart = console.apart();
+    let tried = edit_with(
+        *rt,
+        alloc,
+        &mut apart,
+        task,
+        verified,
+        names,
+        Closing::Compares,
+    )?;
+    if !tried.is_change() {
+        console.repeat(apart)?;
+        return Ok(tried);
+    }
+    if !keep(rt, alloc, console, names.source, suffix)? {
+        return Ok(FAILED);
+    }
+    edit_with(
+        *rt,
+        alloc,
+        console,
+        task,
+        verified,
+        names,
+        Closing::ReplacesOther,
+    )
+}
+
+// Edits a file in place, and says what became of it.
+fn edit_one<R, O, E>(
+    rt: &R,
+    alloc: Global,
+    console: &mut Console<O, E>,
+    task: &Task<'_>,
+    given: &InPlace<'_>,
+    verified: &Verified<'_>,
+    name: &str,
+) -> Result<Ended, ToolFault>
+where
+    R: Files + Clock + Copy + Drop,
+    O: Write + Drop,
+    E: Write + Drop,
+{
+    let beside = target_of(alloc, name)?;
+    let Some(names) = names_of(name.as_bytes(), beside.as_bytes()) else {
+        tell_name(console, name);
+        return Ok(FAILED);
+    };
+    match given.suffix {
+        _ if given.is_dry => {
+            edit_with(
+                *rt,
+                alloc,
+                console,
+                task,
+                verified,
+                names,
+                Closing::Compares,
+            )
+        }
+        None => edit_with(
+            *rt,
+            alloc,
+            console,
+            task,
+            verified,
+            names,
+            Closing::ReplacesOther,
+        ),
+        Some(suffix) => edit_kept(rt, alloc, console, task, verified, names, suffix),
     }
 }
 
@@ -115,23 +218,22 @@ fn count<O: Write + Drop, E: Write + Drop>(
     console: &mut Console<O, E>,
     tally: &mut Tally,
     name: &str,
-    closed: Option<Closed>,
+    ended: Ended,
     is_dry: bool,
 ) {
     let shown = Shown(name.as_bytes());
     tally.files = tally.files.saturating_add(1);
-    match closed {
-        Some(Closed::Changed) => {
+    tally.outcome = tally.outcome.worse(ended.outcome);
+    if let Outcome::Done = ended.outcome {
+        if ended.is_change() {
             tally.changed = tally.changed.saturating_add(1);
             if is_dry {
                 console.say(format_args!("{shown}: would change"));
             }
         }
-        Some(Closed::Same) => {}
-        None => {
-            tally.failed = tally.failed.saturating_add(1);
-            console.complain(format_args!("{shown} is left as it was"));
-        }
+    } else {
+        tally.failed = tally.failed.saturating_add(1);
+        console.complain(format_args!("{shown} is left as it was"));
     }
 }
 
@@ -140,7 +242,8 @@ fn edit_each<R, O, E>(
     rt: &R,
     alloc: Global,
     console: &mut Console<O, E>,
-    given: &EditInPlace<'_>,
+    task: &Task<'_>,
+    given: &InPlace<'_>,
     verified: &Verified<'_>,
 ) -> Result<Outcome, ToolFault>
 where
@@ -148,15 +251,16 @@ where
     O: Write + Drop,
     E: Write + Drop,
 {
-    let mut tally = Tally::default();
+    let mut tally = NONE;
     for name in given.files {
-        let closed = edit_one(*rt, alloc, console, given, verified, *name)?;
-        count(console, &mut tally, *name, closed, given.is_dry);
+        let ended = edit_one(rt, alloc, console, task, given, verified, *name)?;
+        count(console, &mut tally, *name, ended, given.is_dry);
     }
     let Tally {
         files,
         changed,
         failed,
+        outcome,
     } = tally;
     let changed_word = if given.is_dry {
         "would change"
@@ -164,34 +268,44 @@ where
         "changed"
     };
     console.say(format_args!("files: {files}, {changed_word}: {changed}, failed: {failed}"));
-    Ok(if failed == 0 {
-        Outcome::Done
-    } else {
-        Outcome::Coded
-    })
+    Ok(outcome)
 }
 
-/// Verifies a macro of a library once, and edits each file by it in place, with a new machine for each. Nothing is touched where
+/// Accepts a macro of a library once, and edits each file by it in place, with a new machine for each. Nothing is touched where
 /// the macro is refused; a file that fails is left as it was, named, and the others go on. A file that would stay as it is isn't
 /// replaced.
 pub fn edit_files<R, O, E>(
     rt: &R,
     alloc: Global,
     console: &mut Console<O, E>,
-    given: &EditInPlace<'_>,
+    task: &Task<'_>,
+    given: &InPlace<'_>,
 ) -> Result<Outcome, ToolFault>
 where
     R: Files + Input + Clock + Copy + Drop,
     O: Write + Drop,
     E: Write + Drop,
 {
-    let source = read_source(rt, alloc, given.library.library, given.library.escape)?;
+    let source = read_source(rt, alloc, task.library.library, task.library.escape)?;
+    let claim = read_claim(rt, alloc, task.certificate)?;
     let library = match library_of(alloc, &source) {
         Ok(library) => library,
         Err(refusal) => return refuse(console, &source, refusal),
     };
-    match verify(alloc, &library, given.entry) {
-        Ok(verified) => edit_each(rt, alloc, console, given, &verified),
-        Err(refusal) => refuse(console, &source, refusal),
+    check_presets(&library, task.presets)?;
+    let entry = task.entry;
+    match accepted(alloc, &library, entry, claim.as_ref()) {
+        Ok(verified) => edit_each(rt, alloc, console, task, given, &verified),
+        Err(refusal) => {
+            refuse_task(
+                alloc,
+                console,
+                &source,
+                &library,
+                entry,
+                claim.as_ref(),
+                refusal,
+            )
+        }
     }
 }

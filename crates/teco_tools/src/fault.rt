@@ -27,6 +27,15 @@ pub enum ToolFault {
     /// The answer can't be written.
     #[error("cannot write the answer: {0}")]
     Write(io::Error),
+    /// A text was given for a register of the library.
+    #[error("--set {register}: the library has a text for this register")]
+    Taken {
+        /// The register's name.
+        register: char,
+    },
+    /// A run was to be within its promise, and the length of the input can't be told.
+    #[error("--strict wants an input whose length is known, and this one is no regular file")]
+    Unsized,
     /// A growth was refused.
     #[error("out of memory")]
     Memory,

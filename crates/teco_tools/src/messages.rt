@@ -1,9 +1,7 @@
 //! What is said of files that could not be used.
 use crate::console::Voice;
-use std::fs::Files;
 use std::io::Write;
-use std::time::Clock;
-use teco_pages::{FileHost, Purpose, Trouble};
+use teco_pages::{Purpose, Trouble};
 use teco_source::Shown;
 
 // The code that is typed for it.
@@ -15,21 +13,11 @@ fn code_of(purpose: Purpose) -> &'static str {
     }
 }
 
-// Says what could not be done with which file, and why.
-fn tell<E: Write + Drop>(voice: &mut Voice<E>, trouble: &Trouble) {
+/// Says what could not be done with which file, and why.
+pub fn tell<E: Write + Drop>(voice: &mut Voice<E>, trouble: &Trouble) {
     let purpose = trouble.purpose;
     let name = Shown(&trouble.name);
     let reason = &trouble.reason;
     let code = code_of(purpose);
     voice.complain(format_args!("cannot {purpose} {name}: {reason} ({code})"));
-}
-
-/// Says why the last call of a host failed, if one did.
-pub fn tell_trouble<R: Files + Clock + Drop, E: Write + Drop>(
-    voice: &mut Voice<E>,
-    host: &FileHost<R>,
-) {
-    if let Some(trouble) = host.trouble() {
-        tell(voice, trouble);
-    }
 }

@@ -84,3 +84,16 @@ impl fmt::Display for Grouped {
         Ok(())
     }
 }
+
+/// A number that may not be known.
+#[derive(Clone, Copy)]
+pub struct Known(pub Option<u64>);
+
+impl fmt::Display for Known {
+    fn fmt<W: fmt::Write>(&self, f: &mut fmt::Formatter<W>) -> fmt::Result {
+        match self.0 {
+            None => write!(f, "unknown"),
+            Some(number) => write!(f, "{}", Grouped(number)),
+        }
+    }
+}

@@ -3,23 +3,23 @@ use crate::console::{Console, Voice};
 use crate::fault::ToolFault;
 use crate::files::read_file;
 use crate::forms::{Escape, form_of, form_of_word};
-use crate::messages::tell_trouble;
 use crate::outcome::Outcome;
+use crate::preset::{Preset, set_texts};
+use crate::reporting::tell_trouble;
+use crate::strings::Progress;
+use crate::telling::{code_of, element_at, letters, size_of, tell_macro};
 use std::alloc::{AllocError, Global};
 use std::fs::Files;
 use std::io::{Input, Read, Write};
-use std::str;
 use std::time::Clock;
-use teco_base::bytes::ESC;
-use teco_base::{Code, LIMIT, Reg};
+use teco_base::{Code, LIMIT};
 use teco_explain::note_of_code;
 use teco_gap::GapText;
-use teco_lex::element;
-use teco_model::{HostFault, Limits};
+use teco_model::Limits;
 use teco_pages::FileHost;
 use teco_run::{Machine, Stop, Stopped};
 use teco_session::{Conduct, Done, Listener, session_heard};
-use teco_source::{Position, Shown, Source};
+use teco_source::{Shown, Source};
 use teco_text::TextStore;
 
 /// What command strings are read from.
@@ -44,39 +44,8 @@ pub struct Run<'a> {
     pub cap: usize,
     /// Does the first code end it?
     pub until_code: bool,
-}
-
-// The code that was typed for a stop.
-fn code_of(stop: Stop) -> Option<Code> {
-    match stop {
-        Stop::Ended { .. } | Stop::Exit { .. } => None,
-        Stop::Error(code) => Some(code),
-        Stop::Limit => Some(Code::Lim),
-        Stop::Memory => Some(Code::Mem),
-        Stop::HostFault(HostFault::NoFile) => Some(Code::Fnf),
-        Stop::HostFault(HostFault::In) => Some(Code::Inp),
-        Stop::HostFault(HostFault::Out) => Some(Code::Out),
-    }
-}
-
-// The letters of a code.
-fn letters(code: Code) -> &'static str {
-    str::from_utf8(code.name().as_slice()).unwrap_or("")
-}
-
-// The part of a text that the element at a place takes.
-fn element_at(text: &[u8], place: usize) -> &[u8] {
-    if place > text.len() {
-        return &[];
-    }
-    let behind = match element(text, place) {
-        Ok(Some(found)) => found.next,
-        _ => text.len().min(place.saturating_add(1)),
-    };
-    text.get(..behind)
-        .unwrap_or(text)
-        .get(place..)
-        .unwrap_or(&[])
+    /// What registers have before it.
+    pub presets: &'a [Preset<'a>],
 }
 
 // Says to people what a session stopped at.
@@ -123,35 +92,6 @@ impl<E: Write + Drop> Teller<'_, '_, E> {
             }
         }
     }
-
-    // Says where in a macro it stopped.
-    fn tell_macro<T: TextStore>(
-        &mut self,
-        stopped: &Stopped,
-        register: Reg,
-        machine: &Machine<T>,
-        code: Code,
-    ) {
-        let place = stopped.site.place;
-        let text = machine.regs().text(register);
-        let found = Shown(element_at(text, place));
-        let position = Position::of(text, place);
-        let name = letters(code);
-        let summary = note_of_code(code).summary;
-        let (pointer, length) = size_of(machine);
-        let line = position.line;
-        let column = position.column;
-        let register = char::from(register.name());
-        self.voice.say(format_args!(
-            "?{name} at {line}:{column} in macro {register}: {found} (pointer {pointer}, length {length}): {summary}"
-        ));
-    }
-}
-
-// The pointer, and the length of the buffer.
-fn size_of<T: TextStore>(machine: &Machine<T>) -> (usize, usize) {
-    let (first, second) = machine.text();
-    (machine.dot(), first.len().saturating_add(second.len()))
 }
 
 impl<F, E> Listener<FileHost<F>> for Teller<'_, '_, E>
@@ -170,7 +110,7 @@ where
         if let Some(code) = code_of(stopped.stop) {
             match stopped.site.register {
                 None => self.tell_string(text, stopped, machine, code),
-                Some(register) => self.tell_macro(stopped, register, machine, code),
+                Some(register) => tell_macro(self.voice, stopped, register, machine, code),
             }
             if let Stop::HostFault(_) = stopped.stop {
                 tell_trouble(self.voice, host);
@@ -199,32 +139,12 @@ where
     }
 }
 
-/// How many ESC a text lacks at its end, so that its last command string ends.
-pub fn lacking(text: &[u8]) -> usize {
-    let mut run = 0usize;
-    let mut rest = 0usize;
-    for byte in text {
-        if *byte == ESC && run == 1 {
-            run = 0;
-            rest = 0;
-        } else {
-            run = usize::from(*byte == ESC);
-            rest = rest.saturating_add(1);
-        }
-    }
-    match (rest, run) {
-        (0, _) => 0,
-        (_, 1) => 1,
-        _ => 2,
-    }
-}
-
 // The source of a word, with the ESC at its end that it lacks.
 fn word_source(alloc: Global, word: &str, escape: Escape) -> Result<Source, AllocError> {
     let form = form_of_word(escape);
     let bytes = word.as_bytes().to_vec(alloc)?;
     let source = Source::new(alloc, "-e", bytes, form)?;
-    let count = lacking(source.text());
+    let count = Progress::None.behind(source.text()).lacking();
     source.ended(count)
 }
 
@@ -274,22 +194,21 @@ where
     Ok(done)
 }
 
-// Runs what standard input gives.
-fn run_stream<R, F, O, E>(
-    rt: &R,
+// Runs what a reader gives.
+fn run_stream<S, F, O, E>(
     alloc: Global,
     machine: &mut Machine<GapText>,
+    reader: &mut S,
     run: &Run<'_>,
     console: &mut Console<O, E>,
     host: &mut FileHost<F>,
 ) -> Result<Done, ToolFault>
 where
-    R: Files + Input,
+    S: Read,
     F: Files + Clock + Drop,
     O: Write + Drop,
     E: Write + Drop,
 {
-    let mut reader = rt.reader();
     let mut teller = Teller {
         voice: &mut console.voice,
         source: None,
@@ -299,7 +218,7 @@ where
     converse(
         alloc,
         machine,
-        &mut reader,
+        reader,
         &mut console.out,
         host,
         run,
@@ -340,23 +259,25 @@ where
 }
 
 // Runs a script.
-fn run_script<R, F, O, E>(
+fn run_script<R, S, F, O, E>(
     rt: &R,
     alloc: Global,
     machine: &mut Machine<GapText>,
     script: Script<'_>,
+    reader: &mut S,
     run: &Run<'_>,
     console: &mut Console<O, E>,
     host: &mut FileHost<F>,
 ) -> Result<Done, ToolFault>
 where
     R: Files + Input,
+    S: Read,
     F: Files + Clock + Drop,
     O: Write + Drop,
     E: Write + Drop,
 {
     match source_of(rt, alloc, script, run.escape)? {
-        None => run_stream(rt, alloc, machine, run, console, host),
+        None => run_stream(alloc, machine, reader, run, console, host),
         Some(source) => run_source(alloc, machine, &source, run, console, host),
     }
 }
@@ -379,27 +300,30 @@ fn tell_left<O: Write + Drop, E: Write + Drop>(
     }
 }
 
-/// Runs scripts one after another on one machine, over the files of a host. A code does not keep later ones from running, unless
-/// the first is to end it; a command string that ends the session does.
-pub fn run_scripts<R, F, O, E>(
+/// Runs scripts one after another on one machine, over the files of a host; the stream among them is what the reader gives. A
+/// code does not keep later ones from running, unless the first is to end it; a command string that ends the session does.
+pub fn run_scripts<R, S, F, O, E>(
     rt: &R,
     alloc: Global,
     console: &mut Console<O, E>,
     run: &Run<'_>,
+    reader: &mut S,
     host: &mut FileHost<F>,
 ) -> Result<Outcome, ToolFault>
 where
     R: Files + Input,
+    S: Read,
     F: Files + Clock + Drop,
     O: Write + Drop,
     E: Write + Drop,
 {
     let mut machine = Machine::new(alloc, GapText::new(alloc));
     machine.set_cap(run.cap);
+    set_texts(&mut machine, run.presets)?;
     let mut outcome = Outcome::Done;
     let mut is_exit = false;
     for script in run.scripts {
-        let done = run_script(rt, alloc, &mut machine, *script, run, console, host)?;
+        let done = run_script(rt, alloc, &mut machine, *script, reader, run, console, host)?;
         if done.coded {
             outcome = Outcome::Coded;
         }

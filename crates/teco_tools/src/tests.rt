@@ -1,23 +1,57 @@
 // The words of the program over files in a scratch folder.
+mod edits;
+mod examples;
+mod listings;
+
 use super::*;
-use std::fs;
+use std::process::Abort;
 use std::test::Fail;
+use std::{fs, io};
+use teco_apply::Pages;
 use teco_base::Reg;
 use teco_pages::FileHost;
 use teco_rules::Refusal as Why;
 
 /// Writers over memory, in place of standard output and standard error.
-fn console(rt: &HostRuntime) -> Console<Vec<u8>, Vec<u8>> {
+fn kept(rt: &HostRuntime) -> Console<Vec<u8>, Vec<u8>> {
     Console::new(rt.alloc(), Vec::new(rt.alloc()), Vec::new(rt.alloc()))
 }
 
 // A library in the file of a name.
-fn library<'a>(rt: &HostRuntime, name: &'a str, text: &[u8]) -> Result<Request<'a>, Fail> {
+fn library_file<'a>(rt: &HostRuntime, name: &'a str, text: &[u8]) -> Result<Request<'a>, Fail> {
     fs::write(rt, name, text)?;
     Ok(Request {
         library: name,
         escape: Escape::Mark(b'$'),
     })
+}
+
+// The register of a name.
+fn register(rt: &impl Abort, name: u8) -> Reg {
+    let Some(register) = Reg::of(name) else {
+        panic!(rt; "a register");
+    };
+    register
+}
+
+// A macro in A, run on first pages with no more than a task must have.
+fn task(rt: &impl Abort, library: Request<'static>) -> Task<'static> {
+    Task {
+        library,
+        entry: register(rt, b'A'),
+        certificate: None,
+        argument: None,
+        pages: Pages::First,
+        presets: &[],
+        cap: 1 << 20,
+        is_strict: false,
+        tells_counts: false,
+    }
+}
+
+// What is read is text.
+fn text_of(rt: &HostRuntime, bytes: &[u8]) -> Result<String, Fail> {
+    Ok(String::from_utf8_lossy(rt.alloc(), bytes)?)
 }
 
 #[test]
@@ -55,8 +89,8 @@ fn premises_are_the_last(rt: HostRuntime) -> Result<(), Fail> {
 
 #[test]
 fn a_macro_is_verified(rt: HostRuntime) -> Result<(), Fail> {
-    let request = library(&rt, "somleut_tools_verified", b"@^UA/J<Sfoo$;I!$>/")?;
-    let mut console = console(&rt);
+    let request = library_file(&rt, "somleut_tools_verified", b"@^UA/J<Sfoo$;I!$>/")?;
+    let mut console = kept(&rt);
     let Some(entry) = Reg::of(b'A') else {
         panic!(rt; "a register");
     };
@@ -145,10 +179,18 @@ fn words_are_run(rt: HostRuntime) -> Result<(), Fail> {
             limit: 1000,
             cap: 1 << 20,
             until_code: *until_code,
+            presets: &[],
         };
-        let mut console = console(&rt);
+        let mut console = kept(&rt);
         let mut host = FileHost::new(rt.alloc(), rt);
-        let outcome = run_scripts(&rt, rt.alloc(), &mut console, &run, &mut host);
+        let outcome = run_scripts(
+            &rt,
+            rt.alloc(),
+            &mut console,
+            &run,
+            &mut io::empty(),
+            &mut host,
+        );
         assert!(rt; outcome.is_ok(), "row {i}");
         let (written, messages) = console.into_parts();
         assert_eq!(rt;
@@ -167,8 +209,10 @@ fn words_are_run(rt: HostRuntime) -> Result<(), Fail> {
 
 #[test]
 fn words_get_the_escapes_that_they_lack(rt: HostRuntime) {
-    let rows: [(&[u8], usize); 8] = [
+    let rows: [(&[u8], usize); 10] = [
         (b"", 0),
+        (b"\r\n ", 0),
+        (b"1=\x1b\x1b\n", 0),
         (b"1=", 2),
         (b"1=\x1b", 1),
         (b"1=\x1b\x1b", 0),
@@ -178,62 +222,6 @@ fn words_get_the_escapes_that_they_lack(rt: HostRuntime) {
         (b"1=\x1b\x1b\x1b", 1),
     ];
     for (text, count) in rows {
-        assert_eq!(rt; running::lacking(text), count);
+        assert_eq!(rt; strings::Progress::None.behind(text).lacking(), count);
     }
-}
-
-// The bytes of a file.
-fn bytes_of(rt: &HostRuntime, name: &str) -> Result<Vec<u8>, Fail> {
-    Ok(fs::read(rt, name)?)
-}
-
-#[test]
-fn files_are_edited_in_place(rt: HostRuntime) -> Result<(), Fail> {
-    let request = library(&rt, "somleut_tools_edit", b"@^UA/J<FSfoo$bar$;>/")?;
-    fs::write(&rt, "somleut_tools_one", b"a foo")?;
-    fs::write(&rt, "somleut_tools_two", b"nothing")?;
-    let Some(entry) = Reg::of(b'A') else {
-        panic!(rt; "a register");
-    };
-    let files = [
-        "somleut_tools_one",
-        "somleut_tools_none",
-        "somleut_tools_two",
-    ];
-    for (is_dry, said, left) in [
-        (true, "files: 3, would change: 1, failed: 1\n", b"a foo"),
-        (false, "files: 3, changed: 1, failed: 1\n", b"a bar"),
-    ] {
-        let given = EditInPlace {
-            library: request,
-            entry,
-            argument: None,
-            files: &files,
-            cap: 1 << 20,
-            is_dry,
-        };
-        let mut console = console(&rt);
-        let outcome = edit_files(&rt, rt.alloc(), &mut console, &given);
-        assert!(rt; matches!(outcome, Ok(Outcome::Coded)));
-        let (written, messages) = console.into_parts();
-        assert_eq!(rt; written.as_slice(), b"?FNF\r\n".as_slice());
-        let messages = String::from_utf8_lossy(rt.alloc(), &messages)?;
-        assert!(rt; messages.as_str().ends_with(said), "{messages}");
-        assert_eq!(rt;
-            bytes_of(&rt, "somleut_tools_one")?.as_slice(),
-            left.as_slice()
-        );
-    }
-    assert_eq!(rt;
-        bytes_of(&rt, "somleut_tools_two")?.as_slice(),
-        b"nothing".as_slice()
-    );
-    for name in [
-        "somleut_tools_edit",
-        "somleut_tools_one",
-        "somleut_tools_two",
-    ] {
-        fs::remove_file(&rt, name)?;
-    }
-    Ok(())
 }

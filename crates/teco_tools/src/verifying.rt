@@ -1,5 +1,10 @@
 //! `verify`: macros of a library are verified.
-use crate::console::Console;
+ghost use Rattle.std.specs.Prelude.{OnOk};
+ghost use Rattle.std.specs.Io.KnownBytes.{Appends};
+ghost use Rattle.teco_certificate.specs.Text.{certificate_text};
+
+use crate::console::{Console, Voice};
+use crate::explaining::tell_known;
 use crate::fault::ToolFault;
 use crate::library::{explained, library_of, macros_of, read_source};
 use crate::outcome::Outcome;
@@ -12,7 +17,7 @@ use std::rt::Files;
 use teco_base::Reg;
 use teco_library::Library;
 use teco_source::Source;
-use teco_verify::{Refusal, Verified, verify};
+use teco_verify::{Account, Refusal, Verified, account_of, verify};
 
 /// Says why a macro of a source is refused, behind its line.
 pub fn refuse<O: Write + Drop, E: Write + Drop>(
@@ -31,11 +36,8 @@ pub fn refuse<O: Write + Drop, E: Write + Drop>(
 }
 
 /// Says up to which N the promise of a verified macro holds.
-pub fn tell_premise<O: Write + Drop, E: Write + Drop>(
-    console: &mut Console<O, E>,
-    verified: &Verified<'_>,
-) {
-    console.say(Premise::of(&verified.size(), &verified.commands()));
+pub fn tell_premise<E: Write + Drop>(voice: &mut Voice<E>, verified: &Verified<'_>) {
+    voice.say(Premise::of(&verified.size(), &verified.commands()));
 }
 
 // Prints the certificate of a macro, and up to which N its promise holds.
@@ -43,11 +45,39 @@ fn certify<O: Write + Drop, E: Write + Drop>(
     alloc: Global,
     console: &mut Console<O, E>,
     verified: &Verified<'_>,
-) -> Result<Outcome, ToolFault> {
+) -> Result<Outcome, ToolFault>
+    ensures { OnOk result (Appends (O.contents console.old.out) (O.contents console.new.out) (certificate_text verified.now.fields)) }
+{
     let text = verified.certificate(alloc)?;
     console.out.write_all(text.as_slice())?;
-    tell_premise(console, verified);
+    tell_premise(&mut console.voice, verified);
     Ok(Outcome::Done)
+}
+
+/// Says why a macro of a library is refused, and what is known there.
+pub fn refuse_macro<O: Write + Drop, E: Write + Drop>(
+    alloc: Global,
+    console: &mut Console<O, E>,
+    source: &Source,
+    account: &Account<'_>,
+    refusal: Refusal,
+) -> Result<Outcome, ToolFault> {
+    let outcome = refuse(console, source, refusal)?;
+    tell_known(alloc, console, account)?;
+    Ok(outcome)
+}
+
+// Prints the certificate of a macro, or why it is refused.
+fn answer_macro<O: Write + Drop, E: Write + Drop>(
+    alloc: Global,
+    console: &mut Console<O, E>,
+    source: &Source,
+    account: &Account<'_>,
+) -> Result<Outcome, ToolFault> {
+    match account.verdict() {
+        Ok(verified) => certify(alloc, console, verified),
+        Err(refusal) => refuse_macro(alloc, console, source, account, refusal),
+    }
 }
 
 /// Verifies a macro of a library, and prints its certificate.
@@ -63,10 +93,8 @@ pub fn verify_macro<R: Files + Input, O: Write + Drop, E: Write + Drop>(
         Ok(library) => library,
         Err(refusal) => return refuse(console, &source, refusal),
     };
-    match verify(alloc, &library, entry) {
-        Ok(verified) => certify(alloc, console, &verified),
-        Err(refusal) => refuse(console, &source, refusal),
-    }
+    let account = account_of(alloc, &library, entry)?;
+    answer_macro(alloc, console, &source, &account)
 }
 
 // Prints what comes of one macro of several.

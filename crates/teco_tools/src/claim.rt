@@ -1,0 +1,85 @@
+//! Certificates in files.
+ghost use Rattle.std.specs.Prelude.{◌≡◌, ◌≤◌, IfOk, vec_len};
+ghost use Rattle.teco_base.specs.declared.TheConstants.{LIMIT};
+ghost use Rattle.teco_certificate.specs.Text.{certificate_text};
+ghost use Rattle.teco_verify.specs.Finding.{TakesDeclared};
+
+use crate::fault::ToolFault;
+use crate::files::read_file;
+use std::alloc::Global;
+use std::io::Input;
+use std::rt::Files;
+use teco_base::Reg;
+use teco_library::Library;
+use teco_verify::{Refusal, Verified, check_certificate, verify};
+
+/// What a file says to be the certificate of a macro.
+#[derive(Drop)]
+pub struct Claim<'a> {
+    /// The name of the file; `-` for standard input.
+    pub name: &'a str,
+    /// What it has.
+    pub bytes: Vec<u8>,
+    ghost within: { vec_len bytes ≤ LIMIT },
+}
+
+impl<'a> Claim<'a> {
+    /// Reads the file of a name.
+    pub fn read<R: Files + Input>(
+        rt: &R,
+        alloc: Global,
+        name: &'a str,
+    ) -> Result<Claim<'a>, ToolFault> {
+        let bytes = read_file(rt, alloc, name)?;
+        Ok(Claim { name, bytes })
+    }
+
+    /// The macro that it is the certificate of, if that is the entry.
+    pub fn accept<'l>(
+        &self,
+        alloc: Global,
+        library: &'l Library,
+        entry: Reg,
+    ) -> Result<Verified<'l>, Refusal>
+        ensures library { IfOk result (λ verified. verified.library ≡ library.now.texts) }
+        ensures declared { IfOk result (λ verified. TakesDeclared library.now verified.fields) }
+        ensures entry { IfOk result (λ verified. verified.fields.entry ≡ entry) }
+        ensures text { IfOk result (λ verified. certificate_text verified.fields ≡ self.now.bytes.items) }
+    {
+        let verified = check_certificate(alloc, library, &self.bytes)?;
+        if verified.entry().index() == entry.index() {
+            Ok(verified)
+        } else {
+            Err(Refusal::certificate())
+        }
+    }
+}
+
+/// Reads the certificate of a name, if one is named.
+pub fn read_claim<'a, R: Files + Input>(
+    rt: &R,
+    alloc: Global,
+    name: Option<&'a str>,
+) -> Result<Option<Claim<'a>>, ToolFault> {
+    match name {
+        None => Ok(None),
+        Some(name) => Ok(Some(Claim::read(rt, alloc, name)?)),
+    }
+}
+
+/// A macro of a library, by its certificate if there is one, or verified anew.
+pub fn accepted<'l>(
+    alloc: Global,
+    library: &'l Library,
+    entry: Reg,
+    claim: Option<&Claim<'_>>,
+) -> Result<Verified<'l>, Refusal>
+    ensures library { IfOk result (λ verified. verified.library ≡ library.now.texts) }
+    ensures declared { IfOk result (λ verified. TakesDeclared library.now verified.fields) }
+    ensures entry { IfOk result (λ verified. verified.fields.entry ≡ entry) }
+{
+    match claim {
+        None => verify(alloc, library, entry),
+        Some(claim) => claim.accept(alloc, library, entry),
+    }
+}

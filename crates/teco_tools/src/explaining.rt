@@ -1,0 +1,127 @@
+//! `explain` of a macro: its elements, and what is known before each.
+use crate::console::Console;
+use crate::fault::ToolFault;
+use crate::known::{words_of, words_of_choice};
+use crate::library::{explained, library_of, read_source};
+use crate::outcome::Outcome;
+use crate::request::Request;
+use crate::telling::element_at;
+use crate::verdict::Verdict;
+use crate::verifying::{refuse, tell_premise};
+use std::alloc::Global;
+use std::io::{Input, Write};
+use std::rt::Files;
+use teco_base::Reg;
+use teco_library::Library;
+use teco_source::{Position, Shown, Source};
+use teco_verify::{Account, account_of};
+
+// The text of an element: the call that the macro is begun by, an element of a text, or nothing at the end of one.
+fn text_of<'l>(library: &'l Library, account: &Account<'l>, number: usize) -> (&'l [u8], usize) {
+    let Some(register) = account.register(number) else {
+        return (&[], 0);
+    };
+    let place = account.begin(number).unwrap_or(0);
+    (library.text(register).unwrap_or(&[]), place)
+}
+
+// An element as it is listed: where it stands, and what it is.
+fn shown_element(
+    alloc: Global,
+    library: &Library,
+    account: &Account<'_>,
+    number: usize,
+) -> Result<String, ToolFault> {
+    let name = account
+        .register(number)
+        .map_or('-', |register| char::from(register.name()));
+    if number == 1 {
+        return Ok(format!(in alloc; "-:1:1\tM{name}")?);
+    }
+    let (text, place) = text_of(library, account, number);
+    let Position { line, column } = Position::of(text, place);
+    if account.element(number).is_none() {
+        return Ok(format!(in alloc; "{name}:{line}:{column}\t(return)")?);
+    }
+    let found = Shown(element_at(text, place));
+    Ok(format!(in alloc; "{name}:{line}:{column}\t{found}")?)
+}
+
+// Lists an element, and what is known before it.
+fn list_element<O: Write + Drop, E: Write + Drop>(
+    alloc: Global,
+    console: &mut Console<O, E>,
+    library: &Library,
+    account: &Account<'_>,
+    number: usize,
+) -> Result<(), ToolFault> {
+    let shown = shown_element(alloc, library, account, number)?;
+    match account.known(number) {
+        None => console.answer(format_args!("{number}\t{shown}\t-\n"))?,
+        Some(known) => {
+            let words = words_of(alloc, &known)?;
+            console.answer(format_args!("{number}\t{shown}\t{words}\n"))?;
+        }
+    }
+    if let Some(choice) = account.choice(number) {
+        let words = words_of_choice(alloc, &choice, account.turns(number))?;
+        console.answer(format_args!("\t\t\t{words}\n"))?;
+    }
+    Ok(())
+}
+
+/// Says what is known at the element at which a macro is refused.
+pub fn tell_known<O: Write + Drop, E: Write + Drop>(
+    alloc: Global,
+    console: &mut Console<O, E>,
+    account: &Account<'_>,
+) -> Result<(), ToolFault> {
+    let Some(number) = account.stop() else {
+        return Ok(());
+    };
+    if let Some(known) = account.known(number) {
+        let words = words_of(alloc, &known)?;
+        console.say(format_args!("  known there: {words}"));
+    }
+    Ok(())
+}
+
+// Prints the verdict behind the elements.
+fn conclude<O: Write + Drop, E: Write + Drop>(
+    console: &mut Console<O, E>,
+    source: &Source,
+    account: &Account<'_>,
+) -> Result<Outcome, ToolFault> {
+    match account.verdict() {
+        Ok(verified) => {
+            console.answer("accepted\n")?;
+            tell_premise(&mut console.voice, verified);
+            Ok(Outcome::Done)
+        }
+        Err(refusal) => refuse(console, source, refusal),
+    }
+}
+
+/// Lists the elements that a macro of a library comes to, up to the one at which it is refused, with what is known before each, what
+/// is chosen for each iteration, and the verdict.
+pub fn explain_macro<R: Files + Input, O: Write + Drop, E: Write + Drop>(
+    rt: &R,
+    alloc: Global,
+    console: &mut Console<O, E>,
+    request: Request<'_>,
+    entry: Reg,
+) -> Result<Outcome, ToolFault> {
+    let source = read_source(rt, alloc, request.library, request.escape)?;
+    let library = match library_of(alloc, &source) {
+        Ok(library) => library,
+        Err(refusal) => return refuse(console, &source, refusal),
+    };
+    let account = account_of(alloc, &library, entry)?;
+    console.answer("number\tplace\telement\tknown before it\n")?;
+    let last = account.stop().unwrap_or(account.len());
+    for before in 0..last {
+        let number = before.saturating_add(1);
+        list_element(alloc, console, &library, &account, number)?;
+    }
+    conclude(console, &source, &account)
+}

@@ -1,0 +1,109 @@
+//! What registers have before a run.
+ghost use Rattle.std.specs.Prelude.{◌≤◌, length};
+ghost use Rattle.std.specs.List.{All};
+ghost use Rattle.teco_base.specs.declared.TheConstants.{LIMIT};
+ghost use Rattle.teco_regs.specs.Texts.{IsTextWithinLimit};
+
+use crate::fault::ToolFault;
+use crate::forms::{Escape, form_of_word};
+use std::alloc::{AllocError, Global};
+use teco_base::{LIMIT, REGISTERS, Reg};
+use teco_library::Library;
+use teco_run::Machine;
+use teco_source::Source;
+use teco_text::TextStore;
+
+/// A word of the command line that gives a register a text, as `A=TEXT`.
+#[derive(Drop)]
+pub struct Setting {
+    register: Reg,
+    source: Source,
+}
+
+impl Setting {
+    /// Reads a word, whose text is in the form of words; none where it is no such word, or its text is too long.
+    pub fn read(alloc: Global, word: &str, escape: Escape) -> Result<Option<Setting>, AllocError> {
+        let Some((name, text)) = word.split_once('=') else {
+            return Ok(None);
+        };
+        let Some(register) = register_named(name.as_bytes()) else {
+            return Ok(None);
+        };
+        let bytes = text.as_bytes().to_vec(alloc)?;
+        let source = Source::new(alloc, word, bytes, form_of_word(escape))?;
+        Ok(Some(Setting { register, source }))
+    }
+
+    /// What it gives; none where the text is too long.
+    pub fn preset(&self) -> Option<Preset<'_>> {
+        let text = self.source.text();
+        if text.len() > LIMIT {
+            return None;
+        }
+        Some(Preset {
+            register: self.register,
+            text,
+        })
+    }
+}
+
+// The register of a name.
+fn register_named(name: &[u8]) -> Option<Reg> {
+    match name {
+        [name] => Reg::of(*name),
+        _ => None,
+    }
+}
+
+/// The text that a register has before a run.
+#[derive(Clone, Copy)]
+pub struct Preset<'a> {
+    pub register: Reg,
+    pub text: &'a [u8],
+    ghost within: { length text.now ≤ LIMIT },
+}
+
+// No texts.
+fn no_texts<'a>() -> [Option<&'a [u8]>; REGISTERS]
+    ensures { All IsTextWithinLimit result }
+{
+    [None; REGISTERS]
+}
+
+// A text more, for a register.
+#[tactic(auto, using(crate::proofs::Presets::one_more))]
+fn with_text<'a>(
+    mut texts: [Option<&'a [u8]>; REGISTERS],
+    register: Reg,
+    text: &'a [u8],
+) -> [Option<&'a [u8]>; REGISTERS]
+    requires all { All IsTextWithinLimit texts }
+    requires within { length text.now ≤ LIMIT }
+    ensures { All IsTextWithinLimit result }
+{
+    texts[register.index()] = Some(text);
+    texts
+}
+
+/// Gives registers their texts.
+pub fn set_texts<T: TextStore>(
+    machine: &mut Machine<T>,
+    presets: &[Preset<'_>],
+) -> Result<(), ToolFault> {
+    for given in presets {
+        machine.load(with_text(no_texts(), given.register, given.text))?;
+    }
+    Ok(())
+}
+
+/// Refuses a text for a register that the library gives one.
+pub fn check_presets(library: &Library, presets: &[Preset<'_>]) -> Result<(), ToolFault> {
+    for given in presets {
+        if library.contains(given.register) {
+            return Err(ToolFault::Taken {
+                register: char::from(given.register.name()),
+            });
+        }
+    }
+    Ok(())
+}

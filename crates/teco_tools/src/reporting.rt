@@ -1,0 +1,33 @@
+//! What hosts of files say of their calls.
+use crate::console::Voice;
+use crate::messages::tell;
+use std::fs::Files;
+use std::io::Write;
+use std::time::Clock;
+use teco_pages::{FileHost, Trouble};
+
+/// A host that says what is left of its input, and why its last call that failed did.
+pub trait Reporting {
+    /// How many bytes of the open input were not given yet, if that can be told.
+    fn left_of_input(&self) -> Option<u64>;
+
+    /// What could not be done in the last call that failed.
+    fn trouble(&self) -> Option<&Trouble>;
+}
+
+impl<R: Files + Clock + Drop> Reporting for FileHost<R> {
+    fn left_of_input(&self) -> Option<u64> {
+        FileHost::left_of_input(self)
+    }
+
+    fn trouble(&self) -> Option<&Trouble> {
+        FileHost::trouble(self)
+    }
+}
+
+/// Says why the last call of a host failed, if one did.
+pub fn tell_trouble<H: Reporting, E: Write + Drop>(voice: &mut Voice<E>, host: &H) {
+    if let Some(trouble) = host.trouble() {
+        tell(voice, trouble);
+    }
+}

@@ -1,0 +1,251 @@
+//! Files, and the standard streams under a name of theirs.
+ghost use Rattle.std.specs.Prelude.{◌≡◌, ◌≤◌, ◌<◌, ◌+◌, [], None, length, IfOk, IsErr, OnErr};
+ghost use Rattle.teco_base.specs.declared.TheConstants.{LIMIT};
+ghost use Rattle.teco_pages.specs.HostCalls.{Counts};
+ghost use Rattle.teco_tools.specs.Streams.{given_of};
+
+use crate::reporting::Reporting;
+use std::alloc::Global;
+use std::io;
+use std::io::{ErrorKind, Read, Write};
+use teco_base::LIMIT;
+use teco_pages::{Failed, Host, MemHost, Purpose, Reason, Trouble};
+
+/// What names standard input for a machine. No file can have a name with a NUL.
+pub const INPUT: &[u8] = b"\0input";
+
+/// What names standard output for a machine.
+pub const OUTPUT: &[u8] = b"\0output";
+
+/// A name as messages have it.
+pub fn told_name(name: &[u8]) -> &[u8] {
+    match name {
+        INPUT => b"standard input",
+        OUTPUT => b"standard output",
+        _ => name,
+    }
+}
+
+/// What is open: a file, or a standard stream.
+#[derive(Clone, Copy, Debug, PartialEq, Eq)]
+pub enum Open {
+    File,
+    Stream,
+}
+
+/// The files of a host, and under names of their own standard input and standard output. What is written to standard output
+/// is sent at once, and stays sent where the output is dropped.
+#[derive(Drop)]
+pub struct Streams<H: Host + Drop, I: Read + Drop, O: Write + Drop> {
+    files: H,
+    reader: I,
+    writer: O,
+    input: Open,
+    output: Open,
+    // how many bytes of the stream were read
+    given: usize,
+    alloc: Global,
+    trouble: Option<Trouble>,
+    // a host without files: its calls fail, and count the failures of the streams
+    nowhere: MemHost,
+    ghost within: { given ≤ LIMIT },
+    ghost empty: { nowhere.told.named ≡ [] },
+}
+
+impl<H: Host + Drop, I: Read + Drop, O: Write + Drop> Streams<H, I, O> {
+    /// Nothing is open.
+    pub fn new(alloc: Global, files: H, reader: I, writer: O) -> Streams<H, I, O> {
+        Streams {
+            files,
+            reader,
+            writer,
+            input: Open::File,
+            output: Open::File,
+            given: 0,
+            alloc,
+            trouble: None,
+            nowhere: MemHost::new(alloc),
+        }
+    }
+
+    /// The reader and the writer of the streams.
+    pub fn into_parts(self) -> (I, O) {
+        let Streams {
+            files: _,
+            reader,
+            writer,
+            input: _,
+            output: _,
+            given: _,
+            alloc: _,
+            trouble: _,
+            nowhere: _,
+        } = self;
+        (reader, writer)
+    }
+
+    // Counts a failure of a stream, and keeps why it failed.
+    fn failed<T>(&mut self, purpose: Purpose, name: &[u8], reason: Reason) -> Result<T, Failed>
+        ensures failed { IsErr result }
+        ensures counted { self.old.nowhere.failures < self.new.nowhere.failures }
+        ensures files { self.new.files ≡ self.old.files }
+        ensures input { self.new.input ≡ self.old.input }
+        ensures given { self.new.given ≡ self.old.given }
+    {
+        self.trouble = Some(Trouble::of(self.alloc, purpose, told_name(name), reason));
+        match self.nowhere.open_in(name) {
+            // It has no file, so that does not come.
+            Ok(()) => Err(Failed),
+            Err(failed) => Err(failed),
+        }
+    }
+
+    // Standard input could not be read.
+    fn cannot_read<T>(&mut self, reason: Reason) -> Result<T, Failed>
+        ensures failed { IsErr result }
+        ensures counted { self.old.nowhere.failures < self.new.nowhere.failures }
+        ensures files { self.new.files ≡ self.old.files }
+        ensures input { self.new.input ≡ self.old.input }
+        ensures given { self.new.given ≡ self.old.given }
+    {
+        self.failed(Purpose::ReadInput, INPUT, reason)
+    }
+
+    // Standard output could not be written to.
+    fn cannot_write<T>(&mut self, reason: Reason) -> Result<T, Failed>
+        ensures failed { IsErr result }
+        ensures counted { self.old.nowhere.failures < self.new.nowhere.failures }
+        ensures files { self.new.files ≡ self.old.files }
+        ensures input { self.new.input ≡ self.old.input }
+        ensures given { self.new.given ≡ self.old.given }
+    {
+        self.failed(Purpose::WriteOutput, OUTPUT, reason)
+    }
+
+    // Reads from the stream; one that has given `LIMIT` bytes is read past its end only to see that it is there.
+    fn read_stream(&mut self, buf: &mut [u8]) -> Result<usize, Failed>
+        ensures counted { Counts result self.old.nowhere.failures self.new.nowhere.failures }
+        ensures bound { IfOk result (λ n. n ≤ length buf.new) }
+        ensures given { IfOk result (λ n. self.new.given ≡ self.old.given + n) }
+        ensures err { OnErr result (self.new.given ≡ self.old.given) }
+        ensures files { self.new.files ≡ self.old.files }
+        ensures input { self.new.input ≡ self.old.input }
+    {
+        if self.given == LIMIT {
+            return match read_some(&mut self.reader, &mut [0; 1]) {
+                Ok(0) => Ok(0),
+                Ok(_) => self.cannot_read(Reason::Long),
+                Err(error) => self.cannot_read(Reason::System(error)),
+            };
+        }
+        let room = buf.len().min(LIMIT - self.given);
+        match read_some(&mut self.reader, &mut buf[..room]) {
+            Ok(n) => {
+                self.given += n;
+                Ok(n)
+            }
+            Err(error) => self.cannot_read(Reason::System(error)),
+        }
+    }
+
+    // Writes to the stream.
+    fn write_stream(&mut self, bytes: &[u8]) -> Result<usize, Failed>
+        ensures counted { Counts result self.old.nowhere.failures self.new.nowhere.failures }
+        ensures bound { IfOk result (λ n. n ≤ length bytes.now) }
+        ensures some { IfOk result (λ n. 0 < length bytes.now → 0 < n) }
+        ensures files { self.new.files ≡ self.old.files }
+        ensures input { self.new.input ≡ self.old.input }
+        ensures given { self.new.given ≡ self.old.given }
+    {
+        match self.writer.write_all(bytes) {
+            Ok(()) => Ok(bytes.len()),
+            Err(error) => self.cannot_write(Reason::System(error)),
+        }
+    }
+}
+
+// Reads some bytes, though it be interrupted.
+fn read_some<I: Read>(reader: &mut I, buf: &mut [u8]) -> io::Result<usize>
+    ensures { IfOk result (λ n. n ≤ length buf.new) }
+{
+    for _ in 0..u64::MAX {
+        match reader.read(buf) {
+            Err(error) if error.kind() == ErrorKind::Interrupted => {}
+            read => return read,
+        }
+    }
+    Err(ErrorKind::Interrupted.into())
+}
+
+impl<H: Host + Drop, I: Read + Drop, O: Write + Drop> Host for Streams<H, I, O> {
+    ghost files = { λ _. None };
+
+    ghost failures = { λ s. H.failures s.files + s.nowhere.failures };
+
+    ghost given = { λ s. given_of s.input (H.given s.files) s.given };
+
+    fn open_in(&mut self, name: &[u8]) -> Result<(), Failed> {
+        if name == INPUT {
+            self.input = Open::Stream;
+            self.given = 0;
+            return Ok(());
+        }
+        self.files.open_in(name)?;
+        self.input = Open::File;
+        Ok(())
+    }
+
+    fn read(&mut self, buf: &mut [u8]) -> Result<usize, Failed> {
+        match self.input {
+            Open::File => self.files.read(buf),
+            Open::Stream => self.read_stream(buf),
+        }
+    }
+
+    fn open_out(&mut self, name: &[u8]) -> Result<(), Failed> {
+        if name == OUTPUT {
+            self.output = Open::Stream;
+            return Ok(());
+        }
+        self.files.open_out(name)?;
+        self.output = Open::File;
+        Ok(())
+    }
+
+    fn write(&mut self, bytes: &[u8]) -> Result<usize, Failed> {
+        match self.output {
+            Open::File => self.files.write(bytes),
+            Open::Stream => self.write_stream(bytes),
+        }
+    }
+
+    fn close_out(&mut self) -> Result<(), Failed> {
+        match self.output {
+            Open::File => self.files.close_out(),
+            Open::Stream => match self.writer.flush() {
+                Ok(()) => Ok(()),
+                Err(error) => self.cannot_write(Reason::System(error)),
+            },
+        }
+    }
+
+    fn drop_out(&mut self) -> Result<(), Failed> {
+        match self.output {
+            Open::File => self.files.drop_out(),
+            Open::Stream => Ok(()),
+        }
+    }
+}
+
+impl<H: Host + Reporting + Drop, I: Read + Drop, O: Write + Drop> Reporting for Streams<H, I, O> {
+    fn left_of_input(&self) -> Option<u64> {
+        match self.input {
+            Open::File => self.files.left_of_input(),
+            Open::Stream => None,
+        }
+    }
+
+    fn trouble(&self) -> Option<&Trouble> {
+        self.trouble.as_ref().or(self.files.trouble())
+    }
+}

@@ -1,0 +1,39 @@
+//! Where command strings end.
+use teco_base::bytes::{ESC, is_blank};
+
+/// How far the last command string of a text has come.
+#[derive(Clone, Copy, Debug, PartialEq, Eq)]
+pub enum Progress {
+    /// It is not begun: there are blanks at most.
+    None,
+    /// It is begun, and has no end.
+    Begun,
+    /// It has one of the two ESC at its end.
+    Half,
+}
+
+impl Progress {
+    /// The same behind one more byte.
+    pub fn after(self, byte: u8) -> Progress {
+        match self {
+            Progress::Half if byte == ESC => Progress::None,
+            Progress::None if is_blank(byte) => Progress::None,
+            _ if byte == ESC => Progress::Half,
+            _ => Progress::Begun,
+        }
+    }
+
+    /// The same behind more bytes.
+    pub fn behind(self, bytes: &[u8]) -> Progress {
+        bytes.iter().fold(self, |so_far, byte| so_far.after(*byte))
+    }
+
+    /// How many ESC are lacking at the end of the string, if it is begun.
+    pub fn lacking(self) -> usize {
+        match self {
+            Progress::None => 0,
+            Progress::Begun => 2,
+            Progress::Half => 1,
+        }
+    }
+}
