@@ -17,7 +17,7 @@ use std::process::ExitCode;
 use teco_apply::Pages;
 use teco_pages::{Closing, FileHost};
 use teco_tools::{
-    Console, InPlace, Names, OUTPUT, Outcome, Preset, Prompting, Request, Run, Streams, Task,
+    Console, InPlace, Names, OUTPUT, Outcome, Prompting, Request, Run, Setting, Streams, Task,
     apply_macro, check_macro, edit_files, explain, explain_macro, run_scripts, show, show_source,
     trace_macro, verify_library, verify_library_as_json, verify_macro, verify_macro_as_json,
 };
@@ -34,14 +34,13 @@ fn run<O: Write + Drop, E: Write + Drop>(
     let escape = words::escape_of(given)?;
     let scripts = words::scripts(rt.alloc(), given)?;
     let settings = words::settings(rt.alloc(), given, escape)?;
-    let presets = words::presets(rt.alloc(), &settings)?;
     let run = Run {
         scripts: &scripts,
         escape,
         limit: u64::from(words::limit(given)),
         cap: words::cap(given),
         until_code: given.get_flag("stop"),
-        presets: &presets,
+        settings: &settings,
     };
     let errors = rt.stderr();
     let is_terminal = rt.stdin().is_terminal() && errors.is_terminal();
@@ -110,14 +109,17 @@ fn check<O: Write + Drop, E: Write + Drop>(
 }
 
 // How a macro edits files.
-fn task<'a>(given: &ArgMatches<'a>, presets: &'a [Preset<'a>]) -> Result<Task<'a>, ProgramFault> {
+fn task<'a, 's>(
+    given: &ArgMatches<'a>,
+    settings: &'s [Setting],
+) -> Result<Task<'a, 's>, ProgramFault> {
     Ok(Task {
         library: request(given)?,
         entry: words::entry(given)?,
         certificate: given.get_str("cert"),
         argument: words::given(given)?,
         pages: words::pages(given)?,
-        presets,
+        settings,
         cap: words::cap(given),
         is_strict: given.get_flag("strict"),
         tells_counts: given.get_flag("stats"),
@@ -132,8 +134,7 @@ fn apply<'a, O: Write + Drop, E: Write + Drop>(
     arguments: &'a Arguments,
 ) -> Result<Outcome, ProgramFault> {
     let settings = words::settings(rt.alloc(), given, words::escape_of(given)?)?;
-    let presets = words::presets(rt.alloc(), &settings)?;
-    let task = task(given, &presets)?;
+    let task = task(given, &settings)?;
     words::check_streams(given, task.is_strict)?;
     let names = Names {
         source: words::source_name(given, arguments)?,
@@ -160,8 +161,7 @@ fn edit<O: Write + Drop, E: Write + Drop>(
         console.voice.hush();
     }
     let settings = words::settings(rt.alloc(), given, words::escape_of(given)?)?;
-    let presets = words::presets(rt.alloc(), &settings)?;
-    let task = task(given, &presets)?;
+    let task = task(given, &settings)?;
     let edit = InPlace {
         files: given.get_strs("FILE").unwrap_or(&[]),
         is_dry: given.get_flag("dry-run"),
@@ -178,14 +178,13 @@ fn trace<'a, O: Write + Drop, E: Write + Drop>(
     arguments: &'a Arguments,
 ) -> Result<Outcome, ProgramFault> {
     let settings = words::settings(rt.alloc(), given, words::escape_of(given)?)?;
-    let presets = words::presets(rt.alloc(), &settings)?;
     let task = Task {
         library: request(given)?,
         entry: words::entry(given)?,
         certificate: None,
         argument: words::given(given)?,
         pages: Pages::First,
-        presets: &presets,
+        settings: &settings,
         cap: words::cap(given),
         is_strict: false,
         tells_counts: false,

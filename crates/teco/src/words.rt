@@ -10,7 +10,7 @@ use teco_apply::{NAME, Pages};
 use teco_base::Reg;
 use teco_base::bytes::ESC;
 use teco_source::Form;
-use teco_tools::{Escape, INPUT, OUTPUT, Preset, STREAM, Script, Setting};
+use teco_tools::{Escape, INPUT, OUTPUT, STREAM, Script, Setting};
 use thiserror::Error;
 
 /// The step limit of each command string where no other is given.
@@ -458,21 +458,6 @@ pub fn settings(
         }
     }
     Ok(settings)
-}
-
-/// What registers have before a run.
-pub fn presets<'a>(
-    alloc: Global,
-    settings: &'a [Setting],
-) -> Result<Vec<Preset<'a>>, ProgramFault> {
-    let mut presets = Vec::new(alloc);
-    for setting in settings {
-        match setting.preset() {
-            Some(preset) => presets.push(preset)?,
-            None => return Err(WordsFault::Setting.into()),
-        }
-    }
-    Ok(presets)
 }
 
 // Is a word the name of a standard stream?

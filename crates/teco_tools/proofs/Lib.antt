@@ -1,2 +1,2 @@
 -- What proofs of this crate cite.
-mod Presets
+mod Settings

@@ -9,10 +9,10 @@ use crate::fault::ToolFault;
 use crate::library::{library_of, read_source};
 use crate::outcome::Outcome;
 use crate::premise::{Grouped, Known};
-use crate::preset::{Preset, check_presets, set_texts};
 use crate::promise::Promise;
 use crate::reporting::Reporting;
 use crate::request::Request;
+use crate::setting::{Setting, check_settings, set_texts};
 use crate::streams::told_name;
 use crate::verifying::{refuse, refuse_macro};
 use crate::watching::{Seen, Warden};
@@ -30,7 +30,7 @@ use teco_verify::{Refusal, Verified, account_of};
 
 /// A macro of a library, and how it is run on files.
 #[derive(Clone, Copy)]
-pub struct Task<'a> {
+pub struct Task<'a, 's> {
     pub library: Request<'a>,
     pub entry: Reg,
     /// The file of its certificate, which is checked; without one the macro is verified.
@@ -40,7 +40,7 @@ pub struct Task<'a> {
     /// The pages that it edits.
     pub pages: Pages,
     /// What registers have before it is run.
-    pub presets: &'a [Preset<'a>],
+    pub settings: &'s [Setting],
     /// The bytes that each run may type, and that its calls may take.
     pub cap: usize,
     /// Is a run outside its promise refused?
@@ -98,14 +98,14 @@ fn tell_unedited<O: Write + Drop, E: Write + Drop>(
 pub fn edit_by<H: Host + Reporting, O: Write + Drop, E: Write + Drop>(
     alloc: Global,
     console: &mut Console<O, E>,
-    task: &Task<'_>,
+    task: &Task<'_, '_>,
     names: Names<'_>,
     verified: &Verified<'_>,
     host: &mut H,
 ) -> Result<Outcome, ToolFault> {
     let mut machine = Machine::new(alloc, GapText::new(alloc));
     machine.set_cap(task.cap);
-    set_texts(&mut machine, task.presets)?;
+    set_texts(&mut machine, task.settings)?;
     let edit = Edit {
         source: names.source,
         target: names.target,
@@ -134,7 +134,7 @@ pub fn edit_by<H: Host + Reporting, O: Write + Drop, E: Write + Drop>(
 // Says what came of an edit.
 fn conclude<O: Write + Drop, E: Write + Drop>(
     console: &mut Console<O, E>,
-    task: &Task<'_>,
+    task: &Task<'_, '_>,
     name: &[u8],
     edited: Edited,
     seen: Seen,
@@ -182,7 +182,7 @@ pub fn apply_macro<R: Files + Input, H: Host + Reporting, O: Write + Drop, E: Wr
     rt: &R,
     alloc: Global,
     console: &mut Console<O, E>,
-    task: &Task<'_>,
+    task: &Task<'_, '_>,
     names: Names<'_>,
     host: &mut H,
 ) -> Result<Outcome, ToolFault> {
@@ -192,7 +192,7 @@ pub fn apply_macro<R: Files + Input, H: Host + Reporting, O: Write + Drop, E: Wr
         Ok(library) => library,
         Err(refusal) => return refuse(console, &source, refusal),
     };
-    check_presets(&library, task.presets)?;
+    check_settings(&library, task.settings)?;
     let entry = task.entry;
     match accepted(alloc, &library, entry, claim.as_ref()) {
         Ok(verified) => edit_by(alloc, console, task, names, &verified, host),

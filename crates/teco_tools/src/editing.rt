@@ -9,7 +9,7 @@ use crate::fault::ToolFault;
 use crate::keeping::keep;
 use crate::library::{library_of, read_source};
 use crate::outcome::Outcome;
-use crate::preset::check_presets;
+use crate::setting::check_settings;
 use crate::verifying::refuse;
 use std::alloc::{AllocError, Global};
 use std::fs::Files;
@@ -86,7 +86,7 @@ fn edit_with<R, O, E>(
     rt: R,
     alloc: Global,
     console: &mut Console<O, E>,
-    task: &Task<'_>,
+    task: &Task<'_, '_>,
     verified: &Verified<'_>,
     names: Names<'_>,
     closing: Closing,
@@ -130,7 +130,7 @@ fn edit_kept<R, O, E>(
     rt: &R,
     alloc: Global,
     console: &mut Console<O, E>,
-    task: &Task<'_>,
+    task: &Task<'_, '_>,
     verified: &Verified<'_>,
     names: Names<'_>,
     suffix: &str,
@@ -173,7 +173,7 @@ fn edit_one<R, O, E>(
     rt: &R,
     alloc: Global,
     console: &mut Console<O, E>,
-    task: &Task<'_>,
+    task: &Task<'_, '_>,
     given: &InPlace<'_>,
     verified: &Verified<'_>,
     name: &str,
@@ -242,7 +242,7 @@ fn edit_each<R, O, E>(
     rt: &R,
     alloc: Global,
     console: &mut Console<O, E>,
-    task: &Task<'_>,
+    task: &Task<'_, '_>,
     given: &InPlace<'_>,
     verified: &Verified<'_>,
 ) -> Result<Outcome, ToolFault>
@@ -278,7 +278,7 @@ pub fn edit_files<R, O, E>(
     rt: &R,
     alloc: Global,
     console: &mut Console<O, E>,
-    task: &Task<'_>,
+    task: &Task<'_, '_>,
     given: &InPlace<'_>,
 ) -> Result<Outcome, ToolFault>
 where
@@ -292,7 +292,7 @@ where
         Ok(library) => library,
         Err(refusal) => return refuse(console, &source, refusal),
     };
-    check_presets(&library, task.presets)?;
+    check_settings(&library, task.settings)?;
     let entry = task.entry;
     match accepted(alloc, &library, entry, claim.as_ref()) {
         Ok(verified) => edit_each(rt, alloc, console, task, given, &verified),

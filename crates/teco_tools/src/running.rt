@@ -4,8 +4,8 @@ use crate::fault::ToolFault;
 use crate::files::read_file;
 use crate::forms::{Escape, form_of, form_of_word};
 use crate::outcome::Outcome;
-use crate::preset::{Preset, set_texts};
 use crate::reporting::tell_trouble;
+use crate::setting::{Setting, set_texts};
 use crate::strings::Progress;
 use crate::telling::{code_of, element_at, letters, size_of, tell_macro};
 use std::alloc::{AllocError, Global};
@@ -35,7 +35,7 @@ pub enum Script<'a> {
 
 /// What is run, and how.
 #[derive(Clone, Copy)]
-pub struct Run<'a> {
+pub struct Run<'a, 's> {
     pub scripts: &'a [Script<'a>],
     pub escape: Escape,
     /// Steps that each command string may take.
@@ -45,7 +45,7 @@ pub struct Run<'a> {
     /// Does the first code end it?
     pub until_code: bool,
     /// What registers have before it.
-    pub presets: &'a [Preset<'a>],
+    pub settings: &'s [Setting],
 }
 
 // Says to people what a session stopped at.
@@ -173,7 +173,7 @@ fn converse<T, S, O, F, E>(
     reader: &mut S,
     out: &mut O,
     host: &mut FileHost<F>,
-    run: &Run<'_>,
+    run: &Run<'_, '_>,
     teller: &mut Teller<'_, '_, E>,
 ) -> Result<Done, ToolFault>
 where
@@ -199,7 +199,7 @@ fn run_stream<S, F, O, E>(
     alloc: Global,
     machine: &mut Machine<GapText>,
     reader: &mut S,
-    run: &Run<'_>,
+    run: &Run<'_, '_>,
     console: &mut Console<O, E>,
     host: &mut FileHost<F>,
 ) -> Result<Done, ToolFault>
@@ -231,7 +231,7 @@ fn run_source<F, O, E>(
     alloc: Global,
     machine: &mut Machine<GapText>,
     source: &Source,
-    run: &Run<'_>,
+    run: &Run<'_, '_>,
     console: &mut Console<O, E>,
     host: &mut FileHost<F>,
 ) -> Result<Done, ToolFault>
@@ -265,7 +265,7 @@ fn run_script<R, S, F, O, E>(
     machine: &mut Machine<GapText>,
     script: Script<'_>,
     reader: &mut S,
-    run: &Run<'_>,
+    run: &Run<'_, '_>,
     console: &mut Console<O, E>,
     host: &mut FileHost<F>,
 ) -> Result<Done, ToolFault>
@@ -306,7 +306,7 @@ pub fn run_scripts<R, S, F, O, E>(
     rt: &R,
     alloc: Global,
     console: &mut Console<O, E>,
-    run: &Run<'_>,
+    run: &Run<'_, '_>,
     reader: &mut S,
     host: &mut FileHost<F>,
 ) -> Result<Outcome, ToolFault>
@@ -319,7 +319,7 @@ where
 {
     let mut machine = Machine::new(alloc, GapText::new(alloc));
     machine.set_cap(run.cap);
-    set_texts(&mut machine, run.presets)?;
+    set_texts(&mut machine, run.settings)?;
     let mut outcome = Outcome::Done;
     let mut is_exit = false;
     for script in run.scripts {

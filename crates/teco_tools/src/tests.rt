@@ -35,14 +35,14 @@ fn register(rt: &impl Abort, name: u8) -> Reg {
 }
 
 // A macro in A, run on first pages with no more than a task must have.
-fn task(rt: &impl Abort, library: Request<'static>) -> Task<'static> {
+fn task(rt: &impl Abort, library: Request<'static>) -> Task<'static, 'static> {
     Task {
         library,
         entry: register(rt, b'A'),
         certificate: None,
         argument: None,
         pages: Pages::First,
-        presets: &[],
+        settings: &[],
         cap: 1 << 20,
         is_strict: false,
         tells_counts: false,
@@ -179,7 +179,7 @@ fn words_are_run(rt: HostRuntime) -> Result<(), Fail> {
             limit: 1000,
             cap: 1 << 20,
             until_code: *until_code,
-            presets: &[],
+            settings: &[],
         };
         let mut console = kept(&rt);
         let mut host = FileHost::new(rt.alloc(), rt);

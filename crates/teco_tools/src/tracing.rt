@@ -7,8 +7,8 @@ use crate::console::Console;
 use crate::fault::ToolFault;
 use crate::library::{library_of, read_source};
 use crate::outcome::Outcome;
-use crate::preset::{check_presets, set_texts};
 use crate::reporting::{Reporting, tell_trouble};
+use crate::setting::{check_settings, set_texts};
 use crate::telling::{code_of, element_at, letters, size_of, tell_macro};
 use crate::verifying::refuse;
 use std::alloc::Global;
@@ -169,7 +169,7 @@ pub fn trace_macro<R: Files + Input, H: Host + Reporting, O: Write + Drop, E: Wr
     rt: &R,
     alloc: Global,
     console: &mut Console<O, E>,
-    task: &Task<'_>,
+    task: &Task<'_, '_>,
     names: Names<'_>,
     most: u64,
     host: &mut H,
@@ -179,10 +179,10 @@ pub fn trace_macro<R: Files + Input, H: Host + Reporting, O: Write + Drop, E: Wr
         Ok(library) => library,
         Err(refusal) => return refuse(console, &source, refusal),
     };
-    check_presets(&library, task.presets)?;
+    check_settings(&library, task.settings)?;
     let mut machine = Machine::new(alloc, GapText::new(alloc));
     machine.set_cap(task.cap);
-    set_texts(&mut machine, task.presets)?;
+    set_texts(&mut machine, task.settings)?;
     let opening = opening(alloc, &names)?;
     let stopped = machine.run_to_stop(within_limit(&opening)?, u64::MAX, host);
     if code_of(stopped.stop).is_some() {

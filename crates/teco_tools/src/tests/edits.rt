@@ -1,7 +1,7 @@
 // Files that are edited, by pages and in place.
 use super::{kept, library_file, register, task, text_of};
 use crate::{
-    INPUT, InPlace, Names, OUTPUT, Outcome, Preset, Streams, Task, ToolFault, apply_macro,
+    Escape, INPUT, InPlace, Names, OUTPUT, Outcome, Setting, Streams, Task, ToolFault, apply_macro,
     edit_files,
 };
 use std::test::Fail;
@@ -170,6 +170,11 @@ fn streams_are_edited(rt: HostRuntime) -> Result<(), Fail> {
 /// Gets the text of register B in front.
 const GETS: &[u8] = b"@^UA/JGB/";
 
+// The setting that a word is.
+fn setting(rt: &HostRuntime, word: &str) -> Result<Setting, Fail> {
+    Ok(Setting::read(rt.alloc(), word, Escape::ByName)?.expect(rt, "a setting"))
+}
+
 #[test]
 fn registers_are_set(rt: HostRuntime) -> Result<(), Fail> {
     let request = library_file(&rt, "somleut_tools_set", GETS)?;
@@ -178,16 +183,10 @@ fn registers_are_set(rt: HostRuntime) -> Result<(), Fail> {
         source: b"somleut_tools_plain",
         target: b"./somleut_tools_plain",
     };
-    let presets = [Preset {
-        register: register(&rt, b'B'),
-        text: b"some ",
-    }];
-    let taken = [Preset {
-        register: register(&rt, b'A'),
-        text: b"",
-    }];
+    let settings = [setting(&rt, "B=some ")?];
+    let taken = [setting(&rt, "A=")?];
     let good = Task {
-        presets: &presets,
+        settings: &settings,
         ..task(&rt, request)
     };
     let mut host = FileHost::new(rt.alloc(), rt);
@@ -198,7 +197,7 @@ fn registers_are_set(rt: HostRuntime) -> Result<(), Fail> {
         b"some text".as_slice()
     );
     let bad = Task {
-        presets: &taken,
+        settings: &taken,
         ..task(&rt, request)
     };
     let outcome = apply_macro(&rt, rt.alloc(), &mut kept(&rt), &bad, names, &mut host);

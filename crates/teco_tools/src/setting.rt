@@ -17,7 +17,8 @@ use teco_text::TextStore;
 #[derive(Drop)]
 pub struct Setting {
     register: Reg,
-    source: Source,
+    text: Vec<u8>,
+    ghost within: { length text.items ≤ LIMIT },
 }
 
 impl Setting {
@@ -31,19 +32,11 @@ impl Setting {
         };
         let bytes = text.as_bytes().to_vec(alloc)?;
         let source = Source::new(alloc, word, bytes, form_of_word(escape))?;
-        Ok(Some(Setting { register, source }))
-    }
-
-    /// What it gives; none where the text is too long.
-    pub fn preset(&self) -> Option<Preset<'_>> {
-        let text = self.source.text();
+        let text = source.text().to_vec(alloc)?;
         if text.len() > LIMIT {
-            return None;
+            return Ok(None);
         }
-        Some(Preset {
-            register: self.register,
-            text,
-        })
+        Ok(Some(Setting { register, text }))
     }
 }
 
@@ -55,14 +48,6 @@ fn register_named(name: &[u8]) -> Option<Reg> {
     }
 }
 
-/// The text that a register has before a run.
-#[derive(Clone, Copy)]
-pub struct Preset<'a> {
-    pub register: Reg,
-    pub text: &'a [u8],
-    ghost within: { length text.now ≤ LIMIT },
-}
-
 // No texts.
 fn no_texts<'a>() -> [Option<&'a [u8]>; REGISTERS]
     ensures { All IsTextWithinLimit result }
@@ -71,7 +56,7 @@ fn no_texts<'a>() -> [Option<&'a [u8]>; REGISTERS]
 }
 
 // A text more, for a register.
-#[tactic(auto, using(crate::proofs::Presets::one_more))]
+#[tactic(auto, using(crate::proofs::Settings::one_more))]
 fn with_text<'a>(
     mut texts: [Option<&'a [u8]>; REGISTERS],
     register: Reg,
@@ -88,17 +73,17 @@ fn with_text<'a>(
 /// Gives registers their texts.
 pub fn set_texts<T: TextStore>(
     machine: &mut Machine<T>,
-    presets: &[Preset<'_>],
+    settings: &[Setting],
 ) -> Result<(), ToolFault> {
-    for given in presets {
-        machine.load(with_text(no_texts(), given.register, given.text))?;
+    for given in settings {
+        machine.load(with_text(no_texts(), given.register, &given.text))?;
     }
     Ok(())
 }
 
 /// Refuses a text for a register that the library gives one.
-pub fn check_presets(library: &Library, presets: &[Preset<'_>]) -> Result<(), ToolFault> {
-    for given in presets {
+pub fn check_settings(library: &Library, settings: &[Setting]) -> Result<(), ToolFault> {
+    for given in settings {
         if library.contains(given.register) {
             return Err(ToolFault::Taken {
                 register: char::from(given.register.name()),
