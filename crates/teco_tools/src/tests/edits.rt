@@ -1,9 +1,11 @@
 // Files that are edited, by pages and in place.
-use super::{kept, library_file, register, task, text_of};
+use super::{kept, library_file, task, text_of};
 use crate::{
     Escape, INPUT, InPlace, Names, OUTPUT, Outcome, Setting, Streams, Task, ToolFault, apply_macro,
     edit_files,
 };
+use std::alloc::Global;
+use std::process::Abort;
 use std::test::Fail;
 use std::{fs, io};
 use teco_apply::Pages;
@@ -171,8 +173,9 @@ fn streams_are_edited(rt: HostRuntime) -> Result<(), Fail> {
 const GETS: &[u8] = b"@^UA/JGB/";
 
 // The setting that a word is.
-fn setting(rt: &HostRuntime, word: &str) -> Result<Setting, Fail> {
-    Ok(Setting::read(rt.alloc(), word, Escape::ByName)?.expect(rt, "a setting"))
+fn setting(rt: &impl Abort, alloc: Global, word: &str) -> Setting {
+    let setting = Setting::read(alloc, word, Escape::ByName).expect(rt, "memory");
+    setting.expect(rt, "a setting")
 }
 
 #[test]
@@ -183,8 +186,8 @@ fn registers_are_set(rt: HostRuntime) -> Result<(), Fail> {
         source: b"somleut_tools_plain",
         target: b"./somleut_tools_plain",
     };
-    let settings = [setting(&rt, "B=some ")?];
-    let taken = [setting(&rt, "A=")?];
+    let settings = [setting(&rt, rt.alloc(), "B=some ")];
+    let taken = [setting(&rt, rt.alloc(), "A=")];
     let good = Task {
         settings: &settings,
         ..task(&rt, request)
