@@ -17,7 +17,8 @@ use Rattle.teco_model.specs.Whole.{IsWhole}
 use Rattle.teco_model.specs.declared.stop.Stop.{Stop}
 use Rattle.teco_model.specs.Files.{Input, Output}
 use Rattle.teco_pages.specs.Held.{Held, IsSameOutput, input_of, unread_bytes}
-use Rattle.teco_pages.specs.HostFiles.{HostFiles}
+use Rattle.teco_pages.proofs.Told.{told-map}
+use Rattle.teco_pages.specs.HostFiles.{HostFiles, Telling}
 use Rattle.teco_paging.specs.Worlds.{world}
 use Rattle.teco_rules.specs.Argument.{IsAsked}
 use Rattle.teco_rules.specs.Laws.{IsEntry}
@@ -114,13 +115,14 @@ surely laws call kept held is files answer new same stops = record {
   sure = λ ready. is_sure laws call kept held is files same ready answer new stops;
 }
 
-pub calls : Laws → (call : Call) (answer : Stop) (a b : Holdings) (f g : Option HostFiles) → IsCalled call a.kept a.held → Joined (λ old new. Stops (start (call_text call.found.fields.entry call.given) old) MOST answer new) a b f g → Joined (Calls call.found.fields call.given answer) a b f g
-calls laws call answer a b None g is t = tt
-calls laws call answer a b (Some files) None is t = t
-calls laws call answer a b (Some files) (Some left) is t = λ same. (surely laws call a.kept a.held is files answer _ same (t same).0, (t same).1)
+pub calls : Laws → (call : Call) (answer : Stop) (a b : Holdings) (f g : Telling) → IsCalled call a.kept a.held → Joined (λ old new. Stops (start (call_text call.found.fields.entry call.given) old) MOST answer new) a b f g → Joined (Calls call.found.fields call.given answer) a b f g
+calls laws call answer a b f g is = told-map
+    (λ files left. IsSameOutput a.held files → Stops (start (call_text call.found.fields.entry call.given) (world a.kept a.held files)) MOST answer (world b.kept b.held left) × IsSameOutput b.held left)
+    (λ files left. IsSameOutput a.held files → Calls call.found.fields call.given answer (world a.kept a.held files) (world b.kept b.held left) × IsSameOutput b.held left)
+    (λ files left t same. (surely laws call a.kept a.held is files answer _ same (t same).0, (t same).1)) f g
 
 -- what is so of a call where the library is loaded is so of a run
-pub runs : (call : Call) (answer : Stop) (a loaded b : Holdings) (f g : Option HostFiles) → loaded ≡ record a { kept = kept_loaded call.found.library a.kept } → Joined (Calls call.found.fields call.given answer) loaded b f g → Joined (Runs call answer) a b f g
-runs call answer a loaded b None g e t = tt
-runs call answer a loaded b (Some files) None e t = t
-runs call answer a loaded b (Some files) (Some left) e t = subst (λ l. Joined (Calls call.found.fields call.given answer) l b (Some files) (Some left)) e t
+pub runs : (call : Call) (answer : Stop) (a loaded b : Holdings) (f g : Telling) → loaded ≡ record a { kept = kept_loaded call.found.library a.kept } → Joined (Calls call.found.fields call.given answer) loaded b f g → Joined (Runs call answer) a b f g
+runs call answer a loaded b f g e t =
+    told-map (λ files left. IsSameOutput a.held files → Runs call answer (world a.kept a.held files) (world b.kept b.held left) × IsSameOutput b.held left) _ (λ files left t. t) f g
+    (subst (λ l. Joined (Calls call.found.fields call.given answer) l b f g) e t)

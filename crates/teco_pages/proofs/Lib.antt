@@ -6,4 +6,5 @@ pub mod Ready
 pub mod Rest
 pub mod Shifted
 pub mod Told
+pub mod Walks
 pub mod Written

@@ -74,7 +74,7 @@ impl Ahead {
     pub fn fill<H: Host>(&mut self, host: &mut H) -> Result<(), Fault>
         requires { self.old ≡ [] }
         ensures ok { OnOk result (Reads self.new (H.files host.old) (H.files host.new)) }
-        ensures end { OnOk result (self.new ≡ [] → NoneUnread (H.files host.new)) }
+        ensures end { OnOk result (self.new ≡ [] → NoneUnread (H.files host.old) (H.files host.new)) }
         ensures counted { OnOk result (H.failures host.new ≡ H.failures host.old) }
         ensures given { OnOk result (H.given host.new ≡ H.given host.old + length self.new) }
         ensures limit { OnOk result (H.given host.new ≤ LIMIT) }

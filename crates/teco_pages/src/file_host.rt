@@ -1,5 +1,6 @@
 // A host of the files of the system.
-ghost use Rattle.std.specs.Prelude.{◌≡◌, ◌≤◌, ◌<◌, suc, None, length, IfOk, IsErr};
+ghost use Rattle.std.specs.Prelude.{◌≡◌, ◌≤◌, ◌<◌, suc, length, IfOk, IsErr};
+ghost use Rattle.teco_pages.specs.HostFiles.{Notes};
 ghost use Rattle.teco_base.specs.declared.TheConstants.{LIMIT};
 
 mod descriptor;
@@ -17,6 +18,7 @@ use self::unfinished::Unfinished;
 pub use self::unfinished::{Closed, Closing};
 use crate::count::Count;
 use crate::fault::Failed;
+use crate::history::History;
 use crate::host::Host;
 use std::alloc::{AllocError, Global};
 use std::fs::{Files, OpenFile};
@@ -24,7 +26,7 @@ use std::io::Write;
 use std::time::Clock;
 use teco_base::LIMIT;
 
-/// The files of the system, by the runtime `R`. It tells how many of its calls have failed, and nothing of the files.
+/// The files of the system, by the runtime `R`. It notes what its calls did, and how many of them have failed.
 ///
 /// An output is a new file in its target's folder, under a name that no file has, until `close_out` moves it over its
 /// target: whole, and in one move. It has the owner, the group and the permissions of a file that it will replace, as
@@ -53,6 +55,7 @@ pub struct FileHost<R: Files + Clock + Drop> {
     closing: Closing,
     closed: Option<Closed>,
     failures: Count,
+    history: History,
     ghost within: { given ≤ LIMIT },
 }
 
@@ -72,6 +75,7 @@ impl<R: Files + Clock + Drop> FileHost<R> {
             closing: Closing::Replaces,
             closed: None,
             failures: Count::new(),
+            history: History::new(),
         }
     }
 
@@ -101,6 +105,7 @@ impl<R: Files + Clock + Drop> FileHost<R> {
         ensures failed { IsErr result }
         ensures counted { self.new.failures.value ≡ suc self.old.failures.value }
         ensures given { self.new.given ≡ self.old.given }
+        ensures history { self.new.history ≡ self.old.history }
     {
         let trouble = Trouble::of(self.alloc, Purpose::ReadInput, &self.input_name, reason);
         self.trouble = Some(trouble);
@@ -112,6 +117,7 @@ impl<R: Files + Clock + Drop> FileHost<R> {
         ensures failed { IsErr result }
         ensures counted { self.new.failures.value ≡ suc self.old.failures.value }
         ensures given { self.new.given ≡ self.old.given }
+        ensures history { self.new.history ≡ self.old.history }
     {
         let trouble = Trouble::of(self.alloc, purpose, &self.output_name, reason);
         self.trouble = Some(trouble);
@@ -123,6 +129,7 @@ impl<R: Files + Clock + Drop> FileHost<R> {
         ensures failed { IsErr result }
         ensures counted { self.new.failures.value ≡ suc self.old.failures.value }
         ensures given { self.new.given ≡ self.old.given }
+        ensures history { self.new.history ≡ self.old.history }
     {
         let trouble = Trouble::of(self.alloc, purpose, name, reason);
         self.trouble = Some(trouble);
@@ -153,6 +160,7 @@ impl<R: Files + Clock + Drop> Drop for FileHost<R> {
             closing: _,
             closed: _,
             failures: _,
+            history: _,
         } = self;
         if let Some(output) = output {
             let _removed = output.abandon(&rt);
@@ -161,7 +169,7 @@ impl<R: Files + Clock + Drop> Drop for FileHost<R> {
 }
 
 impl<R: Files + Clock + Drop> Host for FileHost<R> {
-    ghost files = { λ _. None };
+    ghost files = { λ h. Notes h.history.events };
 
     ghost failures = { λ h. h.failures.value };
 
@@ -174,6 +182,7 @@ impl<R: Files + Clock + Drop> Host for FileHost<R> {
                 self.input_name = kept_name(self.alloc, name);
                 self.given = 0;
                 self.is_past = false;
+                self.history.opened_input(name);
                 Ok(())
             }
             Err(reason) => self.cannot_open(Purpose::OpenInput, name, reason),
@@ -189,12 +198,14 @@ impl<R: Files + Clock + Drop> Host for FileHost<R> {
             if self.is_past {
                 return self.cannot_read(Reason::Long);
             }
+            self.history.gave(buf, 0);
             return Ok(0);
         }
-        let n = buf.len().min(LIMIT - self.given);
-        match file.read(&mut buf[..n]) {
+        let room = buf.len().min(LIMIT - self.given);
+        match file.read(&mut buf[..room]) {
             Ok(n) => {
                 self.given += n;
+                self.history.gave(buf, n);
                 Ok(n)
             }
             Err(error) => self.cannot_read(Reason::System(error)),
@@ -209,6 +220,7 @@ impl<R: Files + Clock + Drop> Host for FileHost<R> {
             Ok(output) => {
                 self.output = Some(output);
                 self.output_name = kept_name(self.alloc, name);
+                self.history.opened_output(name);
                 Ok(())
             }
             Err(reason) => self.cannot_open(Purpose::OpenOutput, name, reason),
@@ -217,7 +229,10 @@ impl<R: Files + Clock + Drop> Host for FileHost<R> {
 
     fn write(&mut self, bytes: &[u8]) -> Result<usize, Failed> {
         match write_some(&mut self.output, bytes) {
-            Ok(n) => Ok(n),
+            Ok(n) => {
+                self.history.wrote(bytes, n);
+                Ok(n)
+            }
             Err(reason) => self.cannot_write(Purpose::WriteOutput, reason),
         }
     }
@@ -227,13 +242,18 @@ impl<R: Files + Clock + Drop> Host for FileHost<R> {
         match close(&self.rt, self.alloc, output, self.closing) {
             Ok(closed) => {
                 self.closed = Some(closed);
+                self.history.closed();
                 Ok(())
             }
-            Err(reason) => self.cannot_write(Purpose::CloseOutput, reason),
+            Err(reason) => {
+                self.history.dropped();
+                self.cannot_write(Purpose::CloseOutput, reason)
+            }
         }
     }
 
     fn drop_out(&mut self) -> Result<(), Failed> {
+        self.history.dropped();
         let Some(output) = self.output.take() else {
             return Ok(());
         };

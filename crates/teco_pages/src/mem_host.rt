@@ -2,6 +2,7 @@
 ghost use Rattle.std.specs.Prelude.{◌≡◌, ◌≤◌, length, Some, option_copied, IfSome, IfOk, OnOk, OnErr};
 ghost use Rattle.std.specs.List.{prefix_len};
 ghost use Rattle.teco_model.specs.Files.{file_named, with_file, with_written, with_closed};
+ghost use Rattle.teco_pages.specs.HostFiles.{Tells};
 ghost use Rattle.teco_pages.specs.MemFiles.{no_files, with_put, is_other, output_in};
 
 use crate::count::Count;
@@ -92,7 +93,7 @@ impl MemHost {
 }
 
 impl Host for MemHost {
-    ghost files = { λ m. Some m.told };
+    ghost files = { λ m. Tells m.told };
 
     ghost failures = { λ m. m.failures };
 

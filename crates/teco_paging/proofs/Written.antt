@@ -6,8 +6,9 @@ use Rattle.teco_model.specs.Pages.{written_page}
 use Rattle.teco_model.specs.Paging.{page_of_buffer, unread}
 use Rattle.teco_model.specs.State.{Kept}
 use Rattle.teco_pages.specs.Held.{Held, files_of}
-use Rattle.teco_pages.specs.HostFiles.{HostFiles, Told, Becomes, after_writing}
+use Rattle.teco_pages.specs.HostFiles.{HostFiles, Telling, Told, Becomes, after_writing}
 use Rattle.teco_pages.specs.declared.fault.Fault.{Fault}
+use Rattle.teco_pages.proofs.Told.{told-on}
 use Rattle.teco_paging.specs.Files.{WritesAll, WritesUnread}
 
 -- nothing is written
@@ -33,8 +34,5 @@ module _ (kept : Kept) (held : Held) (bytes : List ℕ) (page : bytes ≡ writte
       ∙ ap (λ p. record files { unread = left.unread; output = with_written (p ++ rest) files.output }) page
   then_unread (Err fault) files mid left first second = second ∙ ap (λ (m : HostFiles). m.named) first
 
-  pub writes-all : (result : Result (Unit {0}) Fault) (x m y : Option HostFiles) → Becomes (after_writing bytes) x m → Told (WritesUnread result held) m y → Told (WritesAll result kept held) x y
-  writes-all result None m y first second = tt
-  writes-all result (Some files) None y first second = absurd first
-  writes-all result (Some files) (Some mid) None first second = absurd second
-  writes-all result (Some files) (Some mid) (Some left) first second = then_unread result files mid left first second
+  pub writes-all : (result : Result (Unit {0}) Fault) (x m y : Telling) → Becomes (after_writing bytes) x m → Told (WritesUnread result held) m y → Told (WritesAll result kept held) x y
+  writes-all result = told-on (λ f m. m ≡ after_writing bytes f) (WritesUnread result held) (WritesAll result kept held) (then_unread result)

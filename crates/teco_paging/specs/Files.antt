@@ -50,7 +50,7 @@ CopiesAll old new defined (Err (Host host_fault.NoFile)) = ⊥
 CopiesAll old new defined (Err (Host host_fault.In)) = IsOk defined × (new ≡ without_files old)
 CopiesAll old new defined (Err (Host host_fault.Out)) = IsOk defined × (new ≡ without_files old)
 
--- Told files: all that is unread was written; or with a fault nothing but the output and what is unread changed.
+-- All that is unread was written; or with a fault nothing but the output and what is unread changed.
 abbrev pub WritesUnread : Result (Unit {0}) Fault → Held → HostFiles → HostFiles → Type 0
 WritesUnread (Ok done) held files left =
     left ≡ record (after_writing (unread (files_of held files)) files) { unread = left.unread }

@@ -1,5 +1,5 @@
 -- What stays with an editor and its host together, and what a command of pages did to it, beside its definition.
-use Rattle.std.specs.Prelude.{ℕ, ◌≡◌, ◌<◌, List, [], length, Bool, true, false, Option, Result, Ok, Err, IsOk, ◌⊎◌}
+use Rattle.std.specs.Prelude.{ℕ, ◌≡◌, ◌<◌, List, [], length, Bool, true, false, Result, Ok, Err, IsOk, ◌⊎◌}
 use Rattle.teco_base.specs.declared.TheConstants.{LIMIT}
 use Rattle.teco_base.specs.declared.code.Code as base
 use Rattle.teco_base.specs.declared.code.Code.TheVariants as code
@@ -10,7 +10,7 @@ use Rattle.teco_model.specs.State.{Kept, World}
 use Rattle.teco_model.specs.Typing.{typing_of}
 use Rattle.teco_model.specs.declared.stop.HostFault.TheVariants as host_fault
 use Rattle.teco_pages.specs.Held.{Held, files_of, IsSameOutput}
-use Rattle.teco_pages.specs.HostFiles.{HostFiles, Told, Becomes, after_writing}
+use Rattle.teco_pages.specs.HostFiles.{HostFiles, Telling, Told, Becomes, after_writing}
 use Rattle.teco_pages.specs.PageCalls.{WritesFront}
 use Rattle.teco_paging.specs.declared.halt.Halt.{Halt}
 use Rattle.teco_paging.specs.declared.halt.Halt.TheVariants.{Code, Memory, Host}
@@ -19,9 +19,8 @@ use Rattle.teco_paging.specs.declared.halt.Halt.TheVariants.{Code, Memory, Host}
 abbrev pub world : Kept → Held → HostFiles → World
 world kept held files = record { kept = kept; files = files_of held files }
 
--- Told files before and after a call: R is so of what stayed and of what stays, where the host had the output open that the editor
--- had open; and so it has again.
-abbrev pub Together : (World → World → Type 0) → Kept → Held → Kept → Held → Option HostFiles → Option HostFiles → Type 0
+-- R is so of what stayed and of what stays, where the host had the output open that the editor had open; and so it has again.
+abbrev pub Together : (World → World → Type 0) → Kept → Held → Kept → Held → Telling → Telling → Type 0
 Together R kept held kept' held' = Told (λ files left.
     IsSameOutput held files → R (world kept held files) (world kept' held' left) × IsSameOutput held' left)
 
@@ -55,7 +54,7 @@ Reads old new defined (Err (Host host_fault.In)) = IsDoneOrFull defined × (new 
 Reads old new defined (Err (Host host_fault.Out)) = ⊥
 
 -- Bytes went out; or the host failed, and some from their front did.
-abbrev pub PutsOut : List ℕ → Result (Unit {0}) Halt → Option HostFiles → Option HostFiles → ℕ → ℕ → Type 0
+abbrev pub PutsOut : List ℕ → Result (Unit {0}) Halt → Telling → Telling → ℕ → ℕ → Type 0
 PutsOut bytes (Ok done) old new f g = Becomes (after_writing bytes) old new × (g ≡ f)
 PutsOut bytes (Err (Code c)) old new f g = ⊥
 PutsOut bytes (Err Memory) old new f g = ⊥
