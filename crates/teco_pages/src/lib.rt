@@ -12,6 +12,7 @@ mod pages;
 mod test_host;
 mod write;
 
+pub use count::Count;
 pub use fault::{Failed, Fault};
 pub use file_host::{Closed, Closing, FileHost, Purpose, Reason, Trouble};
 pub use history::History;

@@ -114,12 +114,14 @@ fn write_and_close<T: TextStore, H: Host>(
     ensures answer { OkOrInOut result (H.failures host.old) (H.failures host.new) }
     ensures output { pages.new.output ≡ None }
 {
-    if let Err(fault) = write_all(editor, pages, host) {
-        // a second fault changes nothing of what is left
-        let _ = pages.drop_out(host);
-        return Err(fault);
+    match write_all(editor, pages, host) {
+        Ok(()) => pages.close_out(host),
+        Err(fault) => {
+            // a second fault changes nothing of what is left
+            let _ = pages.drop_out(host);
+            Err(fault)
+        }
     }
-    pages.close_out(host)
 }
 
 /// `EC`: the buffer and all that is unread are written, both files are closed, and the buffer becomes empty. With a fault of the
