@@ -66,14 +66,23 @@ impl Block {
         (&self.bytes[..self.gap_start], &self.bytes[self.gap_end..])
     }
 
-    // What a vector holds becomes the text, with the gap behind it. The memory of the text before is handed back, empty.
-    pub(crate) fn exchange(&mut self, text: Vec<u8>) -> Vec<u8>
+    // What a vector holds becomes the text, with the gap behind it, in the larger memory of the two. The other is handed back,
+    // empty.
+    pub(crate) fn exchange(&mut self, mut text: Vec<u8>) -> Vec<u8>
         ensures before { self.new.before ≡ text.items }
         ensures behind { self.new.behind ≡ [] }
         ensures spare { result.items ≡ [] }
+        ensures grows { self.old.room ≤ self.new.room }
     {
         self.gap_start = text.len();
         self.gap_end = text.len();
+        if text.capacity() < self.bytes.capacity() {
+            self.bytes.clear();
+            // it fits
+            let _ = self.bytes.extend_from_slice(&text);
+            text.clear();
+            return text;
+        }
         let mut spare = mem::replace(&mut self.bytes, text);
         spare.clear();
         spare

@@ -88,13 +88,15 @@ pub trait TextStore {
         ensures list { list self.new ≡ list self.old }
         ensures pointer { pointer self.new ≡ pointer self.old };
 
-    /// What a vector holds, which is at most `LIMIT` characters, becomes the text, with the pointer at its start. Nothing is
-    /// copied and no memory is wanted; the memory of the text before is handed back, with nothing in it.
+    /// What a vector holds, which is at most `LIMIT` characters, becomes the text, with the pointer at its start. The larger
+    /// of the two memories is kept, and the other handed back with nothing in it; no more is wanted. The text is copied only
+    /// where its own memory is the smaller one.
     fn exchange(&mut self, text: Vec<u8>) -> Vec<u8>
         requires { length text.items ≤ LIMIT }
         ensures list { list self.new ≡ text.items }
         ensures pointer { pointer self.new ≡ 0 }
-        ensures spare { result.items ≡ [] };
+        ensures spare { result.items ≡ [] }
+        ensures room { room self.old ≤ room self.new };
 
     /// The text in two pieces, of which either may be empty.
     fn slices(&self) -> (&[u8], &[u8])

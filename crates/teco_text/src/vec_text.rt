@@ -119,10 +119,17 @@ impl TextStore for VecText {
         Ok(())
     }
 
-    fn exchange(&mut self, text: Vec<u8>) -> Vec<u8> {
+    fn exchange(&mut self, mut text: Vec<u8>) -> Vec<u8> {
+        self.dot = 0;
+        if text.capacity() < self.bytes.capacity() {
+            self.bytes.clear();
+            // it fits
+            let _ = self.bytes.extend_from_slice(&text);
+            text.clear();
+            return text;
+        }
         let mut spare = mem::replace(&mut self.bytes, text);
         spare.clear();
-        self.dot = 0;
         spare
     }
 
