@@ -120,6 +120,32 @@ fn expect_exchange<T: TextStore>(rt: &impl Abort, alloc: Global, store: &mut T, 
     expect_state(rt, store, b"--xyz", 2, out);
 }
 
+// What was reserved stays though a vector with less memory becomes the text.
+fn expect_room_kept<T: TextStore>(rt: &impl Abort, alloc: Global, store: &mut T, out: &mut Vec<u8>) {
+    if store.reserve(64).is_err() {
+        assert!(rt; store.reserve(64).is_ok());
+    }
+    let text = match Vec::from_slice(alloc, b"xyz") {
+        Ok(text) => text,
+        Err(_) => Vec::from_slice(alloc, b"xyz").expect(rt, "memory"),
+    };
+    assert!(rt; text.len() <= LIMIT);
+    assert!(rt; store.exchange(text).is_empty());
+    for _ in 0..20 {
+        assert!(rt; store.insert(b"+-*").is_ok());
+    }
+    assert_eq!(rt; store.len(), 63);
+    assert!(rt; store.delete(0, 60).is_ok());
+    expect_state(rt, store, b"xyz", 0, out);
+}
+
+#[test]
+fn room_stays_where_vectors_become_the_text(rt: HostRuntime) {
+    let mut out = Vec::new(rt.alloc());
+    expect_room_kept(&rt, rt.alloc(), &mut VecText::new(rt.alloc()), &mut out);
+    expect_room_kept(&rt, rt.alloc(), &mut GapText::new(rt.alloc()), &mut out);
+}
+
 #[test]
 fn vectors_become_the_text(rt: HostRuntime) {
     let mut out = Vec::new(rt.alloc());
