@@ -1,7 +1,8 @@
 // The macros of the examples, with their certificates, their texts and what they type. tools/examples writes this file.
-use super::Example;
+use super::{Example, expect_examples};
+use std::test::Fail;
 
-pub const EXAMPLES: [Example; 51] = [
+const FROM_BALANCE: [Example; 6] = [
     Example {
         name: "balance",
         library: b"!Type how many `(` are not closed.!\n@^UA~J0UA<.-Z;0A-40\"E%A$'0A-41\"E-1%A$'C>QA=~\n",
@@ -50,6 +51,14 @@ pub const EXAMPLES: [Example; 51] = [
         output: b"The foo is here.\nA bar there.\nFoo and foo again\nlast line\n3\n",
         typed: b"",
     },
+];
+
+#[test]
+fn from_balance(rt: HostRuntime) -> Result<(), Fail> {
+    expect_examples(&rt, rt.alloc(), &FROM_BALANCE)
+}
+
+const FROM_COUNT_WORDS: [Example; 6] = [
     Example {
         name: "count-words",
         library: b"!Put the number of words on a line at the end.!\n@^UA~J0UA0UB<.-Z;0A\"RQB\"E%A$1UB'|0UB'C>ZJQA\\I\n$~\n",
@@ -98,6 +107,14 @@ pub const EXAMPLES: [Example; 51] = [
         output: b"A bar there.\nlast line\n",
         typed: b"",
     },
+];
+
+#[test]
+fn from_count_words(rt: HostRuntime) -> Result<(), Fail> {
+    expect_examples(&rt, rt.alloc(), &FROM_COUNT_WORDS)
+}
+
+const FROM_DELETE_LINES_FILE: [Example; 6] = [
     Example {
         name: "delete-lines-file",
         library: b"!Delete each line with `foo` on all pages of a file. It goes through all pages of a file.!\n@^UA~<Nfoo$;0KK>~\n",
@@ -146,6 +163,14 @@ pub const EXAMPLES: [Example; 51] = [
         output: b"    The foo is here.\n    A bar there.\n    Foo and foo again\n    last line\n",
         typed: b"",
     },
+];
+
+#[test]
+fn from_delete_lines_file(rt: HostRuntime) -> Result<(), Fail> {
+    expect_examples(&rt, rt.alloc(), &FROM_DELETE_LINES_FILE)
+}
+
+const FROM_JOIN_HYPHENS: [Example; 6] = [
     Example {
         name: "join-hyphens",
         library: b"!Join words that are parted by a hyphen at a line end.!\n@^UA~J<S^EA-\n^EA$;R-2D>~\n",
@@ -194,6 +219,14 @@ pub const EXAMPLES: [Example; 51] = [
         output: b"the foo is here.\na bar there.\nfoo and foo again\nlast line\n",
         typed: b"",
     },
+];
+
+#[test]
+fn from_join_hyphens(rt: HostRuntime) -> Result<(), Fail> {
+    expect_examples(&rt, rt.alloc(), &FROM_JOIN_HYPHENS)
+}
+
+const FROM_MASK: [Example; 6] = [
     Example {
         name: "mask",
         library: b"!Put `***` for the rest of the line after `password=`.!\n@^UA~J<Spassword=$;<.-Z;0A-10\"E0;'D>I***$>~\n",
@@ -242,6 +275,14 @@ pub const EXAMPLES: [Example; 51] = [
         output: b"The bar is here.\nA bar there.\nbar and bar again\nlast line\n",
         typed: b"",
     },
+];
+
+#[test]
+fn from_mask(rt: HostRuntime) -> Result<(), Fail> {
+    expect_examples(&rt, rt.alloc(), &FROM_MASK)
+}
+
+const FROM_REPLACE_FILE: [Example; 6] = [
     Example {
         name: "replace-file",
         library: b"!Replace `foo` by `bar` on all pages of a file. Either case is found. It goes through all pages of a file.!\n@^UA~<FNfoo$bar$;>~\n",
@@ -290,6 +331,14 @@ pub const EXAMPLES: [Example; 51] = [
         output: b"a\n\nb\n\nc\n\nd\n",
         typed: b"",
     },
+];
+
+#[test]
+fn from_replace_file(rt: HostRuntime) -> Result<(), Fail> {
+    expect_examples(&rt, rt.alloc(), &FROM_REPLACE_FILE)
+}
+
+const FROM_SQUEEZE_BLANKS: [Example; 6] = [
     Example {
         name: "squeeze-blanks",
         library: b"!One blank for each run of blanks and tabs.!\n@^UA~J<FS^ES$ $;>~\n",
@@ -338,6 +387,14 @@ pub const EXAMPLES: [Example; 51] = [
         output: b"The <b>foo</b> is here.\nA bar there.\n<b>foo</b> and <b>foo</b> again\nlast line\n",
         typed: b"",
     },
+];
+
+#[test]
+fn from_squeeze_blanks(rt: HostRuntime) -> Result<(), Fail> {
+    expect_examples(&rt, rt.alloc(), &FROM_SQUEEZE_BLANKS)
+}
+
+const FROM_TAIL: [Example; 6] = [
     Example {
         name: "tail",
         library: b"!Keep the last ten lines. A last line without an end isn't counted.!\n@^UA~ZJ-10L0,.K~\n",
@@ -386,6 +443,14 @@ pub const EXAMPLES: [Example; 51] = [
         output: b"The foo is here.\nA bar there.\nFoo and foo again\nlast line\n",
         typed: b"The foo is here.\nFoo and foo again\n",
     },
+];
+
+#[test]
+fn from_tail(rt: HostRuntime) -> Result<(), Fail> {
+    expect_examples(&rt, rt.alloc(), &FROM_TAIL)
+}
+
+const FROM_UNINDENT: [Example; 3] = [
     Example {
         name: "unindent",
         library: b"!Take four blanks from the start of each line that has them.!\n@^UA~JZ<.-Z;::S    $\"S-4D'L>~\n",
@@ -411,3 +476,8 @@ pub const EXAMPLES: [Example; 51] = [
         typed: b"",
     },
 ];
+
+#[test]
+fn from_unindent(rt: HostRuntime) -> Result<(), Fail> {
+    expect_examples(&rt, rt.alloc(), &FROM_UNINDENT)
+}
