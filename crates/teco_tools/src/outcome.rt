@@ -3,7 +3,7 @@
 /// What came of a word of the program, beside faults.
 #[derive(Clone, Copy, Debug, PartialEq, Eq)]
 pub enum Outcome {
-    /// It is done.
+    /// The word was obeyed.
     Done,
     /// A code was typed.
     Coded,

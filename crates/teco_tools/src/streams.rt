@@ -94,7 +94,7 @@ impl<H: Host + Drop, I: Read + Drop, O: Write + Drop> Streams<H, I, O> {
     {
         self.trouble = Some(Trouble::of(self.alloc, purpose, told_name(name), reason));
         match self.nowhere.open_in(name) {
-            // It has no file, so that does not come.
+            // unreachable: the host without files opens none
             Ok(()) => Err(Failed),
             Err(failed) => Err(failed),
         }

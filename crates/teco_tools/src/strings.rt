@@ -4,16 +4,16 @@ use teco_base::bytes::{ESC, is_blank};
 /// How far the last command string of a text has come.
 #[derive(Clone, Copy, Debug, PartialEq, Eq)]
 pub enum Progress {
-    /// It is not begun: there are blanks at most.
+    /// None has begun: only blanks came, if anything.
     None,
-    /// It is begun, and has no end.
+    /// A string has begun, and its end has not come.
     Begun,
-    /// It has one of the two ESC at its end.
+    /// A string has begun, and the first ESC of its end has come.
     Half,
 }
 
 impl Progress {
-    /// The same behind one more byte.
+    /// How far the last string has come behind one more byte.
     pub fn after(self, byte: u8) -> Progress {
         match self {
             Progress::Half if byte == ESC => Progress::None,
@@ -23,7 +23,7 @@ impl Progress {
         }
     }
 
-    /// The same behind more bytes.
+    /// How far the last string has come behind more bytes.
     pub fn behind(self, bytes: &[u8]) -> Progress {
         bytes.iter().fold(self, |so_far, byte| so_far.after(*byte))
     }
