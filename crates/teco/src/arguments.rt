@@ -13,8 +13,8 @@ struct Other {
     bytes: Vec<u8>,
 }
 
-/// The words that the program was called with. A word that is no UTF-8 can only be the name of a file; among the texts another
-/// text stands for it.
+/// The words that the program was called with. A word that is no UTF-8 can only be the name of a
+/// file; among the texts another text stands for it.
 #[derive(Drop)]
 pub struct Arguments {
     texts: Vec<String>,

@@ -22,7 +22,8 @@ use teco_tools::{
     trace_macro, verify_library, verify_library_as_json, verify_macro, verify_macro_as_json,
 };
 
-/// The words are no command, or a file of macros, a certificate, standard input, standard output or memory failed.
+/// The words are no command, or a file of macros, a certificate, standard input, standard output or
+/// memory failed.
 const FAILED: u8 = 2;
 
 // `run`.

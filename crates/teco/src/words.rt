@@ -16,7 +16,8 @@ use thiserror::Error;
 /// The step limit of each command string where no other is given.
 const DEFAULT_LIMIT: &str = "100000000";
 
-/// The bytes that a command string may type, and that its calls may take, where no other number is given.
+/// The bytes that a command string may type, and that its calls may take, where no other number is
+/// given.
 const DEFAULT_MEMORY: &str = "1073741824";
 
 /// The steps that are listed where no other number is given.

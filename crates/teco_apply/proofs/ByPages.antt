@@ -1,14 +1,16 @@
 -- Edits by pages, run after run.
-use Rattle.std.proofs.Common.{◌≡◌, ◌≢◌, ◌≤◌, ◌+◌, ◌++◌, ◌∷◌, inl, inr, ℕ, List, [], Bool, true, false, not, ◌&&◌, Option, Some, None, Result, Ok, Err, refl, sym, ◌∙◌, ap, subst, arith}
-use Rattle.std.specs.Prelude.{IfOk}
+use Rattle.std.proofs.Common.{◌≡◌, ◌≢◌, ◌≤◌, ◌+◌, ◌++◌, ◌∷◌, inl, inr, ℕ, List, [], Bool, true, false, not, ◌&&◌, Option, Result, Ok, Err, refl, sym, ◌∙◌, ap, subst, arith}
+use Rattle.std.specs.Prelude.{IfOk, option_map}
 use Rattle.teco_apply.proofs.Edits.{leaves_open}
-use Rattle.teco_apply.specs.Apply.{AnswersText, Course, DropsIfCoded, LineCounts, MacroStops, closing, has_esc, opening}
+use Rattle.teco_apply.specs.Apply.{AnswersText, Course, DropsIfCoded, Lacks, LineCounts, MacroStops, closing, has_esc, opening, stop_of}
 use Rattle.teco_apply.specs.ByPages.{Behind, BehindMacro, BehindPage, Closing, EachPage, EditCourse, EditsPages, EditsText, EndsInMacro, EndsWith, FileEdited, Gathers, Once, OpensBoth, PagesCount, PagesGathered, PagesTurned, RanBy, RanCounts, RunsAdmitted, TooMany, TurnCounts, TurnedBy, Turning, Turns, edited_with, gathering, is_dropped, nothing_done, tally_after, to_start, turning}
-use Rattle.teco_apply.specs.Sure.{Call, kept_loaded}
+use Rattle.teco_apply.specs.Sure.{Answers, Call, TakesArgument, kept_loaded}
 use Rattle.teco_apply.specs.declared.by_pages.Edited.{Edited}
 use Rattle.teco_apply.specs.declared.by_pages.Pages.{Pages}
 use Rattle.teco_apply.specs.declared.by_pages.Pages.TheVariants.{First, Each, Whole}
 use Rattle.teco_apply.specs.declared.by_pages.TheConstants.{PAGES}
+use Rattle.teco_apply.specs.declared.ready.NotReady.{NotReady}
+use Rattle.teco_apply.specs.declared.ready.NotReady.TheVariants as not_ready
 use Rattle.teco_apply.specs.declared.stages.Ran.{Ran}
 use Rattle.teco_apply.specs.declared.stages.Ran.TheVariants as ran
 use Rattle.teco_apply.specs.declared.stages.Tally.{Tally}
@@ -19,12 +21,15 @@ use Rattle.teco_model.specs.Session.{code_line, code_of, is_code, lines_of, with
 use Rattle.teco_model.specs.State.{Kept, World}
 use Rattle.teco_model.specs.declared.stop.Stop.{Stop}
 use Rattle.teco_model.specs.declared.stop.Stop.TheVariants as kind
-use Rattle.teco_pages.specs.HostFiles.{HostFiles}
-use Rattle.teco_paging.specs.Worlds.{is_some_byte}
-use Rattle.teco_run.specs.Counts.{StopCounts}
+use Rattle.teco_pages.proofs.Told.{told-same}
+use Rattle.teco_pages.specs.Held.{Held, IsSameOutput, files_of, unread_bytes}
+use Rattle.teco_pages.specs.HostFiles.{HostFiles, Telling}
+use Rattle.teco_filing.specs.Worlds.{is_some_byte}
+use Rattle.teco_run.proofs.Together.{none-open}
+use Rattle.teco_model.specs.Run.{StopCounts}
 use Rattle.teco_run.specs.Holdings.{Holdings, Joined}
 use Rattle.teco_run.specs.Unread.{TellsIfUnread}
-use Rattle.teco_session.proofs.Together.{Joined-map, Joined-stays, Joined-then, Joined-typed}
+use Rattle.teco_session.proofs.Together.{Joined-on, Joined-stays, Joined-then, Joined-typed}
 use Rattle.teco_session.specs.Output.{Writes}
 use Rattle.teco_session.specs.declared.fault.SessionFault.{SessionFault}
 use Rattle.teco_session.specs.declared.fault.SessionFault.TheVariants as fault
@@ -79,15 +84,24 @@ runs_by call old after f g sink sunk stop (Err cannot) result by stops counted w
 typed_lines : (kept other : Kept) (stop : Stop) (sink sunk : Option (List ℕ)) (line : Result Bool SessionFault) → other ≡ kept → Writes sink sunk (kept.typed ++ code_line (code_of stop)) line → Writes sink sunk (other.typed ++ code_line (code_of stop)) line
 typed_lines kept other stop sink sunk line same writes = subst (λ (k : Kept). Writes sink sunk (k.typed ++ code_line (code_of stop)) line) (sym same) writes
 
-pub Joined-runs : (call : Call) (a b c : Holdings) (f g : Option HostFiles) (k m : ℕ) (sink sunk : Option (List ℕ)) (stop : Stop) (line : Result Bool SessionFault) (result : Result Ran SessionFault) → RanBy line stop result → StopCounts stop k m → Writes sink sunk (b.kept.typed ++ code_line (code_of stop)) line → IfOk line (λ coded. coded ≡ is_code (code_of stop)) → c ≡ record b { kept = record b.kept { typed = [] } } → Joined (λ old new. MacroStops false call old stop new) a b f g → Joined (λ old new. RunsAdmitted call old new k m sink sunk result) a c f g
+pub Joined-runs : (call : Call) (a b c : Holdings) (f g : Telling) (k m : ℕ) (sink sunk : Option (List ℕ)) (stop : Stop) (line : Result Bool SessionFault) (result : Result Ran SessionFault) → RanBy line stop result → StopCounts stop k m → Writes sink sunk (b.kept.typed ++ code_line (code_of stop)) line → IfOk line (λ coded. coded ≡ is_code (code_of stop)) → c ≡ record b { kept = record b.kept { typed = [] } } → Joined (λ old new. MacroStops false call old stop new) a b f g → Joined (λ old new. RunsAdmitted call old new k m sink sunk result) a c f g
 Joined-runs call a b c f g k m sink sunk stop line result by counted writes told taken =
     Joined-typed (λ old new. MacroStops false call old stop new) (λ old new. RunsAdmitted call old new k m sink sunk result) a b c f g taken
     (λ (old : World) (after : World) same stops. runs_by call old after k m sink sunk stop line result by stops counted (typed_lines b.kept after.kept stop sink sunk line same writes) told)
 
+-- what is lacking where the macro is not run
+lacks : (call : Call) (held : Held) (files : HostFiles) (why : NotReady) → TakesArgument call → Answers {X = Unit {0}} call held (Err why) → IsSameOutput held files → Lacks call.found.fields.needs (files_of held files) why
+lacks call held files not_ready.NoInput taken is same = (is.0, ap (option_map (λ name. record { name = name; unread = unread_bytes held files })) is.1)
+lacks call held files not_ready.NoOutput taken is same = ((is.1).0, none-open held.output files.output same (is.1).1)
+lacks call held files not_ready.Argument taken is same = absurd (is.1 taken)
+lacks call held files not_ready.Memory taken is same = tt
+
+pub Joined-unready : (call : Call) (a : Holdings) (f : Telling) (why : NotReady) → TakesArgument call → Answers {X = Unit {0}} call a.held (Err why) → Joined (λ old new. MacroStops false call old (stop_of why) new) a a f f
+Joined-unready call a f why taken is = told-same _ (λ files same. (inr (record { why = why; stopped = refl; lacks = lacks call a.held files why taken is same; stays = refl }), same)) f
+
 -- the guard did not admit it
-pub Joined-refused : (call : Call) (a b : Holdings) (f : Option HostFiles) (k : ℕ) (sink : Option (List ℕ)) → b ≡ record a { kept = kept_loaded call.found.library a.kept } → Joined (λ old new. RunsAdmitted call old new k k sink sink (Ok ran.Refused)) a b f f
-Joined-refused call a b None k sink is = tt
-Joined-refused call a b (Some files) k sink is = rw is (λ same. ((refl, refl, refl), same))
+pub Joined-refused : (call : Call) (a b : Holdings) (f : Telling) (k : ℕ) (sink : Option (List ℕ)) → b ≡ record a { kept = kept_loaded call.found.library a.kept } → Joined (λ old new. RunsAdmitted call old new k k sink sink (Ok ran.Refused)) a b f f
+Joined-refused call a b f k sink is = rw is (told-same _ (λ files same. ((refl, refl, refl), same)) f)
 
 -- ---- more pages
 no_byte : (bytes : List ℕ) → false ≡ is_some_byte bytes → bytes ≡ []
@@ -103,26 +117,26 @@ turns_by text old new f g sink sunk (Ok true) result by turning = rw by turning
 turns_by text old new f g sink sunk (Ok false) result by turning = rw by turning
 turns_by text old new f g sink sunk (Err cannot) result by turning = rw by turning
 
-pub Joined-through : (text : List ℕ) (a b : Holdings) (f g : Option HostFiles) (k m : ℕ) (sink : Option (List ℕ)) → m ≡ k → Joined (λ old new. TellsIfUnread old new (Ok false)) a b f g → Joined (λ old new. Turns text old new k m sink sink (Ok turned.Through)) a b f g
-Joined-through text a b f g k m sink same = Joined-map (λ old new. TellsIfUnread old new (Ok false)) (λ old new. Turns text old new k m sink sink (Ok turned.Through)) a b f g (λ (old : World) (new : World) tells. (no_byte (unread old.files) tells.0, tells.1, same, refl))
+pub Joined-through : (text : List ℕ) (a b : Holdings) (f g : Telling) (k m : ℕ) (sink : Option (List ℕ)) → m ≡ k → Joined (λ old new. TellsIfUnread old new (Ok false)) a b f g → Joined (λ old new. Turns text old new k m sink sink (Ok turned.Through)) a b f g
+Joined-through text a b f g k m sink same = Joined-on (λ old new. TellsIfUnread old new (Ok false)) (λ old new. Turns text old new k m sink sink (Ok turned.Through)) a b f g (λ (old : World) (new : World) tells. (no_byte (unread old.files) tells.0, tells.1, same, refl))
 
 runs_for_more : (text : List ℕ) (old mid new : World) (f m g : ℕ) (sink sunk : Option (List ℕ)) (line : Result Bool SessionFault) → m ≡ f → TellsIfUnread old mid (Ok true) → AnswersText text mid new m g sink sunk line → Turning text old new f g sink sunk line
 runs_for_more text old mid new f m g sink sunk line same tells answers =
     let at_old = subst (λ (w : World). AnswersText text w new m g sink sunk line) tells.1 answers in
     inl (record { some = some_byte (unread old.files) tells.0; answers = subst (λ (n : ℕ). AnswersText text old new n g sink sunk line) same at_old })
 
-pub Joined-turned : (text : List ℕ) (a b c : Holdings) (f g h : Option HostFiles) (k m n : ℕ) (sink sunk : Option (List ℕ)) (line : Result Bool SessionFault) (result : Result Turned SessionFault) → TurnedBy line result → m ≡ k → Joined (λ old new. TellsIfUnread old new (Ok true)) a b f g → Joined (λ old new. AnswersText text old new m n sink sunk line) b c g h → Joined (λ old new. Turns text old new k n sink sunk result) a c f h
+pub Joined-turned : (text : List ℕ) (a b c : Holdings) (f g h : Telling) (k m n : ℕ) (sink sunk : Option (List ℕ)) (line : Result Bool SessionFault) (result : Result Turned SessionFault) → TurnedBy line result → m ≡ k → Joined (λ old new. TellsIfUnread old new (Ok true)) a b f g → Joined (λ old new. AnswersText text old new m n sink sunk line) b c g h → Joined (λ old new. Turns text old new k n sink sunk result) a c f h
 Joined-turned text a b c f g h k m n sink sunk line result by same =
     Joined-then (λ old new. TellsIfUnread old new (Ok true)) (λ old new. AnswersText text old new m n sink sunk line) (λ old new. Turns text old new k n sink sunk result) a b c f g h
     (λ (old : World) (mid : World) (new : World) tells answers. turns_by text old new k n sink sunk line result by (runs_for_more text old mid new k m n sink sunk line same tells answers))
 
-pub Joined-untold : (text : List ℕ) (a b c : Holdings) (f g : Option HostFiles) (k m : ℕ) (sink sunk : Option (List ℕ)) (why : Stop) (line : Result Bool SessionFault) (result : Result Turned SessionFault) → TurnedBy line result → StopCounts why k m → Writes sink sunk (b.kept.typed ++ code_line (code_of why)) line → IfOk line (λ coded. coded ≡ is_code (code_of why)) → c ≡ record b { kept = record b.kept { typed = [] } } → Joined (λ old new. TellsIfUnread old new (Err why)) a b f g → Joined (λ old new. Turns text old new k m sink sunk result) a c f g
+pub Joined-untold : (text : List ℕ) (a b c : Holdings) (f g : Telling) (k m : ℕ) (sink sunk : Option (List ℕ)) (why : Stop) (line : Result Bool SessionFault) (result : Result Turned SessionFault) → TurnedBy line result → StopCounts why k m → Writes sink sunk (b.kept.typed ++ code_line (code_of why)) line → IfOk line (λ coded. coded ≡ is_code (code_of why)) → c ≡ record b { kept = record b.kept { typed = [] } } → Joined (λ old new. TellsIfUnread old new (Err why)) a b f g → Joined (λ old new. Turns text old new k m sink sunk result) a c f g
 Joined-untold text a b c f g k m sink sunk why line result by counted writes told taken =
     Joined-typed (λ old new. TellsIfUnread old new (Err why)) (λ old new. Turns text old new k m sink sunk result) a b c f g taken
     (λ (old : World) (after : World) same tells. turns_by text old (without_typed after) k m sink sunk line result by (inr (record { stop = why; after = after; ran = tells; counted = counted; stays = refl; writes = typed_lines b.kept after.kept why sink sunk line same writes; told = told })))
 
 -- more pages than an edit takes
-pub Joined-too_many : (a c : Holdings) (f : Option HostFiles) (k : ℕ) (sink sunk : Option (List ℕ)) (line : Result Bool SessionFault) → Writes sink sunk (a.kept.typed ++ code_line (code_of kind.Limit)) line → IfOk line (λ coded. coded ≡ is_code (code_of kind.Limit)) → c ≡ record a { kept = record a.kept { typed = [] } } → Joined (λ old new. TooMany old new k k sink sunk line) a c f f
+pub Joined-too_many : (a c : Holdings) (f : Telling) (k : ℕ) (sink sunk : Option (List ℕ)) (line : Result Bool SessionFault) → Writes sink sunk (a.kept.typed ++ code_line (code_of kind.Limit)) line → IfOk line (λ coded. coded ≡ is_code (code_of kind.Limit)) → c ≡ record a { kept = record a.kept { typed = [] } } → Joined (λ old new. TooMany old new k k sink sunk line) a c f f
 Joined-too_many a c f k sink sunk line writes told taken =
     Joined-typed (λ old new. new ≡ old) (λ old new. TooMany old new k k sink sunk line) a a c f f taken
     (λ (old : World) (after : World) same stays. record { stop = kind.Limit; after = after; ran = (refl, stays); counted = refl; stays = refl; writes = typed_lines a.kept after.kept kind.Limit sink sunk line same writes; told = told })
@@ -136,27 +150,27 @@ ends-coded done e none is =
     rw same refl
 
 module _ (call : Call) (done : Tally) (More : Tally → EditCourse) where
-  pub macro-stops : (a b : Holdings) (f g : Option HostFiles) (k m : ℕ) (sink sunk : Option (List ℕ)) (answer : Result Ran SessionFault) (result : Result Edited SessionFault) → EndsInMacro done answer result → Joined (λ old new. RunsAdmitted call old new k m sink sunk answer) a b f g → Joined (λ old new. BehindMacro call done More old new k m sink sunk result) a b f g
+  pub macro-stops : (a b : Holdings) (f g : Telling) (k m : ℕ) (sink sunk : Option (List ℕ)) (answer : Result Ran SessionFault) (result : Result Edited SessionFault) → EndsInMacro done answer result → Joined (λ old new. RunsAdmitted call old new k m sink sunk answer) a b f g → Joined (λ old new. BehindMacro call done More old new k m sink sunk result) a b f g
   macro-stops a b f g k m sink sunk answer result ends =
-      Joined-map (λ old new. RunsAdmitted call old new k m sink sunk answer) (λ old new. BehindMacro call done More old new k m sink sunk result) a b f g
+      Joined-on (λ old new. RunsAdmitted call old new k m sink sunk answer) (λ old new. BehindMacro call done More old new k m sink sunk result) a b f g
       (λ (old : World) (new : World) runs. BehindMacro.stops answer runs ends)
 
-  pub macro-goes_on : (a b c : Holdings) (f g h : Option HostFiles) (k m n : ℕ) (sink mid sunk : Option (List ℕ)) (steps : ℕ) (result : Result Edited SessionFault) → Joined (λ old new. RunsAdmitted call old new k m sink mid (Ok (ran.On steps))) a b f g → Joined (λ old new. More (tally_after steps done) old new m n mid sunk result) b c g h → Joined (λ old new. BehindMacro call done More old new k n sink sunk result) a c f h
+  pub macro-goes_on : (a b c : Holdings) (f g h : Telling) (k m n : ℕ) (sink mid sunk : Option (List ℕ)) (steps : ℕ) (result : Result Edited SessionFault) → Joined (λ old new. RunsAdmitted call old new k m sink mid (Ok (ran.On steps))) a b f g → Joined (λ old new. More (tally_after steps done) old new m n mid sunk result) b c g h → Joined (λ old new. BehindMacro call done More old new k n sink sunk result) a c f h
   macro-goes_on a b c f g h k m n sink mid sunk steps result =
       Joined-then (λ old new. RunsAdmitted call old new k m sink mid (Ok (ran.On steps))) (λ old new. More (tally_after steps done) old new m n mid sunk result) (λ old new. BehindMacro call done More old new k n sink sunk result) a b c f g h
       (λ (w0 : World) (w1 : World) (w2 : World) runs more. BehindMacro.goes_on steps w1 m mid runs more)
 
-pub closes : (done : Tally) (a b : Holdings) (f g : Option HostFiles) (k m : ℕ) (sink sunk : Option (List ℕ)) (line : Result Bool SessionFault) (result : Result Edited SessionFault) → EndsWith done line result → Joined (λ old new. AnswersText closing old new k m sink sunk line) a b f g → Joined (λ old new. Closing done old new k m sink sunk result) a b f g
+pub closes : (done : Tally) (a b : Holdings) (f g : Telling) (k m : ℕ) (sink sunk : Option (List ℕ)) (line : Result Bool SessionFault) (result : Result Edited SessionFault) → EndsWith done line result → Joined (λ old new. AnswersText closing old new k m sink sunk line) a b f g → Joined (λ old new. Closing done old new k m sink sunk result) a b f g
 closes done a b f g k m sink sunk line result ends =
-    Joined-map (λ old new. AnswersText closing old new k m sink sunk line) (λ old new. Closing done old new k m sink sunk result) a b f g
+    Joined-on (λ old new. AnswersText closing old new k m sink sunk line) (λ old new. Closing done old new k m sink sunk result) a b f g
     (λ (old : World) (new : World) answers. record { line = line; closes = answers; told = ends })
 
-pub page-stops : (done : Tally) (a b : Holdings) (f g : Option HostFiles) (k m : ℕ) (sink sunk : Option (List ℕ)) (line : Result Bool SessionFault) (result : Result Edited SessionFault) → line ≢ Ok false → EndsWith done line result → Joined (λ old new. Turning turning old new k m sink sunk line) a b f g → Joined (λ old new. BehindPage done old new k m sink sunk result) a b f g
+pub page-stops : (done : Tally) (a b : Holdings) (f g : Telling) (k m : ℕ) (sink sunk : Option (List ℕ)) (line : Result Bool SessionFault) (result : Result Edited SessionFault) → line ≢ Ok false → EndsWith done line result → Joined (λ old new. Turning turning old new k m sink sunk line) a b f g → Joined (λ old new. BehindPage done old new k m sink sunk result) a b f g
 page-stops done a b f g k m sink sunk line result other ends =
-    Joined-map (λ old new. Turning turning old new k m sink sunk line) (λ old new. BehindPage done old new k m sink sunk result) a b f g
+    Joined-on (λ old new. Turning turning old new k m sink sunk line) (λ old new. BehindPage done old new k m sink sunk result) a b f g
     (λ (old : World) (new : World) turns. BehindPage.stops line other turns ends)
 
-pub page-closes : (done : Tally) (a b c : Holdings) (f g h : Option HostFiles) (k m n : ℕ) (sink mid sunk : Option (List ℕ)) (result : Result Edited SessionFault) → Joined (λ old new. Turns turning old new k m sink mid (Ok turned.Through)) a b f g → Joined (λ old new. Closing done old new m n mid sunk result) b c g h → Joined (λ old new. BehindPage done old new k n sink sunk result) a c f h
+pub page-closes : (done : Tally) (a b c : Holdings) (f g h : Telling) (k m n : ℕ) (sink mid sunk : Option (List ℕ)) (result : Result Edited SessionFault) → Joined (λ old new. Turns turning old new k m sink mid (Ok turned.Through)) a b f g → Joined (λ old new. Closing done old new m n mid sunk result) b c g h → Joined (λ old new. BehindPage done old new k n sink sunk result) a c f h
 page-closes done a b c f g h k m n sink mid sunk result =
     Joined-then (λ old new. Turns turning old new k m sink mid (Ok turned.Through)) (λ old new. Closing done old new m n mid sunk result) (λ old new. BehindPage done old new k n sink sunk result) a b c f g h
     (λ (w0 : World) (w1 : World) (w2 : World) through closing.
@@ -165,17 +179,17 @@ page-closes done a b c f g h k m n sink mid sunk result =
     BehindPage.closes through.0 (subst (λ (s : Option (List ℕ)). Closing done w0 w2 k n s sunk result) through.3 at_count))
 
 module _ (call : Call) (done : Tally) where
-  pub each-ends : (a b c : Holdings) (f g h : Option HostFiles) (k m n : ℕ) (sink mid sunk : Option (List ℕ)) (result : Result Edited SessionFault) → Joined (λ old new. PagesTurned call old k sink done new m mid) a b f g → Joined (λ old new. BehindMacro call done BehindPage old new m n mid sunk result) b c g h → Joined (λ old new. EachPage call old new k n sink sunk result) a c f h
+  pub each-ends : (a b c : Holdings) (f g h : Telling) (k m n : ℕ) (sink mid sunk : Option (List ℕ)) (result : Result Edited SessionFault) → Joined (λ old new. PagesTurned call old k sink done new m mid) a b f g → Joined (λ old new. BehindMacro call done BehindPage old new m n mid sunk result) b c g h → Joined (λ old new. EachPage call old new k n sink sunk result) a c f h
   each-ends a b c f g h k m n sink mid sunk result =
       Joined-then (λ old new. PagesTurned call old k sink done new m mid) (λ old new. BehindMacro call done BehindPage old new m n mid sunk result) (λ old new. EachPage call old new k n sink sunk result) a b c f g h
       (λ (w0 : World) (w1 : World) (w2 : World) turned more. EachPage.ends done w1 m mid turned more)
 
-  pub each-full : (a b c : Holdings) (f g h : Option HostFiles) (k m n : ℕ) (sink mid sunk : Option (List ℕ)) (line : Result Bool SessionFault) (result : Result Edited SessionFault) → done.pages ≡ PAGES → EndsWith done line result → Joined (λ old new. PagesTurned call old k sink done new m mid) a b f g → Joined (λ old new. TooMany old new m n mid sunk line) b c g h → Joined (λ old new. EachPage call old new k n sink sunk result) a c f h
+  pub each-full : (a b c : Holdings) (f g h : Telling) (k m n : ℕ) (sink mid sunk : Option (List ℕ)) (line : Result Bool SessionFault) (result : Result Edited SessionFault) → done.pages ≡ PAGES → EndsWith done line result → Joined (λ old new. PagesTurned call old k sink done new m mid) a b f g → Joined (λ old new. TooMany old new m n mid sunk line) b c g h → Joined (λ old new. EachPage call old new k n sink sunk result) a c f h
   each-full a b c f g h k m n sink mid sunk line result all ends =
       Joined-then (λ old new. PagesTurned call old k sink done new m mid) (λ old new. TooMany old new m n mid sunk line) (λ old new. EachPage call old new k n sink sunk result) a b c f g h
       (λ (w0 : World) (w1 : World) (w2 : World) turned many. EachPage.full done w1 m mid line turned all many ends)
 
-  pub each-more : (a b c d : Holdings) (f g h i : Option HostFiles) (k m n o : ℕ) (sink s t sunk : Option (List ℕ)) (steps : ℕ) → Joined (λ old new. PagesTurned call old k sink done new m s) a b f g → Joined (λ old new. RunsAdmitted call old new m n s t (Ok (ran.On steps))) b c g h → Joined (λ old new. Turning turning old new n o t sunk (Ok false)) c d h i → Joined (λ old new. PagesTurned call old k sink (tally_after steps done) new o sunk) a d f i
+  pub each-more : (a b c d : Holdings) (f g h i : Telling) (k m n o : ℕ) (sink s t sunk : Option (List ℕ)) (steps : ℕ) → Joined (λ old new. PagesTurned call old k sink done new m s) a b f g → Joined (λ old new. RunsAdmitted call old new m n s t (Ok (ran.On steps))) b c g h → Joined (λ old new. Turning turning old new n o t sunk (Ok false)) c d h i → Joined (λ old new. PagesTurned call old k sink (tally_after steps done) new o sunk) a d f i
   each-more a b c d f g h i k m n o sink s t sunk steps turned runs turns =
       let page = Joined-then (λ old new. RunsAdmitted call old new m n s t (Ok (ran.On steps))) (λ old new. Turning turning old new n o t sunk (Ok false)) (λ old new. (w : World) × (RunsAdmitted call old w m n s t (Ok (ran.On steps)) × Turning turning w new n o t sunk (Ok false))) b c d g h i
       (λ (w0 : World) (w1 : World) (w2 : World) one more. (w1, (one, more))) runs turns in
@@ -184,14 +198,14 @@ module _ (call : Call) (done : Tally) where
       turned page
 
   -- the edit ends where the next page is turned to
-  pub each-stops : (a b c d : Holdings) (f g h i : Option HostFiles) (k m n o : ℕ) (sink s t sunk : Option (List ℕ)) (steps : ℕ) (line : Result Bool SessionFault) (result : Result Edited SessionFault) → line ≢ Ok false → EndsWith (tally_after steps done) line result → Joined (λ old new. PagesTurned call old k sink done new m s) a b f g → Joined (λ old new. RunsAdmitted call old new m n s t (Ok (ran.On steps))) b c g h → Joined (λ old new. Turning turning old new n o t sunk line) c d h i → Joined (λ old new. EachPage call old new k o sink sunk result) a d f i
+  pub each-stops : (a b c d : Holdings) (f g h i : Telling) (k m n o : ℕ) (sink s t sunk : Option (List ℕ)) (steps : ℕ) (line : Result Bool SessionFault) (result : Result Edited SessionFault) → line ≢ Ok false → EndsWith (tally_after steps done) line result → Joined (λ old new. PagesTurned call old k sink done new m s) a b f g → Joined (λ old new. RunsAdmitted call old new m n s t (Ok (ran.On steps))) b c g h → Joined (λ old new. Turning turning old new n o t sunk line) c d h i → Joined (λ old new. EachPage call old new k o sink sunk result) a d f i
   each-stops a b c d f g h i k m n o sink s t sunk steps line result other ends turned runs turns =
       each-ends a b d f g i k m o sink s sunk result turned
       (macro-goes_on call done BehindPage b c d g h i m n o s t sunk steps result runs
       (page-stops (tally_after steps done) c d h i n o t sunk line result other ends turns))
 
 -- ---- all pages as one
-pub gathers-through : (pages : ℕ) (a b c : Holdings) (f g h : Option HostFiles) (k m n : ℕ) (sink mid sunk : Option (List ℕ)) → Joined (λ old new. PagesGathered old k sink pages new m mid) a b f g → Joined (λ old new. Turns gathering old new m n mid sunk (Ok turned.Through)) b c g h → Joined (λ old new. Gathers old new k n sink sunk (Ok false)) a c f h
+pub gathers-through : (pages : ℕ) (a b c : Holdings) (f g h : Telling) (k m n : ℕ) (sink mid sunk : Option (List ℕ)) → Joined (λ old new. PagesGathered old k sink pages new m mid) a b f g → Joined (λ old new. Turns gathering old new m n mid sunk (Ok turned.Through)) b c g h → Joined (λ old new. Gathers old new k n sink sunk (Ok false)) a c f h
 gathers-through pages a b c f g h k m n sink mid sunk =
     Joined-then (λ old new. PagesGathered old k sink pages new m mid) (λ old new. Turns gathering old new m n mid sunk (Ok turned.Through)) (λ old new. Gathers old new k n sink sunk (Ok false)) a b c f g h
     (λ (w0 : World) (w1 : World) (w2 : World) gathered through.
@@ -200,29 +214,29 @@ gathers-through pages a b c f g h k m n sink mid sunk =
     let none : unread w2.files ≡ [] = subst (λ (w : World). unread w.files ≡ []) (sym through.1) through.0 in
     Gathers.through pages (subst (λ (s : Option (List ℕ)). PagesGathered w0 k sink pages w2 n s) (sym through.3) at_count) none refl)
 
-pub gathers-stops : (pages : ℕ) (a b c : Holdings) (f g h : Option HostFiles) (k m n : ℕ) (sink mid sunk : Option (List ℕ)) (line : Result Bool SessionFault) → line ≢ Ok false → Joined (λ old new. PagesGathered old k sink pages new m mid) a b f g → Joined (λ old new. Turning gathering old new m n mid sunk line) b c g h → Joined (λ old new. Gathers old new k n sink sunk line) a c f h
+pub gathers-stops : (pages : ℕ) (a b c : Holdings) (f g h : Telling) (k m n : ℕ) (sink mid sunk : Option (List ℕ)) (line : Result Bool SessionFault) → line ≢ Ok false → Joined (λ old new. PagesGathered old k sink pages new m mid) a b f g → Joined (λ old new. Turning gathering old new m n mid sunk line) b c g h → Joined (λ old new. Gathers old new k n sink sunk line) a c f h
 gathers-stops pages a b c f g h k m n sink mid sunk line other =
     Joined-then (λ old new. PagesGathered old k sink pages new m mid) (λ old new. Turning gathering old new m n mid sunk line) (λ old new. Gathers old new k n sink sunk line) a b c f g h
     (λ (w0 : World) (w1 : World) (w2 : World) gathered turns. Gathers.stops pages w1 m mid gathered other turns)
 
-pub gathers-full : (pages : ℕ) (a b c : Holdings) (f g h : Option HostFiles) (k m n : ℕ) (sink mid sunk : Option (List ℕ)) (line : Result Bool SessionFault) → pages ≡ PAGES → Joined (λ old new. PagesGathered old k sink pages new m mid) a b f g → Joined (λ old new. TooMany old new m n mid sunk line) b c g h → Joined (λ old new. Gathers old new k n sink sunk line) a c f h
+pub gathers-full : (pages : ℕ) (a b c : Holdings) (f g h : Telling) (k m n : ℕ) (sink mid sunk : Option (List ℕ)) (line : Result Bool SessionFault) → pages ≡ PAGES → Joined (λ old new. PagesGathered old k sink pages new m mid) a b f g → Joined (λ old new. TooMany old new m n mid sunk line) b c g h → Joined (λ old new. Gathers old new k n sink sunk line) a c f h
 gathers-full pages a b c f g h k m n sink mid sunk line all =
     Joined-then (λ old new. PagesGathered old k sink pages new m mid) (λ old new. TooMany old new m n mid sunk line) (λ old new. Gathers old new k n sink sunk line) a b c f g h
     (λ (w0 : World) (w1 : World) (w2 : World) gathered many. Gathers.full w1 m mid (subst (λ (p : ℕ). PagesGathered w0 k sink p w1 m mid) all gathered) many)
 
-pub gathers-more : (pages : ℕ) (a b c : Holdings) (f g h : Option HostFiles) (k m n : ℕ) (sink mid sunk : Option (List ℕ)) → Joined (λ old new. PagesGathered old k sink pages new m mid) a b f g → Joined (λ old new. Turning gathering old new m n mid sunk (Ok false)) b c g h → Joined (λ old new. PagesGathered old k sink (pages + 1) new n sunk) a c f h
+pub gathers-more : (pages : ℕ) (a b c : Holdings) (f g h : Telling) (k m n : ℕ) (sink mid sunk : Option (List ℕ)) → Joined (λ old new. PagesGathered old k sink pages new m mid) a b f g → Joined (λ old new. Turning gathering old new m n mid sunk (Ok false)) b c g h → Joined (λ old new. PagesGathered old k sink (pages + 1) new n sunk) a c f h
 gathers-more pages a b c f g h k m n sink mid sunk =
     Joined-then (λ old new. PagesGathered old k sink pages new m mid) (λ old new. Turning gathering old new m n mid sunk (Ok false)) (λ old new. PagesGathered old k sink (pages + 1) new n sunk) a b c f g h
     (λ (w0 : World) (w1 : World) (w2 : World) gathered turns. PagesGathered.one_more pages w1 w2 m n mid sunk gathered turns)
 
 -- ---- behind command strings
 module _ (Front : Course) (More : EditCourse) where
-  pub behind-stops : (a b : Holdings) (f g : Option HostFiles) (k m : ℕ) (sink sunk : Option (List ℕ)) (line : Result Bool SessionFault) (result : Result Edited SessionFault) → line ≢ Ok false → EndsWith nothing_done line result → Joined (λ old new. Front old new k m sink sunk line) a b f g → Joined (λ old new. Behind Front More old new k m sink sunk result) a b f g
+  pub behind-stops : (a b : Holdings) (f g : Telling) (k m : ℕ) (sink sunk : Option (List ℕ)) (line : Result Bool SessionFault) (result : Result Edited SessionFault) → line ≢ Ok false → EndsWith nothing_done line result → Joined (λ old new. Front old new k m sink sunk line) a b f g → Joined (λ old new. Behind Front More old new k m sink sunk result) a b f g
   behind-stops a b f g k m sink sunk line result other ends =
-      Joined-map (λ old new. Front old new k m sink sunk line) (λ old new. Behind Front More old new k m sink sunk result) a b f g
+      Joined-on (λ old new. Front old new k m sink sunk line) (λ old new. Behind Front More old new k m sink sunk result) a b f g
       (λ (old : World) (new : World) first. Behind.stops line other first ends)
 
-  pub behind-goes_on : (a b c : Holdings) (f g h : Option HostFiles) (k m n : ℕ) (sink mid sunk : Option (List ℕ)) (result : Result Edited SessionFault) → Joined (λ old new. Front old new k m sink mid (Ok false)) a b f g → Joined (λ old new. More old new m n mid sunk result) b c g h → Joined (λ old new. Behind Front More old new k n sink sunk result) a c f h
+  pub behind-goes_on : (a b c : Holdings) (f g h : Telling) (k m n : ℕ) (sink mid sunk : Option (List ℕ)) (result : Result Edited SessionFault) → Joined (λ old new. Front old new k m sink mid (Ok false)) a b f g → Joined (λ old new. More old new m n mid sunk result) b c g h → Joined (λ old new. Behind Front More old new k n sink sunk result) a c f h
   behind-goes_on a b c f g h k m n sink mid sunk result =
       Joined-then (λ old new. Front old new k m sink mid (Ok false)) (λ old new. More old new m n mid sunk result) (λ old new. Behind Front More old new k n sink sunk result) a b c f g h
       (λ (w0 : World) (w1 : World) (w2 : World) first more. Behind.goes_on w1 m mid first more)
@@ -310,7 +324,7 @@ file_edited pages call source target old edited new f m g sink sunk (Err fault.M
 file_edited pages call source target old edited new f m g sink sunk (Err fault.Argument) edits drops = let no : fault.Argument ≡ fault.Write = text_edits_writing pages call (opening source target) old edited f m sink sunk fault.Argument edits in cc
 file_edited pages call source target old edited new f m g sink sunk (Err fault.Read) edits drops = let no : fault.Read ≡ fault.Write = text_edits_writing pages call (opening source target) old edited f m sink sunk fault.Read edits in cc
 
-pub Joined-file : (pages : Pages) (call : Call) (source target : List ℕ) (a b c : Holdings) (f g h : Option HostFiles) (k m n : ℕ) (sink sunk : Option (List ℕ)) (line : Result Bool SessionFault) (result : Result Edited SessionFault) → line ≡ is_dropped result → Joined (λ old new. EditsText pages call (opening source target) old new k m sink sunk result) a b f g → Joined (λ old new. DropsIfCoded line old new m n) b c g h → Joined (λ old new. FileEdited pages call source target old new k n sink sunk result) a c f h
+pub Joined-file : (pages : Pages) (call : Call) (source target : List ℕ) (a b c : Holdings) (f g h : Telling) (k m n : ℕ) (sink sunk : Option (List ℕ)) (line : Result Bool SessionFault) (result : Result Edited SessionFault) → line ≡ is_dropped result → Joined (λ old new. EditsText pages call (opening source target) old new k m sink sunk result) a b f g → Joined (λ old new. DropsIfCoded line old new m n) b c g h → Joined (λ old new. FileEdited pages call source target old new k n sink sunk result) a c f h
 Joined-file pages call source target a b c f g h k m n sink sunk line result is =
     Joined-then (λ old new. EditsText pages call (opening source target) old new k m sink sunk result) (λ old new. DropsIfCoded line old new m n) (λ old new. FileEdited pages call source target old new k n sink sunk result) a b c f g h
     (λ (w0 : World) (w1 : World) (w2 : World) edits drops. file_edited pages call source target w0 w1 w2 k m n sink sunk result edits (subst (λ (l : Result Bool SessionFault). DropsIfCoded l w1 w2 m n) is drops))

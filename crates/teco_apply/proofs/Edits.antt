@@ -10,8 +10,9 @@ use Rattle.teco_model.specs.Files.{Input, Output}
 use Rattle.teco_model.specs.State.{Kept, World}
 use Rattle.teco_model.specs.declared.stop.Stop.{Stop}
 use Rattle.teco_pages.specs.Held.{Held, IsSameOutput}
-use Rattle.teco_pages.specs.HostFiles.{HostFiles}
-use Rattle.teco_paging.specs.Worlds.{world}
+use Rattle.teco_pages.proofs.Told.{told-same}
+use Rattle.teco_pages.specs.HostFiles.{HostFiles, Telling}
+use Rattle.teco_filing.specs.Worlds.{world}
 use Rattle.teco_run.specs.Holdings.{Holdings, Joined}
 use Rattle.teco_session.proofs.Together.{Joined-then}
 use Rattle.teco_session.specs.Answers.{Said}
@@ -34,9 +35,8 @@ lacks call kept held files NoOutput taken same answer = (answer.1.0, not_named _
 lacks call kept held files Argument taken same answer = answer.1 taken
 lacks call kept held files Memory taken same answer = tt
 
-pub not_run : (call : Call) (a : Holdings) (f : Option HostFiles) (why : NotReady) → TakesArgument call → sure.Answers {X = Stop} call a.held (Err why) → Joined (λ old new. MacroStops false call old (stop_of why) new) a a f f
-not_run call a None why taken answer = tt
-not_run call a (Some files) why taken answer = λ same. (inr (record { why = why; stopped = refl; lacks = lacks call a.kept a.held files why taken same answer; stays = refl }), same)
+pub not_run : (call : Call) (a : Holdings) (f : Telling) (why : NotReady) → TakesArgument call → sure.Answers {X = Stop} call a.held (Err why) → Joined (λ old new. MacroStops false call old (stop_of why) new) a a f f
+not_run call a f why taken answer = told-same _ (λ files same. (inr (record { why = why; stopped = refl; lacks = lacks call a.kept a.held files why taken same answer; stays = refl }), same)) f
 
 -- ---- counts
 -- the count of all runs
@@ -49,7 +49,7 @@ counts_said (Err fault.Argument) result f m g said edits drops = absurd edits
 counts_said (Err fault.Read) result f m g said edits drops = absurd edits
 
 -- ---- one after another
-pub goes_on : (First Next : Course) (a b c : Holdings) (f g h : Option HostFiles) (k m n : ℕ) (sink mid sunk : Option (List ℕ)) (result : Result Bool SessionFault) → Joined (λ old new. First old new k m sink mid (Ok false)) a b f g → Joined (λ old new. Next old new m n mid sunk result) b c g h → Joined (λ old new. Then First Next old new k n sink sunk result) a c f h
+pub goes_on : (First Next : Course) (a b c : Holdings) (f g h : Telling) (k m n : ℕ) (sink mid sunk : Option (List ℕ)) (result : Result Bool SessionFault) → Joined (λ old new. First old new k m sink mid (Ok false)) a b f g → Joined (λ old new. Next old new m n mid sunk result) b c g h → Joined (λ old new. Then First Next old new k n sink sunk result) a c f h
 goes_on First Next a b c f g h k m n sink mid sunk result first next =
     Joined-then (λ old new. First old new k m sink mid (Ok false)) (λ old new. Next old new m n mid sunk result) (λ old new. Then First Next old new k n sink sunk result) a b c f g h
     (λ (w0 : World) (w1 : World) (w2 : World) one more. Then.goes_on w1 m mid one more)
@@ -113,7 +113,7 @@ applied call source target old edited new f m g sink sunk (Err cannot) result sa
     let whole = edits_open call source target old edited f m sink sunk (Err cannot) edits in
     rw (said, e) (record { edited = edited; count = m; line = Err fault.Write; edits = rw e at whole; drops = drops; said = refl })
 
-pub applies : (call : Call) (source target : List ℕ) (a b c : Holdings) (f g h : Option HostFiles) (k m n : ℕ) (sink sunk : Option (List ℕ)) (line : Result Bool SessionFault) (result : Result Done SessionFault) → Said line false result → Joined (λ old new. Edits false call (opening source target) old new k m sink sunk line) a b f g → Joined (λ old new. DropsIfCoded line old new m n) b c g h → Joined (λ old new. Applied call source target old new k n sink sunk result) a c f h
+pub applies : (call : Call) (source target : List ℕ) (a b c : Holdings) (f g h : Telling) (k m n : ℕ) (sink sunk : Option (List ℕ)) (line : Result Bool SessionFault) (result : Result Done SessionFault) → Said line false result → Joined (λ old new. Edits false call (opening source target) old new k m sink sunk line) a b f g → Joined (λ old new. DropsIfCoded line old new m n) b c g h → Joined (λ old new. Applied call source target old new k n sink sunk result) a c f h
 applies call source target a b c f g h k m n sink sunk line result said edits drops =
     Joined-then (λ old new. Edits false call (opening source target) old new k m sink sunk line) (λ old new. DropsIfCoded line old new m n) (λ old new. Applied call source target old new k n sink sunk result) a b c f g h
     (λ (w0 : World) (w1 : World) (w2 : World) one more. applied call source target w0 w1 w2 k m n sink sunk line result said one more)

@@ -6,29 +6,29 @@ use Rattle.std.proofs.lemmas.List.Sums.{sum_by-cons}
 use Rattle.teco_apply.specs.Sure.{Call, Calls, HasFiles, IsReady, IsTaken, IsThere, MOST, Runs, TakesArgument, call_text, kept_loaded, n_of}
 use Rattle.teco_base.specs.Register.{register_name}
 use Rattle.teco_base.specs.declared.TheConstants.{REGISTERS}
-use Rattle.teco_expand.specs.Given.{call_given}
-use Rattle.teco_expand.specs.Library.{IsLoaded}
-use Rattle.teco_expand.specs.Linked.{ExpansionsAreLinked}
+use Rattle.teco_law_expansion.specs.Given.{call_given}
+use Rattle.teco_model.specs.Macros.{IsLoaded, IsAsked, Needs}
+use Rattle.teco_law_expansion.specs.Linked.{ExpansionsAreLinked}
 use Rattle.teco_poly.specs.Polynomial.{value}
 use Rattle.teco_model.specs.Registers.{Pair, empty_pair, held_length_of_pair}
-use Rattle.teco_model.specs.Run.{Stops}
+use Rattle.teco_model.specs.Run.{Stops, IsSure}
 use Rattle.teco_model.specs.State.{Kept, World, start}
-use Rattle.teco_model.specs.Whole.{IsWhole}
+use Rattle.teco_model.specs.laws.Whole.{IsWhole}
 use Rattle.teco_model.specs.declared.stop.Stop.{Stop}
 use Rattle.teco_model.specs.Files.{Input, Output}
-use Rattle.teco_pages.specs.Held.{Held, IsSameOutput, input_of, unread_bytes}
-use Rattle.teco_pages.specs.HostFiles.{HostFiles}
-use Rattle.teco_paging.specs.Worlds.{world}
-use Rattle.teco_rules.specs.Argument.{IsAsked}
-use Rattle.teco_rules.specs.Laws.{IsEntry}
-use Rattle.teco_rules.specs.Printed.{Needs}
-use Rattle.teco_rules.specs.SoundPages.{unread_of}
-use Rattle.teco_rules.specs.SoundSteps.{AreOpen}
+use Rattle.teco_pages.specs.Held.{Held, HoldsBytes, IsSameOutput, input_of, unread_bytes}
+use Rattle.teco_pages.proofs.Bytes.{files_whole}
+use Rattle.teco_pages.proofs.Told.{told-map, told-whole}
+use Rattle.teco_pages.specs.HostFiles.{HostFiles, AreOfBytes, Telling}
+use Rattle.teco_filing.specs.Worlds.{world}
+use Rattle.teco_law_facts.specs.Laws.{IsEntry}
+use Rattle.teco_model.specs.Paging.{unread_of}
+use Rattle.teco_law_facts.specs.SoundSteps.{AreOpen}
 use Rattle.teco_run.specs.Holdings.{Holdings, Joined}
-use Rattle.teco_table.specs.Ending.{EndsWithin}
-use Rattle.teco_table.specs.Sure.{IsSure, RunsAreSure}
-use Rattle.teco_table.specs.Verified.{RunsAreVerified}
-use Rattle.teco_verify.specs.Finding.{IsCertified}
+use Rattle.teco_law_tables.specs.Ending.{EndsWithin}
+use Rattle.teco_law_tables.specs.Sure.{RunsAreSure}
+use Rattle.teco_law_tables.specs.Verified.{RunsAreVerified}
+use Rattle.teco_verify.specs.Certified.{IsCertified}
 
 -- ---- N
 -- one of some pairs holds no more than all
@@ -72,6 +72,7 @@ pub record IsCalled (call : Call) (kept : Kept) (held : Held) : Type 0 where
   pub certified : IsCertified call.found.library call.found.fields
   pub loaded : IsLoaded call.found.library kept
   pub whole : IsWhole kept
+  pub bytes : HoldsBytes held
   pub named : call.found.fields.entry < REGISTERS
   pub files : HasFiles call.found.fields.needs held
   pub taken : TakesArgument call
@@ -80,7 +81,7 @@ pub record IsCalled (call : Call) (kept : Kept) (held : Held) : Type 0 where
 name_small : (r : ℕ) → r < REGISTERS → register_name r < 256
 name_small r small = grind (arith, nat_tests)
 
-module _ (laws : Laws) (call : Call) (kept : Kept) (held : Held) (is : IsCalled call kept held) (files : HostFiles) (same : IsSameOutput held files)
+module _ (laws : Laws) (call : Call) (kept : Kept) (held : Held) (is : IsCalled call kept held) (files : HostFiles) (bytes : AreOfBytes files) (same : IsSameOutput held files)
     (ready : IsReady call.found.fields (world kept held files)) where
   -- with an argument that is asked for
   ends : (given : Option ℕ) → IsAsked call.found.fields.argument given → EndsWithin (start (call_given call.found.fields.entry given) (world kept held files)) (value call.found.fields.commands (n_of (world kept held files)))
@@ -92,7 +93,7 @@ module _ (laws : Laws) (call : Call) (kept : Kept) (held : Held) (is : IsCalled 
       laws.verified call.found.library fields.entry fields.argument given certified.nodes certified.table fields.commands fields.size (n_of now) now (laws.linked call.found.library fields.entry certified.nodes certified.expanded) certified.printed asked (record {
         named = is.named;
         loaded = is.loaded;
-        whole = record { kept = is.whole; files = ready.files };
+        whole = record { kept = is.whole; files = files_whole held files is.bytes bytes };
         call = (omega arith, (name_small fields.entry is.named, tt));
         begins = enters now;
         small = ready.fits;
@@ -107,20 +108,21 @@ module _ (laws : Laws) (call : Call) (kept : Kept) (held : Held) (is : IsCalled 
   is_sure answer new stops =
       laws.sure (start (call_text call.found.fields.entry call.given) (world kept held files)) (value call.found.fields.commands (n_of (world kept held files))) MOST answer new (ends_with call.given is.taken) ready.counts stops
 
-surely : Laws → (call : Call) (kept : Kept) (held : Held) → IsCalled call kept held → (files : HostFiles) (answer : Stop) (new : World) → IsSameOutput held files → Stops (start (call_text call.found.fields.entry call.given) (world kept held files)) MOST answer new → Calls call.found.fields call.given answer (world kept held files) new
-surely laws call kept held is files answer new same stops = record {
+surely : Laws → (call : Call) (kept : Kept) (held : Held) → IsCalled call kept held → (files : HostFiles) → AreOfBytes files → (answer : Stop) (new : World) → IsSameOutput held files → Stops (start (call_text call.found.fields.entry call.given) (world kept held files)) MOST answer new → Calls call.found.fields call.given answer (world kept held files) new
+surely laws call kept held is files bytes answer new same stops = record {
   taken = is.taken;
   stops = stops;
-  sure = λ ready. is_sure laws call kept held is files same ready answer new stops;
+  sure = λ ready. is_sure laws call kept held is files bytes same ready answer new stops;
 }
 
-pub calls : Laws → (call : Call) (answer : Stop) (a b : Holdings) (f g : Option HostFiles) → IsCalled call a.kept a.held → Joined (λ old new. Stops (start (call_text call.found.fields.entry call.given) old) MOST answer new) a b f g → Joined (Calls call.found.fields call.given answer) a b f g
-calls laws call answer a b None g is t = tt
-calls laws call answer a b (Some files) None is t = t
-calls laws call answer a b (Some files) (Some left) is t = λ same. (surely laws call a.kept a.held is files answer _ same (t same).0, (t same).1)
+pub calls : Laws → (call : Call) (answer : Stop) (a b : Holdings) (f g : Telling) → IsCalled call a.kept a.held → Joined (λ old new. Stops (start (call_text call.found.fields.entry call.given) old) MOST answer new) a b f g → Joined (Calls call.found.fields call.given answer) a b f g
+calls laws call answer a b f g is = told-whole
+    (λ files left. IsSameOutput a.held files → Stops (start (call_text call.found.fields.entry call.given) (world a.kept a.held files)) MOST answer (world b.kept b.held left) × IsSameOutput b.held left)
+    (λ files left. IsSameOutput a.held files → Calls call.found.fields call.given answer (world a.kept a.held files) (world b.kept b.held left) × IsSameOutput b.held left)
+    (λ files left bytes behind t same. (surely laws call a.kept a.held is files bytes answer _ same (t same).0, (t same).1)) f g
 
 -- what is so of a call where the library is loaded is so of a run
-pub runs : (call : Call) (answer : Stop) (a loaded b : Holdings) (f g : Option HostFiles) → loaded ≡ record a { kept = kept_loaded call.found.library a.kept } → Joined (Calls call.found.fields call.given answer) loaded b f g → Joined (Runs call answer) a b f g
-runs call answer a loaded b None g e t = tt
-runs call answer a loaded b (Some files) None e t = t
-runs call answer a loaded b (Some files) (Some left) e t = subst (λ l. Joined (Calls call.found.fields call.given answer) l b (Some files) (Some left)) e t
+pub runs : (call : Call) (answer : Stop) (a loaded b : Holdings) (f g : Telling) → loaded ≡ record a { kept = kept_loaded call.found.library a.kept } → Joined (Calls call.found.fields call.given answer) loaded b f g → Joined (Runs call answer) a b f g
+runs call answer a loaded b f g e t =
+    told-map (λ files left. IsSameOutput a.held files → Runs call answer (world a.kept a.held files) (world b.kept b.held left) × IsSameOutput b.held left) _ (λ files left t. t) f g
+    (subst (λ l. Joined (Calls call.found.fields call.given answer) l b f g) e t)

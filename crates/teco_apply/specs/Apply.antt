@@ -5,13 +5,12 @@ use Rattle.std.specs.List.{list_any}
 use Rattle.teco_base.specs.declared.bytes.TheConstants.{ESC}
 use Rattle.teco_base.specs.declared.code.Code.TheVariants as code
 use Rattle.teco_model.specs.Files.{Files}
-use Rattle.teco_model.specs.Run.{Stops}
+use Rattle.teco_model.specs.Run.{Stops, StopCounts}
 use Rattle.teco_model.specs.Session.{code_of, is_code, lines_of, without_typed}
 use Rattle.teco_model.specs.State.{World, start}
 use Rattle.teco_model.specs.declared.stop.Stop.{Stop}
 use Rattle.teco_model.specs.declared.stop.Stop.TheVariants as stop
-use Rattle.teco_rules.specs.Printed.{Needs}
-use Rattle.teco_run.specs.Counts.{StopCounts}
+use Rattle.teco_model.specs.Macros.{Needs}
 use Rattle.teco_session.specs.Answers.{Said}
 use Rattle.teco_session.specs.Output.{Writes}
 use Rattle.teco_session.specs.declared.fault.SessionFault.{SessionFault}
@@ -167,7 +166,7 @@ DropCounts (Ok true) f g = f ≤ g
 DropCounts (Ok false) f g = g ≡ f
 DropCounts (Err cannot) f g = g ≡ f
 
--- The same of the whole: with an argument that is not taken, or without memory for the first command string, no call of the
+-- Failures are counted over the whole edit: with an argument that is not taken, or without memory for the first command string, no call of the
 -- host is made.
 abbrev pub EditCounts : Result Done SessionFault → ℕ → ℕ → Type 0
 EditCounts (Ok done) f g = LineCounts (Ok done.coded) f g

@@ -141,7 +141,7 @@ abbrev pub TooMany : Course
 TooMany old new f g sink sunk line =
     RunWrites (λ why after. (why ≡ stop.Limit) × (after ≡ old)) new f g sink sunk line
 
--- So many pages were edited, one after another: behind each the next was turned to.
+-- A number of pages were edited, one after another: behind each the next was turned to.
 pub data PagesTurned (call : Call) (old : World) (f : ℕ) (sink : Option (List ℕ)) :
     Tally → World → ℕ → Option (List ℕ) → Type 0 where
   none : PagesTurned call old f sink nothing_done old f sink
@@ -218,7 +218,7 @@ pub data Behind (First : Course) (More : EditCourse) (old new : World) (f g : �
 abbrev pub Once : Call → EditCourse
 Once call = BehindMacro call nothing_done Closing
 
--- the same behind what goes to the start
+-- an edit whose first command string goes to the start
 abbrev pub FromStart : Call → EditCourse
 FromStart call = Behind (AnswersText to_start) (Once call)
 

@@ -1,4 +1,5 @@
 -- What the runs of verified macros do.
 pub mod Apply
 pub mod ByPages
+pub mod Constants
 pub mod Sure

@@ -2,21 +2,15 @@
 use Rattle.std.specs.Prelude.{◌≡◌, ℕ, ◌+◌, ◌-◌, ◌^◌, ◌≤◌, ℤ, pos, negsuc, List, ◌++◌, Bool, true, Option, Some, None, Result, Ok, Err, IsSome}
 use Rattle.teco_base.specs.NumberText.{decimal}
 use Rattle.teco_base.specs.declared.TheConstants.{LIMIT}
-use Rattle.teco_certificate.specs.Fields.{Fields}
-use Rattle.teco_expand.specs.Library.{Library}
-use Rattle.teco_expand.specs.Node.{call_of}
+use Rattle.teco_verifier.specs.certificate.Fields.{Fields, Finding}
+use Rattle.teco_model.specs.Macros.{Library, call_of, ArgumentRange, IsAsked, Needs}
 use Rattle.teco_model.specs.Registers.{with_texts}
-use Rattle.teco_model.specs.Run.{Stops}
+use Rattle.teco_model.specs.Run.{Stops, IsSure}
 use Rattle.teco_model.specs.State.{Kept, World, start, held_length}
-use Rattle.teco_model.specs.Whole.{AreWholeFiles}
 use Rattle.teco_model.specs.declared.stop.Stop.{Stop}
 use Rattle.teco_pages.specs.Held.{Held}
 use Rattle.teco_poly.specs.Polynomial.{value}
-use Rattle.teco_rules.specs.Argument.{ArgumentRange, IsAsked}
-use Rattle.teco_rules.specs.Printed.{Needs}
-use Rattle.teco_rules.specs.SoundPages.{unread_of}
-use Rattle.teco_table.specs.Sure.{IsSure}
-use Rattle.teco_verify.specs.Finding.{Finding}
+use Rattle.teco_model.specs.Paging.{unread_of}
 use Rattle.teco_apply.specs.declared.ready.NotReady.{NotReady}
 use Rattle.teco_apply.specs.declared.ready.NotReady.TheVariants.{NoInput, NoOutput, Argument, Memory}
 
@@ -36,7 +30,7 @@ pub record Call : Type 0 where
   pub found : Finding
   pub given : Option ℤ
 
--- It is given one where it takes one, and then in the range; no range has a negative number.
+-- A macro is given an argument where it takes one, and then in the range; no range has a negative number.
 abbrev pub IsTaken : Option ArgumentRange → Option ℤ → Type 0
 IsTaken argument None = IsAsked argument None
 IsTaken argument (Some (pos n)) = IsAsked argument (Some n)
@@ -54,11 +48,10 @@ call_text entry (Some n) = decimal n ++ call_of entry
 abbrev pub n_of : World → ℕ
 n_of world = held_length world.kept + unread_of world
 
--- The printed size may be held, the printed number of commands is one of 64 bits, and files are of bytes.
+-- The printed size may be held, and the printed number of commands is one of 64 bits.
 pub record IsReady (fields : Fields) (world : World) : Type 0 where
   pub fits : value fields.size (n_of world) ≤ LIMIT
   pub counts : value fields.commands (n_of world) ≤ MOST
-  pub files : AreWholeFiles world.files
 
 -- The macro is called as the command machine does it, with an argument that it takes; and where it is ready, it is sure to end
 -- within the printed number of commands.
@@ -67,7 +60,7 @@ pub record Calls (fields : Fields) (given : Option ℤ) (answer : Stop) (old new
   pub stops : Stops (start (call_text fields.entry given) old) MOST answer new
   pub sure : IsReady fields old → IsSure (value fields.commands (n_of old)) answer
 
--- the same where the library is loaded first
+-- the macro is called where the library is loaded first
 abbrev pub Runs : Call → Stop → World → World → Type 0
 Runs call answer old new = Calls call.found.fields call.given answer (loaded call.found.library old) new
 

@@ -88,7 +88,8 @@ fn edit_once<T: TextStore, H: Host, W: Write, G: Guard<H>>(
     }
 }
 
-// Runs the macro on each page in turn, as long as bytes are unread behind it, and closes the output.
+// Runs the macro on each page in turn, as long as bytes are unread behind it, and closes the
+// output.
 fn edit_each<T: TextStore, H: Host, W: Write, G: Guard<H>>(
     machine: &mut Machine<T>,
     verified: &Verified<'_>,
@@ -98,7 +99,8 @@ fn edit_each<T: TextStore, H: Host, W: Write, G: Guard<H>>(
     guard: &mut G,
 ) -> Result<Edited, SessionFault>
     requires { IsTaken verified.now.fields.argument given }
-    ensures edits { Joined (λ old new. EachPage (record { found = verified.now; given = given }) old new
+    ensures edits { Joined (λ old new. EachPage
+        (record { found = verified.now; given = given }) old new
         (H.failures host.old) (H.failures host.new) (W.contents writer.old) (W.contents writer.new) result)
         machine.old machine.new (H.files host.old) (H.files host.new) }
     ensures counted { PagesCount result (H.failures host.old) (H.failures host.new) }
@@ -155,7 +157,8 @@ fn edit_from_start<T: TextStore, H: Host, W: Write, G: Guard<H>>(
     guard: &mut G,
 ) -> Result<Edited, SessionFault>
     requires { IsTaken verified.now.fields.argument given }
-    ensures edits { Joined (λ old new. FromStart (record { found = verified.now; given = given }) old new
+    ensures edits { Joined (λ old new. FromStart
+        (record { found = verified.now; given = given }) old new
         (H.failures host.old) (H.failures host.new) (W.contents writer.old) (W.contents writer.new) result)
         machine.old machine.new (H.files host.old) (H.files host.new) }
     ensures counted { PagesCount result (H.failures host.old) (H.failures host.new) }
@@ -177,7 +180,8 @@ fn edit_whole<T: TextStore, H: Host, W: Write, G: Guard<H>>(
     guard: &mut G,
 ) -> Result<Edited, SessionFault>
     requires { IsTaken verified.now.fields.argument given }
-    ensures edits { Joined (λ old new. AllPages (record { found = verified.now; given = given }) old new
+    ensures edits { Joined (λ old new. AllPages
+        (record { found = verified.now; given = given }) old new
         (H.failures host.old) (H.failures host.new) (W.contents writer.old) (W.contents writer.new) result)
         machine.old machine.new (H.files host.old) (H.files host.new) }
     ensures counted { PagesCount result (H.failures host.old) (H.failures host.new) }
@@ -199,7 +203,8 @@ fn edit_pages<T: TextStore, H: Host, W: Write, G: Guard<H>>(
     guard: &mut G,
 ) -> Result<Edited, SessionFault>
     requires { IsTaken verified.now.fields.argument edit.now.given }
-    ensures edits { Joined (λ old new. EditsPages edit.now.pages (record { found = verified.now; given = edit.now.given }) old new
+    ensures edits { Joined (λ old new. EditsPages edit.now.pages
+        (record { found = verified.now; given = edit.now.given }) old new
         (H.failures host.old) (H.failures host.new) (W.contents writer.old) (W.contents writer.new) result)
         machine.old machine.new (H.files host.old) (H.files host.new) }
     ensures counted { PagesCount result (H.failures host.old) (H.failures host.new) }
@@ -223,7 +228,8 @@ fn edit_opened<T: TextStore, H: Host, W: Write, G: Guard<H>>(
 ) -> Result<Edited, SessionFault>
     requires taken { IsTaken verified.now.fields.argument edit.now.given }
     requires opening { length opening.now ≤ LIMIT }
-    ensures edits { Joined (λ old new. EditsText edit.now.pages (record { found = verified.now; given = edit.now.given }) opening.now old new
+    ensures edits { Joined (λ old new. EditsText edit.now.pages
+        (record { found = verified.now; given = edit.now.given }) opening.now old new
         (H.failures host.old) (H.failures host.new) (W.contents writer.old) (W.contents writer.new) result)
         machine.old machine.new (H.files host.old) (H.files host.new) }
     ensures counted { PagesCount result (H.failures host.old) (H.failures host.new) }
@@ -245,10 +251,12 @@ fn dropped(edited: Result<Edited, SessionFault>) -> Result<bool, SessionFault>
     }
 }
 
-/// Edits a file by a verified macro into another file, over the files of a host: both are opened and the first page is read; the
-/// macro is run on the pages that the edit names, and before each run the guard is asked; then the rest is copied and the output
-/// closed. The library's texts are loaded anew before each run. What each of these runs types is written behind it, and its
-/// code line. After the first code, and after a refusal of the guard, no more is run, and the output is dropped.
+/// Edits a file by a verified macro into another file, over the files of a host: both are opened
+/// and the first page is read; the macro is run on the pages that the edit names, and before each
+/// run the guard is asked; then the rest is copied and the output closed. The library's texts are
+/// loaded anew before each run. What each of these runs types is written behind it, and its code
+/// line. After the first code, and after a refusal of the guard, no more is run, and the output is
+/// dropped.
 ///
 /// An argument, the first command string's memory, and a fault of writing are as with `apply`.
 pub fn edit_file<T: TextStore, H: Host, W: Write, G: Guard<H>>(
@@ -262,11 +270,13 @@ pub fn edit_file<T: TextStore, H: Host, W: Write, G: Guard<H>>(
 ) -> Result<Edited, SessionFault>
     requires source { length edit.now.source.now ≤ NAME }
     requires target { length edit.now.target.now ≤ NAME }
-    ensures edits { Joined (λ old new. FileEdited edit.now.pages (record { found = verified.now; given = edit.now.given })
+    ensures edits { Joined (λ old new. FileEdited edit.now.pages
+        (record { found = verified.now; given = edit.now.given })
         edit.now.source.now edit.now.target.now old new
         (H.failures host.old) (H.failures host.new) (W.contents writer.old) (W.contents writer.new) result)
         machine.old machine.new (H.files host.old) (H.files host.new) }
-    ensures argument { (result ≡ Err fault.Argument) ↔ (¬ IsTaken verified.now.fields.argument edit.now.given) }
+    ensures argument { (result ≡ Err fault.Argument)
+        ↔ (¬ IsTaken verified.now.fields.argument edit.now.given) }
     ensures counted { FileCounts result (H.failures host.old) (H.failures host.new) }
 {
     if !takes(verified, edit.given) {

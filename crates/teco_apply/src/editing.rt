@@ -5,7 +5,7 @@ ghost use Rattle.teco_apply.specs.Apply.{AnswersMacro, AnswersText, Applied, Dro
 ghost use Rattle.teco_apply.specs.Sure.{IsTaken};
 ghost use Rattle.teco_base.specs.declared.TheConstants.{LIMIT};
 ghost use Rattle.teco_model.specs.Session.{code_of, code_line, is_code};
-ghost use Rattle.teco_run.specs.Counts.{StopCounts};
+ghost use Rattle.teco_model.specs.Run.{StopCounts};
 ghost use Rattle.teco_run.specs.Holdings.{Joined};
 ghost use Rattle.teco_session.specs.Answers.{Said};
 ghost use Rattle.teco_session.specs.Output.{Writes};
@@ -63,7 +63,8 @@ fn run_macro<T: TextStore, H: Host>(
     host: &mut H,
 ) -> Stop
     requires { IsTaken verified.now.fields.argument given }
-    ensures stops { Joined (λ old new. MacroStops false (record { found = verified.now; given = given }) old result new)
+    ensures stops { Joined (λ old new. MacroStops false
+        (record { found = verified.now; given = given }) old result new)
         machine.old machine.new (H.files host.old) (H.files host.new) }
     ensures counted { StopCounts result (H.failures host.old) (H.failures host.new) }
 {
@@ -73,7 +74,8 @@ fn run_macro<T: TextStore, H: Host>(
     }
 }
 
-// Runs a verified macro, and writes what it types and its code line. Says whether there is such a line.
+// Runs a verified macro, and writes what it types and its code line. Says whether there is such a
+// line.
 fn answer_macro<T: TextStore, H: Host, W: Write>(
     machine: &mut Machine<T>,
     verified: &Verified<'_>,
@@ -82,7 +84,9 @@ fn answer_macro<T: TextStore, H: Host, W: Write>(
     writer: &mut W,
 ) -> Result<bool, SessionFault>
     requires { IsTaken verified.now.fields.argument given }
-    ensures answers { Joined (λ old new. AnswersMacro false (record { found = verified.now; given = given }) old new (H.failures host.old) (H.failures host.new)
+    ensures answers { Joined (λ old new. AnswersMacro false
+        (record { found = verified.now; given = given }) old new
+        (H.failures host.old) (H.failures host.new)
         (W.contents writer.old) (W.contents writer.new) result)
         machine.old machine.new (H.files host.old) (H.files host.new) }
     ensures counted { LineCounts result (H.failures host.old) (H.failures host.new) }
@@ -91,7 +95,8 @@ fn answer_macro<T: TextStore, H: Host, W: Write>(
     write_stop(machine, stop, writer)
 }
 
-/// Writes what a run typed and its code line, which a listener hears. Says whether there is such a line.
+/// Writes what a run typed and its code line, which a listener hears. Says whether there is such a
+/// line.
 pub fn tell<T: TextStore, H: Host, W: Write, L: Listener<H>>(
     machine: &mut Machine<T>,
     text: &[u8],
@@ -103,15 +108,16 @@ pub fn tell<T: TextStore, H: Host, W: Write, L: Listener<H>>(
     ensures lines { Writes (W.contents writer.old) (W.contents writer.new)
         (machine.old.kept.typed ++ code_line (code_of stopped.now.stop)) result }
     ensures told { IfOk result (λ line. line ≡ is_code (code_of stopped.now.stop)) }
-    ensures taken { machine.new ≡ record machine.old { kept = record machine.old.kept { typed = [] } } }
+    ensures taken { machine.new ≡ record
+        machine.old { kept = record machine.old.kept { typed = [] } } }
 {
     let line = write_stop(machine, stopped.stop, writer);
     listener.stopped(text, stopped, machine, host);
     line
 }
 
-/// Runs a command string, and writes what it types and its code line, which a listener hears. Says whether there is such a
-/// line.
+/// Runs a command string, and writes what it types and its code line, which a listener hears. Says
+/// whether there is such a line.
 pub fn answer_text<T: TextStore, H: Host, W: Write, L: Listener<H>>(
     machine: &mut Machine<T>,
     text: &[u8],
@@ -120,7 +126,8 @@ pub fn answer_text<T: TextStore, H: Host, W: Write, L: Listener<H>>(
     listener: &mut L,
 ) -> Result<bool, SessionFault>
     requires { length text.now ≤ LIMIT }
-    ensures answers { Joined (λ old new. AnswersText text.now old new (H.failures host.old) (H.failures host.new)
+    ensures answers { Joined (λ old new. AnswersText text.now old new
+        (H.failures host.old) (H.failures host.new)
         (W.contents writer.old) (W.contents writer.new) result)
         machine.old machine.new (H.files host.old) (H.files host.new) }
     ensures counted { LineCounts result (H.failures host.old) (H.failures host.new) }
@@ -129,7 +136,8 @@ pub fn answer_text<T: TextStore, H: Host, W: Write, L: Listener<H>>(
     tell(machine, text, &stopped, host, writer, listener)
 }
 
-// Runs the macro and then, but behind a code, what closes the output; what they type is written. Says whether there is a code.
+// Runs the macro and then, but behind a code, what closes the output; what they type is written.
+// Says whether there is a code.
 fn finish<T: TextStore, H: Host, W: Write>(
     machine: &mut Machine<T>,
     verified: &Verified<'_>,
@@ -138,7 +146,9 @@ fn finish<T: TextStore, H: Host, W: Write>(
     writer: &mut W,
 ) -> Result<bool, SessionFault>
     requires { IsTaken verified.now.fields.argument given }
-    ensures answers { Joined (λ old new. Finishes false (record { found = verified.now; given = given }) old new (H.failures host.old) (H.failures host.new)
+    ensures answers { Joined (λ old new. Finishes false
+        (record { found = verified.now; given = given }) old new
+        (H.failures host.old) (H.failures host.new)
         (W.contents writer.old) (W.contents writer.new) result)
         machine.old machine.new (H.files host.old) (H.files host.new) }
     ensures counted { LineCounts result (H.failures host.old) (H.failures host.new) }
@@ -149,7 +159,8 @@ fn finish<T: TextStore, H: Host, W: Write>(
     }
 }
 
-// Runs what opens the files and then, but behind a code, the macro and what closes the output. Says whether there is a code.
+// Runs what opens the files and then, but behind a code, the macro and what closes the output. Says
+// whether there is a code.
 fn edit<T: TextStore, H: Host, W: Write>(
     machine: &mut Machine<T>,
     verified: &Verified<'_>,
@@ -160,7 +171,9 @@ fn edit<T: TextStore, H: Host, W: Write>(
 ) -> Result<bool, SessionFault>
     requires taken { IsTaken verified.now.fields.argument given }
     requires opening { length opening.now ≤ LIMIT }
-    ensures answers { Joined (λ old new. Edits false (record { found = verified.now; given = given }) opening.now old new (H.failures host.old) (H.failures host.new)
+    ensures answers { Joined (λ old new. Edits false
+        (record { found = verified.now; given = given }) opening.now old new
+        (H.failures host.old) (H.failures host.new)
         (W.contents writer.old) (W.contents writer.new) result)
         machine.old machine.new (H.files host.old) (H.files host.new) }
     ensures counted { LineCounts result (H.failures host.old) (H.failures host.new) }
@@ -177,7 +190,8 @@ pub fn drop_if_coded<T: TextStore, H: Host>(
     line: Result<bool, SessionFault>,
     host: &mut H,
 )
-    ensures drops { Joined (λ old new. DropsIfCoded line old new (H.failures host.old) (H.failures host.new))
+    ensures drops { Joined (λ old new. DropsIfCoded line old new
+        (H.failures host.old) (H.failures host.new))
         machine.old machine.new (H.files host.old) (H.files host.new) }
     ensures counted { DropCounts line (H.failures host.old) (H.failures host.new) }
 {
@@ -196,15 +210,16 @@ fn said(line: Result<bool, SessionFault>) -> Result<Done, SessionFault>
     }
 }
 
-/// Edits a file by a verified macro into another file, over the files of a host: both are opened and the first page is read,
-/// the macro is run, and the rest is copied and the output closed. What each of these runs types is written behind it, and its
-/// code line. After the first code no more is run, and the output is dropped.
+/// Edits a file by a verified macro into another file, over the files of a host: both are opened
+/// and the first page is read, the macro is run, and the rest is copied and the output closed. What
+/// each of these runs types is written behind it, and its code line. After the first code no more
+/// is run, and the output is dropped.
 ///
-/// The macro is called with an argument, if one is given. Where that is none that it takes, or where it takes one and none is
-/// given, this is told first, and nothing is done.
+/// The macro is called with an argument, if one is given. Where that is none that it takes, or
+/// where it takes one and none is given, this is told first, and nothing is done.
 ///
-/// Without memory for the first command string nothing is done. With a fault of writing, the run whose bytes were being
-/// written is the last: a part of what it writes is written.
+/// Without memory for the first command string nothing is done. With a fault of writing, the run
+/// whose bytes were being written is the last: a part of what it writes is written.
 pub fn apply<T: TextStore, H: Host, W: Write>(
     alloc: Global,
     machine: &mut Machine<T>,
@@ -217,10 +232,12 @@ pub fn apply<T: TextStore, H: Host, W: Write>(
 ) -> Result<Done, SessionFault>
     requires source { length source.now ≤ NAME }
     requires target { length target.now ≤ NAME }
-    ensures edits { Joined (λ old new. Applied (record { found = verified.now; given = given }) source.now target.now old new
+    ensures edits { Joined (λ old new. Applied (record { found = verified.now; given = given })
+        source.now target.now old new
         (H.failures host.old) (H.failures host.new) (W.contents writer.old) (W.contents writer.new) result)
         machine.old machine.new (H.files host.old) (H.files host.new) }
-    ensures argument { (result ≡ Err fault.Argument) ↔ (¬ IsTaken verified.now.fields.argument given) }
+    ensures argument { (result ≡ Err fault.Argument)
+        ↔ (¬ IsTaken verified.now.fields.argument given) }
     ensures counted { EditCounts result (H.failures host.old) (H.failures host.new) }
 {
     if !takes(verified, given) {

@@ -8,13 +8,14 @@ use thiserror::Error;
 /// Why a verified macro is not run.
 #[derive(Clone, Copy, Debug, Error)]
 pub enum NotReady {
-    /// It needs an input, and none is open.
+    /// The macro needs an input, and none is open.
     #[error("no input file")]
     NoInput,
-    /// It needs an output, and none is open.
+    /// The macro needs an output, and none is open.
     #[error("no output file")]
     NoOutput,
-    /// It is given no argument though it takes one, one that is not in its range, or one though it takes none.
+    /// The macro takes an argument and is given none, or one outside its range; or it takes none
+    /// and is given one.
     #[error("the argument is missing, not asked for, or not in its range")]
     Argument,
     /// There is no memory for the library's texts.

@@ -1,18 +1,18 @@
 //! The run of a verified macro.
 ghost use Rattle.std.specs.Prelude.{◌≡◌, ◌↔◌, Some, None, IfOk, OnOk, OnErr, IsTrue};
 ghost use Rattle.teco_apply.specs.Sure.{Answers, Calls, HasFiles, IsTaken, Runs, call_text as text_of_call, kept_loaded};
-ghost use Rattle.teco_expand.specs.Library.{IsLoaded};
-ghost use Rattle.teco_run.specs.Counts.{StopCounts};
+ghost use Rattle.teco_model.specs.Macros.{IsLoaded};
+ghost use Rattle.teco_model.specs.Run.{StopCounts};
 ghost use Rattle.teco_run.specs.Holdings.{Joined};
 
 use crate::ready::NotReady;
 use arrayvec::ArrayVec;
 use teco_base::{Reg, decimal};
-use teco_expand::laws::{expansions_are_linked, loading_loads};
+use teco_law_expansion::laws::{expansions_are_linked, loading_loads};
+use teco_law_tables::laws::{runs_are_sure, runs_are_verified};
 use teco_model::Stop;
 use teco_pages::Host;
 use teco_run::{Machine, Stopped};
-use teco_table::laws::{runs_are_sure, runs_are_verified};
 use teco_text::TextStore;
 use teco_verify::Verified;
 
@@ -70,13 +70,15 @@ pub fn call_verified<T: TextStore, H: Host>(
     machine.run_to_stop(call.as_slice(), u64::MAX, host)
 }
 
-/// Loads the library of a verified macro, if it may be run with an argument, or with none. A refusal leaves all as it is.
+/// Loads the library of a verified macro, if it may be run with an argument, or with none. A
+/// refusal leaves all as it is.
 pub fn make_ready<T: TextStore>(
     machine: &mut Machine<T>,
     verified: &Verified<'_>,
     given: Option<i32>,
 ) -> Result<(), NotReady>
-    ensures answer { Answers (record { found = verified.now; given = given }) machine.old.held result }
+    ensures answer { Answers (record { found = verified.now; given = given })
+        machine.old.held result }
     ensures loaded { OnOk result (machine.new ≡
         record machine.old { kept = kept_loaded verified.now.library machine.old.kept }) }
     ensures ready { OnOk result (IsLoaded verified.now.library machine.new.kept) }
@@ -105,10 +107,13 @@ pub fn run_given<T: TextStore, H: Host>(
     given: Option<i32>,
     host: &mut H,
 ) -> Result<Stop, NotReady>
-    ensures answer { Answers (record { found = verified.now; given = given }) machine.old.held result }
-    ensures runs { IfOk result (λ stop. Joined (Runs (record { found = verified.now; given = given }) stop)
+    ensures answer { Answers (record { found = verified.now; given = given })
+        machine.old.held result }
+    ensures runs { IfOk result (λ stop. Joined
+        (Runs (record { found = verified.now; given = given }) stop)
         machine.old machine.new (H.files host.old) (H.files host.new)) }
-    ensures counted { IfOk result (λ stop. StopCounts stop (H.failures host.old) (H.failures host.new)) }
+    ensures counted { IfOk result (λ stop. StopCounts stop
+        (H.failures host.old) (H.failures host.new)) }
     ensures machine { OnErr result (machine.new ≡ machine.old) }
     ensures host { OnErr result (host.new ≡ host.old) }
 {
@@ -116,39 +121,46 @@ pub fn run_given<T: TextStore, H: Host>(
     Ok(call_verified(machine, verified, given, host).stop)
 }
 
-/// Runs a verified macro that takes no argument, over the files of a host: the texts of its library are loaded into their
-/// registers, and the macro is called without a limit of steps. A refusal leaves all as it is.
+/// Runs a verified macro that takes no argument, over the files of a host: the texts of its library
+/// are loaded into their registers, and the macro is called without a limit of steps. A refusal
+/// leaves all as it is.
 ///
-/// Where the printed size at N fits, and the printed number of commands is one of 64 bits, it comes to its end within that
-/// number of commands, and never to a code; or want of memory stops it, or the host. N is what is held and what is unread
-/// once the library is loaded.
+/// Where the printed size at N fits, and the printed number of commands is one of 64 bits, it comes
+/// to its end within that number of commands, and never to a code; or want of memory stops it, or
+/// the host. N is what is held and what is unread once the library is loaded.
 pub fn run_verified<T: TextStore, H: Host>(
     machine: &mut Machine<T>,
     verified: &Verified<'_>,
     host: &mut H,
 ) -> Result<Stop, NotReady>
-    ensures answer { Answers (record { found = verified.now; given = None }) machine.old.held result }
-    ensures runs { IfOk result (λ stop. Joined (Runs (record { found = verified.now; given = None }) stop)
+    ensures answer { Answers (record { found = verified.now; given = None })
+        machine.old.held result }
+    ensures runs { IfOk result (λ stop. Joined
+        (Runs (record { found = verified.now; given = None }) stop)
         machine.old machine.new (H.files host.old) (H.files host.new)) }
-    ensures counted { IfOk result (λ stop. StopCounts stop (H.failures host.old) (H.failures host.new)) }
+    ensures counted { IfOk result (λ stop. StopCounts stop
+        (H.failures host.old) (H.failures host.new)) }
     ensures machine { OnErr result (machine.new ≡ machine.old) }
     ensures host { OnErr result (host.new ≡ host.old) }
 {
     run_given(machine, verified, None, host)
 }
 
-/// The same for a macro that takes an argument, in the range for which it was verified: that stands before the call. It is
-/// so for each argument in the range.
+/// Runs a verified macro that takes an argument, which stands before the call. Any argument will do
+/// that is in the range for which the macro was verified.
 pub fn run_verified_with<T: TextStore, H: Host>(
     machine: &mut Machine<T>,
     verified: &Verified<'_>,
     n: i32,
     host: &mut H,
 ) -> Result<Stop, NotReady>
-    ensures answer { Answers (record { found = verified.now; given = Some n }) machine.old.held result }
-    ensures runs { IfOk result (λ stop. Joined (Runs (record { found = verified.now; given = Some n }) stop)
+    ensures answer { Answers (record { found = verified.now; given = Some n })
+        machine.old.held result }
+    ensures runs { IfOk result (λ stop. Joined
+        (Runs (record { found = verified.now; given = Some n }) stop)
         machine.old machine.new (H.files host.old) (H.files host.new)) }
-    ensures counted { IfOk result (λ stop. StopCounts stop (H.failures host.old) (H.failures host.new)) }
+    ensures counted { IfOk result (λ stop. StopCounts stop
+        (H.failures host.old) (H.failures host.new)) }
     ensures machine { OnErr result (machine.new ≡ machine.old) }
     ensures host { OnErr result (host.new ≡ host.old) }
 {

@@ -1,11 +1,12 @@
-//! What edits are made of: command strings, and the runs of a macro, which a guard admits and hears.
+//! What edits are made of: command strings, and the runs of a macro, which a guard admits and
+//! hears.
 ghost use Rattle.std.specs.Prelude.{◌≡◌, ◌≤◌, ◌<◌, ◌+◌, ◌^◌, MatchOption, length, false};
 ghost use Rattle.teco_apply.specs.Apply.{AnswersText, LineCounts, MacroStops};
 ghost use Rattle.teco_apply.specs.ByPages as edit;
 ghost use Rattle.teco_apply.specs.ByPages.{Closing, EndsWith, PagesCount, RanBy, RanCounts, RunsAdmitted, TurnCounts, TurnedBy, Turns, edited_with, nothing_done, tally_after};
 ghost use Rattle.teco_apply.specs.Sure.{IsTaken, kept_loaded};
 ghost use Rattle.teco_base.specs.declared.TheConstants.{LIMIT};
-ghost use Rattle.teco_run.specs.Counts.{StopCounts};
+ghost use Rattle.teco_model.specs.Run.{StopCounts};
 ghost use Rattle.teco_run.specs.Holdings.{Joined};
 
 use crate::by_pages::Edited;
@@ -34,7 +35,7 @@ pub enum Ran {
 /// What came of a command string that is run where bytes are unread.
 #[derive(Clone, Copy)]
 pub enum Turned {
-    /// It was run.
+    /// The macro was run.
     On,
     /// No bytes are unread.
     Through,
@@ -80,7 +81,7 @@ impl Tally {
         }
     }
 
-    /// The same where the last command string was a code, or was none.
+    /// What stands where the last command string ended with this line: with a code, or without.
     pub fn ended(self, line: Result<bool, SessionFault>) -> Result<Edited, SessionFault>
         ensures { EndsWith self line result }
     {
@@ -129,7 +130,8 @@ fn ran_by(line: Result<bool, SessionFault>, stop: Stop) -> Result<Ran, SessionFa
     }
 }
 
-// Runs the macro, if the guard admits that; `None` where it does not, and the library is loaded then.
+// Runs the macro, if the guard admits that; `None` where it does not, and the library is loaded
+// then.
 fn run_guarded<T: TextStore, H: Host, G: Guard<H>>(
     machine: &mut Machine<T>,
     verified: &Verified<'_>,
@@ -164,7 +166,8 @@ pub fn run_admitted<T: TextStore, H: Host, W: Write, G: Guard<H>>(
     guard: &mut G,
 ) -> Result<Ran, SessionFault>
     requires { IsTaken verified.now.fields.argument given }
-    ensures runs { Joined (λ old new. RunsAdmitted (record { found = verified.now; given = given }) old new
+    ensures runs { Joined (λ old new. RunsAdmitted
+        (record { found = verified.now; given = given }) old new
         (H.failures host.old) (H.failures host.new) (W.contents writer.old) (W.contents writer.new) result)
         machine.old machine.new (H.files host.old) (H.files host.new) }
     ensures counted { RanCounts result (H.failures host.old) (H.failures host.new) }
@@ -197,7 +200,8 @@ pub fn turn<T: TextStore, H: Host, W: Write, G: Guard<H>>(
     guard: &mut G,
 ) -> Result<Turned, SessionFault>
     requires { length text.now ≤ LIMIT }
-    ensures turns { Joined (λ old new. Turns text.now old new (H.failures host.old) (H.failures host.new)
+    ensures turns { Joined (λ old new. Turns text.now old new
+        (H.failures host.old) (H.failures host.new)
         (W.contents writer.old) (W.contents writer.new) result)
         machine.old machine.new (H.files host.old) (H.files host.new) }
     ensures counted { TurnCounts result (H.failures host.old) (H.failures host.new) }
@@ -217,7 +221,8 @@ pub fn close<T: TextStore, H: Host, W: Write, G: Guard<H>>(
     writer: &mut W,
     guard: &mut G,
 ) -> Result<Edited, SessionFault>
-    ensures closes { Joined (λ old new. Closing done old new (H.failures host.old) (H.failures host.new)
+    ensures closes { Joined (λ old new. Closing done old new
+        (H.failures host.old) (H.failures host.new)
         (W.contents writer.old) (W.contents writer.new) result)
         machine.old machine.new (H.files host.old) (H.files host.new) }
     ensures counted { PagesCount result (H.failures host.old) (H.failures host.new) }

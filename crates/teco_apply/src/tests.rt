@@ -1,5 +1,6 @@
-// Verified macros on machines that a command string made ready: how the run stops, and the text that it leaves. A call that is
-// refused memory is made once more, so that the rows also hold where one allocation fails.
+// Verified macros on machines that a command string made ready: how the run stops, and the text
+// that it leaves. A call that is refused memory is made once more, so that the rows also hold where
+// one allocation fails.
 mod certificates;
 mod examples;
 mod verdicts;
@@ -11,12 +12,13 @@ use std::test::*;
 use teco_base::{LIMIT, Reg};
 use teco_model::Stop;
 use teco_pages::MemHost;
-use teco_rules::Refusal as Why;
 use teco_run::Machine;
 use teco_text::VecText;
+use teco_verifier::Refusal as Why;
 use teco_verify::{Library, Refusal, Verified, check_certificate, verify};
 
-// A library, a command string before its macro A, the steps of that macro, and the text that it leaves.
+// A library, a command string before its macro A, the steps of that macro, and the text that it
+// leaves.
 type Row = (&'static [u8], &'static [u8], u64, &'static [u8]);
 
 const RUNS: [Row; 8] = [
@@ -129,24 +131,34 @@ fn run(
     }
 }
 
-#[test]
-fn ends_in_so_many_steps(rt: HostRuntime) {
-    for (file, command, steps, text) in RUNS {
-        let library = library_of(&rt, rt.alloc(), file);
-        let verified = verified_of(&rt, rt.alloc(), &library);
-        let mut machine = Machine::new(rt.alloc(), VecText::new(rt.alloc()));
-        let mut host = MemHost::new(rt.alloc());
-        prepare(&rt, &mut machine, &mut host, command);
-        match run(&mut machine, &verified, &mut host) {
-            Ok(Stop::Ended { steps: taken }) => {
-                assert!(rt; taken == steps);
-                let (front, back) = machine.text();
-                assert!(rt; front.len() <= text.len());
-                assert!(rt; front == &text[..front.len()] && back == &text[front.len()..]);
-            }
-            Ok(Stop::Memory) => {}
-            _ => panic!(rt; "it ends"),
+// Whether the run of a row ends, as the row says; not where memory was refused.
+fn ends_as(rt: &impl Abort, alloc: Global, row: Row) -> bool {
+    let (file, command, steps, text) = row;
+    let library = library_of(rt, alloc, file);
+    let verified = verified_of(rt, alloc, &library);
+    let mut machine = Machine::new(alloc, VecText::new(alloc));
+    let mut host = MemHost::new(alloc);
+    prepare(rt, &mut machine, &mut host, command);
+    match run(&mut machine, &verified, &mut host) {
+        Ok(Stop::Ended { steps: taken }) => {
+            assert!(rt; taken == steps);
+            let (front, back) = machine.text();
+            assert!(rt; front.len() <= text.len());
+            assert!(rt; front == &text[..front.len()] && back == &text[front.len()..]);
+            true
         }
+        Ok(Stop::Memory) => false,
+        _ => panic!(rt; "it ends"),
+    }
+}
+
+// A run that always answers that memory was refused, or that the macro is not ready, fails here:
+// memory is refused once at most.
+#[test]
+fn always_out_of_memory(rt: HostRuntime) {
+    for row in RUNS {
+        let once = ends_as(&rt, rt.alloc(), row);
+        assert!(rt; once || ends_as(&rt, rt.alloc(), row));
     }
 }
 
@@ -166,22 +178,40 @@ fn run_with(
 /// A text is put in as often as an argument says.
 const REPEAT: &[u8] = b"!TECO-LIB 2 A 1 10!@^UA/<Ia\x1b>/";
 
+// Whether its run with an argument ends, after so many steps and with this text; not where memory
+// was refused.
+fn repeats(
+    rt: &impl Abort,
+    alloc: Global,
+    verified: &Verified<'_>,
+    n: i32,
+    steps: u64,
+    text: &str,
+) -> bool {
+    let mut machine = Machine::new(alloc, VecText::new(alloc));
+    let mut host = MemHost::new(alloc);
+    match run_with(&mut machine, verified, n, &mut host) {
+        Ok(Stop::Ended { steps: taken }) => {
+            let (front, back) = machine.text();
+            assert!(rt; taken == steps, "{n}: {taken}");
+            assert!(rt; front == text.as_bytes() && back.is_empty(), "{n}");
+            true
+        }
+        Ok(Stop::Memory) => false,
+        _ => panic!(rt; "it ends"),
+    }
+}
+
 #[test]
-fn arguments_are_given(rt: HostRuntime) {
+fn never_ready(rt: HostRuntime) {
     let library = library_of(&rt, rt.alloc(), REPEAT);
     let verified = verified_of(&rt, rt.alloc(), &library);
     for (n, steps, text) in [(1, 6, "a"), (3, 10, "aaa"), (10, 24, "aaaaaaaaaa")] {
-        let mut machine = Machine::new(rt.alloc(), VecText::new(rt.alloc()));
-        let mut host = MemHost::new(rt.alloc());
-        match run_with(&mut machine, &verified, n, &mut host) {
-            Ok(Stop::Ended { steps: taken }) => {
-                let (front, back) = machine.text();
-                assert!(rt; taken == steps, "{n}: {taken}");
-                assert!(rt; front == text.as_bytes() && back.is_empty(), "{n}");
-            }
-            Ok(Stop::Memory) => {}
-            _ => panic!(rt; "it ends"),
-        }
+        let once = repeats(&rt, rt.alloc(), &verified, n, steps, text);
+        assert!(rt;
+            once || repeats(&rt, rt.alloc(), &verified, n, steps, text),
+            "{n}"
+        );
     }
 }
 

@@ -2,6 +2,7 @@
 pub mod Arithmetic
 pub mod Bytes
 pub mod Code
+pub mod Constants
 pub mod Lines
 pub mod NumberText
 pub mod Register

@@ -1,7 +1,8 @@
 ghost use Rattle.std.specs.Prelude.{◌≡◌};
 ghost use Rattle.teco_base.specs.Code.{code_name};
 
-/// Why a command string stopped. `Lim`, `Mem`, `Fnf`, `Inp` and `Out` are typed for stops that are no command's fault.
+/// Why a command string stopped. `Lim`, `Mem`, `Fnf`, `Inp` and `Out` are typed for stops that are
+/// no command's fault.
 #[derive(Clone, Copy, Debug, PartialEq, Eq)]
 pub enum Code {
     /// An argument that is missing, malformed or refused.

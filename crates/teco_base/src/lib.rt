@@ -1,5 +1,5 @@
-//! What every part of the command machine speaks of: codes, register names, 32-bit arithmetic, byte classes and number
-//! texts. Nothing here takes memory.
+//! What every part of the command machine speaks of: codes, register names, 32-bit arithmetic, byte
+//! classes and number texts. Nothing here takes memory.
 #![tactic(auto)]
 
 pub mod arithmetic;

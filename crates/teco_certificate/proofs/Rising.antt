@@ -4,7 +4,7 @@ use Rattle.std.proofs.lemmas.List.{get_or_append_left}
 use Rattle.std.proofs.lemmas.List.Elements.{All-from_recursion}
 use Rattle.teco_base.specs.declared.TheConstants.{REGISTERS}
 use Rattle.teco_certificate.specs.WellFormed.{TextsRise, AreOfRegisters}
-use Rattle.teco_table.specs.Deriving.{LongerText}
+use Rattle.teco_verifier.specs.table.Choices.{LongerText}
 
 -- the front of such texts
 pub front_rises : (xs ys : List LongerText) → TextsRise (xs ++ ys) → TextsRise xs

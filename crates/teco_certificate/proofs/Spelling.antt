@@ -10,15 +10,14 @@ use Rattle.std.specs.Option.{MatchOption}
 use Rattle.std.specs.Prelude.{codes, ◌≢◌, take, nat_eq, unwrap_or}
 use Rattle.teco_base.specs.Register.{register_name}
 use Rattle.teco_base.specs.declared.bytes.TheConstants.{LF}
-use Rattle.teco_certificate.specs.Fields.{Fields}
+use Rattle.teco_verifier.specs.certificate.Fields.{Fields}
 use Rattle.teco_certificate.specs.Front.{EndsPolynomial, LooksFor}
 use Rattle.teco_certificate.specs.Text.{line, version_text, letters_of, kept_text, longer_text, longer_texts, behind_comma, chosen_text}
 use Rattle.teco_certificate.specs.WellFormed.{IsLongerText}
 use Rattle.teco_poly.specs.Polynomial.{Polynomial}
 use Rattle.teco_poly.specs.Text.{text as poly_text}
-use Rattle.teco_rules.specs.Argument.{ArgumentRange}
-use Rattle.teco_rules.specs.Printed.{Needs}
-use Rattle.teco_table.specs.Deriving.{LongerText, Chosen}
+use Rattle.teco_model.specs.Macros.{ArgumentRange, Needs}
+use Rattle.teco_verifier.specs.table.Choices.{LongerText, Chosen}
 
 -- a text that begins with another byte than a word does not begin with the word
 pub other_byte : (text word rest : List ℕ) (c d : ℕ) → text ≡ c ∷ rest → (c ≡ d → ⊥) → (behind : List ℕ) → text ≢ (d ∷ word) ++ behind

@@ -10,7 +10,7 @@ use Rattle.std.specs.Prelude.{IfSome, codes, ◌==◌, ◌≢◌}
 use Rattle.teco_base.specs.Register.{register_name}
 use Rattle.teco_base.specs.declared.TheConstants.{REGISTERS}
 use Rattle.teco_base.specs.declared.bytes.TheConstants.{LF}
-use Rattle.teco_certificate.specs.Fields.{Fields}
+use Rattle.teco_verifier.specs.certificate.Fields.{Fields}
 use Rattle.teco_certificate.specs.Front.{is_of_polynomial, EndsPolynomial}
 use Rattle.teco_certificate.specs.Text.{line, version_text, argument_line, letters_of, needs_text, longer_text, longer_texts, behind_comma, kept_text, chosen_text, loop_line, certificate_text}
 use Rattle.teco_certificate.specs.WellFormed.{IsLongerText, IsChosen, HasText}
@@ -18,13 +18,12 @@ use Rattle.teco_certificate.proofs.Fronts.{one_front, decimal_digits, ends_numbe
 use Rattle.teco_certificate.proofs.Items.{one_list}
 use Rattle.teco_certificate.proofs.Spelling.{other_byte, no_dash, ends_longer, ends_kept, parts_of_line, same_chosen, same_fields}
 use Rattle.teco_poly.specs.Laws.{OneText}
-use Rattle.teco_rules.specs.ArgumentText.{range_text}
+use Rattle.teco_verifier.specs.certificate.ArgumentText.{range_text}
 use Rattle.teco_poly.specs.Polynomial.{Polynomial}
 use Rattle.teco_poly.specs.Reading.{IsPoly, EndsNumber}
 use Rattle.teco_poly.specs.Text.{text}
-use Rattle.teco_rules.specs.Argument.{ArgumentRange, IsArgumentRange}
-use Rattle.teco_rules.specs.Printed.{Needs}
-use Rattle.teco_table.specs.Deriving.{LongerText, Chosen}
+use Rattle.teco_model.specs.Macros.{ArgumentRange, IsArgumentRange, Needs}
+use Rattle.teco_verifier.specs.table.Choices.{LongerText, Chosen}
 
 first_byte : {c d : ℕ} {x y : List ℕ} → c ∷ x ≡ d ∷ y → c ≡ d
 first_byte e = cc

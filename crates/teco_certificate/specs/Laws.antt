@@ -1,6 +1,6 @@
 -- A certificate has one spelling.
 use Rattle.std.specs.Prelude.{◌≡◌, ℕ, List}
-use Rattle.teco_certificate.specs.Fields.{Fields}
+use Rattle.teco_verifier.specs.certificate.Fields.{Fields}
 use Rattle.teco_certificate.specs.Reads.{IsTextOf}
 
 -- a text is that of one certificate

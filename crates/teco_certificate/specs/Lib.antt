@@ -1,5 +1,4 @@
--- What a certificate says, its text, and what reading one gives.
-pub mod Fields
+-- A certificate's text, and what reading one gives.
 pub mod Text
 pub mod WellFormed
 pub mod Front

@@ -2,7 +2,7 @@
 use Rattle.std.specs.Prelude.{◌≡◌, ℕ, List, Result, Ok, Err}
 use Rattle.teco_certificate.specs.declared.fault.CertificateFault.{CertificateFault}
 use Rattle.teco_certificate.specs.declared.fault.CertificateFault.TheVariants.{NotACertificate, Memory}
-use Rattle.teco_certificate.specs.Fields.{Fields}
+use Rattle.teco_verifier.specs.certificate.Fields.{Fields}
 use Rattle.teco_certificate.specs.Text.{certificate_text}
 use Rattle.teco_certificate.specs.WellFormed.{IsWellFormed}
 

@@ -4,12 +4,11 @@ use Rattle.std.specs.Fmt.{decimal}
 use Rattle.std.specs.List.{flat_map}
 use Rattle.teco_base.specs.Register.{register_name}
 use Rattle.teco_base.specs.declared.bytes.TheConstants.{LF}
-use Rattle.teco_certificate.specs.Fields.{Fields}
+use Rattle.teco_verifier.specs.certificate.Fields.{Fields}
 use Rattle.teco_poly.specs.Text.{text}
-use Rattle.teco_rules.specs.Argument.{ArgumentRange}
-use Rattle.teco_rules.specs.ArgumentText.{range_text}
-use Rattle.teco_rules.specs.Printed.{Needs}
-use Rattle.teco_table.specs.Deriving.{LongerText, Chosen}
+use Rattle.teco_model.specs.Macros.{ArgumentRange, Needs}
+use Rattle.teco_verifier.specs.certificate.ArgumentText.{range_text}
+use Rattle.teco_verifier.specs.table.Choices.{LongerText, Chosen}
 
 abbrev pub line : List ℕ → List ℕ
 line words = words ++ LF ∷ []

@@ -2,10 +2,10 @@
 use Rattle.std.specs.Prelude.{◌<◌, ◌^◌, List, IfSome, length}
 use Rattle.std.specs.List.{AllAdjacentBelow, AllByRecursion}
 use Rattle.teco_base.specs.declared.TheConstants.{REGISTERS}
-use Rattle.teco_certificate.specs.Fields.{Fields}
+use Rattle.teco_verifier.specs.certificate.Fields.{Fields}
 use Rattle.teco_poly.specs.Reading.{IsPoly}
-use Rattle.teco_rules.specs.Argument.{IsArgumentRange}
-use Rattle.teco_table.specs.Deriving.{LongerText, Chosen}
+use Rattle.teco_model.specs.Macros.{IsArgumentRange}
+use Rattle.teco_verifier.specs.table.Choices.{LongerText, Chosen}
 
 -- Each part is one that has a text: registers, numbers of 64 bits, ranges of arguments, and polynomials that a `Poly` may
 -- be.

@@ -11,76 +11,20 @@ use crate::reading::certificate_in;
 use std::alloc::{AllocError, Global};
 use std::marker::Model;
 use teco_base::Reg;
+use teco_model::{ArgumentRange, Needs};
 use teco_poly::Poly;
-use teco_rules::ArgumentRange;
+use teco_verifier::LoopLine;
 
-/// The files that must be open.
-#[derive(Clone, Copy, Debug, PartialEq, Eq)]
-pub struct Needs {
-    pub input: bool,
-    pub output: bool,
-}
-
-impl Model for Needs {
-    ghost use Rattle.teco_rules.specs.Printed as printed;
-
-    ghost Value = { printed.Needs };
-
-    ghost view = { λ n. record { input = n.input; output = n.output } };
-
-    ghost inverse = { λ n. record { input = n.input; output = n.output } };
-}
-
-impl Needs {
-    // As a certificate has them.
-    fn letters(self) -> &'static str
-        ensures { result.now ≡ needs_text self }
-    {
-        match (self.input, self.output) {
-            (false, false) => "-",
-            (true, false) => "I",
-            (false, true) => "O",
-            (true, true) => "IO",
-        }
+// The files that must be open, as a certificate has them.
+fn letters(needs: Needs) -> &'static str
+    ensures { result.now ≡ needs_text needs }
+{
+    match (needs.input, needs.output) {
+        (false, false) => "-",
+        (true, false) => "I",
+        (false, true) => "O",
+        (true, true) => "IO",
     }
-}
-
-/// A register whose text may be longer in a body than before it, and the most that it has there.
-#[derive(Clone, Copy)]
-pub struct LongerText {
-    pub register: Reg,
-    pub text: Poly,
-}
-
-impl Model for LongerText {
-    ghost use Rattle.teco_table.specs.Deriving as choices;
-
-    ghost Value = { choices.LongerText };
-
-    ghost view = { λ l. record { register = l.register; text = l.text } };
-
-    ghost inverse = { λ l. record { register = l.register; text = l.text } };
-}
-
-/// What was chosen for the body of a `<`.
-#[derive(Drop)]
-pub struct LoopLine {
-    /// The number of the `<` among the expanded elements.
-    pub number: usize,
-    /// The most that is held where the body starts.
-    pub held: Poly,
-    /// Whether what is ahead, and the falls of the iterations outside, are there as at the `<`.
-    pub kept: bool,
-    /// The texts that may be longer, by their registers.
-    pub longer: Vec<LongerText>,
-}
-
-impl Model for LoopLine {
-    ghost use Rattle.teco_table.specs.Deriving as choices;
-
-    ghost Value = { choices.Chosen };
-
-    ghost view = { λ l. record { begin = l.number; held = l.held; kept = l.kept; longer = l.longer.items } };
 }
 
 /// What the verifier has found of a macro.
@@ -101,7 +45,7 @@ pub struct Certificate {
 }
 
 impl Model for Certificate {
-    ghost use Rattle.teco_certificate.specs.Fields as fields;
+    ghost use Rattle.teco_verifier.specs.certificate.Fields as fields;
 
     ghost Value = { fields.Fields };
 
@@ -126,7 +70,7 @@ impl Certificate {
         push_line(&mut text, b"TECO-CERT ", version(self.argument).as_bytes())?;
         push_line(&mut text, b"entry ", &[name_of(self.entry)])?;
         push_argument(&mut text, alloc, self.argument)?;
-        push_line(&mut text, b"needs ", self.needs.letters().as_bytes())?;
+        push_line(&mut text, b"needs ", letters(self.needs).as_bytes())?;
         let commands = self.commands.print(alloc)?;
         push_line(&mut text, b"commands ", commands.as_bytes())?;
         let size = self.size.print(alloc)?;
@@ -136,8 +80,9 @@ impl Certificate {
         Ok(text)
     }
 
-    /// The certificate whose text this is; none where no certificate has it. Each has one text. It takes time by the
-    /// length of the text, and memory for what is read and for its text once more.
+    /// The certificate whose text this is; none where no certificate has it. Each has one text. It
+    /// takes time by the length of the text, and memory for what is read and for its text once
+    /// more.
     pub fn read(alloc: Global, bytes: &[u8]) -> Result<Certificate, CertificateFault>
         ensures { Reads bytes.now result }
     {

@@ -8,7 +8,7 @@ use thiserror::Error;
 /// Why no certificate is read.
 #[derive(Clone, Copy, Debug, Error)]
 pub enum CertificateFault {
-    /// It is the text of no certificate.
+    /// The text is no certificate.
     #[error("no certificate")]
     NotACertificate,
     /// A growth was refused.

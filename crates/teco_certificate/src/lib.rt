@@ -8,7 +8,7 @@ mod order;
 mod printing;
 mod reading;
 
-pub use certificate::{Certificate, LongerText, LoopLine, Needs};
+pub use certificate::Certificate;
 pub use fault::CertificateFault;
 
 #[cfg(test)]

@@ -2,7 +2,7 @@
 ghost use Rattle.std.specs.Prelude.{IsTrue, ◌↔◌};
 ghost use Rattle.teco_certificate.specs.WellFormed.{NumbersRise};
 
-use crate::certificate::LoopLine;
+use teco_verifier::LoopLine;
 
 /// Does each loop have a number below that of the next?
 pub fn numbers_rise(loops: &[LoopLine]) -> bool

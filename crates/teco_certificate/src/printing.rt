@@ -4,13 +4,13 @@ ghost use Rattle.std.specs.List.{AllByRecursion};
 ghost use Rattle.teco_base.specs.Register.{register_name};
 ghost use Rattle.teco_base.specs.declared.TheConstants.{REGISTERS};
 ghost use Rattle.teco_certificate.specs.Text.{line as line_of, version_text, argument_line, longer_text, longer_texts, behind_comma, kept_text, loop_line};
-ghost use Rattle.teco_rules.specs.Argument.{IsArgumentRange};
+ghost use Rattle.teco_model.specs.Macros.{IsArgumentRange};
 ghost use Rattle.teco_certificate.specs.WellFormed.{IsLongerText, IsChosen};
 
-use crate::certificate::{LongerText, LoopLine};
 use std::alloc::{AllocError, Global};
 use teco_base::{REGISTERS, Reg};
-use teco_rules::ArgumentRange;
+use teco_model::ArgumentRange;
+use teco_verifier::{LongerText, LoopLine};
 
 /// Adds a line: a word that says what it has, and this.
 pub fn push_line(text: &mut Vec<u8>, word: &[u8], words: &[u8]) -> Result<(), AllocError>
@@ -69,7 +69,8 @@ fn push_longer(text: &mut Vec<u8>, alloc: Global, longer: &LongerText) -> Result
 
 // Adds the texts behind the first.
 fn push_others(text: &mut Vec<u8>, alloc: Global, others: &[LongerText]) -> Result<(), AllocError>
-    ensures text { OnOk result (text.new.items ≡ text.old.items ++ flat_map behind_comma others.now) }
+    ensures text { OnOk result (text.new.items
+        ≡ text.old.items ++ flat_map behind_comma others.now) }
     ensures parts { OnOk result (AllByRecursion IsLongerText others.now) }
 {
     for longer in others {

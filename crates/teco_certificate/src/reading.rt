@@ -1,5 +1,6 @@
-// What a text says if it is that of a certificate. These functions judge nothing but that the registers of a line rise: of
-// another text they read anything at all, and who calls them has to see whether what was read has this text.
+// What a text says if it is that of a certificate. These functions judge nothing but that the
+// registers of a line rise: of another text they read anything at all, and who calls them has to
+// see whether what was read has this text.
 ghost use Rattle.std.specs.Prelude.{◌≡◌, ◌++◌, ◌∷◌, [], ◌≤◌, ◌<◌, ◌^◌, ◌↔◌, ℕ, Bool, true, IsTrue, List, length, flat_map, codes, Option, Some, IfOk, OnOk, IfSome};
 ghost use Rattle.std.specs.List.{AllByRecursion, list_all, prefix_len};
 ghost use Rattle.std.specs.Char.{is_ascii_digit};
@@ -7,7 +8,7 @@ ghost use Rattle.std.specs.Fmt.{decimal};
 ghost use Rattle.teco_base.specs.Register.{register_name};
 ghost use Rattle.teco_base.specs.declared.TheConstants.{REGISTERS};
 ghost use Rattle.teco_base.specs.declared.bytes.TheConstants.{LF};
-ghost use Rattle.teco_certificate.specs.Fields.{Fields};
+ghost use Rattle.teco_verifier.specs.certificate.Fields.{Fields};
 ghost use Rattle.teco_certificate.specs.Front as front;
 ghost use Rattle.teco_certificate.specs.Front.{EndsPolynomial, LooksFor};
 ghost use Rattle.teco_certificate.specs.Text.{version_text, argument_line, needs_text, longer_text, longer_texts, behind_comma, kept_text, chosen_text, loop_line, certificate_text, line as line_of};
@@ -15,17 +16,17 @@ ghost use Rattle.teco_certificate.specs.WellFormed.{IsLongerText, IsChosen, Text
 ghost use Rattle.teco_poly.specs.Polynomial.{Polynomial};
 ghost use Rattle.teco_poly.specs.Reading.{IsPoly, EndsNumber};
 ghost use Rattle.teco_poly.specs.Text.{text as poly_text};
-ghost use Rattle.teco_rules.specs.ArgumentText.{range_text};
-ghost use Rattle.teco_rules.specs.Argument.{IsArgumentRange, ArgumentRange as RangeOf};
-ghost use Rattle.teco_rules.specs.Printed.{Needs as NeedsOf};
-ghost use Rattle.teco_table.specs.Deriving.{LongerText as LongerTextOf, Chosen};
+ghost use Rattle.teco_verifier.specs.certificate.ArgumentText.{range_text};
+ghost use Rattle.teco_model.specs.Macros.{IsArgumentRange, ArgumentRange as RangeOf, Needs as NeedsOf};
+ghost use Rattle.teco_verifier.specs.table.Choices.{LongerText as LongerTextOf, Chosen};
 
-use crate::certificate::{Certificate, LongerText, LoopLine, Needs};
+use crate::certificate::Certificate;
 use std::alloc::{AllocError, Global};
 use std::str;
 use teco_base::{REGISTERS, Reg};
+use teco_model::{ArgumentRange, Needs};
 use teco_poly::Poly;
-use teco_rules::ArgumentRange;
+use teco_verifier::{LongerText, LoopLine};
 
 // Whether a word stands at the front of a text, and what comes behind it.
 fn word_at<'a>(text: &'a [u8], word: &[u8]) -> (bool, &'a [u8])
@@ -66,7 +67,8 @@ fn digit_count(text: &[u8]) -> usize
 
 // The number at the front of a text, and what comes behind it.
 fn number_at(text: &[u8]) -> (usize, &[u8])
-    ensures text { (n : ℕ) (rest : List ℕ) → n < 2 ^ 64 → EndsNumber rest → text.now ≡ decimal n ++ rest
+    ensures text { (n : ℕ) (rest : List ℕ) → n < 2 ^ 64 → EndsNumber rest
+        → text.now ≡ decimal n ++ rest
         → (result.0 ≡ n) × (result.1.now ≡ rest) }
     ensures within { length result.1.now ≤ length text.now }
 {
@@ -100,7 +102,8 @@ fn polynomial(words: &[u8]) -> Poly
 
 // The bytes at the front of a text that polynomials are written with, and what comes behind them.
 fn cut(text: &[u8]) -> (&[u8], &[u8])
-    ensures text { (words rest : List ℕ) → list_all front.is_of_polynomial words ≡ true → EndsPolynomial rest
+    ensures text { (words rest : List ℕ) → list_all front.is_of_polynomial words
+        ≡ true → EndsPolynomial rest
         → text.now ≡ words ++ rest → (result.0.now ≡ words) × (result.1.now ≡ rest) }
     ensures within { length result.1.now ≤ length text.now }
 {
@@ -142,7 +145,8 @@ fn range_of(low: usize, high: usize) -> Option<ArgumentRange>
 
 // The range with whose numbers a line ends, and the lines behind it.
 fn range_at(text: &[u8]) -> (Option<ArgumentRange>, &[u8])
-    ensures { (range : RangeOf) (rest : List ℕ) → IsArgumentRange range → text.now ≡ range_text range ++ LF ∷ rest
+    ensures { (range : RangeOf) (rest : List ℕ) → IsArgumentRange range
+        → text.now ≡ range_text range ++ LF ∷ rest
         → (result.0 ≡ Some range) × (result.1.now ≡ rest) }
 {
     let (low, rest) = number_at(text);
@@ -228,8 +232,9 @@ fn is_behind(other: &LongerText, longer: &[LongerText]) -> bool
     }
 }
 
-// Adds to `longer` the texts at the front of a text, each behind a comma. It is what comes behind them. It ends before one
-// whose register doesn't rise: so there are never more of them than registers, whatever the text.
+// Adds to `longer` the texts at the front of a text, each behind a comma. It is what comes behind
+// them. It ends before one whose register doesn't rise: so there are never more of them than
+// registers, whatever the text.
 fn others_at<'a>(longer: &mut Vec<LongerText>, text: &'a [u8]) -> Result<&'a [u8], AllocError>
     requires rise { TextsRise longer.old.items }
     requires registers { AreOfRegisters longer.old.items }
@@ -254,7 +259,8 @@ fn others_at<'a>(longer: &mut Vec<LongerText>, text: &'a [u8]) -> Result<&'a [u8
 
 // The texts at the front of a text, and what comes behind them.
 fn texts_at(alloc: Global, text: &[u8]) -> Result<(Vec<LongerText>, &[u8]), AllocError>
-    ensures text { (ls : List LongerTextOf) (rest : List ℕ) → AllByRecursion IsLongerText ls → TextsRise ls
+    ensures text { (ls : List LongerTextOf) (rest : List ℕ)
+        → AllByRecursion IsLongerText ls → TextsRise ls
         → text.now ≡ longer_texts ls ++ LF ∷ rest → IfOk result (λ r. (r.0.items ≡ ls) × (r.1.now ≡ LF ∷ rest)) }
     ensures rise { IfOk result (λ r. TextsRise r.0.items) }
     ensures few { IfOk result (λ r. length r.0.items ≤ REGISTERS) }
@@ -309,7 +315,8 @@ fn loops_at(alloc: Global, text: &[u8]) -> Result<Vec<LoopLine>, AllocError>
 
 /// The certificate whose text this is, or any. The registers of each line rise.
 pub fn certificate_in(alloc: Global, text: &[u8]) -> Result<Certificate, AllocError>
-    ensures text { (f : Fields) → IsWellFormed f → text.now ≡ certificate_text f → IfOk result (λ c. c ≡ f) }
+    ensures text { (f : Fields) → IsWellFormed f → text.now
+        ≡ certificate_text f → IfOk result (λ c. c ≡ f) }
     ensures rise { IfOk result (λ c. AllByRecursion RegistersRise c.loops) }
 {
     let (entry, rest) = register_at(behind(behind_version(text), b"\nentry "));

@@ -1,11 +1,13 @@
-// Certificates as the verifier's rules print them, and texts that differ from one. A call that is refused memory is made
-// once more, so that the rows also hold where one allocation fails.
+// Certificates as the verifier's rules print them, and texts that differ from one. A call that is
+// refused memory is made once more, so that the rows also hold where one allocation fails.
 use super::*;
 use std::alloc::Global;
 use std::process::Abort;
 use std::test::*;
 use teco_base::Reg;
+use teco_model::Needs;
 use teco_poly::Poly;
+use teco_verifier::{LongerText, LoopLine};
 
 // Marks are put behind each occurrence of a word: one iteration.
 const MARK: &str = "TECO-CERT 1

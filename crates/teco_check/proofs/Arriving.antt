@@ -1,21 +1,23 @@
 -- What has arrived at each node, and a table that is derived row by row.
-use Rattle.std.proofs.Common.{◌≡◌, ◌⊎◌, inl, inr, subst, refl, sym, ◌∙◌, ap, ℕ, zero, suc, ◌+◌, ◌-◌, ◌<◌, ◌≤◌, ◌==◌, Bool, true, false, List, [], ◌∷◌, ◌++◌, append_assoc, length, set, get_or, drop, replicate, Option, Some, None, Result, Ok, Err, if◌then◌else◌, slice_get, length-append, add-one, arith}
-use Rattle.std.proofs.lemmas.List.{drop_all, append-nil, length-set, length-replicate}
+use Rattle.std.proofs.Common.{◌≡◌, ◌⊎◌, inl, inr, subst, refl, sym, ◌∙◌, ap, ℕ, zero, suc, ◌+◌, ◌-◌, ◌<◌, ◌≤◌, ◌==◌, Bool, true, false, List, [], ◌∷◌, ◌++◌, append_assoc, length, set, get_or, take, drop, replicate, Option, Some, None, Result, Ok, Err, if◌then◌else◌, slice_get, length-append, add-one, arith}
+use Rattle.std.proofs.lemmas.List.{drop_all, append-nil, length-set, length-replicate, take-append-drop}
 use Rattle.std.proofs.lemmas.Bool.{cases_eq}
 use Rattle.std.proofs.lemmas.Bool.Decides.{nat_tests}
 use Rattle.std.specs.Option.{option_and_then}
-use Rattle.teco_expand.specs.Node.{Node}
-use Rattle.teco_rules.specs.declared.refusal.Refusal.{Refusal}
-use Rattle.teco_rules.specs.Attempt.{◌>>=◌}
-use Rattle.teco_rules.specs.Argument.{ArgumentRange, facts_given}
-use Rattle.teco_rules.specs.Facts.{Facts}
-use Rattle.teco_table.specs.Behind.{edges_at}
-use Rattle.teco_table.specs.Deriving.{Chosen, Arrival, Derived, met, met_with, derived_at, derive, derive_from}
-use Rattle.teco_table.specs.Table.{Row, Table, facts_in, facts_at}
+use Rattle.teco_verifier.specs.expansion.Node.{Node}
+use Rattle.teco_verifier.specs.declared.refusal.Refusal.{Refusal}
+use Rattle.teco_verifier.specs.facts.Attempt.{◌>>=◌}
+use Rattle.teco_model.specs.Macros.{ArgumentRange}
+use Rattle.teco_verifier.specs.facts.Argument.{facts_given}
+use Rattle.teco_verifier.specs.facts.Facts.{Facts}
+use Rattle.teco_verifier.specs.table.Behind.{edges_at}
+use Rattle.teco_verifier.specs.table.Choices.{Chosen}
+use Rattle.teco_verifier.specs.table.Deriving.{Arrival, Derived, met, met_with, derived_at, derive, derive_from}
+use Rattle.teco_verifier.specs.table.Table.{Row, Table, facts_in, facts_at}
 use Rattle.teco_check.specs.declared.derivation.NotDerived.{NotDerived}
 use Rattle.teco_check.specs.declared.derivation.NotDerived.TheVariants as fault
-use Rattle.teco_check.specs.Derived.{AreLarge, HasLarge, Derives, DerivesFrom, Slots, met_more, arrived_at, arrived_all, arrivals_of, derived_from, DerivesTo}
-use Rattle.teco_check.specs.Here.{node_at}
+use Rattle.teco_check.specs.Derived.{AreLarge, HasLarge, Derives, DerivesFrom, DerivesUpTo, IsRefusedAt, Slots, met_more, arrived_at, arrived_all, arrivals_of, derived_from, table_up_to, DerivesTo}
+use Rattle.teco_check.specs.Here.{IsNumberOf, node_at}
 use Rattle.teco_check.specs.Kept.{AreKept}
 use Rattle.teco_check.proofs.Steps.{nodes_from}
 
@@ -147,14 +149,26 @@ arrivals_before argument nodes chosen (suc k) =
 -- so far a table is derived
 pub record AreDerived (argument : Option ArgumentRange) (nodes : List Node) (chosen : List Chosen) (k : ℕ) (slots : Slots) (table : Table) : Type 0 where
   pub met : AreMet slots (arrivals_before argument nodes chosen k) k (length nodes)
-  pub derived : derive argument nodes chosen ≡ (derive_from nodes chosen (suc k) (drop k nodes) (arrivals_before argument nodes chosen k) >>= (λ rows. Ok (table ++ rows)))
+  pub ahead : (rest : List Node) → derive_from nodes chosen 1 (take k nodes ++ rest) (record { target = 1; facts = facts_given argument } ∷ []) ≡ (derive_from nodes chosen (suc k) rest (arrivals_before argument nodes chosen k) >>= (λ rows. Ok (table ++ rows)))
   pub rows : length table ≡ k
 
+-- the whole of it
+derived_so : (argument : Option ArgumentRange) (nodes : List Node) (chosen : List Chosen) (k : ℕ) (slots : Slots) (table : Table) → AreDerived argument nodes chosen k slots table → derive argument nodes chosen ≡ (derive_from nodes chosen (suc k) (drop k nodes) (arrivals_before argument nodes chosen k) >>= (λ rows. Ok (table ++ rows)))
+unfolding derive
+derived_so argument nodes chosen k slots table a = ap (λ those. derive_from nodes chosen 1 those (record { target = 1; facts = facts_given argument } ∷ [])) (sym (take-append-drop k nodes)) ∙ a.ahead (drop k nodes)
+
+-- one node more
+take_more : (nodes rest : List Node) (k : ℕ) → k < length nodes → take (suc k) nodes ++ rest ≡ take k nodes ++ node_at nodes (suc k) ∷ rest
+unfolding node_at
+take_more [] rest k h = absurd (omega arith)
+take_more (node ∷ nodes) rest zero h = refl
+take_more (node ∷ nodes) rest (suc k) h = ap (λ those. node ∷ those) (take_more nodes rest k (omega arith))
+
 pub begun : (argument : Option ArgumentRange) (nodes : List Node) (chosen : List Chosen) (slots : Slots) → slots ≡ arrived_at 1 (facts_given argument) (replicate (length nodes) (Ok None)) → AreDerived argument nodes chosen 0 slots []
-unfolding arrivals_before derive
+unfolding arrivals_before
 begun argument nodes chosen slots e = record {
   met = rw e (met_one (replicate (length nodes) (Ok None)) [] 0 (length nodes) 1 (facts_given argument) (record { long = length-replicate (length nodes) (Ok None); each = λ k h l. nothing_at (length nodes) k l }));
-  derived = sym (done (derive_from nodes chosen 1 nodes (record { target = 1; facts = facts_given argument } ∷ [])));
+  ahead = λ rest. sym (done (derive_from nodes chosen 1 rest (record { target = 1; facts = facts_given argument } ∷ [])));
   rows = refl;
 }
 
@@ -168,15 +182,15 @@ rows_more : (rows : Result Table Refusal) (row : Row) (table : Table) → ((rows
 rows_more (Err why) row table = refl
 rows_more (Ok rest) row table = ap Ok (sym (append_assoc table (row ∷ []) rest))
 
-from_node : (nodes : List Node) (chosen : List Chosen) (k : ℕ) (before : List Arrival) (row : Row) (arrivals : List Arrival) → k < length nodes → (met (suc k) before None >>= derived_at nodes chosen (suc k) (node_at nodes (suc k))) ≡ Ok (record { row = row; arrivals = arrivals }) → derive_from nodes chosen (suc k) (drop k nodes) before ≡ (derive_from nodes chosen (suc (suc k)) (drop (suc k) nodes) (before ++ arrivals) >>= (λ rows. Ok (row ∷ rows)))
-from_node nodes chosen k before row arrivals h e =
+from_node : (nodes rest : List Node) (chosen : List Chosen) (k : ℕ) (before : List Arrival) (row : Row) (arrivals : List Arrival) → (met (suc k) before None >>= derived_at nodes chosen (suc k) (node_at nodes (suc k))) ≡ Ok (record { row = row; arrivals = arrivals }) → derive_from nodes chosen (suc k) (node_at nodes (suc k) ∷ rest) before ≡ (derive_from nodes chosen (suc (suc k)) rest (before ++ arrivals) >>= (λ rows. Ok (row ∷ rows)))
+from_node nodes rest chosen k before row arrivals e =
     let known = ok_of (met (suc k) before None) _ _ e in
-    rw (nodes_from nodes k h, known.1, known.2) refl
+    rw (known.1, known.2) refl
 
-refused_node : (nodes : List Node) (chosen : List Chosen) (k : ℕ) (before : List Arrival) (why : Refusal) → k < length nodes → (met (suc k) before None >>= derived_at nodes chosen (suc k) (node_at nodes (suc k))) ≡ Err why → derive_from nodes chosen (suc k) (drop k nodes) before ≡ Err why
-refused_node nodes chosen k before why h e = rw (nodes_from nodes k h) (by_met (met (suc k) before None) e)
+refused_node : (nodes rest : List Node) (chosen : List Chosen) (k : ℕ) (before : List Arrival) (why : Refusal) → (met (suc k) before None >>= derived_at nodes chosen (suc k) (node_at nodes (suc k))) ≡ Err why → derive_from nodes chosen (suc k) (node_at nodes (suc k) ∷ rest) before ≡ Err why
+refused_node nodes rest chosen k before why e = by_met (met (suc k) before None) e
   where
-    by_met : (r : Result (Option Facts) Refusal) → (r >>= derived_at nodes chosen (suc k) (node_at nodes (suc k))) ≡ Err why → (r >>= (λ known. derived_at nodes chosen (suc k) (node_at nodes (suc k)) known >>= (λ here. derive_from nodes chosen (suc (suc k)) (drop (suc k) nodes) (before ++ here.arrivals) >>= (λ rows. Ok (here.row ∷ rows))))) ≡ Err why
+    by_met : (r : Result (Option Facts) Refusal) → (r >>= derived_at nodes chosen (suc k) (node_at nodes (suc k))) ≡ Err why → (r >>= (λ known. derived_at nodes chosen (suc k) (node_at nodes (suc k)) known >>= (λ here. derive_from nodes chosen (suc (suc k)) rest (before ++ here.arrivals) >>= (λ rows. Ok (here.row ∷ rows))))) ≡ Err why
     by_met (Err other) e = cc
     by_met (Ok known) e = rw e refl
 
@@ -190,17 +204,35 @@ row_more argument nodes chosen k slots new table row h a d =
     let same : k + 1 - 1 ≡ k = omega arith in
     rw add-one (record {
       met = rw (d.arrived, is, same) (met_all (set slots k (Ok None)) before _ (suc k) (length nodes) (met_behind slots before k (length nodes) a.met));
-      derived = a.derived ∙ rw (from_node nodes chosen k before row _ h derived) (rows_more _ row table);
+      ahead = λ rest. ap (λ those. derive_from nodes chosen 1 those (record { target = 1; facts = facts_given argument } ∷ [])) (take_more nodes rest k h) ∙ (a.ahead (node_at nodes (suc k) ∷ rest) ∙ rw (from_node nodes rest chosen k before row _ derived) (rows_more _ row table));
       rows = length-append table (row ∷ []) ∙ ap (λ n. n + 1) a.rows ∙ add-one k;
     })
 
 -- a row that is refused
-pub row_refused : (argument : Option ArgumentRange) (nodes : List Node) (chosen : List Chosen) (k : ℕ) (slots : Slots) (table : Table) (why : Refusal) → k < length nodes → AreDerived argument nodes chosen k slots table → derived_from nodes chosen (k + 1) slots ≡ Err why → derive argument nodes chosen ≡ Err why
-row_refused argument nodes chosen k slots table why h a e =
-    a.derived ∙ rw (refused_node nodes chosen k (arrivals_before argument nodes chosen k) why h (sym (derived_is argument nodes chosen k slots h a.met) ∙ e)) refl
+module _ (argument : Option ArgumentRange) (nodes : List Node) (chosen : List Chosen) (k : ℕ) (slots : Slots) (table : Table) (why : Refusal) (h : k < length nodes) (a : AreDerived argument nodes chosen k slots table) (e : derived_from nodes chosen (k + 1) slots ≡ Err why) where
+  refused_with : (rest : List Node) → (derive_from nodes chosen (suc k) (node_at nodes (suc k) ∷ rest) (arrivals_before argument nodes chosen k) >>= (λ rows. Ok (table ++ rows))) ≡ Err why
+  refused_with rest = rw (refused_node nodes rest chosen k (arrivals_before argument nodes chosen k) why (sym (derived_is argument nodes chosen k slots h a.met) ∙ e)) refl
+
+  pub row_refused : derive argument nodes chosen ≡ Err why
+  row_refused = derived_so argument nodes chosen k slots table a ∙ rw (nodes_from nodes k h) (refused_with (drop (suc k) nodes))
+
+  refused_here : table_up_to argument nodes chosen (suc k) ≡ Err why
+  refused_here = ap (λ those. derive_from nodes chosen 1 those (record { target = 1; facts = facts_given argument } ∷ [])) (sym (append-nil (take (suc k) nodes)) ∙ take_more nodes [] k h) ∙ (a.ahead (node_at nodes (suc k) ∷ []) ∙ refused_with [])
+
+  up_to_here : table_up_to argument nodes chosen k ≡ Ok (table ++ [])
+  up_to_here = ap (λ those. derive_from nodes chosen 1 those (record { target = 1; facts = facts_given argument } ∷ [])) (sym (append-nil (take k nodes))) ∙ a.ahead []
+
+  refused_at : IsRefusedAt argument nodes chosen (k + 1) why
+  refused_at =
+      let same : k + 1 - 1 ≡ k = omega arith in
+      record {
+        there = record { one = omega arith; last = omega (arith, h) };
+        before = rw (same, up_to_here) refl;
+        refused = rw (add-one k) refused_here;
+      }
 
 pub all_derived : (argument : Option ArgumentRange) (nodes : List Node) (chosen : List Chosen) (k : ℕ) (slots : Slots) (table : Table) → length nodes ≤ k → AreDerived argument nodes chosen k slots table → derive argument nodes chosen ≡ Ok table
-all_derived argument nodes chosen k slots table h a = a.derived ∙ rw (drop_all k nodes h, append-nil) refl
+all_derived argument nodes chosen k slots table h a = derived_so argument nodes chosen k slots table a ∙ rw (drop_all k nodes h, append-nil) refl
 
 -- what the row of a node that is reached says
 facts_of : Result Derived Refusal → Option Facts
@@ -230,7 +262,7 @@ large_in : (argument : Option ArgumentRange) (nodes : List Node) (chosen : List 
 unfolding ok_of table_of
 large_in argument nodes chosen k slots table h a l whole e =
     let before = arrivals_before argument nodes chosen k in
-    let rows = ok_of (derive_from nodes chosen (suc k) (drop k nodes) before) _ whole (sym a.derived ∙ e) in
+    let rows = ok_of (derive_from nodes chosen (suc k) (drop k nodes) before) _ whole (sym (derived_so argument nodes chosen k slots table a) ∙ e) in
     let known = ok_of (met (suc k) before None) _ rows.0 (ap (λ nodes_here. derive_from nodes chosen (suc k) nodes_here before) (sym (nodes_from nodes k h)) ∙ rows.1) in
     let here = ok_of (derived_at nodes chosen (suc k) (node_at nodes (suc k)) known.0) _ rows.0 known.2 in
     let rest = ok_of (derive_from nodes chosen (suc (suc k)) (drop (suc k) nodes) (before ++ here.0.arrivals)) _ rows.0 here.2 in
@@ -241,7 +273,14 @@ large_in argument nodes chosen k slots table h a l whole e =
 
 -- what is said of a row is said of the whole
 pub row_said : (argument : Option ArgumentRange) (nodes : List Node) (chosen : List Chosen) (k : ℕ) (slots new : Slots) (table : Table) (why : NotDerived) → k < length nodes → AreDerived argument nodes chosen k slots table → DerivesFrom nodes chosen (k + 1) slots new (Err why) → Derives (derive argument nodes chosen) (Err why)
-row_said argument nodes chosen k slots new table (fault.Refused why node) h a e = row_refused argument nodes chosen k slots table why h a e
+row_said argument nodes chosen k slots new table (fault.Refused why node) h a e = row_refused argument nodes chosen k slots table why h a e.refused
 row_said argument nodes chosen k slots new table (fault.Large node) h a e =
     subst (λ n. (whole : Table) → derive argument nodes chosen ≡ Ok whole → AreLarge (facts_at whole n)) (sym e.here) (large_in argument nodes chosen k slots table h a (record { here = refl; large = e.large }))
 row_said argument nodes chosen k slots new table fault.Memory h a e = tt
+
+pub row_told : (argument : Option ArgumentRange) (nodes : List Node) (chosen : List Chosen) (k : ℕ) (slots new : Slots) (table : Table) (why : NotDerived) → k < length nodes → AreDerived argument nodes chosen k slots table → DerivesFrom nodes chosen (k + 1) slots new (Err why) → DerivesUpTo argument nodes chosen (Err why)
+row_told argument nodes chosen k slots new table (fault.Refused why node) h a e =
+    subst (λ n. IsRefusedAt argument nodes chosen n why) (sym e.here) (refused_at argument nodes chosen k slots table why h a e.refused)
+row_told argument nodes chosen k slots new table (fault.Large node) h a e =
+    subst (IsNumberOf nodes) (sym e.here) (record { one = omega arith; last = omega (arith, h) })
+row_told argument nodes chosen k slots new table fault.Memory h a e = tt

@@ -5,3 +5,4 @@ pub mod Steps
 pub mod Writing
 pub mod Arriving
 pub mod Lines
+pub mod Outside

@@ -2,11 +2,11 @@
 use Rattle.std.proofs.Common.{◌≡◌, refl, sym, ap, ◌∙◌, ℕ, zero, suc, ◌+◌, ◌<◌, ◌≤◌, List, [], ◌∷◌, ◌++◌, length, drop, slice_get, unwrap_or, append_assoc, append-nil, true, false, ◌||◌, Option, Some, None, arith}
 use Rattle.std.proofs.lemmas.List.{drop_all}
 use Rattle.std.specs.List.{list_any}
-use Rattle.teco_expand.specs.Node.{Node}
+use Rattle.teco_verifier.specs.expansion.Node.{Node}
 use Rattle.teco_check.specs.Here.{no_node, node_at}
-use Rattle.teco_table.specs.Deriving.{Chosen}
-use Rattle.teco_table.specs.Table.{Table}
-use Rattle.teco_check.specs.Loops.{begins, lines_at, lines_in, loops_from, loops_of}
+use Rattle.teco_verifier.specs.table.Choices.{Chosen}
+use Rattle.teco_verifier.specs.table.Table.{Table}
+use Rattle.teco_verifier.specs.table.Loops.{begins, lines_at, lines_in, loops_from, loops_of}
 
 front : (nodes : List Node) (k : ℕ) → k < length nodes → drop k nodes ≡ unwrap_or (slice_get nodes k) no_node ∷ drop (suc k) nodes
 front [] k h = absurd (omega arith)

@@ -1,14 +1,14 @@
 -- Nodes and rows by their numbers.
 use Rattle.std.proofs.Common.{◌≡◌, refl, sym, ℕ, zero, suc, ◌<◌, ◌≤◌, true, false, List, [], ◌∷◌, length, nat_lt, slice_get, Some, None, unwrap_or, get_or, ◌==◌, arith}
-use Rattle.teco_expand.specs.Node.{Node, numbered}
+use Rattle.teco_verifier.specs.expansion.Node.{Node, numbered}
 use Rattle.std.specs.Option.{option_map_or}
 use Rattle.std.proofs.lemmas.Bool.Decides.{nat_tests}
-use Rattle.teco_expand.specs.Ends.{is_innermost}
-use Rattle.teco_rules.specs.Facts.{Iteration, Facts}
+use Rattle.teco_verifier.specs.expansion.Ends.{is_innermost}
+use Rattle.teco_verifier.specs.facts.Facts.{Iteration, Facts}
 use Rattle.teco_facts.specs.Room.{innermost}
-use Rattle.teco_table.specs.Behind.{is_inside, open_at}
-use Rattle.teco_table.specs.Closed.{has_none, is_known_in, is_counted}
-use Rattle.teco_table.specs.Table.{Table}
+use Rattle.teco_verifier.specs.table.Behind.{is_inside, open_at}
+use Rattle.teco_verifier.specs.table.Closed.{has_none, is_known_in, is_counted}
+use Rattle.teco_verifier.specs.table.Table.{Table}
 use Rattle.teco_check.specs.Here.{no_node, node_at}
 use Rattle.teco_check.specs.Known.{known_since}
 

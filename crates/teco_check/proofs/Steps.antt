@@ -3,22 +3,22 @@ use Rattle.std.proofs.Common.{Bool, ◌≡◌, refl, sym, ◌∙◌, ap, ℕ, ze
 use Rattle.std.specs.Option.{option_map_or}
 use Rattle.std.proofs.lemmas.List.{drop_all}
 use Rattle.teco_model.specs.Element.{Element}
-use Rattle.teco_expand.specs.Ends.{ends, first_end}
-use Rattle.teco_expand.specs.Node.{Node}
+use Rattle.teco_verifier.specs.expansion.Ends.{ends, first_end}
+use Rattle.teco_verifier.specs.expansion.Node.{Node}
 use Rattle.teco_poly.specs.Polynomial.{Polynomial}
-use Rattle.teco_rules.specs.declared.refusal.Refusal.{Refusal}
-use Rattle.teco_rules.specs.Argument.{ArgumentRange}
-use Rattle.teco_rules.specs.Facts.{Facts, join_of}
-use Rattle.teco_rules.specs.Flows.{Edges}
-use Rattle.teco_rules.specs.Printed.{Needs, no_needs}
-use Rattle.teco_table.specs.Behind.{along, begins_turn}
-use Rattle.teco_table.specs.Closed.{arrive, arrives, closed_at, check, check_from}
-use Rattle.teco_table.specs.Printed.{count_from, counted_with, size_from, sized_with, turns_round, turns_at, product_of, joined_with, needs_from, needs_of, both_needs}
-use Rattle.teco_table.specs.Table.{Table, facts_at}
+use Rattle.teco_verifier.specs.declared.refusal.Refusal.{Refusal}
+use Rattle.teco_model.specs.Macros.{ArgumentRange, Needs}
+use Rattle.teco_verifier.specs.facts.Facts.{Facts, join_of}
+use Rattle.teco_verifier.specs.facts.Flows.{Edges}
+use Rattle.teco_verifier.specs.facts.Printed.{no_needs}
+use Rattle.teco_verifier.specs.table.Behind.{along, begins_turn}
+use Rattle.teco_verifier.specs.table.Closed.{arrive, arrives, closed_at, check, check_from}
+use Rattle.teco_verifier.specs.table.Printed.{count_from, counted_with, size_from, sized_with, turns_round, turns_at, product_of, joined_with, needs_from, needs_of, both_needs}
+use Rattle.teco_verifier.specs.table.Table.{Table, facts_at}
 use Rattle.teco_check.specs.declared.bad.Bad.{Bad}
 use Rattle.teco_check.specs.declared.bad.Bad.TheVariants as bad
-use Rattle.teco_rules.specs.Bodies.{Choice, Changes}
-use Rattle.teco_table.specs.Deriving.{arriving, arrivals_behind}
+use Rattle.teco_verifier.specs.facts.Bodies.{Choice, Changes}
+use Rattle.teco_verifier.specs.table.Deriving.{arriving, arrivals_behind}
 use Rattle.teco_check.specs.Derived.{Slots, arrived_at, arrived_all}
 use Rattle.teco_check.specs.Here.{no_node, node_at}
 use Rattle.teco_check.specs.Says.{Says, SaysAt}

@@ -4,8 +4,8 @@ use Rattle.std.specs.List.{list_any}
 use Rattle.std.proofs.lemmas.List.Folds.{list_any-append}
 use Rattle.std.proofs.lemmas.Bool.Decides.{nat_tests}
 use Rattle.teco_model.specs.Element.{Element}
-use Rattle.teco_expand.specs.Node.{Node}
-use Rattle.teco_table.specs.Written.{sets, ends_saved, written_in}
+use Rattle.teco_verifier.specs.expansion.Node.{Node}
+use Rattle.teco_verifier.specs.table.Written.{sets, ends_saved, written_in}
 use Rattle.teco_check.specs.Here.{no_node, node_at}
 use Rattle.teco_check.specs.Writes.{set_at}
 

@@ -1,12 +1,15 @@
 -- How a table is derived where what arrives at each node is kept, in place of all that arrived anywhere.
-use Rattle.std.specs.Prelude.{◌≡◌, ℕ, zero, suc, ◌-◌, List, [], ◌∷◌, slice_set, slice_index_or, Option, Some, None, Result, Ok, Err}
-use Rattle.teco_rules.specs.declared.refusal.Refusal.{Refusal}
-use Rattle.teco_rules.specs.Attempt.{◌>>=◌}
-use Rattle.teco_rules.specs.Facts.{Facts}
-use Rattle.teco_table.specs.Deriving.{Chosen, Arrival, Derived, met_with, derived_at}
-use Rattle.teco_table.specs.Table.{Row, Table, facts_at}
-use Rattle.teco_expand.specs.Node.{Node}
-use Rattle.teco_check.specs.Here.{node_at}
+use Rattle.std.specs.Prelude.{◌≡◌, ℕ, zero, suc, ◌-◌, List, [], ◌∷◌, take, slice_set, slice_index_or, Option, Some, None, Result, Ok, Err, IsOk}
+use Rattle.teco_verifier.specs.declared.refusal.Refusal.{Refusal}
+use Rattle.teco_model.specs.Macros.{ArgumentRange}
+use Rattle.teco_verifier.specs.facts.Argument.{facts_given}
+use Rattle.teco_verifier.specs.facts.Attempt.{◌>>=◌}
+use Rattle.teco_verifier.specs.facts.Facts.{Facts}
+use Rattle.teco_verifier.specs.table.Choices.{Chosen}
+use Rattle.teco_verifier.specs.table.Deriving.{Arrival, Derived, met_with, derived_at, derive_from}
+use Rattle.teco_verifier.specs.table.Table.{Row, Table, facts_at}
+use Rattle.teco_verifier.specs.expansion.Node.{Node}
+use Rattle.teco_check.specs.Here.{IsNumberOf, node_at}
 use Rattle.teco_check.specs.Kept.{AreKept}
 use Rattle.teco_check.specs.declared.derivation.NotDerived.{NotDerived}
 use Rattle.teco_check.specs.declared.derivation.NotDerived.TheVariants as fault
@@ -43,6 +46,11 @@ abbrev pub AreLarge : Option Facts → Type 0
 AreLarge None = ⊥
 AreLarge (Some facts) = ¬ AreKept facts
 
+-- a node's row is refused
+pub record IsRefusedHere (defined : Result Derived Refusal) (why : Refusal) (number node : ℕ) : Type 0 where
+  pub here : node ≡ number
+  pub refused : defined ≡ Err why
+
 -- the row of this node, if there is one, has facts that no table may have
 pub record HasLarge (defined : Result Derived Refusal) (number node : ℕ) : Type 0 where
   pub here : node ≡ number
@@ -50,11 +58,23 @@ pub record HasLarge (defined : Result Derived Refusal) (number node : ℕ) : Typ
 
 abbrev pub DerivesRow : ℕ → Result Derived Refusal → Slots → Slots → Result Row NotDerived → Type 0
 DerivesRow number defined old new (Ok row) = DerivesTo defined old new row
-DerivesRow number defined old new (Err (fault.Refused why node)) = defined ≡ Err why
+DerivesRow number defined old new (Err (fault.Refused why node)) = IsRefusedHere defined why number node
 DerivesRow number defined old new (Err (fault.Large node)) = HasLarge defined number node
 DerivesRow number defined old new (Err fault.Memory) = Unit {0}
 
--- so is that of the node of a number, from what arrived there
+-- Where a row's facts are too large, they are those that are known there.
+abbrev pub IsLargeBy : Option Facts → Result Row NotDerived → Type 0
+IsLargeBy known (Err (fault.Large node)) = AreLarge known
+IsLargeBy known (Err (fault.Refused why node)) = Unit {0}
+IsLargeBy known (Err fault.Memory) = Unit {0}
+IsLargeBy known (Ok row) = Unit {0}
+
+-- what is known where edges arrived, if that is not refused
+abbrev pub known_of : Result (Option Facts) Refusal → Option Facts
+known_of (Ok known) = known
+known_of (Err why) = None
+
+-- what is derived at the node of a number, from what arrived there
 abbrev pub derived_from : List Node → List Chosen → ℕ → Slots → Result Derived Refusal
 derived_from nodes chosen number slots =
     slice_index_or slots (number - 1) (Ok None) >>= derived_at nodes chosen number (node_at nodes number)
@@ -63,10 +83,36 @@ abbrev pub DerivesFrom : List Node → List Chosen → ℕ → Slots → Slots �
 DerivesFrom nodes chosen number old new result =
     DerivesRow number (derived_from nodes chosen number old) (slice_set old (number - 1) (Ok None)) new result
 
--- it is the definition's table, or its refusal; or the definition's table, if there is one, has facts at a node that no
+-- the answer is the definition's table, or its refusal; or the definition's table, if there is one, has facts at a node that no
 -- table may have; where memory was refused nothing is said
 abbrev pub Derives : Result Table Refusal → Result Table NotDerived → Type 0
 Derives defined (Ok table) = defined ≡ Ok table
 Derives defined (Err (fault.Refused why node)) = defined ≡ Err why
 Derives defined (Err (fault.Large node)) = (table : Table) → defined ≡ Ok table → AreLarge (facts_at table node)
 Derives defined (Err fault.Memory) = Unit {0}
+
+-- the table of so many nodes from the first on
+abbrev pub table_up_to : Option ArgumentRange → List Node → List Chosen → ℕ → Result Table Refusal
+table_up_to argument nodes chosen count =
+    derive_from nodes chosen 1 (take count nodes) (record { target = 1; facts = facts_given argument } ∷ [])
+
+-- The rules refuse at the node of this number: those before it have a table, and with it they have none.
+pub record IsRefusedAt
+    (argument : Option ArgumentRange) (nodes : List Node) (chosen : List Chosen) (number : ℕ) (why : Refusal) : Type 0 where
+  pub there : IsNumberOf nodes number
+  pub before : IsOk (table_up_to argument nodes chosen (number - 1))
+  pub refused : table_up_to argument nodes chosen number ≡ Err why
+
+-- the node that is told is the one at which the rules refuse, or one with facts that are too large
+abbrev pub DerivesUpTo : Option ArgumentRange → List Node → List Chosen → Result Table NotDerived → Type 0
+DerivesUpTo argument nodes chosen (Ok table) = Unit {0}
+DerivesUpTo argument nodes chosen (Err (fault.Refused why node)) = IsRefusedAt argument nodes chosen node why
+DerivesUpTo argument nodes chosen (Err (fault.Large node)) = IsNumberOf nodes node
+DerivesUpTo argument nodes chosen (Err fault.Memory) = Unit {0}
+
+-- no facts are too large
+abbrev pub IsNotLarge : Result Table NotDerived → Type 0
+IsNotLarge (Ok table) = Unit {0}
+IsNotLarge (Err (fault.Refused why node)) = Unit {0}
+IsNotLarge (Err (fault.Large node)) = ⊥
+IsNotLarge (Err fault.Memory) = Unit {0}

@@ -1,8 +1,13 @@
 -- The node of a number.
-use Rattle.std.specs.Prelude.{ℕ, List, [], false, None, unwrap_or}
-use Rattle.teco_expand.specs.Node.{Node, numbered}
+use Rattle.std.specs.Prelude.{ℕ, ◌<◌, ◌≤◌, List, [], length, false, None, unwrap_or}
+use Rattle.teco_verifier.specs.expansion.Node.{Node, numbered}
 
--- it reads nothing, and leads nowhere
+-- There is a node of this number.
+pub record IsNumberOf (nodes : List Node) (number : ℕ) : Type 0 where
+  pub one : 0 < number
+  pub last : number ≤ length nodes
+
+-- a node that reads nothing and leads nowhere
 abbrev pub no_node : Node
 no_node = record {
   stand = record {

@@ -1,5 +1,5 @@
 -- Facts that a table may have.
-use Rattle.teco_rules.specs.Facts.{Facts}
+use Rattle.teco_verifier.specs.facts.Facts.{Facts}
 use Rattle.teco_facts.specs.Numbers.{AreSmall}
 use Rattle.teco_facts.specs.Room.{HasRoom}
 

@@ -6,4 +6,3 @@ pub mod Writes
 pub mod Ways
 pub mod Known
 pub mod Derived
-pub mod Loops

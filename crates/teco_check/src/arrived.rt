@@ -6,9 +6,10 @@ use std::alloc::{AllocError, Global};
 use std::marker::Model;
 use std::mem;
 use teco_facts::{Facts, Fault};
-use teco_rules::Refusal;
+use teco_verifier::Refusal;
 
-/// For each node in the order of their numbers, what is known of all edges that arrived there, or why it is refused.
+/// For each node in the order of their numbers, what is known of all edges that arrived there, or
+/// why it is refused.
 #[derive(Drop)]
 pub struct Arrived {
     slots: Vec<Result<Option<Facts>, Refusal>>,

@@ -1,19 +1,19 @@
 //! What is known behind a node, on each of its ways.
 ghost use Rattle.std.specs.Prelude.{◌≡◌, ◌<◌, ◌≤◌, length, get_or, option_map, option_copied, Some, if◌then◌else◌};
 ghost use Rattle.teco_model.specs.Element as elements;
-ghost use Rattle.teco_rules.specs.Flows as flows;
+ghost use Rattle.teco_verifier.specs.facts.Flows as flows;
 ghost use Rattle.teco_facts.specs.Does.{Gives};
 ghost use Rattle.teco_facts.specs.Placed.{seen};
-ghost use Rattle.teco_table.specs.Behind as rules;
+ghost use Rattle.teco_verifier.specs.table.Behind as rules;
 ghost use Rattle.teco_check.specs.Here.{node_at};
 ghost use Rattle.teco_check.specs.Kept.{AreKept};
 ghost use Rattle.teco_check.specs.Ways as ways;
 
 use crate::node::{colon, depth, element, inside, names_macro, way};
+use teco_expansion::Nodes;
 use teco_facts::{Edges, Facts, Fault, Placed, return_from, transfer_from};
 use teco_model::Element;
 use teco_model::kind::{Flow, Kind};
-use teco_nodes::Nodes;
 
 // How many iterations are open at a number; behind all nodes there is none.
 #[tactic(auto, using(crate::proofs::Numbered::open_is, crate::proofs::Numbered::open_outside))]
@@ -91,7 +91,7 @@ fn goes_on_by_flow(flow: Flow, first: bool) -> bool
     }
 }
 
-// The same of an element of any kind.
+// Whether execution may go on behind an element of this kind.
 fn goes_on(kind: Kind, first: bool) -> bool
     ensures { result ≡ ways.goes_on kind first }
 {
@@ -104,7 +104,8 @@ fn goes_on(kind: Kind, first: bool) -> bool
 // Whether a way takes the edge that goes on.
 #[tactic(auto, using(crate::proofs::Ways::along_is))]
 fn takes_on(read: &Option<Element<'_>>, way: usize) -> bool
-    ensures { (edges : flows.Edges) → rules.along (option_map elements.seen read.now) way edges ≡ (if result then edges.on else edges.away) }
+    ensures { (edges : flows.Edges) → rules.along (option_map elements.seen read.now) way edges
+        ≡ (if result then edges.on else edges.away) }
 {
     match read {
         None => true,

@@ -1,18 +1,18 @@
 //! What enters the body of an iteration, and what is chosen for it.
 ghost use Rattle.std.specs.Prelude.{◌≡◌, ◌<◌, ◌≤◌, length, option_map, option_copied, Some, Ok};
 ghost use Rattle.teco_model.specs.Element as elements;
-ghost use Rattle.teco_table.specs.Closed as rules;
+ghost use Rattle.teco_verifier.specs.table.Closed as rules;
 ghost use Rattle.teco_check.specs.Here.{node_at};
 
 use crate::iterations::{changes_in, end_of};
 use crate::same::say_same;
 use crate::table::Table;
+use teco_expansion::Nodes;
 use teco_facts::{Changes, Choice, Facts, body_start, turns};
 use teco_model::Element;
 use teco_model::kind::{Flow, Kind};
-use teco_nodes::Nodes;
 use teco_poly::Poly;
-use teco_rules::Refusal;
+use teco_verifier::Refusal;
 
 /// Whether an element is a <.
 pub fn begins_iteration(read: &Option<Element<'_>>) -> bool
@@ -44,13 +44,14 @@ fn start_stands(
     choice: &Choice,
     most: &Poly,
 ) -> bool
-    ensures { result ≡ rules.body_stands changes.now (option_copied end.entry) entering (Some start.now) (Some choice.now) (Ok most.now) }
+    ensures { result ≡ rules.body_stands changes.now (option_copied end.entry) entering
+        (Some start.now) (Some choice.now) (Ok most.now) }
 {
     let stands = choice.stands(changes, is_counted(&entering), most, &entering, end);
     say_same(start, &body_start(choice, changes, entering)) && stands
 }
 
-// The same where one of them may be absent.
+// Whether the body stands, where the choice or one of the facts may be absent.
 fn body_stands(
     changes: &Changes,
     end: Option<&Facts>,
@@ -59,7 +60,8 @@ fn body_stands(
     choice: &Option<Choice>,
     most: &Result<Poly, Refusal>,
 ) -> bool
-    ensures { result ≡ rules.body_stands changes.now (option_copied end.entry) entering (option_copied start.entry) choice.now most.now }
+    ensures { result ≡ rules.body_stands changes.now (option_copied end.entry) entering
+        (option_copied start.entry) choice.now most.now }
 {
     match (start, choice, most) {
         (Some(start), Some(choice), Ok(most)) => start_stands(

@@ -1,12 +1,12 @@
 //! What is chosen for the bodies of iterations.
 ghost use Rattle.std.specs.Prelude.{◌≡◌, length, option_map};
 ghost use Rattle.teco_base.specs.declared.TheConstants.{REGISTERS};
-ghost use Rattle.teco_table.specs.Deriving as rules;
+ghost use Rattle.teco_verifier.specs.table.Deriving as rules;
 
 use teco_base::REGISTERS;
-use teco_certificate::{LongerText, LoopLine};
 use teco_facts::{Choice, Facts};
 use teco_poly::Poly;
+use teco_verifier::{LongerText, LoopLine};
 
 // The texts, but for those that may be longer.
 fn with_longer(longer: &[LongerText], texts: &[Poly; REGISTERS]) -> [Poly; REGISTERS]

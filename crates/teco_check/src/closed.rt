@@ -1,12 +1,12 @@
 //! When a table is closed: what it says at each node follows from what it says at the others.
 ghost use Rattle.std.specs.Prelude.{◌≡◌, ◌<◌, ◌≤◌, ◌||◌, length, option_map, option_copied, Some, None, Ok};
 ghost use Rattle.teco_model.specs.Element as elements;
-ghost use Rattle.teco_table.specs.Behind as behind;
-ghost use Rattle.teco_table.specs.Closed as rules;
+ghost use Rattle.teco_verifier.specs.table.Behind as behind;
+ghost use Rattle.teco_verifier.specs.table.Closed as rules;
 ghost use Rattle.teco_check.specs.Here.{node_at};
 ghost use Rattle.teco_check.specs.Kept.{AreKept};
 ghost use Rattle.teco_check.specs.Known.{known_since};
-ghost use Rattle.teco_check.specs.Says.{Says, SaysAt};
+ghost use Rattle.teco_check.specs.Says.{IsBadAt, Says, SaysAt};
 
 use crate::bad::Bad;
 use crate::behind::{along, begins_turn, edges_at};
@@ -15,12 +15,12 @@ use crate::node::{element, iteration, way, ways};
 use crate::same::{is_covered, is_entry};
 use crate::table::Table;
 use std::alloc::Global;
+use teco_expansion::Nodes;
 use teco_facts::{Edges, Facts, Fault};
-use teco_model::Element;
-use teco_nodes::Nodes;
-use teco_rules::ArgumentRange;
+use teco_model::{ArgumentRange, Element};
 
-// Whether an edge is covered where it leads. Behind all nodes nothing is known; the return of the entry alone leads there.
+// Whether an edge is covered where it leads. Behind all nodes nothing is known; the return of the
+// entry alone leads there.
 fn arrives(
     nodes: &Nodes<'_>,
     table: &Table,
@@ -28,7 +28,8 @@ fn arrives(
     target: usize,
     edge: Option<&Facts>,
 ) -> bool
-    ensures { result ≡ rules.arrives nodes.now table.now (option_map elements.seen read.now) target (option_copied edge.entry) }
+    ensures { result ≡ rules.arrives nodes.now table.now (option_map elements.seen read.now)
+        target (option_copied edge.entry) }
 {
     match edge {
         None => true,
@@ -67,7 +68,8 @@ fn arrive(
 ) -> bool
     requires one { 0 < number }
     requires last { number ≤ length nodes.now }
-    ensures { result ≡ rules.arrive nodes.now table.now (option_map elements.seen read.now) edges.now 0 (node_at nodes.now number).ways }
+    ensures { result ≡ rules.arrive nodes.now table.now (option_map elements.seen read.now)
+        edges.now 0 (node_at nodes.now number).ways }
 {
     for at in 0..ways(nodes, number) {
         if let Some(target) = way(nodes, number, at) {
@@ -89,7 +91,8 @@ fn closed_behind(
 ) -> bool
     requires one { 0 < number }
     requires last { number ≤ length nodes.now }
-    ensures { result ≡ rules.closed_behind nodes.now table.now number (node_at nodes.now number) facts.now (Ok edges) }
+    ensures { result ≡ rules.closed_behind nodes.now table.now number
+        (node_at nodes.now number) facts.now (Ok edges) }
 {
     let read = element(nodes, number);
     let arrive = arrive(nodes, table, number, &read, &edges);
@@ -102,7 +105,8 @@ fn closed_behind(
 fn is_known(nodes: &Nodes<'_>, table: &Table, number: usize, facts: &Facts) -> bool
     requires one { 0 < number }
     requires last { number ≤ length nodes.now }
-    ensures { result ≡ rules.is_known_in table.now (node_at nodes.now number).stand.iterations facts.now }
+    ensures { result ≡ rules.is_known_in table.now
+        (node_at nodes.now number).stand.iterations facts.now }
 {
     match iteration(nodes, number, 0) {
         None => facts.open() == 0,
@@ -125,7 +129,8 @@ fn check_reached(nodes: &Nodes<'_>, table: &Table, number: usize, facts: &Facts)
     requires one { 0 < number }
     requires last { number ≤ length nodes.now }
     requires kept { AreKept facts.now }
-    ensures { SaysAt number (rules.closed_where nodes.now table.now number (node_at nodes.now number) (Some facts.now)) result }
+    ensures { SaysAt number (rules.closed_where nodes.now table.now number
+        (node_at nodes.now number) (Some facts.now)) result }
 {
     if !is_known(nodes, table, number, facts) {
         return Err(Bad::Edge { node: number });
@@ -147,7 +152,8 @@ fn check_reached(nodes: &Nodes<'_>, table: &Table, number: usize, facts: &Facts)
 fn is_unknown(nodes: &Nodes<'_>, table: &Table, number: usize) -> bool
     requires one { 0 < number }
     requires last { number ≤ length nodes.now }
-    ensures { result ≡ rules.closed_where nodes.now table.now number (node_at nodes.now number) None }
+    ensures { result ≡ rules.closed_where nodes.now table.now
+        number (node_at nodes.now number) None }
 {
     !begins_iteration(&element(nodes, number)) || table.facts_behind(number).is_none()
 }
@@ -156,7 +162,8 @@ fn is_unknown(nodes: &Nodes<'_>, table: &Table, number: usize) -> bool
 fn check_at(nodes: &Nodes<'_>, table: &Table, number: usize) -> Result<(), Bad>
     requires one { 0 < number }
     requires last { number ≤ length nodes.now }
-    ensures { SaysAt number (rules.closed_at nodes.now table.now number (node_at nodes.now number)) result }
+    ensures { SaysAt number (rules.closed_at nodes.now table.now number (node_at nodes.now number))
+        result }
 {
     match table.facts(number) {
         Some(facts) => check_reached(nodes, table, number, facts),
@@ -170,16 +177,18 @@ fn check_at(nodes: &Nodes<'_>, table: &Table, number: usize) -> Result<(), Bad>
     }
 }
 
-/// Whether a table is closed for an entry that takes the declared argument, if there is one; or else the number of the first node
-/// at which a condition fails. It takes time by the nodes and registers, and at each node by the pairs that were pushed since the entry
-/// and the parentheses that are open.
+/// Whether a table is closed for an entry that takes the declared argument, if there is one; or
+/// else the number of the first node at which a condition fails. It takes time by the nodes and
+/// registers, and at each node by the pairs that were pushed since the entry and the parentheses
+/// that are open.
 pub fn check(
     alloc: Global,
     argument: Option<ArgumentRange>,
     nodes: &Nodes<'_>,
     table: &Table,
 ) -> Result<(), Bad>
-    ensures { Says (rules.check argument nodes.now table.now) result }
+    ensures value { Says (rules.check argument nodes.now table.now) result }
+    ensures told { 0 < length nodes.now → IsBadAt nodes.now result }
 {
     let Ok(begins) = is_entry(alloc, argument, table.facts(1)) else {
         return Err(Bad::Memory);

@@ -1,11 +1,14 @@
-//! A table that is derived in one pass over the nodes, where what is chosen for the iterations is given.
-ghost use Rattle.std.specs.Prelude.{◌≡◌, ◌<◌, ◌≤◌, length, replicate, option_map, option_copied, IfOk, OnOk, None, Some, Ok};
+//! A table that is derived in one pass over the nodes, where what is chosen for the iterations is
+//! given.
+ghost use Rattle.std.specs.Prelude.{◌≡◌, ◌-◌, ◌<◌, ◌≤◌, length, replicate, option_map, option_copied, slice_index_or, IfOk, OnOk, None, Some, Ok, false};
+ghost use Rattle.std.specs.List.{list_any};
 ghost use Rattle.teco_model.specs.Element as elements;
-ghost use Rattle.teco_table.specs.Deriving as rules;
-ghost use Rattle.teco_table.specs.Written as writing;
-ghost use Rattle.teco_rules.specs.Argument as given;
-ghost use Rattle.teco_check.specs.Derived.{arrived_all, arrived_at, Derives, DerivesFrom, DerivesRow};
+ghost use Rattle.teco_verifier.specs.table.Deriving as rules;
+ghost use Rattle.teco_verifier.specs.table.Written as writing;
+ghost use Rattle.teco_verifier.specs.facts.Argument as given;
+ghost use Rattle.teco_check.specs.Derived.{arrived_all, arrived_at, known_of, Derives, DerivesFrom, DerivesRow, DerivesUpTo, IsLargeBy, IsNotLarge};
 ghost use Rattle.teco_check.specs.Here.{node_at};
+ghost use Rattle.teco_verifier.specs.table.Loops.{begins};
 
 use crate::arrived::Arrived;
 use crate::behind::{along, begins_turn, edges_at};
@@ -15,18 +18,18 @@ use crate::iterations::changes_in;
 use crate::node::{element, way, ways};
 use crate::table::{Row, Table, are_kept};
 use std::alloc::{AllocError, Global};
-use teco_certificate::LoopLine;
+use teco_expansion::Nodes;
 use teco_facts::{Choice, Edges, Facts, Fault, body_start};
-use teco_model::Element;
-use teco_nodes::Nodes;
-use teco_rules::{ArgumentRange, Refusal};
+use teco_model::{ArgumentRange, Element};
+use teco_verifier::{LoopLine, Refusal};
 
 /// Why no table is derived.
 #[derive(Clone, Copy)]
 pub enum NotDerived {
     /// The rules refuse what is known at the node of this number, or behind it.
     Refused { why: Refusal, node: usize },
-    /// At the node of this number a fall is larger, or more iterations are open, than a table may have.
+    /// At the node of this number a fall is larger, or more iterations are open, than a table may
+    /// have.
     Large { node: usize },
     /// A growth was refused.
     Memory,
@@ -35,8 +38,9 @@ pub enum NotDerived {
 // At each node of a number that this divides, what is known is packed.
 const SPAN: usize = 128;
 
-// What is known at a node, which is packed now and then, if there is memory. Else what was pushed, one pair at a node each, would lie
-// as far apart as all that is known at these nodes, and comparing it at each node would take long.
+// What is known at a node, which is packed now and then, if there is memory. Else what was pushed,
+// one pair at a node each, would lie as far apart as all that is known at these nodes, and
+// comparing it at each node would take long.
 fn packed_at(number: usize, facts: Facts) -> Result<Facts, AllocError>
     ensures { IfOk result (λ packed. packed ≡ facts) }
 {
@@ -67,7 +71,8 @@ fn start_of_body(
     choice: &Option<Choice>,
     entering: Option<Facts>,
 ) -> Option<Facts>
-    ensures { result ≡ rules.start_of_body (writing.changes_in nodes.now number) choice.now entering }
+    ensures { result ≡ rules.start_of_body (writing.changes_in nodes.now number)
+        choice.now entering }
 {
     let Some(choice) = choice else {
         return None;
@@ -78,7 +83,8 @@ fn start_of_body(
     }
 }
 
-// What arrives on a way, if there is memory. The way into a body leads to its start, and the way back to what was derived already.
+// What arrives on a way, if there is memory. The way into a body leads to its start, and the way
+// back to what was derived already.
 #[tactic(auto, using(crate::proofs::Ways::arriving_is))]
 fn arriving(
     nodes: &Nodes<'_>,
@@ -88,7 +94,9 @@ fn arriving(
     way: usize,
     edges: &Edges,
 ) -> Result<Option<Facts>, AllocError>
-    ensures { IfOk result (λ facts. facts ≡ rules.arriving (writing.changes_in nodes.now number) choice.now (option_map elements.seen read.now) way edges.now) }
+    ensures { IfOk result (λ facts. facts
+        ≡ rules.arriving (writing.changes_in nodes.now number) choice.now
+        (option_map elements.seen read.now) way edges.now) }
 {
     let begins = begins_turn(read, way);
     if begins && !begins_iteration(read) {
@@ -136,7 +144,9 @@ fn row_reached(
 ) -> Result<Row, NotDerived>
     requires one { 0 < number }
     requires last { number ≤ length nodes.now }
-    ensures { DerivesRow number (rules.derived_at nodes.now chosen.now number (node_at nodes.now number) (Some facts)) arrived.old arrived.new result }
+    ensures value { DerivesRow number (rules.derived_at nodes.now chosen.now number
+        (node_at nodes.now number) (Some facts)) arrived.old arrived.new result }
+    ensures large { IsLargeBy (Some facts) result }
 {
     if !are_kept(&facts) {
         return Err(NotDerived::Large { node: number });
@@ -163,7 +173,9 @@ fn row_of(
 ) -> Result<Row, NotDerived>
     requires one { 0 < number }
     requires last { number ≤ length nodes.now }
-    ensures { DerivesRow number (rules.derived_at nodes.now chosen.now number (node_at nodes.now number) known) arrived.old arrived.new result }
+    ensures value { DerivesRow number (rules.derived_at nodes.now chosen.now number
+        (node_at nodes.now number) known) arrived.old arrived.new result }
+    ensures large { IsLargeBy known result }
 {
     match known {
         None => Ok(Row::of(None, None)),
@@ -184,7 +196,9 @@ fn row_at(
     requires one { 0 < number }
     requires last { number ≤ length nodes.now }
     requires all { length arrived.old ≡ length nodes.now }
-    ensures { DerivesFrom nodes.now chosen.now number arrived.old arrived.new result }
+    ensures value { DerivesFrom nodes.now chosen.now number arrived.old arrived.new result }
+    ensures large { IsLargeBy (known_of (slice_index_or arrived.old (number - 1) (Ok None)))
+        result }
 {
     match arrived.take(number) {
         Ok(known) => row_of(nodes, chosen, number, known, arrived),
@@ -198,22 +212,26 @@ fn begun(
     argument: Option<ArgumentRange>,
     count: usize,
 ) -> Result<Arrived, AllocError>
-    ensures { IfOk result (λ arrived. arrived ≡ arrived_at 1 (given.facts_given argument) (replicate count (Ok None))) }
+    ensures { IfOk result (λ arrived. arrived
+        ≡ arrived_at 1 (given.facts_given argument) (replicate count (Ok None))) }
 {
     let mut arrived = Arrived::new(alloc, count)?;
     arrived.put(1, Facts::entry(alloc, argument)?)?;
     Ok(arrived)
 }
 
-/// The table that is derived with these choices, for an entry that takes the declared argument, if there is one. It takes time by
-/// the nodes and registers, and where ways meet by the pairs that were pushed since the entry.
+/// The table that is derived with these choices, for an entry that takes the declared argument, if
+/// there is one. It takes time by the nodes and registers, and where ways meet by the pairs that
+/// were pushed since the entry.
 pub fn derive(
     alloc: Global,
     argument: Option<ArgumentRange>,
     nodes: &Nodes<'_>,
     chosen: &[LoopLine],
 ) -> Result<Table, NotDerived>
-    ensures { Derives (rules.derive argument nodes.now chosen.now) result }
+    ensures value { Derives (rules.derive argument nodes.now chosen.now) result }
+    ensures told { DerivesUpTo argument nodes.now chosen.now result }
+    ensures small { list_any begins nodes.now ≡ false → IsNotLarge result }
 {
     let Ok(mut arrived) = begun(alloc, argument, nodes.len()) else {
         return Err(NotDerived::Memory);

@@ -1,16 +1,16 @@
 //! Where iterations end, and what their bodies change.
 ghost use Rattle.std.specs.Prelude.{◌≡◌, ◌<◌, ◌≤◌, length, IfSome};
 ghost use Rattle.teco_base.specs.declared.TheConstants.{REGISTERS};
-ghost use Rattle.teco_expand.specs.Ends as ends;
-ghost use Rattle.teco_table.specs.Written as rules;
+ghost use Rattle.teco_verifier.specs.expansion.Ends as ends;
+ghost use Rattle.teco_verifier.specs.table.Written as rules;
 ghost use Rattle.teco_check.specs.Here.{node_at};
 ghost use Rattle.teco_check.specs.Writes as writes;
 
 use crate::node::{element, iteration};
 use teco_base::REGISTERS;
+use teco_expansion::Nodes;
 use teco_facts::Changes;
 use teco_model::kind::{Command, Flow, Kind, Page, Search, Stack, Storage};
-use teco_nodes::Nodes;
 
 // Whether the innermost iteration began at a number.
 #[tactic(auto, using(crate::proofs::Numbered::innermost_is))]
@@ -78,7 +78,7 @@ fn set_by(kind: &Kind) -> Option<usize>
     }
 }
 
-// The same of what is read at a node.
+// The register whose number the element at a node writes.
 fn set_at(nodes: &Nodes<'_>, number: usize) -> Option<usize>
     requires one { 0 < number }
     requires last { number ≤ length nodes.now }
@@ -117,7 +117,7 @@ fn ends_by(kind: &Kind) -> bool
     }
 }
 
-// The same of what is read at a node.
+// Whether the element at a node ends all that is saved.
 fn ends_saved(nodes: &Nodes<'_>, number: usize) -> bool
     requires one { 0 < number }
     requires last { number ≤ length nodes.now }

@@ -1,4 +1,5 @@
-//! The verifier's tables in code: whether one is closed, what is printed of it, and how one is derived.
+//! The verifier's tables in code: whether one is closed, what is printed of it, and how one is
+//! derived.
 #![tactic(auto)]
 
 mod arrived;

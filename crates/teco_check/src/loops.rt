@@ -3,17 +3,17 @@ ghost use Rattle.std.specs.Prelude.{◌≡◌, ◌<◌, ◌≤◌, ◌++◌, len
 ghost use Rattle.std.specs.List.{list_any};
 ghost use Rattle.teco_base.specs.declared.TheConstants.{REGISTERS};
 ghost use Rattle.teco_check.specs.Here.{node_at};
-ghost use Rattle.teco_check.specs.Loops as rules;
+ghost use Rattle.teco_verifier.specs.table.Loops as rules;
 
 use crate::bodies::begins_iteration;
 use crate::node::element;
 use crate::table::Table;
 use std::alloc::{AllocError, Global};
 use teco_base::{REGISTERS, Reg};
-use teco_certificate::{LongerText, LoopLine};
+use teco_expansion::Nodes;
 use teco_facts::{Choice, Facts};
-use teco_nodes::Nodes;
 use teco_poly::Poly;
+use teco_verifier::{LongerText, LoopLine};
 
 /// The register at a place, 0 to 35.
 pub fn register_at(place: usize) -> Reg
@@ -75,7 +75,8 @@ fn line_at(
 ) -> Result<Option<LoopLine>, AllocError>
     requires one { 0 < number }
     requires last { number ≤ length nodes.now }
-    ensures { IfOk result (λ line. rules.lines_in line ≡ rules.lines_at table.now number (node_at nodes.now number)) }
+    ensures { IfOk result (λ line. rules.lines_in line
+        ≡ rules.lines_at table.now number (node_at nodes.now number)) }
 {
     if !begins_iteration(&element(nodes, number)) || table.facts_behind(number).is_none() {
         return Ok(None);

@@ -4,11 +4,11 @@ ghost use Rattle.teco_base.specs.declared.TheConstants.{LIMIT};
 ghost use Rattle.teco_model.specs.Element as elements;
 ghost use Rattle.teco_model.specs.Searching as searching;
 ghost use Rattle.teco_model.specs.State.{frame_of};
-ghost use Rattle.teco_table.specs.Behind as behind;
+ghost use Rattle.teco_verifier.specs.table.Behind as behind;
 ghost use Rattle.teco_check.specs.Here.{node_at};
 
+use teco_expansion::Nodes;
 use teco_model::Element;
-use teco_nodes::Nodes;
 
 /// What is read there; `None` at the end of a text.
 #[tactic(auto, using(crate::proofs::Numbered::numbered_at))]

@@ -1,21 +1,22 @@
-//! What is printed of a table: the most steps that a run takes, the most that is held, and the files that must be open.
+//! What is printed of a table: the most steps that a run takes, the most that is held, and the
+//! files that must be open.
 ghost use Rattle.std.specs.Prelude.{◌≡◌, ◌<◌, ◌≤◌, length, option_map, None, option_copied};
 ghost use Rattle.std.specs.Option.{option_map_or};
 ghost use Rattle.teco_model.specs.Element as elements;
-ghost use Rattle.teco_rules.specs.Facts as facts;
-ghost use Rattle.teco_rules.specs.Printed as needs;
-ghost use Rattle.teco_table.specs.Printed as rules;
-ghost use Rattle.teco_table.specs.Table.{facts_at};
+ghost use Rattle.teco_verifier.specs.facts.Facts as facts;
+ghost use Rattle.teco_verifier.specs.facts.Printed as needs;
+ghost use Rattle.teco_verifier.specs.table.Printed as rules;
+ghost use Rattle.teco_verifier.specs.table.Table.{facts_at};
 ghost use Rattle.teco_check.specs.Here.{node_at};
-ghost use Rattle.teco_check.specs.Says.{Prints};
+ghost use Rattle.teco_check.specs.Says.{OverflowsAt, Prints};
 
 use crate::node::{depth, element, iteration};
 use crate::table::Table;
-use teco_facts::{Facts, Needs, needs_of, steps, turns};
-use teco_model::Element;
-use teco_nodes::Nodes;
+use teco_expansion::Nodes;
+use teco_facts::{Facts, needs_of, steps, turns};
+use teco_model::{ArgumentRange, Element, Needs};
 use teco_poly::Poly;
-use teco_rules::{ArgumentRange, Refusal};
+use teco_verifier::Refusal;
 
 /// A printed number overflows at the node of this number.
 #[derive(Clone, Copy, Debug, PartialEq, Eq)]
@@ -23,7 +24,8 @@ pub struct Overflow {
     pub node: usize,
 }
 
-// The turns of an iteration, from what is known at its < and at the start of its body; one that is not reached counts once.
+// The turns of an iteration, from what is known at its < and at the start of its body; one that is
+// not reached counts once.
 fn turns_where(facts: Option<&Facts>, start: Option<&Facts>) -> Result<Poly, Refusal>
     ensures { result ≡ rules.turns_where (option_copied facts.entry) (option_copied start.entry) }
 {
@@ -79,7 +81,8 @@ fn steps_of(read: &Option<Element<'_>>, facts: &Facts) -> Result<Poly, Refusal>
 fn weight(nodes: &Nodes<'_>, table: &Table, number: usize) -> Result<Poly, Refusal>
     requires one { 0 < number }
     requires last { number ≤ length nodes.now }
-    ensures { result ≡ rules.weight table.now (node_at nodes.now number) (facts_at table.now number) }
+    ensures { result ≡ rules.weight table.now (node_at nodes.now number)
+        (facts_at table.now number) }
 {
     let Some(facts) = table.facts(number) else {
         return Ok(Poly::number(0));
@@ -114,14 +117,15 @@ fn steps_before(argument: Option<ArgumentRange>) -> u64
     }
 }
 
-/// The most steps that a run takes: the sum over the nodes, each with its steps, once for each turn round it; and the digits of the
-/// argument, where one is declared.
+/// The most steps that a run takes: the sum over the nodes, each with its steps, once for each turn
+/// round it; and the digits of the argument, where one is declared.
 pub fn commands(
     argument: Option<ArgumentRange>,
     nodes: &Nodes<'_>,
     table: &Table,
 ) -> Result<Poly, Overflow>
-    ensures { Prints (rules.commands argument nodes.now table.now) result }
+    ensures value { Prints (rules.commands argument nodes.now table.now) result }
+    ensures told { OverflowsAt nodes.now result }
 {
     let mut total = Poly::number(steps_before(argument));
     for at in 0..nodes.len() {
@@ -159,7 +163,8 @@ fn sized_with(facts: Option<&Facts>, most: &Poly) -> Result<Poly, Refusal>
 
 /// The most that is held: at least what is held, and each text, wherever that is reached.
 pub fn size(nodes: &Nodes<'_>, table: &Table) -> Result<Poly, Overflow>
-    ensures { Prints (rules.size nodes.now table.now) result }
+    ensures value { Prints (rules.size nodes.now table.now) result }
+    ensures told { OverflowsAt nodes.now result }
 {
     let mut most = Poly::number(0);
     for at in 0..nodes.len() {
@@ -208,7 +213,8 @@ fn known_needs(read: &Option<Element<'_>>, facts: &Facts) -> Needs
 fn needs_at(nodes: &Nodes<'_>, table: &Table, number: usize) -> Needs
     requires one { 0 < number }
     requires last { number ≤ length nodes.now }
-    ensures { result ≡ option_map_or (rules.needs_of (node_at nodes.now number).element) (facts_at table.now number) needs.no_needs }
+    ensures { result ≡ option_map_or (rules.needs_of (node_at nodes.now number).element)
+        (facts_at table.now number) needs.no_needs }
 {
     match table.facts(number) {
         None => no_needs(),

@@ -1,10 +1,10 @@
 //! Facts that say the same, or less.
 ghost use Rattle.std.specs.Prelude.{◌≡◌, IfOk, option_copied};
-ghost use Rattle.teco_table.specs.Closed as rules;
+ghost use Rattle.teco_verifier.specs.table.Closed as rules;
 
 use std::alloc::{AllocError, Global};
 use teco_facts::Facts;
-use teco_rules::ArgumentRange;
+use teco_model::ArgumentRange;
 
 /// Whether two facts say the same.
 pub fn say_same(one: &Facts, other: &Facts) -> bool
@@ -13,7 +13,8 @@ pub fn say_same(one: &Facts, other: &Facts) -> bool
     one.covers(other) && other.covers(one)
 }
 
-/// Whether nothing is known at the entry but what is always known there, and the argument that is declared; told if there is memory.
+/// Whether nothing is known at the entry but what is always known there, and the argument that is
+/// declared; told if there is memory.
 pub fn is_entry(
     alloc: Global,
     argument: Option<ArgumentRange>,

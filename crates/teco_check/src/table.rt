@@ -1,7 +1,7 @@
 //! Tables: what is known at each node, and what is chosen for each iteration.
 ghost use Rattle.std.specs.Prelude.{◌≡◌, ◌++◌, ◌∷◌, [], suc, length, IfSome, IsTrue, OnOk, option_copied};
-ghost use Rattle.teco_expand.specs.Node.{numbered};
-ghost use Rattle.teco_table.specs.Table.{facts_at, choice_at};
+ghost use Rattle.teco_verifier.specs.expansion.Node.{numbered};
+ghost use Rattle.teco_verifier.specs.table.Table.{facts_at, choice_at};
 ghost use Rattle.teco_check.specs.Kept.{AreKept};
 
 use std::alloc::{AllocError, Global};
@@ -17,7 +17,7 @@ pub struct Row {
 
 impl Model for Row {
     ghost use Rattle.std.specs.Prelude.{IfSome};
-    ghost use Rattle.teco_table.specs.Table as table;
+    ghost use Rattle.teco_verifier.specs.table.Table as table;
     ghost use Rattle.teco_check.specs.Kept.{AreKept};
 
     ghost Value = { table.Row };
@@ -27,7 +27,8 @@ impl Model for Row {
     ghost invariant = { λ r. IfSome r.facts AreKept };
 }
 
-/// Whether a table may have these facts: more may be added to their falls, and no more iterations are open than there may be.
+/// Whether a table may have these facts: more may be added to their falls, and no more iterations
+/// are open than there may be.
 pub fn are_kept(facts: &Facts) -> bool
     ensures yes { IsTrue result → AreKept facts.now }
     ensures no { AreKept facts.now → IsTrue result }
@@ -36,7 +37,8 @@ pub fn are_kept(facts: &Facts) -> bool
 }
 
 impl Row {
-    /// What is known before the element, where it is reached, and what is chosen for its body, where it is a < whose body is.
+    /// What is known before the element, where it is reached, and what is chosen for its body,
+    /// where it is a < whose body is.
     pub fn of(facts: Option<Facts>, choice: Option<Choice>) -> Row
         requires { IfSome facts AreKept }
         ensures { result ≡ record { facts = facts; choice = choice } }
@@ -67,7 +69,7 @@ pub struct Table {
 }
 
 impl Model for Table {
-    ghost use Rattle.teco_table.specs.Table as table;
+    ghost use Rattle.teco_verifier.specs.table.Table as table;
 
     ghost Value = { table.Table };
 

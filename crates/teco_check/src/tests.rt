@@ -1,17 +1,18 @@
-// Small macros: a table is derived from a choice for their iteration, checked, and printed. A call that is refused memory is
-// made once more, so that the rows also hold where one allocation fails.
+// Small macros: a table is derived from a choice for their iteration, checked, and printed. A call
+// that is refused memory is made once more, so that the rows also hold where one allocation fails.
 use super::*;
 use std::alloc::{AllocError, Global};
 use std::process::Abort;
 use std::test::*;
 use teco_base::{LIMIT, Reg};
-use teco_certificate::LoopLine;
+use teco_expansion::{ExpandFault, Nodes, expand};
 use teco_library::Library;
-use teco_nodes::{ExpandFault, Nodes, expand};
+use teco_model::ArgumentRange;
 use teco_poly::Poly;
-use teco_rules::ArgumentRange;
+use teco_verifier::LoopLine;
 
-// A library, the number of its `<` and what is held there at the start of a turn, or 0, commands and size.
+// A library, the number of its `<` and what is held there at the start of a turn, or 0, commands
+// and size.
 type Row = (
     &'static [u8],
     usize,
@@ -163,7 +164,7 @@ fn pushing(alloc: Global, jumps: usize) -> Result<Vec<u8>, AllocError> {
     Ok(file)
 }
 
-// The same, once more where memory was refused.
+// The file; made once more where memory was refused.
 fn pushing_file(rt: &impl Abort, alloc: Global, jumps: usize) -> Vec<u8> {
     match pushing(alloc, jumps) {
         Ok(file) => file,
@@ -181,7 +182,7 @@ fn lie_together(table: &Table, one: usize, other: usize) -> bool {
 
 #[test]
 fn packs_what_was_pushed(rt: HostRuntime) {
-    // It is pushed at the node 2, and packed at 128.
+    // The pair is pushed at the node 2, and packed at 128.
     let file = pushing_file(&rt, rt.alloc(), 140);
     let library = library_of(&rt, rt.alloc(), &file);
     let nodes = nodes_of(&rt, rt.alloc(), &library);

@@ -6,8 +6,8 @@ use crate::places::text_begin_in;
 use crate::refusals::{note_of_refusal, number_of};
 use std::{fmt, str};
 use teco_base::{Code, Reg};
-use teco_rules::Refusal;
 use teco_source::{Position, Shown, Source};
+use teco_verifier::Refusal;
 
 /// Why a library, or a macro of it, is refused, where in its source, and what usually mends it.
 #[derive(Clone, Copy)]

@@ -5,7 +5,8 @@ use teco_lex::element;
 use teco_model::Kind;
 use teco_model::kind::{Command, Storage};
 
-/// What keeps a file from being a library, where the element at a place is the first that may not stand there.
+/// What keeps a file from being a library, where the element at a place is the first that may not
+/// stand there.
 pub fn flaw_of_library(library: &[u8], place: usize) -> &'static str {
     if place > library.len() {
         return "it ends too early";
@@ -36,8 +37,8 @@ fn flaw_of(kind: &Kind, colons: u8, place: usize) -> &'static str {
     }
 }
 
-/// The code that a run would stop with at a place of a text, if reading alone shows that: no command, or a search text that
-/// can't be read.
+/// The code that a run would stop with at a place of a text, if reading alone shows that: no
+/// command, or a search text that can't be read.
 pub fn code_at(text: &[u8], place: usize) -> Option<Code> {
     if place > text.len() {
         return None;

@@ -1,8 +1,9 @@
 //! Hints for macros that are refused in the form that comes to mind first.
 use crate::around::{Around, Body, Role, Sign};
-use teco_rules::Refusal;
+use teco_verifier::Refusal;
 
-/// What usually mends a refusal of this kind at a place of a text, where the text has one of the common forms.
+/// What usually mends a refusal of this kind at a place of a text, where the text has one of the
+/// common forms.
 pub fn hint(why: Refusal, text: &[u8], place: usize) -> Option<&'static str> {
     let around = Around::of(text, place);
     match why {

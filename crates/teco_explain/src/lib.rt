@@ -1,4 +1,5 @@
-//! What codes and refusals mean, for people: in a few words, with an example, and how to mend what causes them.
+//! What codes and refusals mean, for people: in a few words, with an example, and how to mend what
+//! causes them.
 #![tactic(auto)]
 
 mod around;

@@ -9,8 +9,9 @@ use teco_source::ShownAs;
 /// How far a bracket indents what stands in it.
 const STEP: usize = 2;
 
-/// A text as its elements: those that only make arguments stand on one line with the command that takes them, and what an
-/// iteration, a conditional or a macro's text holds is indented. A terminal can show it.
+/// A text as its elements: those that only make arguments stand on one line with the command that
+/// takes them, and what an iteration, a conditional or a macro's text holds is indented. A terminal
+/// can show it.
 #[derive(Clone, Copy)]
 pub struct Outline<'a> {
     pub text: &'a [u8],

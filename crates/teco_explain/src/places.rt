@@ -21,7 +21,8 @@ fn is_same(one: Reg, other: Reg) -> bool {
     one.index() == other.index()
 }
 
-/// Where in a library file the text of a register begins, if the file gives it one. It takes time by the length of the file.
+/// Where in a library file the text of a register begins, if the file gives it one. It takes time
+/// by the length of the file.
 pub fn text_begin_in(library: &[u8], register: Reg) -> Option<usize> {
     let mut at = 0;
     for _ in 0..library.len() {

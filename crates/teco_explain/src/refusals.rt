@@ -1,6 +1,6 @@
 //! What the refusals of the verifier mean.
 use crate::note::Note;
-use teco_rules::Refusal;
+use teco_verifier::Refusal;
 
 /// All reasons, in the order of their numbers.
 const REFUSALS: [Refusal; 18] = [

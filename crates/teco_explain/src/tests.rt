@@ -2,8 +2,8 @@
 use super::*;
 use std::test::Fail;
 use teco_base::{Code, Reg};
-use teco_rules::Refusal;
 use teco_source::{Form, Source};
+use teco_verifier::Refusal;
 
 #[test]
 fn codes_have_names_and_notes(rt: HostRuntime) {

@@ -124,8 +124,8 @@ impl Args {
         self.level.value
     }
 
-    /// Takes the value that stands in the innermost level, with no operator behind it, and what else is pending there; `None`
-    /// where none stands, and then nothing changes.
+    /// Takes the value that stands in the innermost level, with no operator behind it, and what
+    /// else is pending there; `None` where none stands, and then nothing changes.
     #[inline(always)]
     pub fn take_standing(&mut self) -> Option<i32>
         ensures value { result ≡ model.standing_value self.old.level }

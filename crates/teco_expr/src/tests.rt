@@ -1,5 +1,6 @@
-// Arguments as they are written, with what a command takes, or the code. Only a ninth parenthesis may want memory; a call that
-// is refused memory is made once more, so that the rows also hold where that allocation fails.
+// Arguments as they are written, with what a command takes, or the code. Only a ninth parenthesis
+// may want memory; a call that is refused memory is made once more, so that the rows also hold
+// where that allocation fails.
 use super::*;
 use std::process::Abort;
 use std::test::Fail;

@@ -1,13 +1,12 @@
 -- Lists that are joined one after another, and joins by their parts.
-use Rattle.std.proofs.Common.{◌≡◌, refl, sym, ap, ◌∙◌, ℕ, zero, suc, ◌<◌, ◌≤◌, min, Bool, ◌&&◌, List, [], ◌∷◌, ◌++◌, length, take, drop, set, get_or, drop-cons, Result, Ok, Err, arith}
-use Rattle.std.proofs.lemmas.List.{take_all, drop_all, drop-set-lt, append-nil, length-set}
+use Rattle.std.proofs.Common.{◌≡◌, refl, sym, ap, ◌∙◌, ℕ, zero, suc, ◌<◌, List, [], ◌∷◌, length, take, drop, set, get_or, drop-cons, Result, Ok, Err, arith}
+use Rattle.std.proofs.lemmas.List.{drop-set-lt, length-set}
 use Rattle.teco_poly.specs.Polynomial.{Polynomial}
-use Rattle.teco_rules.specs.declared.values.Interval.{Interval}
-use Rattle.teco_rules.specs.declared.refusal.Refusal.{Refusal}
-use Rattle.teco_rules.specs.declared.refusal.Refusal.TheVariants as refusal
-use Rattle.teco_rules.specs.Attempt.{◌>>=◌}
-use Rattle.teco_rules.specs.Facts.{Position, Pushed, Facts, join_of, without_arguments}
-use Rattle.teco_rules.specs.Joins.{hull, hulls, joined_saved, joined_lengths, joined_pair, joined_pushes, joined_position, none_pending, joined}
+use Rattle.teco_verifier.specs.declared.values.Interval.{Interval}
+use Rattle.teco_verifier.specs.declared.refusal.Refusal.{Refusal}
+use Rattle.teco_verifier.specs.facts.Attempt.{◌>>=◌}
+use Rattle.teco_verifier.specs.facts.Facts.{Position, Pushed, Facts, join_of, without_arguments}
+use Rattle.teco_verifier.specs.facts.Joins.{hulls, joined_lengths, joined_pushes, joined_position, none_pending, joined}
 use Rattle.teco_facts.specs.Joined.{with_pushes_joined, with_rest_joined}
 
 -- of two lists the first ones are joined
@@ -28,13 +27,7 @@ pub record GoesOn {A : Type 0} (one : A → A → Result A Refusal) (all : List 
 pub lengths_go_on : GoesOn join_of joined_lengths
 lengths_go_on = record { none = refl; more = λ x y xs ys. refl }
 
-pub pushes_go_on : GoesOn joined_pair joined_pushes
-pushes_go_on = record { none = refl; more = λ x y xs ys. refl }
-
 module _ {A : Type 0} (one : A → A → Result A Refusal) (all : List A → List A → Result (List A) Refusal) (law : GoesOn one all) where
-  pub joined_none : (xs ys : List A) → AreJoined all xs ys xs 0
-  joined_none xs ys = record { front = law.none; rest = refl; long = refl }
-
   -- one more is joined
   front_more : (xs ys zs : List A) (i : ℕ) (x y z : A) → i < length xs → i < length ys → i < length zs → x ≡ get_or xs i x → y ≡ get_or ys i y → one x y ≡ Ok z → all (take i xs) (take i ys) ≡ Ok (take i zs) → all (take (suc i) xs) (take (suc i) ys) ≡ Ok (take (suc i) (set zs i z))
   front_more [] ys zs i x y z h k l d e f g = absurd (omega arith)
@@ -69,12 +62,6 @@ module _ {A : Type 0} (one : A → A → Result A Refusal) (all : List A → Lis
         long = length-set zs i z ∙ j.long;
       }
 
-  pub joined_all : (xs ys zs : List A) (i : ℕ) → length xs ≤ i → length ys ≤ i → AreJoined all xs ys zs i → all xs ys ≡ Ok zs
-  joined_all xs ys zs i h k j =
-      let long = j.long in
-      let whole : length zs ≤ i = omega arith in
-      rw (take_all i xs h, take_all i ys k, take_all i zs whole) at j.front
-
   refused_at : (xs ys ws : List A) (i : ℕ) (x y : A) (why : Refusal) → i < length xs → i < length ys → x ≡ get_or xs i x → y ≡ get_or ys i y → one x y ≡ Err why → all (take i xs) (take i ys) ≡ Ok ws → all xs ys ≡ Err why
   refused_at [] ys ws i x y why h k d e f g = absurd (omega arith)
   refused_at (a ∷ xs) [] ws i x y why h k d e f g = absurd (omega arith)
@@ -87,78 +74,6 @@ module _ {A : Type 0} (one : A → A → Result A Refusal) (all : List A → Lis
 
   pub joined_refused : (xs ys zs : List A) (i : ℕ) (x y : A) (why : Refusal) → i < length xs → i < length ys → x ≡ get_or xs i x → y ≡ get_or ys i y → one x y ≡ Err why → AreJoined all xs ys zs i → all xs ys ≡ Err why
   joined_refused xs ys zs i x y why h k d e f j = refused_at xs ys (take i zs) i x y why h k d e f j.front
-
-  -- what is not joined yet is as it was
-  pub joined_rest : (xs ys zs : List A) (i : ℕ) (x : A) → i < length xs → x ≡ get_or zs i x → AreJoined all xs ys zs i → x ≡ get_or xs i x
-  joined_rest xs ys zs i x h e j =
-      let long = j.long in
-      let within : i < length zs = omega arith in
-      let of_zs = drop-cons zs i x within in
-      let of_xs = drop-cons xs i x h in
-      let rest = j.rest in
-      cc
-
--- where one list is longer
-short : (ss ts ws : List Pushed) (n : ℕ) → n ≡ min (length ss) (length ts) → ¬ (length ss ≡ length ts) → joined_pushes (take n ss) (take n ts) ≡ Ok ws → joined_pushes ss ts ≡ Err refusal.Pop
-short [] [] ws n e h g = absurd (h refl)
-short [] (t ∷ ts) ws n e h g = refl
-short (s ∷ ss) [] ws n e h g = refl
-short (s ∷ ss) (t ∷ ts) ws zero e h g = absurd (omega arith)
-short (s ∷ ss) (t ∷ ts) ws (suc n) e h g =
-    let first = ok_of (joined_pair s t) _ _ g in
-    let others = ok_of (joined_pushes (take n ss) (take n ts)) _ _ first.2 in
-    let later = short ss ts others.0 n (omega arith) (λ same. h (ap suc same)) others.1 in
-    rw (first.1, later) refl
-
-pub pushes_short : (ss ts zs : List Pushed) (n : ℕ) → n ≡ min (length ss) (length ts) → ¬ (length ss ≡ length ts) → AreJoined joined_pushes ss ts zs n → joined_pushes ss ts ≡ Err refusal.Pop
-pushes_short ss ts zs n e h j = short ss ts (take n zs) n e h j.front
-
--- two lists of which items are made one of
-record Zips {A : Type 0} (one : A → A → A) (all : List A → List A → List A) : Type 0 where
-  none : (ys : List A) → all [] ys ≡ []
-  more : (x y : A) (xs ys : List A) → all (x ∷ xs) (y ∷ ys) ≡ one x y ∷ all xs ys
-
-module _ {A : Type 0} (one : A → A → A) (all : List A → List A → List A) (law : Zips one all) where
-  -- of the first ones
-  zipped_more : (xs ys : List A) (i : ℕ) (x y : A) → i < length xs → i < length ys → x ≡ get_or xs i x → y ≡ get_or ys i y → set (all (take i xs) (take i ys) ++ drop i xs) i (one x y) ≡ all (take (suc i) xs) (take (suc i) ys) ++ drop (suc i) xs
-  zipped_more [] ys i x y h k d e = absurd (omega arith)
-  zipped_more (a ∷ xs) [] i x y h k d e = absurd (omega arith)
-  zipped_more (a ∷ xs) (b ∷ ys) zero x y h k d e = rw (d, e, law.none [], law.more a b [] [], law.none []) refl
-  zipped_more (a ∷ xs) (b ∷ ys) (suc i) x y h k d e =
-      rw (law.more a b (take i xs) (take i ys), law.more a b (take (suc i) xs) (take (suc i) ys))
-      (ap (λ others. one a b ∷ others) (zipped_more xs ys i x y (omega arith) (omega arith) d e))
-
-  length-zipped : (xs ys : List A) → length xs ≡ length ys → length (all xs ys) ≡ length xs
-  length-zipped [] ys e = ap length (law.none ys)
-  length-zipped (x ∷ xs) [] e = absurd (omega arith)
-  length-zipped (x ∷ xs) (y ∷ ys) e = rw (law.more x y xs ys) (ap suc (length-zipped xs ys (omega arith)))
-
-  zipped_all : (xs ys : List A) (i : ℕ) → length xs ≤ i → length ys ≤ i → all (take i xs) (take i ys) ++ drop i xs ≡ all xs ys
-  zipped_all xs ys i h k = rw (take_all i xs h, take_all i ys k, drop_all i xs h, append-nil) refl
-
-hulls_zip : Zips hull hulls
-hulls_zip = record { none = λ ys. refl; more = λ x y xs ys. refl }
-
-saved_zip : Zips (λ s t. s && t) joined_saved
-saved_zip = record { none = λ ys. refl; more = λ x y xs ys. refl }
-
-pub hulls_more : (xs ys : List Interval) (i : ℕ) (x y : Interval) → i < length xs → i < length ys → x ≡ get_or xs i x → y ≡ get_or ys i y → set (hulls (take i xs) (take i ys) ++ drop i xs) i (hull x y) ≡ hulls (take (suc i) xs) (take (suc i) ys) ++ drop (suc i) xs
-hulls_more = zipped_more hull hulls hulls_zip
-
-pub length-hulls : (xs ys : List Interval) → length xs ≡ length ys → length (hulls xs ys) ≡ length xs
-length-hulls = length-zipped hull hulls hulls_zip
-
-pub hulls_all : (xs ys : List Interval) (i : ℕ) → length xs ≤ i → length ys ≤ i → hulls (take i xs) (take i ys) ++ drop i xs ≡ hulls xs ys
-hulls_all = zipped_all hull hulls hulls_zip
-
-pub saved_more : (xs ys : List Bool) (i : ℕ) (x y : Bool) → i < length xs → i < length ys → x ≡ get_or xs i x → y ≡ get_or ys i y → set (joined_saved (take i xs) (take i ys) ++ drop i xs) i (x && y) ≡ joined_saved (take (suc i) xs) (take (suc i) ys) ++ drop (suc i) xs
-saved_more = zipped_more (λ s t. s && t) joined_saved saved_zip
-
-pub length-saved : (xs ys : List Bool) → length xs ≡ length ys → length (joined_saved xs ys) ≡ length xs
-length-saved = length-zipped (λ s t. s && t) joined_saved saved_zip
-
-pub saved_all : (xs ys : List Bool) (i : ℕ) → length xs ≤ i → length ys ≤ i → joined_saved (take i xs) (take i ys) ++ drop i xs ≡ joined_saved xs ys
-saved_all = zipped_all (λ s t. s && t) joined_saved saved_zip
 
 -- a join by its steps
 by_parts : (one two : Result (Unit {0}) Refusal) (pushes : Result (List Pushed) Refusal) (position : Result Position Refusal) (held : Result Polynomial Refusal) (texts : Result (List Polynomial) Refusal) (numbers : List Interval) (facts : Facts)

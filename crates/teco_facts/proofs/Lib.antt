@@ -1,12 +1,13 @@
 -- What the proofs of the functions share.
 pub mod Ends
 pub mod Linear
-pub mod Lists
-pub mod Falling
+pub mod Places
+pub mod Wholes
+pub mod Shifted
 pub mod Searched
 pub mod Popping
-pub mod Each
-pub mod Unknown
+pub mod Sides
+pub mod Meeting
 pub mod Joins
 pub mod Settles
 pub mod Pairs

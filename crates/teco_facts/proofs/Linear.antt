@@ -1,7 +1,7 @@
 -- What is linear may be kept.
 use Rattle.std.proofs.Common.{◌≡◌, refl, ℤ, pos, negsuc, ◌-ℤ◌, ◌≤ℤ◌, Bool, true, false, int_le, ◌&&◌, arith}
 use Rattle.std.proofs.lemmas.Int.{ints}
-use Rattle.teco_rules.specs.Values.{least_share, most_share, is_sign, is_linear}
+use Rattle.teco_verifier.specs.facts.Values.{least_share, most_share, is_sign, is_linear}
 use Rattle.teco_facts.specs.Numbers.{IsNumber}
 
 both : (x y : Bool) → (x && y) ≡ true → (x ≡ true) × (y ≡ true)

@@ -1,9 +1,9 @@
 -- Pairs that are joined from the top down.
 use Rattle.std.proofs.Common.{◌≡◌, refl, sym, ap, ◌∙◌, ◌++◌, append_assoc, List, [], ◌∷◌, Result, Ok, Err}
-use Rattle.teco_rules.specs.declared.refusal.Refusal.{Refusal}
-use Rattle.teco_rules.specs.Attempt.{◌>>=◌}
-use Rattle.teco_rules.specs.Facts.{Pushed}
-use Rattle.teco_rules.specs.Joins.{joined_pair, joined_pushes}
+use Rattle.teco_verifier.specs.declared.refusal.Refusal.{Refusal}
+use Rattle.teco_verifier.specs.facts.Attempt.{◌>>=◌}
+use Rattle.teco_verifier.specs.facts.Facts.{Pushed}
+use Rattle.teco_verifier.specs.facts.Joins.{joined_pair, joined_pushes}
 
 -- these pairs, and behind them what is joined
 abbrev pub behind : List Pushed → Result (List Pushed) Refusal → Result (List Pushed) Refusal

@@ -3,13 +3,13 @@ use Rattle.std.proofs.Common.{◌≡◌, refl, ap, ◌∙◌, ℤ, pos, ◌+ℤ�
 use Rattle.std.proofs.Math.IntN.{*ℤ-zero, +ℤ_idl}
 use Rattle.teco_base.specs.declared.TheConstants.{LIMIT}
 use Rattle.teco_model.specs.declared.arguments.Operator.{Operator}
-use Rattle.teco_rules.specs.Arguments.{KnownLevel, empty_level, settled_value, settled_level}
-use Rattle.teco_rules.specs.Covers.{covers_level}
-use Rattle.teco_rules.specs.Joins.{is_empty_level}
-use Rattle.teco_rules.specs.Values.{interval_of, value_in}
-use Rattle.teco_rules.specs.declared.values.Interval.{Interval}
-use Rattle.teco_rules.specs.declared.values.Value.{Value}
-use Rattle.teco_rules.specs.declared.values.Distances.{Distances}
+use Rattle.teco_verifier.specs.facts.Arguments.{KnownLevel, empty_level, settled_value, settled_level}
+use Rattle.teco_verifier.specs.facts.Covers.{covers_level}
+use Rattle.teco_verifier.specs.facts.Joins.{is_empty_level}
+use Rattle.teco_verifier.specs.facts.Values.{interval_of, value_in}
+use Rattle.teco_verifier.specs.declared.values.Interval.{Interval}
+use Rattle.teco_verifier.specs.declared.values.Value.{Value}
+use Rattle.teco_verifier.specs.declared.values.Distances.{Distances}
 use Rattle.teco_facts.specs.Settled.{SettlesAgain, SettlesBoth, settled_by, settled_since}
 use Rattle.teco_facts.specs.declared.settling.Settling.{Settling}
 

@@ -1,9 +1,9 @@
 -- What a call did, beside the definition.
 use Rattle.std.specs.Prelude.{◌≡◌, [], ◌∷◌, Option, Some, None, Result, Ok, Err}
 use Rattle.std.specs.declared.alloc.AllocError.{AllocError}
-use Rattle.teco_rules.specs.declared.refusal.Refusal.{Refusal}
-use Rattle.teco_rules.specs.Arguments.{KnownArguments}
-use Rattle.teco_rules.specs.Facts.{Pushed, Facts}
+use Rattle.teco_verifier.specs.declared.refusal.Refusal.{Refusal}
+use Rattle.teco_verifier.specs.facts.Arguments.{KnownArguments}
+use Rattle.teco_verifier.specs.facts.Facts.{Pushed, Facts}
 use Rattle.teco_facts.specs.declared.fault.Fault.{Fault}
 use Rattle.teco_facts.specs.declared.fault.Fault.TheVariants as fault
 

@@ -1,9 +1,9 @@
 -- The steps of a join: of the pushes, and of all but these and the arguments.
 use Rattle.std.specs.Prelude.{Result, Ok}
-use Rattle.teco_rules.specs.declared.refusal.Refusal.{Refusal}
-use Rattle.teco_rules.specs.Attempt.{◌>>=◌}
-use Rattle.teco_rules.specs.Facts.{Facts, join_of}
-use Rattle.teco_rules.specs.Joins.{joined_position, hulls, joined_lengths, joined_pushes}
+use Rattle.teco_verifier.specs.declared.refusal.Refusal.{Refusal}
+use Rattle.teco_verifier.specs.facts.Attempt.{◌>>=◌}
+use Rattle.teco_verifier.specs.facts.Facts.{Facts, join_of}
+use Rattle.teco_verifier.specs.facts.Joins.{joined_position, hulls, joined_lengths, joined_pushes}
 
 abbrev pub with_pushes_joined : Facts → Facts → Result Facts Refusal
 with_pushes_joined facts others = do

@@ -1,5 +1,6 @@
 -- The words of the contracts.
 pub mod Numbers
+pub mod Each
 pub mod Does
 pub mod Seen
 pub mod Searched

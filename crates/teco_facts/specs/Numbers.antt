@@ -1,7 +1,7 @@
 -- Which numbers the code keeps.
 use Rattle.std.specs.Prelude.{ℤ, List, Option, Some, None, pos, negsuc, ◌+ℤ◌, ◌≤ℤ◌, ◌-◌, ◌^◌}
 use Rattle.std.specs.List.{All}
-use Rattle.teco_rules.specs.Values.{least_share, most_share}
+use Rattle.teco_verifier.specs.facts.Values.{least_share, most_share}
 
 -- 32-bit numbers in order
 pub record IsRange (lo hi : ℤ) : Type 0 where

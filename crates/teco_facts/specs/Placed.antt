@@ -1,6 +1,6 @@
 -- An element where it stands, as the rules have it.
 use Rattle.teco_model.specs.Element as elements
-use Rattle.teco_rules.specs.Transfer as rules
+use Rattle.teco_verifier.specs.facts.Transfer as rules
 use Rattle.teco_facts.specs.declared.edges.Placed.{Placed}
 
 abbrev pub seen : Placed → rules.Placed

@@ -1,6 +1,6 @@
 -- Where one more iteration may be open.
 use Rattle.std.specs.Prelude.{◌<◌, List, [], ◌∷◌, length, Option, Some, None}
-use Rattle.teco_rules.specs.Facts.{Iteration, Facts}
+use Rattle.teco_verifier.specs.facts.Facts.{Iteration, Facts}
 use Rattle.teco_facts.specs.declared.few.TheConstants.{DEPTH}
 
 pub record HasRoom (facts : Facts) : Type 0 where

@@ -1,15 +1,15 @@
 -- The definitions of searches, on the parts of an element and of the facts that they read.
 use Rattle.std.specs.Prelude.{ℕ, List, length, Some, Result, Ok}
 use Rattle.teco_model.specs.declared.kind.Search.{Search}
-use Rattle.teco_rules.specs.declared.refusal.Refusal.{Refusal}
-use Rattle.teco_rules.specs.Arguments.{levels_after_answer}
-use Rattle.teco_rules.specs.Attempt.{◌>>=◌}
-use Rattle.teco_rules.specs.Facts.{Position, Facts}
-use Rattle.teco_rules.specs.Joins.{joined_position}
-use Rattle.teco_rules.specs.Motions.{success}
-use Rattle.teco_rules.specs.Searches.{minimum_of, shift_found}
-use Rattle.teco_rules.specs.Shifts.{shifted}
-use Rattle.teco_rules.specs.Values.{value_in}
+use Rattle.teco_verifier.specs.declared.refusal.Refusal.{Refusal}
+use Rattle.teco_verifier.specs.facts.Arguments.{levels_after_answer}
+use Rattle.teco_verifier.specs.facts.Attempt.{◌>>=◌}
+use Rattle.teco_verifier.specs.facts.Facts.{Position, Facts}
+use Rattle.teco_verifier.specs.facts.Joins.{joined_position}
+use Rattle.teco_verifier.specs.facts.Motions.{success}
+use Rattle.teco_verifier.specs.facts.Searches.{minimum_of, shift_found}
+use Rattle.teco_verifier.specs.facts.Shifts.{shifted}
+use Rattle.teco_verifier.specs.facts.Values.{value_in}
 
 -- where a text is found, for which another is put in
 abbrev pub facts_found : Search → List ℕ → List ℕ → Facts → Result Facts Refusal

@@ -1,5 +1,5 @@
 -- The numbers that take a way, as the rules have them.
-use Rattle.teco_rules.specs.Ways as ways
+use Rattle.teco_verifier.specs.facts.Ways as ways
 use Rattle.teco_facts.specs.declared.ways.Numbers.{Numbers}
 use Rattle.teco_facts.specs.declared.ways.Numbers.TheVariants.{Zero, NotZero, Negative, NotNegative, Positive, NotPositive, All}
 

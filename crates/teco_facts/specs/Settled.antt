@@ -1,7 +1,7 @@
 -- How levels settle that were opened before.
 use Rattle.std.specs.Prelude.{◌≡◌, List, [], ◌∷◌, map, Bool, Option, Some, None}
-use Rattle.teco_rules.specs.Arguments.{KnownLevel, settled_level}
-use Rattle.teco_rules.specs.declared.values.Distances.{Distances}
+use Rattle.teco_verifier.specs.facts.Arguments.{KnownLevel, settled_level}
+use Rattle.teco_verifier.specs.declared.values.Distances.{Distances}
 use Rattle.teco_facts.specs.declared.settling.Opened.{Opened}
 use Rattle.teco_facts.specs.declared.settling.Settling.{Settling}
 

@@ -1,9 +1,9 @@
 //! What is known of the pending arguments.
 ghost use Rattle.std.specs.Prelude.{◌≡◌, IfOk, OnOk};
-ghost use Rattle.teco_rules.specs.Argument as given;
-ghost use Rattle.teco_rules.specs.Arguments as rules;
-ghost use Rattle.teco_rules.specs.Covers as covers;
-ghost use Rattle.teco_rules.specs.Joins as joins;
+ghost use Rattle.teco_verifier.specs.facts.Argument as given;
+ghost use Rattle.teco_verifier.specs.facts.Arguments as rules;
+ghost use Rattle.teco_verifier.specs.facts.Covers as covers;
+ghost use Rattle.teco_verifier.specs.facts.Joins as joins;
 ghost use Rattle.teco_facts.specs.Does.{Closes};
 
 use crate::fault::Fault;
@@ -13,13 +13,14 @@ use crate::number::Number;
 use crate::settling::{Opened, Settling, both, covers_levels, settled, settled_again};
 use std::alloc::{AllocError, Global};
 use std::marker::Model;
-use teco_rules::{ArgumentRange, Refusal};
+use teco_model::ArgumentRange;
 use teco_stack::Stack;
+use teco_verifier::Refusal;
 
 /// The innermost level, and those outside it.
 #[derive(Drop)]
 pub struct Arguments {
-    level: Level,
+    pub(crate) level: Level,
     // as they were when a parenthesis opened behind each
     outer: Stack<Opened>,
     // what has become of them since
@@ -28,7 +29,7 @@ pub struct Arguments {
 
 impl Model for Arguments {
     ghost use Rattle.teco_facts.specs.Settled.{levels_since};
-    ghost use Rattle.teco_rules.specs.Arguments.{KnownArguments};
+    ghost use Rattle.teco_verifier.specs.facts.Arguments.{KnownArguments};
 
     ghost Value = { KnownArguments };
 
@@ -51,7 +52,7 @@ impl Arguments {
         }
     }
 
-    /// The same arguments once more, if there is memory.
+    /// A copy of the arguments, if there is memory.
     pub fn copied(&self) -> Result<Arguments, AllocError>
         ensures { IfOk result (λ copy. copy ≡ self.now) }
     {
@@ -62,26 +63,13 @@ impl Arguments {
         })
     }
 
-    /// Puts the levels outside the innermost side by side, in memory of their own, if there is memory.
+    /// Puts the levels outside the innermost side by side, in memory of their own, if there is
+    /// memory.
     pub fn pack(&mut self) -> Result<(), AllocError>
         ensures { OnOk result (self.new ≡ self.old) }
     {
         self.outer = self.outer.packed()?;
         Ok(())
-    }
-
-    /// The innermost level.
-    pub fn level(&self) -> Level
-        ensures { result ≡ self.now.level }
-    {
-        self.level
-    }
-
-    /// Puts another level in the place of the innermost.
-    pub fn put(&mut self, level: Level)
-        ensures { self.new ≡ record self.old { level = level } }
-    {
-        self.level = level;
     }
 
     /// Drops all arguments, and all open parentheses.
@@ -110,7 +98,8 @@ impl Arguments {
 
     /// Closes the innermost parenthesis, and gives its value outside.
     pub fn close(&mut self, margins: Margins) -> Result<(), Fault>
-        ensures { Closes (rules.levels_closed_onto margins self.old.level self.old.outer) self.new result }
+        ensures { Closes (rules.levels_closed_onto margins self.old.level self.old.outer)
+            self.new result }
     {
         let Some(opened) = self.outer.pop()? else {
             return Err(Fault::Refused(Refusal::Argument));
@@ -122,13 +111,6 @@ impl Arguments {
         Ok(())
     }
 
-    /// Drops what the innermost level has.
-    pub fn take(&mut self)
-        ensures { self.new ≡ rules.levels_after_taking self.old }
-    {
-        self.level = Level::empty();
-    }
-
     /// Puts a command's answer there, if it gives one.
     pub fn answer(&mut self, answer: Option<Number>)
         ensures { self.new ≡ rules.levels_after_answer answer self.old }
@@ -138,8 +120,8 @@ impl Arguments {
         }
     }
 
-    /// Lets linear values become intervals, where Z or the pointer may change, and saved values too, where all that is saved
-    /// is ended.
+    /// Lets linear values become intervals, where Z or the pointer may change, and saved values
+    /// too, where all that is saved is ended.
     pub fn settle(&mut self, margins: Margins, ends: bool)
         ensures { self.new ≡ rules.settled margins ends self.old }
     {
@@ -149,7 +131,8 @@ impl Arguments {
 
     /// Whether each level outside the innermost covers that of an edge, of as many.
     pub fn covers_outer(&self, edge: &Arguments, margins: Margins) -> bool
-        ensures { result ≡ covers.each_covers (covers.covers_level margins) self.now.outer edge.now.outer }
+        ensures { result ≡ covers.each_covers (covers.covers_level margins) self.now.outer
+            edge.now.outer }
     {
         covers_levels(
             self.outer.chain(),

@@ -1,164 +1,202 @@
-//! What distances count in numbers.
-ghost use Rattle.std.specs.Prelude.{◌≡◌, IfSome, false, pos, negsuc, neg_ℤ, ◌+ℤ◌, ◌*ℤ◌, ◌≤ℤ◌, ◌≤◌, ◌^◌, ◌-◌, FitsSigned};
-ghost use Rattle.std.specs.Int.{int_min, int_max, w32};
+//! What distances count in numbers, and ranges of results.
+ghost use Rattle.std.specs.Prelude.{◌≡◌, ◌↔◌, FitsSigned, int_div, ◌+ℤ◌, ◌-ℤ◌, neg_ℤ, IsTrue, int_le, pos, negsuc, ◌*ℤ◌, ◌≤ℤ◌, ◌<◌, ◌≤◌, ◌^◌, ◌-◌};
+ghost use Rattle.std.specs.Int.{int_min, int_max, w32, w64};
 ghost use Rattle.teco_base.specs.declared.TheConstants.{LIMIT};
-ghost use Rattle.teco_rules.specs.Values as values;
-ghost use Rattle.teco_facts.specs.Numbers.{IsSmall, IsRange, IsNumber, IsNear, IsShare};
+ghost use Rattle.teco_base.specs.Arithmetic as bits;
+ghost use Rattle.teco_verifier.specs.facts.Deletions as rules;
+ghost use Rattle.teco_verifier.specs.facts.Values as values;
+ghost use Rattle.teco_facts.specs.Numbers.{IsSmall, IsNumber, IsShare};
 
 use crate::margins::Margins;
 use crate::range::Range;
-use crate::whole::Whole;
-use teco_base::LIMIT;
+use teco_base::{LIMIT, arithmetic};
+use teco_verifier::Value;
 
-// The product of a distance and how often it counts.
-fn share(distance: u32, times: Whole) -> Whole
+const MOST: u64 = LIMIT as u64;
+
+/// The sum of two numbers.
+pub fn add(one: i64, two: i64) -> i64
+    requires { FitsSigned w64 (one +ℤ two) }
+    ensures { result ≡ one +ℤ two }
+{
+    one + two
+}
+
+/// The difference of two numbers.
+pub fn sub(one: i64, two: i64) -> i64
+    requires { FitsSigned w64 (one -ℤ two) }
+    ensures { result ≡ one -ℤ two }
+{
+    one - two
+}
+
+// The product of two numbers.
+fn mul(one: i64, two: i64) -> i64
+    requires { FitsSigned w64 (one *ℤ two) }
+    ensures { result ≡ one *ℤ two }
+{
+    one * two
+}
+
+/// The number on the other side of 0.
+pub fn negated(n: i64) -> i64
+    requires { FitsSigned w64 (neg_ℤ n) }
+    ensures { result ≡ neg_ℤ n }
+{
+    -n
+}
+
+/// Whether two numbers are the same.
+pub fn is(one: i64, two: i64) -> bool
+    ensures { IsTrue result ↔ (one ≡ two) }
+{
+    one == two
+}
+
+/// Whether a number is at most another.
+pub fn at_most(one: i64, two: i64) -> bool
+    ensures { result ≡ int_le one two }
+{
+    one <= two
+}
+
+/// The number, and 0 for a negative one.
+pub fn positive(n: i64) -> u64
+    ensures value { result ≡ rules.positive n }
+    ensures small { result < 2 ^ 63 }
+{
+    if n < 0 { 0 } else { n as u64 }
+}
+
+/// The product of a distance and how often it counts.
+pub fn share(distance: u64, times: i64) -> i64
     requires small { IsSmall times }
     requires within { distance ≤ LIMIT }
     ensures value { result ≡ pos distance *ℤ times }
     ensures low { negsuc (2 ^ 34) ≤ℤ result }
     ensures high { result ≤ℤ pos (2 ^ 34) }
 {
-    Whole::natural(distance).times(times)
+    distance as i64 * times
 }
 
 // How much a distance of at least `least` counts at the least.
-fn least_share(least: u32, times: Whole) -> Whole
+fn least_share(least: u64, times: i64) -> i64
     requires small { IsSmall times }
     requires within { least ≤ LIMIT }
     ensures value { result ≡ values.least_share least times }
     ensures share { IsShare result times }
 {
-    share(
-        if times.is_negative() {
-            LIMIT as u32
-        } else {
-            least
-        },
-        times,
-    )
+    share(if times < 0 { MOST } else { least }, times)
 }
 
 // How much a distance of at least `least` counts at the most.
-fn most_share(least: u32, times: Whole) -> Whole
+fn most_share(least: u64, times: i64) -> i64
     requires small { IsSmall times }
     requires within { least ≤ LIMIT }
     ensures value { result ≡ values.most_share least times }
     ensures ordered { values.least_share least times ≤ℤ result }
     ensures share { IsShare result times }
 {
-    share(
-        if times.is_negative() {
-            least
-        } else {
-            LIMIT as u32
-        },
-        times,
-    )
+    share(if times < 0 { least } else { MOST }, times)
 }
 
-// The range of a number.
-pub fn range_of(margins: Margins, ahead: Whole, behind: Whole, lo: Whole, hi: Whole) -> Range
-    requires { IsNumber ahead behind lo hi }
-    ensures { result ≡ values.interval_of margins (record { ahead = ahead; behind = behind; lo = lo; hi = hi; saved = false }) }
+/// The range of a number.
+pub fn range_of(margins: Margins, n: Value) -> Range
+    requires { IsNumber n.ahead n.behind n.lo n.hi }
+    ensures { result ≡ values.interval_of margins n }
 {
-    let back = margins.back();
-    let fore = margins.fore();
-    let least_ahead = least_share(fore, ahead);
-    let least_behind = least_share(back, behind);
-    let most_ahead = most_share(fore, ahead);
-    let most_behind = most_share(back, behind);
-    Range::between(
-        least_ahead.plus(least_behind).plus(lo),
-        most_ahead.plus(most_behind).plus(hi),
-    )
-}
-
-/// The least that a number can be.
-pub fn least_of(
-    margins: Margins,
-    ahead: Whole,
-    behind: Whole,
-    lo: Whole,
-    hi: Whole,
-) -> Option<Whole>
-    requires ahead_small { IsSmall ahead }
-    requires behind_small { IsSmall behind }
-    requires low { negsuc (2 ^ 35) ≤ℤ lo }
-    requires high { lo ≤ℤ pos (2 ^ 35) }
-    ensures value { result ≡ values.least (record { ahead = ahead; behind = behind; lo = lo; hi = hi; saved = false }) margins }
-    ensures near { IfSome result IsNear }
-{
-    if ahead.is_negative() || behind.is_negative() {
-        return None;
+    let least_ahead = least_share(margins.fore, n.ahead);
+    let least_behind = least_share(margins.back, n.behind);
+    let most_ahead = most_share(margins.fore, n.ahead);
+    let most_behind = most_share(margins.back, n.behind);
+    Range {
+        lo: add(add(least_ahead, least_behind), n.lo),
+        hi: add(add(most_ahead, most_behind), n.hi),
     }
-    let back = margins.back();
-    let fore = margins.fore();
-    Some(share(fore, ahead).plus(share(back, behind)).plus(lo))
-}
-
-/// A distance that is known not to be negative, at most LIMIT.
-pub fn distance_of(least: Option<Whole>) -> Option<u32>
-    ensures { result ≡ values.distance_of least }
-{
-    let least = least?;
-    if least.is_negative() {
-        return None;
-    }
-    Some(least.up_to(LIMIT as u32))
-}
-
-// The product of two numbers of 32 bits.
-fn product(x: Whole, y: Whole) -> Whole
-    requires fits { FitsSigned w32 x }
-    requires other_fits { FitsSigned w32 y }
-    ensures value { result ≡ x *ℤ y }
-{
-    x.times(y)
 }
 
 // The range from the least to the greatest of four numbers.
-fn hull(a: Whole, b: Whole, c: Whole, d: Whole) -> Range
-    ensures { result ≡ values.kept_in_32_bits (record { lo = int_min (int_min a b) (int_min c d); hi = int_max (int_max a b) (int_max c d) }) }
+fn hull(a: i64, b: i64, c: i64, d: i64) -> Range
+    ensures { result ≡ values.kept_in_32_bits (record {
+      lo = int_min (int_min a b) (int_min c d);
+      hi = int_max (int_max a b) (int_max c d);
+    }) }
 {
     let lo = a.min(b).min(c.min(d));
     let hi = a.max(b).max(c.max(d));
     Range::kept(lo, hi)
 }
 
+// The product of two numbers of 32 bits.
+fn product(x: i64, y: i64) -> i64
+    requires fits { FitsSigned w32 x }
+    requires other_fits { FitsSigned w32 y }
+    ensures { result ≡ x *ℤ y }
+{
+    mul(x, y)
+}
+
+// The quotient of numbers of 32 bits, truncated towards 0.
+fn quotient(x: i64, y: i64) -> i64
+    requires fits { FitsSigned w32 x }
+    requires nonzero { y ≡ pos 0 → ⊥ }
+    ensures { result ≡ int_div x y }
+{
+    x / y
+}
+
+/// The bits that the least numbers of two ranges both have.
+pub fn and(i: Range, j: Range) -> i32
+    ensures { result ≡ bits.and i.lo j.lo }
+{
+    arithmetic::and(i.lo as i32, j.lo as i32)
+}
+
+/// The bits that the least number of either of two ranges has.
+pub fn or(i: Range, j: Range) -> i32
+    ensures { result ≡ bits.or i.lo j.lo }
+{
+    arithmetic::or(i.lo as i32, j.lo as i32)
+}
+
 /// The range of a product, between its corners.
+#[tactic(auto, using(crate::proofs::Wholes::wholes))]
 pub fn product_of(i: Range, j: Range) -> Range
     ensures { result ≡ values.kept_in_32_bits (values.interval_product i j) }
 {
-    let low_low = product(i.lo(), j.lo());
-    let low_high = product(i.lo(), j.hi());
-    let high_low = product(i.hi(), j.lo());
-    let high_high = product(i.hi(), j.hi());
-    hull(low_low, low_high, high_low, high_high)
+    hull(
+        product(i.lo, j.lo),
+        product(i.lo, j.hi),
+        product(i.hi, j.lo),
+        product(i.hi, j.hi),
+    )
 }
 
 /// The range of a quotient, between its corners.
+#[tactic(auto, using(crate::proofs::Wholes::wholes))]
 pub fn quotient_of(i: Range, j: Range) -> Range
     requires lo_nonzero { j.lo ≡ pos 0 → ⊥ }
     requires hi_nonzero { j.hi ≡ pos 0 → ⊥ }
     ensures { result ≡ values.kept_in_32_bits (values.interval_quotient i j) }
 {
-    let low_low = i.lo().over(j.lo());
-    let low_high = i.lo().over(j.hi());
-    let high_low = i.hi().over(j.lo());
-    let high_high = i.hi().over(j.hi());
-    hull(low_low, low_high, high_low, high_high)
+    hull(
+        quotient(i.lo, j.lo),
+        quotient(i.lo, j.hi),
+        quotient(i.hi, j.lo),
+        quotient(i.hi, j.hi),
+    )
 }
 
 /// The range of a sum.
 pub fn sum_of(i: Range, j: Range) -> Range
     ensures { result ≡ values.kept_in_32_bits (values.interval_sum i j) }
 {
-    Range::kept(i.lo().plus(j.lo()), i.hi().plus(j.hi()))
+    Range::kept(add(i.lo, j.lo), add(i.hi, j.hi))
 }
 
 /// The range of a difference.
 pub fn difference_of(i: Range, j: Range) -> Range
     ensures { result ≡ values.kept_in_32_bits (values.interval_difference i j) }
 {
-    Range::kept(i.lo().minus(j.hi()), i.hi().minus(j.lo()))
+    Range::kept(sub(i.lo, j.hi), sub(i.hi, j.lo))
 }

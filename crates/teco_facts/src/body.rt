@@ -1,25 +1,26 @@
 //! The body of an iteration: what is chosen for its start, and when a choice stands.
 ghost use Rattle.std.specs.Prelude.{◌≡◌, length, option_copied};
 ghost use Rattle.teco_base.specs.declared.TheConstants.{REGISTERS};
-ghost use Rattle.teco_rules.specs.Bodies as bodies;
-ghost use Rattle.teco_rules.specs.Shifts as shifts;
+ghost use Rattle.teco_verifier.specs.facts.Bodies as bodies;
+ghost use Rattle.teco_verifier.specs.facts.Shifts as shifts;
 ghost use Rattle.teco_facts.specs.Chosen as chosen;
 
-use crate::covering::{covers_lengths, covers_numbers, covers_pushes};
+use crate::covering::covers_pushes;
+use crate::each::{each_covers, replace_where};
 use crate::facts::Facts;
 use crate::falls::falls_at_start;
 use crate::margins::Margins;
 use crate::position::{Position, sum_of};
 use crate::range::Range;
 use crate::saved::Saved;
-use crate::whole::Whole;
 use std::marker::Model;
 use teco_base::REGISTERS;
 use teco_poly::Poly;
-use teco_rules::Refusal;
+use teco_verifier::Refusal;
 
-/// What is chosen: how much is held at most at the start of each turn, how long the texts are at most, and whether the iteration
-/// is kept: what is ahead, and the falls of those outside, are then those at its <.
+/// What is chosen: how much is held at most at the start of each turn, how long the texts are at
+/// most, and whether the iteration is kept: what is ahead, and the falls of those outside, are then
+/// those at its <.
 #[derive(Clone, Copy)]
 pub struct Choice {
     pub held: Poly,
@@ -28,7 +29,7 @@ pub struct Choice {
 }
 
 impl Model for Choice {
-    ghost use Rattle.teco_rules.specs.Bodies as bodies;
+    ghost use Rattle.teco_verifier.specs.facts.Bodies as bodies;
 
     ghost Value = { bodies.Choice };
 
@@ -42,8 +43,8 @@ impl Model for Choice {
     ghost invariant = { λ c. length c.texts ≡ REGISTERS };
 }
 
-/// What a body changes, called texts included: the numbers of which registers it writes, and whether it ends all that is
-/// saved.
+/// What a body changes, called texts included: the numbers of which registers it writes, and
+/// whether it ends all that is saved.
 #[derive(Clone, Copy)]
 pub struct Changes {
     pub written: [bool; REGISTERS],
@@ -53,7 +54,7 @@ pub struct Changes {
 impl Model for Changes {
     ghost use Rattle.std.specs.Prelude.{◌≡◌, length};
     ghost use Rattle.teco_base.specs.declared.TheConstants.{REGISTERS};
-    ghost use Rattle.teco_rules.specs.Bodies as bodies;
+    ghost use Rattle.teco_verifier.specs.facts.Bodies as bodies;
 
     ghost Value = { bodies.Changes };
 
@@ -67,7 +68,8 @@ impl Model for Changes {
 impl Position {
     // Which registers are saved at the start of a body.
     fn saved_at_start(&self, changes: &Changes) -> Saved
-        ensures { result ≡ shifts.saved_after changes.now.ends (bodies.unsaved_where changes.now.written self.now.saved) }
+        ensures { result ≡ shifts.saved_after changes.now.ends (bodies.unsaved_where
+            changes.now.written self.now.saved) }
     {
         self.saved
             .unless_written(&changes.written)
@@ -90,12 +92,9 @@ impl Position {
     fn has_own_fall(&self, least: u32) -> bool
         ensures { result ≡ bodies.has_own_fall least self.now }
     {
-        if self.falls.len() == 0 {
-            return false;
-        }
-        match self.falls.get(0) {
-            None => false,
-            Some(fall) => Whole::natural(least).at_most(fall),
+        match self.falls.as_slice() {
+            [Some(fall), ..] => i64::from(least) <= *fall,
+            _ => false,
         }
     }
 }
@@ -166,21 +165,18 @@ impl Choice {
     pub fn begins(&self, entering: &Facts) -> bool
         ensures { result ≡ bodies.begins self.now entering.now }
     {
-        entering.known.held.le(&self.held) && covers_lengths(&self.texts, &entering.known.texts)
+        entering.known.held.le(&self.held) && each_covers(&self.texts, &entering.known.texts)
     }
 }
 
 // The numbers of registers, unknown where the body writes them.
+#[tactic(auto, using(crate::proofs::Meeting::unknown_are))]
 fn unknown_where(written: &[bool; REGISTERS], numbers: &[Range; REGISTERS]) -> [Range; REGISTERS]
     ensures value { result ≡ bodies.unknown_where written.now numbers.now }
     ensures all { length result ≡ REGISTERS }
 {
     let mut unknown = *numbers;
-    for register in 0..REGISTERS {
-        if written[register] {
-            unknown[register] = Range::any();
-        }
-    }
+    replace_where(&mut unknown, written, Range::any());
     unknown
 }
 
@@ -197,14 +193,15 @@ pub fn body_start(choice: &Choice, changes: &Changes, mut entering: Facts) -> Fa
 
 // Whether a turn that ends leaves what the next one may begin with.
 fn begins_again(choice: &Choice, changes: &Changes, entering: &Facts, end: &Facts) -> bool
-    ensures { result ≡ bodies.begins_again (bodies.body_start choice.now changes.now entering.now) end.now }
+    ensures { result ≡ bodies.begins_again (bodies.body_start choice.now changes.now
+        entering.now) end.now }
 {
     let numbers = unknown_where(&changes.written, &entering.known.numbers);
     let saved = entering.known.position.saved_at_start(changes);
-    covers_numbers(&numbers, &end.known.numbers)
-        && covers_lengths(&choice.texts, &end.known.texts)
+    each_covers(&numbers, &end.known.numbers)
+        && each_covers(&choice.texts, &end.known.texts)
         && covers_pushes(entering, end)
-        && saved.covers(end.known.position.saved())
+        && saved.covers(end.known.position.saved)
 }
 
 impl Choice {
@@ -217,7 +214,8 @@ impl Choice {
         entering: &Facts,
         end: &Facts,
     ) -> bool
-        ensures { result ≡ bodies.returns self.now changes.now counted turns.now entering.now end.now }
+        ensures { result ≡ bodies.returns self.now changes.now counted turns.now entering.now
+            end.now }
     {
         counts(counted, &end.known.position)
             && keeps(self.kept, &end.known.position)
@@ -225,7 +223,8 @@ impl Choice {
             && begins_again(self, changes, entering, end)
     }
 
-    /// Whether the choice stands: it begins and, if the > is reached, the next turn may begin there.
+    /// Whether the choice stands: it begins and, if the > is reached, the next turn may begin
+    /// there.
     pub fn stands(
         &self,
         changes: &Changes,
@@ -234,7 +233,8 @@ impl Choice {
         entering: &Facts,
         end: Option<&Facts>,
     ) -> bool
-        ensures { result ≡ bodies.stands self.now changes.now counted turns.now entering.now (option_copied end.entry) }
+        ensures { result ≡ bodies.stands self.now changes.now counted turns.now entering.now
+            (option_copied end.entry) }
     {
         match end {
             None => self.begins(entering),

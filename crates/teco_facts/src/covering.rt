@@ -1,61 +1,75 @@
 //! When what is known at the end of an edge is covered by what is known at its target.
 ghost use Rattle.std.specs.Prelude.{◌≡◌, ◌&&◌};
-ghost use Rattle.teco_rules.specs.Covers as covers;
+ghost use Rattle.teco_verifier.specs.facts.Covers as covers;
 
 use crate::arguments::Arguments;
+use crate::each::{Covers, each_covers};
 use crate::facts::{Answer, Facts, Iteration, Pushed};
-use crate::falls::Falls;
-use crate::few::Few;
 use crate::level::Level;
 use crate::margins::Margins;
 use crate::number::Number;
 use crate::position::Position;
 use crate::range::Range;
-use crate::saved::covers_saved;
-use crate::whole::Whole;
 use teco_model::Operator;
 use teco_poly::Poly;
 use teco_stack::Chain;
-
-/// Whether a range is wider, or the same.
-pub fn covers_range(one: Range, edge: Range) -> bool
-    ensures { result ≡ covers.covers_interval one edge }
-{
-    one.lo().at_most(edge.lo()) && edge.hi().at_most(one.hi())
-}
+use teco_verifier::Value;
 
 // Whether two numbers are the same.
-fn are_equal(one: Whole, two: Whole) -> bool
+fn are_equal(one: i64, two: i64) -> bool
     ensures { result ≡ covers.are_equal one two }
 {
-    one.at_most(two) && two.at_most(one)
+    one <= two && two <= one
+}
+
+// Whether no distance counts in a number.
+fn is_interval(n: Value) -> bool
+    ensures { result ≡ covers.is_interval n }
+{
+    are_equal(n.ahead, 0) && are_equal(n.behind, 0)
+}
+
+// Whether each distance counts as often in both numbers.
+fn counts_as_often(one: Value, edge: Value) -> bool
+    ensures { result ≡ (covers.are_equal one.ahead edge.ahead && covers.are_equal one.behind edge.behind) }
+{
+    are_equal(one.ahead, edge.ahead) && are_equal(one.behind, edge.behind)
+}
+
+// Whether what else there is has the same ends.
+fn has_same_ends(one: Value, edge: Value) -> bool
+    ensures { result ≡ (covers.are_equal one.lo edge.lo && covers.are_equal one.hi edge.hi) }
+{
+    are_equal(one.lo, edge.lo) && are_equal(one.hi, edge.hi)
+}
+
+// Whether two numbers have the same parts.
+fn is_same(one: Value, edge: Value) -> bool
+    ensures { result ≡ covers.is_same one edge }
+{
+    counts_as_often(one, edge) && has_same_ends(one, edge)
 }
 
 // Whether a linear number is the same, or a range has all that the other number may be.
+#[tactic(auto, using(crate::proofs::Wholes::wholes))]
 fn covers_number(margins: Margins, one: Number, edge: Number) -> bool
     ensures { result ≡ covers.covers_number margins one edge }
 {
-    let (ahead, behind, lo, hi) = one.parts();
-    let (edge_ahead, edge_behind, edge_lo, edge_hi) = edge.parts();
-    if are_equal(ahead, Whole::ZERO) && are_equal(behind, Whole::ZERO) {
-        let range = edge.range(margins);
-        lo.at_most(range.lo()) && range.hi().at_most(hi)
+    if is_interval(one.value) {
+        one.ends().covers(&edge.range(margins))
     } else {
-        are_equal(ahead, edge_ahead)
-            && are_equal(behind, edge_behind)
-            && are_equal(lo, edge_lo)
-            && are_equal(hi, edge_hi)
+        is_same(one.value, edge.value)
     }
 }
 
-// Whether that is so, and what is saved is saved on the edge.
+// Whether a number covers another, and what is saved is saved on the edge.
 fn covers_value(margins: Margins, one: Number, edge: Number) -> bool
     ensures { result ≡ covers.covers_value margins one edge }
 {
-    covers_saved(one.is_saved(), edge.is_saved()) && covers_number(margins, one, edge)
+    one.value.saved.covers(&edge.value.saved) && covers_number(margins, one, edge)
 }
 
-// The same of numbers that may be absent.
+// Whether numbers that may be absent are both there and covered, or both absent.
 fn covers_if_any(margins: Margins, one: Option<Number>, edge: Option<Number>) -> bool
     ensures { result ≡ covers.both_cover (covers.covers_value margins) one edge }
 {
@@ -66,30 +80,20 @@ fn covers_if_any(margins: Margins, one: Option<Number>, edge: Option<Number>) ->
     }
 }
 
-// Whether two operators are the same.
-fn is_same_operator(one: Operator, edge: Operator) -> bool
-    ensures { result ≡ covers.is_same_operator one edge }
-{
-    match (one, edge) {
-        (Operator::Plus, Operator::Plus) => true,
-        (Operator::Minus, Operator::Minus) => true,
-        (Operator::Times, Operator::Times) => true,
-        (Operator::Over, Operator::Over) => true,
-        (Operator::And, Operator::And) => true,
-        (Operator::Or, Operator::Or) => true,
-        _ => false,
-    }
-}
-
-// The same of operators that may be absent.
-fn is_same_if_any(one: Option<Operator>, edge: Option<Operator>) -> bool
+// Whether two operators are the same, or there is none.
+fn is_same_operator(one: Option<Operator>, edge: Option<Operator>) -> bool
     ensures { result ≡ covers.both_cover covers.is_same_operator one edge }
 {
-    match (one, edge) {
-        (None, None) => true,
-        (Some(one), Some(edge)) => is_same_operator(one, edge),
-        _ => false,
-    }
+    matches!(
+        (one, edge),
+        (None, None)
+            | (Some(Operator::Plus), Some(Operator::Plus))
+            | (Some(Operator::Minus), Some(Operator::Minus))
+            | (Some(Operator::Times), Some(Operator::Times))
+            | (Some(Operator::Over), Some(Operator::Over))
+            | (Some(Operator::And), Some(Operator::And))
+            | (Some(Operator::Or), Some(Operator::Or))
+    )
 }
 
 impl Level {
@@ -97,11 +101,9 @@ impl Level {
     pub fn covers(self, edge: Level, margins: Margins) -> bool
         ensures { result ≡ covers.covers_level margins self edge }
     {
-        let (first, value, operator) = self.parts();
-        let (edge_first, edge_value, edge_operator) = edge.parts();
-        covers_if_any(margins, first, edge_first)
-            && covers_if_any(margins, value, edge_value)
-            && is_same_if_any(operator, edge_operator)
+        covers_if_any(margins, self.first, edge.first)
+            && covers_if_any(margins, self.value, edge.value)
+            && is_same_operator(self.operator, edge.operator)
     }
 }
 
@@ -110,70 +112,63 @@ impl Margins {
     pub fn covers(self, edge: Margins) -> bool
         ensures { result ≡ covers.covers_distances self edge }
     {
-        self.back() <= edge.back() && self.fore() <= edge.fore()
+        self.back <= edge.back && self.fore <= edge.fore
     }
 }
 
-/// Whether a fall is smaller, or the same; an unknown one is the smallest.
-pub fn covers_fall(one: Option<Whole>, edge: Option<Whole>) -> bool
-    ensures { result ≡ covers.covers_fall one edge }
-{
-    match (one, edge) {
-        (None, _) => true,
-        (Some(one), Some(edge)) => one.at_most(edge),
-        (Some(_), None) => false,
+impl Covers for Range {
+    ghost covers = { covers.covers_interval };
+
+    fn covers(&self, edge: &Range) -> bool {
+        self.lo <= edge.lo && edge.hi <= self.hi
     }
 }
 
-/// Whether it is the same iteration: with a count at both, and as many pushes.
-pub fn is_same_iteration(one: Iteration, edge: Iteration) -> bool
-    ensures { result ≡ covers.is_same_iteration one edge }
-{
-    one.counted == edge.counted && one.pushes == edge.pushes
+// A fall is smaller, or the same; an unknown one is the smallest.
+impl Covers for Option<i64> {
+    ghost covers = { covers.covers_fall };
+
+    fn covers(&self, edge: &Option<i64>) -> bool {
+        match (self, edge) {
+            (None, _) => true,
+            (Some(one), Some(edge)) => one <= edge,
+            (Some(_), None) => false,
+        }
+    }
 }
 
-/// Whether a text may be longer.
-pub fn covers_length(one: &Poly, edge: &Poly) -> bool
-    ensures { result ≡ covers.covers_length one.now edge.now }
-{
-    edge.le(one)
+// An iteration has a count at both, or at neither, and as many pushes.
+impl Covers for Iteration {
+    ghost covers = { covers.is_same_iteration };
+
+    fn covers(&self, edge: &Iteration) -> bool {
+        self.counted == edge.counted && self.pushes == edge.pushes
+    }
 }
 
-/// Whether a pushed pair covers another.
-pub fn covers_pushed(one: &Pushed, edge: &Pushed) -> bool
+// A text may be longer.
+impl Covers for Poly {
+    ghost covers = { covers.covers_length };
+
+    fn covers(&self, edge: &Poly) -> bool {
+        edge.le(self)
+    }
+}
+
+// What is saved here is saved on the edge.
+impl Covers for bool {
+    ghost covers = { covers.covers_saved };
+
+    fn covers(&self, edge: &bool) -> bool {
+        !*self || *edge
+    }
+}
+
+// Whether a pushed pair covers another.
+fn covers_pushed(one: &Pushed, edge: &Pushed) -> bool
     ensures { result ≡ covers.covers_pushed one.now edge.now }
 {
-    covers_range(one.number, edge.number) && edge.text.le(&one.text)
-}
-
-// Whether each fall is covered, of as many.
-fn covers_falls(one: &Falls, edge: &Falls) -> bool
-    ensures { result ≡ covers.each_covers covers.covers_fall one.now edge.now }
-{
-    if one.len() != edge.len() {
-        return false;
-    }
-    for at in (0..one.len()).rev() {
-        if !covers_fall(one.get(at), edge.get(at)) {
-            return false;
-        }
-    }
-    true
-}
-
-// Whether the same iterations are open.
-fn covers_iterations(one: &Few<Iteration>, edge: &Few<Iteration>) -> bool
-    ensures { result ≡ covers.each_covers covers.is_same_iteration one.now edge.now }
-{
-    if one.len() != edge.len() {
-        return false;
-    }
-    for at in (0..one.len()).rev() {
-        if !is_same_iteration(one.get(at), edge.get(at)) {
-            return false;
-        }
-    }
-    true
+    one.number.covers(&edge.number) && edge.text.le(&one.text)
 }
 
 // Whether each pair is covered, of as many.
@@ -204,41 +199,11 @@ pub fn covers_pushes(one: &Facts, edge: &Facts) -> bool
     covers_pairs(one.known.pushes.chain(), edge.known.pushes.chain())
 }
 
-/// Whether each number is covered, of as many.
-pub fn covers_numbers(one: &[Range], edge: &[Range]) -> bool
-    ensures { result ≡ covers.each_covers covers.covers_interval one.now edge.now }
-{
-    if one.len() != edge.len() {
-        return false;
-    }
-    for at in (0..one.len()).rev() {
-        if !covers_range(one[at], edge[at]) {
-            return false;
-        }
-    }
-    true
-}
-
-/// Whether each text is covered, of as many.
-pub fn covers_lengths(one: &[Poly], edge: &[Poly]) -> bool
-    ensures { result ≡ covers.each_covers covers.covers_length one.now edge.now }
-{
-    if one.len() != edge.len() {
-        return false;
-    }
-    for at in (0..one.len()).rev() {
-        if !covers_length(&one[at], &edge[at]) {
-            return false;
-        }
-    }
-    true
-}
-
 // Whether the arguments are covered: each level, of as many.
 fn covers_arguments(one: &Arguments, edge: &Arguments, margins: Margins) -> bool
     ensures { result ≡ covers.covers_arguments margins one.now edge.now }
 {
-    one.level().covers(edge.level(), margins) && one.covers_outer(edge, margins)
+    one.level.covers(edge.level, margins) && one.covers_outer(edge, margins)
 }
 
 impl Position {
@@ -247,7 +212,7 @@ impl Position {
         ensures { result ≡ covers.covers_position self.now edge.now }
     {
         self.margins.covers(edge.margins)
-            && covers_falls(&self.falls, &edge.falls)
+            && each_covers(self.falls.as_slice(), edge.falls.as_slice())
             && edge.ahead.le(&self.ahead)
             && self.saved.covers(edge.saved)
     }
@@ -267,34 +232,37 @@ fn covers_answer(one: &Option<Answer>, edge: &Option<Answer>) -> bool
 impl Answer {
     // Whether both outcomes are covered.
     fn covers(&self, edge: &Answer) -> bool
-        ensures { result ≡ (covers.covers_position self.now.found edge.now.found && covers.covers_position self.now.failed edge.now.failed) }
+        ensures { result ≡ (covers.covers_position self.now.found edge.now.found &&
+            covers.covers_position self.now.failed edge.now.failed) }
     {
         self.found.covers(&edge.found) && self.failed.covers(&edge.failed)
     }
 }
 
 impl Facts {
-    /// Whether the same iterations are open: with a count at the same ones, and as many pushes at each <.
+    /// Whether the same iterations are open: with a count at the same ones, and as many pushes at
+    /// each <.
     pub fn has_iterations_of(&self, edge: &Facts) -> bool
-        ensures { result ≡ covers.each_covers covers.is_same_iteration self.now.iterations edge.now.iterations }
+        ensures { result ≡ covers.each_covers covers.is_same_iteration self.now.iterations
+            edge.now.iterations }
     {
-        covers_iterations(&self.known.iterations, &edge.known.iterations)
+        each_covers(
+            self.known.iterations.as_slice(),
+            edge.known.iterations.as_slice(),
+        )
     }
 
     /// Whether what is known here covers what is known at the end of an edge: it says no more.
     pub fn covers(&self, edge: &Facts) -> bool
         ensures { result ≡ covers.covers self.now edge.now }
     {
-        covers_arguments(
-            &self.known.arguments,
-            &edge.known.arguments,
-            edge.known.position.margins(),
-        ) && covers_answer(&self.known.answer, &edge.known.answer)
+        covers_arguments(&self.known.arguments, &edge.known.arguments, edge.margins())
+            && covers_answer(&self.known.answer, &edge.known.answer)
             && self.known.position.covers(&edge.known.position)
-            && covers_iterations(&self.known.iterations, &edge.known.iterations)
+            && self.has_iterations_of(edge)
             && edge.known.held.le(&self.known.held)
-            && covers_numbers(&self.known.numbers, &edge.known.numbers)
-            && covers_lengths(&self.known.texts, &edge.known.texts)
+            && each_covers(&self.known.numbers, &edge.known.numbers)
+            && each_covers(&self.known.texts, &edge.known.texts)
             && covers_pushes(self, edge)
     }
 }

@@ -1,14 +1,14 @@
 //! What an element does to what is known before it.
 ghost use Rattle.std.specs.Prelude.{◌≡◌, ◌≤◌, length, IfOk, Result};
 ghost use Rattle.teco_base.specs.declared.TheConstants.{LIMIT};
-ghost use Rattle.teco_rules.specs.Arguments as arguments;
-ghost use Rattle.teco_rules.specs.Facts as known;
-ghost use Rattle.teco_rules.specs.Transfer as rules;
-ghost use Rattle.teco_rules.specs.declared.refusal.Refusal.{Refusal};
+ghost use Rattle.teco_verifier.specs.facts.Arguments as arguments;
+ghost use Rattle.teco_verifier.specs.facts.Facts as known;
+ghost use Rattle.teco_verifier.specs.facts.Transfer as rules;
+ghost use Rattle.teco_verifier.specs.declared.refusal.Refusal.{Refusal};
 ghost use Rattle.teco_model.specs.declared.kind.Flow.TheVariants as flow;
 ghost use Rattle.teco_model.specs.declared.kind.Kind.TheVariants as kind;
-ghost use Rattle.teco_rules.specs.Storages as storages;
-ghost use Rattle.teco_rules.specs.Flows as flows;
+ghost use Rattle.teco_verifier.specs.facts.Storages as storages;
+ghost use Rattle.teco_verifier.specs.facts.Flows as flows;
 ghost use Rattle.teco_facts.specs.Does.{Gives};
 ghost use Rattle.teco_facts.specs.Room.{HasRoom};
 ghost use Rattle.teco_facts.specs.Numbers.{AreSmall};
@@ -31,16 +31,16 @@ use crate::range::Range;
 use crate::storage::storage;
 use crate::typing::typing;
 use crate::ways::Numbers;
-use crate::whole::Whole;
 use crate::{search, stack};
 use std::alloc::AllocError;
 use teco_base::LIMIT;
 use teco_model::Element;
 use teco_model::kind::{Argument, Command, Flow, Kind, Page, Search, Stack, Value};
-use teco_rules::Refusal;
+use teco_verifier::Refusal;
 
-/// An element where it stands: whether the register that it names is one of the library's, whether it stands in an iteration
-/// of its own text, whether a search counts as having a colon, and how many iterations its skip leaves.
+/// An element where it stands: whether the register that it names is one of the library's, whether
+/// it stands in an iteration of its own text, whether a search counts as having a colon, and how
+/// many iterations its skip leaves.
 #[derive(Clone, Copy)]
 pub struct Placed<'a> {
     pub element: Element<'a>,
@@ -48,13 +48,6 @@ pub struct Placed<'a> {
     pub inside: bool,
     pub colon: bool,
     pub leaves: usize,
-}
-
-// Minus the length of a text.
-fn last_length() -> Range
-    ensures { result ≡ rules.last_length }
-{
-    Range::between(Whole::of(-(LIMIT as i64)), Whole::ZERO)
 }
 
 // The level with a value that the machine has.
@@ -66,7 +59,13 @@ fn level_with_value(value: Value, margins: Margins, level: Level) -> Result<Leve
         Value::Size => level.given(Number::size(), margins),
         Value::Pointer => level.given(Number::pointer(), margins),
         Value::Whole => level.with_pair(Number::single(0), Number::size(), margins),
-        Value::LastLength => level.given(Number::within(last_length()), margins),
+        Value::LastLength => {
+            let minus_length = Range {
+                lo: -(LIMIT as i64),
+                hi: 0,
+            };
+            level.given(Number::within(minus_length), margins)
+        }
         Value::LastText => Err(Refusal::Unverified),
     }
 }
@@ -120,7 +119,7 @@ fn facts_after_command(
     Ok(known.answered())
 }
 
-// The same of a command of pages.
+// What a command of pages leaves that took its arguments.
 fn facts_after_page(kind: Page, facts: Facts) -> Result<Facts, Refusal>
     requires { AreSmall facts.position.falls }
     ensures { result ≡ rules.facts_after_page kind facts }
@@ -132,7 +131,8 @@ fn facts_after_page(kind: Page, facts: Facts) -> Result<Facts, Refusal>
 
 // The facts with another innermost level, if there is one.
 fn facts_with_level(changed: Result<Level, Refusal>, facts: Facts) -> Result<Facts, Refusal>
-    ensures { result ≡ rules.facts_after_levels (arguments.with_level facts.arguments changed) facts }
+    ensures { result ≡ rules.facts_after_levels (arguments.with_level facts.arguments changed)
+        facts }
 {
     let level = changed?;
     Ok(facts.with_level(level))
@@ -140,7 +140,8 @@ fn facts_with_level(changed: Result<Level, Refusal>, facts: Facts) -> Result<Fac
 
 // The facts behind a parenthesis that opens, if there is memory.
 fn facts_after_open(mut facts: Facts) -> Result<Facts, AllocError>
-    ensures { IfOk result (λ opened. opened ≡ known.with_arguments (arguments.levels_after_open facts.arguments) facts) }
+    ensures { IfOk result (λ opened. opened ≡ known.with_arguments (arguments.levels_after_open
+        facts.arguments) facts) }
 {
     facts.known.arguments.open()?;
     facts.known.answer = None;
@@ -149,7 +150,8 @@ fn facts_after_open(mut facts: Facts) -> Result<Facts, AllocError>
 
 // The facts behind a parenthesis that closes.
 fn facts_after_close(mut facts: Facts) -> Result<Facts, Fault>
-    ensures { Gives (rules.facts_after_levels (arguments.levels_closed_onto facts.position.distances facts.arguments.level facts.arguments.outer) facts) result }
+    ensures { Gives (rules.facts_after_levels (arguments.levels_closed_onto
+        facts.position.distances facts.arguments.level facts.arguments.outer) facts) result }
 {
     let margins = facts.margins();
     facts.known.arguments.close(margins)?;
@@ -187,9 +189,10 @@ fn on(changed: Result<Facts, Refusal>) -> Result<Edges, Fault>
     }
 }
 
-// The same of one that may want memory.
+// An element that goes on behind itself, and may want memory.
 fn on_with_memory(changed: Result<Facts, Fault>) -> Result<Edges, Fault>
-    ensures { (defined : Result known.Facts Refusal) → Gives defined changed → Gives (rules.on defined) result }
+    ensures { (defined : Result known.Facts Refusal) → Gives defined changed → Gives (rules.on
+        defined) result }
 {
     match changed {
         Ok(facts) => Ok(Edges::on(facts)),
@@ -197,7 +200,8 @@ fn on_with_memory(changed: Result<Facts, Fault>) -> Result<Edges, Fault>
     }
 }
 
-// The edges behind a search, from the facts where it found, the position where it failed, and what was known before it.
+// The edges behind a search, from the facts where it found, the position where it failed, and what
+// was known before it.
 fn search_outcomes(
     colon: bool,
     found: Facts,
@@ -228,28 +232,23 @@ fn search_allowed(inside: bool, colon: bool) -> Result<(), Refusal>
     }
 }
 
-// The edges behind a search, from the same facts twice.
-fn search_edges(
-    kind: Search,
-    placed: &Placed<'_>,
-    facts: Facts,
-    again: Facts,
-) -> Result<Edges, Refusal>
-    requires same { again ≡ facts }
+// The edges behind a search, if there is memory.
+fn search_edges(kind: Search, placed: &Placed<'_>, facts: Facts) -> Result<Edges, Fault>
     requires small { AreSmall facts.position.falls }
     requires within { length placed.now.element.text.now ≤ LIMIT }
     requires second_within { length placed.now.element.second.now ≤ LIMIT }
-    ensures { result ≡ rules.search_edges kind (seen placed.now) facts }
+    ensures { Gives (rules.search_edges kind (seen placed.now) facts) result }
 {
     let element = &placed.element;
     let taken = search::facts_at_search(kind, facts)?;
     search_allowed(placed.inside, placed.colon)?;
     let failed = search::position_failed(kind, element.colons, &taken);
+    let before = taken.copied()?;
     let found = search::facts_found(kind, element.text, element.second, taken)?;
-    search_outcomes(placed.colon, found, failed, again.taking())
+    Ok(search_outcomes(placed.colon, found, failed, before)?)
 }
 
-// The edges behind an element of flow, if there is memory: one that may go two ways takes the facts twice.
+// The edges behind an element of flow, if there is memory.
 fn flow_edges(
     kind: Flow,
     colons: u8,
@@ -261,23 +260,10 @@ fn flow_edges(
     ensures { Gives (flows.flow_edges kind colons leaves answer.now facts) result }
 {
     match kind {
-        Flow::Iterate => {
-            let again = facts.copied().map_err(|_| Fault::Memory)?;
-            flow::iterate(facts, again).map_err(Fault::Refused)
-        }
-        Flow::EndTurn => {
-            let again = facts.copied().map_err(|_| Fault::Memory)?;
-            flow::turn_end(facts, again).map_err(Fault::Refused)
-        }
-        Flow::Leave => {
-            let again = facts.copied().map_err(|_| Fault::Memory)?;
-            flow::leave(colons, answer, facts, again).map_err(Fault::Refused)
-        }
-        Flow::Test(test) => {
-            let again = facts.copied().map_err(|_| Fault::Memory)?;
-            let numbers = Numbers::holding(test);
-            flow::conditional(numbers, answer, facts, again).map_err(Fault::Refused)
-        }
+        Flow::Iterate => flow::iterate(facts),
+        Flow::EndTurn => flow::turn_end(facts),
+        Flow::Leave => flow::leave(colons, answer, facts),
+        Flow::Test(test) => flow::conditional(Numbers::holding(test), answer, facts),
         Flow::Otherwise | Flow::GoAhead(_) => Ok(Edges::away(facts)),
         Flow::EndTest | Flow::Comment => Ok(Edges::on(facts)),
         Flow::GoTo => flow::go_to(leaves, facts).map_err(Fault::Refused),
@@ -289,7 +275,7 @@ fn answer_for(kind: &Kind, facts: &mut Facts) -> Option<Answer>
     ensures value { result ≡ rules.answer_for kind.now facts.old }
     ensures left { facts.new ≡ rules.without_answer facts.old }
 {
-    let answer = facts.take_answer();
+    let answer = facts.known.answer.take();
     match kind {
         Kind::Flow(Flow::Leave | Flow::Test(_)) => answer,
         _ => None,
@@ -317,24 +303,14 @@ fn file_edges(facts: &Facts) -> Result<Edges, Refusal>
     Err(Refusal::Unverified)
 }
 
-// The edges behind a search, if there is memory.
-fn edges_of_search(kind: Search, placed: &Placed<'_>, facts: Facts) -> Result<Edges, Fault>
-    requires small { AreSmall facts.position.falls }
-    requires within { length placed.now.element.text.now ≤ LIMIT }
-    requires second_within { length placed.now.element.second.now ≤ LIMIT }
-    ensures { Gives (rules.search_edges kind (seen placed.now) facts) result }
-{
-    let again = facts.copied().map_err(|_| Fault::Memory)?;
-    search_edges(kind, placed, facts, again).map_err(Fault::Refused)
-}
-
 // The edges behind an element of a kind, if there is memory.
 fn edges_of(placed: &Placed<'_>, answer: &Option<Answer>, facts: Facts) -> Result<Edges, Fault>
     requires small { AreSmall facts.position.falls }
     requires room { placed.now.element.kind ≡ kind.Flow flow.Iterate → HasRoom facts }
     requires within { length placed.now.element.text.now ≤ LIMIT }
     requires second_within { length placed.now.element.second.now ≤ LIMIT }
-    ensures { Gives (rules.edges_of placed.now.element.kind (seen placed.now) answer.now facts) result }
+    ensures { Gives (rules.edges_of placed.now.element.kind (seen placed.now) answer.now facts)
+        result }
 {
     let element = &placed.element;
     match element.kind {
@@ -349,13 +325,13 @@ fn edges_of(placed: &Placed<'_>, answer: &Option<Answer>, facts: Facts) -> Resul
         Kind::Flow(kind) => flow_edges(kind, element.colons, placed.leaves, answer, facts),
         Kind::Command(kind) => on(facts_after_command(kind, placed, facts)),
         Kind::Page(kind) => on(facts_after_page(kind, facts)),
-        Kind::Search(kind) => edges_of_search(kind, placed, facts),
+        Kind::Search(kind) => search_edges(kind, placed, facts),
         Kind::File(_) => file_edges(&facts).map_err(Fault::Refused),
     }
 }
 
 /// The edges behind an element, from what is known before it, which is taken, if there is memory.
-#[tactic(auto, unfolding(teco_rules::specs::Transfer::transfer))]
+#[tactic(auto, unfolding(teco_verifier::specs::facts::Transfer::transfer))]
 pub fn transfer_from(placed: &Placed<'_>, mut facts: Facts) -> Result<Edges, Fault>
     requires small { AreSmall facts.position.falls }
     requires room { placed.now.element.kind ≡ kind.Flow flow.Iterate → HasRoom facts }
@@ -367,7 +343,7 @@ pub fn transfer_from(placed: &Placed<'_>, mut facts: Facts) -> Result<Edges, Fau
     edges_of(placed, &answer, facts)
 }
 
-/// The same, where what is known before it stays.
+/// The edges behind an element, from a copy of what is known before it, if there is memory.
 pub fn transfer(placed: &Placed<'_>, facts: &Facts) -> Result<Edges, Fault>
     requires small { AreSmall facts.now.position.falls }
     requires room { placed.now.element.kind ≡ kind.Flow flow.Iterate → HasRoom facts.now }
@@ -380,13 +356,15 @@ pub fn transfer(placed: &Placed<'_>, facts: &Facts) -> Result<Edges, Fault>
 }
 
 /// The edge behind the end of a called text, which goes back and leaves the arguments.
-pub fn return_from(facts: Facts) -> Edges
+pub fn return_from(mut facts: Facts) -> Edges
     ensures { result ≡ rules.transfer_return facts }
 {
-    Edges::on(facts.without_answer())
+    facts.known.answer = None;
+    Edges::on(facts)
 }
 
-/// The same, where what is known there stays, if there is memory.
+/// The edge behind the end of a called text, from a copy of what is known there, if there is
+/// memory.
 pub fn transfer_return(facts: &Facts) -> Result<Edges, AllocError>
     ensures { IfOk result (λ edges. edges ≡ rules.transfer_return facts.now) }
 {

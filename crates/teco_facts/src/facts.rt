@@ -1,10 +1,10 @@
 //! What is known before an element.
 ghost use Rattle.std.specs.Prelude.{◌≡◌, ◌∷◌, ◌<◌, IfOk, length};
 ghost use Rattle.teco_base.specs.declared.TheConstants.{REGISTERS};
-ghost use Rattle.teco_rules.specs.Facts as rules;
-ghost use Rattle.teco_rules.specs.Shifts as shifts;
-ghost use Rattle.teco_rules.specs.Argument as given;
-ghost use Rattle.teco_rules.specs.Arguments as arguments;
+ghost use Rattle.teco_verifier.specs.facts.Facts as rules;
+ghost use Rattle.teco_verifier.specs.facts.Shifts as shifts;
+ghost use Rattle.teco_verifier.specs.facts.Argument as given;
+ghost use Rattle.teco_verifier.specs.facts.Arguments as arguments;
 ghost use Rattle.teco_facts.specs.Numbers.{AreSmall};
 ghost use Rattle.teco_facts.specs.Room.{innermost};
 
@@ -19,9 +19,10 @@ use crate::shift::Shift;
 use std::alloc::{AllocError, Global};
 use std::marker::Model;
 use teco_base::{REGISTERS, Reg};
+use teco_model::ArgumentRange;
 use teco_poly::Poly;
-use teco_rules::{ArgumentRange, Refusal};
 use teco_stack::Stack;
+use teco_verifier::Refusal;
 
 /// The positions where a search found, and where it failed.
 #[derive(Drop)]
@@ -31,43 +32,23 @@ pub struct Answer {
 }
 
 impl Model for Answer {
-    ghost use Rattle.teco_rules.specs.Facts as rules;
+    ghost use Rattle.teco_verifier.specs.facts.Facts as rules;
 
     ghost Value = { rules.Answer };
 
     ghost view = { λ a. record { found = a.found; failed = a.failed } };
 }
 
-impl Answer {
-    /// The positions of the two outcomes.
-    pub fn of(found: Position, failed: Position) -> Answer
-        ensures { result ≡ record { found = found; failed = failed } }
-    {
-        Answer { found, failed }
-    }
-
-    /// The same answer once more.
-    pub fn copied(&self) -> Answer
-        ensures { result ≡ self.now }
-    {
-        Answer {
-            found: self.found.copied(),
-            failed: self.failed.copied(),
-        }
-    }
-
-    /// Where it was found.
-    pub fn found(&self) -> Position
-        ensures { result ≡ self.now.found }
-    {
-        self.found.copied()
-    }
-
-    /// Where it failed.
-    pub fn failed(&self) -> Position
-        ensures { result ≡ self.now.failed }
-    {
-        self.failed.copied()
+// A search's answer once more, if there is one.
+fn answer_copied(answer: &Option<Answer>) -> Option<Answer>
+    ensures { result ≡ answer.now }
+{
+    match answer {
+        None => None,
+        Some(answer) => Some(Answer {
+            found: answer.found.copied(),
+            failed: answer.failed.copied(),
+        }),
     }
 }
 
@@ -79,7 +60,7 @@ pub struct Iteration {
 }
 
 impl Model for Iteration {
-    ghost use Rattle.teco_rules.specs.Facts as rules;
+    ghost use Rattle.teco_verifier.specs.facts.Facts as rules;
 
     ghost Value = { rules.Iteration };
 
@@ -96,7 +77,7 @@ pub struct Pushed {
 }
 
 impl Model for Pushed {
-    ghost use Rattle.teco_rules.specs.Facts as rules;
+    ghost use Rattle.teco_verifier.specs.facts.Facts as rules;
 
     ghost Value = { rules.Pushed };
 
@@ -128,28 +109,30 @@ pub(crate) struct Known {
 impl Model for Facts {
     ghost use Rattle.std.specs.Prelude.{◌≡◌, length};
     ghost use Rattle.teco_base.specs.declared.TheConstants.{REGISTERS};
-    ghost use Rattle.teco_rules.specs.Facts as rules;
+    ghost use Rattle.teco_verifier.specs.facts.Facts as rules;
 
     ghost Value = { rules.Facts };
 
-    ghost view = { λ f. let k = f.known.value in record { arguments = k.arguments; answer = k.answer; position = k.position; iterations = k.iterations; held = k.held; numbers = k.numbers; texts = k.texts; pushes = k.pushes } };
+    ghost view = { λ f. let k = f.known.value in record {
+      arguments = k.arguments;
+      answer =
+          k.answer;
+      position = k.position;
+      iterations = k.iterations;
+      held = k.held;
+      numbers =
+          k.numbers;
+      texts = k.texts;
+      pushes = k.pushes;
+    } };
 
-    ghost invariant = { λ f. (length f.known.value.numbers ≡ REGISTERS) × (length f.known.value.texts ≡ REGISTERS) };
-}
-
-// The same answer once more, if there is one.
-fn answer_copied(answer: &Option<Answer>) -> Option<Answer>
-    ensures { result ≡ answer.now }
-{
-    match answer {
-        None => None,
-        Some(answer) => Some(answer.copied()),
-    }
+    ghost invariant = { λ f. (length f.known.value.numbers ≡ REGISTERS) × (length
+        f.known.value.texts ≡ REGISTERS) };
 }
 
 impl Facts {
-    /// Before the first element: nothing is pending but the argument that is declared, and N holds all. It is there if there is
-    /// memory.
+    /// Before the first element: nothing is pending but the argument that is declared, and N holds
+    /// all. It is there if there is memory.
     pub fn entry(alloc: Global, argument: Option<ArgumentRange>) -> Result<Facts, AllocError>
         ensures { IfOk result (λ facts. facts ≡ given.facts_given argument) }
     {
@@ -170,7 +153,7 @@ impl Facts {
         Ok(Facts { alloc, known })
     }
 
-    /// The same facts once more, if there is memory.
+    /// A copy of the facts, if there is memory.
     pub fn copied(&self) -> Result<Facts, AllocError>
         ensures { IfOk result (λ copy. copy ≡ self.now) }
     {
@@ -195,14 +178,14 @@ impl Facts {
     pub fn margins(&self) -> Margins
         ensures { result ≡ self.now.position.distances }
     {
-        self.known.position.margins()
+        self.known.position.margins
     }
 
     /// The innermost level of the arguments.
     pub fn level(&self) -> Level
         ensures { result ≡ self.now.arguments.level }
     {
-        self.known.arguments.level()
+        self.known.arguments.level
     }
 
     /// How much is held.
@@ -216,7 +199,7 @@ impl Facts {
     pub fn ahead(&self) -> Poly
         ensures { result ≡ self.now.position.ahead }
     {
-        self.known.position.ahead()
+        self.known.position.ahead
     }
 
     /// The number of a register.
@@ -230,7 +213,7 @@ impl Facts {
     pub fn is_saved(&self, register: Reg) -> bool
         ensures { result ≡ rules.is_saved register self.now }
     {
-        self.known.position.saved().has(register)
+        self.known.position.saved.has(register)
     }
 
     /// The length of a register's text.
@@ -252,27 +235,10 @@ impl Facts {
     pub fn innermost(&self) -> Option<Iteration>
         ensures { result ≡ innermost self.now.iterations }
     {
-        if self.known.iterations.len() == 0 {
-            None
-        } else {
-            Some(self.known.iterations.get(0))
+        match self.known.iterations.as_slice() {
+            [] => None,
+            [innermost, ..] => Some(*innermost),
         }
-    }
-
-    /// Takes the search's answer out.
-    pub fn take_answer(&mut self) -> Option<Answer>
-        ensures value { result ≡ self.old.answer }
-        ensures left { self.new ≡ record self.old { answer = None } }
-    {
-        self.known.answer.take()
-    }
-
-    /// The facts with no search's answer.
-    pub fn without_answer(mut self) -> Facts
-        ensures { result ≡ record self { answer = None } }
-    {
-        self.known.answer = None;
-        self
     }
 
     /// The facts with no argument pending.
@@ -286,9 +252,10 @@ impl Facts {
 
     /// The facts where the innermost level is taken.
     pub fn taking(mut self) -> Facts
-        ensures { result ≡ rules.with_arguments (arguments.levels_after_taking self.arguments) self }
+        ensures { result ≡ rules.with_arguments (arguments.levels_after_taking self.arguments)
+            self }
     {
-        self.known.arguments.take();
+        self.known.arguments.level = Level::empty();
         self.known.answer = None;
         self
     }
@@ -297,7 +264,7 @@ impl Facts {
     pub fn with_level(mut self, level: Level) -> Facts
         ensures { result ≡ rules.with_arguments (record self.arguments { level = level }) self }
     {
-        self.known.arguments.put(level);
+        self.known.arguments.level = level;
         self.known.answer = None;
         self
     }
@@ -315,9 +282,9 @@ impl Facts {
         requires { AreSmall self.position.falls }
         ensures { result ≡ shifts.shifted shift.now self }
     {
-        let held = sum_of(&self.known.held, &shift.growth())?;
-        let margins = self.known.position.margins();
-        self.known.arguments.settle(margins, shift.ends());
+        let held = sum_of(&self.known.held, &shift.growth)?;
+        let margins = self.known.position.margins;
+        self.known.arguments.settle(margins, shift.ends);
         self.known.position = self.known.position.after(shift, held);
         self.known.held = held;
         Ok(self)
@@ -332,7 +299,7 @@ pub struct Foreseen {
 }
 
 impl Model for Foreseen {
-    ghost use Rattle.teco_rules.specs.Shifts as shifts;
+    ghost use Rattle.teco_verifier.specs.facts.Shifts as shifts;
 
     ghost Value = { shifts.Foreseen };
 

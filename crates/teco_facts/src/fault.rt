@@ -3,7 +3,7 @@ ghost use Rattle.std.specs.Prelude.{◌≡◌};
 ghost use Rattle.teco_facts.specs.declared.fault.Fault.TheVariants as fault;
 
 use std::alloc::AllocError;
-use teco_rules::Refusal;
+use teco_verifier::Refusal;
 
 /// Why there are no edges.
 #[derive(Clone, Copy)]

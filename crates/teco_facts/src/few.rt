@@ -1,12 +1,15 @@
-//! Lists of at most seven: at most six iterations are open, and where a seventh would begin there is one more.
-ghost use Rattle.std.specs.Prelude.{◌≡◌, ℕ, ◌<◌, ◌≤◌, [], ◌∷◌, length, drop, slice_index_or};
+//! Lists of at most seven: at most six iterations are open, and where a seventh would begin there
+//! is one more.
+ghost use Rattle.std.specs.Prelude.{◌≡◌, ◌<◌, ◌≤◌, [], ◌∷◌, length, drop};
+ghost use Rattle.teco_facts.specs.Each.{each_met};
 
+use crate::each::{Meets, meet_each};
 use std::marker::Model;
 
 /// How many there may be.
 pub const DEPTH: usize = 7;
 
-/// A list of at most seven; what is at its front stands last in the array.
+/// A list of at most seven.
 #[derive(Drop)]
 pub struct Few<T: Copy> {
     items: [T; DEPTH],
@@ -14,12 +17,12 @@ pub struct Few<T: Copy> {
 }
 
 impl<T: Copy> Model for Few<T> {
-    ghost use Rattle.std.specs.Prelude.{◌≡◌, List, ◌≤◌, length, take, reverse};
+    ghost use Rattle.std.specs.Prelude.{◌≡◌, List, ◌≤◌, length, take};
     ghost use Rattle.teco_facts.specs.declared.few.TheConstants.{DEPTH};
 
     ghost Value = { List T };
 
-    ghost view = { λ f. reverse (take f.len f.items) };
+    ghost view = { λ f. take f.len f.items };
 
     ghost invariant = { λ f. (length f.items ≡ DEPTH) × (f.len ≤ DEPTH) };
 }
@@ -35,7 +38,7 @@ impl<T: Copy> Few<T> {
         }
     }
 
-    /// The same list once more.
+    /// A copy of the list.
     pub fn copied(&self) -> Few<T>
         ensures { result ≡ self.now }
     {
@@ -45,12 +48,12 @@ impl<T: Copy> Few<T> {
         }
     }
 
-    /// How many there are.
-    pub fn len(&self) -> usize
-        ensures value { result ≡ length self.now }
-        ensures few { result ≤ DEPTH }
+    /// What is in the list.
+    pub fn as_slice(&self) -> &[T]
+        ensures value { result.now ≡ self.now }
+        ensures few { length result.now ≤ DEPTH }
     {
-        self.len
+        &self.items[..self.len]
     }
 
     /// Puts one at the front.
@@ -58,22 +61,32 @@ impl<T: Copy> Few<T> {
         requires { length self.old < DEPTH }
         ensures { self.new ≡ item ∷ self.old }
     {
-        self.items[self.len] = item;
+        self.items.copy_within(..self.len, 1);
+        self.items[0] = item;
         self.len += 1;
-    }
-
-    /// The one at a place.
-    pub fn get(&self, at: usize) -> T
-        requires { at < length self.now }
-        ensures { result ≡ slice_index_or self.now at result }
-    {
-        self.items[self.len - 1 - at]
     }
 
     /// Drops so many at the front.
     pub fn drop_front(&mut self, count: usize)
-        ensures { self.new ≡ drop count self.old }
+        ensures value { self.new ≡ drop count self.old }
+        ensures few { length self.old ≤ DEPTH }
     {
-        self.len = self.len.saturating_sub(count);
+        let count = count.min(self.len);
+        self.items.copy_within(count..self.len, 0);
+        self.len -= count;
+    }
+}
+
+impl<T: Meets> Few<T> {
+    /// What two lists have in common, item by item, as far as the shorter goes.
+    pub fn met(&self, other: &Few<T>) -> Few<T>
+        ensures { result ≡ each_met T.met self.now other.now }
+    {
+        let mut items = self.items;
+        meet_each(&mut items, &other.items);
+        Few {
+            items,
+            len: self.len.min(other.len),
+        }
     }
 }

@@ -1,24 +1,29 @@
 //! Iterations, conditionals and tags.
-ghost use Rattle.std.specs.Prelude.{◌≡◌, ◌<◌, length, IsTrue};
-ghost use Rattle.teco_rules.specs.Flows as flows;
+ghost use Rattle.std.specs.Prelude.{◌≡◌, ◌<◌, drop, length, IfOk, IsTrue, Some};
+ghost use Rattle.teco_verifier.specs.facts.Facts as rules;
+ghost use Rattle.teco_verifier.specs.facts.Flows as flows;
+ghost use Rattle.teco_facts.specs.Does.{Gives};
 ghost use Rattle.teco_facts.specs.Numbers.{AreSmall};
 ghost use Rattle.teco_facts.specs.Room.{HasRoom};
 ghost use Rattle.teco_facts.specs.Seen.{seen};
 ghost use Rattle.teco_facts.specs.declared.few.TheConstants.{DEPTH};
 
+use crate::arithmetic::{at_most, is, positive};
 use crate::facts::{Answer, Facts, Iteration};
 use crate::falls::are_small;
+use crate::fault::Fault;
 use crate::few::DEPTH;
 use crate::number::Number;
 use crate::position::sum_of;
 use crate::typing::needed_value;
-use crate::ways::{Numbers, way};
-use crate::whole::Whole;
+use crate::ways::{Numbers, both_ways};
+use std::alloc::AllocError;
 use std::marker::Model;
 use teco_poly::Poly;
-use teco_rules::Refusal;
+use teco_verifier::Refusal;
 
-/// The edges behind an element, where they are reached: on, to what stands behind it, and away, to where it leads else.
+/// The edges behind an element, where they are reached: on, to what stands behind it, and away, to
+/// where it leads else.
 #[derive(Drop)]
 pub struct Edges {
     pub on: Option<Facts>,
@@ -26,7 +31,7 @@ pub struct Edges {
 }
 
 impl Model for Edges {
-    ghost use Rattle.teco_rules.specs.Flows as flows;
+    ghost use Rattle.teco_verifier.specs.facts.Flows as flows;
 
     ghost Value = { flows.Edges };
 
@@ -34,7 +39,7 @@ impl Model for Edges {
 }
 
 impl Edges {
-    /// It goes on.
+    /// An element that goes on.
     pub fn on(facts: Facts) -> Edges
         ensures { result ≡ flows.goes_on facts }
     {
@@ -44,14 +49,7 @@ impl Edges {
         }
     }
 
-    /// The facts of the edge that goes on, where it is reached.
-    pub fn forward(self) -> Option<Facts>
-        ensures { result ≡ self.on }
-    {
-        self.on
-    }
-
-    /// It goes away.
+    /// An element that goes away.
     pub fn away(facts: Facts) -> Edges
         ensures { result ≡ flows.goes_away facts }
     {
@@ -69,7 +67,7 @@ impl Facts {
     {
         self.known.arguments.drop_all();
         self.known.answer = None;
-        self.known.position = self.known.position.leaving(count);
+        self.known.position.falls.drop_front(count);
         self.known.iterations.drop_front(count);
         self
     }
@@ -78,7 +76,7 @@ impl Facts {
     pub fn open(&self) -> usize
         ensures { result ≡ length self.now.iterations }
     {
-        self.known.iterations.len()
+        self.known.iterations.as_slice().len()
     }
 
     /// Whether more may be added to each fall.
@@ -94,7 +92,17 @@ impl Facts {
         ensures yes { IsTrue result → HasRoom self.now }
         ensures no { HasRoom self.now → IsTrue result }
     {
-        self.known.position.falls.len() < DEPTH && self.known.iterations.len() < DEPTH
+        self.known.position.falls.as_slice().len() < DEPTH && self.open() < DEPTH
+    }
+
+    // The facts where another turn begins: nothing has fallen in it.
+    fn turned(mut self) -> Facts
+        ensures { result ≡ rules.at_position (flows.begun (drop 1 self.position.falls)
+            self.position) (rules.without_arguments self) }
+    {
+        self.known.position.falls.drop_front(1);
+        self.known.position.falls.put(Some(0));
+        self.without_arguments()
     }
 
     // The facts in the body of an iteration that begins.
@@ -104,7 +112,7 @@ impl Facts {
         ensures { result ≡ flows.entering counted self }
     {
         let pushes = self.known.pushes.len();
-        self.known.position = self.known.position.begun();
+        self.known.position.falls.put(Some(0));
         self.known.iterations.put(Iteration { counted, pushes });
         self
     }
@@ -115,24 +123,24 @@ pub fn needed_taken(facts: &Facts) -> Result<Number, Refusal>
     ensures { result ≡ flows.needed_taken facts.now }
 {
     let taken = facts.level().taken()?;
-    needed_value(taken.value())
+    needed_value(taken.value)
 }
 
 // The most that a value is, told by how often each distance counts.
-fn bound_by(ahead: Whole, behind: Whole, k: u64, most: u64, facts: &Facts) -> Result<Poly, Refusal>
+fn bound_by(ahead: i64, behind: i64, k: u64, most: u64, facts: &Facts) -> Result<Poly, Refusal>
     ensures { result ≡ flows.bound_by ahead behind k most facts.now }
 {
     let more = Poly::number(k);
-    if ahead.is(Whole::ONE) && behind.is(Whole::ONE) {
+    if is(ahead, 1) && is(behind, 1) {
         sum_of(&facts.held(), &more)
-    } else if ahead.is(Whole::ZERO) && behind.is(Whole::ONE) {
+    } else if is(ahead, 0) && is(behind, 1) {
         sum_of(&facts.held(), &more)
-    } else if ahead.is(Whole::ONE) && behind.is(Whole::ZERO) {
+    } else if is(ahead, 1) && is(behind, 0) {
         sum_of(&facts.ahead(), &more)
-    } else if ahead.is(Whole::ONE) && behind.is(Whole::TWO) {
+    } else if is(ahead, 1) && is(behind, 2) {
         let both = sum_of(&facts.held(), &facts.held())?;
         sum_of(&both, &more)
-    } else if ahead.at_most(Whole::ZERO) && behind.at_most(Whole::ZERO) {
+    } else if at_most(ahead, 0) && at_most(behind, 0) {
         Ok(more)
     } else {
         Ok(Poly::number(most))
@@ -143,9 +151,9 @@ fn bound_by(ahead: Whole, behind: Whole, k: u64, most: u64, facts: &Facts) -> Re
 pub fn bound_of(number: Number, facts: &Facts) -> Result<Poly, Refusal>
     ensures { result ≡ flows.bound_of number facts.now }
 {
-    let most = number.range(facts.margins()).hi().positive();
-    let (ahead, behind, _, hi) = number.parts();
-    bound_by(ahead, behind, hi.positive(), most, facts)
+    let most = positive(number.range(facts.margins()).hi);
+    let n = number.value;
+    bound_by(n.ahead, n.behind, positive(n.hi), most, facts)
 }
 
 // The turns of an iteration with this count.
@@ -163,69 +171,67 @@ pub fn turns(facts: &Facts) -> Result<Poly, Refusal>
     ensures { result ≡ flows.turns facts.now }
 {
     let taken = facts.level().taken()?;
-    turns_of(taken.value(), facts)
+    turns_of(taken.value, facts)
 }
 
-// The edges behind the begin of an iteration, from the same facts twice.
-fn iteration(count: Option<Number>, facts: Facts, again: Facts) -> Edges
-    requires same { again ≡ facts }
+// The edges behind the begin of an iteration with a count, if there is memory.
+fn counted(count: Number, facts: Facts) -> Result<Edges, AllocError>
     requires falls { length facts.position.falls < DEPTH }
     requires iterations { length facts.iterations < DEPTH }
-    ensures { result ≡ flows.iteration count facts }
+    ensures { IfOk result (λ edges. edges ≡ flows.iteration (Some count) facts) }
 {
-    let Some(count) = count else {
-        return Edges::on(facts.entering(false));
-    };
     let range = count.range(facts.margins());
-    let on = if Numbers::Positive.may_take(range) {
-        Some(facts.entering(true))
-    } else {
-        None
-    };
-    let away = if Numbers::NotPositive.may_take(range) {
-        Some(again)
-    } else {
-        None
-    };
-    Edges { on, away }
+    match (
+        Numbers::Positive.may_take(range),
+        Numbers::NotPositive.may_take(range),
+    ) {
+        (true, true) => {
+            let skipped = facts.copied()?;
+            Ok(Edges {
+                on: Some(facts.entering(true)),
+                away: Some(skipped),
+            })
+        }
+        (true, false) => Ok(Edges::on(facts.entering(true))),
+        (false, true) => Ok(Edges::away(facts)),
+        (false, false) => Ok(Edges {
+            on: None,
+            away: None,
+        }),
+    }
 }
 
 /// < enters its body where there may be a turn, and skips it where there may be none.
-pub fn iterate(facts: Facts, again: Facts) -> Result<Edges, Refusal>
-    requires same { again ≡ facts }
+pub fn iterate(facts: Facts) -> Result<Edges, Fault>
     requires falls { length facts.position.falls < DEPTH }
     requires iterations { length facts.iterations < DEPTH }
-    ensures { result ≡ flows.iterate facts }
+    ensures { Gives (flows.iterate facts) result }
 {
     let taken = facts.level().taken()?;
     let facts = facts.taking();
     facts.known.arguments.none_pending()?;
-    let _most = turns_of(taken.value(), &facts)?;
-    Ok(iteration(
-        taken.value(),
-        facts.without_arguments(),
-        again.without_arguments(),
-    ))
+    let _most = turns_of(taken.value, &facts)?;
+    let facts = facts.without_arguments();
+    match taken.value {
+        None => Ok(Edges::on(facts.entering(false))),
+        Some(count) => Ok(counted(count, facts)?),
+    }
 }
 
 /// The end of a turn goes back, and where turns are counted on, too.
-pub fn turn_end(facts: Facts, again: Facts) -> Result<Edges, Refusal>
-    requires same { again ≡ facts }
-    ensures { result ≡ flows.turn_end facts.iterations facts }
+pub fn turn_end(facts: Facts) -> Result<Edges, Fault>
+    ensures { Gives (flows.turn_end facts.iterations facts) result }
 {
-    if facts.known.iterations.len() == 0 {
-        return Err(Refusal::Partner);
-    }
-    let on = if facts.known.iterations.get(0).counted {
-        Some(facts.leaving(1))
-    } else {
-        None
+    let Some(innermost) = facts.innermost() else {
+        return Err(Fault::Refused(Refusal::Partner));
     };
-    let begun = again.known.position.turned();
-    let again = again.without_arguments();
+    if !innermost.counted {
+        return Ok(Edges::away(facts.turned()));
+    }
+    let on = facts.copied()?.leaving(1);
     Ok(Edges {
-        on,
-        away: Some(again.at_position(begun)),
+        on: Some(on),
+        away: Some(facts.turned()),
     })
 }
 
@@ -241,19 +247,12 @@ fn leaving_numbers(colons: u8) -> Numbers
 }
 
 /// Semicolons leave their iteration, or go on.
-pub fn leave(
-    colons: u8,
-    answer: &Option<Answer>,
-    facts: Facts,
-    again: Facts,
-) -> Result<Edges, Refusal>
-    requires same { again ≡ facts }
-    ensures { result ≡ flows.leave colons answer.now facts }
+pub fn leave(colons: u8, answer: &Option<Answer>, facts: Facts) -> Result<Edges, Fault>
+    ensures { Gives (flows.leave colons answer.now facts) result }
 {
     let n = needed_taken(&facts)?;
-    let numbers = leaving_numbers(colons);
-    let on = way(numbers.other(), answer, n, facts.taking());
-    let away = match way(numbers, answer, n, again.taking()) {
+    let (leaving, on) = both_ways(leaving_numbers(colons), answer, n, facts.taking())?;
+    let away = match leaving {
         None => None,
         Some(facts) => Some(facts.leaving(1)),
     };
@@ -261,20 +260,12 @@ pub fn leave(
 }
 
 /// A conditional goes on where its test holds.
-pub fn conditional(
-    numbers: Numbers,
-    answer: &Option<Answer>,
-    facts: Facts,
-    again: Facts,
-) -> Result<Edges, Refusal>
-    requires same { again ≡ facts }
-    ensures { result ≡ flows.conditional (seen numbers) answer.now facts }
+pub fn conditional(numbers: Numbers, answer: &Option<Answer>, facts: Facts) -> Result<Edges, Fault>
+    ensures { Gives (flows.conditional (seen numbers) answer.now facts) result }
 {
     let n = needed_taken(&facts)?;
-    Ok(Edges {
-        on: way(numbers, answer, n, facts.taking()),
-        away: way(numbers.other(), answer, n, again.taking()),
-    })
+    let (on, away) = both_ways(numbers, answer, n, facts.taking())?;
+    Ok(Edges { on, away })
 }
 
 /// O goes to its tag, and leaves as many iterations as lie between.
@@ -282,7 +273,7 @@ pub fn go_to(leaves: usize, facts: Facts) -> Result<Edges, Refusal>
     ensures { result ≡ flows.go_to leaves facts }
 {
     let taken = facts.level().taken()?;
-    if taken.value().is_some() {
+    if taken.value.is_some() {
         return Err(Refusal::Argument);
     }
     Ok(Edges::away(facts.leaving(leaves)))

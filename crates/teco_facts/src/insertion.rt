@@ -1,6 +1,6 @@
 //! I and TAB.
 ghost use Rattle.std.specs.Prelude.{◌≡◌, ◌≤◌, ◌^◌};
-ghost use Rattle.teco_rules.specs.Insertions as insertions;
+ghost use Rattle.teco_verifier.specs.facts.Insertions as insertions;
 ghost use Rattle.teco_facts.specs.Numbers.{AreSmall};
 
 use crate::facts::{Facts, Foreseen};
@@ -8,9 +8,9 @@ use crate::level::Taken;
 use crate::shift::Shift;
 use teco_model::kind::Insertion;
 use teco_poly::Poly;
-use teco_rules::Refusal;
+use teco_verifier::Refusal;
 
-// So many characters go in before the pointer.
+// A number of characters go in before the pointer.
 fn insertion_of_length(n: usize, facts: Facts) -> Result<Foreseen, Refusal>
     requires small { AreSmall facts.position.falls }
     requires fits { n ≤ 2 ^ 63 }
@@ -30,7 +30,7 @@ pub fn insertion(
     requires { AreSmall facts.position.falls }
     ensures { result ≡ insertions.insertion insertion text.now taken facts }
 {
-    match (insertion, taken.value()) {
+    match (insertion, taken.value) {
         (Insertion::Text, None) => insertion_of_length(text.len(), facts),
         (Insertion::Text, Some(_)) => {
             if text.is_empty() {

@@ -1,10 +1,11 @@
 //! Where ways meet: what is known on both.
 ghost use Rattle.std.specs.Prelude.{◌≡◌, ◌++◌, ◌∷◌, [], length, IsTrue, IfOk, OnOk};
 ghost use Rattle.teco_base.specs.declared.TheConstants.{REGISTERS};
-ghost use Rattle.teco_rules.specs.Joins as joins;
+ghost use Rattle.teco_verifier.specs.facts.Joins as joins;
 ghost use Rattle.teco_facts.specs.Does.{Gives};
 ghost use Rattle.teco_facts.specs.Joined as joined;
 
+use crate::each::{Meets, meet_each};
 use crate::facts::{Facts, Pushed};
 use crate::fault::Fault;
 use crate::position::join_of;
@@ -12,26 +13,19 @@ use crate::range::Range;
 use std::alloc::{AllocError, Global};
 use teco_base::REGISTERS;
 use teco_poly::Poly;
-use teco_rules::Refusal;
 use teco_stack::{Chain, Stack};
+use teco_verifier::Refusal;
 
 // The hull of two ranges.
-fn hull(one: Range, two: Range) -> Range
-    ensures { result ≡ joins.hull one two }
-{
-    Range::between(one.lo().min(two.lo()), one.hi().max(two.hi()))
-}
+impl Meets for Range {
+    ghost met = { joins.hull };
 
-// The hulls of the ranges of each register.
-fn hulls(one: &[Range; REGISTERS], two: &[Range; REGISTERS]) -> [Range; REGISTERS]
-    ensures value { result ≡ joins.hulls one.now two.now }
-    ensures all { length result ≡ REGISTERS }
-{
-    let mut hulls = *one;
-    for register in 0..REGISTERS {
-        hulls[register] = hull(one[register], two[register]);
+    fn met(self, other: Range) -> Range {
+        Range {
+            lo: self.lo.min(other.lo),
+            hi: self.hi.max(other.hi),
+        }
     }
-    hulls
 }
 
 /// The joins of the texts of each register.
@@ -54,7 +48,7 @@ pub fn joined_pair(one: &Pushed, two: &Pushed) -> Result<Pushed, Refusal>
 {
     let text = join_of(&one.text, &two.text)?;
     Ok(Pushed {
-        number: hull(one.number, two.number),
+        number: one.number.met(two.number),
         text,
     })
 }
@@ -85,8 +79,8 @@ fn put_pair(pairs: &mut Vec<Pushed>, pair: Pushed) -> Result<(), AllocError>
     Ok(())
 }
 
-// What is known of each pair of two ways, which meet with as many. What lies below the last pair that is known less well than on
-// the first way is shared with that.
+// What is known of each pair of two ways, which meet with as many. What lies below the last pair
+// that is known less well than on the first way is shared with that.
 fn joined_pairs(
     alloc: Global,
     first: &Chain<Pushed>,
@@ -130,14 +124,16 @@ impl Facts {
         Ok(self)
     }
 
-    // The facts with what is known of the position, of what is held, and of the registers on both ways.
+    // The facts with what is known of the position, of what is held, and of the registers on both
+    // ways.
+    #[tactic(auto, using(crate::proofs::Meeting::hulls_are))]
     fn with_rest_joined(mut self, other: &Facts) -> Result<Facts, Refusal>
         ensures { result ≡ joined.with_rest_joined self other.now }
     {
         self.known.position = self.known.position.joined(&other.known.position)?;
         self.known.held = join_of(&self.known.held, &other.known.held)?;
         self.known.texts = joined_lengths(&self.known.texts, &other.known.texts)?;
-        self.known.numbers = hulls(&self.known.numbers, &other.known.numbers);
+        meet_each(&mut self.known.numbers, &other.known.numbers);
         Ok(self)
     }
 

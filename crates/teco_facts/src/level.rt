@@ -1,25 +1,24 @@
 //! What is known of what is pending at one depth of parentheses.
 ghost use Rattle.std.specs.Prelude.{◌≡◌};
-ghost use Rattle.teco_rules.specs.Arguments as rules;
-ghost use Rattle.teco_rules.specs.Joins as joins;
+ghost use Rattle.teco_verifier.specs.facts.Arguments as rules;
+ghost use Rattle.teco_verifier.specs.facts.Joins as joins;
 
 use crate::margins::Margins;
 use crate::number::Number;
-use crate::whole::Whole;
 use std::marker::Model;
 use teco_model::Operator;
-use teco_rules::Refusal;
+use teco_verifier::Refusal;
 
 /// A level of arguments.
 #[derive(Clone, Copy)]
 pub struct Level {
-    first: Option<Number>,
-    value: Option<Number>,
-    operator: Option<Operator>,
+    pub(crate) first: Option<Number>,
+    pub(crate) value: Option<Number>,
+    pub(crate) operator: Option<Operator>,
 }
 
 impl Model for Level {
-    ghost use Rattle.teco_rules.specs.Arguments.{KnownLevel};
+    ghost use Rattle.teco_verifier.specs.facts.Arguments.{KnownLevel};
 
     ghost Value = { KnownLevel };
 
@@ -31,34 +30,18 @@ impl Model for Level {
 /// What a command takes.
 #[derive(Clone, Copy)]
 pub struct Taken {
-    first: Option<Number>,
-    value: Option<Number>,
+    pub(crate) first: Option<Number>,
+    pub(crate) value: Option<Number>,
 }
 
 impl Model for Taken {
-    ghost use Rattle.teco_rules.specs.Arguments.{KnownTaken};
+    ghost use Rattle.teco_verifier.specs.facts.Arguments.{KnownTaken};
 
     ghost Value = { KnownTaken };
 
     ghost view = { λ t. record { first = t.first; value = t.value } };
 
     ghost inverse = { λ t. record { first = t.first; value = t.value } };
-}
-
-impl Taken {
-    /// The first value.
-    pub fn first(self) -> Option<Number>
-        ensures { result ≡ self.first }
-    {
-        self.first
-    }
-
-    /// The value.
-    pub fn value(self) -> Option<Number>
-        ensures { result ≡ self.value }
-    {
-        self.value
-    }
 }
 
 // What an operator makes of two values.
@@ -228,8 +211,8 @@ impl Level {
         }
     }
 
-    /// The level where Z or the pointer may change: linear values become intervals, and where all that is saved is ended,
-    /// saved values too.
+    /// The level where Z or the pointer may change: linear values become intervals, and where all
+    /// that is saved is ended, saved values too.
     pub fn settled(self, margins: Margins, ends: bool) -> Level
         ensures { result ≡ rules.settled_level margins ends self }
     {
@@ -255,7 +238,7 @@ fn first_value(value: Option<Number>, margins: Margins) -> Result<Number, Refusa
     match value {
         None => Err(Refusal::Argument),
         Some(value) => {
-            if Whole::ZERO.at_most(value.range(margins).lo()) {
+            if value.range(margins).lo >= 0 {
                 Ok(value)
             } else {
                 Err(Refusal::Argument)
@@ -271,7 +254,7 @@ fn settled(value: Option<Number>, margins: Margins, ends: bool) -> Option<Number
     match value {
         None => None,
         Some(value) => {
-            let saved = if ends { false } else { value.is_saved() };
+            let saved = if ends { false } else { value.value.saved };
             Some(Number::saved_within(value.range(margins), saved))
         }
     }

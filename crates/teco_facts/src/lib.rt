@@ -7,6 +7,7 @@ mod body;
 mod covering;
 mod deletion;
 mod digits;
+mod each;
 mod edges;
 mod facts;
 mod falls;
@@ -34,7 +35,6 @@ mod storage;
 mod told;
 mod typing;
 mod ways;
-mod whole;
 
 pub use arguments::Arguments;
 pub use body::{Changes, Choice, body_start, growth_of, held_last};
@@ -48,13 +48,11 @@ pub use joining::{joined_lengths, joined_pair};
 pub use level::{Level, Taken};
 pub use margins::Margins;
 pub use number::Number;
-pub use place::Place;
 pub use position::Position;
-pub use printed::{Needs, needs_of, steps};
+pub use printed::{needs_of, steps};
 pub use range::Range;
 pub use saved::Saved;
 pub use shift::Shift;
-pub use whole::Whole;
 
 #[cfg(test)]
 mod tests;

@@ -1,25 +1,26 @@
 //! Where the pointer is.
-ghost use Rattle.std.specs.Prelude.{◌≡◌, ◌≤◌, min};
+ghost use Rattle.std.specs.Prelude.{◌≡◌, min};
 ghost use Rattle.teco_base.specs.declared.TheConstants.{LIMIT};
-ghost use Rattle.teco_rules.specs.Facts as facts;
-ghost use Rattle.teco_rules.specs.Joins as joins;
+ghost use Rattle.teco_verifier.specs.facts.Facts as facts;
+ghost use Rattle.teco_verifier.specs.facts.Joins as joins;
 
 use std::marker::Model;
 use teco_base::LIMIT;
+use teco_verifier::Distances;
 
 const MOST: u64 = LIMIT as u64;
 
 /// The least distances of the pointer from the begin of the buffer and from its end, at most LIMIT.
 #[derive(Clone, Copy)]
 pub struct Margins {
-    back: u32,
-    fore: u32,
+    pub(crate) back: u64,
+    pub(crate) fore: u64,
 }
 
 impl Model for Margins {
     ghost use Rattle.std.specs.Prelude.{◌≤◌};
     ghost use Rattle.teco_base.specs.declared.TheConstants.{LIMIT};
-    ghost use Rattle.teco_rules.specs.declared.values.Distances.{Distances};
+    ghost use Rattle.teco_verifier.specs.declared.values.Distances.{Distances};
 
     ghost Value = { Distances };
 
@@ -43,25 +44,9 @@ impl Margins {
         ensures { result ≡ record { back = min back LIMIT; fore = min fore LIMIT } }
     {
         Margins {
-            back: back.min(MOST) as u32,
-            fore: fore.min(MOST) as u32,
+            back: back.min(MOST),
+            fore: fore.min(MOST),
         }
-    }
-
-    /// The least distance from the begin.
-    pub fn back(self) -> u32
-        ensures value { result ≡ self.back }
-        ensures within { self.back ≤ LIMIT }
-    {
-        self.back
-    }
-
-    /// The least distance from the end.
-    pub fn fore(self) -> u32
-        ensures value { result ≡ self.fore }
-        ensures within { self.fore ≤ LIMIT }
-    {
-        self.fore
     }
 
     /// The smaller distances.
@@ -71,6 +56,16 @@ impl Margins {
         Margins {
             back: self.back.min(other.back),
             fore: self.fore.min(other.fore),
+        }
+    }
+
+    /// The least distances in plain numbers.
+    pub fn told(self) -> Distances
+        ensures { result ≡ self }
+    {
+        Distances {
+            back: self.back as u32,
+            fore: self.fore as u32,
         }
     }
 }

@@ -1,19 +1,18 @@
 //! C, R, J and L.
 ghost use Rattle.std.specs.Prelude.{◌≡◌, IfSome};
-ghost use Rattle.teco_rules.specs.Motions as motions;
-ghost use Rattle.teco_rules.specs.Shifts as shifts;
-ghost use Rattle.teco_facts.specs.Numbers.{IsNear, AreSmall};
+ghost use Rattle.teco_verifier.specs.facts.Motions as motions;
+ghost use Rattle.teco_verifier.specs.facts.Shifts as shifts;
+ghost use Rattle.teco_facts.specs.Numbers.{IsNear, IsPlace, AreSmall};
 
 use crate::facts::{Facts, Foreseen};
 use crate::level::Taken;
 use crate::margins::Margins;
 use crate::number::Number;
-use crate::place::Place;
+use crate::place::{minus, plus};
 use crate::range::Range;
 use crate::shift::Shift;
-use crate::whole::Whole;
 use teco_model::kind::Motion;
-use teco_rules::Refusal;
+use teco_verifier::{Refusal, Value};
 
 /// The argument, 1 where there is none.
 pub fn or_one(value: Option<Number>) -> Number
@@ -33,16 +32,17 @@ pub fn count_of(value: Option<Number>, margins: Margins) -> Range
 pub fn success() -> Range
     ensures { result ≡ motions.success }
 {
-    Range::between(Whole::MINUS_ONE, Whole::ZERO)
+    Range { lo: -1, hi: 0 }
 }
 
 // The place that the argument names.
-fn target(motion: Motion, n: Option<Number>) -> Place
-    ensures { result ≡ motions.target motion n }
+fn target(motion: Motion, n: Option<Number>) -> Value
+    ensures value { result ≡ motions.target motion n }
+    ensures place { IsPlace result.ahead result.behind result.lo result.hi }
 {
     match motion {
-        Motion::Forward => Number::pointer().plus(or_one(n)),
-        Motion::Backward => Number::pointer().minus(or_one(n)),
+        Motion::Forward => plus(Number::pointer(), or_one(n)),
+        Motion::Backward => minus(Number::pointer(), or_one(n)),
         Motion::To => n.unwrap_or(Number::single(0)).place(),
         Motion::Lines => Number::pointer().place(),
     }
@@ -53,8 +53,8 @@ fn goes_forward(motion: Motion, n: Range) -> bool
     ensures { result ≡ motions.goes_forward motion n }
 {
     match motion {
-        Motion::Forward => Whole::ZERO.at_most(n.lo()),
-        Motion::Backward => n.hi().at_most(Whole::ZERO),
+        Motion::Forward => 0 <= n.lo,
+        Motion::Backward => n.hi <= 0,
         Motion::To | Motion::Lines => false,
     }
 }
@@ -63,18 +63,18 @@ fn goes_forward(motion: Motion, n: Range) -> bool
 fn perhaps_forward(forward: bool) -> Shift
     ensures { result ≡ motions.perhaps_forward forward }
 {
-    Shift::moving(0, 0, if forward { Some(Whole::ZERO) } else { None })
+    Shift::moving(0, 0, if forward { Some(0) } else { None })
 }
 
 /// To a line place, or up to one: what is passed is no more behind, or no more ahead.
-pub fn shift_by_lines(back: Option<Whole>, margins: Margins, n: Range) -> Shift
+pub fn shift_by_lines(back: Option<i64>, margins: Margins, n: Range) -> Shift
     requires { IfSome back IsNear }
     ensures { result ≡ motions.shift_by_lines back margins n }
 {
-    if Whole::ONE.at_most(n.lo()) {
-        Shift::moving(u64::from(margins.back()), 0, Some(Whole::ZERO))
-    } else if n.hi().at_most(Whole::ZERO) {
-        Shift::moving(0, u64::from(margins.fore()), back)
+    if 1 <= n.lo {
+        Shift::moving(margins.back, 0, Some(0))
+    } else if n.hi <= 0 {
+        Shift::moving(0, margins.fore, back)
     } else {
         Shift::moving(0, 0, back)
     }
@@ -85,14 +85,15 @@ fn goes_to_saved(motion: Motion, n: &Option<Number>) -> bool
     ensures { result ≡ motions.goes_to_saved motion n.now }
 {
     match (motion, n) {
-        (Motion::To, Some(n)) => n.is_saved(),
+        (Motion::To, Some(n)) => n.value.saved,
         _ => false,
     }
 }
 
 // To a place that is known to lie in the buffer; a saved one is somewhere in it.
 fn shift_for(motion: Motion, n: Option<Number>, margins: Margins) -> Result<Shift, Refusal>
-    ensures { result ≡ motions.shift_or_saved (motions.goes_to_saved motion n) (shifts.shift_to (motions.target motion n) margins) }
+    ensures { result ≡ motions.shift_or_saved (motions.goes_to_saved motion n) (shifts.shift_to
+        (motions.target motion n) margins) }
 {
     let saved = goes_to_saved(motion, &n);
     match Shift::to(target(motion, n), margins) {
@@ -130,9 +131,9 @@ pub fn motion(motion: Motion, colons: u8, taken: Taken, facts: Facts) -> Result<
     match motion {
         Motion::Lines => {
             let margins = facts.margins();
-            let shift = shift_by_lines(None, margins, count_of(taken.value(), margins));
+            let shift = shift_by_lines(None, margins, count_of(taken.value, margins));
             Foreseen::behind(&shift, facts)
         }
-        motion => motion_to(motion, colons, taken.value(), facts),
+        motion => motion_to(motion, colons, taken.value, facts),
     }
 }

@@ -1,41 +1,36 @@
 //! What is known of numbers that are pending.
-ghost use Rattle.std.specs.Prelude.{◌≡◌, pos, FitsSigned, if◌then◌else◌};
-ghost use Rattle.std.specs.Int.{w32};
+ghost use Rattle.std.specs.Prelude.{◌≡◌, pos, if◌then◌else◌};
 ghost use Rattle.teco_base.specs.Arithmetic as bits;
-ghost use Rattle.teco_rules.specs.Arguments as rules;
-ghost use Rattle.teco_rules.specs.Values as values;
-ghost use Rattle.teco_facts.specs.Numbers.{IsNumber};
+ghost use Rattle.teco_verifier.specs.facts.Arguments as rules;
+ghost use Rattle.teco_verifier.specs.facts.Values as values;
+ghost use Rattle.teco_facts.specs.Numbers.{IsPlace};
 
 use crate::arithmetic::{self, range_of};
 use crate::margins::Margins;
-use crate::place::Place;
+use crate::place::{is_linear, minus, plus};
 use crate::range::Range;
-use crate::whole::Whole;
 use std::marker::Model;
-use teco_rules::{ArgumentRange, Refusal};
+use teco_model::ArgumentRange;
+use teco_verifier::{Refusal, Value};
 
-/// A number that is pending: so often each distance of the pointer, and something of a range; where it is saved, it is a
-/// place of the buffer.
+/// A number that is pending: so often each distance of the pointer, and something of a range; where
+/// it is saved, it is a place of the buffer.
 #[derive(Clone, Copy)]
 pub struct Number {
-    ahead: Whole,
-    behind: Whole,
-    lo: Whole,
-    hi: Whole,
-    saved: bool,
+    pub(crate) value: Value,
 }
 
 impl Model for Number {
-    ghost use Rattle.teco_rules.specs.declared.values.Value.{Value as Told};
+    ghost use Rattle.teco_verifier.specs.declared.values.Value.{Value as Told};
     ghost use Rattle.teco_facts.specs.Numbers.{IsNumber};
 
     ghost Value = { Told };
 
-    ghost view = { λ n. record { ahead = n.ahead; behind = n.behind; lo = n.lo; hi = n.hi; saved = n.saved } };
+    ghost view = { λ n. n.value };
 
-    ghost inverse = { λ s. record { ahead = s.ahead; behind = s.behind; lo = s.lo; hi = s.hi; saved = s.saved } };
+    ghost inverse = { λ s. record { value = s } };
 
-    ghost invariant = { λ n. IsNumber n.ahead n.behind n.lo n.hi };
+    ghost invariant = { λ n. IsNumber n.value.ahead n.value.behind n.value.lo n.value.hi };
 }
 
 impl Number {
@@ -43,21 +38,8 @@ impl Number {
     pub fn single(k: i32) -> Number
         ensures { result ≡ values.single k }
     {
-        Number::just(Whole::of(i64::from(k)))
-    }
-
-    // A single number of 32 bits.
-    fn just(k: Whole) -> Number
-        requires { FitsSigned w32 k }
-        ensures { result ≡ values.single k }
-    {
-        Number {
-            ahead: Whole::ZERO,
-            behind: Whole::ZERO,
-            lo: k,
-            hi: k,
-            saved: false,
-        }
+        let k = i64::from(k);
+        Number::within(Range { lo: k, hi: k })
     }
 
     /// A number of a range.
@@ -71,27 +53,25 @@ impl Number {
     pub fn declared(range: ArgumentRange) -> Number
         ensures { result ≡ values.value_in (record { lo = pos range.low; hi = pos range.high }) }
     {
-        Number::within(Range::declared(range))
+        Number::within(Range {
+            lo: i64::from(range.low()),
+            hi: i64::from(range.high()),
+        })
     }
 
-    /// The same, which may be a place of the buffer.
+    /// A number of a range, which may be a place of the buffer.
     pub fn saved_within(range: Range, saved: bool) -> Number
         ensures { result ≡ record (values.value_in range) { saved = saved } }
     {
         Number {
-            ahead: Whole::ZERO,
-            behind: Whole::ZERO,
-            lo: range.lo(),
-            hi: range.hi(),
-            saved,
+            value: Value {
+                ahead: 0,
+                behind: 0,
+                lo: range.lo,
+                hi: range.hi,
+                saved,
+            },
         }
-    }
-
-    /// Whether it is known to be a place of the buffer.
-    pub fn is_saved(self) -> bool
-        ensures { result ≡ self.saved }
-    {
-        self.saved
     }
 
     /// Z.
@@ -99,11 +79,13 @@ impl Number {
         ensures { result ≡ values.size }
     {
         Number {
-            ahead: Whole::ONE,
-            behind: Whole::ONE,
-            lo: Whole::ZERO,
-            hi: Whole::ZERO,
-            saved: false,
+            value: Value {
+                ahead: 1,
+                behind: 1,
+                lo: 0,
+                hi: 0,
+                saved: false,
+            },
         }
     }
 
@@ -112,11 +94,13 @@ impl Number {
         ensures { result ≡ values.pointer }
     {
         Number {
-            ahead: Whole::ZERO,
-            behind: Whole::ONE,
-            lo: Whole::ZERO,
-            hi: Whole::ZERO,
-            saved: false,
+            value: Value {
+                ahead: 0,
+                behind: 1,
+                lo: 0,
+                hi: 0,
+                saved: false,
+            },
         }
     }
 
@@ -124,61 +108,35 @@ impl Number {
     pub fn range(self, margins: Margins) -> Range
         ensures { result ≡ values.interval_of margins self }
     {
-        range_of(margins, self.ahead, self.behind, self.lo, self.hi)
+        range_of(margins, self.value)
     }
 
-    /// How often each distance counts, and the range of what else there is.
-    pub fn parts(self) -> (Whole, Whole, Whole, Whole)
-        ensures value { result ≡ (self.ahead, self.behind, self.lo, self.hi) }
-        ensures number { IsNumber self.ahead self.behind self.lo self.hi }
+    /// What else there is than the distances.
+    pub fn ends(self) -> Range
+        ensures { result ≡ record { lo = self.lo; hi = self.hi } }
     {
-        (self.ahead, self.behind, self.lo, self.hi)
-    }
-
-    /// The sum without a limit.
-    pub fn plus(self, other: Number) -> Place
-        ensures { result ≡ values.plus self other }
-    {
-        Place::of(
-            self.ahead.plus(other.ahead),
-            self.behind.plus(other.behind),
-            self.lo.plus(other.lo),
-            self.hi.plus(other.hi),
-        )
-    }
-
-    /// The difference without a limit.
-    pub fn minus(self, other: Number) -> Place
-        ensures { result ≡ values.minus self other }
-    {
-        Place::of(
-            self.ahead.minus(other.ahead),
-            self.behind.minus(other.behind),
-            self.lo.minus(other.hi),
-            self.hi.minus(other.lo),
-        )
+        Range {
+            lo: self.value.lo,
+            hi: self.value.hi,
+        }
     }
 
     /// The number as a place.
-    pub fn place(self) -> Place
-        ensures { result ≡ self }
+    #[tactic(auto, using(crate::proofs::Places::number_is_place))]
+    pub fn place(self) -> Value
+        ensures value { result ≡ self }
+        ensures place { IsPlace result.ahead result.behind result.lo result.hi }
     {
-        Place::of(self.ahead, self.behind, self.lo, self.hi).saved(self.saved)
+        self.value
     }
 
-    /// The number that a place is, where that is linear, and else one of a range.
-    fn linear_or(range: Range, exact: Place) -> Number
+    // The number that a place is, where that is linear, and else one of a range.
+    fn linear_or(range: Range, exact: Value) -> Number
+        requires { IsPlace exact.ahead exact.behind exact.lo exact.hi }
         ensures { result ≡ (if values.is_linear exact then exact else values.value_in range) }
     {
-        let (ahead, behind, lo, hi) = exact.parts();
-        if exact.is_linear() {
-            Number {
-                ahead,
-                behind,
-                lo,
-                hi,
-                saved: exact.is_saved(),
-            }
+        if is_linear(exact) {
+            Number { value: exact }
         } else {
             Number::within(range)
         }
@@ -189,7 +147,7 @@ impl Number {
         ensures { result ≡ values.sum margins self other }
     {
         let range = arithmetic::sum_of(self.range(margins), other.range(margins));
-        Number::linear_or(range, self.plus(other))
+        Number::linear_or(range, plus(self, other))
     }
 
     /// The difference.
@@ -197,7 +155,7 @@ impl Number {
         ensures { result ≡ values.difference margins self other }
     {
         let range = arithmetic::difference_of(self.range(margins), other.range(margins));
-        Number::linear_or(range, self.minus(other))
+        Number::linear_or(range, minus(self, other))
     }
 
     /// The product.
@@ -212,7 +170,7 @@ impl Number {
         ensures { result ≡ rules.quotient_of margins self other }
     {
         let divisor = other.range(margins);
-        if divisor.lo().is_positive() || divisor.hi().is_negative() {
+        if divisor.is_positive() || divisor.is_negative() {
             let range = arithmetic::quotient_of(self.range(margins), divisor);
             Ok(Number::within(range))
         } else {
@@ -221,26 +179,30 @@ impl Number {
     }
 
     /// The bits that both have, where each is a single number.
+    #[tactic(auto, using(crate::proofs::Wholes::wholes))]
     pub fn and(self, other: Number, margins: Margins) -> Number
-        ensures { result ≡ values.bitwise bits.and (values.interval_of margins self) (values.interval_of margins other) }
+        ensures { result ≡ values.bitwise bits.and (values.interval_of margins self)
+            (values.interval_of margins other) }
     {
         let one = self.range(margins);
         let two = other.range(margins);
         if one.is_single() && two.is_single() {
-            Number::just(one.lo().and(two.lo()))
+            Number::single(arithmetic::and(one, two))
         } else {
             Number::within(Range::any())
         }
     }
 
     /// The bits that either has, where each is a single number.
+    #[tactic(auto, using(crate::proofs::Wholes::wholes))]
     pub fn or(self, other: Number, margins: Margins) -> Number
-        ensures { result ≡ values.bitwise bits.or (values.interval_of margins self) (values.interval_of margins other) }
+        ensures { result ≡ values.bitwise bits.or (values.interval_of margins self)
+            (values.interval_of margins other) }
     {
         let one = self.range(margins);
         let two = other.range(margins);
         if one.is_single() && two.is_single() {
-            Number::just(one.lo().or(two.lo()))
+            Number::single(arithmetic::or(one, two))
         } else {
             Number::within(Range::any())
         }

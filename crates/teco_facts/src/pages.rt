@@ -1,6 +1,6 @@
 //! A, P, PW and Y.
 ghost use Rattle.std.specs.Prelude.{◌≡◌};
-ghost use Rattle.teco_rules.specs.Pages as pages;
+ghost use Rattle.teco_verifier.specs.facts.Pages as pages;
 ghost use Rattle.teco_facts.specs.Numbers.{AreSmall};
 ghost use Rattle.teco_facts.specs.Pages as parts;
 
@@ -12,15 +12,14 @@ use crate::query::character;
 use crate::range::Range;
 use crate::shift::Shift;
 use crate::typing::part_named;
-use crate::whole::Whole;
 use teco_model::kind::Page;
-use teco_rules::Refusal;
+use teco_verifier::Refusal;
 
 // There is one page at least.
 fn some_pages(n: Range) -> Result<(), Refusal>
     ensures { result ≡ pages.some_pages n }
 {
-    if Whole::ONE.at_most(n.lo()) {
+    if 1 <= n.lo {
         Ok(())
     } else {
         Err(Refusal::Argument)
@@ -36,46 +35,38 @@ fn append(value: Option<Number>, facts: Facts) -> Result<Foreseen, Refusal>
         return Ok(Foreseen::answering(character(), facts));
     }
     let margins = facts.margins();
-    let shift = Shift::moving(
-        u64::from(margins.back()),
-        u64::from(margins.fore()),
-        Some(Whole::ZERO),
-    );
+    let shift = Shift::moving(margins.back, margins.fore, Some(0));
     Foreseen::behind(&shift, facts)
 }
 
 // A part that is written leaves all as it is.
-fn part_left(
-    first: Option<Number>,
-    value: Option<Number>,
-    facts: Facts,
-) -> Result<Foreseen, Refusal>
-    ensures { result ≡ parts.part_left first value facts }
+fn part_left(taken: Taken, facts: Facts) -> Result<Foreseen, Refusal>
+    ensures { result ≡ parts.part_left taken.first taken.value facts }
 {
-    part_named(first, value, facts.margins())?;
+    part_named(taken, facts.margins())?;
     Ok(Foreseen::silent(facts))
 }
 
 // To the begin of another page, where nothing is saved; a part is written.
-fn turning(first: Option<Number>, value: Option<Number>, facts: Facts) -> Result<Foreseen, Refusal>
+fn turning(taken: Taken, facts: Facts) -> Result<Foreseen, Refusal>
     requires { AreSmall facts.position.falls }
-    ensures { result ≡ pages.turning first value facts }
+    ensures { result ≡ pages.turning taken.first taken.value facts }
 {
-    if first.is_some() && value.is_some() {
-        return part_left(first, value, facts);
+    if taken.first.is_some() && taken.value.is_some() {
+        return part_left(taken, facts);
     }
-    some_pages(count_of(value, facts.margins()))?;
-    Foreseen::behind(&Shift::moving(0, 0, Some(Whole::ZERO)).ending(), facts)
+    some_pages(count_of(taken.value, facts.margins()))?;
+    Foreseen::behind(&Shift::moving(0, 0, Some(0)).ending(), facts)
 }
 
 // Pages or a part are written.
-fn writing(first: Option<Number>, value: Option<Number>, facts: Facts) -> Result<Foreseen, Refusal>
-    ensures { result ≡ pages.writing first value facts }
+fn writing(taken: Taken, facts: Facts) -> Result<Foreseen, Refusal>
+    ensures { result ≡ pages.writing taken.first taken.value facts }
 {
-    if first.is_some() && value.is_some() {
-        return part_left(first, value, facts);
+    if taken.first.is_some() && taken.value.is_some() {
+        return part_left(taken, facts);
     }
-    some_pages(count_of(value, facts.margins()))?;
+    some_pages(count_of(taken.value, facts.margins()))?;
     Ok(Foreseen::silent(facts))
 }
 
@@ -85,9 +76,9 @@ pub fn page(page: Page, taken: Taken, facts: Facts) -> Result<Foreseen, Refusal>
     ensures { result ≡ pages.pages page taken facts }
 {
     match page {
-        Page::Append => append(taken.value(), facts),
-        Page::Next => turning(taken.first(), taken.value(), facts),
-        Page::Write => writing(taken.first(), taken.value(), facts),
+        Page::Append => append(taken.value, facts),
+        Page::Next => turning(taken, facts),
+        Page::Write => writing(taken, facts),
         Page::Yank => Err(Refusal::Unverified),
     }
 }

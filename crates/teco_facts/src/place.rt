@@ -1,128 +1,115 @@
-//! Sums and differences of numbers, without a limit.
-ghost use Rattle.std.specs.Prelude.{◌≡◌, ◌≤ℤ◌, false, IfSome};
-ghost use Rattle.teco_rules.specs.Values as values;
-ghost use Rattle.teco_facts.specs.Numbers.{IsPlace, IsNear};
+//! Sums and differences of numbers, without a limit, which may be places in the buffer.
+ghost use Rattle.std.specs.Prelude.{◌≡◌, IfSome, negsuc, pos, ◌≤ℤ◌, ◌^◌};
+ghost use Rattle.teco_verifier.specs.facts.Values as values;
+ghost use Rattle.teco_facts.specs.Numbers.{IsPlace, IsNear, IsSmall};
 
-use crate::arithmetic::least_of;
+use crate::arithmetic::{add, at_most, share, sub};
 use crate::margins::Margins;
-use crate::whole::Whole;
-use std::marker::Model;
+use crate::number::Number;
+use teco_base::LIMIT;
+use teco_verifier::Value;
 
 const LEAST: i64 = -536_870_912;
 
 const MOST: i64 = 536_870_912;
 
-/// A number, a sum or a difference, which may be a place in the buffer.
-#[derive(Clone, Copy)]
-pub struct Place {
-    ahead: Whole,
-    behind: Whole,
-    lo: Whole,
-    hi: Whole,
-    saved: bool,
+/// The sum.
+pub fn plus(s: Number, t: Number) -> Value
+    ensures value { result ≡ values.plus s t }
+    ensures place { IsPlace result.ahead result.behind result.lo result.hi }
+{
+    Value {
+        ahead: add(s.value.ahead, t.value.ahead),
+        behind: add(s.value.behind, t.value.behind),
+        lo: add(s.value.lo, t.value.lo),
+        hi: add(s.value.hi, t.value.hi),
+        saved: false,
+    }
 }
 
-impl Model for Place {
-    ghost use Rattle.teco_rules.specs.declared.values.Value.{Value as Told};
-    ghost use Rattle.teco_facts.specs.Numbers.{IsPlace};
+// The difference of places.
+fn apart(s: Value, t: Value) -> Value
+    requires one { IsPlace s.ahead s.behind s.lo s.hi }
+    requires two { IsPlace t.ahead t.behind t.lo t.hi }
+    ensures { result ≡ values.minus s t }
+{
+    Value {
+        ahead: sub(s.ahead, t.ahead),
+        behind: sub(s.behind, t.behind),
+        lo: sub(s.lo, t.hi),
+        hi: sub(s.hi, t.lo),
+        saved: false,
+    }
+}
 
-    ghost Value = { Told };
-
-    ghost view = { λ p. record { ahead = p.ahead; behind = p.behind; lo = p.lo; hi = p.hi; saved = p.saved } };
-
-    ghost inverse = { λ s. record { ahead = s.ahead; behind = s.behind; lo = s.lo; hi = s.hi; saved = s.saved } };
-
-    ghost invariant = { λ p. IsPlace p.ahead p.behind p.lo p.hi };
+/// The difference.
+#[tactic(auto, using(crate::proofs::Places::number_is_place))]
+pub fn minus(s: Number, t: Number) -> Value
+    ensures value { result ≡ values.minus s t }
+    ensures place { IsPlace result.ahead result.behind result.lo result.hi }
+{
+    apart(s.value, t.value)
 }
 
 // Whether it is -1, 0 or 1.
-fn is_sign(times: Whole) -> bool
+fn is_sign(times: i64) -> bool
     ensures { result ≡ values.is_sign times }
 {
-    Whole::MINUS_ONE.at_most(times) && times.at_most(Whole::ONE)
+    -1 <= times && times <= 1
 }
 
-impl Place {
-    /// So often each distance, and something of a range.
-    pub fn of(ahead: Whole, behind: Whole, lo: Whole, hi: Whole) -> Place
-        requires { IsPlace ahead behind lo hi }
-        ensures { result ≡ record { ahead = ahead; behind = behind; lo = lo; hi = hi; saved = false } }
-    {
-        Place {
-            ahead,
-            behind,
-            lo,
-            hi,
-            saved: false,
-        }
-    }
+/// Whether a number is linear, and may so be kept.
+pub fn is_linear(n: Value) -> bool
+    requires { IsPlace n.ahead n.behind n.lo n.hi }
+    ensures { result ≡ values.is_linear n }
+{
+    is_sign(n.ahead)
+        && is_sign(sub(n.behind, n.ahead))
+        && at_most(n.hi, n.lo)
+        && at_most(LEAST, n.lo)
+        && at_most(n.hi, MOST)
+}
 
-    /// The same, which is saved or not.
-    pub fn saved(mut self, saved: bool) -> Place
-        ensures { result ≡ record self { saved = saved } }
-    {
-        self.saved = saved;
-        self
+/// The least that a number can be.
+pub fn least(n: Value, margins: Margins) -> Option<i64>
+    requires ahead_small { IsSmall n.ahead }
+    requires behind_small { IsSmall n.behind }
+    requires low { negsuc (2 ^ 35) ≤ℤ n.lo }
+    requires high { n.lo ≤ℤ pos (2 ^ 35) }
+    ensures value { result ≡ values.least n margins }
+    ensures near { IfSome result IsNear }
+{
+    if n.ahead < 0 || n.behind < 0 {
+        return None;
     }
+    let shares = add(share(margins.fore, n.ahead), share(margins.back, n.behind));
+    Some(add(shares, n.lo))
+}
 
-    /// Whether it is saved.
-    pub fn is_saved(self) -> bool
-        ensures { result ≡ self.saved }
-    {
-        self.saved
-    }
+/// The least distance of a place from the end.
+pub fn least_behind(place: Value, margins: Margins) -> Option<i64>
+    requires { IsPlace place.ahead place.behind place.lo place.hi }
+    ensures { result ≡ values.least (values.minus values.size place) margins }
+{
+    least(apart(Number::size().place(), place), margins)
+}
 
-    /// How often each distance counts, and the range of what else there is.
-    pub fn parts(self) -> (Whole, Whole, Whole, Whole)
-        ensures value { result ≡ (self.ahead, self.behind, self.lo, self.hi) }
-        ensures ordered { self.lo ≤ℤ self.hi }
-    {
-        (self.ahead, self.behind, self.lo, self.hi)
-    }
+/// How far behind the pointer a place is at the least.
+pub fn least_past(place: Value, margins: Margins) -> Option<i64>
+    requires { IsPlace place.ahead place.behind place.lo place.hi }
+    ensures value { result ≡ values.least (values.minus place values.pointer) margins }
+    ensures near { IfSome result IsNear }
+{
+    least(apart(place, Number::pointer().place()), margins)
+}
 
-    /// Whether it is linear, and may so be kept.
-    pub fn is_linear(self) -> bool
-        ensures { result ≡ values.is_linear self }
-    {
-        is_sign(self.ahead)
-            && is_sign(self.behind.minus(self.ahead))
-            && self.hi.at_most(self.lo)
-            && Whole::of(LEAST).at_most(self.lo)
-            && self.hi.at_most(Whole::of(MOST))
+/// A distance that is known not to be negative, at most LIMIT.
+pub fn distance_of(least: Option<i64>) -> Option<u64>
+    ensures { result ≡ values.distance_of least }
+{
+    let least = least?;
+    if least < 0 {
+        return None;
     }
-
-    /// The least that it can be.
-    pub fn least(self, margins: Margins) -> Option<Whole>
-        ensures value { result ≡ values.least self margins }
-        ensures near { IfSome result IsNear }
-    {
-        least_of(margins, self.ahead, self.behind, self.lo, self.hi)
-    }
-
-    /// The least distance of the place from the end.
-    pub fn least_behind(self, margins: Margins) -> Option<Whole>
-        ensures value { result ≡ values.least (values.minus values.size self) margins }
-    {
-        least_of(
-            margins,
-            Whole::ONE.minus(self.ahead),
-            Whole::ONE.minus(self.behind),
-            Whole::ZERO.minus(self.hi),
-            Whole::ZERO.minus(self.lo),
-        )
-    }
-
-    /// How far behind the pointer the place is at the least.
-    pub fn least_past(self, margins: Margins) -> Option<Whole>
-        ensures value { result ≡ values.least (values.minus self values.pointer) margins }
-        ensures near { IfSome result IsNear }
-    {
-        least_of(
-            margins,
-            self.ahead.minus(Whole::ZERO),
-            self.behind.minus(Whole::ONE),
-            self.lo.minus(Whole::ZERO),
-            self.hi.minus(Whole::ZERO),
-        )
-    }
+    Some((least as u64).min(LIMIT as u64))
 }

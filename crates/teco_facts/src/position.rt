@@ -1,25 +1,21 @@
 //! Where the pointer is, and how much is ahead of it.
-ghost use Rattle.std.specs.Prelude.{◌≡◌, IfSome, map, drop, slice_set, ◌∷◌, Some, Ok, pos, length, ◌<◌};
-ghost use Rattle.teco_rules.specs.Facts as facts;
-ghost use Rattle.teco_rules.specs.Flows as flows;
-ghost use Rattle.teco_rules.specs.Joins as joins;
-ghost use Rattle.teco_rules.specs.Shifts as shifts;
-ghost use Rattle.teco_facts.specs.Numbers.{IsNear, AreSmall};
-ghost use Rattle.teco_facts.specs.declared.few.TheConstants.{DEPTH};
+ghost use Rattle.std.specs.Prelude.{◌≡◌};
+ghost use Rattle.teco_verifier.specs.facts.Facts as facts;
+ghost use Rattle.teco_verifier.specs.facts.Joins as joins;
+ghost use Rattle.teco_verifier.specs.facts.Shifts as shifts;
+ghost use Rattle.teco_facts.specs.Numbers.{AreSmall};
 
 use crate::falls::{self, Falls};
 use crate::few::Few;
 use crate::margins::Margins;
 use crate::saved::Saved;
 use crate::shift::Shift;
-use crate::whole::Whole;
 use std::marker::Model;
-use teco_base::Reg;
 use teco_poly::Poly;
-use teco_rules::Refusal;
+use teco_verifier::Refusal;
 
-/// The least distances of the pointer, the least fall of each open iteration, how much is ahead, and which registers are
-/// saved.
+/// The least distances of the pointer, the least fall of each open iteration, how much is ahead,
+/// and which registers are saved.
 #[derive(Drop)]
 pub struct Position {
     pub(crate) margins: Margins,
@@ -29,11 +25,17 @@ pub struct Position {
 }
 
 impl Model for Position {
-    ghost use Rattle.teco_rules.specs.Facts as facts;
+    ghost use Rattle.teco_verifier.specs.facts.Facts as facts;
 
     ghost Value = { facts.Position };
 
-    ghost view = { λ p. record { distances = p.margins; falls = p.falls; ahead = p.ahead; saved = p.saved } };
+    ghost view = { λ p. record {
+      distances = p.margins;
+      falls = p.falls;
+      ahead = p.ahead;
+      saved =
+          p.saved;
+    } };
 }
 
 /// The sum, where it does not overflow.
@@ -51,12 +53,12 @@ pub fn join_of(one: &Poly, two: &Poly) -> Result<Poly, Refusal>
 }
 
 // What is ahead behind a fall: all that is held, where it is unknown or negative.
-fn ahead_after(by: Option<Whole>, held: Poly, ahead: Poly) -> Poly
+fn ahead_after(by: Option<i64>, held: Poly, ahead: Poly) -> Poly
     ensures { result ≡ shifts.ahead_after by held ahead }
 {
     match by {
         None => held,
-        Some(by) => { if by.is_negative() { held } else { ahead } }
+        Some(by) => if by < 0 { held } else { ahead },
     }
 }
 
@@ -73,7 +75,7 @@ impl Position {
         }
     }
 
-    /// The same position once more.
+    /// A copy of the position.
     pub fn copied(&self) -> Position
         ensures { result ≡ self.now }
     {
@@ -85,49 +87,13 @@ impl Position {
         }
     }
 
-    /// The least distances.
-    pub fn margins(&self) -> Margins
-        ensures { result ≡ self.now.distances }
-    {
-        self.margins
-    }
-
-    /// How much is ahead.
-    pub fn ahead(&self) -> Poly
-        ensures { result ≡ self.now.ahead }
-    {
-        self.ahead
-    }
-
-    /// Which registers are saved.
-    pub fn saved(&self) -> Saved
-        ensures { result ≡ self.now.saved }
-    {
-        self.saved
-    }
-
-    /// The position where a register is saved, or is not.
-    pub fn saving(&self, register: Reg, saved: bool) -> Position
-        ensures { result ≡ record self.now { saved = slice_set self.now.saved register saved } }
-    {
-        Position {
-            margins: self.margins,
-            falls: self.falls.copied(),
-            ahead: self.ahead,
-            saved: self.saved.with(register, saved),
-        }
-    }
-
     /// The position with other distances.
     pub fn at(&self, margins: Margins) -> Position
         ensures { result ≡ record self.now { distances = margins } }
     {
-        Position {
-            margins,
-            falls: self.falls.copied(),
-            ahead: self.ahead,
-            saved: self.saved,
-        }
+        let mut copy = self.copied();
+        copy.margins = margins;
+        copy
     }
 
     /// The position behind a shift, where so much is held.
@@ -135,12 +101,11 @@ impl Position {
         requires { AreSmall self.now.falls }
         ensures { result ≡ shifts.position_after shift.now held self.now }
     {
-        let fall = shift.fall();
         Position {
-            margins: shift.margins(),
-            falls: falls::falls_after(&fall, &self.falls),
-            ahead: ahead_after(fall, held, self.ahead),
-            saved: self.saved.after(shift.ends()),
+            margins: Margins::capped(shift.back, shift.fore),
+            falls: falls::falls_after(&shift.fall, &self.falls),
+            ahead: ahead_after(shift.fall, held, self.ahead),
+            saved: self.saved.after(shift.ends),
         }
     }
 
@@ -155,49 +120,5 @@ impl Position {
             ahead,
             saved: self.saved.joined(other.saved),
         })
-    }
-
-    /// The position in so many iterations fewer.
-    pub fn leaving(&self, count: usize) -> Position
-        ensures { result ≡ record self.now { falls = drop count self.now.falls } }
-    {
-        let mut falls = self.falls.copied();
-        falls.drop_front(count);
-        Position {
-            margins: self.margins,
-            falls,
-            ahead: self.ahead,
-            saved: self.saved,
-        }
-    }
-
-    /// The position where a turn begins: nothing has fallen in it.
-    pub fn begun(&self) -> Position
-        requires { length self.now.falls < DEPTH }
-        ensures { result ≡ record self.now { falls = Some (pos 0) ∷ self.now.falls } }
-    {
-        let mut falls = self.falls.copied();
-        falls.put(Some(Whole::ZERO));
-        Position {
-            margins: self.margins,
-            falls,
-            ahead: self.ahead,
-            saved: self.saved,
-        }
-    }
-
-    /// The position where another turn begins.
-    pub fn turned(&self) -> Position
-        ensures { result ≡ flows.begun (drop 1 self.now.falls) self.now }
-    {
-        let mut falls = self.falls.copied();
-        falls.drop_front(1);
-        falls.put(Some(Whole::ZERO));
-        Position {
-            margins: self.margins,
-            falls,
-            ahead: self.ahead,
-            saved: self.saved,
-        }
     }
 }

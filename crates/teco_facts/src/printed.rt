@@ -1,6 +1,6 @@
 //! What is printed of an element: how many steps it takes at most, and which files it needs.
 ghost use Rattle.std.specs.Prelude.{◌≡◌};
-ghost use Rattle.teco_rules.specs.Printed as printed;
+ghost use Rattle.teco_verifier.specs.facts.Printed as printed;
 
 use crate::facts::Facts;
 use crate::flow::bound_of;
@@ -8,41 +8,19 @@ use crate::level::Taken;
 use crate::motion::or_one;
 use crate::number::Number;
 use crate::position::sum_of;
-use std::marker::Model;
-use teco_model::Kind;
 use teco_model::kind::{Page, Search};
+use teco_model::{Kind, Needs};
 use teco_poly::Poly;
-use teco_rules::Refusal;
-
-/// The files that must be open.
-#[derive(Clone, Copy, Debug, PartialEq, Eq)]
-pub struct Needs {
-    pub input: bool,
-    pub output: bool,
-}
-
-impl Model for Needs {
-    ghost use Rattle.teco_rules.specs.Printed as printed;
-
-    ghost Value = { printed.Needs };
-
-    ghost view = { λ n. record { input = n.input; output = n.output } };
-
-    ghost inverse = { λ n. record { input = n.input; output = n.output } };
-}
+use teco_verifier::Refusal;
 
 // A step for each page, or one for a part.
-fn steps_of_pages(
-    first: Option<Number>,
-    value: Option<Number>,
-    facts: &Facts,
-) -> Result<Poly, Refusal>
-    ensures { result ≡ printed.steps_of_pages first value facts.now }
+fn steps_of_pages(taken: Taken, facts: &Facts) -> Result<Poly, Refusal>
+    ensures { result ≡ printed.steps_of_pages taken.first taken.value facts.now }
 {
-    if first.is_some() && value.is_some() {
+    if taken.first.is_some() && taken.value.is_some() {
         Ok(Poly::number(1))
     } else {
-        bound_of(or_one(value), facts)
+        bound_of(or_one(taken.value), facts)
     }
 }
 
@@ -51,7 +29,7 @@ fn steps_of_page(page: Page, taken: Taken, facts: &Facts) -> Result<Poly, Refusa
     ensures { result ≡ printed.steps_of_page page taken facts.now }
 {
     match page {
-        Page::Next | Page::Write => steps_of_pages(taken.first(), taken.value(), facts),
+        Page::Next | Page::Write => steps_of_pages(taken, facts),
         Page::Append | Page::Yank => Ok(Poly::number(1)),
     }
 }
@@ -113,7 +91,7 @@ pub fn needs_of(kind: Kind, facts: &Facts) -> Result<Needs, Refusal>
     match kind {
         Kind::Page(page) => {
             let taken = facts.level().taken()?;
-            Ok(needs_of_page(page, taken.value()))
+            Ok(needs_of_page(page, taken.value))
         }
         Kind::Search(search) => Ok(needs_of_search(search)),
         _ => Ok(Needs {

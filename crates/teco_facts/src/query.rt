@@ -1,33 +1,23 @@
 //! Q, ^X and \.
-ghost use Rattle.std.specs.Prelude.{◌≡◌, ℕ, None, Some};
-ghost use Rattle.teco_rules.specs.Queries as queries;
-ghost use Rattle.teco_rules.specs.declared.values.Value.{Value as Told};
+ghost use Rattle.std.specs.Prelude.{◌≡◌};
+ghost use Rattle.teco_verifier.specs.facts.Queries as queries;
 ghost use Rattle.teco_facts.specs.Numbers.{AreSmall};
 
 use crate::facts::{Facts, Foreseen};
 use crate::level::Level;
-use crate::margins::Margins;
 use crate::number::Number;
 use crate::range::Range;
 use crate::shift::Shift;
-use crate::whole::Whole;
 use teco_base::LIMIT;
 use teco_model::kind::Query;
 use teco_poly::Poly;
-use teco_rules::Refusal;
+use teco_verifier::Refusal;
 
 /// The code of a character, -1 where there is none.
 pub fn character() -> Range
     ensures { result ≡ queries.character }
 {
-    Range::between(Whole::MINUS_ONE, Whole::of(255))
-}
-
-// The length of a text.
-fn text_length() -> Range
-    ensures { result ≡ queries.text_length }
-{
-    Range::between(Whole::ZERO, Whole::of(LIMIT as i64))
+    Range { lo: -1, hi: 255 }
 }
 
 impl Facts {
@@ -40,19 +30,15 @@ impl Facts {
                 if colons == 0 {
                     Number::saved_within(self.number_of(register), self.is_saved(register))
                 } else {
-                    Number::within(text_length())
+                    Number::within(Range {
+                        lo: 0,
+                        hi: LIMIT as i64,
+                    })
                 }
             }
             Query::Mode | Query::Conversion => Number::within(Range::any()),
         }
     }
-}
-
-// On past the number that is read.
-fn past_number(margins: Margins) -> Shift
-    ensures { result ≡ queries.past_number margins }
-{
-    Shift::moving(u64::from(margins.back()), 0, Some(Whole::ZERO))
 }
 
 // What is known where nothing is taken.
@@ -62,7 +48,8 @@ fn facts_at_query(query: Query, facts: Facts) -> Result<Facts, Refusal>
 {
     match query {
         Query::Conversion => {
-            let shift = past_number(facts.margins());
+            // on past the number that is read
+            let shift = Shift::moving(facts.margins().back, 0, Some(0));
             facts.shifted(&shift)
         }
         Query::Number(_) | Query::Mode => Ok(facts),
@@ -92,27 +79,6 @@ pub fn value_for(query: &Query, colons: u8, level: Level) -> Option<Number>
     if gives { None } else { level.standing() }
 }
 
-// A query that takes no value gives one.
-fn facts_given(query: Query, colons: u8, facts: Facts) -> Result<Facts, Refusal>
-    requires { AreSmall facts.position.falls }
-    ensures { result ≡ queries.facts_after_query query colons None facts }
-{
-    let given = facts.queried(&query, colons);
-    let known = facts_at_query(query, facts)?;
-    let margins = known.margins();
-    let level = known.level().given(given, margins)?;
-    Ok(known.with_level(level))
-}
-
-// What is done where a value is taken.
-fn facts_taken(query: Query, facts: Facts) -> Result<Facts, Refusal>
-    requires { AreSmall facts.position.falls }
-    ensures { (s : Told) (colons : ℕ) → result ≡ queries.facts_after_query query colons (Some s) facts }
-{
-    let known = query_with(query, facts.taking())?;
-    Ok(known.answered())
-}
-
 /// A query gives a value, or takes one.
 pub fn facts_after_query(
     query: Query,
@@ -124,7 +90,15 @@ pub fn facts_after_query(
     ensures { result ≡ queries.facts_after_query query colons taken facts }
 {
     match taken {
-        None => facts_given(query, colons, facts),
-        Some(_) => facts_taken(query, facts),
+        None => {
+            let given = facts.queried(&query, colons);
+            let known = facts_at_query(query, facts)?;
+            let level = known.level().given(given, known.margins())?;
+            Ok(known.with_level(level))
+        }
+        Some(_) => {
+            let known = query_with(query, facts.taking())?;
+            Ok(known.answered())
+        }
     }
 }

@@ -1,10 +1,11 @@
 //! S, FS, N and FN: what is known where they found, and where they failed.
-ghost use Rattle.std.specs.Prelude.{◌≡◌, ◌≤◌, IfOk, length};
+ghost use Rattle.std.specs.Prelude.{◌≡◌, ◌≤◌, IfOk, IfSome, length, true};
 ghost use Rattle.teco_base.specs.declared.TheConstants.{LIMIT};
-ghost use Rattle.teco_rules.specs.Arguments as arguments;
-ghost use Rattle.teco_rules.specs.Facts as known;
-ghost use Rattle.teco_rules.specs.Searches as searches;
-ghost use Rattle.teco_facts.specs.Numbers.{AreSmall};
+ghost use Rattle.teco_verifier.specs.facts.Arguments as arguments;
+ghost use Rattle.teco_verifier.specs.facts.Facts as known;
+ghost use Rattle.teco_verifier.specs.facts.Searches as searches;
+ghost use Rattle.teco_facts.specs.Numbers.{AreSmall, IsNear};
+ghost use Rattle.teco_poly.specs.Polynomial as polynomial;
 ghost use Rattle.teco_facts.specs.Searched as searched;
 
 use crate::facts::{Answer, Facts};
@@ -15,19 +16,18 @@ use crate::number::Number;
 use crate::position::Position;
 use crate::range::Range;
 use crate::shift::Shift;
-use crate::whole::Whole;
 use teco_find::minimum;
 use teco_model::kind::Search;
 use teco_poly::Poly;
-use teco_rules::Refusal;
+use teco_verifier::Refusal;
 
 // S and FS: a count that may be 0 may be refused, and one that may be negative is not verified.
 fn count_in_buffer(n: Range) -> Result<(), Refusal>
     ensures { result ≡ searches.count_in_buffer n }
 {
-    if n.lo().at_most(Whole::ZERO) && Whole::ZERO.at_most(n.hi()) {
+    if n.lo <= 0 && 0 <= n.hi {
         Err(Refusal::Argument)
-    } else if n.lo().is_below_one() {
+    } else if n.lo < 1 {
         Err(Refusal::Unverified)
     } else {
         Ok(())
@@ -38,7 +38,7 @@ fn count_in_buffer(n: Range) -> Result<(), Refusal>
 fn count_in_pages(n: Range) -> Result<(), Refusal>
     ensures { result ≡ searches.count_in_pages n }
 {
-    if n.lo().is_below_one() {
+    if n.lo < 1 {
         Err(Refusal::Argument)
     } else {
         Ok(())
@@ -58,8 +58,8 @@ fn count_allowed(search: Search, n: Range) -> Result<(), Refusal>
 fn count_checked(search: Search, taken: Taken, margins: Margins) -> Result<(), Refusal>
     ensures { result ≡ searches.count_checked search taken.first taken.value margins }
 {
-    match taken.first() {
-        None => count_allowed(search, count_of(taken.value(), margins)),
+    match taken.first {
+        None => count_allowed(search, count_of(taken.value, margins)),
         Some(_) => Err(Refusal::Argument),
     }
 }
@@ -80,21 +80,39 @@ fn minimum_of(text: &[u8]) -> Result<usize, Refusal>
     }
 }
 
-// What is found lies ahead; the pointer goes behind it, or behind what replaces it. A shorter buffer, and another page, end all
-// that is saved.
+// Another text takes the place of one: the buffer grows, and what is saved ends.
+fn replacing(back: u64, fall: Option<i64>, new: usize) -> Shift
+    requires { IfSome fall IsNear }
+    ensures { result ≡ record {
+      distances = record { back = back; fore = 0 };
+      fall = fall;
+      growth
+          = polynomial.number new;
+      ends = true;
+    } }
+{
+    Shift {
+        back,
+        fore: 0,
+        fall,
+        growth: Poly::number(new as u64),
+        ends: true,
+    }
+}
+
+// What is found lies ahead; the pointer goes behind it, or behind what replaces it. A shorter
+// buffer, and another page, end all that is saved.
 fn shift_found(search: Search, least: usize, new: usize, margins: Margins) -> Shift
     requires within { least ≤ LIMIT }
     requires new_within { new ≤ LIMIT }
     ensures { result ≡ searches.shift_found search least new margins }
 {
-    let fall = Some(Whole::natural(least as u32));
-    let back = u64::from(margins.back());
-    let grown = Poly::number(new as u64);
+    let fall = Some(least as i64);
     match search {
-        Search::Find => Shift::moving(back + least as u64, 0, fall),
-        Search::Replace => Shift::replacing(back + new as u64, 0, fall, grown),
+        Search::Find => Shift::moving(margins.back + least as u64, 0, fall),
+        Search::Replace => replacing(margins.back + new as u64, fall, new),
         Search::FindInPages => Shift::moving(least as u64, 0, fall).ending(),
-        Search::ReplaceInPages => Shift::replacing(new as u64, 0, fall, grown),
+        Search::ReplaceInPages => replacing(new as u64, fall, new),
     }
 }
 
@@ -107,11 +125,10 @@ fn position_failed_in(colons: u8, facts: &Facts) -> Position
         return facts.known.position.copied();
     }
     let margins = facts.margins();
-    let fore = u64::from(margins.back()) + u64::from(margins.fore());
-    facts
-        .known
-        .position
-        .after(&Shift::moving(0, fore, None), facts.held())
+    facts.known.position.after(
+        &Shift::moving(0, margins.back + margins.fore, None),
+        facts.held(),
+    )
 }
 
 /// The position where a search failed.
@@ -154,7 +171,10 @@ pub fn facts_of_answer(mut found: Facts, failed: Position) -> Result<Facts, Refu
         .known
         .arguments
         .answer(Some(Number::within(success())));
-    found.known.answer = Some(Answer::of(found.known.position.copied(), failed));
+    found.known.answer = Some(Answer {
+        found: found.known.position.copied(),
+        failed,
+    });
     found.known.position = position;
     Ok(found)
 }
@@ -162,7 +182,8 @@ pub fn facts_of_answer(mut found: Facts, failed: Position) -> Result<Facts, Refu
 /// What is known before a search that took its arguments.
 pub fn facts_at_search(search: Search, facts: Facts) -> Result<Facts, Refusal>
     ensures value { result ≡ searches.facts_at_search search facts }
-    ensures kept { IfOk result (λ taken. taken ≡ known.with_arguments (arguments.levels_after_taking facts.arguments) facts) }
+    ensures kept { IfOk result (λ taken. taken ≡ known.with_arguments
+        (arguments.levels_after_taking facts.arguments) facts) }
 {
     let taken = facts.level().taken()?;
     count_checked(search, taken, facts.margins())?;

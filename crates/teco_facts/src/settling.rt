@@ -1,7 +1,7 @@
 //! What becomes of the levels outside the innermost, which is worked out as they are looked at.
 ghost use Rattle.std.specs.Prelude.{◌≡◌, ◌||◌};
 ghost use Rattle.teco_facts.specs.Settled.{SettlesAgain, SettlesBoth, levels_since, settled_by};
-ghost use Rattle.teco_rules.specs.Covers as covers;
+ghost use Rattle.teco_verifier.specs.facts.Covers as covers;
 
 use crate::level::Level;
 use crate::margins::Margins;
@@ -86,7 +86,8 @@ fn covers_since(
     edge_since: &Option<Settling>,
     margins: Margins,
 ) -> bool
-    ensures { result ≡ covers.covers_level margins (settled_by one_since.now one.now.level) (settled_by edge_since.now edge.now.level) }
+    ensures { result ≡ covers.covers_level margins (settled_by one_since.now one.now.level)
+        (settled_by edge_since.now edge.now.level) }
 {
     if one.level.is_empty() && edge.level.is_empty() {
         return true;
@@ -103,7 +104,8 @@ pub fn covers_levels(
     mut edge_since: Option<Settling>,
     margins: Margins,
 ) -> bool
-    ensures { result ≡ covers.each_covers (covers.covers_level margins) (levels_since one_since one.now) (levels_since edge_since edge.now) }
+    ensures { result ≡ covers.each_covers (covers.covers_level margins) (levels_since one_since
+        one.now) (levels_since edge_since edge.now) }
 {
     loop {
         let Some((level, one_below)) = one.parts() else {

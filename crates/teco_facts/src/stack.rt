@@ -2,8 +2,8 @@
 ghost use Rattle.std.specs.Prelude.{◌≡◌, [], IfOk, length, nat_lt};
 ghost use Rattle.std.specs.List.{list_all};
 ghost use Rattle.teco_facts.specs.Does.{Gives, Pops};
-ghost use Rattle.teco_rules.specs.Facts as rules;
-ghost use Rattle.teco_rules.specs.Storages as storages;
+ghost use Rattle.teco_verifier.specs.facts.Facts as rules;
+ghost use Rattle.teco_verifier.specs.facts.Storages as storages;
 
 use crate::facts::{Facts, Pushed};
 use crate::fault::Fault;
@@ -11,8 +11,8 @@ use crate::storage::{not_of_library, with_number, with_text};
 use std::alloc::AllocError;
 use std::mem;
 use teco_base::Reg;
-use teco_rules::Refusal;
 use teco_stack::Stack;
+use teco_verifier::Refusal;
 
 impl Facts {
     /// How many pairs were pushed since the entry.
@@ -22,8 +22,8 @@ impl Facts {
         self.known.pushes.len()
     }
 
-    /// The same facts, of which the pairs that were pushed lie side by side, and the levels of the arguments too, so that going
-    /// through them takes less time; if there is memory.
+    /// The facts with the pairs that were pushed side by side, and the levels of the arguments too,
+    /// so that going through them takes less time; if there is memory.
     pub fn packed(mut self) -> Result<Facts, AllocError>
         ensures { IfOk result (λ facts. facts ≡ self) }
     {
@@ -48,8 +48,8 @@ impl Facts {
         self.known.pushes = pushes;
     }
 
-    /// Whether the pairs that were pushed lie at the same place as those of other facts, so that they need not be compared. No clause
-    /// says that they are then the same.
+    /// Whether the pairs that were pushed lie at the same place as those of other facts, so that
+    /// they need not be compared. No clause says that they are then the same.
     pub fn has_pushes_of(&self, other: &Facts) -> bool {
         self.known.pushes.chain().is_at(other.known.pushes.chain())
     }
@@ -63,14 +63,11 @@ impl Facts {
 
     // Whether so many pairs are more than at the < of each open iteration.
     fn is_above(&self, count: usize) -> bool
-        ensures { result ≡ list_all (λ (i : rules.Iteration). nat_lt i.pushes count) self.now.iterations }
+        ensures { result ≡ list_all (λ (i : rules.Iteration). nat_lt i.pushes count)
+            self.now.iterations }
     {
-        for at in (0..self.known.iterations.len()).rev() {
-            if self.known.iterations.get(at).pushes >= count {
-                return false;
-            }
-        }
-        true
+        let iterations = self.known.iterations.as_slice();
+        iterations.iter().all(|i| i.pushes < count)
     }
 }
 

@@ -1,7 +1,7 @@
 //! Registers and the push-down list.
 ghost use Rattle.std.specs.Prelude.{◌≡◌, OnOk};
-ghost use Rattle.teco_rules.specs.Shifts as shifts;
-ghost use Rattle.teco_rules.specs.Storages as storages;
+ghost use Rattle.teco_verifier.specs.facts.Shifts as shifts;
+ghost use Rattle.teco_verifier.specs.facts.Storages as storages;
 ghost use Rattle.teco_facts.specs.Numbers.{AreSmall};
 
 use crate::arithmetic;
@@ -17,14 +17,14 @@ use crate::typing::{needed_value, part_named};
 use teco_base::Reg;
 use teco_model::kind::Storage;
 use teco_poly::Poly;
-use teco_rules::Refusal;
+use teco_verifier::Refusal;
 
 /// The number of a register is of a range, and saved or not.
 pub fn with_number(register: Reg, number: Range, saved: bool, mut facts: Facts) -> Facts
     ensures { result ≡ storages.with_number register number saved facts }
 {
     facts.known.numbers[register.index()] = number;
-    facts.known.position = facts.known.position.saving(register, saved);
+    facts.known.position.saved = facts.known.position.saved.with(register, saved);
     facts
 }
 
@@ -77,7 +77,7 @@ fn copy(
 ) -> Result<Foreseen, Refusal>
     ensures { result ≡ storages.copy library colons register taken facts }
 {
-    part_named(taken.first(), taken.value(), facts.margins())?;
+    part_named(taken, facts.margins())?;
     not_of_library(library)?;
     let held = facts.held();
     text_storage(colons, register, held, facts)
@@ -118,7 +118,7 @@ fn retrieval(colons: u8, register: Reg, facts: Facts) -> Result<Foreseen, Refusa
 fn is_place(n: Number, margins: Margins) -> bool
     ensures { result ≡ shifts.is_place n margins }
 {
-    n.is_saved() || Shift::to(n.place(), margins).is_ok()
+    n.value.saved || Shift::to(n.place(), margins).is_ok()
 }
 
 /// What is done with a register.
@@ -135,15 +135,15 @@ pub fn storage(
 {
     match storage {
         Storage::SetNumber(register) => {
-            let n = needed_value(taken.value())?;
+            let n = needed_value(taken.value)?;
             let margins = facts.margins();
             let saved = is_place(n, margins);
             Ok(Foreseen::silent(with_number(register, n.range(margins), saved, facts)))
         }
-        Storage::Add(register) => Ok(addition(register, taken.value(), facts)),
+        Storage::Add(register) => Ok(addition(register, taken.value, facts)),
         Storage::Copy(register) => copy(library, colons, register, taken, facts),
         Storage::SetText(register) => {
-            own_text_storage(library, colons, register, text, taken.value(), facts)
+            own_text_storage(library, colons, register, text, taken.value, facts)
         }
         Storage::Get(register) => retrieval(colons, register, facts),
     }

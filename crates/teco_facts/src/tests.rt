@@ -1,12 +1,12 @@
-// What is known along texts that were worked by hand. A call that is refused memory is made once more, so that the rows also
-// hold where one allocation fails.
+// What is known along texts that were worked by hand. A call that is refused memory is made once
+// more, so that the rows also hold where one allocation fails.
 use super::*;
 use std::alloc::Global;
 use teco_base::LIMIT;
 use teco_lex::{Element, element};
 use teco_model::Kind;
 use teco_model::kind::Flow;
-use teco_rules::Refusal;
+use teco_verifier::Refusal;
 
 // Whether a semicolon is the next element.
 fn is_answered(text: &[u8], next: usize) -> bool {
@@ -40,7 +40,8 @@ fn stepped(text: &[u8], at: usize, library: bool, facts: &Facts) -> Result<(Fact
                 colon,
                 leaves: 0,
             };
-            match transfer(&placed, facts)?.forward() {
+            let Edges { on, away: _ } = transfer_from(&placed, facts.copied()?)?;
+            match on {
                 Some(facts) => Ok((facts, next)),
                 None => Err(Fault::Refused(Refusal::Partner)),
             }
@@ -61,7 +62,7 @@ fn behind(alloc: Global, text: &[u8], count: usize, library: bool) -> Result<Fac
     Ok(facts)
 }
 
-// The same, once more where memory was refused.
+// The facts behind so many elements, worked out once more where memory was refused.
 fn known(alloc: Global, text: &[u8], count: usize, library: bool) -> Result<Facts, Fault> {
     match behind(alloc, text, count, library) {
         Err(Fault::Memory) => behind(alloc, text, count, library),
@@ -90,8 +91,8 @@ fn what_is_told(rt: HostRuntime) {
     for (text, count, back, fore) in rows {
         match known(rt.alloc(), text, count, false) {
             Ok(facts) => {
-                assert_eq!(rt; facts.margins().back(), back);
-                assert_eq!(rt; facts.margins().fore(), fore);
+                assert_eq!(rt; facts.distances().back, back);
+                assert_eq!(rt; facts.distances().fore, fore);
             }
             Err(_) => assert!(rt; false),
         }
@@ -152,15 +153,15 @@ fn least_standing(answer: Result<Facts, Fault>) -> Option<i64> {
         Ok(facts) => facts
             .level()
             .standing()
-            .map(|value| value.range(facts.margins()).lo().get()),
+            .map(|value| value.range(facts.margins()).lo),
         Err(_) => None,
     }
 }
 
 #[test]
 fn outer_values_stay_where_the_pointer_was(rt: HostRuntime) {
-    // Three characters are before the pointer as the outermost value is given. The next one is given at the begin, and two are
-    // inserted behind it.
+    // Three characters are before the pointer as the outermost value is given. The next one is
+    // given at the begin, and two are inserted behind it.
     let rows: [(&[u8], usize, i64); 3] = [
         (b"Iabc\x1b.+(J2)", 7, 5),
         (b"Iabc\x1b.+(J.+(Iab\x1b2)", 11, 2),

@@ -1,57 +1,15 @@
 //! What facts say, in plain numbers, for those who tell of it.
 ghost use Rattle.std.specs.Prelude.{◌≡◌, option_map, slice_get};
 ghost use Rattle.std.specs.Option.{option_flatten};
-ghost use Rattle.teco_rules.specs.Facts as rules;
+ghost use Rattle.teco_verifier.specs.facts.Facts as rules;
 
 use crate::facts::Facts;
 use crate::level::Level;
-use crate::margins::Margins;
 use crate::number::Number;
 use crate::position::Position;
-use crate::range::Range;
 use teco_base::Reg;
 use teco_model::Operator;
-use teco_rules::{Distances, Interval, Value};
-
-impl Number {
-    /// The number in plain numbers.
-    pub fn told(self) -> Value
-        ensures { result ≡ self }
-    {
-        let (ahead, behind, lo, hi) = self.parts();
-        Value {
-            ahead: ahead.get(),
-            behind: behind.get(),
-            lo: lo.get(),
-            hi: hi.get(),
-            saved: self.is_saved(),
-        }
-    }
-}
-
-impl Range {
-    /// The range in plain numbers.
-    pub fn told(self) -> Interval
-        ensures { result ≡ self }
-    {
-        Interval {
-            lo: self.lo().get(),
-            hi: self.hi().get(),
-        }
-    }
-}
-
-impl Margins {
-    /// The least distances in plain numbers.
-    pub fn told(self) -> Distances
-        ensures { result ≡ self }
-    {
-        Distances {
-            back: self.back(),
-            fore: self.fore(),
-        }
-    }
-}
+use teco_verifier::{Distances, Interval, Value};
 
 // A number in plain numbers, if there is one.
 fn told(number: Option<Number>) -> Option<Value>
@@ -59,7 +17,7 @@ fn told(number: Option<Number>) -> Option<Value>
 {
     match number {
         None => None,
-        Some(number) => Some(number.told()),
+        Some(number) => Some(number.value),
     }
 }
 
@@ -68,40 +26,33 @@ impl Level {
     pub fn first_told(self) -> Option<Value>
         ensures { result ≡ self.first }
     {
-        let (first, _value, _operator) = self.parts();
-        told(first)
+        told(self.first)
     }
 
     /// The value that stands.
     pub fn value_told(self) -> Option<Value>
         ensures { result ≡ self.value }
     {
-        let (_first, value, _operator) = self.parts();
-        told(value)
+        told(self.value)
     }
 
     /// The operator that waits for a value.
     pub fn operator(self) -> Option<Operator>
         ensures { result ≡ self.operator }
     {
-        let (_first, _value, operator) = self.parts();
-        operator
+        self.operator
     }
 }
 
 impl Facts {
-    /// How much less is ahead at the least since the turn of an open iteration began, from 0 for the innermost, if that is known.
+    /// How much less is ahead at the least since the turn of an open iteration began, from 0 for
+    /// the innermost, if that is known.
     pub fn fall(&self, at: usize) -> Option<i64>
         ensures { result ≡ option_flatten (slice_get self.now.position.falls at) }
     {
-        let falls = &self.known.position.falls;
-        if at < falls.len() {
-            match falls.get(at) {
-                None => None,
-                Some(fall) => Some(fall.get()),
-            }
-        } else {
-            None
+        match self.known.position.falls.as_slice().get(at) {
+            None => None,
+            Some(fall) => *fall,
         }
     }
 
@@ -119,7 +70,8 @@ impl Facts {
         self.number_of(register).told()
     }
 
-    /// The least distances where the pending search's answer is that it was found; `None` where none is pending.
+    /// The least distances where the pending search's answer is that it was found; `None` where
+    /// none is pending.
     pub fn found(&self) -> Option<Distances>
         ensures { result ≡ option_map (λ (a : rules.Answer). a.found.distances) self.now.answer }
     {
@@ -144,5 +96,5 @@ impl Facts {
 fn distances_at(position: &Position) -> Distances
     ensures { result ≡ position.now.distances }
 {
-    position.margins().told()
+    position.margins.told()
 }

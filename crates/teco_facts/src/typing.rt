@@ -1,7 +1,7 @@
 //! T, V, ^A, ^T and =.
 ghost use Rattle.std.specs.Prelude.{◌≡◌};
-ghost use Rattle.teco_rules.specs.Arguments as arguments;
-ghost use Rattle.teco_rules.specs.Typings as typings;
+ghost use Rattle.teco_verifier.specs.facts.Arguments as arguments;
+ghost use Rattle.teco_verifier.specs.facts.Typings as typings;
 
 use crate::facts::{Facts, Foreseen};
 use crate::level::Taken;
@@ -9,17 +9,13 @@ use crate::margins::Margins;
 use crate::number::Number;
 use crate::shift::Shift;
 use teco_model::kind::Typing;
-use teco_rules::Refusal;
+use teco_verifier::Refusal;
 
 /// Two places that are known to lie in the buffer, if there are two.
-pub fn part_named(
-    first: Option<Number>,
-    value: Option<Number>,
-    margins: Margins,
-) -> Result<(), Refusal>
-    ensures { result ≡ typings.part_named first value margins }
+pub fn part_named(taken: Taken, margins: Margins) -> Result<(), Refusal>
+    ensures { result ≡ typings.part_named taken.first taken.value margins }
 {
-    if let (Some(m), Some(n)) = (first, value) {
+    if let (Some(m), Some(n)) = (taken.first, taken.value) {
         let _from = Shift::to(m.place(), margins)?;
         let _to = Shift::to(n.place(), margins)?;
     }
@@ -38,10 +34,10 @@ pub fn typing(typing: Typing, taken: Taken, facts: Facts) -> Result<Foreseen, Re
     ensures { result ≡ typings.typing typing taken facts }
 {
     match typing {
-        Typing::Part => part_named(taken.first(), taken.value(), facts.margins())?,
+        Typing::Part => part_named(taken, facts.margins())?,
         Typing::View | Typing::Message => {}
         Typing::Byte | Typing::Number(_) => {
-            let _needed = needed_value(taken.value())?;
+            let _needed = needed_value(taken.value)?;
         }
     }
     Ok(Foreseen::silent(facts))

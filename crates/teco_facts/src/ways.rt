@@ -1,15 +1,18 @@
 //! The two ways of a test, and what is known on each.
-ghost use Rattle.std.specs.Prelude.{◌≡◌, ◌<◌, ◌^◌};
+ghost use Rattle.std.specs.Prelude.{◌≡◌, ◌≤◌, IfOk, option_map};
+ghost use Rattle.teco_base.specs.declared.TheConstants.{LIMIT};
 ghost use Rattle.teco_facts.specs.Numbers.{IsNear};
 ghost use Rattle.teco_facts.specs.Seen.{seen};
-ghost use Rattle.teco_rules.specs.Ways as ways;
+ghost use Rattle.teco_verifier.specs.facts.Facts as rules;
+ghost use Rattle.teco_verifier.specs.facts.Ways as ways;
 
+use crate::arithmetic::{is, negated, positive};
 use crate::facts::{Answer, Facts};
 use crate::margins::Margins;
 use crate::number::Number;
 use crate::position::Position;
 use crate::range::Range;
-use crate::whole::Whole;
+use std::alloc::AllocError;
 use teco_model::kind::Test;
 
 /// Which numbers take a way: all, where the class of a character is asked.
@@ -70,115 +73,71 @@ impl Numbers {
     pub fn may_take(self, range: Range) -> bool
         ensures { result ≡ ways.may_take (seen self) range }
     {
-        let lo = range.lo();
-        let hi = range.hi();
         match self {
-            Numbers::Zero => lo.at_most(Whole::ZERO) && Whole::ZERO.at_most(hi),
-            Numbers::NotZero => !(Whole::ZERO.at_most(lo) && hi.at_most(Whole::ZERO)),
-            Numbers::Negative => lo.at_most(Whole::MINUS_ONE),
-            Numbers::NotNegative => Whole::ZERO.at_most(hi),
-            Numbers::Positive => Whole::ONE.at_most(hi),
-            Numbers::NotPositive => lo.at_most(Whole::ZERO),
+            Numbers::Zero => range.lo <= 0 && 0 <= range.hi,
+            Numbers::NotZero => !(0 <= range.lo && range.hi <= 0),
+            Numbers::Negative => range.lo <= -1,
+            Numbers::NotNegative => 0 <= range.hi,
+            Numbers::Positive => 1 <= range.hi,
+            Numbers::NotPositive => range.lo <= 0,
             Numbers::All => true,
         }
     }
 
     // The least distance, not below one, with which it and a number together take the way.
-    fn least_taking(self, least: u32, k: Whole) -> Option<u64>
-        requires { IsNear k }
+    fn least_taking(self, least: u64, k: i64) -> Option<u64>
+        requires near { IsNear k }
+        requires within { least ≤ LIMIT }
         ensures { result ≡ ways.least_taking (seen self) least k }
     {
-        let distance = u64::from(least);
-        let sum = Whole::natural(least).plus(k);
+        let sum = least as i64 + k;
         match self {
-            Numbers::Zero => {
-                if sum.at_most(Whole::ZERO) {
-                    Some(k.negated().positive())
-                } else {
-                    None
-                }
-            }
+            Numbers::Zero => if sum <= 0 { Some(positive(-k)) } else { None },
             Numbers::NotZero => {
-                if Whole::ZERO.at_most(sum) && sum.at_most(Whole::ZERO) {
-                    Some(distance + 1)
+                if 0 <= sum && sum <= 0 {
+                    Some(least + 1)
                 } else {
-                    Some(distance)
+                    Some(least)
                 }
             }
-            Numbers::Negative => {
-                if sum.at_most(Whole::MINUS_ONE) {
-                    Some(distance)
-                } else {
-                    None
-                }
-            }
-            Numbers::NotNegative => Some(distance.max(k.negated().positive())),
-            Numbers::Positive => Some(distance.max(Whole::ONE.minus(k).positive())),
-            Numbers::NotPositive => {
-                if sum.at_most(Whole::ZERO) {
-                    Some(distance)
-                } else {
-                    None
-                }
-            }
-            Numbers::All => Some(distance),
+            Numbers::Negative => if sum <= -1 { Some(least) } else { None },
+            Numbers::NotNegative => Some(least.max(positive(-k))),
+            Numbers::Positive => Some(least.max(positive(1 - k))),
+            Numbers::NotPositive => if sum <= 0 { Some(least) } else { None },
+            Numbers::All => Some(least),
         }
     }
 }
 
-// The distances where that behind the pointer is known to be larger.
-fn with_back(margins: Margins, least: u64) -> Margins
-    ensures { result ≡ ways.with_back margins least }
-{
-    Margins::capped(least, u64::from(margins.fore()))
-}
-
-// The distances where that ahead of it is.
-fn with_fore(margins: Margins, least: u64) -> Margins
-    ensures { result ≡ ways.with_fore margins least }
-{
-    Margins::capped(u64::from(margins.back()), least)
-}
-
 // The least of the distance that a number is, plus or minus, is raised.
-fn raised_by(
-    numbers: Numbers,
-    ahead: Whole,
-    behind: Whole,
-    k: Whole,
-    margins: Margins,
-) -> Option<Margins>
+fn raised_by(numbers: Numbers, ahead: i64, behind: i64, k: i64, margins: Margins) -> Option<Margins>
     requires { IsNear k }
     ensures { result ≡ ways.raised_by (seen numbers) ahead behind k margins }
 {
-    if ahead.is(Whole::ONE) && behind.is(Whole::ZERO) {
-        let least = numbers.least_taking(margins.fore(), k)?;
-        Some(with_fore(margins, least))
-    } else if ahead.is(Whole::MINUS_ONE) && behind.is(Whole::ZERO) {
-        let least = numbers
-            .opposite()
-            .least_taking(margins.fore(), k.negated())?;
-        Some(with_fore(margins, least))
-    } else if ahead.is(Whole::ZERO) && behind.is(Whole::ONE) {
-        let least = numbers.least_taking(margins.back(), k)?;
-        Some(with_back(margins, least))
-    } else if ahead.is(Whole::ZERO) && behind.is(Whole::MINUS_ONE) {
-        let least = numbers
-            .opposite()
-            .least_taking(margins.back(), k.negated())?;
-        Some(with_back(margins, least))
+    if is(ahead, 1) && is(behind, 0) {
+        let least = numbers.least_taking(margins.fore, k)?;
+        Some(Margins::capped(margins.back, least))
+    } else if is(ahead, -1) && is(behind, 0) {
+        let least = numbers.opposite().least_taking(margins.fore, negated(k))?;
+        Some(Margins::capped(margins.back, least))
+    } else if is(ahead, 0) && is(behind, 1) {
+        let least = numbers.least_taking(margins.back, k)?;
+        Some(Margins::capped(least, margins.fore))
+    } else if is(ahead, 0) && is(behind, -1) {
+        let least = numbers.opposite().least_taking(margins.back, negated(k))?;
+        Some(Margins::capped(least, margins.fore))
     } else {
         Some(margins)
     }
 }
 
-// The same of a number, if it is linear.
+// The distances on the way of a linear number are raised; those of any other stay.
 fn raised(numbers: Numbers, number: Number, margins: Margins) -> Option<Margins>
     ensures { result ≡ ways.raised (seen numbers) number margins }
 {
-    let (ahead, behind, lo, hi) = number.parts();
-    if hi.at_most(lo) {
-        raised_by(numbers, ahead, behind, lo, margins)
+    let n = number.value;
+    if n.hi <= n.lo {
+        raised_by(numbers, n.ahead, n.behind, n.lo, margins)
     } else {
         Some(margins)
     }
@@ -188,7 +147,7 @@ fn raised(numbers: Numbers, number: Number, margins: Margins) -> Option<Margins>
 fn position_on(numbers: Numbers, number: Number, position: &Position) -> Option<Position>
     ensures { result ≡ ways.position_on (seen numbers) number position.now }
 {
-    let margins = position.margins();
+    let margins = position.margins;
     if numbers.may_take(number.range(margins)) {
         let raised = raised(numbers, number, margins)?;
         Some(position.at(raised))
@@ -202,8 +161,8 @@ fn position_of(numbers: Numbers, answer: &Answer, position: &Position) -> Option
     ensures { result ≡ ways.position_of (seen numbers) answer.now position.now }
 {
     match numbers {
-        Numbers::Zero | Numbers::NotNegative => Some(answer.failed()),
-        Numbers::NotZero | Numbers::Negative => Some(answer.found()),
+        Numbers::Zero | Numbers::NotNegative => Some(answer.failed.copied()),
+        Numbers::NotZero | Numbers::Negative => Some(answer.found.copied()),
         Numbers::Positive => None,
         Numbers::NotPositive | Numbers::All => Some(position.copied()),
     }
@@ -224,10 +183,43 @@ fn position_by(
     }
 }
 
-/// The facts on the way of some numbers, where the way is reached.
-pub fn way(numbers: Numbers, answer: &Option<Answer>, number: Number, facts: Facts) -> Option<Facts>
-    ensures { result ≡ ways.way (seen numbers) answer.now number facts }
+// The facts at two positions, where each is reached, if there is memory: only facts for both are
+// copied.
+fn at_positions(
+    one: Option<Position>,
+    two: Option<Position>,
+    facts: Facts,
+) -> Result<(Option<Facts>, Option<Facts>), AllocError>
+    ensures { IfOk result (λ both. both ≡ (
+      option_map (λ p. rules.at_position p facts) one,
+      option_map (λ p. rules.at_position p facts) two,
+    )) }
 {
-    let position = position_by(numbers, answer, number, &facts.known.position)?;
-    Some(facts.at_position(position))
+    match (one, two) {
+        (Some(one), Some(two)) => {
+            let copy = facts.copied()?.at_position(one);
+            Ok((Some(copy), Some(facts.at_position(two))))
+        }
+        (Some(one), None) => Ok((Some(facts.at_position(one)), None)),
+        (None, Some(two)) => Ok((None, Some(facts.at_position(two)))),
+        (None, None) => Ok((None, None)),
+    }
+}
+
+/// The facts on the way of some numbers and on that of the others, where each is reached, if there
+/// is memory.
+pub fn both_ways(
+    numbers: Numbers,
+    answer: &Option<Answer>,
+    number: Number,
+    facts: Facts,
+) -> Result<(Option<Facts>, Option<Facts>), AllocError>
+    ensures { IfOk result (λ both. both ≡ (
+      ways.way (seen numbers) answer.now number facts,
+      ways.way (ways.other (seen numbers)) answer.now number facts,
+    )) }
+{
+    let one = position_by(numbers, answer, number, &facts.known.position);
+    let two = position_by(numbers.other(), answer, number, &facts.known.position);
+    at_positions(one, two, facts)
 }

@@ -11,7 +11,7 @@ use Rattle.teco_model.specs.declared.pattern.Item.{Item}
 use Rattle.teco_model.specs.declared.pattern.Sought.TheVariants.{Wanted}
 use Rattle.teco_model.specs.declared.pattern.Span.{Span}
 use Rattle.teco_find.specs.Anchors.{Anchors, IsLastTried, IsNextTried, Stands, StartsAt}
-use Rattle.teco_find.specs.Needles.{Begins, NoneUpTo}
+use Rattle.teco_find.specs.Needles.{IsNeedle, NoneUpTo}
 use Rattle.teco_find.specs.declared.anchor.Anchor.{Anchor}
 
 -- what elements leave, from the next on
@@ -124,9 +124,9 @@ module _ (pattern : Pattern) (text : List ℕ) where
   last_standing anchor anchors before None h = λ k from below starts. h k from below (anchors text k starts)
   last_standing anchor anchors before (Some start) h = record { low = h.0.low; high = h.0.high; after = λ k from below starts. h.0.after k from below (anchors text k starts) }
 
-  pub next_needle : (needle : List ℕ) → Begins pattern needle → 0 < length needle → (at : ℕ) (r : Option ℕ) → NoneUpTo needle text at r → IsNextTried pattern text at r
-  next_needle needle begins filled at None h = λ k from below starts. h k from below (begins filled text k starts)
-  next_needle needle begins filled at (Some start) h = record { low = h.low; high = h.high; before = λ k from below starts. h.before k from below (begins filled text k starts) }
+  pub next_needle : (needle : List ℕ) → IsNeedle pattern needle → (at : ℕ) (r : Option ℕ) → NoneUpTo needle text at r → IsNextTried pattern text at r
+  next_needle needle is at None h = λ k from below starts. h k from below (is.begins is.some text k starts)
+  next_needle needle is at (Some start) h = record { low = h.low; high = h.high; before = λ k from below starts. h.before k from below (is.begins is.some text k starts) }
 
 -- so many turns ahead
 module _ (search : ℕ → Option Span) (onward : Span → ℕ) where

@@ -9,6 +9,11 @@ abbrev pub Begins : List Item → List ℕ → Type 0
 Begins items needle =
     0 < length needle → (text : List ℕ) (at : ℕ) → IsSome (here items text at) → OccursAt text needle at
 
+-- literals, one at least, that each match begins with
+pub record IsNeedle (items : List Item) (needle : List ℕ) : Type 0 where
+  pub some : 0 < length needle
+  pub begins : Begins items needle
+
 -- a needle stands nowhere from a place up to a later one, or to the end
 abbrev pub NoneUpTo : List ℕ → List ℕ → ℕ → Option ℕ → Type 0
 NoneUpTo needle text at next =

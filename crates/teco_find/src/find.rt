@@ -53,8 +53,7 @@ impl Pattern {
         requires { from ≤ length (joined text) }
         ensures { IsNextTried self.now (joined text.entry) from result }
     {
-        let needle = self.needle.as_slice();
-        if needle.len() > 1 {
+        if let Some(needle) = &self.needle {
             return next_start(needle, text, from);
         }
         match self.anchor {
@@ -109,7 +108,8 @@ impl Pattern {
         self.first_from(text, at)
     }
 
-    /// The last of `n` matches from a place on, as [`Pattern::forward`] counts them; or how many more than there are.
+    /// The last of `n` matches from a place on, as [`Pattern::forward`] counts them; or how many
+    /// more than there are.
     #[tactic(auto, using(crate::proofs::Matches::seeking))]
     pub fn seek(&self, text: (&[u8], &[u8]), from: usize, n: u32) -> Sought
         requires from { from ≤ length (joined text) }

@@ -45,7 +45,8 @@ pub(crate) fn put_part(
     regs: &Regs,
     exact: bool,
 ) -> Result<(), AllocError>
-    ensures { OnOk result (items.new.items ≡ items.old.items ++ model.items_of regs.now exact part) }
+    ensures { OnOk result (items.new.items
+        ≡ items.old.items ++ model.items_of regs.now exact part) }
 {
     match part {
         Part::Item(item) => items.push(item_of(exact, item))?,

@@ -31,7 +31,8 @@ impl Model for LastPattern {
 
     ghost view = { λ l. l.pattern };
 
-    ghost invariant = { λ l. l.kept ≡ true → SaysWhere l.named.items l.exact l.text.items l.pattern };
+    ghost invariant = { λ l. l.kept ≡ true
+        → SaysWhere l.named.items l.exact l.text.items l.pattern };
 }
 
 impl LastPattern {
@@ -65,10 +66,12 @@ impl LastPattern {
             && are_current(&self.named, regs)
     }
 
-    /// The pattern becomes the one that a search text says, as [`Pattern::read`] reads it. A refusal leaves it.
+    /// The pattern becomes the one that a search text says, as [`Pattern::read`] reads it. A
+    /// refusal leaves it.
     pub fn read(&mut self, text: &[u8], regs: &Regs, exact: bool) -> Result<(), FindFault>
         ensures ok { OnOk result (model.pattern regs.now exact text.now ≡ Ok self.new) }
-        ensures err { IfErr result (λ fault. Reads (Err fault) (model.pattern regs.now exact text.now)) }
+        ensures err { IfErr result (λ fault. Reads (Err fault)
+            (model.pattern regs.now exact text.now)) }
         ensures kept { OnErr result (self.new ≡ self.old) }
         ensures empty { length text.now ≡ 0 → IsOk result }
     {
@@ -83,7 +86,8 @@ impl LastPattern {
         Ok(())
     }
 
-    // Keeps a pattern, and what it was read from. What is refused memory is not kept: it is read again.
+    // Keeps a pattern, and what it was read from. What is refused memory is not kept: it is read
+    // again.
     #[tactic(auto, using(crate::proofs::Naming::says_where))]
     fn keep(&mut self, pattern: Pattern, text: &[u8], regs: &Regs, exact: bool)
         requires { model.pattern regs.now exact text.now ≡ Ok pattern }

@@ -29,7 +29,10 @@ impl Model for Named {
 impl Named {
     // A register with the text that it has.
     fn of(alloc: Global, register: Reg, regs: &Regs) -> Result<Named, AllocError>
-        ensures { IfOk result (λ n. n ≡ record { register = register; text = (pair_of register regs.now).text }) }
+        ensures { IfOk result (λ n. n ≡ record {
+          register = register;
+          text = (pair_of register regs.now).text;
+        }) }
     {
         let mut text = Vec::new(alloc);
         text.extend_from_slice(regs.text(register))?;

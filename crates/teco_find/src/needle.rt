@@ -1,19 +1,24 @@
 // Literals that each match begins with, looked for as a whole.
-ghost use Rattle.std.specs.Prelude.{◌≡◌, ◌+◌, ◌≤◌, ◌<◌, length, IfSome};
+ghost use Rattle.std.specs.Option.{ForSome};
+ghost use Rattle.std.specs.Prelude.{◌≡◌, ◌≤◌, ◌<◌, length, IfSome, IfOk, IsOk};
 ghost use Rattle.teco_model.specs.declared.pattern.Class.TheVariants as class;
 ghost use Rattle.teco_model.specs.declared.pattern.Item.TheVariants as item;
-ghost use Rattle.teco_find.specs.Needles.{Begins, NoneUpTo};
+ghost use Rattle.teco_find.specs.Needles.{Begins, IsNeedle, NoneUpTo};
 ghost use Rattle.teco_find.specs.Pieces.{joined};
 
 use crate::pieces::Pieces;
 use arrayvec::ArrayVec;
-use memchr::memmem;
+use memchr::memmem::Finder;
+use std::alloc::{AllocError, Global};
 use teco_model::pattern::{Class, Item};
 
-// How many literals are looked for at once, at the most.
-const LONGEST: usize = 16;
+// How many literals are looked for at once, at the most: as many as a finder compares in one step.
+const LONGEST: usize = 32;
 
-pub(crate) type Needle = ArrayVec<u8, LONGEST>;
+type Literals = ArrayVec<u8, LONGEST>;
+
+// The literals, and what is worked out of them once for all searches.
+pub(crate) type Needle = Finder<'static>;
 
 fn literal_of(element: Item) -> Option<u8>
     ensures { IfSome result (λ b. element ≡ item.Is (class.Literal b)) }
@@ -25,41 +30,56 @@ fn literal_of(element: Item) -> Option<u8>
 }
 
 // The literals that a pattern begins with, as many as are looked for at once.
-pub(crate) fn needle_of(items: &[Item]) -> Needle
-    ensures { Begins items.now result.items }
+fn literals_of(items: &[Item]) -> Literals
+    ensures begins { Begins items.now result.items }
+    ensures within { length result.items ≤ length items.now }
 {
-    let mut needle = ArrayVec::new();
+    let mut literals = ArrayVec::new();
     for item in items {
         let Some(b) = literal_of(*item) else {
             break;
         };
-        if needle.is_full() {
+        if literals.is_full() {
             break;
         }
-        needle.push(b);
+        literals.push(b);
     }
-    needle
+    literals
+}
+
+// What looks for the literals that a pattern begins with, where there is more than one. For less
+// it takes no memory.
+pub(crate) fn needle_of(alloc: Global, items: &[Item]) -> Result<Option<Needle>, AllocError>
+    ensures needle { IfOk result (λ needle. ForSome needle (IsNeedle items.now)) }
+    ensures short { length items.now < 2 → IsOk result }
+{
+    let literals = literals_of(items);
+    if literals.len() < 2 {
+        return Ok(None);
+    }
+    let needle = Finder::new(literals.as_slice()).into_owned(alloc)?;
+    Ok(Some(needle))
 }
 
 // A place up to which no needle starts, from a place on; `None` where none starts at all.
-pub(crate) fn next_start(needle: &[u8], text: Pieces<'_>, at: usize) -> Option<usize>
+pub(crate) fn next_start(needle: &Needle, text: Pieces<'_>, at: usize) -> Option<usize>
     requires some { 0 < length needle.now }
     requires within { at ≤ length (joined text) }
     ensures { NoneUpTo needle.now (joined text.entry) at result }
 {
     let front = text.0;
-    let across = front.len().saturating_sub(needle.len() - 1);
+    let across = front.len().saturating_sub(needle.needle().len() - 1);
     if at >= across {
         return next_behind(needle, text, at);
     }
-    match memmem::find(&front[at..], needle) {
+    match needle.find(&front[at..]) {
         Some(place) => Some(at + place),
         None => next_behind(needle, text, across),
     }
 }
 
 // The same from where a needle would lie across the gap or behind it. Across it each place is one.
-fn next_behind(needle: &[u8], text: Pieces<'_>, at: usize) -> Option<usize>
+fn next_behind(needle: &Needle, text: Pieces<'_>, at: usize) -> Option<usize>
     requires some { 0 < length needle.now }
     requires within { at ≤ length (joined text) }
     ensures { NoneUpTo needle.now (joined text.entry) at result }
@@ -68,6 +88,6 @@ fn next_behind(needle: &[u8], text: Pieces<'_>, at: usize) -> Option<usize>
     if at < front.len() {
         return Some(at);
     }
-    let place = memmem::find(&back[at - front.len()..], needle)?;
+    let place = needle.find(&back[at - front.len()..])?;
     Some(at + place)
 }

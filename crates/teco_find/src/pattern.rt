@@ -18,21 +18,21 @@ use teco_regs::Regs;
 pub struct Pattern {
     pub(crate) items: Vec<Item>,
     pub(crate) anchor: Option<Anchor>,
-    pub(crate) needle: Needle,
+    pub(crate) needle: Option<Needle>,
 }
 
 impl Model for Pattern {
     ghost use Rattle.std.specs.Option.{ForSome};
     ghost use Rattle.teco_model.specs.Pattern as model;
     ghost use Rattle.teco_find.specs.Anchors.{Anchors};
-    ghost use Rattle.teco_find.specs.Needles.{Begins};
+    ghost use Rattle.teco_find.specs.Needles.{IsNeedle};
 
     ghost Value = { model.Pattern };
 
     ghost view = { λ p. p.items.items };
 
     ghost invariant = { λ p.
-        ForSome p.anchor (Anchors p.items.items) × Begins p.items.items p.needle.items };
+        ForSome p.anchor (Anchors p.items.items) × ForSome p.needle (IsNeedle p.items.items) };
 }
 
 impl Pattern {
@@ -43,7 +43,7 @@ impl Pattern {
         Pattern {
             items: Vec::new(alloc),
             anchor: None,
-            needle: Needle::new(),
+            needle: None,
         }
     }
 
@@ -62,7 +62,7 @@ impl Pattern {
             put_part(&mut items, part, regs, exact)?;
         }
         let anchor = anchor_of(&items);
-        let needle = needle_of(&items);
+        let needle = needle_of(alloc, &items)?;
         Ok(Pattern {
             items,
             anchor,

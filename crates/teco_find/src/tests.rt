@@ -265,23 +265,29 @@ fn literals_behind_other_elements(rt: HostRuntime) {
 #[test]
 fn literals_at_the_start(rt: HostRuntime) {
     let regs = registers(&rt, rt.alloc());
-    let long = b"abcdefghijklmnopqrstuv";
+    let long = b"abcdefghijklmnopqrstuvwxyz0123456789ABCD";
     let rows: [(&[u8], &[u8], usize, Way, Option<(usize, usize)>); 12] = [
         (
             long,
-            b"abcdefghijklmnopX abcdefghijklmnopqrstuv",
+            b"abcdefghijklmnopqrstuvwxyz012345678_ abcdefghijklmnopqrstuvwxyz0123456789ABCD",
             0,
             Way::Forward(1),
-            Some((18, 40)),
+            Some((37, 77)),
         ),
         (
             long,
-            b"abcdefghijklmnopX abcdefghijklmnopqrstuv",
-            40,
+            b"abcdefghijklmnopqrstuvwxyz012345678_ abcdefghijklmnopqrstuvwxyz0123456789ABCD",
+            77,
             Way::Backward(1),
-            Some((18, 40)),
+            Some((37, 77)),
         ),
-        (long, b"abcdefghijklmnopqrstu", 0, Way::Forward(1), None),
+        (
+            long,
+            b"abcdefghijklmnopqrstuvwxyz0123456789ABC",
+            0,
+            Way::Forward(1),
+            None,
+        ),
         (b"aab", b"aaab", 0, Way::Forward(1), Some((1, 4))),
         (b"aba", b"ababa", 0, Way::Forward(1), Some((0, 3))),
         (b"aba", b"ababa", 0, Way::Forward(2), None),
@@ -355,7 +361,8 @@ fn the_pattern_that_was_read_last(rt: HostRuntime) {
     let mut regs = registers(&rt, rt.alloc());
     let mut last = LastPattern::new(rt.alloc());
     assert!(rt; find(last.pattern(), (b"xb.", b""), 0, Way::Here).is_none());
-    // a search text, its mode, and where it is found in `xBb.bc`: by then the register has another text
+    // a search text, its mode, and where it is found in `xBb.bc`: by then the register has another
+    // text
     let rows: [(&[u8], bool, Option<usize>); 8] = [
         (b"b", false, Some(1)),
         (b"b", false, Some(1)),
@@ -385,7 +392,8 @@ fn a_pattern_with_the_texts_of_registers(rt: HostRuntime) {
     let mut regs = registers(&rt, rt.alloc());
     let mut last = LastPattern::new(rt.alloc());
     let both: &[u8] = b"\x05QA\x05QB^EQA";
-    // a register that gets a text before a search, the search's text, its mode, and where it is found
+    // a register that gets a text before a search, the search's text, its mode, and where it is
+    // found
     let rows: [(Option<(u8, &[u8])>, &[u8], bool, Option<usize>); 14] = [
         (None, both, false, Some(0)),
         (None, both, false, Some(0)),

@@ -15,7 +15,8 @@ fn is_blank_pair(b: u8, c: u8) -> bool
 /// What stands behind the blank at the front; `None` where no blank stands there.
 #[tactic(auto, using(crate::proofs::BlankLen::blanks))]
 fn after_blank(bytes: &[u8]) -> Option<&[u8]>
-    ensures { MatchOption result (model.blank_len bytes.now ≡ 0) (λ behind. SkipsBlank bytes.now behind.now) }
+    ensures { MatchOption result (model.blank_len bytes.now ≡ 0)
+        (λ behind. SkipsBlank bytes.now behind.now) }
 {
     let (b, rest) = bytes.split_first()?;
     if is_blank(*b) {

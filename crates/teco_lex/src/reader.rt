@@ -72,7 +72,8 @@ fn judge(head: &Head, modifiers: &[u8]) -> Result<Modifiers, Code>
 fn element_from(text: &[u8], place: usize) -> Result<Element<'_>, Code>
     requires { place ≤ length text.now }
     ensures value { Gives seen result (model.element_from text.now place) }
-    ensures within { IfOk result (λ e. (e.place ≡ place) × (place < e.next) × (e.next ≤ length text.now)) }
+    ensures within { IfOk result (λ e. (e.place ≡ place) × (place < e.next)
+        × (e.next ≤ length text.now)) }
 {
     let (modifiers, behind) = split_modifiers(&text[place..]);
     let (head, len) = letters(behind)?;
@@ -91,14 +92,15 @@ fn element_from(text: &[u8], place: usize) -> Result<Element<'_>, Code>
     })
 }
 
-/// The element at a place, after the blanks; `None` where only blanks remain. Nothing behind the element is looked at, unless
-/// it is cut off.
+/// The element at a place, after the blanks; `None` where only blanks remain. Nothing behind the
+/// element is looked at, unless it is cut off.
 #[tactic(auto, unfolding(teco_model::specs::Element::element_at))]
 pub fn element(text: &[u8], at: usize) -> Result<Option<Element<'_>>, Code>
     requires { at ≤ length text.now }
     ensures read { Gives (option_map seen) result (model.element_at text.now at) }
     ensures place { IfOk result (λ found. IfSome found (λ e. at ≤ e.place)) }
-    ensures next { IfOk result (λ found. IfSome found (λ e. (e.place < e.next) × (e.next ≤ length text.now))) }
+    ensures next { IfOk result (λ found. IfSome found
+        (λ e. (e.place < e.next) × (e.next ≤ length text.now))) }
 {
     let place = blank_end(text, at);
     if place == text.len() {

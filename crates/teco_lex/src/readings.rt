@@ -11,10 +11,12 @@ use crate::reader::modifier_len;
 use std::marker::Model;
 use teco_base::Code;
 
-/// Does the byte before a place belong to a run of modifiers that goes on for four bytes at least? No letters allow so many.
+/// Does the byte before a place belong to a run of modifiers that goes on for four bytes at least?
+/// No letters allow so many.
 fn stands_in_run(text: &[u8], place: usize) -> bool
     requires { place ≤ length text.now }
-    ensures { IsTrue result → (0 < place) × (5 ≤ prefix_len is_modifier (drop (place - 1) text.now)) }
+    ensures { IsTrue result → (0 < place)
+        × (5 ≤ prefix_len is_modifier (drop (place - 1) text.now)) }
 {
     let Some(before) = place.checked_sub(1) else {
         return false;
@@ -34,8 +36,8 @@ fn is_ill(reading: &Reading<'_>) -> bool
     )
 }
 
-/// What is read of a text from a place on, one reading after another. The whole of it takes time by the bytes that are read,
-/// runs of modifiers with a fault among them.
+/// What is read of a text from a place on, one reading after another. The whole of it takes time by
+/// the bytes that are read, runs of modifiers with a fault among them.
 #[derive(Drop)]
 pub struct Readings<'a> {
     text: &'a [u8],
@@ -52,7 +54,8 @@ impl<'a> Model for Readings<'a> {
 
     ghost view = { λ r. record { text = r.text.now; place = r.place } };
 
-    ghost invariant = { λ r. (r.place ≤ length r.text.now) × IsBehindIll r.text.now r.place r.is_behind_ill };
+    ghost invariant = { λ r. (r.place ≤ length r.text.now)
+        × IsBehindIll r.text.now r.place r.is_behind_ill };
 }
 
 impl<'a> Readings<'a> {
@@ -88,7 +91,8 @@ impl<'a> Readings<'a> {
     pub fn next(&mut self) -> Option<Reading<'a>>
         ensures value { option_map seen result ≡ model.reading_at self.old.text self.old.place }
         ensures text { self.new.text ≡ self.old.text }
-        ensures place { MatchOption result (self.new ≡ self.old) (λ r. self.new.place ≡ model.next_of (seen r)) }
+        ensures place { MatchOption result (self.new ≡ self.old)
+            (λ r. self.new.place ≡ model.next_of (seen r)) }
         ensures on { IfSome result (λ r. self.old.place < model.next_of (seen r)) }
         ensures within { self.new.place ≤ length self.new.text }
     {

@@ -102,7 +102,8 @@ fn pair_end<'t>(pairs: Pairs, text: &'t [u8], at: usize) -> Option<Element<'t>>
 /// Past the end of the pair that a place stands in, or past a stop in it.
 fn past_end(pairs: Pairs, text: &[u8], at: usize) -> Option<usize>
     requires { at ≤ length text.now }
-    ensures value { result ≡ option_map (λ end. end.next) (model.pair_end pairs 0 (readings text.now at)) }
+    ensures value { result ≡ option_map (λ end. end.next)
+        (model.pair_end pairs 0 (readings text.now at)) }
     ensures within { IfSome result (λ to. to ≤ length text.now) }
 {
     let Some(end) = pair_end(pairs, text, at) else {
@@ -114,7 +115,8 @@ fn past_end(pairs: Pairs, text: &[u8], at: usize) -> Option<usize>
 /// To the end of the pair that a place stands in, or to a stop in it.
 fn to_end(pairs: Pairs, text: &[u8], at: usize) -> Option<usize>
     requires { at ≤ length text.now }
-    ensures value { result ≡ option_map (λ end. end.place) (model.pair_end pairs 0 (readings text.now at)) }
+    ensures value { result ≡ option_map (λ end. end.place)
+        (model.pair_end pairs 0 (readings text.now at)) }
     ensures within { IfSome result (λ to. to ≤ length text.now) }
 {
     let Some(end) = pair_end(pairs, text, at) else {

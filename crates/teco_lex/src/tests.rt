@@ -60,8 +60,8 @@ fn register_name(kind: &Kind) -> u8 {
     }
 }
 
-/// A command string and a place; then the kind of the element there, its colons and whether it has `@`, its register, its
-/// texts, and its place and the next one.
+/// A command string and a place; then the kind of the element there, its colons and whether it has
+/// `@`, its register, its texts, and its place and the next one.
 type Row = (
     &'static [u8],
     usize,
@@ -222,7 +222,8 @@ fn others_are_refused(rt: HostRuntime) {
     }
 }
 
-/// A text and the place of an element; then where that jumps ahead, and how many iterations it leaves.
+/// A text and the place of an element; then where that jumps ahead, and how many iterations it
+/// leaves.
 const SKIPS: [(&[u8], usize, Option<usize>, u32); 38] = [
     (b"1\"G2=|3='", 1, Some(6), 0),
     (b"1\"G2=|3='", 5, Some(9), 0),

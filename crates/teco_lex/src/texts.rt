@@ -19,7 +19,8 @@ pub struct TextsRead<'a> {
     pub rest: &'a [u8],
 }
 
-/// What the element is, with the register whose name stands at the front if it needs one, and how many bytes that takes.
+/// What the element is, with the register whose name stands at the front if it needs one, and how
+/// many bytes that takes.
 pub fn kind_read(head: Head, bytes: &[u8]) -> Result<(Kind, usize), Code>
     ensures value { Gives (λ x. (x.0, drop x.1 bytes.now)) result (model.kind_read head bytes.now) }
     ensures within { IfOk result (λ x. x.1 ≤ length bytes.now) }

@@ -13,8 +13,8 @@ use Rattle.teco_model.specs.Ahead.{Reading, Whole, Faulty, reading_at, readings}
 use Rattle.teco_model.proofs.Ahead.{readings-some, readings-none}
 use Rattle.teco_library.specs.Header.{Declared, HasNoOtherHeader, IsDeclared, first_comment, header_text, header_word, is_comment}
 use Rattle.teco_library.specs.Library.{IsFirstNotAllowed, is_allowed}
-use Rattle.teco_rules.specs.Argument.{ArgumentRange, IsArgumentRange, is_range}
-use Rattle.teco_rules.specs.ArgumentText.{range_text}
+use Rattle.teco_model.specs.Macros.{ArgumentRange, IsArgumentRange, is_range}
+use Rattle.teco_verifier.specs.certificate.ArgumentText.{range_text}
 
 -- a text is that of a range
 module _ (text : List ℕ) (range : ArgumentRange) (is : IsArgumentRange range) (e : text ≡ range_text range) where

@@ -7,8 +7,8 @@ use Rattle.teco_model.specs.declared.kind.Kind.{Kind}
 use Rattle.teco_model.specs.declared.kind.Kind.TheVariants as kind
 use Rattle.teco_model.specs.declared.kind.Flow.TheVariants as flow
 use Rattle.teco_model.specs.Ahead.{Reading, Whole, Faulty}
-use Rattle.teco_rules.specs.Argument.{ArgumentRange, IsArgumentRange}
-use Rattle.teco_rules.specs.ArgumentText.{range_text}
+use Rattle.teco_model.specs.Macros.{ArgumentRange, IsArgumentRange}
+use Rattle.teco_verifier.specs.certificate.ArgumentText.{range_text}
 
 -- a register, and the arguments that it may be called with
 pub record Declared : Type 0 where

@@ -12,7 +12,7 @@ use Rattle.teco_model.specs.declared.kind.Flow.TheVariants as flow
 use Rattle.teco_model.specs.declared.kind.Storage.TheVariants as storage
 use Rattle.teco_model.specs.Ahead.{Reading, Whole, Faulty, place_of, readings}
 use Rattle.teco_library.specs.Header.{Declared, Declares, HasNoOtherHeader, first_comment, range_of}
-use Rattle.teco_rules.specs.Argument.{ArgumentRange}
+use Rattle.teco_model.specs.Macros.{ArgumentRange}
 
 -- the register whose text an element sets
 abbrev pub register_set : Kind → Option ℕ

@@ -8,17 +8,16 @@ ghost use Rattle.teco_library.specs.Header as model;
 ghost use Rattle.teco_library.specs.Header.{Declared as DeclaredOf, IsDeclared, header_text};
 ghost use Rattle.teco_library.specs.Spans.{FindsHeader};
 ghost use Rattle.teco_model.specs.Ahead.{readings};
-ghost use Rattle.teco_rules.specs.Argument.{ArgumentRange as RangeOf, IsArgumentRange, is_range};
-ghost use Rattle.teco_rules.specs.ArgumentText.{range_text};
+ghost use Rattle.teco_model.specs.Macros.{ArgumentRange as RangeOf, IsArgumentRange, is_range};
+ghost use Rattle.teco_verifier.specs.certificate.ArgumentText.{range_text};
 
 use crate::fault::LibraryFault;
 use std::marker::Model;
 use teco_base::{REGISTERS, Reg};
 use teco_lex::{Element, Reading, read_ahead};
-use teco_model::Kind;
 use teco_model::kind::Flow;
+use teco_model::{ArgumentRange, Kind};
 use teco_poly::number_at;
-use teco_rules::ArgumentRange;
 
 /// A register, and the arguments that it may be called with.
 #[derive(Clone, Copy)]
@@ -39,7 +38,8 @@ impl Model for Declared {
 
 // The register whose name, in upper case, stands at the front of a text, and what comes behind it.
 fn register_at(text: &[u8]) -> Option<(Reg, &[u8])>
-    ensures { MatchOption result ((q : ℕ) (rest : List ℕ) → q < REGISTERS → text.now ≢ register_name q ∷ rest)
+    ensures { MatchOption result ((q : ℕ) (rest : List ℕ) → q < REGISTERS
+        → text.now ≢ register_name q ∷ rest)
         (λ r. (r.0 < REGISTERS) × (text.now ≡ register_name r.0 ∷ r.1.now)) }
 {
     let (name, rest) = text.split_first()?;
@@ -50,7 +50,8 @@ fn register_at(text: &[u8]) -> Option<(Reg, &[u8])>
 
 // The range between two numbers, if there is one.
 fn range_between(low: u64, high: u64) -> Option<ArgumentRange>
-    ensures { result ≡ (if is_range (record { low = low; high = high }) then Some (record { low = low; high = high }) else None) }
+    ensures { result ≡ (if is_range (record { low = low; high = high }) then Some
+        (record { low = low; high = high }) else None) }
 {
     let (Ok(low), Ok(high)) = (u32::try_from(low), u32::try_from(high)) else {
         return None;
@@ -60,7 +61,8 @@ fn range_between(low: u64, high: u64) -> Option<ArgumentRange>
 
 // The range that a text is that of.
 fn range_in(text: &[u8]) -> Option<ArgumentRange>
-    ensures { MatchOption result ((range : RangeOf) → IsArgumentRange range → text.now ≢ range_text range)
+    ensures { MatchOption result ((range : RangeOf) → IsArgumentRange range
+        → text.now ≢ range_text range)
         (λ range. IsArgumentRange range × (text.now ≡ range_text range)) }
 {
     let (low, rest) = number_at(text)?;
@@ -74,7 +76,8 @@ fn range_in(text: &[u8]) -> Option<ArgumentRange>
 
 // What the header with this text declares.
 fn declaration(text: &[u8]) -> Option<Declared>
-    ensures { MatchOption result ((declared : DeclaredOf) → IsDeclared declared → text.now ≢ header_text declared)
+    ensures { MatchOption result ((declared : DeclaredOf) → IsDeclared declared
+        → text.now ≢ header_text declared)
         (λ declared. IsDeclared declared × (text.now ≡ header_text declared)) }
 {
     let words = text.strip_prefix(b"TECO-LIB 2 ")?;

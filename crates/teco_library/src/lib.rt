@@ -1,5 +1,5 @@
-//! Library files: TECO text that gives texts to registers, and nothing else but that a comment at its front may declare
-//! the argument of a register.
+//! Library files: TECO text that gives texts to registers, and nothing else but that a comment at
+//! its front may declare the argument of a register.
 #![tactic(auto)]
 
 mod fault;

@@ -11,11 +11,10 @@ use crate::reading::spans_of;
 use std::alloc::Global;
 use std::marker::Model;
 use teco_base::{REGISTERS, Reg};
-use teco_model::Span;
-use teco_rules::ArgumentRange;
+use teco_model::{ArgumentRange, Span};
 
-/// The texts that a library file gives to registers, and the argument that it may declare. It is seen as these, with no
-/// text for each register that it leaves.
+/// The texts that a library file gives to registers, and the argument that it may declare. It is
+/// seen as these, with no text for each register that it leaves.
 #[derive(Drop)]
 pub struct Library {
     // a copy
@@ -85,7 +84,8 @@ impl Library {
     /// The texts that registers get, `A` to `Z` and then `0` to `9`.
     pub fn texts(&self) -> [Option<&[u8]>; REGISTERS]
         ensures value { map option_copied result ≡ self.now.texts }
-        ensures within_limit { All (λ text. ForSome text (λ shown. length shown.now ≤ LIMIT)) result }
+        ensures within_limit { All (λ text. ForSome text (λ shown. length shown.now ≤ LIMIT))
+            result }
     {
         let mut texts = [None; REGISTERS];
         for place in 0..REGISTERS {

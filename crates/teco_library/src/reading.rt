@@ -49,8 +49,8 @@ fn span_of(element: &Element) -> Span
     }
 }
 
-/// Keeps the span of what is read, if it sets a text. Says whether a library may have it behind all that these are the
-/// spans of.
+/// Keeps the span of what is read, if it sets a text. Says whether a library may have it behind all
+/// that these are the spans of.
 fn admit(spans: &mut [Option<Span>; REGISTERS], reading: &Reading) -> bool
     requires { EndsItsText (seen reading.now) }
     ensures { Admits (seen reading.now) spans.old spans.new result }

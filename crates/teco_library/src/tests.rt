@@ -1,5 +1,5 @@
-// Library files, with the texts that they give or the place where they are none. A call that is refused memory is made
-// once more, so that the rows also hold where one allocation fails.
+// Library files, with the texts that they give or the place where they are none. A call that is
+// refused memory is made once more, so that the rows also hold where one allocation fails.
 use super::*;
 use std::alloc::{AllocError, Global};
 use std::process::Abort;

@@ -1,6 +1,6 @@
 -- Two pieces of bytes are of bytes together.
 use Rattle.std.proofs.Common.{ℕ, List, [], ◌∷◌, ◌++◌}
-use Rattle.teco_model.specs.Whole.{AreBytes}
+use Rattle.teco_model.specs.laws.Whole.{AreBytes}
 
 pub bytes_joined : (xs ys : List ℕ) → AreBytes xs → AreBytes ys → AreBytes (xs ++ ys)
 bytes_joined [] ys h i = i

@@ -8,3 +8,5 @@ pub mod Digits
 pub mod MatchWorked
 pub mod Searches
 mod Joined
+pub mod Coded
+pub mod CodedSteps

@@ -1,6 +1,6 @@
 use Rattle.std.proofs.Common.{refl}
 use Rattle.teco_model.specs.Match.{here}
-use Rattle.teco_model.specs.MatchRows.{MatchRows}
+use Rattle.teco_model.specs.rows.Matches.{MatchRows}
 use Rattle.teco_model.specs.Pattern.{part_at, parts_within, parts}
 use Rattle.teco_model.specs.Registers.{empty_pairs}
 

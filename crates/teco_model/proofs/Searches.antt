@@ -7,7 +7,7 @@ use Rattle.std.proofs.lemmas.Option.{slice_get_within}
 use Rattle.std.specs.Option.{option_or}
 use Rattle.std.specs.Prelude.{not, slice_get, option_map, option_and_then, fold, flat_map, Result, Ok, Err}
 use Rattle.teco_model.specs.Match as model
-use Rattle.teco_model.specs.Matching.{HasAt, IsOne, IsRun, Matches, InTurn, IsMatch, IsMatchAt, IsFirstFrom, IsLastBefore, HasNoneFrom, HasNoneBefore, IsNth, Finds, OneEnd, HereFinds, FirstFinds, LastFinds, ForwardFinds, BackwardFinds, NoneIsShorter}
+use Rattle.teco_model.specs.laws.Matching.{HasAt, IsOne, IsRun, Matches, InTurn, IsMatch, IsMatchAt, IsFirstFrom, IsLastBefore, HasNoneFrom, HasNoneBefore, IsNth, Finds, OneEnd, HereFinds, FirstFinds, LastFinds, ForwardFinds, BackwardFinds, NoneIsShorter}
 use Rattle.teco_base.specs.declared.code.Code.{Code}
 use Rattle.teco_model.specs.Checked.{◌>>=◌}
 use Rattle.teco_model.specs.Pattern.{Pattern, parts, with_part, items_of}

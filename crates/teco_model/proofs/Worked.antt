@@ -9,7 +9,7 @@ use Rattle.teco_model.specs.Registers.{empty_pairs}
 use Rattle.teco_model.specs.Letters.{letters}
 use Rattle.teco_model.specs.Step.{outcome_of, step}
 use Rattle.teco_model.specs.Run.{run}
-use Rattle.teco_model.specs.Rows.{WorkedRows}
+use Rattle.teco_model.specs.rows.Sessions.{WorkedRows}
 
 pub worked_rows : WorkedRows
 unfolding digits int_wrap empty_pairs blank_len element_from element_at letters reading_at first_readings readings here part_at parts_within parts outcome_of step run

@@ -17,7 +17,7 @@ use Rattle.teco_model.specs.declared.stop.HostFault.TheVariants.{NoFile, In, Out
 use Rattle.teco_model.specs.Element.{Element, element_at}
 use Rattle.teco_model.specs.Files.{with_written}
 use Rattle.teco_model.specs.Filing.{abandon_output}
-use Rattle.teco_model.specs.Memory.{is_late_in_search, is_late_in_page}
+use Rattle.teco_model.specs.Memory.{grows, is_late_in_search, is_late_in_page}
 use Rattle.teco_model.specs.Paging.{world_after_writing}
 use Rattle.teco_model.specs.State.{World, State, Outcome, Next, End, Exit, Fail, Absent}
 use Rattle.teco_model.specs.Step.{step}
@@ -78,12 +78,14 @@ CopiesAll NoFile before new = ⊥
 CopiesAll In before new = new ≡ without_files before
 CopiesAll Out before new = new ≡ without_files before
 
--- what a fault leaves where pages are read or written
-abbrev pub PageBreaks : Page → HostFault → World → World → World → Type 0
-PageBreaks page.Yank fault before after new = ReadsPage fault before new
-PageBreaks page.Append fault before after new = ReadsPage fault before new
-PageBreaks page.Next fault before after new = TurnsPage fault before after new
-PageBreaks page.Write fault before after new = WritesPage fault before after new
+-- what a fault leaves where pages are read or written, by whether the command reads one
+abbrev pub PageBreaks : Page → Bool → HostFault → World → World → World → Type 0
+PageBreaks page.Yank reads fault before after new = ReadsPage fault before new
+PageBreaks page.Append true fault before after new = ReadsPage fault before new
+PageBreaks page.Append false fault before after new = ⊥
+PageBreaks page.Next true fault before after new = TurnsPage fault before after new
+PageBreaks page.Next false fault before after new = WritesPage fault before after new
+PageBreaks page.Write reads fault before after new = WritesPage fault before after new
 
 -- of searches N and FN alone go to the host
 abbrev pub SearchBreaks : Search → HostFault → World → World → World → Type 0
@@ -101,18 +103,18 @@ FileBreaks file.Abandon fault before new = LetsOutputGo fault before new
 FileBreaks file.Copy fault before new = CopiesAll fault before new
 FileBreaks file.Exit fault before new = CopiesAll fault before new
 
--- No other element goes to the host.
-abbrev pub Breaks : Kind → HostFault → World → World → World → Type 0
-Breaks (kind.Argument a) fault before after new = ⊥
-Breaks (kind.Value v) fault before after new = ⊥
-Breaks (kind.Query q) fault before after new = ⊥
-Breaks (kind.Stack k) fault before after new = ⊥
-Breaks (kind.Call c) fault before after new = ⊥
-Breaks (kind.Flow f) fault before after new = ⊥
-Breaks (kind.Command c) fault before after new = ⊥
-Breaks (kind.Search x) fault before after new = SearchBreaks x fault before after new
-Breaks (kind.Page p) fault before after new = PageBreaks p fault before after new
-Breaks (kind.File f) fault before after new = FileBreaks f fault before new
+-- No other element goes to the host. A command of pages reads one if it grows.
+abbrev pub Breaks : Kind → Bool → HostFault → World → World → World → Type 0
+Breaks (kind.Argument a) grows fault before after new = ⊥
+Breaks (kind.Value v) grows fault before after new = ⊥
+Breaks (kind.Query q) grows fault before after new = ⊥
+Breaks (kind.Stack k) grows fault before after new = ⊥
+Breaks (kind.Call c) grows fault before after new = ⊥
+Breaks (kind.Flow f) grows fault before after new = ⊥
+Breaks (kind.Command c) grows fault before after new = ⊥
+Breaks (kind.Search x) grows fault before after new = SearchBreaks x fault before after new
+Breaks (kind.Page p) grows fault before after new = PageBreaks p grows fault before after new
+Breaks (kind.File f) grows fault before after new = FileBreaks f fault before new
 
 -- Every code comes whatever the host does, but for those that are only told by reading a page: that it is too long, or that there is
 -- none, so that a search fails. The SRH of such a search writes the buffer, too.
@@ -139,12 +141,13 @@ MayBreak fault k (Fail c world) = IsTrue (is_late_for fault k c)
 MayBreak fault k (Absent world) = ⊤
 
 -- what stays where the host failed in the step from a state
-abbrev pub BreaksAt : Result (Option Element) Code → Outcome → HostFault → World → World → Type 0
-BreaksAt (Err c) outcome fault before new = ⊥
-BreaksAt (Ok None) outcome fault before new = ⊥
-BreaksAt (Ok (Some e)) outcome fault before new =
-    MayBreak fault e.kind outcome × Breaks e.kind fault before (world_left outcome) new
+abbrev pub BreaksAt : State → Result (Option Element) Code → Outcome → HostFault → World → Type 0
+BreaksAt s (Err c) outcome fault new = ⊥
+BreaksAt s (Ok None) outcome fault new = ⊥
+BreaksAt s (Ok (Some e)) outcome fault new =
+    MayBreak fault e.kind outcome
+    × Breaks e.kind (grows e.kind s.arguments.level s.left) fault s.world (world_left outcome) new
 
 abbrev pub BreaksFrom : State → HostFault → World → Type 0
 BreaksFrom s fault new =
-    BreaksAt (element_at s.frames.running.text s.frames.running.place) (step s) fault s.world new
+    BreaksAt s (element_at s.frames.running.text s.frames.running.place) (step s) fault new

@@ -24,6 +24,10 @@ use Rattle.teco_model.specs.State.{Kept, World}
 abbrev pub unread : Files → List ℕ
 unread files = option_map_or (λ (input : Input). input.unread) files.input []
 
+-- how much of the input is unread
+abbrev pub unread_of : World → ℕ
+unread_of world = length (unread world.files)
+
 -- the input behind its first page
 abbrev pub files_behind_page : Files → Files
 files_behind_page files = record files {

@@ -8,7 +8,7 @@ use Rattle.teco_base.specs.Code.{code_name}
 use Rattle.teco_base.specs.declared.bytes.TheConstants.{CR, LF, ESC}
 use Rattle.teco_base.specs.declared.code.Code.{Code}
 use Rattle.teco_base.specs.declared.code.Code.TheVariants as code
-use Rattle.teco_model.specs.Run.{Stops}
+use Rattle.teco_model.specs.Run.{Stops, StopCounts}
 use Rattle.teco_model.specs.State.{World, start}
 use Rattle.teco_model.specs.declared.session.Limits.{Limits}
 use Rattle.teco_model.specs.declared.stop.HostFault.{HostFault}
@@ -67,16 +67,17 @@ without_typed world = record world { kept = record world.kept { typed = [] } }
 abbrev pub lines_of : Stop → World → List ℕ
 lines_of stop world = world.kept.typed ++ code_line (code_of stop)
 
--- So many command strings, joined to one input, are executed one after another, and none ends the session: what stays then,
--- what is written, and whether a code line is among it.
-pub data Executes (limits : Limits) (old : World) : ℕ → List ℕ → World → List ℕ → Bool → Type 0 where
-  none : Executes limits old 0 [] old [] false
+-- Command strings, joined to one input, are executed one after another, and none ends the session: what stays then, what the
+-- host's count of failures is, what is written, and whether a code line is among it. The count rises in the strings that the
+-- host stops.
+pub data Executes (limits : Limits) (old : World) (f : ℕ) : ℕ → List ℕ → World → ℕ → List ℕ → Bool → Type 0 where
+  none : Executes limits old f 0 [] old f [] false
   one_more :
-      (count : ℕ) (input : List ℕ) (mid : World) (written : List ℕ) (coded : Bool) →
-      (string : List ℕ) (stop : Stop) (new : World) →
-      Executes limits old count input mid written coded →
-      IsCommandString limits string → Stops (start string mid) limits.steps stop new → is_exit stop ≡ false →
-      Executes limits old (count + 1) (input ++ string) (without_typed new)
+      (count : ℕ) (input : List ℕ) (mid : World) (k : ℕ) (written : List ℕ) (coded : Bool) →
+      (string : List ℕ) (stop : Stop) (new : World) (g : ℕ) →
+      Executes limits old f count input mid k written coded →
+      IsCommandString limits string → Stops (start string mid) limits.steps stop new → StopCounts stop k g → is_exit stop ≡ false →
+      Executes limits old f (count + 1) (input ++ string) (without_typed new) g
       (written ++ lines_of stop new) (coded || is_code (code_of stop))
 
 -- What follows the last command string: a rest without an end of as many bytes as a string may have is FUL, blanks are
@@ -87,7 +88,8 @@ rest_code limits rest =
     else if list_all is_blank rest then None else Some code.Utc
 
 -- a session that goes on to the end of its input
-pub record SessionToEnd (limits : Limits) (old : World) (input : List ℕ) (new : World) (written : List ℕ) (coded : Bool) :
+pub record SessionToEnd
+    (limits : Limits) (old : World) (f : ℕ) (input : List ℕ) (new : World) (g : ℕ) (written : List ℕ) (coded : Bool) :
     Type 0 where
   pub count : ℕ
   pub strings : List ℕ
@@ -95,13 +97,14 @@ pub record SessionToEnd (limits : Limits) (old : World) (input : List ℕ) (new 
   pub lines : List ℕ
   pub line : Bool
   pub whole : input ≡ strings ++ rest
-  pub executed : Executes limits old count strings new lines line
+  pub executed : Executes limits old f count strings new g lines line
   pub no_string : string_end (take limits.length rest) ≡ None
   pub all_written : written ≡ lines ++ code_line (rest_code limits rest)
   pub a_line : coded ≡ (line || is_code (rest_code limits rest))
 
 -- a session that a command string ends: what follows that is not executed
-pub record SessionToExit (limits : Limits) (old : World) (input : List ℕ) (new : World) (written : List ℕ) (coded : Bool) :
+pub record SessionToExit
+    (limits : Limits) (old : World) (f : ℕ) (input : List ℕ) (new : World) (g : ℕ) (written : List ℕ) (coded : Bool) :
     Type 0 where
   pub count : ℕ
   pub strings : List ℕ
@@ -112,14 +115,14 @@ pub record SessionToExit (limits : Limits) (old : World) (input : List ℕ) (new
   pub mid : World
   pub after : World
   pub whole : input ≡ strings ++ (last ++ behind)
-  pub executed : Executes limits old count strings mid lines coded
+  pub executed : Executes limits old f count strings mid g lines coded
   pub one_string : IsCommandString limits last
   pub exits : Stops (start last mid) limits.steps (stop.Exit steps) after
   pub stays : new ≡ without_typed after
   pub all_written : written ≡ lines ++ lines_of (stop.Exit steps) after
 
--- a whole session of an input: what it leaves, what it writes, whether a code line is among it, and whether a command string
--- ended it
-abbrev pub Session : Limits → World → List ℕ → World → List ℕ → Bool → Bool → Type 0
-Session limits old input new written coded false = SessionToEnd limits old input new written coded
-Session limits old input new written coded true = SessionToExit limits old input new written coded
+-- a whole session of an input: what it leaves, what the host's count of failures is then, what it writes, whether a code line is
+-- among it, and whether a command string ended it
+abbrev pub Session : Limits → World → ℕ → List ℕ → World → ℕ → List ℕ → Bool → Bool → Type 0
+Session limits old f input new g written coded false = SessionToEnd limits old f input new g written coded
+Session limits old f input new g written coded true = SessionToExit limits old f input new g written coded

@@ -42,6 +42,6 @@ pub enum Texts {
     EndedBy(u8),
     /// Two that each end at ESC.
     Two,
-    /// It has none.
+    /// The element has no text.
     NoText,
 }

@@ -5,25 +5,25 @@ use teco_base::Reg;
 /// What an element is.
 #[derive(Clone, Copy)]
 pub enum Kind {
-    /// It changes the pending arguments, and nothing else.
+    /// Changes the pending arguments, and nothing else.
     Argument(Argument),
-    /// It gives a value of the machine's.
+    /// Gives a value of the machine's.
     Value(Value),
-    /// It gives a value; where one stands, it takes that instead.
+    /// Gives a value; where one stands, takes that instead.
     Query(Query),
     /// `[` and `]`: it leaves the arguments.
     Stack(Stack),
     /// `M` executes the text of a register, and leaves the arguments.
     Call(Call),
-    /// It decides where execution goes on.
+    /// Decides where execution goes on.
     Flow(Flow),
-    /// It takes its arguments, and may answer a value.
+    /// Takes its arguments, and may answer a value.
     Command(Command),
-    /// It takes its arguments, and looks for a text.
+    /// Takes its arguments, and looks for a text.
     Search(Search),
-    /// It takes its arguments, and reads or writes pages.
+    /// Takes its arguments, and reads or writes pages.
     Page(Page),
-    /// It opens, closes or names files.
+    /// Opens, closes or names files.
     File(File),
 }
 
@@ -63,9 +63,9 @@ pub enum Command {
     Deletion(Unit),
     /// `I` and TAB insert a text.
     Insertion(Insertion),
-    /// It types.
+    /// Types.
     Typing(Typing),
-    /// It works on a register.
+    /// Works on a register.
     Storage(Storage),
 }
 

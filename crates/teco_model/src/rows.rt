@@ -1,7 +1,7 @@
-ghost use Rattle.teco_model.specs.FileRows.{FileRows};
-ghost use Rattle.teco_model.specs.PageRows.{PageRows};
-ghost use Rattle.teco_model.specs.Rows.{WorkedRows};
-ghost use Rattle.teco_model.specs.SkipRows.{SkipRows};
+ghost use Rattle.teco_model.specs.rows.Files.{FileRows};
+ghost use Rattle.teco_model.specs.rows.Pages.{PageRows};
+ghost use Rattle.teco_model.specs.rows.Sessions.{WorkedRows};
+ghost use Rattle.teco_model.specs.rows.Skips.{SkipRows};
 
 /// The definition gives what sessions worked by hand give.
 pub fn worked_rows()

@@ -14,20 +14,20 @@ pub enum Pairs {
 /// What an element is to a skip.
 #[derive(Clone, Copy)]
 pub enum Bracket {
-    /// It opens an inner pair.
+    /// Opens an inner pair.
     Opens,
-    /// It closes the pair that it stands in.
+    /// Closes the pair that it stands in.
     Closes,
-    /// It is a place to stop in the pair that it stands in.
+    /// A place to stop in the pair that it stands in.
     Stops,
-    /// It is passed.
+    /// Passed over.
     Passes,
 }
 
 /// How an element may jump ahead.
 #[derive(Clone, Copy)]
 pub enum Route {
-    /// It does not.
+    /// Does not jump.
     Nowhere,
     /// Past the end of the pair that it stands in, which may leave that iteration.
     Past { pairs: Pairs, leaves: u32 },
@@ -40,7 +40,8 @@ pub enum Route {
 /// Where an element jumps ahead, and how many iterations that leaves.
 #[derive(Clone, Copy)]
 pub struct Skip {
-    /// The place where execution goes on; `None` where the text ends first, and for what never jumps.
+    /// The place where execution goes on; `None` where the text ends first, and for what never
+    /// jumps.
     pub to: Option<usize>,
     /// How many open iterations are left.
     pub leaves: u32,

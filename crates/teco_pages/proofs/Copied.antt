@@ -1,19 +1,26 @@
 -- What is unread, copied piece by piece.
-use Rattle.std.proofs.Common.{◌≡◌, ℕ, ◌<◌, List, [], ◌∷◌, ◌++◌, length, Bool, true, false, IsTrue, arith, Option, Some, None, refl, sym, ap, subst, ◌∙◌, append_assoc}
+use Rattle.std.proofs.Common.{◌≡◌, ℕ, ◌<◌, List, [], ◌∷◌, ◌++◌, length, Bool, true, false, IsTrue, arith, Option, refl, sym, ap, subst, ◌∙◌, append_assoc}
 use Rattle.std.proofs.lemmas.List.{append-nil}
-use Rattle.std.specs.Prelude.{Ok, Err}
+use Rattle.std.specs.Prelude.{Result, Ok, Err}
 use Rattle.teco_model.specs.Files.{Output, with_written}
-use Rattle.teco_pages.specs.Copying.{CopiesOn}
-use Rattle.teco_pages.specs.HostFiles.{HostFiles, Told, Becomes, Reads, Stays, NoneUnread, after_writing}
+use Rattle.teco_pages.specs.Copying.{CopiesOn, IsCopied}
+use Rattle.teco_pages.specs.HostFiles.{HostFiles, Telling, Told, Becomes, Reads, Stays, NoneUnread, after_writing}
 use Rattle.teco_pages.specs.PageCalls.{Copies, WritesFront}
 use Rattle.teco_pages.specs.declared.fault.Fault.{Fault}
+use Rattle.teco_pages.proofs.Told.{told-same, told-on, told-both}
 use Rattle.teco_pages.proofs.Written.{written-nil, written-written}
 
+-- of the files themselves
+abbrev On : List ℕ → List ℕ → HostFiles → HostFiles → Type 0
+On old held files left = IsCopied (old ++ files.unread) held files left
+
+abbrev Done : Result (Unit {0}) Fault → List ℕ → List ℕ → HostFiles → HostFiles → Type 0
+Done result a h files left = Copies result (a ++ files.unread) (h ++ left.unread) files left
+
 -- nothing is copied yet
-pub copies-none : (a : List ℕ) (x : Option HostFiles) → CopiesOn a a x x
-copies-none a None = tt
-copies-none a (Some f) =
-    record { front = []; whole = refl; written = ap (λ (o : Option Output). record f { output = o }) (written-nil f.output) }
+pub copies-none : (a : List ℕ) (x : Telling) → CopiesOn a a x x
+copies-none a = told-same (On a a) (λ f.
+    record { front = []; whole = refl; written = ap (λ (o : Option Output). record f { output = o }) (written-nil f.output) })
 
 -- what a write leaves
 wrote : (f g l : HostFiles) (front part : List ℕ) → g ≡ record (after_writing front f) { unread = g.unread } → l ≡ after_writing part g → l ≡ record (after_writing (front ++ part) f) { unread = l.unread }
@@ -24,18 +31,15 @@ wrote f g l front part e h =
     ∙ ap (λ u. record f { output = with_written (front ++ part) f.output; unread = u }) same
 
 -- what is held is written
-written-held : (a h : List ℕ) (x y z : Option HostFiles) → CopiesOn a h x y → Becomes (after_writing h) y z → CopiesOn a [] x z
-written-held a h None y z c w = tt
-written-held a h (Some f) None z c w = absurd c
-written-held a h (Some f) (Some g) None c w = absurd w
-written-held a h (Some f) (Some g) (Some l) c w =
+written-held : (a h : List ℕ) (x y z : Telling) → CopiesOn a h x y → Becomes (after_writing h) y z → CopiesOn a [] x z
+written-held a h = told-on (On a h) (λ g l. l ≡ after_writing h g) (On a []) (λ f g l c w.
     record {
       front = c.front ++ h;
       whole = c.whole ∙ ap (λ u. c.front ++ (h ++ u)) (sym (ap (λ (k : HostFiles). k.unread) w)) ∙ sym (append_assoc c.front h l.unread);
       written = wrote f g l c.front h c.written w;
-    }
+    })
 
-pub copies-written : (a h bytes : List ℕ) (x y z : Option HostFiles) → CopiesOn a h x y → bytes ≡ h → Becomes (after_writing bytes) y z → CopiesOn a [] x z
+pub copies-written : (a h bytes : List ℕ) (x y z : Telling) → CopiesOn a h x y → bytes ≡ h → Becomes (after_writing bytes) y z → CopiesOn a [] x z
 copies-written a h bytes x y z c e w = written-held a h x y z c (subst (λ l. Becomes (after_writing l) y z) e w)
 
 -- what a read leaves
@@ -43,28 +47,23 @@ read-on : (f g l : HostFiles) (front : List ℕ) → g ≡ record (after_writing
 read-on f g l front e h = h ∙ ap (λ (k : HostFiles). record k { unread = l.unread }) e
 
 -- more is read
-pub copies-read : (a h : List ℕ) (x y z : Option HostFiles) → CopiesOn a [] x y → Reads h y z → CopiesOn a h x z
-copies-read a h None y z c r = tt
-copies-read a h (Some f) None z c r = absurd c
-copies-read a h (Some f) (Some g) None c r = absurd r
-copies-read a h (Some f) (Some g) (Some l) c r =
-    record { front = c.front; whole = c.whole ∙ ap (λ u. c.front ++ u) r.0; written = read-on f g l c.front c.written r.1 }
+pub copies-read : (a h : List ℕ) (x y z : Telling) → CopiesOn a [] x y → Reads h y z → CopiesOn a h x z
+copies-read a h = told-on (On a []) (λ g l. (g.unread ≡ h ++ l.unread) × (l ≡ record g { unread = l.unread })) (On a h) (λ f g l c r.
+    record { front = c.front; whole = c.whole ∙ ap (λ u. c.front ++ u) r.0; written = read-on f g l c.front c.written r.1 })
 
 -- the end
-pub copies-all : (a h : List ℕ) (x y : Option HostFiles) → CopiesOn a h x y → h ≡ [] → NoneUnread y → Told (λ files left. Copies (Ok tt) (a ++ files.unread) (h ++ left.unread) files left) x y
-copies-all a h None y c e n = tt
-copies-all a h (Some f) None c e n = absurd c
-copies-all a h (Some f) (Some g) c e n =
+pub copies-all : (a h : List ℕ) (x y z : Telling) → CopiesOn a [] x y → Reads h y z → h ≡ [] → NoneUnread y z → Told (Done (Ok tt) a h) x z
+copies-all a h x y z c r e n =
+    told-both (On a h) (λ f g. g.unread ≡ []) (Done (Ok tt) a h) (λ f g c n.
     let all : c.front ≡ a ++ f.unread = sym (append-nil c.front) ∙ ap (λ l. c.front ++ l) (sym (ap (λ k. k ++ g.unread) e ∙ n)) ∙ sym c.whole in
-    c.written ∙ ap (λ l. record (after_writing l f) { unread = g.unread }) all
+    c.written ∙ ap (λ l. record (after_writing l f) { unread = g.unread }) all) x z
+    (copies-read a h x y z c r)
+    (told-on (On a []) (λ g l. l.unread ≡ []) (λ f l. l.unread ≡ []) (λ f g l c n. n) x y z c n)
 
 -- a fault in writing
-cut-held : (a h : List ℕ) (e : Fault) (x y z : Option HostFiles) → CopiesOn a h x y → WritesFront h y z → Told (λ files left. Copies (Err e) (a ++ files.unread) (h ++ left.unread) files left) x z
-cut-held a h e None y z c w = tt
-cut-held a h e (Some f) None z c w = absurd c
-cut-held a h e (Some f) (Some g) None c w = absurd w.written
-cut-held a h e (Some f) (Some g) (Some l) c w =
-    let same : g.unread ≡ l.unread = sym (ap (λ (k : HostFiles). k.unread) w.written) in
+cut-held : (a h : List ℕ) (e : Fault) (x y z : Telling) → CopiesOn a h x y → WritesFront h y z → Told (Done (Err e) a h) x z
+cut-held a h e x y z c w = told-on (On a h) (λ g l. l ≡ after_writing w.front g) (Done (Err e) a h) (λ f g l c written.
+    let same : g.unread ≡ l.unread = sym (ap (λ (k : HostFiles). k.unread) written) in
     let rest : a ++ f.unread ≡ c.front ++ (h ++ l.unread) = c.whole ∙ ap (λ u. c.front ++ (h ++ u)) same in
     record {
       front = c.front ++ w.front;
@@ -72,10 +71,10 @@ cut-held a h e (Some f) (Some g) (Some l) c w =
       read = c.front;
       whole = rest ∙ ap (λ u. c.front ++ (u ++ l.unread)) w.whole ∙ ap (λ u. c.front ++ u) (append_assoc w.front w.left l.unread) ∙ sym (append_assoc c.front w.front (w.left ++ l.unread));
       suffix = rest;
-      written = wrote f g l c.front w.front c.written w.written;
-    }
+      written = wrote f g l c.front w.front c.written written;
+    }) x y z c w.written
 
-pub copies-cut : (a h bytes : List ℕ) (e : Fault) (x y z : Option HostFiles) → CopiesOn a h x y → bytes ≡ h → WritesFront bytes y z → Told (λ files left. Copies (Err e) (a ++ files.unread) (h ++ left.unread) files left) x z
+pub copies-cut : (a h bytes : List ℕ) (e : Fault) (x y z : Telling) → CopiesOn a h x y → bytes ≡ h → WritesFront bytes y z → Told (Done (Err e) a h) x z
 copies-cut a h bytes e x y z c q w = cut-held a h e x y z c (subst (λ l. WritesFront l y z) q w)
 
 -- bytes were read
@@ -85,11 +84,8 @@ some-read [] false e n = let no = n refl in cc
 some-read (x ∷ l) b e n = omega arith
 
 -- a fault in reading
-pub copies-stopped : (a h : List ℕ) (e : Fault) (x y z : Option HostFiles) → CopiesOn a [] x y → h ≡ [] → Stays y z → Told (λ files left. Copies (Err e) (a ++ files.unread) (h ++ left.unread) files left) x z
-copies-stopped a h e None y z c n s = tt
-copies-stopped a h e (Some f) None z c n s = absurd c
-copies-stopped a h e (Some f) (Some g) None c n s = absurd s
-copies-stopped a h e (Some f) (Some g) (Some l) c n s =
+pub copies-stopped : (a h : List ℕ) (e : Fault) (x y z : Telling) → CopiesOn a [] x y → h ≡ [] → Stays y z → Told (Done (Err e) a h) x z
+copies-stopped a h e x y z c n = told-on (On a []) (λ g l. l ≡ g) (Done (Err e) a h) (λ f g l c s.
     let same : g.unread ≡ l.unread = sym (ap (λ (k : HostFiles). k.unread) s) in
     let rest : a ++ f.unread ≡ c.front ++ l.unread = c.whole ∙ ap (λ u. c.front ++ u) same in
     record {
@@ -99,4 +95,4 @@ copies-stopped a h e (Some f) (Some g) (Some l) c n s =
       whole = rest;
       suffix = rest ∙ ap (λ k. c.front ++ (k ++ l.unread)) (sym n);
       written = s ∙ c.written ∙ ap (λ u. record (after_writing c.front f) { unread = u }) same;
-    }
+    }) x y z c

@@ -1,3 +1,4 @@
+pub mod Bytes
 pub mod Copied
 pub mod Cuts
 pub mod Named
@@ -6,4 +7,5 @@ pub mod Ready
 pub mod Rest
 pub mod Shifted
 pub mod Told
+pub mod Walks
 pub mod Written

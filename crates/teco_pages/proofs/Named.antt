@@ -1,9 +1,12 @@
 -- Where the file of a name stands.
 use Rattle.std.proofs.Common.{◌≡◌, ℕ, suc, ◌+◌, ◌-◌, ◌<◌, ◌≤◌, List, [], ◌∷◌, ◌++◌, length, take, drop, min, slice_range, length-drop, length-append, Bool, true, false, bytes_eq, Some, None, slice_index_or, slice_set, refl, sym, ap, subst, ◌∙◌, arith}
-use Rattle.std.proofs.lemmas.List.{drop-drop, drop_all, length-take-le, take-append-drop}
+use Rattle.std.proofs.lemmas.List.{drop-drop, drop_all, length-take-le, take-append-drop, take-append-le}
 use Rattle.std.proofs.Math.Seq.{take-append_seam}
 use Rattle.std.specs.List.{prefix_len}
+use Rattle.std.specs.Prelude.{Result, Ok, Err, IfOk}
 use Rattle.teco_model.specs.Files.{File, file_named, with_file}
+use Rattle.teco_pages.specs.HostCalls.{ReadsSome}
+use Rattle.teco_pages.specs.HostFiles.{Telling, Reads}
 use Rattle.teco_pages.specs.MemFiles.{is_other}
 
 one : (n : ℕ) → 1 + n ≡ suc n
@@ -86,3 +89,8 @@ read-end input buf src place n given left e m g l z b =
     let no : given ≡ 0 = omega (arith, m, z, room) in
     let end : left ≡ 0 = g no in
     drop_all (place + n) input (omega (arith, end, l))
+
+-- bytes that were read, before more room
+pub reads-more : {E : Type 0} (buf rest : List ℕ) (r : Result ℕ E) (x y : Telling) → (0 < length (buf ++ rest) → 0 < length buf) → IfOk r (λ n. n ≤ length buf) → ReadsSome buf r x y → ReadsSome (buf ++ rest) r x y
+reads-more buf rest (Ok n) x y some within h = (subst (λ b. Reads b x y) (sym (take-append-le n buf rest within)) h.0, λ none room. h.1 none (some room))
+reads-more buf rest (Err e) x y some within h = h

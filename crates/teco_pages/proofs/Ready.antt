@@ -5,14 +5,15 @@ use Rattle.std.specs.Prelude.{Result, Ok, Err, IsSome, is_some}
 use Rattle.teco_base.specs.declared.TheConstants.{LIMIT}
 use Rattle.teco_base.specs.declared.bytes.TheConstants.{FF}
 use Rattle.teco_model.specs.Pages.{Page, before_form_feed, has_form_feed, behind_form_feed, first_page}
-use Rattle.teco_pages.specs.HostFiles.{HostFiles, Told, NoneUnread}
+use Rattle.teco_pages.specs.HostFiles.{HostFiles, Telling, Told, NoneUnread}
 use Rattle.teco_pages.specs.Held.{Held, unread_bytes, page_in, behind_page_in, behind_held, IsWhole}
 use Rattle.teco_pages.specs.PageCalls.{MakesReady, IsFirstPage}
 use Rattle.teco_pages.specs.Reading.{EndsPage, Shifts}
 use Rattle.teco_pages.specs.declared.fault.Fault.{Fault}
 use Rattle.teco_pages.specs.declared.fault.Fault.TheVariants.{NoFile, In, Out, Full, Memory}
-use Rattle.teco_pages.proofs.Told.{told-same}
+use Rattle.teco_pages.proofs.Told.{told-same, told-map, told-both}
 use Rattle.teco_pages.proofs.Cuts.{onward, whole-none}
+use Rattle.teco_pages.proofs.Shifted.{Shift}
 
 -- what is held, by its parts
 abbrev pub held : Option (List ℕ) → List ℕ → Option Bool → List ℕ → Bool → Option (List ℕ) → Held
@@ -48,11 +49,11 @@ first-held i p true a end o w f = ap Some (first-ff p (a ++ behind_held end f.un
 first-held i p false a end o w f =
     ap Some (first-none p w.plain ∙ ap first_page (sym (last-known p a (behind_held end f.unread) (w.none (w.last refl)) (behind-end end f.unread (w.last refl)))))
 
-pub ready-now : (i : Option (List ℕ)) (p : List ℕ) (ff : Bool) (a : List ℕ) (end : Bool) (o : Option (List ℕ)) (x : Option HostFiles) → IsWhole i p (Some ff) a end → Told (MakesReady (Ok tt) (held i p (Some ff) a end o) (held i p (Some ff) a end o)) x x
+pub ready-now : (i : Option (List ℕ)) (p : List ℕ) (ff : Bool) (a : List ℕ) (end : Bool) (o : Option (List ℕ)) (x : Telling) → IsWhole i p (Some ff) a end → Told (MakesReady (Ok tt) (held i p (Some ff) a end o) (held i p (Some ff) a end o)) x x
 ready-now i p ff a end o x w = told-same _ (λ f. record { page = first-held i p ff a end o w f; unread = refl; only = refl }) x
 
 -- nothing is behind what was read of it
-pub ready-end : (i : Option (List ℕ)) (p : List ℕ) (a : List ℕ) (o : Option (List ℕ)) (x : Option HostFiles) → IsWhole i p None a true → Told (MakesReady (Ok tt) (held i p None a true o) (held i p (Some false) a true o)) x x
+pub ready-end : (i : Option (List ℕ)) (p : List ℕ) (a : List ℕ) (o : Option (List ℕ)) (x : Telling) → IsWhole i p None a true → Told (MakesReady (Ok tt) (held i p None a true o) (held i p (Some false) a true o)) x x
 ready-end i p a o x w =
     let none : a ≡ [] = w.none refl in
     let old : (p ++ a) ++ [] ≡ p = append-nil (p ++ a) ∙ ap (λ l. p ++ l) none ∙ append-nil p in
@@ -63,10 +64,9 @@ ready-end i p a o x w =
     }) x
 
 -- from reads in turn: q was held of what was unread, and q' is
-made : (r : Result (Unit {0}) Fault) (old new : Held) (q q' : List ℕ) (x y : Option HostFiles) → ((f : HostFiles) → unread_bytes old f ≡ q ++ f.unread) → ((f : HostFiles) → unread_bytes new f ≡ q' ++ f.unread) → ((f g : HostFiles) → q ++ f.unread ≡ q' ++ g.unread → IsFirstPage r new (unread_bytes old f)) → Shifts q x q' y → Told (MakesReady r old new) x y
-made r old new q q' None y o n p s = tt
-made r old new q q' (Some f) None o n p s = absurd s
-made r old new q q' (Some f) (Some g) o n p s = record { page = p f g s.0; unread = n g ∙ sym s.0 ∙ sym (o f); only = s.1 }
+made : (r : Result (Unit {0}) Fault) (old new : Held) (q q' : List ℕ) (x y : Telling) → ((f : HostFiles) → unread_bytes old f ≡ q ++ f.unread) → ((f : HostFiles) → unread_bytes new f ≡ q' ++ f.unread) → ((f g : HostFiles) → q ++ f.unread ≡ q' ++ g.unread → IsFirstPage r new (unread_bytes old f)) → Shifts q x q' y → Told (MakesReady r old new) x y
+made r old new q q' x y o n p =
+    told-map (Shift q q') (MakesReady r old new) (λ f g s. record { page = p f g s.0; unread = n g ∙ sym s.0 ∙ sym (o f); only = s.1 }) x y
 
 page-grows-cons : (b : ℕ) (xs l : List ℕ) (t : Bool) → (b == FF) ≡ t → length (before_form_feed xs) ≤ length (before_form_feed (xs ++ l)) → length (before_form_feed (b ∷ xs)) ≤ length (before_form_feed (b ∷ (xs ++ l)))
 page-grows-cons b xs l true e h = rw e (omega arith)
@@ -82,7 +82,7 @@ too-long q read a l e h m =
     omega (arith, paged, m, page-grows a l)
 
 -- the page could not be read to its end
-pub refused : (i : Option (List ℕ)) (p a0 : List ℕ) (o : Option (List ℕ)) (read a : List ℕ) (x y : Option HostFiles) (f g : ℕ) (fault : Fault) → EndsPage (p ++ a0) x read a y f g (Err fault) → has_form_feed read ≡ false → Told (MakesReady (Err fault) (held i p None a0 false o) (held i read None a false o)) x y
+pub refused : (i : Option (List ℕ)) (p a0 : List ℕ) (o : Option (List ℕ)) (read a : List ℕ) (x y : Telling) (f g : ℕ) (fault : Fault) → EndsPage (p ++ a0) x read a y f g (Err fault) → has_form_feed read ≡ false → Told (MakesReady (Err fault) (held i p None a0 false o) (held i read None a false o)) x y
 refused i p a0 o read a x y f g In s h = made _ _ _ (p ++ a0) (read ++ a) x y (λ f. refl) (λ f. refl) (λ f g e. tt) s.0
 refused i p a0 o read a x y f g Memory s h = made _ _ _ (p ++ a0) (read ++ a) x y (λ f. refl) (λ f. refl) (λ f g e. tt) s.0
 refused i p a0 o read a x y f g Full s h =
@@ -91,19 +91,18 @@ refused i p a0 o read a x y f g NoFile s h = absurd s
 refused i p a0 o read a x y f g Out s h = absurd s
 
 -- it was read to its end
-ended : (i : Option (List ℕ)) (p a0 : List ℕ) (o : Option (List ℕ)) (read a : List ℕ) (x y : Option HostFiles) → Shifts (p ++ a0) x (read ++ FF ∷ a) y → has_form_feed read ≡ false → Told (MakesReady (Ok tt) (held i p None a0 false o) (held i read (Some true) a false o)) x y
+ended : (i : Option (List ℕ)) (p a0 : List ℕ) (o : Option (List ℕ)) (read a : List ℕ) (x y : Telling) → Shifts (p ++ a0) x (read ++ FF ∷ a) y → has_form_feed read ≡ false → Told (MakesReady (Ok tt) (held i p None a0 false o) (held i read (Some true) a false o)) x y
 ended i p a0 o read a x y s h =
     made _ _ _ (p ++ a0) (read ++ FF ∷ a) x y (λ f. refl) (λ f. ap (λ l. l ++ f.unread) (append_assoc read (FF ∷ []) a))
     (λ f g e. ap Some (first-ff read (a ++ g.unread) h ∙ ap first_page (sym (e ∙ append_assoc read (FF ∷ a) g.unread)))) s
 
-last : (i : Option (List ℕ)) (p a0 : List ℕ) (o : Option (List ℕ)) (read a : List ℕ) (x y : Option HostFiles) → Shifts (p ++ a0) x read y → a ≡ [] → NoneUnread y → has_form_feed read ≡ false → Told (MakesReady (Ok tt) (held i p None a0 false o) (held i read (Some false) a true o)) x y
-last i p a0 o read a None y s e n h = tt
-last i p a0 o read a (Some f) None s e n h = absurd s
-last i p a0 o read a (Some f) (Some g) s e n h =
+last : (i : Option (List ℕ)) (p a0 : List ℕ) (o : Option (List ℕ)) (read a : List ℕ) (x y : Telling) → Shifts (p ++ a0) x read y → a ≡ [] → NoneUnread x y → has_form_feed read ≡ false → Told (MakesReady (Ok tt) (held i p None a0 false o) (held i read (Some false) a true o)) x y
+last i p a0 o read a x y s e n h =
+    told-both (Shift (p ++ a0) read) (λ f g. g.unread ≡ []) (MakesReady (Ok tt) (held i p None a0 false o) (held i read (Some false) a true o)) (λ f g s n.
     let all : (p ++ a0) ++ f.unread ≡ read = s.0 ∙ ap (λ l. read ++ l) n ∙ append-nil read in
-    record { page = ap Some (first-none read h ∙ ap first_page (sym all)); unread = last-known read a [] e refl ∙ sym all; only = s.1 }
+    record { page = ap Some (first-none read h ∙ ap first_page (sym all)); unread = last-known read a [] e refl ∙ sym all; only = s.1 }) x y s n
 
-pub readied : (i : Option (List ℕ)) (p a0 : List ℕ) (o : Option (List ℕ)) (read a : List ℕ) (x y : Option HostFiles) (f g : ℕ) (ff : Bool) → EndsPage (p ++ a0) x read a y f g (Ok ff) → has_form_feed read ≡ false → Told (MakesReady (Ok tt) (held i p None a0 false o) (held i read (Some ff) a (not ff) o)) x y
+pub readied : (i : Option (List ℕ)) (p a0 : List ℕ) (o : Option (List ℕ)) (read a : List ℕ) (x y : Telling) (f g : ℕ) (ff : Bool) → EndsPage (p ++ a0) x read a y f g (Ok ff) → has_form_feed read ≡ false → Told (MakesReady (Ok tt) (held i p None a0 false o) (held i read (Some ff) a (not ff) o)) x y
 readied i p a0 o read a x y f g true s h = ended i p a0 o read a x y s.0 h
 readied i p a0 o read a x y f g false s h = last i p a0 o read a x y s.0 s.1 s.2 h
 
@@ -118,22 +117,22 @@ accepted i p false a end o cleared e w f =
     new ∙ sym (ap behind_form_feed (last-known p a (behind_held end f.unread) none off) ∙ (whole-none p w.plain).1)
 
 -- The same of what is seen of a value: k is what its parts show.
-pub ready-some : (i : Option (List ℕ)) (p : List ℕ) (r : Option Bool) (a : List ℕ) (end : Bool) (o : Option (List ℕ)) (k : Held) (x : Option HostFiles) → is_some r ≡ true → held i p r a end o ≡ k → IsWhole i p r a end → Told (MakesReady (Ok tt) k k) x x
+pub ready-some : (i : Option (List ℕ)) (p : List ℕ) (r : Option Bool) (a : List ℕ) (end : Bool) (o : Option (List ℕ)) (k : Held) (x : Telling) → is_some r ≡ true → held i p r a end o ≡ k → IsWhole i p r a end → Told (MakesReady (Ok tt) k k) x x
 ready-some i p None a end o k x h v w = cc
 ready-some i p (Some ff) a end o k x h v w = subst (λ k. Told (MakesReady (Ok tt) k k) x x) v (ready-now i p ff a end o x w)
 
-pub ready-none : (i : Option (List ℕ)) (p : List ℕ) (r : Option Bool) (a : List ℕ) (end : Bool) (o : Option (List ℕ)) (k : Held) (x : Option HostFiles) → is_some r ≡ false → end ≡ true → held i p r a end o ≡ k → IsWhole i p r a end → Told (MakesReady (Ok tt) k (held i p (Some false) a end o)) x x
+pub ready-none : (i : Option (List ℕ)) (p : List ℕ) (r : Option Bool) (a : List ℕ) (end : Bool) (o : Option (List ℕ)) (k : Held) (x : Telling) → is_some r ≡ false → end ≡ true → held i p r a end o ≡ k → IsWhole i p r a end → Told (MakesReady (Ok tt) k (held i p (Some false) a end o)) x x
 ready-none i p (Some ff) a end o k x h e v w = cc
 ready-none i p None a false o k x h e v w = cc
 ready-none i p None a true o k x h e v w = subst (λ k. Told (MakesReady (Ok tt) k (held i p (Some false) a true o)) x x) v (ready-end i p a o x w)
 
-pub refused-none : (i : Option (List ℕ)) (p : List ℕ) (r : Option Bool) (a0 : List ℕ) (end : Bool) (o : Option (List ℕ)) (k : Held) (read a : List ℕ) (x y : Option HostFiles) (f g : ℕ) (fault : Fault) → is_some r ≡ false → end ≡ false → held i p r a0 end o ≡ k → EndsPage (p ++ a0) x read a y f g (Err fault) → has_form_feed read ≡ false → Told (MakesReady (Err fault) k (held i read r a end o)) x y
+pub refused-none : (i : Option (List ℕ)) (p : List ℕ) (r : Option Bool) (a0 : List ℕ) (end : Bool) (o : Option (List ℕ)) (k : Held) (read a : List ℕ) (x y : Telling) (f g : ℕ) (fault : Fault) → is_some r ≡ false → end ≡ false → held i p r a0 end o ≡ k → EndsPage (p ++ a0) x read a y f g (Err fault) → has_form_feed read ≡ false → Told (MakesReady (Err fault) k (held i read r a end o)) x y
 refused-none i p (Some ff) a0 end o k read a x y f g fault h e v s n = cc
 refused-none i p None a0 true o k read a x y f g fault h e v s n = cc
 refused-none i p None a0 false o k read a x y f g fault h e v s n =
     subst (λ k. Told (MakesReady (Err fault) k (held i read None a false o)) x y) v (refused i p a0 o read a x y f g fault s n)
 
-pub readied-none : (i : Option (List ℕ)) (p : List ℕ) (r : Option Bool) (a0 : List ℕ) (end : Bool) (o : Option (List ℕ)) (k : Held) (read a : List ℕ) (x y : Option HostFiles) (f g : ℕ) (ff : Bool) → is_some r ≡ false → end ≡ false → held i p r a0 end o ≡ k → EndsPage (p ++ a0) x read a y f g (Ok ff) → has_form_feed read ≡ false → Told (MakesReady (Ok tt) k (held i read (Some ff) a (not ff) o)) x y
+pub readied-none : (i : Option (List ℕ)) (p : List ℕ) (r : Option Bool) (a0 : List ℕ) (end : Bool) (o : Option (List ℕ)) (k : Held) (read a : List ℕ) (x y : Telling) (f g : ℕ) (ff : Bool) → is_some r ≡ false → end ≡ false → held i p r a0 end o ≡ k → EndsPage (p ++ a0) x read a y f g (Ok ff) → has_form_feed read ≡ false → Told (MakesReady (Ok tt) k (held i read (Some ff) a (not ff) o)) x y
 readied-none i p (Some b) a0 end o k read a x y f g ff h e v s n = cc
 readied-none i p None a0 true o k read a x y f g ff h e v s n = cc
 readied-none i p None a0 false o k read a x y f g ff h e v s n =

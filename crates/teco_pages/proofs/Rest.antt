@@ -5,9 +5,10 @@ use Rattle.std.specs.Prelude.{Result, Ok, Err, unwrap_or}
 use Rattle.teco_base.specs.declared.bytes.TheConstants.{FF}
 use Rattle.teco_model.specs.Files.{Output}
 use Rattle.teco_pages.specs.Held.{Held, unread_bytes, page_in, behind_page_in, behind_held, written_if_any}
-use Rattle.teco_pages.specs.HostFiles.{HostFiles, Told, Becomes, after_writing}
+use Rattle.teco_pages.specs.HostFiles.{HostFiles, Telling, Told, Becomes, after_writing}
 use Rattle.teco_pages.specs.PageCalls.{Copies, CopiesRest, WritesFront}
 use Rattle.teco_pages.specs.declared.fault.Fault.{Fault}
+use Rattle.teco_pages.proofs.Told.{told-map, told-on}
 use Rattle.teco_pages.proofs.Written.{written-written}
 
 -- what is held is the page with its form feed, if it has one, and what is ahead
@@ -24,27 +25,23 @@ kept f g bytes h = h ∙ ap (λ u. record (after_writing bytes f) { unread = u }
 -- Below k is what the parts show, and part what is held before a.
 
 -- a fault while that is written
-pub rest-cut : (k : Held) (part a : List ℕ) (e : Fault) (x y : Option HostFiles) → written_if_any k.ready ++ k.ahead ≡ part ++ a → WritesFront part x y → Told (CopiesRest (Err e) k k) x y
-rest-cut k part a e None y h w = tt
-rest-cut k part a e (Some f) None h w = absurd w.written
-rest-cut k part a e (Some f) (Some g) h w =
+pub rest-cut : (k : Held) (part a : List ℕ) (e : Fault) (x y : Telling) → written_if_any k.ready ++ k.ahead ≡ part ++ a → WritesFront part x y → Told (CopiesRest (Err e) k k) x y
+rest-cut k part a e x y h w = told-map (λ f g. g ≡ after_writing w.front f) (CopiesRest (Err e) k k) (λ f g written.
     let b = behind_held k.end f.unread in
     record {
       front = w.front;
       unwritten = (w.left ++ a) ++ b;
       read = [];
       whole = ap (λ l. l ++ b) (h ∙ ap (λ l. l ++ a) w.whole ∙ append_assoc w.front w.left a) ∙ append_assoc w.front (w.left ++ a) b;
-      suffix = ap (λ u. (written_if_any k.ready ++ k.ahead) ++ behind_held k.end u) (sym (ap (λ (j : HostFiles). j.unread) w.written));
-      written = kept f g w.front w.written;
-    }
+      suffix = ap (λ u. (written_if_any k.ready ++ k.ahead) ++ behind_held k.end u) (sym (ap (λ (j : HostFiles). j.unread) written));
+      written = kept f g w.front written;
+    }) x y w.written
 
 -- nothing is behind what is held
-pub rest-end : (k new : Held) (part a : List ℕ) (x y : Option HostFiles) → written_if_any k.ready ++ k.ahead ≡ part ++ a → k.end ≡ true → a ≡ [] → Becomes (after_writing part) x y → Told (CopiesRest (Ok tt) k new) x y
-rest-end k new part a None y h t n w = tt
-rest-end k new part a (Some f) None h t n w = absurd w
-rest-end k new part a (Some f) (Some g) h t n w =
+pub rest-end : (k new : Held) (part a : List ℕ) (x y : Telling) → written_if_any k.ready ++ k.ahead ≡ part ++ a → k.end ≡ true → a ≡ [] → Becomes (after_writing part) x y → Told (CopiesRest (Ok tt) k new) x y
+rest-end k new part a x y h t n = told-map (λ f g. g ≡ after_writing part f) (CopiesRest (Ok tt) k new) (λ f g w.
     let all : unread_bytes k f ≡ part = ap (λ d. (written_if_any k.ready ++ k.ahead) ++ behind_held d f.unread) t ∙ append-nil (written_if_any k.ready ++ k.ahead) ∙ h ∙ ap (λ l. part ++ l) n ∙ append-nil part in
-    kept f g part w ∙ ap (λ l. record (after_writing l f) { unread = g.unread }) (sym all)
+    kept f g part w ∙ ap (λ l. record (after_writing l f) { unread = g.unread }) (sym all)) x y
 
 -- what was unread before part was written
 more : (k : Held) (part a : List ℕ) (f g : HostFiles) → written_if_any k.ready ++ k.ahead ≡ part ++ a → k.end ≡ false → g ≡ after_writing part f → unread_bytes k f ≡ part ++ (a ++ g.unread)
@@ -73,8 +70,13 @@ copied-on k new part a a' (Err e) f g l h t n w c =
     }
 
 -- the host has more
-pub rest-copied : (k new : Held) (part a a' : List ℕ) (r : Result (Unit {0}) Fault) (x y z : Option HostFiles) → written_if_any k.ready ++ k.ahead ≡ part ++ a → k.end ≡ false → ((l : HostFiles) → unread_bytes new l ≡ a' ++ l.unread) → Becomes (after_writing part) x y → Told (λ files left. Copies r (a ++ files.unread) (a' ++ left.unread) files left) y z → Told (CopiesRest r k new) x z
-rest-copied k new part a a' r None y z h t n w c = tt
-rest-copied k new part a a' r (Some f) None z h t n w c = absurd w
-rest-copied k new part a a' r (Some f) (Some g) None h t n w c = absurd c
-rest-copied k new part a a' r (Some f) (Some g) (Some l) h t n w c = copied-on k new part a a' r f g l h t (n l) w c
+pub rest-copied : (k new : Held) (part a a' : List ℕ) (r : Result (Unit {0}) Fault) (x y z : Telling) → written_if_any k.ready ++ k.ahead ≡ part ++ a → k.end ≡ false → ((l : HostFiles) → unread_bytes new l ≡ a' ++ l.unread) → Becomes (after_writing part) x y → Told (λ files left. Copies r (a ++ files.unread) (a' ++ left.unread) files left) y z → Told (CopiesRest r k new) x z
+rest-copied k new part a a' r x y z h t n =
+    told-on (λ f g. g ≡ after_writing part f) (λ g l. Copies r (a ++ g.unread) (a' ++ l.unread) g l) (CopiesRest r k new)
+    (λ f g l w c. copied-on k new part a a' r f g l h t (n l) w c) x y z
+
+-- the host had more, and all of it is written
+pub rest-all : (k new : Held) (part a a' : List ℕ) (x y z : Telling) → written_if_any k.ready ++ k.ahead ≡ part ++ a → k.end ≡ false → Becomes (after_writing part) x y → Told (λ files left. Copies (Ok tt) (a ++ files.unread) (a' ++ left.unread) files left) y z → Told (CopiesRest (Ok tt) k new) x z
+rest-all k new part a a' x y z h t =
+    told-on (λ f g. g ≡ after_writing part f) (λ g l. Copies (Ok tt) (a ++ g.unread) (a' ++ l.unread) g l) (CopiesRest (Ok tt) k new)
+    (λ f g l w c. twice f g l part (a ++ g.unread) w c ∙ ap (λ b. record (after_writing b f) { unread = l.unread }) (sym (more k part a f g h t w))) x y z

@@ -1,6 +1,6 @@
 -- How all that is unread is copied, piece by piece.
-use Rattle.std.specs.Prelude.{ℕ, ◌≡◌, List, ◌++◌, Option}
-use Rattle.teco_pages.specs.HostFiles.{HostFiles, Told, after_writing}
+use Rattle.std.specs.Prelude.{ℕ, ◌≡◌, List, ◌++◌}
+use Rattle.teco_pages.specs.HostFiles.{HostFiles, Telling, Told, after_writing}
 
 -- what was unread is what is written of it, what is held, and what the host has behind that
 pub record IsCopied (unread held : List ℕ) (files left : HostFiles) : Type 0 where
@@ -8,6 +8,6 @@ pub record IsCopied (unread held : List ℕ) (files left : HostFiles) : Type 0 w
   pub whole : unread ≡ front ++ (held ++ left.unread)
   pub written : left ≡ record (after_writing front files) { unread = left.unread }
 
--- told files: so far as it goes, where this was held at first and that is held now
-abbrev pub CopiesOn : List ℕ → List ℕ → Option HostFiles → Option HostFiles → Type 0
+-- so far as it goes, where this was held at first and that is held now
+abbrev pub CopiesOn : List ℕ → List ℕ → Telling → Telling → Type 0
 CopiesOn old held = Told (λ files left. IsCopied (old ++ files.unread) held files left)

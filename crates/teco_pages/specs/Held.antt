@@ -1,9 +1,10 @@
 -- What is held of an input that is read in pages, and what of it is unread.
-use Rattle.std.specs.Prelude.{ℕ, ◌≡◌, ◌≢◌, ◌≤◌, List, [], ◌++◌, length, Bool, true, false, Option, Some, None, option_map, Vec}
+use Rattle.std.specs.Prelude.{ℕ, ◌≡◌, ◌≢◌, ◌≤◌, List, [], ◌++◌, length, Bool, true, false, Option, Some, None, option_map, IfSome, Vec}
 use Rattle.std.specs.declared.alloc.Global.{Global}
 use Rattle.teco_base.specs.declared.TheConstants.{LIMIT}
 use Rattle.teco_model.specs.Files.{Files, Input}
 use Rattle.teco_model.specs.Pages.{Page, written_page, has_form_feed}
+use Rattle.teco_model.specs.laws.Whole.{AreBytes}
 use Rattle.teco_pages.specs.HostFiles.{HostFiles}
 
 -- The name of the open input, the page of it that is ready, the bytes that were read behind that page, and whether nothing is
@@ -60,6 +61,11 @@ files_of held files = record { named = files.named; input = input_of held files;
 -- the host has the output open that the holder has open
 abbrev pub IsSameOutput : Held → HostFiles → Type 0
 IsSameOutput held files = held.output ≡ option_map (λ output. output.name) files.output
+
+-- the bytes that are held of the input are bytes
+pub record HoldsBytes (held : Held) : Type 0 where
+  pub ready : IfSome held.ready (λ (page : Page). AreBytes page.text)
+  pub ahead : AreBytes held.ahead
 
 -- the name that is kept, if one is
 abbrev pub name_in : Option (Vec ℕ Global) → Option (List ℕ)

@@ -1,49 +1,41 @@
--- What a host tells of its files, and what its calls do to them.
-use Rattle.std.specs.Prelude.{ℕ, ◌≡◌, ⊤, List, [], ◌++◌, Option, Some, None}
-use Rattle.teco_model.specs.Files.{File, Output, output_of, with_written, with_closed}
+-- What a host says of its files, and what calls do to them.
+use Rattle.std.specs.Prelude.{ℕ, ◌≡◌, List, [], ◌++◌}
+use Rattle.std.specs.List.{AllByRecursion}
+use Rattle.teco_pages.specs.Events.{Event, Happened, IsOfBytes}
+pub use Rattle.teco_pages.specs.Changes.{HostFiles, AreOfBytes, after_opening, after_writing, after_closing, after_dropping}
 
--- the files that have names, what is unread of the input that was opened last, and the output that is open
-pub record HostFiles : Type 0 where
-  pub named : List File
-  pub unread : List ℕ
-  pub output : Option Output
+-- A host tells its files, or it notes what its calls did to files that it cannot tell.
+pub data Telling : Type 0 where
+  Tells : HostFiles → Telling
+  Notes : List Event → Telling
 
--- an output of this name is open, with nothing written to it
-abbrev pub after_opening : List ℕ → HostFiles → HostFiles
-after_opening name files = record files { output = Some (output_of name) }
+-- R holds of whatever files were there, of bytes, that fit what was noted meanwhile.
+pub record Fits (R : HostFiles → HostFiles → Type 0) (old new : List Event) : Type 0 where
+  pub meanwhile : List Event
+  pub noted : new ≡ old ++ meanwhile
+  pub bytes : AllByRecursion IsOfBytes meanwhile
+  pub holds : (files left : HostFiles) → AreOfBytes files → Happened meanwhile files left → R files left
 
--- these bytes were written to the open output
-abbrev pub after_writing : List ℕ → HostFiles → HostFiles
-after_writing bytes files = record files { output = with_written bytes files.output }
+-- A relation of files of bytes before and after calls: it holds of those that are told, or of all that fit what is noted.
+abbrev pub Told : (HostFiles → HostFiles → Type 0) → Telling → Telling → Type 0
+Told R (Tells files) (Tells left) = AreOfBytes files → R files left × AreOfBytes left
+Told R (Tells files) (Notes new) = ⊥
+Told R (Notes old) (Tells left) = ⊥
+Told R (Notes old) (Notes new) = Fits R old new
 
--- the open output has taken its name
-abbrev pub after_closing : HostFiles → HostFiles
-after_closing files = record files { named = with_closed files.output files.named; output = None }
-
--- the open output is gone, and left no trace
-abbrev pub after_dropping : HostFiles → HostFiles
-after_dropping files = record files { output = None }
-
--- A relation of told files, which stay told. Of files that are not told it says nothing.
-abbrev pub Told : (HostFiles → HostFiles → Type 0) → Option HostFiles → Option HostFiles → Type 0
-Told R None new = ⊤
-Told R (Some files) None = ⊥
-Told R (Some files) (Some left) = R files left
-
--- told files become what f makes of them
-abbrev pub Becomes : (HostFiles → HostFiles) → Option HostFiles → Option HostFiles → Type 0
+-- files become what f makes of them
+abbrev pub Becomes : (HostFiles → HostFiles) → Telling → Telling → Type 0
 Becomes f = Told (λ files left. left ≡ f files)
 
--- told files stay
-abbrev pub Stays : Option HostFiles → Option HostFiles → Type 0
+-- files stay
+abbrev pub Stays : Telling → Telling → Type 0
 Stays = Told (λ files left. left ≡ files)
 
--- told files stay, but for the input, of which these bytes were the next
-abbrev pub Reads : List ℕ → Option HostFiles → Option HostFiles → Type 0
+-- files stay, but for the input, of which these bytes were the next
+abbrev pub Reads : List ℕ → Telling → Telling → Type 0
 Reads bytes = Told (λ files left.
     (files.unread ≡ bytes ++ left.unread) × (left ≡ record files { unread = left.unread }))
 
--- told files have nothing unread
-abbrev pub NoneUnread : Option HostFiles → Type 0
-NoneUnread None = ⊤
-NoneUnread (Some files) = files.unread ≡ []
+-- nothing is left unread
+abbrev pub NoneUnread : Telling → Telling → Type 0
+NoneUnread = Told (λ files left. left.unread ≡ [])

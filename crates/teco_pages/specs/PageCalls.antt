@@ -1,8 +1,8 @@
 -- What the calls on pages do, by their answers.
-use Rattle.std.specs.Prelude.{ℕ, ◌≡◌, ◌<◌, ⊤, List, ◌++◌, length, Option, Some, Result, Ok, Err}
+use Rattle.std.specs.Prelude.{ℕ, ◌≡◌, ◌<◌, ⊤, List, ◌++◌, length, Some, Result, Ok, Err}
 use Rattle.teco_base.specs.declared.TheConstants.{LIMIT}
 use Rattle.teco_model.specs.Pages.{first_page}
-use Rattle.teco_pages.specs.HostFiles.{HostFiles, Becomes, after_writing}
+use Rattle.teco_pages.specs.HostFiles.{HostFiles, Telling, Becomes, after_writing}
 use Rattle.teco_pages.specs.Held.{Held, unread_bytes}
 use Rattle.teco_pages.specs.declared.fault.Fault.{Fault}
 use Rattle.teco_pages.specs.declared.fault.Fault.TheVariants.{NoFile, In, Out, Full, Memory}
@@ -53,7 +53,7 @@ OkOrInOut (Err Out) f g = f < g
 OkOrInOut (Err Full) f g = ⊥
 OkOrInOut (Err Memory) f g = ⊥
 
--- told files stay, but for what is unread of the input
+-- files stay, but for what is unread of the input
 abbrev pub OnlyReads : HostFiles → HostFiles → Type 0
 OnlyReads files left = left ≡ record files { unread = left.unread }
 
@@ -66,25 +66,25 @@ IsFirstPage (Err In) new unread = ⊤
 IsFirstPage (Err Out) new unread = ⊤
 IsFirstPage (Err Memory) new unread = ⊤
 
--- Told files: the page that is ready is the first one of what is unread, in whatever pieces it was read. Nothing is lost.
+-- The page that is ready is the first one of what is unread, in whatever pieces it was read. Nothing is lost.
 pub record MakesReady (result : Result (Unit {0}) Fault) (old new : Held) (files left : HostFiles) : Type 0 where
   pub page : IsFirstPage result new (unread_bytes old files)
   pub unread : unread_bytes new left ≡ unread_bytes old files
   pub only : OnlyReads files left
 
--- told files: some of the bytes from their front were written
-pub record WritesFront (bytes : List ℕ) (old new : Option HostFiles) : Type 0 where
+-- some of the bytes from their front were written
+pub record WritesFront (bytes : List ℕ) (old new : Telling) : Type 0 where
   pub front : List ℕ
   pub left : List ℕ
   pub whole : bytes ≡ front ++ left
   pub written : Becomes (after_writing front) old new
 
--- told files: all of the bytes were written, or with a fault some from their front
-abbrev pub WritesBytes : List ℕ → Result (Unit {0}) Fault → Option HostFiles → Option HostFiles → Type 0
+-- all of the bytes were written, or with a fault some from their front
+abbrev pub WritesBytes : List ℕ → Result (Unit {0}) Fault → Telling → Telling → Type 0
 WritesBytes bytes (Ok _) = Becomes (after_writing bytes)
 WritesBytes bytes (Err _) = WritesFront bytes
 
--- told files: of what was unread some is written, from its front, and what is unread now stood at its end
+-- of what was unread some is written, from its front, and what is unread now stood at its end
 pub record CopiesFront (unread rest : List ℕ) (files left : HostFiles) : Type 0 where
   pub front : List ℕ
   pub unwritten : List ℕ
@@ -93,7 +93,7 @@ pub record CopiesFront (unread rest : List ℕ) (files left : HostFiles) : Type 
   pub suffix : unread ≡ read ++ rest
   pub written : left ≡ record (after_writing front files) { unread = left.unread }
 
--- told files: all that was unread is written, or with a fault some from its front
+-- all that was unread is written, or with a fault some from its front
 abbrev pub Copies : Result (Unit {0}) Fault → List ℕ → List ℕ → HostFiles → HostFiles → Type 0
 Copies (Ok _) unread rest files left = left ≡ record (after_writing unread files) { unread = left.unread }
 Copies (Err _) unread rest files left = CopiesFront unread rest files left

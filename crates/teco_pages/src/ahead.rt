@@ -74,12 +74,14 @@ impl Ahead {
     pub fn fill<H: Host>(&mut self, host: &mut H) -> Result<(), Fault>
         requires { self.old ≡ [] }
         ensures ok { OnOk result (Reads self.new (H.files host.old) (H.files host.new)) }
-        ensures end { OnOk result (self.new ≡ [] → NoneUnread (H.files host.new)) }
+        ensures end { OnOk result (self.new ≡ []
+            → NoneUnread (H.files host.old) (H.files host.new)) }
         ensures counted { OnOk result (H.failures host.new ≡ H.failures host.old) }
         ensures given { OnOk result (H.given host.new ≡ H.given host.old + length self.new) }
         ensures limit { OnOk result (H.given host.new ≤ LIMIT) }
         ensures err { OnErr result ((self.new ≡ []) × Stays (H.files host.old) (H.files host.new)) }
-        ensures fault { IfErr result (λ fault. (fault ≡ CannotRead) × (H.failures host.old < H.failures host.new)) }
+        ensures fault { IfErr result (λ fault. (fault ≡ CannotRead)
+            × (H.failures host.old < H.failures host.new)) }
     {
         self.used = 0;
         self.filled = 0;
@@ -107,7 +109,8 @@ impl Ahead {
         Ok(true)
     }
 
-    // Gives the bytes up to the first form feed to a page, and takes the form feed away; answers whether there was one.
+    // Gives the bytes up to the first form feed to a page, and takes the form feed away; answers
+    // whether there was one.
     pub fn give(&mut self, into: &mut Vec<u8>) -> Result<bool, Fault>
         requires { length into.old.items ≤ LIMIT }
         ensures { Gives self.old self.new into.old.items into.new.items result }

@@ -5,7 +5,8 @@ ghost use Rattle.std.specs.Borrow.{ftrue};
 use crate::fault::Failed;
 use std::marker::{Model, PhantomData};
 
-// How often something has happened. It takes no memory, does nothing when it runs, and has no last value.
+/// How often something has happened. It takes no memory, does nothing when it runs, and has no last
+/// value.
 #[derive(Drop)]
 pub struct Count {
     marker: PhantomData<u8>,
@@ -17,7 +18,7 @@ impl Model for Count {
 }
 
 impl Count {
-    // Nothing has happened yet.
+    /// Nothing has happened yet.
     pub fn new() -> Count
         ensures { result.value ≡ 0 }
     {
@@ -26,12 +27,12 @@ impl Count {
         }
     }
 
-    // It has happened once more.
+    /// It has happened once more.
     pub fn rise(&mut self)
         ensures { self.new.value ≡ suc self.old.value }
     {}
 
-    // Counts a failure, and answers it.
+    /// Counts a failure, and answers it.
     pub fn failed<T>(&mut self) -> Result<T, Failed>
         ensures failed { IsErr result }
         ensures counted { self.new.value ≡ suc self.old.value }

@@ -1,6 +1,9 @@
 // A host of the files of the system.
-ghost use Rattle.std.specs.Prelude.{◌≡◌, ◌≤◌, ◌<◌, suc, None, length, IfOk, IsErr};
+ghost use Rattle.std.specs.Prelude.{◌≡◌, ◌≤◌, ◌<◌, suc, length, IfOk, IsErr};
+ghost use Rattle.teco_pages.specs.HostFiles.{Notes};
+ghost use Rattle.teco_pages.specs.Kept.{output_contents};
 ghost use Rattle.teco_base.specs.declared.TheConstants.{LIMIT};
+ghost use Rattle.std.specs.Io.KnownBytes.{WriteAppends};
 
 mod descriptor;
 mod inheritance;
@@ -17,6 +20,7 @@ use self::unfinished::Unfinished;
 pub use self::unfinished::{Closed, Closing};
 use crate::count::Count;
 use crate::fault::Failed;
+use crate::history::History;
 use crate::host::Host;
 use std::alloc::{AllocError, Global};
 use std::fs::{Files, OpenFile};
@@ -24,19 +28,28 @@ use std::io::Write;
 use std::time::Clock;
 use teco_base::LIMIT;
 
-/// The files of the system, by the runtime `R`. It tells how many of its calls have failed, and nothing of the files.
+/// The files of the system, by the runtime `R`. It notes what its calls did, and how many of them
+/// have failed.
 ///
-/// An output is a new file in its target's folder, under a name that no file has, until `close_out` moves it over its
-/// target: whole, and in one move. It has the owner, the group and the permissions of a file that it will replace, as
-/// far as the system lets it; where it does not, the set-id bits go. A target that leads by links to a regular file is
-/// that file; any other that exists and is no regular file is refused when the output is opened, as is one in a folder
-/// that cannot be written, and one that leads to a file that a process has open, as `/dev/stdout` does. Where an output is dropped, and where the host is dropped with one open, the new file is
-/// removed; one that another file has taken the place of is neither moved nor removed. A write past the system's limit
-/// on the size of files fails. A name that is no UTF-8 opens nothing, and no file keeps the descriptor of a standard
-/// stream, which may be closed.
+/// An output is a new file in its target's folder, under a name that no file has, until `close_out`
+/// moves it over its target: whole, and in one move. It has the owner, the group and the
+/// permissions of a file that it will replace, as far as the system lets it; where it does not, the
+/// set-id bits go.
 ///
-/// An input is read ahead, up to 64 KiB, and small writes are kept together up to as many; a failure of the system is then
-/// that of the write, or of the close, which sends them on.
+/// A target that leads by links to a regular file is that file; any other that exists and is no
+/// regular file is refused when the output is opened, as is one in a folder that cannot be written,
+/// and one that leads to a file that a process has open, as `/dev/stdout` does.
+///
+/// Where an output is dropped, and where the host is dropped with one open, the new file is
+/// removed; one that another file has taken the place of is neither moved nor removed. A write past
+/// the system's limit on the size of files fails. A name that is no UTF-8 opens nothing, and no
+/// file keeps the descriptor of a standard stream, which may be closed.
+///
+/// An input is read ahead, up to 64 KiB in one read of the system. What such a read gives is served
+/// at once, and its failure is told behind all that was read before. Small writes are kept
+/// together, up to 64 KiB; a failure of the system is then that of the write, or of the close,
+/// which sends them on. A write that fails takes none of its bytes, and what was kept before it is
+/// kept on, so that the next write or the close sends it again from where the system stopped.
 pub struct FileHost<R: Files + Clock + Drop> {
     rt: R,
     alloc: Global,
@@ -53,6 +66,7 @@ pub struct FileHost<R: Files + Clock + Drop> {
     closing: Closing,
     closed: Option<Closed>,
     failures: Count,
+    history: History,
     ghost within: { given ≤ LIMIT },
 }
 
@@ -72,6 +86,7 @@ impl<R: Files + Clock + Drop> FileHost<R> {
             closing: Closing::Replaces,
             closed: None,
             failures: Count::new(),
+            history: History::new(),
         }
     }
 
@@ -101,6 +116,7 @@ impl<R: Files + Clock + Drop> FileHost<R> {
         ensures failed { IsErr result }
         ensures counted { self.new.failures.value ≡ suc self.old.failures.value }
         ensures given { self.new.given ≡ self.old.given }
+        ensures history { self.new.history ≡ self.old.history }
     {
         let trouble = Trouble::of(self.alloc, Purpose::ReadInput, &self.input_name, reason);
         self.trouble = Some(trouble);
@@ -112,6 +128,7 @@ impl<R: Files + Clock + Drop> FileHost<R> {
         ensures failed { IsErr result }
         ensures counted { self.new.failures.value ≡ suc self.old.failures.value }
         ensures given { self.new.given ≡ self.old.given }
+        ensures history { self.new.history ≡ self.old.history }
     {
         let trouble = Trouble::of(self.alloc, purpose, &self.output_name, reason);
         self.trouble = Some(trouble);
@@ -123,6 +140,7 @@ impl<R: Files + Clock + Drop> FileHost<R> {
         ensures failed { IsErr result }
         ensures counted { self.new.failures.value ≡ suc self.old.failures.value }
         ensures given { self.new.given ≡ self.old.given }
+        ensures history { self.new.history ≡ self.old.history }
     {
         let trouble = Trouble::of(self.alloc, purpose, name, reason);
         self.trouble = Some(trouble);
@@ -153,6 +171,7 @@ impl<R: Files + Clock + Drop> Drop for FileHost<R> {
             closing: _,
             closed: _,
             failures: _,
+            history: _,
         } = self;
         if let Some(output) = output {
             let _removed = output.abandon(&rt);
@@ -161,7 +180,7 @@ impl<R: Files + Clock + Drop> Drop for FileHost<R> {
 }
 
 impl<R: Files + Clock + Drop> Host for FileHost<R> {
-    ghost files = { λ _. None };
+    ghost files = { λ h. Notes h.history.events };
 
     ghost failures = { λ h. h.failures.value };
 
@@ -174,6 +193,7 @@ impl<R: Files + Clock + Drop> Host for FileHost<R> {
                 self.input_name = kept_name(self.alloc, name);
                 self.given = 0;
                 self.is_past = false;
+                self.history.opened_input(name);
                 Ok(())
             }
             Err(reason) => self.cannot_open(Purpose::OpenInput, name, reason),
@@ -189,12 +209,14 @@ impl<R: Files + Clock + Drop> Host for FileHost<R> {
             if self.is_past {
                 return self.cannot_read(Reason::Long);
             }
+            self.history.gave(buf, 0);
             return Ok(0);
         }
-        let n = buf.len().min(LIMIT - self.given);
-        match file.read(&mut buf[..n]) {
+        let room = buf.len().min(LIMIT - self.given);
+        match file.read(&mut buf[..room]) {
             Ok(n) => {
                 self.given += n;
+                self.history.gave(buf, n);
                 Ok(n)
             }
             Err(error) => self.cannot_read(Reason::System(error)),
@@ -209,6 +231,7 @@ impl<R: Files + Clock + Drop> Host for FileHost<R> {
             Ok(output) => {
                 self.output = Some(output);
                 self.output_name = kept_name(self.alloc, name);
+                self.history.opened_output(name);
                 Ok(())
             }
             Err(reason) => self.cannot_open(Purpose::OpenOutput, name, reason),
@@ -217,7 +240,10 @@ impl<R: Files + Clock + Drop> Host for FileHost<R> {
 
     fn write(&mut self, bytes: &[u8]) -> Result<usize, Failed> {
         match write_some(&mut self.output, bytes) {
-            Ok(n) => Ok(n),
+            Ok(n) => {
+                self.history.wrote(bytes, n);
+                Ok(n)
+            }
             Err(reason) => self.cannot_write(Purpose::WriteOutput, reason),
         }
     }
@@ -227,13 +253,18 @@ impl<R: Files + Clock + Drop> Host for FileHost<R> {
         match close(&self.rt, self.alloc, output, self.closing) {
             Ok(closed) => {
                 self.closed = Some(closed);
+                self.history.closed();
                 Ok(())
             }
-            Err(reason) => self.cannot_write(Purpose::CloseOutput, reason),
+            Err(reason) => {
+                self.history.dropped();
+                self.cannot_write(Purpose::CloseOutput, reason)
+            }
         }
     }
 
     fn drop_out(&mut self) -> Result<(), Failed> {
+        self.history.dropped();
         let Some(output) = self.output.take() else {
             return Ok(());
         };
@@ -251,6 +282,8 @@ fn write_some<F: OpenFile + Write + Drop>(
 ) -> Result<usize, Reason>
     ensures bound { IfOk result (λ n. n ≤ length bytes.now) }
     ensures some { IfOk result (λ n. 0 < length bytes.now → 0 < n) }
+    ensures bytes { WriteAppends (output_contents F.contents output.old)
+        (output_contents F.contents output.new) result bytes.now }
 {
     match output {
         Some(output) => output.write_some(bytes),

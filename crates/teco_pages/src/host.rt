@@ -1,20 +1,20 @@
 // What every host of files promises.
-ghost use Rattle.std.specs.Prelude.{◌≡◌, ◌≤◌, ◌<◌, ◌+◌, ℕ, Option, length, IfOk, OnOk, OnErr};
+ghost use Rattle.std.specs.Prelude.{◌≡◌, ◌≤◌, ◌<◌, ◌+◌, ℕ, length, IfOk, OnOk, OnErr};
 ghost use Rattle.teco_base.specs.declared.TheConstants.{LIMIT};
-ghost use Rattle.teco_pages.specs.HostFiles.{HostFiles, Becomes, after_dropping};
+ghost use Rattle.teco_pages.specs.HostFiles.{Telling, Becomes, after_dropping};
 ghost use Rattle.teco_pages.specs.HostCalls.{Counts, OpensIn, ReadsSome, OpensOut, WritesSome, Closes};
 
 use crate::fault::Failed;
 
 /// Files outside: those that have names, one input and one output at a time. A name is any bytes.
 ///
-/// An output takes its name when it is closed, whole and in one move; until then a file of that name is as it was. A
-/// call that fails changes no file, but after a failed `close_out` or `drop_out` the output is dropped. A host that can
-/// tell its files does so to contracts; another, as one of real files, tells how many of its calls have failed and no
-/// more.
+/// An output takes its name when it is closed, whole and in one move; until then a file of that
+/// name is as it was. A call that fails changes no file, but after a failed `close_out` or
+/// `drop_out` the output is dropped. A host that can tell its files does so to contracts; another,
+/// as one of real files, notes what each call did.
 pub trait Host {
-    // its files, if it tells them
-    ghost files: { Self → Option HostFiles };
+    // its files, or what its calls did
+    ghost files: { Self → Telling };
 
     // how many of its calls have failed
     ghost failures: { Self → ℕ };
@@ -29,7 +29,8 @@ pub trait Host {
         ensures given { OnOk result (given self.new ≡ 0) }
         ensures err { OnErr result (given self.new ≡ given self.old) };
 
-    /// Reads the next bytes of the input, one at least unless it is at its end; of one input at most `LIMIT`.
+    /// Reads the next bytes of the input, one at least unless it is at its end; of one input at
+    /// most `LIMIT`.
     fn read(&mut self, buf: &mut [u8]) -> Result<usize, Failed>
         ensures files { ReadsSome buf.new result (files self.old) (files self.new) }
         ensures counted { Counts result (failures self.old) (failures self.new) }

@@ -5,14 +5,17 @@ mod ahead;
 mod count;
 mod fault;
 mod file_host;
+mod history;
 mod host;
 mod mem_host;
 mod pages;
 mod test_host;
 mod write;
 
+pub use count::Count;
 pub use fault::{Failed, Fault};
 pub use file_host::{Closed, Closing, FileHost, Purpose, Reason, Trouble};
+pub use history::History;
 pub use host::Host;
 pub use mem_host::MemHost;
 pub use pages::Pages;

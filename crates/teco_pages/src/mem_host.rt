@@ -2,6 +2,7 @@
 ghost use Rattle.std.specs.Prelude.{◌≡◌, ◌≤◌, length, Some, option_copied, IfSome, IfOk, OnOk, OnErr};
 ghost use Rattle.std.specs.List.{prefix_len};
 ghost use Rattle.teco_model.specs.Files.{file_named, with_file, with_written, with_closed};
+ghost use Rattle.teco_pages.specs.HostFiles.{Tells};
 ghost use Rattle.teco_pages.specs.MemFiles.{no_files, with_put, is_other, output_in};
 
 use crate::count::Count;
@@ -28,8 +29,8 @@ impl Model for MemFile {
 
 /// A host of files in memory, which tells them.
 ///
-/// Its calls fail where a name has no file, where an input is read on past `LIMIT` bytes, where no output is open for a
-/// call that needs one, and where memory is refused.
+/// Its calls fail where a name has no file, where an input is read on past `LIMIT` bytes, where no
+/// output is open for a call that needs one, and where memory is refused.
 #[derive(Drop)]
 pub struct MemHost {
     files: Vec<MemFile>,
@@ -70,7 +71,8 @@ impl MemHost {
         }
     }
 
-    /// Makes a file of a name and bytes, in the place of the one of that name if there is one. What is open stays.
+    /// Makes a file of a name and bytes, in the place of the one of that name if there is one. What
+    /// is open stays.
     pub fn put(&mut self, name: &[u8], bytes: &[u8]) -> Result<(), AllocError>
         ensures ok { OnOk result (self.new ≡ with_put name.now bytes.now self.old) }
         ensures err { OnErr result (self.new ≡ self.old) }
@@ -92,7 +94,7 @@ impl MemHost {
 }
 
 impl Host for MemHost {
-    ghost files = { λ m. Some m.told };
+    ghost files = { λ m. Tells m.told };
 
     ghost failures = { λ m. m.failures };
 
@@ -208,7 +210,8 @@ fn keep(files: &mut Vec<MemFile>, file: MemFile) -> Result<(), AllocError>
 
 // Writes to the output, if one is open.
 fn append(output: &mut Option<MemFile>, bytes: &[u8]) -> Result<(), Failed>
-    ensures ok { OnOk result (output_in output.new ≡ with_written bytes.now (output_in output.old)) }
+    ensures ok { OnOk result (output_in output.new
+        ≡ with_written bytes.now (output_in output.old)) }
     ensures err { OnErr result (output.new ≡ output.old) }
 {
     match output {

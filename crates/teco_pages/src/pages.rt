@@ -3,7 +3,7 @@ ghost use Rattle.std.specs.Prelude.{◌≡◌, ◌≤◌, ◌++◌, [], ◌∷�
 ghost use Rattle.teco_base.specs.declared.TheConstants.{LIMIT};
 ghost use Rattle.teco_base.specs.declared.bytes.TheConstants.{FF};
 ghost use Rattle.teco_model.specs.Pages.{first_page, behind_first_page, has_form_feed, written_page};
-ghost use Rattle.teco_pages.specs.Held.{nothing_held, with_input, without_input, without_page, with_all_read, unread_bytes, written_if_any};
+ghost use Rattle.teco_pages.specs.Held.{HoldsBytes, nothing_held, with_input, without_input, without_page, with_all_read, unread_bytes, written_if_any};
 ghost use Rattle.teco_pages.specs.HostCalls.{OpensIn, OpensOut, Closes};
 ghost use Rattle.teco_pages.specs.HostFiles.{HostFiles, Told, Becomes, after_dropping};
 ghost use Rattle.teco_pages.specs.PageCalls.{OkOrNoFile, OkOrCannotOpen, OkOrOut, OkOrCannotRead, OkOrInOut, MakesReady, WritesBytes, CopiesRest};
@@ -18,12 +18,13 @@ use std::marker::Model;
 use std::mem;
 use teco_base::LIMIT;
 use teco_base::bytes::FF;
+use teco_model::{are_bytes, pieces_are_bytes};
 
 /// What an editor has open: an input that is read page by page, and an output.
 ///
-/// Of the input's bytes it keeps the page that is read and at most 4,096 bytes behind it. Bytes that were read and not
-/// accepted stay unread input, whatever is refused. A fault of the host comes only where the host's count of failures
-/// rose.
+/// Of the input's bytes it keeps the page that is read and at most 4,096 bytes behind it. Bytes
+/// that were read and not accepted stay unread input, whatever is refused. A fault of the host
+/// comes only where the host's count of failures rose.
 #[derive(Drop)]
 pub struct Pages {
     input: Option<Vec<u8>>,
@@ -68,7 +69,17 @@ impl Pages {
         }
     }
 
-    /// Opens the file of a name as the input, in the place of the one before. A refusal leaves that one open.
+    /// What always holds: what is held of the input is of bytes.
+    pub fn is_of_bytes(&self)
+        ensures { HoldsBytes self.now }
+    {
+        are_bytes(&self.page);
+        are_bytes(self.ahead.bytes());
+        pieces_are_bytes(&self.page, self.ahead.bytes());
+    }
+
+    /// Opens the file of a name as the input, in the place of the one before. A refusal leaves that
+    /// one open.
     pub fn open_in<H: Host>(&mut self, name: &[u8], host: &mut H) -> Result<(), Fault>
         ensures answer { OkOrNoFile result (H.failures host.old) (H.failures host.new) }
         ensures files { OpensIn name.now result (H.files host.old) (H.files host.new) }
@@ -120,7 +131,8 @@ impl Pages {
         Ok(())
     }
 
-    /// Closes the output, which takes its name. A fault leaves none open, and the file of that name as it was.
+    /// Closes the output, which takes its name. A fault leaves none open, and the file of that name
+    /// as it was.
     pub fn close_out<H: Host>(&mut self, host: &mut H) -> Result<(), Fault>
         ensures answer { OkOrOut result (H.failures host.old) (H.failures host.new) }
         ensures files { Closes result (H.files host.old) (H.files host.new) }
@@ -153,12 +165,14 @@ impl Pages {
         self.output.as_deref()
     }
 
-    /// Makes the first page of the unread input ready, unless it is: an empty page at the end of the input, and without
-    /// one. It stays unread input.
+    /// Makes the first page of the unread input ready, unless it is: an empty page at the end of
+    /// the input, and without one. It stays unread input.
     pub fn next_page<H: Host>(&mut self, host: &mut H) -> Result<(), Fault>
         ensures answer { OkOrCannotRead result (H.failures host.old) (H.failures host.new) }
-        ensures page { Told (MakesReady result self.old self.new) (H.files host.old) (H.files host.new) }
-        ensures no_input { OnOk result (self.old.input ≡ None → self.new.ready ≡ Some (first_page [])) }
+        ensures page { Told (MakesReady result self.old self.new)
+            (H.files host.old) (H.files host.new) }
+        ensures no_input { OnOk result (self.old.input ≡ None
+            → self.new.ready ≡ Some (first_page [])) }
         ensures ready { OnOk result (IsSome self.new.ready) }
         ensures limit { IfSome self.new.ready (λ page. length page.text ≤ LIMIT) }
         ensures err { OnErr result (self.new.ready ≡ None) }
@@ -183,7 +197,8 @@ impl Pages {
 
     /// The page that is ready, if one is, and whether a form feed ended it.
     pub fn page(&self) -> Option<(&[u8], bool)>
-        ensures value { option_map (λ lent. record { text = lent.0.now; ff = lent.1 }) result ≡ self.now.ready }
+        ensures value { option_map (λ lent. record { text = lent.0.now; ff = lent.1 }) result
+            ≡ self.now.ready }
         ensures limit { IfSome result (λ lent. length lent.0.now ≤ LIMIT) }
     {
         match self.ready {
@@ -215,9 +230,11 @@ impl Pages {
         }
     }
 
-    /// Hands out the page that is ready, and whether a form feed ended it, and accepts it. `None` where none is ready.
+    /// Hands out the page that is ready, and whether a form feed ended it, and accepts it. `None`
+    /// where none is ready.
     pub fn take_page(&mut self) -> Option<(Vec<u8>, bool)>
-        ensures value { option_map (λ taken. record { text = taken.0.items; ff = taken.1 }) result ≡ self.old.ready }
+        ensures value { option_map (λ taken. record { text = taken.0.items; ff = taken.1 }) result
+            ≡ self.old.ready }
         ensures limit { IfSome result (λ taken. length taken.0.items ≤ LIMIT) }
         ensures accepted { self.new ≡ without_page self.old }
         ensures rest { IsSome self.old.ready →
@@ -228,7 +245,8 @@ impl Pages {
         Some((mem::replace(&mut self.page, spare), ff))
     }
 
-    /// Takes over memory that a page may be read into, unless there is more already. What it holds is dropped.
+    /// Takes over memory that a page may be read into, unless there is more already. What it holds
+    /// is dropped.
     pub fn take_over(&mut self, mut spare: Vec<u8>)
         ensures { self.new ≡ self.old }
     {
@@ -238,8 +256,8 @@ impl Pages {
         }
     }
 
-    /// Writes a page in two parts to the output, and a form feed behind it if `ff` says so; with a fault some of that
-    /// from its front.
+    /// Writes a page in two parts to the output, and a form feed behind it if `ff` says so; with a
+    /// fault some of that from its front.
     pub fn write_page<H: Host>(
         &self,
         first: &[u8],
@@ -248,17 +266,20 @@ impl Pages {
         host: &mut H,
     ) -> Result<(), Fault>
         ensures answer { OkOrOut result (H.failures host.old) (H.failures host.new) }
-        ensures written { WritesBytes (written_page (record { text = first.now ++ second.now; ff = ff })) result
+        ensures written { WritesBytes (written_page
+            (record { text = first.now ++ second.now; ff = ff })) result
             (H.files host.old) (H.files host.new) }
     {
         write_both(host, first, second)?;
         write_all(host, ending(ff))
     }
 
-    /// Writes all unread input to the output, piece by piece; with a fault some of it from its front.
+    /// Writes all unread input to the output, piece by piece; with a fault some of it from its
+    /// front.
     pub fn write_rest<H: Host>(&mut self, host: &mut H) -> Result<(), Fault>
         ensures answer { OkOrInOut result (H.failures host.old) (H.failures host.new) }
-        ensures copied { Told (CopiesRest result self.old self.new) (H.files host.old) (H.files host.new) }
+        ensures copied { Told (CopiesRest result self.old self.new)
+            (H.files host.old) (H.files host.new) }
         ensures ok { OnOk result (self.new ≡ with_all_read self.old) }
         ensures input { self.new.input ≡ self.old.input }
         ensures output { self.new.output ≡ self.old.output }
@@ -274,7 +295,8 @@ impl Pages {
     }
 }
 
-// Reads on to the end of a page; answers whether a form feed ended it. What is read of it stays where that is refused.
+// Reads on to the end of a page; answers whether a form feed ended it. What is read of it stays
+// where that is refused.
 fn read_page<H: Host>(into: &mut Vec<u8>, ahead: &mut Ahead, host: &mut H) -> Result<bool, Fault>
     requires plain { has_form_feed into.old.items ≡ false }
     requires short { length into.old.items ≤ LIMIT }

@@ -1,8 +1,8 @@
 // A host for tests.
-ghost use Rattle.std.specs.Prelude.{◌≡◌, ◌≤◌, ◌<◌, ◌+◌, length, Some, IfOk, OnOk, OnErr};
+ghost use Rattle.std.specs.Prelude.{◌≡◌, ◌≤◌, ◌<◌, ◌+◌, length, IfOk, OnOk, OnErr};
 ghost use Rattle.teco_base.specs.declared.TheConstants.{LIMIT};
 ghost use Rattle.teco_pages.specs.HostCalls.{Counts, OpensIn, ReadsSome, OpensOut, WritesSome, Closes};
-ghost use Rattle.teco_pages.specs.HostFiles.{Becomes, after_dropping};
+ghost use Rattle.teco_pages.specs.HostFiles.{Tells, Becomes, after_dropping};
 ghost use Rattle.teco_pages.specs.TestFiles.{FailsAsNamed, after_call, failures_of, is_due, same_call};
 
 use crate::count::Count;
@@ -53,11 +53,17 @@ impl Model for TestHost {
 }
 
 impl TestHost {
-    /// A host over the files of `mem` that moves at most `piece` bytes a call, and fails at the `nth` call of the kind
-    /// `call`; never where that is 0.
+    /// A host over the files of `mem` that moves at most `piece` bytes a call, and fails at the
+    /// `nth` call of the kind `call`; never where that is 0.
     pub fn new(mem: MemHost, piece: usize, call: HostCall, nth: u64) -> TestHost
         requires { 0 < piece }
-        ensures { result ≡ record { mem = mem; piece = piece; call = call; left = nth; failed = 0 } }
+        ensures { result ≡ record {
+          mem = mem;
+          piece = piece;
+          call = call;
+          left = nth;
+          failed = 0;
+        } }
     {
         TestHost {
             mem,
@@ -103,14 +109,15 @@ fn is_same(a: HostCall, b: HostCall) -> bool
 }
 
 impl Host for TestHost {
-    ghost files = { λ t. Some t.mem.told };
+    ghost files = { λ t. Tells t.mem.told };
 
     ghost failures = { failures_of };
 
     ghost given = { λ t. t.mem.given };
 
     fn open_in(&mut self, name: &[u8]) -> Result<(), Failed>
-        ensures files { OpensIn name.now result (Some self.old.mem.told) (Some self.new.mem.told) }
+        ensures files { OpensIn name.now result (Tells self.old.mem.told)
+            (Tells self.new.mem.told) }
         ensures counted { Counts result (failures_of self.old) (failures_of self.new) }
         ensures given { OnOk result (self.new.mem.given ≡ 0) }
         ensures err { OnErr result (self.new.mem.given ≡ self.old.mem.given) }
@@ -123,7 +130,8 @@ impl Host for TestHost {
     }
 
     fn read(&mut self, buf: &mut [u8]) -> Result<usize, Failed>
-        ensures files { ReadsSome buf.new result (Some self.old.mem.told) (Some self.new.mem.told) }
+        ensures files { ReadsSome buf.new result (Tells self.old.mem.told)
+            (Tells self.new.mem.told) }
         ensures counted { Counts result (failures_of self.old) (failures_of self.new) }
         ensures bound { IfOk result (λ n. n ≤ length buf.new) }
         ensures given { IfOk result (λ n. self.new.mem.given ≡ self.old.mem.given + n) }
@@ -140,7 +148,8 @@ impl Host for TestHost {
     }
 
     fn open_out(&mut self, name: &[u8]) -> Result<(), Failed>
-        ensures files { OpensOut name.now result (Some self.old.mem.told) (Some self.new.mem.told) }
+        ensures files { OpensOut name.now result (Tells self.old.mem.told)
+            (Tells self.new.mem.told) }
         ensures counted { Counts result (failures_of self.old) (failures_of self.new) }
         ensures given { self.new.mem.given ≡ self.old.mem.given }
         ensures named { FailsAsNamed HostCall.OpenOut self.old self.new result }
@@ -152,7 +161,8 @@ impl Host for TestHost {
     }
 
     fn write(&mut self, bytes: &[u8]) -> Result<usize, Failed>
-        ensures files { WritesSome bytes.now result (Some self.old.mem.told) (Some self.new.mem.told) }
+        ensures files { WritesSome bytes.now result (Tells self.old.mem.told)
+            (Tells self.new.mem.told) }
         ensures counted { Counts result (failures_of self.old) (failures_of self.new) }
         ensures bound { IfOk result (λ n. n ≤ length bytes.now) }
         ensures some { IfOk result (λ n. 0 < length bytes.now → 0 < n) }
@@ -168,7 +178,7 @@ impl Host for TestHost {
     }
 
     fn close_out(&mut self) -> Result<(), Failed>
-        ensures files { Closes result (Some self.old.mem.told) (Some self.new.mem.told) }
+        ensures files { Closes result (Tells self.old.mem.told) (Tells self.new.mem.told) }
         ensures counted { Counts result (failures_of self.old) (failures_of self.new) }
         ensures given { self.new.mem.given ≡ self.old.mem.given }
         ensures named { FailsAsNamed HostCall.CloseOut self.old self.new result }
@@ -182,7 +192,7 @@ impl Host for TestHost {
     }
 
     fn drop_out(&mut self) -> Result<(), Failed>
-        ensures files { Becomes after_dropping (Some self.old.mem.told) (Some self.new.mem.told) }
+        ensures files { Becomes after_dropping (Tells self.old.mem.told) (Tells self.new.mem.told) }
         ensures counted { Counts result (failures_of self.old) (failures_of self.new) }
         ensures given { self.new.mem.given ≡ self.old.mem.given }
         ensures named { FailsAsNamed HostCall.DropOut self.old self.new result }

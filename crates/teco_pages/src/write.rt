@@ -30,17 +30,20 @@ pub fn write_all<H: Host>(host: &mut H, bytes: &[u8]) -> Result<(), Fault>
 // Writes two pieces of bytes, one after the other, or with a fault some from their front.
 pub fn write_both<H: Host>(host: &mut H, first: &[u8], second: &[u8]) -> Result<(), Fault>
     ensures answer { OkOrOut result (H.failures host.old) (H.failures host.new) }
-    ensures written { WritesBytes (first.now ++ second.now) result (H.files host.old) (H.files host.new) }
+    ensures written { WritesBytes (first.now ++ second.now) result
+        (H.files host.old) (H.files host.new) }
     ensures given { H.given host.new ≡ H.given host.old }
 {
     write_all(host, first)?;
     write_all(host, second)
 }
 
-// Writes what is read ahead and all that the host has behind it, or with a fault some from the front.
+// Writes what is read ahead and all that the host has behind it, or with a fault some from the
+// front.
 pub fn copy_rest<H: Host>(ahead: &mut Ahead, host: &mut H) -> Result<(), Fault>
     ensures answer { OkOrInOut result (H.failures host.old) (H.failures host.new) }
-    ensures copied { Told (λ files left. Copies result (ahead.old ++ files.unread) (ahead.new ++ left.unread) files left)
+    ensures copied { Told (λ files left. Copies result (ahead.old ++ files.unread)
+        (ahead.new ++ left.unread) files left)
         (H.files host.old) (H.files host.new) }
     ensures ok { OnOk result (ahead.new ≡ []) }
 {

@@ -3,3 +3,4 @@ pub mod Polynomial
 pub mod Text
 pub mod Reading
 pub mod Laws
+pub mod Constants

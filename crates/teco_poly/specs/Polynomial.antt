@@ -71,7 +71,7 @@ in_64_bits n = nat_lt n (2 ^ 64)
 abbrev pub fits : Polynomial → Bool
 fits p = list_all in_64_bits p && list_all (λ c. c == 0) (drop COEFFICIENTS p)
 
--- the same polynomial with nine coefficients, if it fits
+-- a polynomial with nine coefficients, if they suffice
 abbrev pub fitted : Polynomial → Option Polynomial
 fitted p = if fits p then Some (first COEFFICIENTS p) else None
 

@@ -52,7 +52,8 @@ fn scaled(factor: u64, coefficients: &Coefficients) -> Option<Coefficients>
     Some(products)
 }
 
-// The product with N. The last coefficient has no place, so it has to be the 0 that becomes the constant.
+// The product with N. The last coefficient has no place, so it has to be the 0 that becomes the
+// constant.
 fn raised(coefficients: &Coefficients) -> Option<Coefficients>
     ensures { result ≡ poly.fitted (poly.raised coefficients.now) }
 {
@@ -66,7 +67,8 @@ fn raised(coefficients: &Coefficients) -> Option<Coefficients>
 
 // The product of a polynomial with `factor` and N times what another one was multiplied to.
 fn with_term(factor: u64, right: &Coefficients, product: &Coefficients) -> Option<Coefficients>
-    ensures { result ≡ poly.fitted (poly.sum (poly.scaled factor right.now) (poly.raised product.now)) }
+    ensures { result ≡ poly.fitted (poly.sum (poly.scaled factor right.now)
+        (poly.raised product.now)) }
 {
     sum(&scaled(factor, right)?, &raised(product)?)
 }

@@ -1,4 +1,5 @@
-//! Polynomials in N of degree at most 8, with coefficients of 64 bits: by them the verifier bounds sizes and steps.
+//! Polynomials in N of degree at most 8, with coefficients of 64 bits: by them the verifier bounds
+//! sizes and steps.
 #![tactic(auto)]
 
 mod coefficients;

@@ -78,7 +78,7 @@ impl Poly {
         Some(Poly { coefficients })
     }
 
-    /// The same with a constant that is lower by 1, where it is at least 1.
+    /// This polynomial with a constant lower by 1, where that is at least 1.
     pub fn one_less(&self) -> Poly
         ensures { result ≡ poly.one_less self.now }
     {
@@ -94,8 +94,8 @@ impl Poly {
         coefficients::value(&self.coefficients, n)
     }
 
-    /// The greatest `n` of 64 bits at which the value is at most `bound`, `u64::MAX` where it is at each of them; `None` where
-    /// it is at none. It takes 64 values.
+    /// The greatest `n` of 64 bits at which the value is at most `bound`, `u64::MAX` where it is at
+    /// each of them; `None` where it is at none. It takes 64 values.
     pub fn greatest_within(&self, bound: u64) -> Option<u64>
         ensures greatest { IfSome result (λ n. poly.IsGreatest self.now bound n) }
         ensures none { result ≡ None → (n : ℕ) → bound < poly.value self.now n }

@@ -1,5 +1,5 @@
-// Worked polynomials, taken from the grammar and from sums and products by hand. A call that is refused memory is made
-// once more, so that the rows also hold where one allocation fails.
+// Worked polynomials, taken from the grammar and from sums and products by hand. A call that is
+// refused memory is made once more, so that the rows also hold where one allocation fails.
 use crate::Poly;
 use std::alloc::Global;
 use std::process::Abort;
@@ -178,7 +178,8 @@ fn compares_and_joins(rt: HostRuntime) {
     }
 }
 
-// A constant is within a bound everywhere or nowhere; the size of a macro that triples what is held, and its square.
+// A constant is within a bound everywhere or nowhere; the size of a macro that triples what is
+// held, and its square.
 #[test]
 fn greatest_is_within(rt: HostRuntime) {
     for (coefficients, bound, greatest) in [

@@ -103,12 +103,13 @@ pub fn number_at(text: &[u8]) -> Option<(u64, &[u8])>
     Some((number, rest))
 }
 
-// The coefficient at the front of a term of a power above 0, with its `*`, and what comes behind. A coefficient of 1 is
-// not written.
+// The coefficient at the front of a term of a power above 0, with its `*`, and what comes behind. A
+// coefficient of 1 is not written.
 fn factor_at(text: &[u8], power: usize) -> Option<(u64, &[u8])>
     requires { 0 < power }
     ensures found { IfSome result (λ r. IsCoefficientAt text.now power r.0 r.1.now) }
-    ensures none { IfNone result ((c : ℕ) (rest : List ℕ) → IsCoefficientAt text.now power c rest → ⊥) }
+    ensures none { IfNone result ((c : ℕ) (rest : List ℕ)
+        → IsCoefficientAt text.now power c rest → ⊥) }
 {
     if digit_count(text) == 0 {
         return Some((1, text));
@@ -124,7 +125,8 @@ fn factor_at(text: &[u8], power: usize) -> Option<(u64, &[u8])>
 // The coefficient at the front of a term, and what comes behind.
 fn coefficient_at(text: &[u8], power: usize) -> Option<(u64, &[u8])>
     ensures found { IfSome result (λ r. IsCoefficientAt text.now power r.0 r.1.now) }
-    ensures none { IfNone result ((c : ℕ) (rest : List ℕ) → IsCoefficientAt text.now power c rest → ⊥) }
+    ensures none { IfNone result ((c : ℕ) (rest : List ℕ)
+        → IsCoefficientAt text.now power c rest → ⊥) }
 {
     if power == 0 {
         number_at(text)
@@ -157,19 +159,21 @@ fn term_at(text: &[u8], power: usize) -> Option<(u64, &[u8])>
     Some((coefficient, rest))
 }
 
-// The coefficient of the term of a power that stands behind `lead` at the front of a text, and what comes behind.
+// The coefficient of the term of a power that stands behind `lead` at the front of a text, and what
+// comes behind.
 fn led_term_at<'a>(text: &'a [u8], power: usize, lead: &[u8]) -> Option<(u64, &'a [u8])>
     requires { power < COEFFICIENTS }
     ensures found { IfSome result (λ r. IsLedTermAt text.now lead.now power r.0 r.1.now) }
-    ensures none { IfNone result ((c : ℕ) (rest : List ℕ) → IsLedTermAt text.now lead.now power c rest → ⊥) }
+    ensures none { IfNone result ((c : ℕ) (rest : List ℕ)
+        → IsLedTermAt text.now lead.now power c rest → ⊥) }
 {
     let led = text.strip_prefix(lead)?;
     let (coefficient, rest) = term_at(led, power)?;
     Some((coefficient, rest))
 }
 
-// The coefficient of a power, 0 where its term does not stand at the front of a text; what comes behind; and what leads
-// the next term.
+// The coefficient of a power, 0 where its term does not stand at the front of a text; what comes
+// behind; and what leads the next term.
 fn next_at<'a>(text: &'a [u8], power: usize, lead: &'a [u8]) -> (u64, &'a [u8], &'a [u8])
     requires { power < COEFFICIENTS }
     ensures { IsNextAt text.now lead.now power result.0 result.1.now result.2.now }
@@ -183,7 +187,8 @@ fn next_at<'a>(text: &'a [u8], power: usize, lead: &'a [u8]) -> (u64, &'a [u8], 
 // The coefficients from a power on whose terms, the first behind `lead`, are the text.
 fn read_from(text: &[u8], power: usize, lead: &[u8]) -> Option<Coefficients>
     requires { power ≤ COEFFICIENTS }
-    ensures found { IfSome result (λ p. IsPoly p × (text.now ≡ joined lead.now (terms_from power (drop power p)))) }
+    ensures found { IfSome result (λ p. IsPoly p
+        × (text.now ≡ joined lead.now (terms_from power (drop power p)))) }
     ensures none { IfNone result ((p : List ℕ) → power + length p ≡ COEFFICIENTS → AreSmall p
         → text.now ≡ joined lead.now (terms_from power p) → ⊥) }
 {

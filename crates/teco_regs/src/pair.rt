@@ -1,7 +1,7 @@
 // What a register holds.
 ghost use Rattle.std.specs.Prelude.{◌≡◌, ◌+◌, ◌<◌, ◌^◌, ◌++◌, length, OnOk, OnErr, vec_len};
 ghost use Rattle.teco_model.specs.Registers.{IsWithinLimit, empty_pair};
-ghost use Rattle.teco_model.specs.Whole.{IsWholePair};
+ghost use Rattle.teco_model.specs.laws.Whole.{IsWholePair};
 
 use std::alloc::{AllocError, Global};
 use std::marker::Model;
@@ -23,7 +23,8 @@ impl Model for Pair {
 }
 
 impl Pair {
-    // The pair of a register of a new machine. It takes no memory; its text's memory will come from `alloc`.
+    // The pair of a register of a new machine. It takes no memory; its text's memory will come from
+    // `alloc`.
     pub fn new(alloc: Global) -> Pair
         ensures { result ≡ empty_pair }
     {

@@ -4,7 +4,7 @@ ghost use Rattle.std.specs.List.{AllByRecursion};
 ghost use Rattle.teco_base.specs.declared.TheConstants.{LIMIT};
 ghost use Rattle.teco_model.specs.Registers.{AreWhole, IsWithinLimit, empty_registers, pair_of, with_number, with_text, with_own_text, with_texts, registers_after_push, registers_after_pop, held_length_of_pair, held_length_of_registers};
 ghost use Rattle.teco_model.specs.Registers as model;
-ghost use Rattle.teco_model.specs.Whole.{AreWholePairs, IsWholePair};
+ghost use Rattle.teco_model.specs.laws.Whole.{AreWholePairs, IsWholePair};
 ghost use Rattle.teco_regs.specs.Answers.{OkWithin, OkWhereNonEmpty, OkUnlessMemory};
 ghost use Rattle.teco_regs.specs.Texts.{IsTextWithinLimit, handed, owned};
 
@@ -37,8 +37,8 @@ impl Model for Regs {
 }
 
 impl Regs {
-    /// The registers of a new machine: every number 0, and every text empty. They have taken no memory yet; it will come
-    /// from `alloc`.
+    /// The registers of a new machine: every number 0, and every text empty. They have taken no
+    /// memory yet; it will come from `alloc`.
     #[tactic(auto, using(crate::proofs::Whole::whole_made))]
     pub fn new(alloc: Global) -> Regs
         ensures { result ≡ empty_registers }
@@ -58,7 +58,8 @@ impl Regs {
         &self.pairs[reg.index()]
     }
 
-    /// What always holds: there are 36 registers, numbers fit 32 bits, and texts are of bytes and not too long.
+    /// What always holds: there are 36 registers, numbers fit 32 bits, and texts are of bytes and
+    /// not too long.
     pub fn is_whole(&self)
         ensures { AreWholePairs self.now }
     {
@@ -121,8 +122,8 @@ impl Regs {
         Ok(())
     }
 
-    /// Sets the text of the register to two pieces, one after the other. Memory is wanted only where they are longer together
-    /// than the text before.
+    /// Sets the text of the register to two pieces, one after the other. Memory is wanted only
+    /// where they are longer together than the text before.
     pub fn set_pieces(&mut self, reg: Reg, first: &[u8], second: &[u8]) -> Result<(), RegFault>
         ensures answer { OkWithin result
             (length (first.now ++ second.now)) (length (pair_of reg self.old).text) }
@@ -163,8 +164,8 @@ impl Regs {
         pair.text = text;
     }
 
-    /// Sets the texts that are handed in, each in its register's place, `A` to `Z` and then `0` to `9`; the others, the
-    /// numbers and the push-down list stay. All of them are set, or none.
+    /// Sets the texts that are handed in, each in its register's place, `A` to `Z` and then `0` to
+    /// `9`; the others, the numbers and the push-down list stay. All of them are set, or none.
     pub fn load(&mut self, texts: &[Option<&[u8]>; REGISTERS]) -> Result<(), AllocError>
         requires { All IsTextWithinLimit texts.now }
         ensures loaded { OnOk result (self.new ≡ with_texts (handed texts.now) self.old) }
@@ -235,7 +236,8 @@ fn copies_of(alloc: Global, texts: &[Option<&[u8]>]) -> Result<Vec<Option<Vec<u8
 // Moves texts into pairs, each in its place. It takes no memory.
 fn put_texts(pairs: &mut [Pair], texts: Vec<Option<Vec<u8>>>)
     requires { vec_len texts ≡ length pairs.old }
-    ensures { pairs.new ≡ map (λ own. with_own_text own.0 own.1) (zip (owned texts.items) pairs.old) }
+    ensures { pairs.new ≡ map (λ own. with_own_text own.0 own.1)
+        (zip (owned texts.items) pairs.old) }
 {
     for (i, text) in texts.into_iter().enumerate() {
         if let Some(own) = text {

@@ -25,28 +25,28 @@ use Rattle.teco_run.specs.Frames.{state_of}
 use Rattle.teco_run.specs.Holdings.{beside}
 use Rattle.teco_run.specs.Seeks.{Seeks, with_search_text, miss_outcome}
 use Rattle.teco_run.specs.declared.way.Way.{Way}
-use Rattle.teco_search.specs.Searches.{Searches}
-use Rattle.teco_step.specs.declared.stuck.Stuck.{Stuck}
-use Rattle.teco_step.specs.declared.stuck.Stuck.TheVariants as stuck
+use Rattle.teco_editor.specs.Searches.{Searches}
+use Rattle.teco_editor.specs.declared.stuck.Stuck.{Stuck}
+use Rattle.teco_editor.specs.declared.stuck.Stuck.TheVariants as stuck
 
 -- a code that may come late, as it is told
-utc-late : (callers : List Frame) (world : World) → MayGiveWay (kind.Search search_kind.Find) (Fail (code_in callers code.Utc) world)
+utc-late : (callers : List Frame) (world : World) → MayGiveWay (kind.Search search_kind.Find) true (Fail (code_in callers code.Utc) world)
 utc-late [] world = refl
 utc-late (caller ∷ callers) world = refl
 
-pub full-late : (callers : List Frame) (world : World) → MayGiveWay (kind.Search search_kind.Find) (Fail (code_in callers code.Ful) world)
+pub full-late : (callers : List Frame) (world : World) → MayGiveWay (kind.Search search_kind.Find) true (Fail (code_in callers code.Ful) world)
 full-late [] world = refl
 full-late (caller ∷ callers) world = refl
 
-pub leaving-late : (s : State) (stays missed : World) (to : Option ℕ) (turn : ℕ → Turn) → MayGiveWay (kind.Search search_kind.Find) (model.leaving_outcome stays missed s (ok_or to code.Utc >>= (λ place. Ok (turn place))))
+pub leaving-late : (s : State) (stays missed : World) (to : Option ℕ) (turn : ℕ → Turn) → MayGiveWay (kind.Search search_kind.Find) true (model.leaving_outcome stays missed s (ok_or to code.Utc >>= (λ place. Ok (turn place))))
 leaving-late s stays missed (Some place) turn = refl
 leaving-late s stays missed None turn = utc-late s.frames.callers stays
 
-pub missed-late : (e : Element) (s : State) (stays missed : World) (loops : List Loop) → MayGiveWay (kind.Search search_kind.Find) (model.missed_outcome e stays missed s loops)
+pub missed-late : (e : Element) (s : State) (stays missed : World) (loops : List Loop) → MayGiveWay (kind.Search search_kind.Find) true (model.missed_outcome e stays missed s loops)
 missed-late e s stays missed [] = refl
 missed-late e s stays missed (loop ∷ outer) = leaving-late s stays missed (skip_of s.frames.running.text (Whole e)).to _
 
-outcome-late : (e : Element) (s : State) (colon : Bool) (r : Result Finding Code) → IsOk r ⊎ (r ≡ Err code.Ful) → MayGiveWay (kind.Search search_kind.Find) (model.search_outcome colon e s r)
+outcome-late : (e : Element) (s : State) (colon : Bool) (r : Result Finding Code) → IsOk r ⊎ (r ≡ Err code.Ful) → MayGiveWay (kind.Search search_kind.Find) true (model.search_outcome colon e s r)
 outcome-late e s colon (Ok (Found kept)) h = refl
 outcome-late e s true (Ok (Missed kept)) h = refl
 outcome-late e s false (Ok (Missed kept)) h = missed-late e s _ _ s.frames.running.loops

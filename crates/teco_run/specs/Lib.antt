@@ -10,7 +10,6 @@ pub mod Performs
 pub mod Bodies
 pub mod Frames
 pub mod Holdings
-pub mod Counts
 pub mod Courses
 pub mod Executions
 pub mod Outside

@@ -8,12 +8,12 @@ use Rattle.teco_model.specs.State.{World}
 use Rattle.teco_model.specs.declared.stop.HostFault.TheVariants as host_fault
 use Rattle.teco_model.specs.declared.stop.Stop.{Stop}
 use Rattle.teco_model.specs.declared.stop.Stop.TheVariants as stop
-use Rattle.teco_paging.specs.Worlds.{is_some_byte}
-use Rattle.teco_paging.specs.declared.halt.Halt.{Halt}
-use Rattle.teco_run.specs.Counts.{StopCounts}
+use Rattle.teco_filing.specs.Worlds.{is_some_byte}
+use Rattle.teco_filing.specs.declared.halt.Halt.{Halt}
+use Rattle.teco_model.specs.Run.{StopCounts}
 use Rattle.teco_run.specs.Stopped.{stop_of}
 
--- It is told, or the next page is too long, or memory was wanted, or the host failed; and all is as it was.
+-- Whether input is unread is told, or the next page is too long, or memory was wanted, or the host failed; and all is as it was.
 abbrev pub TellsIfUnread : World → World → Result Bool Stop → Type 0
 TellsIfUnread old new (Ok some) = (some ≡ is_some_byte (unread old.files)) × (new ≡ old)
 TellsIfUnread old new (Err (stop.Error c)) =

@@ -3,19 +3,18 @@ ghost use Rattle.std.specs.Prelude.{◌≡◌, ◌≤◌, pos, neg_ℤ, false};
 ghost use Rattle.teco_base.specs.declared.TheConstants.{LIMIT};
 ghost use Rattle.teco_model.specs.Step as model;
 ghost use Rattle.teco_model.specs.Arguments.{with_level, level_with, level_with_pair};
-ghost use Rattle.teco_model.specs.Memory.{grows};
-ghost use Rattle.teco_model.specs.declared.kind.Kind.TheVariants as kind;
+ghost use Rattle.teco_model.specs.Memory.{argument_grows};
 ghost use Rattle.teco_run.specs.Performs.{Argues};
 
 use teco_base::arithmetic;
+use teco_editor::{Editor, Stuck};
 use teco_expr::Args;
 use teco_model::kind::{Argument, Value};
-use teco_step::{Editor, Stuck};
 use teco_text::TextStore;
 
 /// Changes the arguments as an element of this kind does.
 pub fn argue(argument: Argument, text: &[u8], arguments: &mut Args) -> Result<(), Stuck>
-    ensures { Argues (grows (kind.Argument argument)) arguments.new
+    ensures { Argues (argument_grows argument) arguments.new
         (model.levels_after argument text.now arguments.old) result }
 {
     match argument {

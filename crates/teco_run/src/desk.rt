@@ -2,12 +2,13 @@
 
 use std::alloc::Global;
 use std::marker::Model;
+use teco_editor::Editor;
 use teco_find::LastPattern;
 use teco_pages::Pages;
-use teco_step::Editor;
 use teco_text::TextStore;
 
-/// What elements work on: the editor, what it has open, and the pattern of the last search. Further memory comes from `alloc`.
+/// What elements work on: the editor, what it has open, and the pattern of the last search. Further
+/// memory comes from `alloc`.
 #[derive(Drop)]
 pub struct Desk<T: TextStore> {
     pub editor: Editor<T>,

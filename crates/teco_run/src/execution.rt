@@ -43,7 +43,7 @@ impl Execution<'_> {
 /// What one step came to.
 #[derive(Clone, Copy)]
 pub enum Progress {
-    /// It was done, and the next may be.
+    /// The step was done, and the next may be.
     On,
     /// The end of the command string.
     Ended,

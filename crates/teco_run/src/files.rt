@@ -1,17 +1,19 @@
 //! The elements that open and close files.
-ghost use Rattle.std.specs.Prelude.{◌≡◌, false, IfOk, Ok, Err, MatchResult};
+ghost use Rattle.std.specs.Prelude.{◌≡◌, true, false, IfOk, Ok, Err, MatchResult};
 ghost use Rattle.teco_model.specs.Element.{seen};
 ghost use Rattle.teco_model.specs.Filing as filing;
+ghost use Rattle.teco_model.specs.Memory.{file_grows};
 ghost use Rattle.teco_model.specs.Outside.{file_outcome, opened_outcome, world_outcome};
+ghost use Rattle.teco_model.specs.State.{Exit};
 ghost use Rattle.teco_model.specs.declared.kind.Kind.TheVariants as kind;
 ghost use Rattle.teco_model.specs.declared.kind.File.TheVariants as file;
-ghost use Rattle.teco_paging.specs.Halts.{Counts};
+ghost use Rattle.teco_filing.specs.Halts.{Counts};
 ghost use Rattle.teco_run.specs.Courses.{CourseFits, Heads, may_grow};
 ghost use Rattle.teco_run.specs.Holdings.{Joined};
+ghost use Rattle.teco_run.specs.Outside.{Leads, carried_out};
 ghost use Rattle.teco_run.specs.Pending.{at};
-ghost use Rattle.teco_run.specs.Outside.{Leads};
-ghost use Rattle.teco_run.specs.declared.course.Course.TheVariants as course;
 ghost use Rattle.teco_run.specs.Ways.{IsRead, FitsIn, is_into};
+ghost use Rattle.teco_run.specs.declared.course.Course.TheVariants as course;
 
 use crate::course::Course;
 use crate::desk::Desk;
@@ -20,14 +22,14 @@ use crate::outside::{behind, taken};
 use crate::pending::Pending;
 use crate::way::Way;
 use teco_expr::Args;
+use teco_filing::{self as paging, Halt};
 use teco_model::Element;
 use teco_model::kind::File;
 use teco_pages::Host;
-use teco_paging::{self as paging, Halt};
 use teco_text::TextStore;
 
 // `ER` opens the file of a name as the input.
-fn read_file<T: TextStore, H: Host>(
+fn read<T: TextStore, H: Host>(
     desk: &mut Desk<T>,
     element: &Element<'_>,
     frames: &Frames<'_>,
@@ -35,7 +37,7 @@ fn read_file<T: TextStore, H: Host>(
     host: &mut H,
 ) -> Result<Way, Halt>
     requires { IsRead element.now frames.now }
-    ensures leads { Joined (λ old new. Leads (kind.File file.Read) frames.now pending.new
+    ensures leads { Joined (λ old new. Leads (kind.File file.Read) true frames.now pending.new
         (opened_outcome (seen element.now) (at frames.now pending.old old) (filing.open_input (seen element.now).text old)) old new result)
         desk.old desk.new (H.files host.old) (H.files host.new) }
     ensures counted { Counts result (H.failures host.old) (H.failures host.new) }
@@ -46,28 +48,8 @@ fn read_file<T: TextStore, H: Host>(
     behind(done, element.next)
 }
 
-// It drops its arguments.
-fn read<T: TextStore, H: Host>(
-    desk: &mut Desk<T>,
-    element: &Element<'_>,
-    frames: &Frames<'_>,
-    pending: &mut Pending,
-    host: &mut H,
-) -> Result<Way, Halt>
-    requires { IsRead element.now frames.now }
-    ensures leads { Joined (λ old new. Leads (kind.File file.Read) frames.now pending.new
-        (file_outcome file.Read (seen element.now) (at frames.now pending.old old)) old new result)
-        desk.old desk.new (H.files host.old) (H.files host.new) }
-    ensures counted { Counts result (H.failures host.old) (H.failures host.new) }
-    ensures fits { IfOk result (FitsIn frames.now.running) }
-    ensures out { IfOk result (λ way. is_into way ≡ false) }
-{
-    taken(&mut pending.arguments)?;
-    read_file(desk, element, frames, pending, host)
-}
-
 // `EW` opens an output of a name.
-fn write_file<T: TextStore, H: Host>(
+fn write<T: TextStore, H: Host>(
     desk: &mut Desk<T>,
     element: &Element<'_>,
     frames: &Frames<'_>,
@@ -75,7 +57,7 @@ fn write_file<T: TextStore, H: Host>(
     host: &mut H,
 ) -> Result<Way, Halt>
     requires { IsRead element.now frames.now }
-    ensures leads { Joined (λ old new. Leads (kind.File file.Write) frames.now pending.new
+    ensures leads { Joined (λ old new. Leads (kind.File file.Write) true frames.now pending.new
         (world_outcome (seen element.now) (at frames.now pending.old old) (filing.open_output (seen element.now).text old)) old new result)
         desk.old desk.new (H.files host.old) (H.files host.new) }
     ensures counted { Counts result (H.failures host.old) (H.failures host.new) }
@@ -86,28 +68,8 @@ fn write_file<T: TextStore, H: Host>(
     behind(done, element.next)
 }
 
-// It drops its arguments.
-fn write<T: TextStore, H: Host>(
-    desk: &mut Desk<T>,
-    element: &Element<'_>,
-    frames: &Frames<'_>,
-    pending: &mut Pending,
-    host: &mut H,
-) -> Result<Way, Halt>
-    requires { IsRead element.now frames.now }
-    ensures leads { Joined (λ old new. Leads (kind.File file.Write) frames.now pending.new
-        (file_outcome file.Write (seen element.now) (at frames.now pending.old old)) old new result)
-        desk.old desk.new (H.files host.old) (H.files host.new) }
-    ensures counted { Counts result (H.failures host.old) (H.failures host.new) }
-    ensures fits { IfOk result (FitsIn frames.now.running) }
-    ensures out { IfOk result (λ way. is_into way ≡ false) }
-{
-    taken(&mut pending.arguments)?;
-    write_file(desk, element, frames, pending, host)
-}
-
 // `EF` closes the output, which takes its name.
-fn close_file<T: TextStore, H: Host>(
+fn close<T: TextStore, H: Host>(
     desk: &mut Desk<T>,
     element: &Element<'_>,
     frames: &Frames<'_>,
@@ -115,7 +77,7 @@ fn close_file<T: TextStore, H: Host>(
     host: &mut H,
 ) -> Result<Way, Halt>
     requires { IsRead element.now frames.now }
-    ensures leads { Joined (λ old new. Leads (kind.File file.Close) frames.now pending.new
+    ensures leads { Joined (λ old new. Leads (kind.File file.Close) false frames.now pending.new
         (world_outcome (seen element.now) (at frames.now pending.old old) (filing.close_output old)) old new result)
         desk.old desk.new (H.files host.old) (H.files host.new) }
     ensures counted { Counts result (H.failures host.old) (H.failures host.new) }
@@ -126,28 +88,8 @@ fn close_file<T: TextStore, H: Host>(
     behind(done, element.next)
 }
 
-// It drops its arguments.
-fn close<T: TextStore, H: Host>(
-    desk: &mut Desk<T>,
-    element: &Element<'_>,
-    frames: &Frames<'_>,
-    pending: &mut Pending,
-    host: &mut H,
-) -> Result<Way, Halt>
-    requires { IsRead element.now frames.now }
-    ensures leads { Joined (λ old new. Leads (kind.File file.Close) frames.now pending.new
-        (file_outcome file.Close (seen element.now) (at frames.now pending.old old)) old new result)
-        desk.old desk.new (H.files host.old) (H.files host.new) }
-    ensures counted { Counts result (H.failures host.old) (H.failures host.new) }
-    ensures fits { IfOk result (FitsIn frames.now.running) }
-    ensures out { IfOk result (λ way. is_into way ≡ false) }
-{
-    taken(&mut pending.arguments)?;
-    close_file(desk, element, frames, pending, host)
-}
-
 // `EK` abandons the output.
-fn abandon_file<T: TextStore, H: Host>(
+fn abandon<T: TextStore, H: Host>(
     desk: &mut Desk<T>,
     element: &Element<'_>,
     frames: &Frames<'_>,
@@ -155,7 +97,7 @@ fn abandon_file<T: TextStore, H: Host>(
     host: &mut H,
 ) -> Result<Way, Halt>
     requires { IsRead element.now frames.now }
-    ensures leads { Joined (λ old new. Leads (kind.File file.Abandon) frames.now pending.new
+    ensures leads { Joined (λ old new. Leads (kind.File file.Abandon) false frames.now pending.new
         (world_outcome (seen element.now) (at frames.now pending.old old) (Ok (filing.abandon_output old))) old new result)
         desk.old desk.new (H.files host.old) (H.files host.new) }
     ensures counted { Counts result (H.failures host.old) (H.failures host.new) }
@@ -166,28 +108,8 @@ fn abandon_file<T: TextStore, H: Host>(
     behind(done, element.next)
 }
 
-// It drops its arguments.
-fn abandon<T: TextStore, H: Host>(
-    desk: &mut Desk<T>,
-    element: &Element<'_>,
-    frames: &Frames<'_>,
-    pending: &mut Pending,
-    host: &mut H,
-) -> Result<Way, Halt>
-    requires { IsRead element.now frames.now }
-    ensures leads { Joined (λ old new. Leads (kind.File file.Abandon) frames.now pending.new
-        (file_outcome file.Abandon (seen element.now) (at frames.now pending.old old)) old new result)
-        desk.old desk.new (H.files host.old) (H.files host.new) }
-    ensures counted { Counts result (H.failures host.old) (H.failures host.new) }
-    ensures fits { IfOk result (FitsIn frames.now.running) }
-    ensures out { IfOk result (λ way. is_into way ≡ false) }
-{
-    taken(&mut pending.arguments)?;
-    abandon_file(desk, element, frames, pending, host)
-}
-
 // `EC` copies all that is left, and closes both files.
-fn copy_file<T: TextStore, H: Host>(
+fn copy<T: TextStore, H: Host>(
     desk: &mut Desk<T>,
     element: &Element<'_>,
     frames: &Frames<'_>,
@@ -195,7 +117,7 @@ fn copy_file<T: TextStore, H: Host>(
     host: &mut H,
 ) -> Result<Way, Halt>
     requires { IsRead element.now frames.now }
-    ensures leads { Joined (λ old new. Leads (kind.File file.Copy) frames.now pending.new
+    ensures leads { Joined (λ old new. Leads (kind.File file.Copy) false frames.now pending.new
         (world_outcome (seen element.now) (at frames.now pending.old old) (filing.copy_all old)) old new result)
         desk.old desk.new (H.files host.old) (H.files host.new) }
     ensures counted { Counts result (H.failures host.old) (H.failures host.new) }
@@ -206,26 +128,6 @@ fn copy_file<T: TextStore, H: Host>(
     behind(done, element.next)
 }
 
-// It drops its arguments.
-fn copy<T: TextStore, H: Host>(
-    desk: &mut Desk<T>,
-    element: &Element<'_>,
-    frames: &Frames<'_>,
-    pending: &mut Pending,
-    host: &mut H,
-) -> Result<Way, Halt>
-    requires { IsRead element.now frames.now }
-    ensures leads { Joined (λ old new. Leads (kind.File file.Copy) frames.now pending.new
-        (file_outcome file.Copy (seen element.now) (at frames.now pending.old old)) old new result)
-        desk.old desk.new (H.files host.old) (H.files host.new) }
-    ensures counted { Counts result (H.failures host.old) (H.failures host.new) }
-    ensures fits { IfOk result (FitsIn frames.now.running) }
-    ensures out { IfOk result (λ way. is_into way ≡ false) }
-{
-    taken(&mut pending.arguments)?;
-    copy_file(desk, element, frames, pending, host)
-}
-
 // `EX` does what `EC` does where an output is open, and ends the session.
 fn exit<T: TextStore, H: Host>(
     desk: &mut Desk<T>,
@@ -234,14 +136,14 @@ fn exit<T: TextStore, H: Host>(
     pending: &mut Pending,
     host: &mut H,
 ) -> Result<Course, Halt>
-    ensures heads { Joined (λ old new. Heads (kind.File file.Exit) element.now.next frames.now pending.new
-        (file_outcome file.Exit (seen element.now) (at frames.now pending.old old)) old new result)
+    ensures heads { Joined (λ old new. Heads (kind.File file.Exit) false
+        element.now.next frames.now pending.new
+        (Exit (filing.exit old)) old new result)
         desk.old desk.new (H.files host.old) (H.files host.new) }
     ensures counted { Counts result (H.failures host.old) (H.failures host.new) }
     ensures fits { IfOk result (CourseFits frames.now.running) }
     ensures no_growth { IfOk result (λ course. may_grow course ≡ false) }
 {
-    taken(&mut pending.arguments)?;
     paging::exit(&mut desk.editor, &mut desk.pages, host)?;
     Ok(Course::Exit)
 }
@@ -256,9 +158,8 @@ pub fn along(found: Result<Way, Halt>) -> Result<Course, Halt>
     }
 }
 
-/// A command of files.
-#[inline(never)]
-pub fn use_file<T: TextStore, H: Host>(
+// A command of files behind its arguments.
+fn carry_out<T: TextStore, H: Host>(
     desk: &mut Desk<T>,
     file: File,
     element: &Element<'_>,
@@ -267,8 +168,9 @@ pub fn use_file<T: TextStore, H: Host>(
     host: &mut H,
 ) -> Result<Course, Halt>
     requires { IsRead element.now frames.now }
-    ensures heads { Joined (λ old new. Heads (kind.File file) element.now.next frames.now pending.new
-        (file_outcome file (seen element.now) (at frames.now pending.old old)) old new result)
+    ensures heads { Joined (λ old new. Heads (kind.File file) (file_grows file)
+        element.now.next frames.now pending.new
+        (carried_out file (seen element.now) (at frames.now pending.old old)) old new result)
         desk.old desk.new (H.files host.old) (H.files host.new) }
     ensures counted { Counts result (H.failures host.old) (H.failures host.new) }
     ensures fits { IfOk result (CourseFits frames.now.running) }
@@ -282,4 +184,27 @@ pub fn use_file<T: TextStore, H: Host>(
         File::Copy => along(copy(desk, element, frames, pending, host)),
         File::Exit => exit(desk, element, frames, pending, host),
     }
+}
+
+/// A command of files, which drops its arguments.
+#[inline(never)]
+pub fn use_file<T: TextStore, H: Host>(
+    desk: &mut Desk<T>,
+    file: File,
+    element: &Element<'_>,
+    frames: &Frames<'_>,
+    pending: &mut Pending,
+    host: &mut H,
+) -> Result<Course, Halt>
+    requires { IsRead element.now frames.now }
+    ensures heads { Joined (λ old new. Heads (kind.File file) (file_grows file)
+        element.now.next frames.now pending.new
+        (file_outcome file (seen element.now) (at frames.now pending.old old)) old new result)
+        desk.old desk.new (H.files host.old) (H.files host.new) }
+    ensures counted { Counts result (H.failures host.old) (H.failures host.new) }
+    ensures fits { IfOk result (CourseFits frames.now.running) }
+    ensures no_growth { IfOk result (λ course. may_grow course ≡ false) }
+{
+    taken(&mut pending.arguments)?;
+    carry_out(desk, file, element, frames, pending, host)
 }

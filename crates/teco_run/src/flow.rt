@@ -4,19 +4,18 @@ ghost use Rattle.teco_model.specs.Arguments.{no_arguments};
 ghost use Rattle.teco_model.specs.Condition as condition;
 ghost use Rattle.teco_model.specs.Element.{seen};
 ghost use Rattle.teco_model.specs.Flow as model;
-ghost use Rattle.teco_model.specs.Memory.{grows};
+ghost use Rattle.teco_model.specs.Memory.{flow_grows, taken_at};
 ghost use Rattle.teco_model.specs.declared.kind.Flow.TheVariants as flow_kind;
-ghost use Rattle.teco_model.specs.declared.kind.Kind.TheVariants as kind;
 ghost use Rattle.teco_run.specs.Ways.{IsRead, Goes, GoesAlways, Turns, FitsIn, is_into};
 
 use crate::frames::Frames;
 use crate::way::{self, Way};
 use teco_base::Code;
 use teco_base::bytes::{is_digit, is_letter, is_letter_or_digit, is_lower, is_symbol, is_upper};
+use teco_editor::Stuck;
 use teco_expr::Args;
 use teco_model::kind::{Flow, Goal, Test};
 use teco_model::{Element, Loop};
-use teco_step::Stuck;
 
 /// The way that the skip of an element leads; `code` where it leads nowhere.
 #[inline(always)]
@@ -77,6 +76,8 @@ fn iterate(element: &Element<'_>, frames: &Frames<'_>, n: Option<i32>) -> Result
     ensures way { GoesAlways frames.now.running (λ arguments.
         model.iteration (seen element.now) n arguments frames.now.running) result }
     ensures fits { IfOk result (FitsIn frames.now.running) }
+    ensures into { IfOk result (λ way. IsTrue (is_into way)
+        → IsTrue (flow_grows flow_kind.Iterate n)) }
 {
     let start = element.next;
     let Some(n) = n else {
@@ -198,7 +199,8 @@ pub fn turn(
     ensures way { Turns frames.now.running arguments.new
         (model.turn_of flow (seen element.now) arguments.old frames.now.running) result }
     ensures fits { IfOk result (FitsIn frames.now.running) }
-    ensures into { IfOk result (λ way. IsTrue (is_into way) → IsTrue (grows (kind.Flow flow))) }
+    ensures into { IfOk result (λ way. IsTrue (is_into way)
+        → IsTrue (flow_grows flow (taken_at arguments.old.level).value)) }
 {
     match flow {
         Flow::Iterate => {

@@ -5,7 +5,7 @@ ghost use Rattle.teco_model.specs.Paging as paging;
 ghost use Rattle.teco_model.specs.Searching as model;
 ghost use Rattle.teco_model.specs.declared.kind.Kind.TheVariants as kind;
 ghost use Rattle.teco_model.specs.declared.kind.Search.TheVariants as search_kind;
-ghost use Rattle.teco_paging.specs.Halts.{Counts};
+ghost use Rattle.teco_filing.specs.Halts.{Counts};
 ghost use Rattle.teco_run.specs.Holdings.{Joined};
 ghost use Rattle.teco_run.specs.Pending.{at};
 ghost use Rattle.teco_run.specs.Outside.{Leads, turned_page};
@@ -16,15 +16,15 @@ use crate::flow::jump;
 use crate::frames::Frames;
 use crate::outside::{count, need_output, settled, taken};
 use crate::pending::Pending;
-use crate::seek::{MESSAGE, has_colon, seek};
+use crate::seek::{MESSAGE, answer_match, has_colon, seek};
 use crate::way::{self, Way};
 use teco_base::Code;
+use teco_editor::look;
 use teco_expr::Args;
+use teco_filing::{Halt, has_unread, look_through, turn_page};
 use teco_model::Element;
 use teco_model::kind::Search;
 use teco_pages::Host;
-use teco_paging::{Halt, has_unread, look_through, turn_page};
-use teco_search::look;
 use teco_text::TextStore;
 
 // No page is left. The buffer is written and becomes empty, and with a colon the answer is 0.
@@ -38,7 +38,8 @@ fn answer_none<T: TextStore, H: Host>(
 ) -> Result<Way, Halt>
     requires read { IsRead element.now frames.now }
     requires output { IsSome desk.old.held.output }
-    ensures leads { Joined (λ old new. Leads (kind.Search search_kind.FindInPages) frames.now pending.new
+    ensures leads { Joined (λ old new. Leads (kind.Search search_kind.FindInPages)
+        true frames.now pending.new
         (model.looked_outcome true (seen element.now) (at frames.now pending.old old)
         (Ok (paging.Through (paging.world_seeking text.now old)))) old new result)
         desk.old desk.new (H.files host.old) (H.files host.new) }
@@ -52,8 +53,8 @@ fn answer_none<T: TextStore, H: Host>(
     Ok(way::to(element.next))
 }
 
-// No page is left, and there is no colon: it leaves its iteration with a message. Where its end is missing that is a code, and
-// outside an iteration the miss is one.
+// No page is left, and there is no colon: it leaves its iteration with a message. Where its end is
+// missing that is a code, and outside an iteration the miss is one.
 fn leave_none<T: TextStore, H: Host>(
     desk: &mut Desk<T>,
     text: &[u8],
@@ -64,7 +65,8 @@ fn leave_none<T: TextStore, H: Host>(
 ) -> Result<Way, Halt>
     requires read { IsRead element.now frames.now }
     requires output { IsSome desk.old.held.output }
-    ensures leads { Joined (λ old new. Leads (kind.Search search_kind.FindInPages) frames.now pending.new
+    ensures leads { Joined (λ old new. Leads (kind.Search search_kind.FindInPages)
+        true frames.now pending.new
         (model.looked_outcome false (seen element.now) (at frames.now pending.old old)
         (Ok (paging.Through (paging.world_seeking text.now old)))) old new result)
         desk.old desk.new (H.files host.old) (H.files host.new) }
@@ -103,7 +105,8 @@ fn turn_to_next<T: TextStore, H: Host>(
     requires read { IsRead element.now frames.now }
     requires some { 1 ≤ wanted }
     requires output { IsSome desk.old.held.output }
-    ensures leads { (colon : Bool) → Joined (λ old new. Leads (kind.Search search_kind.FindInPages) frames.now pending.new
+    ensures leads { (colon : Bool) → Joined
+        (λ old new. Leads (kind.Search search_kind.FindInPages) true frames.now pending.new
         (model.looked_outcome colon (seen element.now) (at frames.now pending.old old)
         (turned_page wanted (paging.world_seeking text.now old))) old new result)
         desk.old desk.new (H.files host.old) (H.files host.new) }
@@ -116,7 +119,7 @@ fn turn_to_next<T: TextStore, H: Host>(
     Ok(way::to(frames.place()))
 }
 
-// So many matches are wanted behind the buffer: the page is turned, if input is unread.
+// Some matches are still wanted behind the buffer: the page is turned, if input is unread.
 fn look_behind<T: TextStore, H: Host>(
     desk: &mut Desk<T>,
     wanted: u32,
@@ -129,7 +132,8 @@ fn look_behind<T: TextStore, H: Host>(
     requires read { IsRead element.now frames.now }
     requires some { 1 ≤ wanted }
     requires output { IsSome desk.old.held.output }
-    ensures leads { Joined (λ old new. Leads (kind.Search search_kind.FindInPages) frames.now pending.new
+    ensures leads { Joined (λ old new. Leads (kind.Search search_kind.FindInPages)
+        true frames.now pending.new
         (model.looked_outcome (model.has_colon (seen element.now) frames.now.running) (seen element.now)
         (at frames.now pending.old old)
         (paging.page_looked_for (paging.unread old.files) wanted (paging.world_seeking text.now old))) old new result)
@@ -161,7 +165,8 @@ fn look_on<T: TextStore, H: Host>(
 ) -> Result<Way, Halt>
     requires read { IsRead element.now frames.now }
     requires some { 1 ≤ wanted }
-    ensures leads { Joined (λ old new. Leads (kind.Search search_kind.FindInPages) frames.now pending.new
+    ensures leads { Joined (λ old new. Leads (kind.Search search_kind.FindInPages)
+        true frames.now pending.new
         (model.looked_outcome (model.has_colon (seen element.now) frames.now.running) (seen element.now)
         (at frames.now pending.old old)
         (paging.look_for search (seen element.now) wanted (paging.world_seeking text.now old))) old new result)
@@ -183,9 +188,7 @@ fn look_on<T: TextStore, H: Host>(
         return look_behind(desk, wanted, text, element, frames, pending, host);
     }
     pending.clear_left();
-    if colon {
-        pending.arguments.answer(-1);
-    }
+    answer_match(&mut pending.arguments, colon);
     Ok(way::to(element.next))
 }
 
@@ -199,7 +202,8 @@ pub fn look_in_pages<T: TextStore, H: Host>(
     host: &mut H,
 ) -> Result<Way, Halt>
     requires { IsRead element.now frames.now }
-    ensures leads { Joined (λ old new. Leads (kind.Search search_kind.FindInPages) frames.now pending.new
+    ensures leads { Joined (λ old new. Leads (kind.Search search_kind.FindInPages)
+        true frames.now pending.new
         (model.looked_outcome_of search (seen element.now) (at frames.now pending.old old) pending.old.left) old new result)
         desk.old desk.new (H.files host.old) (H.files host.new) }
     ensures counted { Counts result (H.failures host.old) (H.failures host.new) }
@@ -233,7 +237,8 @@ fn find_in_buffer<T: TextStore, H: Host>(
     host: &H,
 ) -> Result<Way, Halt>
     requires { IsRead element.now frames.now }
-    ensures leads { Joined (λ old new. Leads (kind.Search search_kind.Find) frames.now pending.new
+    ensures leads { Joined (λ old new. Leads (kind.Search search_kind.Find)
+        true frames.now pending.new
         (model.search_outcome_of search (seen element.now) (at frames.now pending.old old)) old new result)
         desk.old desk.new (H.files host.now) (H.files host.now) }
     ensures counted { Counts result (H.failures host.now) (H.failures host.now) }
@@ -251,8 +256,8 @@ fn find_in_buffer<T: TextStore, H: Host>(
     ))
 }
 
-/// Looks for the text of a search, and says how the running text goes on. `N` and `FN` stay at their element while pages are
-/// left.
+/// Looks for the text of a search, and says how the running text goes on. `N` and `FN` stay at
+/// their element while pages are left.
 #[inline(never)]
 pub fn find<T: TextStore, H: Host>(
     desk: &mut Desk<T>,
@@ -263,7 +268,7 @@ pub fn find<T: TextStore, H: Host>(
     host: &mut H,
 ) -> Result<Way, Halt>
     requires { IsRead element.now frames.now }
-    ensures leads { Joined (λ old new. Leads (kind.Search search) frames.now pending.new
+    ensures leads { Joined (λ old new. Leads (kind.Search search) true frames.now pending.new
         (model.outcome_of_search search (seen element.now) (at frames.now pending.old old)) old new result)
         desk.old desk.new (H.files host.old) (H.files host.new) }
     ensures counted { Counts result (H.failures host.old) (H.failures host.new) }

@@ -1,28 +1,29 @@
 //! The elements of pages and files.
-ghost use Rattle.std.specs.Prelude.{◌≡◌, ◌≤◌, ⊤, Some, None, IsSome, false, IfOk, MatchResult};
+ghost use Rattle.std.specs.Prelude.{◌≡◌, ◌≤◌, ⊤, Some, None, IsSome, true, false, IfOk, MatchResult};
 ghost use Rattle.teco_base.specs.declared.code.Code.TheVariants as code;
 ghost use Rattle.teco_model.specs.Element.{seen};
+ghost use Rattle.teco_model.specs.Memory.{reads_page, taken_at};
 ghost use Rattle.teco_model.specs.Outside.{page_outcome, pages_outcome, world_outcome};
 ghost use Rattle.teco_model.specs.Paging as model;
 ghost use Rattle.teco_model.specs.declared.kind.Kind.TheVariants as kind;
 ghost use Rattle.teco_model.specs.declared.kind.Page.TheVariants as page;
-ghost use Rattle.teco_paging.specs.Halts.{Counts};
+ghost use Rattle.teco_filing.specs.Halts.{Counts};
 ghost use Rattle.teco_run.specs.Holdings.{Joined};
 ghost use Rattle.teco_run.specs.Pending.{at};
 ghost use Rattle.teco_run.specs.Ways.{IsRead, FitsIn, is_into};
-ghost use Rattle.teco_run.specs.Outside.{Follows, Leads, Settles, Takes};
+ghost use Rattle.teco_run.specs.Outside.{Follows, Leads, Proceeds, Settles, Takes};
 
 use crate::desk::Desk;
 use crate::frames::Frames;
 use crate::pending::Pending;
 use crate::way::{self, Way};
 use teco_base::Code;
+use teco_editor::Stuck;
 use teco_expr::Args;
+use teco_filing::{self as paging, Halt};
 use teco_model::kind::{File, Page};
 use teco_model::{Element, Taken};
 use teco_pages::{Host, Pages};
-use teco_paging::{self as paging, Halt};
-use teco_step::Stuck;
 use teco_text::TextStore;
 
 /// Takes the arguments.
@@ -89,7 +90,7 @@ fn yank_page<T: TextStore, H: Host>(
     host: &mut H,
 ) -> Result<Way, Halt>
     requires { IsRead element.now frames.now }
-    ensures leads { Joined (λ old new. Leads (kind.Page page.Yank) frames.now pending.new
+    ensures leads { Joined (λ old new. Leads (kind.Page page.Yank) true frames.now pending.new
         (world_outcome (seen element.now) (at frames.now pending.old old) (model.yank old)) old new result)
         desk.old desk.new (H.files host.old) (H.files host.new) }
     ensures counted { Counts result (H.failures host.old) (H.failures host.new) }
@@ -109,7 +110,7 @@ fn yank<T: TextStore, H: Host>(
     host: &mut H,
 ) -> Result<Way, Halt>
     requires { IsRead element.now frames.now }
-    ensures leads { Joined (λ old new. Leads (kind.Page page.Yank) frames.now pending.new
+    ensures leads { Joined (λ old new. Leads (kind.Page page.Yank) true frames.now pending.new
         (page_outcome page.Yank (seen element.now) (at frames.now pending.old old)) old new result)
         desk.old desk.new (H.files host.old) (H.files host.new) }
     ensures counted { Counts result (H.failures host.old) (H.failures host.new) }
@@ -129,7 +130,7 @@ fn append_page<T: TextStore, H: Host>(
     host: &mut H,
 ) -> Result<Way, Halt>
     requires { IsRead element.now frames.now }
-    ensures leads { Joined (λ old new. Leads (kind.Page page.Append) frames.now pending.new
+    ensures leads { Joined (λ old new. Leads (kind.Page page.Append) true frames.now pending.new
         (world_outcome (seen element.now) (at frames.now pending.old old) (model.append old)) old new result)
         desk.old desk.new (H.files host.old) (H.files host.new) }
     ensures counted { Counts result (H.failures host.old) (H.failures host.new) }
@@ -149,7 +150,8 @@ fn append<T: TextStore, H: Host>(
     host: &mut H,
 ) -> Result<Way, Halt>
     requires { IsRead element.now frames.now }
-    ensures leads { Joined (λ old new. Leads (kind.Page page.Append) frames.now pending.new
+    ensures leads { Joined (λ old new. Leads (kind.Page page.Append)
+        (reads_page page.Append pending.old.left (taken_at pending.old.arguments.level)) frames.now pending.new
         (page_outcome page.Append (seen element.now) (at frames.now pending.old old)) old new result)
         desk.old desk.new (H.files host.old) (H.files host.new) }
     ensures counted { Counts result (H.failures host.old) (H.failures host.new) }
@@ -175,10 +177,10 @@ fn write_range<T: TextStore, H: Host>(
 ) -> Result<Way, Halt>
     requires read { IsRead element.now frames.now }
     requires output { IsSome desk.old.held.output }
-    ensures by_p { Joined (λ old new. Leads (kind.Page page.Next) frames.now pending.new
+    ensures by_p { Joined (λ old new. Leads (kind.Page page.Next) false frames.now pending.new
         (pages_outcome (seen element.now) (at frames.now pending.old old) (model.range_done m n old)) old new result)
         desk.old desk.new (H.files host.old) (H.files host.new) }
-    ensures by_pw { Joined (λ old new. Leads (kind.Page page.Write) frames.now pending.new
+    ensures by_pw { Joined (λ old new. Leads (kind.Page page.Write) false frames.now pending.new
         (pages_outcome (seen element.now) (at frames.now pending.old old) (model.range_done m n old)) old new result)
         desk.old desk.new (H.files host.old) (H.files host.new) }
     ensures counted { Counts result (H.failures host.old) (H.failures host.new) }
@@ -188,6 +190,29 @@ fn write_range<T: TextStore, H: Host>(
     let done = paging::write_range(&desk.editor, &desk.pages, m, n, host);
     pending.clear_left();
     behind(done, element.next)
+}
+
+// The way behind one of so many pages: behind the element where it was the last.
+fn proceed(
+    done: Result<(), Halt>,
+    n: u32,
+    element: &Element<'_>,
+    frames: &Frames<'_>,
+    pending: &mut Pending,
+) -> Result<Way, Halt>
+    requires read { IsRead element.now frames.now }
+    ensures proceeds { Proceeds (seen element.now) frames.now
+        pending.old pending.new n done result }
+    ensures fits { IfOk result (FitsIn frames.now.running) }
+    ensures out { IfOk result (λ way. is_into way ≡ false) }
+{
+    done?;
+    if n > 1 {
+        pending.set_left(n - 1);
+        return Ok(way::to(frames.place()));
+    }
+    pending.clear_left();
+    Ok(way::to(element.next))
 }
 
 // `P` turns a page, of so many that are left.
@@ -200,7 +225,7 @@ fn turn_on<T: TextStore, H: Host>(
     host: &mut H,
 ) -> Result<Way, Halt>
     requires read { IsRead element.now frames.now }
-    ensures leads { Joined (λ old new. Leads (kind.Page page.Next) frames.now pending.new
+    ensures leads { Joined (λ old new. Leads (kind.Page page.Next) true frames.now pending.new
         (pages_outcome (seen element.now) (at frames.now pending.old old)
         (model.one_page_of model.page_turned n old)) old new result)
         desk.old desk.new (H.files host.old) (H.files host.new) }
@@ -209,13 +234,8 @@ fn turn_on<T: TextStore, H: Host>(
     ensures out { IfOk result (λ way. is_into way ≡ false) }
 {
     need_output(&desk.pages)?;
-    paging::turn_page(&mut desk.editor, &mut desk.pages, &[], host)?;
-    if n > 1 {
-        pending.set_left(n - 1);
-        return Ok(way::to(frames.place()));
-    }
-    pending.clear_left();
-    Ok(way::to(element.next))
+    let done = paging::turn_page(&mut desk.editor, &mut desk.pages, &[], host);
+    proceed(done, n, element, frames, pending)
 }
 
 // The first step of `P`, with the arguments that it took.
@@ -229,7 +249,8 @@ fn turn_first<T: TextStore, H: Host>(
 ) -> Result<Way, Halt>
     requires read { IsRead element.now frames.now }
     requires output { IsSome desk.old.held.output }
-    ensures leads { Joined (λ old new. Leads (kind.Page page.Next) frames.now pending.new
+    ensures leads { Joined (λ old new. Leads (kind.Page page.Next)
+        (reads_page page.Next None taken) frames.now pending.new
         (pages_outcome (seen element.now) (at frames.now pending.old old) (model.pages_of model.page_turned taken.first taken.value old)) old new result)
         desk.old desk.new (H.files host.old) (H.files host.new) }
     ensures counted { Counts result (H.failures host.old) (H.failures host.new) }
@@ -252,7 +273,8 @@ fn turn<T: TextStore, H: Host>(
     host: &mut H,
 ) -> Result<Way, Halt>
     requires read { IsRead element.now frames.now }
-    ensures leads { Joined (λ old new. Leads (kind.Page page.Next) frames.now pending.new
+    ensures leads { Joined (λ old new. Leads (kind.Page page.Next)
+        (reads_page page.Next pending.old.left (taken_at pending.old.arguments.level)) frames.now pending.new
         (page_outcome page.Next (seen element.now) (at frames.now pending.old old)) old new result)
         desk.old desk.new (H.files host.old) (H.files host.new) }
     ensures counted { Counts result (H.failures host.old) (H.failures host.new) }
@@ -277,7 +299,7 @@ fn write_on<T: TextStore, H: Host>(
     host: &mut H,
 ) -> Result<Way, Halt>
     requires read { IsRead element.now frames.now }
-    ensures leads { Joined (λ old new. Leads (kind.Page page.Write) frames.now pending.new
+    ensures leads { Joined (λ old new. Leads (kind.Page page.Write) false frames.now pending.new
         (pages_outcome (seen element.now) (at frames.now pending.old old)
         (model.one_page_of model.page_written n old)) old new result)
         desk.old desk.new (H.files host.old) (H.files host.new) }
@@ -286,13 +308,8 @@ fn write_on<T: TextStore, H: Host>(
     ensures out { IfOk result (λ way. is_into way ≡ false) }
 {
     need_output(&desk.pages)?;
-    paging::write_page(&desk.editor, &desk.pages, host)?;
-    if n > 1 {
-        pending.set_left(n - 1);
-        return Ok(way::to(frames.place()));
-    }
-    pending.clear_left();
-    Ok(way::to(element.next))
+    let done = paging::write_page(&desk.editor, &desk.pages, host);
+    proceed(done, n, element, frames, pending)
 }
 
 // The first step of `PW`, with the arguments that it took.
@@ -306,7 +323,7 @@ fn write_first<T: TextStore, H: Host>(
 ) -> Result<Way, Halt>
     requires read { IsRead element.now frames.now }
     requires output { IsSome desk.old.held.output }
-    ensures leads { Joined (λ old new. Leads (kind.Page page.Write) frames.now pending.new
+    ensures leads { Joined (λ old new. Leads (kind.Page page.Write) false frames.now pending.new
         (pages_outcome (seen element.now) (at frames.now pending.old old) (model.pages_of model.page_written taken.first taken.value old)) old new result)
         desk.old desk.new (H.files host.old) (H.files host.new) }
     ensures counted { Counts result (H.failures host.old) (H.failures host.new) }
@@ -329,7 +346,7 @@ fn write<T: TextStore, H: Host>(
     host: &mut H,
 ) -> Result<Way, Halt>
     requires read { IsRead element.now frames.now }
-    ensures leads { Joined (λ old new. Leads (kind.Page page.Write) frames.now pending.new
+    ensures leads { Joined (λ old new. Leads (kind.Page page.Write) false frames.now pending.new
         (page_outcome page.Write (seen element.now) (at frames.now pending.old old)) old new result)
         desk.old desk.new (H.files host.old) (H.files host.new) }
     ensures counted { Counts result (H.failures host.old) (H.failures host.new) }
@@ -355,7 +372,8 @@ pub fn turn_pages<T: TextStore, H: Host>(
     host: &mut H,
 ) -> Result<Way, Halt>
     requires read { IsRead element.now frames.now }
-    ensures leads { Joined (λ old new. Leads (kind.Page page) frames.now pending.new
+    ensures leads { Joined (λ old new. Leads (kind.Page page)
+        (reads_page page pending.old.left (taken_at pending.old.arguments.level)) frames.now pending.new
         (page_outcome page (seen element.now) (at frames.now pending.old old)) old new result)
         desk.old desk.new (H.files host.old) (H.files host.new) }
     ensures counted { Counts result (H.failures host.old) (H.failures host.new) }

@@ -6,7 +6,8 @@ use std::alloc::Global;
 use std::marker::Model;
 use teco_expr::Args;
 
-/// What is pending between two elements: arguments, and what an element of several steps still has to do.
+/// What is pending between two elements: arguments, and what an element of several steps still has
+/// to do.
 #[derive(Drop)]
 pub struct Pending {
     pub arguments: Args,
@@ -44,7 +45,7 @@ impl Pending {
         self.left
     }
 
-    /// So much is left to do at an element of several steps.
+    /// Keeps how much is left to do at an element of several steps.
     pub fn set_left(&mut self, n: u32)
         requires { 1 ≤ n }
         ensures { self.new ≡ record self.old { left = Some n } }

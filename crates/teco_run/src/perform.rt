@@ -1,16 +1,16 @@
 //! What the elements do that go on behind themselves.
 ghost use Rattle.std.specs.Prelude.{◌≡◌};
+ghost use Rattle.teco_model.specs.Arguments.{standing_value};
 ghost use Rattle.teco_model.specs.Element.{seen};
-ghost use Rattle.teco_model.specs.Memory.{grows, command_grows};
+ghost use Rattle.teco_model.specs.Memory.{command_grows, query_grows};
 ghost use Rattle.teco_model.specs.Step as model;
-ghost use Rattle.teco_model.specs.declared.kind.Kind.TheVariants as kind;
 ghost use Rattle.teco_run.specs.Performs.{Performs};
-ghost use Rattle.teco_step.specs.Does.{DoesIfMemory};
+ghost use Rattle.teco_editor.specs.Does.{DoesIfMemory};
 
+use teco_editor::{Editor, Stuck};
 use teco_expr::Args;
 use teco_model::kind::{Command, Query};
 use teco_model::{Element, Taken};
-use teco_step::{Editor, Stuck};
 use teco_text::TextStore;
 
 // May it take a value that stands? `:Q` takes none.
@@ -27,7 +27,8 @@ pub fn ask<T: TextStore>(
     element: &Element<'_>,
     arguments: &mut Args,
 ) -> Result<(), Stuck>
-    ensures { Performs (grows (kind.Query query)) editor.old editor.new arguments.new
+    ensures { Performs (query_grows query (standing_value arguments.old.level))
+        editor.old editor.new arguments.new
         (model.after_query query (seen element.now) editor.old arguments.old) result }
 {
     let standing = if takes(&query, element.colons) {
@@ -70,7 +71,7 @@ fn command_done<T: TextStore>(
     }
 }
 
-// The same at the place of the call where it works on a register, as counting does.
+// What a command comes to. Inlined where it works on a register, as counting does.
 #[inline(always)]
 fn done<T: TextStore>(
     editor: &mut Editor<T>,

@@ -1,6 +1,7 @@
 //! `S` and `FS`, and what becomes of those that miss.
-ghost use Rattle.std.specs.Prelude.{◌≡◌, true, false, IfOk};
+ghost use Rattle.std.specs.Prelude.{◌≡◌, negsuc, true, false, IfOk};
 ghost use Rattle.std.specs.Option.{option_map_or};
+ghost use Rattle.teco_model.specs.Arguments.{levels_after_answer};
 ghost use Rattle.teco_model.specs.Element.{seen};
 ghost use Rattle.teco_model.specs.Searching as model;
 ghost use Rattle.teco_run.specs.Frames.{state_of};
@@ -12,12 +13,11 @@ use crate::flow::jump;
 use crate::frames::Frames;
 use crate::way::{self, Way};
 use teco_base::Code;
+use teco_editor::{Editor, Finding, Stuck, search};
 use teco_expr::Args;
 use teco_find::LastPattern;
 use teco_model::kind::{Flow, Search};
 use teco_model::{Element, Kind};
-use teco_search::{Finding, search};
-use teco_step::{Editor, Stuck};
 use teco_text::TextStore;
 
 /// What a search types that misses and leaves its iteration.
@@ -38,7 +38,18 @@ pub fn has_colon(element: &Element<'_>, frames: &Frames<'_>) -> bool
     element.colons > 0 || is_leave(frames.kind_behind())
 }
 
-// A miss that answers 0: the pointer goes to the start, but stays where the search looked at the pointer alone.
+/// A match answers -1 where there is a colon.
+pub fn answer_match(arguments: &mut Args, colon: bool)
+    ensures { arguments.new ≡ levels_after_answer
+        (model.answer_where colon (negsuc 0)) arguments.old }
+{
+    if colon {
+        arguments.answer(-1);
+    }
+}
+
+// A miss that answers 0: the pointer goes to the start, but stays where the search looked at the
+// pointer alone.
 fn answer_miss<T: TextStore>(
     editor: &mut Editor<T>,
     element: &Element<'_>,
@@ -46,7 +57,8 @@ fn answer_miss<T: TextStore>(
     arguments: &mut Args,
 ) -> Result<Way, Stuck>
     requires read { IsRead element.now frames.now }
-    ensures outcome { SeeksAlways frames.now (λ files left. miss_outcome true (seen element.now) files editor.old
+    ensures outcome { SeeksAlways frames.now
+        (λ files left. miss_outcome true (seen element.now) files editor.old
         (state_of frames.now (beside files editor.old) arguments.old left)) editor.old editor.new arguments.new result }
     ensures fits { IfOk result (FitsIn frames.now.running) }
     ensures out { IfOk result (λ way. is_into way ≡ false) }
@@ -60,8 +72,8 @@ fn answer_miss<T: TextStore>(
     Ok(way::to(element.next))
 }
 
-// A miss without an answer leaves its iteration with a message. Where its end is missing that is a code, and outside an
-// iteration the miss is one.
+// A miss without an answer leaves its iteration with a message. Where its end is missing that is a
+// code, and outside an iteration the miss is one.
 fn leave_by_miss<T: TextStore>(
     editor: &mut Editor<T>,
     element: &Element<'_>,
@@ -70,7 +82,8 @@ fn leave_by_miss<T: TextStore>(
 ) -> Result<Way, Stuck>
     requires read { IsRead element.now frames.now }
     requires no_colon { element.now.colons ≡ 0 }
-    ensures outcome { SeeksAlways frames.now (λ files left. miss_outcome false (seen element.now) files editor.old
+    ensures outcome { SeeksAlways frames.now
+        (λ files left. miss_outcome false (seen element.now) files editor.old
         (state_of frames.now (beside files editor.old) arguments.old left)) editor.old editor.new arguments.new result }
     ensures fits { IfOk result (FitsIn frames.now.running) }
     ensures out { IfOk result (λ way. is_into way ≡ false) }
@@ -102,7 +115,8 @@ pub fn seek<T: TextStore>(
     arguments: &mut Args,
 ) -> Result<Way, Stuck>
     requires { IsRead element.now frames.now }
-    ensures outcome { SeeksAlways frames.now (λ files left. model.search_outcome_of kind (seen element.now)
+    ensures outcome { SeeksAlways frames.now
+        (λ files left. model.search_outcome_of kind (seen element.now)
         (state_of frames.now (beside files editor.old) arguments.old left)) editor.old editor.new arguments.new result }
     ensures fits { IfOk result (FitsIn frames.now.running) }
     ensures out { IfOk result (λ way. is_into way ≡ false) }
@@ -114,11 +128,10 @@ pub fn seek<T: TextStore>(
         Err(stuck) => return Err(stuck),
     };
     match (finding, colon) {
-        (Finding::Found, true) => {
-            arguments.answer(-1);
+        (Finding::Found, _) => {
+            answer_match(arguments, colon);
             Ok(way::to(element.next))
         }
-        (Finding::Found, false) => Ok(way::to(element.next)),
         (Finding::Missed, true) => answer_miss(editor, element, frames, arguments),
         (Finding::Missed, false) => leave_by_miss(editor, element, frames, arguments),
     }

@@ -13,8 +13,8 @@ use teco_model::Stop;
 pub struct Site {
     /// The register whose text is executed; `None` in the command string.
     pub register: Option<Reg>,
-    /// The place of the element that comes next, behind the blanks: bytes from 0. Where nothing comes any more the length of
-    /// the text.
+    /// The place of the element that comes next, behind the blanks: bytes from 0. Where nothing
+    /// comes any more the length of the text.
     pub place: usize,
 }
 
@@ -53,7 +53,7 @@ pub struct Stopped {
     pub stop: Stop,
     /// The steps that were done.
     pub steps: u64,
-    /// Where the element stands whose step was not done, or where the end was met. It is place 0 of the command string where
-    /// memory for that was refused.
+    /// Where the element stands whose step was not done, or where the end was met. It is place 0 of
+    /// the command string where memory for that was refused.
     pub site: Site,
 }

@@ -1,5 +1,6 @@
-// Command strings on new machines: what they answer, type and leave. A machine answers `Memory` only where memory is refused;
-// such a run is made once more, so that the rows also hold where one allocation fails.
+// Command strings on new machines: what they answer, type and leave. A machine answers `Memory`
+// only where memory is refused; such a run is made once more, so that the rows also hold where one
+// allocation fails.
 mod counting;
 mod sites;
 
@@ -169,7 +170,8 @@ fn registers_are_shown_and_loaded(rt: HostRuntime) {
     assert_eq!(rt; machine.take_typed().as_slice(), b"6\r\n".as_slice());
 }
 
-// Runs a command string on a new machine that may type so many bytes, and whose texts may take as many.
+// Runs a command string on a new machine that may type so many bytes, and whose texts may take as
+// many.
 fn run_capped(rt: &HostRuntime, cap: usize, command: &[u8]) -> (Machine<VecText>, Stop) {
     let mut machine = Machine::new(rt.alloc(), VecText::new(rt.alloc()));
     let mut host = MemHost::new(rt.alloc());
@@ -180,7 +182,8 @@ fn run_capped(rt: &HostRuntime, cap: usize, command: &[u8]) -> (Machine<VecText>
 
 #[test]
 fn caps_are_refused_growths(rt: HostRuntime) {
-    // a cap, a command string, the bytes that it may type, and what it comes to where no allocation fails
+    // a cap, a command string, the bytes that it may type, and what it comes to where no allocation
+    // fails
     let rows: [(usize, &[u8], &[u8], Result<u64, Code>); 7] = [
         (10, b"<1=>", b"1\r\n1\r\n1\r\n", Err(Code::Mem)),
         (3, b"1=", b"1\r\n", Ok(2)),

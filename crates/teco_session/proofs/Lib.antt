@@ -1,3 +1,4 @@
+pub mod Counting
 pub mod FirstCode
 pub mod Known
 pub mod Pairs

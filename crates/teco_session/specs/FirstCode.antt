@@ -1,7 +1,7 @@
 -- What comes of a session that the first code ends, beside the definition.
 use Rattle.std.specs.Prelude.{ℕ, ◌≡◌, ◌⊎◌, ◌≤◌, List, ◌++◌, length, Bool, true, false, Result, Ok, Err}
 use Rattle.std.specs.Io.KnownBytes.{Consumes, Appends, prepend_known}
-use Rattle.teco_model.specs.Session.{Session, IsCommandString}
+use Rattle.teco_model.specs.Session.{SessionToEnd, IsCommandString}
 use Rattle.teco_model.specs.declared.session.Limits.{Limits}
 use Rattle.teco_session.specs.Sessions.{BreaksOff, Converses, CutsShort, Finishes, Serves, Setting}
 use Rattle.teco_session.specs.Strings.{IsRest}
@@ -22,7 +22,7 @@ pub record EndsAtCode (limits : Limits) (old new : Setting) : Type 0 where
   pub came : Consumes last.unread new.unread (piece ++ unused)
   pub one_piece : IsCommandString limits piece ⊎ IsRest limits (prepend_known unused new.unread) piece
   pub one_read : length unused ≤ CHUNK
-  pub session : Session limits last.world piece new.world lines true false
+  pub session : SessionToEnd limits last.world last.failures piece new.world new.failures lines true
   pub appended : Appends last.written new.written lines
 
 -- without a code it is the session of the whole input; a code never comes with the end of the session that a string asks for
@@ -31,7 +31,7 @@ FinishesAtCode limits old new false exit = Finishes limits old new false exit
 FinishesAtCode limits old new true false = EndsAtCode limits old new
 FinishesAtCode limits old new true true = ⊥
 
--- it broke off, and no code came before
+-- the session broke off, and no code came before
 pub record BreaksOffPlain (limits : Limits) (old new : Setting) (fault : SessionFault) : Type 0 where
   pub breaks : BreaksOff limits old new fault
   pub plain : breaks.coded ≡ false

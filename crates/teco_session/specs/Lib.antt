@@ -1,5 +1,6 @@
 -- The words that the contracts of this crate are written in.
 pub mod Answers
+pub mod Constants
 pub mod FirstCode
 pub mod Output
 pub mod Sessions

@@ -29,12 +29,14 @@ impl Model for Ahead {
     ghost invariant = { λ a. (a.used ≤ a.filled) × (a.filled ≤ CHUNK) };
 }
 
-// Reads some bytes to the front of a chunk, and says how many; none are there at the end of the input alone.
+// Reads some bytes to the front of a chunk, and says how many; none are there at the end of the
+// input alone.
 fn read_some<R: Read>(reader: &mut R, chunk: &mut [u8]) -> Result<usize, SessionFault>
     ensures bound { IfOk result (λ n. n ≤ length chunk.new) }
     ensures ok { IfOk result (λ n.
         Consumes (R.remaining reader.old) (R.remaining reader.new) (take n chunk.new)) }
-    ensures end { IfOk result (λ n. n ≡ 0 → 0 < length chunk.old → IsAtEnd (R.remaining reader.new)) }
+    ensures end { IfOk result (λ n. n ≡ 0 → 0 < length chunk.old
+        → IsAtEnd (R.remaining reader.new)) }
     ensures err { IfErr result (λ fault. fault ≡ CannotRead) }
     ensures kept { OnErr result (Keeps (R.remaining reader.old) (R.remaining reader.new)) }
 {

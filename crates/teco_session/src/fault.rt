@@ -16,8 +16,8 @@ pub enum SessionFault {
     /// Memory for a command string was refused.
     #[error("out of memory")]
     Memory,
-    /// The argument of a macro is missing, outside the declared range, or not asked for. Sessions call no macro, and never
-    /// answer it.
+    /// The argument of a macro is missing, outside the declared range, or not asked for. Sessions
+    /// call no macro, and never answer it.
     #[error("the argument is missing, not asked for, or not in its range")]
     Argument,
 }

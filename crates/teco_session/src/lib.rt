@@ -1,4 +1,5 @@
-//! Sessions: command strings from a reader are run one after another, and what they type is written.
+//! Sessions: command strings from a reader are run one after another, and what they type is
+//! written.
 #![tactic(auto)]
 
 mod ahead;

@@ -4,11 +4,11 @@ use teco_pages::Host;
 use teco_run::{Machine, Stopped};
 use teco_text::TextStore;
 
-/// What hears how the command strings of a session stop, over a host of files. What it does has no part in what the session
-/// does.
+/// What hears how the command strings of a session stop, over a host of files. What it does has no
+/// part in what the session does.
 pub trait Listener<H: Host> {
-    /// A command string was run, and what it has to write was written, or could not be. The machine and the host are as it
-    /// left them.
+    /// A command string was run, and what it has to write was written, or could not be. The machine
+    /// and the host are as it left them.
     fn stopped<T: TextStore>(
         &mut self,
         text: &[u8],

@@ -9,7 +9,7 @@ ghost use Rattle.teco_run.specs.Holdings.{Joined};
 ghost use Rattle.teco_session.specs.Answers.{Answers, Said};
 ghost use Rattle.teco_session.specs.FirstCode.{Hears};
 ghost use Rattle.teco_session.specs.Output.{Writes};
-ghost use Rattle.teco_session.specs.Sessions.{Converses, setting};
+ghost use Rattle.teco_session.specs.Sessions.{Converses, SessionCounts, setting};
 ghost use Rattle.teco_session.specs.declared.strings.Piece.TheVariants as piece;
 
 use crate::ahead::Ahead;
@@ -135,7 +135,8 @@ pub fn write_stop<T: TextStore, W: Write>(
     ensures lines { Writes (W.contents writer.old) (W.contents writer.new)
         (machine.old.kept.typed ++ code_line (code_of stop)) result }
     ensures told { IfOk result (λ line. line ≡ is_code (code_of stop)) }
-    ensures taken { machine.new ≡ record machine.old { kept = record machine.old.kept { typed = [] } } }
+    ensures taken { machine.new ≡ record
+        machine.old { kept = record machine.old.kept { typed = [] } } }
 {
     let typed = machine.take_typed();
     write_lines(writer, typed.as_slice(), code_of_stop(stop))
@@ -161,8 +162,11 @@ fn answer_command<T: TextStore, W: Write, H: Host, L: Listener<H>>(
     listener: &mut L,
 ) -> Result<Done, SessionFault>
     requires { length bytes.now ≤ LIMIT }
-    ensures { Joined (λ old new. Answers limits piece.Command bytes.now old new (W.contents writer.old) (W.contents writer.new) result)
+    ensures run { Joined (λ old new. Answers limits piece.Command bytes.now old
+        new (H.failures host.old) (H.failures host.new)
+        (W.contents writer.old) (W.contents writer.new) result)
         machine.old machine.new (H.files host.old) (H.files host.new) }
+    ensures counted { SessionCounts result (H.failures host.old) (H.failures host.new) }
 {
     let stopped = machine.run_to_stop(bytes, limits.steps, host);
     let line = write_stop(machine, stopped.stop, writer);
@@ -180,7 +184,9 @@ fn answer_rest<T: TextStore, W: Write, H: Host, L: Listener<H>>(
     listener: &mut L,
 ) -> Result<Done, SessionFault>
     requires { length bytes.now ≤ LIMIT }
-    ensures { Joined (λ old new. Answers limits piece.Rest bytes.now old new (W.contents writer.old) (W.contents writer.new) result)
+    ensures { Joined (λ old new. Answers limits piece.Rest bytes.now old new
+        (H.failures host.now) (H.failures host.now)
+        (W.contents writer.old) (W.contents writer.new) result)
         machine.now machine.now (H.files host.now) (H.files host.now) }
 {
     let code = code_of_rest(bytes, limits);
@@ -191,8 +197,8 @@ fn answer_rest<T: TextStore, W: Write, H: Host, L: Listener<H>>(
     said(line, false)
 }
 
-// Runs a piece of the input, if it is a command string, and writes what it types and its code line. Says whether there is
-// such a line, and whether it ends the session.
+// Runs a piece of the input, if it is a command string, and writes what it types and its code line.
+// Says whether there is such a line, and whether it ends the session.
 fn answer<T: TextStore, W: Write, H: Host, L: Listener<H>>(
     machine: &mut Machine<T>,
     piece: Piece,
@@ -203,8 +209,11 @@ fn answer<T: TextStore, W: Write, H: Host, L: Listener<H>>(
     listener: &mut L,
 ) -> Result<Done, SessionFault>
     requires { length bytes.now ≤ LIMIT }
-    ensures { Joined (λ old new. Answers limits piece bytes.now old new (W.contents writer.old) (W.contents writer.new) result)
+    ensures run { Joined (λ old new. Answers limits piece bytes.now old new
+        (H.failures host.old) (H.failures host.new)
+        (W.contents writer.old) (W.contents writer.new) result)
         machine.old machine.new (H.files host.old) (H.files host.new) }
+    ensures counted { SessionCounts result (H.failures host.old) (H.failures host.new) }
 {
     match piece {
         Piece::Command => answer_command(machine, bytes, writer, host, limits, listener),
@@ -212,14 +221,15 @@ fn answer<T: TextStore, W: Write, H: Host, L: Listener<H>>(
     }
 }
 
-/// Runs the command strings that a reader gives, each for at most `limit` steps, over the files of a host. What a string
-/// types is written when it has stopped, and then a code line for a stop that is not the end. A string has at most `LIMIT`
-/// bytes.
+/// Runs the command strings that a reader gives, each for at most `limit` steps, over the files of
+/// a host. What a string types is written when it has stopped, and then a code line for a stop that
+/// is not the end. A string has at most `LIMIT` bytes.
 ///
-/// A string is run as soon as its end is read. After a code the session goes on with the next string; a string that ends
-/// the session is the last. A rest without an end is not executed. With a fault of reading or of memory, the strings that
-/// came before it are executed and written, and nothing else is. With one of writing, the string whose bytes were being
-/// written is the last that was executed: a part of what it writes is written, from the front and less than all.
+/// A string is run as soon as its end is read. After a code the session goes on with the next
+/// string; a string that ends the session is the last. A rest without an end is not executed. With
+/// a fault of reading or of memory, the strings that came before it are executed and written, and
+/// nothing else is. With one of writing, the string whose bytes were being written is the last that
+/// was executed: a part of what it writes is written, from the front and less than all.
 pub fn session<T: TextStore, R: Read, W: Write, H: Host>(
     alloc: Global,
     machine: &mut Machine<T>,
@@ -228,16 +238,17 @@ pub fn session<T: TextStore, R: Read, W: Write, H: Host>(
     host: &mut H,
     limit: u64,
 ) -> Result<Done, SessionFault>
-    ensures { Joined (λ old new. Converses (record { steps = limit; length = LIMIT })
-        (setting old (R.remaining reader.old) (W.contents writer.old))
-        (setting new (R.remaining reader.new) (W.contents writer.new))
+    ensures session { Joined (λ old new. Converses (record { steps = limit; length = LIMIT })
+        (setting old (H.failures host.old) (R.remaining reader.old) (W.contents writer.old))
+        (setting new (H.failures host.new) (R.remaining reader.new) (W.contents writer.new))
         result) machine.old machine.new (H.files host.old) (H.files host.new) }
+    ensures counted { SessionCounts result (H.failures host.old) (H.failures host.new) }
 {
     session_max(alloc, machine, reader, writer, host, limit, LIMIT)
 }
 
-/// A session whose command strings have at most `max` bytes each, their ends included: as many without an end are `FUL`,
-/// and end it.
+/// A session whose command strings have at most `max` bytes each, their ends included: as many
+/// without an end are `FUL`, and end it.
 pub fn session_max<T: TextStore, R: Read, W: Write, H: Host>(
     alloc: Global,
     machine: &mut Machine<T>,
@@ -248,10 +259,11 @@ pub fn session_max<T: TextStore, R: Read, W: Write, H: Host>(
     max: usize,
 ) -> Result<Done, SessionFault>
     requires { max ≤ LIMIT }
-    ensures { Joined (λ old new. Converses (record { steps = limit; length = max })
-        (setting old (R.remaining reader.old) (W.contents writer.old))
-        (setting new (R.remaining reader.new) (W.contents writer.new))
+    ensures session { Joined (λ old new. Converses (record { steps = limit; length = max })
+        (setting old (H.failures host.old) (R.remaining reader.old) (W.contents writer.old))
+        (setting new (H.failures host.new) (R.remaining reader.new) (W.contents writer.new))
         result) machine.old machine.new (H.files host.old) (H.files host.new) }
+    ensures counted { SessionCounts result (H.failures host.old) (H.failures host.new) }
 {
     let limits = Limits {
         steps: limit,
@@ -264,8 +276,9 @@ pub fn session_max<T: TextStore, R: Read, W: Write, H: Host>(
     session_heard(alloc, machine, reader, writer, host, conduct, &mut Silent)
 }
 
-/// A session that a listener hears: it is told how each command string stopped, once that was run. Where the conduct says so the
-/// first code ends the session: no later string is run, and the end is not that of a string that ends the session.
+/// A session that a listener hears: it is told how each command string stopped, once that was run.
+/// Where the conduct says so the first code ends the session: no later string is run, and the end
+/// is not that of a string that ends the session.
 pub fn session_heard<T: TextStore, R: Read, W: Write, H: Host, L: Listener<H>>(
     alloc: Global,
     machine: &mut Machine<T>,
@@ -276,10 +289,11 @@ pub fn session_heard<T: TextStore, R: Read, W: Write, H: Host, L: Listener<H>>(
     listener: &mut L,
 ) -> Result<Done, SessionFault>
     requires { conduct.limits.length ≤ LIMIT }
-    ensures { Joined (λ old new. Hears conduct.until_code conduct.limits
-        (setting old (R.remaining reader.old) (W.contents writer.old))
-        (setting new (R.remaining reader.new) (W.contents writer.new))
+    ensures session { Joined (λ old new. Hears conduct.until_code conduct.limits
+        (setting old (H.failures host.old) (R.remaining reader.old) (W.contents writer.old))
+        (setting new (H.failures host.new) (R.remaining reader.new) (W.contents writer.new))
         result) machine.old machine.new (H.files host.old) (H.files host.new) }
+    ensures counted { SessionCounts result (H.failures host.old) (H.failures host.new) }
 {
     let limits = conduct.limits;
     let mut string = Vec::new(alloc);

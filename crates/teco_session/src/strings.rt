@@ -16,7 +16,8 @@ use teco_model::Limits;
 pub enum Piece {
     /// A command string.
     Command,
-    /// Bytes without an end: as many as a command string may have, or fewer and then the end of the input.
+    /// Bytes without an end: as many as a command string may have, or fewer and then the end of the
+    /// input.
     Rest,
 }
 
@@ -45,8 +46,8 @@ fn end_behind(string: &[u8], bytes: &[u8]) -> Option<usize>
     None
 }
 
-// Moves bytes from those ahead to a string that goes on with them, up to its end or to as many as it may have. Says whether
-// it ended.
+// Moves bytes from those ahead to a string that goes on with them, up to its end or to as many as
+// it may have. Says whether it ended.
 fn extend(string: &mut Vec<u8>, ahead: &mut Ahead, limits: Limits) -> Result<bool, SessionFault>
     requires { IsUnended limits string.old.items }
     ensures moved { string.new.items ++ ahead.new ≡ string.old.items ++ ahead.old }
@@ -68,8 +69,8 @@ fn extend(string: &mut Vec<u8>, ahead: &mut Ahead, limits: Limits) -> Result<boo
     Ok(end.is_some())
 }
 
-/// Reads the next command string, or what stands in its place. It reads no further than to the end of the read in which it
-/// ends; what is read beyond it stays ahead.
+/// Reads the next command string, or what stands in its place. It reads no further than to the end
+/// of the read in which it ends; what is read beyond it stays ahead.
 pub fn next_piece<R: Read>(
     string: &mut Vec<u8>,
     ahead: &mut Ahead,

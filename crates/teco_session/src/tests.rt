@@ -152,7 +152,8 @@ const REGISTERS: [Row; 15] = [
     (b"-1^X\x1b3+^X=\x1b\x1b", b"2\r\n", b"", 0),
 ];
 
-/// Sessions with macros: one executes its text as it was when it was called, and its arguments go in and out.
+/// Sessions with macros: one executes its text as it was when it was called, and its arguments go
+/// in and out.
 const MACROS: [Row; 4] = [
     (b"@^UA/+1/2MA=\x1b\x1b", b"3\r\n", b"", 0),
     (b"MA1=\x1b\x1b", b"1\r\n", b"", 0),
@@ -517,7 +518,8 @@ fn string_of(alloc: Global, len: usize) -> Result<Vec<u8>, AllocError> {
     Ok(input)
 }
 
-// The pair of ESC at the end of a string is behind, across and before the end of what one read gives.
+// The pair of ESC at the end of a string is behind, across and before the end of what one read
+// gives.
 #[test]
 fn reads_end_at_a_pair(rt: HostRuntime) -> Result<(), Fail> {
     for len in CHUNK - 8..CHUNK {
@@ -535,7 +537,8 @@ fn reads_end_at_a_pair(rt: HostRuntime) -> Result<(), Fail> {
     Ok(())
 }
 
-/// Strings of at most 64 bytes: so many digits 1, what follows them, what is written, and what comes of it.
+/// Strings of at most 64 bytes: so many digits 1, what follows them, what is written, and what
+/// comes of it.
 const CAPPED: [(usize, &[u8], &[u8], &str); 3] = [
     (64, b"", b"?FUL\r\n", "coded"),
     (63, b"", b"?UTC\r\n", "coded"),
@@ -591,8 +594,8 @@ const REFUSED_GROWTHS: [(&[u8], &[u8], &[u8], usize); 4] = [
     ),
 ];
 
-// Where a growth is refused, a part of the bytes is typed and then the line for want of memory; or nothing is, and memory
-// is the fault; or the writer wanted it.
+// Where a growth is refused, a part of the bytes is typed and then the line for want of memory; or
+// nothing is, and memory is the fault; or the writer wanted it.
 fn is_allowed(ran: &Ran, whole: &[u8]) -> bool {
     match ran.outcome {
         "done" => ran.written.as_slice() == whole,
@@ -606,7 +609,8 @@ fn is_allowed(ran: &Ran, whole: &[u8]) -> bool {
     }
 }
 
-// Where an allocation fails in the first session, the second one over the same machine goes on with what the first left.
+// Where an allocation fails in the first session, the second one over the same machine goes on with
+// what the first left.
 #[test]
 fn growths_are_refused(rt: HostRuntime) {
     for (input, whole, text, pointer) in REFUSED_GROWTHS {

@@ -8,8 +8,8 @@ const BEFORE: usize = 56;
 
 const BEHIND: usize = 24;
 
-/// The line of a file in which a place stands, as a terminal can show it, with a caret below the place. Of a long line only
-/// what stands about the place is shown.
+/// The line of a file in which a place stands, as a terminal can show it, with a caret below the
+/// place. Of a long line only what stands about the place is shown.
 #[derive(Clone, Copy)]
 pub struct Excerpt<'a> {
     before: &'a [u8],

@@ -50,10 +50,11 @@ impl Form {
         }
     }
 
-    /// The source that says a text. There is none where the text has the mark in it, or in the readable form a caret right
-    /// before ESC. One scan.
+    /// The source that says a text. There is none where the text has the mark in it, or in the
+    /// readable form a caret right before ESC. One scan.
     pub fn write(self, alloc: Global, text: &[u8]) -> Result<Option<Vec<u8>>, AllocError>
-        ensures said { IfOk result (λ written. IfSome written (λ w. sources.said self w.items ≡ text.now)) }
+        ensures said { IfOk result (λ written. IfSome written
+            (λ w. sources.said self w.items ≡ text.now)) }
         ensures some { IfOk result (λ written. is_some written ≡ sources.has_source self text.now) }
     {
         let mut written = Vec::new(alloc);
@@ -82,7 +83,8 @@ impl Form {
 
     // Writes what says a byte.
     fn spell(self, byte: u8, written: &mut Vec<u8>) -> Result<(), AllocError>
-        ensures { IfOk result (λ done. written.new.items ≡ written.old.items ++ sources.spelling self byte) }
+        ensures { IfOk result (λ done. written.new.items
+            ≡ written.old.items ++ sources.spelling self byte) }
     {
         match self {
             Form::Marked(mark) if byte == ESC => written.push(mark)?,
@@ -93,8 +95,8 @@ impl Form {
         Ok(())
     }
 
-    /// Where in a source the byte stands that says a place of its text: an offset, and the source's length behind the last.
-    /// One scan up to there.
+    /// Where in a source the byte stands that says a place of its text: an offset, and the source's
+    /// length behind the last. One scan up to there.
     pub fn place_in(self, source: &[u8], place: usize) -> usize
         ensures place { result ≡ sources.place_in self source.now place }
         ensures within { result ≤ length source.now }

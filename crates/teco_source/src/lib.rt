@@ -1,5 +1,5 @@
-//! Sources: files of TECO text in which a character that can be seen stands for ESC, positions in files, and texts as a
-//! terminal can show them.
+//! Sources: files of TECO text in which a character that can be seen stands for ESC, positions in
+//! files, and texts as a terminal can show them.
 #![tactic(auto)]
 
 mod excerpt;

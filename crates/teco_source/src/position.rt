@@ -23,7 +23,8 @@ impl Model for Position {
 }
 
 impl Position {
-    /// The position of an offset in a file, or of its end where it is shorter. One scan up to there.
+    /// The position of an offset in a file, or of its end where it is shorter. One scan up to
+    /// there.
     pub fn of(file: &[u8], place: usize) -> Position
         ensures { result ≡ places.position_of file.now place }
     {

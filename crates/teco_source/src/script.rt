@@ -22,8 +22,8 @@ fn first_line(file: &[u8]) -> usize
     file.len()
 }
 
-/// Where the text of a file begins: behind the first line where that begins with `#!`, which names the program that the
-/// system runs the file by.
+/// Where the text of a file begins: behind the first line where that begins with `#!`, which names
+/// the program that the system runs the file by.
 pub fn text_begin(file: &[u8]) -> usize
     ensures value { result ≡ scripts.text_begin file.now }
     ensures within { result ≤ length file.now }

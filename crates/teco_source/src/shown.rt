@@ -17,8 +17,9 @@ const BEYOND_ASCII: u8 = 0x80;
 /// What a control and the letter of its `^X` differ by.
 const CONTROL_BIT: u8 = 0x40;
 
-/// A text as a terminal can show it: ESC as `$`, other controls as `^X`, characters that take no column by their number, and
-/// bytes that are no UTF-8 in hexadecimal. No control reaches the terminal.
+/// A text as a terminal can show it: ESC as `$`, other controls as `^X`, characters that take no
+/// column by their number, and bytes that are no UTF-8 in hexadecimal. No control reaches the
+/// terminal.
 #[derive(Clone, Copy)]
 pub struct Shown<'a>(pub &'a [u8]);
 

@@ -31,7 +31,8 @@ impl Model for Source {
 }
 
 impl Source {
-    /// The source of a name, which says its text in this form. Takes memory for the text and the name.
+    /// The source of a name, which says its text in this form. Takes memory for the text and the
+    /// name.
     pub fn new(alloc: Global, name: &str, bytes: Vec<u8>, form: Form) -> Result<Source, AllocError>
         ensures { IfOk result (λ source. source ≡ said form bytes.items) }
     {
@@ -53,7 +54,8 @@ impl Source {
         bytes: Vec<u8>,
         form: Form,
     ) -> Result<Source, AllocError>
-        ensures { IfOk result (λ source. source ≡ said form (drop (text_begin_of bytes.items) bytes.items)) }
+        ensures { IfOk result (λ source. source
+            ≡ said form (drop (text_begin_of bytes.items) bytes.items)) }
     {
         let begin = text_begin(&bytes);
         let text = form.read(alloc, &bytes[begin..])?;

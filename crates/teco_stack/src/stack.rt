@@ -57,8 +57,8 @@ impl<T: Drop> Chain<T> {
         }
     }
 
-    /// Whether the items of two chains lie at the same place, or there are none, so that they need not be compared. No clause says
-    /// that they are then the same, since none speaks of places.
+    /// Whether the items of two chains lie at the same place, or there are none, so that they need
+    /// not be compared. No clause says that they are then the same, since none speaks of places.
     pub fn is_at(&self, other: &Chain<T>) -> bool {
         match (&self.top, &other.top) {
             (None, None) => true,
@@ -67,7 +67,7 @@ impl<T: Drop> Chain<T> {
         }
     }
 
-    // The same items once more, unless there are too many copies to be counted.
+    // A chain that shares these items, unless there are too many copies to be counted.
     fn copied(&self) -> Result<Chain<T>, AllocError>
         ensures { IfOk result (λ copy. copy ≡ self.now) }
     {
@@ -105,8 +105,8 @@ fn put<T: Copy>(items: &mut Vec<T>, item: T) -> Result<(), AllocError>
     Ok(())
 }
 
-// Lets the items go that no other chain has, from the top down. A loop does that, so that a high stack does not run out of the
-// program's own.
+// Lets the items go that no other chain has, from the top down. A loop does that, so that a high
+// stack does not run out of the program's own.
 fn unwind<T: Drop>(mut chain: Chain<T>) {
     loop {
         let Chain { height: _, top } = chain;
@@ -120,7 +120,8 @@ fn unwind<T: Drop>(mut chain: Chain<T>) {
     }
 }
 
-/// Items, the last of which stands on top. Copies share them, so that each takes as little time and memory as an empty one.
+/// Items, the last of which stands on top. Copies share them, so that each takes as little time and
+/// memory as an empty one.
 pub struct Stack<T> {
     alloc: Global,
     chain: Chain<T>,
@@ -177,7 +178,7 @@ impl<T: Copy> Stack<T> {
         Ok(Stack { alloc, chain })
     }
 
-    /// The same items once more, unless there are too many copies to be counted.
+    /// A stack that shares these items, unless there are too many copies to be counted.
     pub fn copied(&self) -> Result<Stack<T>, AllocError>
         ensures { IfOk result (λ copy. copy ≡ self.now) }
     {
@@ -197,8 +198,8 @@ impl<T: Copy> Stack<T> {
         Ok(Some(item))
     }
 
-    /// The same items once more, in memory of their own, where they lie side by side: so going through them takes less time. It is
-    /// there if there is memory.
+    /// A copy whose items lie side by side in memory of their own, so that going through them takes
+    /// less time.
     pub fn packed(&self) -> Result<Stack<T>, AllocError>
         ensures { IfOk result (λ stack. stack ≡ self.now) }
     {

@@ -1,4 +1,5 @@
-// Stacks that share. A call that is refused memory is made once more, so that the rows also hold where one allocation fails.
+// Stacks that share. A call that is refused memory is made once more, so that the rows also hold
+// where one allocation fails.
 use super::*;
 use std::alloc::{AllocError, Global};
 use std::process::Abort;
@@ -13,7 +14,7 @@ fn numbers(alloc: Global, count: u32) -> Result<Stack<u32>, AllocError> {
     Ok(stack)
 }
 
-// The same, once more where memory was refused.
+// A stack of so many numbers; made once more where memory was refused.
 fn stack_of(rt: &impl Abort, alloc: Global, count: u32) -> Stack<u32> {
     match numbers(alloc, count) {
         Ok(stack) => stack,

@@ -1,1 +1,2 @@
 pub mod LinePlaces
+mod Gaps

@@ -4,3 +4,4 @@ pub mod Counted
 pub mod PointedText
 pub use Rattle.teco_base.specs.Lines
 pub use Rattle.teco_base.specs.Text
+pub mod Gapped

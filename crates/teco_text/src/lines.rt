@@ -9,8 +9,9 @@ use crate::parts::{pieces_after, pieces_before};
 use crate::store::TextStore;
 use teco_base::bytes::is_line_end;
 
-/// The line place of `n`: for `n` at least 1 the place after the `n`th line end at or after the pointer, or the text's length
-/// where there are fewer; for `n` at most 0 the place after the `1 - n`th line end before the pointer, counted backwards, or 0.
+/// The line place of `n`: for `n` at least 1 the place after the `n`th line end at or after the
+/// pointer, or the text's length where there are fewer; for `n` at most 0 the place after the `1 -
+/// n`th line end before the pointer, counted backwards, or 0.
 ///
 /// It takes no memory, and time by the characters that it passes.
 pub fn line_place<T: TextStore>(store: &T, n: i64) -> usize
@@ -30,7 +31,8 @@ pub fn line_place<T: TextStore>(store: &T, n: i64) -> usize
     }
 }
 
-// The place after the `count`th line end of two pieces, the first of which begins at a place; or how many are missing.
+// The place after the `count`th line end of two pieces, the first of which begins at a place; or
+// how many are missing.
 fn place_ahead(first: &[u8], second: &[u8], at: usize, count: u64) -> Result<usize, u64>
     requires some { 0 < count }
     requires fits { at + length (first.now ++ second.now) < 2 ^ 63 }
@@ -43,11 +45,13 @@ fn place_ahead(first: &[u8], second: &[u8], at: usize, count: u64) -> Result<usi
     }
 }
 
-// The place after the `count`th line end from the end of two pieces, which are a whole front of a text.
+// The place after the `count`th line end from the end of two pieces, which are a whole front of a
+// text.
 fn place_back(first: &[u8], second: &[u8], count: u64) -> Result<usize, u64>
     requires some { 0 < count }
     requires fits { length (first.now ++ second.now) < 2 ^ 63 }
-    ensures counted { Counted (reverse (line_places_from 0 (first.now ++ second.now))) count result }
+    ensures counted { Counted (reverse (line_places_from 0 (first.now ++ second.now)))
+        count result }
     ensures within { IfOk result (λ place. place ≤ length (first.now ++ second.now)) }
 {
     match nth_place_from_end(second, first.len(), count) {
@@ -56,7 +60,8 @@ fn place_back(first: &[u8], second: &[u8], count: u64) -> Result<usize, u64>
     }
 }
 
-// The place after the `count`th line end of a piece that begins at a place; or how many are missing.
+// The place after the `count`th line end of a piece that begins at a place; or how many are
+// missing.
 #[tactic(auto, using(crate::proofs::LinePlaces::counting))]
 fn nth_place(piece: &[u8], at: usize, count: u64) -> Result<usize, u64>
     requires some { 0 < count }
@@ -76,7 +81,7 @@ fn nth_place(piece: &[u8], at: usize, count: u64) -> Result<usize, u64>
     Err(left)
 }
 
-// The same from the piece's end.
+// The place of a line end as counted from the piece's end.
 #[tactic(auto, using(crate::proofs::LinePlaces::counting))]
 fn nth_place_from_end(piece: &[u8], at: usize, count: u64) -> Result<usize, u64>
     requires some { 0 < count }

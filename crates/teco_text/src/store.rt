@@ -6,11 +6,13 @@ ghost use Rattle.teco_text.specs.Answers.{IsPart, OkWhere, OkWithin, OkWhereWith
 
 use crate::fault::TextFault;
 
-/// A text with a pointer: at most `LIMIT` characters, each a byte, and a place from 0 to the text's length.
+/// A text with a pointer: at most `LIMIT` characters, each a byte, and a place from 0 to the text's
+/// length.
 ///
-/// A part of the text is named by its first place and by the place behind its last character. A call is refused with `Off`
-/// where a place lies outside the text or `a` behind `b`, with `Full` where the text would have more than `LIMIT` characters,
-/// and with `Memory` where it needs more memory and that is refused. A refused call leaves text and pointer as they are.
+/// A part of the text is named by its first place and by the place behind its last character. A
+/// call is refused with `Off` where a place lies outside the text or `a` behind `b`, with `Full`
+/// where the text would have more than `LIMIT` characters, and with `Memory` where it needs more
+/// memory and that is refused. A refused call leaves text and pointer as they are.
 pub trait TextStore {
     // the characters
     ghost list: { Self → List ℕ };
@@ -51,36 +53,44 @@ pub trait TextStore {
         ensures list { OnOk result (list self.new ≡
             text_after_insertion (list self.old) (pointer self.old) bytes.now) }
         ensures pointer { OnOk result (pointer self.new ≡ pointer self.old + length bytes.now) }
-        ensures err { OnErr result ((list self.new ≡ list self.old) × (pointer self.new ≡ pointer self.old)) }
+        ensures err { OnErr result ((list self.new ≡ list self.old)
+            × (pointer self.new ≡ pointer self.old)) }
         ensures room { room self.old ≤ room self.new };
 
-    /// Takes out the characters from `a` up to `b`. A pointer inside them goes to `a`, one behind them back with the text.
+    /// Takes out the characters from `a` up to `b`. A pointer inside them goes to `a`, one behind
+    /// them back with the text.
     fn delete(&mut self, a: usize, b: usize) -> Result<(), TextFault>
         ensures answer { OkWhere result (IsPart (list self.old) a b) }
         ensures list { OnOk result (list self.new ≡ text_after_deletion (list self.old) a b) }
-        ensures pointer { OnOk result (pointer self.new ≡ pointer_after_deletion a b (pointer self.old)) }
-        ensures err { OnErr result ((list self.new ≡ list self.old) × (pointer self.new ≡ pointer self.old)) }
+        ensures pointer { OnOk result (pointer self.new
+            ≡ pointer_after_deletion a b (pointer self.old)) }
+        ensures err { OnErr result ((list self.new ≡ list self.old)
+            × (pointer self.new ≡ pointer self.old)) }
         ensures room { room self.old ≤ room self.new };
 
-    /// Puts `bytes` in the stead of the characters from `a` up to `b`. The pointer goes behind them, wherever it was.
+    /// Puts `bytes` in the stead of the characters from `a` up to `b`. The pointer goes behind
+    /// them, wherever it was.
     fn replace(&mut self, a: usize, b: usize, bytes: &[u8]) -> Result<(), TextFault>
         ensures answer { OkWhereWithin result (IsPart (list self.old) a b)
             (length (text_after_replacement (list self.old) a b bytes.now)) (room self.old) }
         ensures list { OnOk result (list self.new ≡
             text_after_replacement (list self.old) a b bytes.now) }
         ensures pointer { OnOk result (pointer self.new ≡ a + length bytes.now) }
-        ensures err { OnErr result ((list self.new ≡ list self.old) × (pointer self.new ≡ pointer self.old)) }
+        ensures err { OnErr result ((list self.new ≡ list self.old)
+            × (pointer self.new ≡ pointer self.old)) }
         ensures room { room self.old ≤ room self.new };
 
-    /// Appends the characters from `a` up to `b` to `out`, which grows by its own allocator and gives no capacity back. A
-    /// refusal leaves its items.
+    /// Appends the characters from `a` up to `b` to `out`, which grows by its own allocator and
+    /// gives no capacity back. A refusal leaves its items.
     fn copy_range(&self, a: usize, b: usize, out: &mut Vec<u8>) -> Result<(), TextFault>
-        ensures answer { OkWhereSpare result (IsPart (list self.now) a b) (b - a) (vec_capacity out.old - vec_len out.old) }
+        ensures answer { OkWhereSpare result (IsPart (list self.now) a b) (b - a)
+            (vec_capacity out.old - vec_len out.old) }
         ensures copied { OnOk result (out.new.items ≡ out.old.items ++ range (list self.now) a b) }
         ensures err { OnErr result (out.new.items ≡ out.old.items) }
         ensures capacity { vec_capacity out.old ≤ vec_capacity out.new };
 
-    /// Makes room for `n` characters in all: until the text is longer, `insert` and `replace` need no memory.
+    /// Makes room for `n` characters in all: until the text is longer, `insert` and `replace` need
+    /// no memory.
     fn reserve(&mut self, n: usize) -> Result<(), TextFault>
         ensures answer { OkWithin result n (room self.old) }
         ensures room { OnOk result (n ≤ room self.new) }
@@ -88,13 +98,15 @@ pub trait TextStore {
         ensures list { list self.new ≡ list self.old }
         ensures pointer { pointer self.new ≡ pointer self.old };
 
-    /// What a vector holds, which is at most `LIMIT` characters, becomes the text, with the pointer at its start. Nothing is
-    /// copied and no memory is wanted; the memory of the text before is handed back, with nothing in it.
+    /// What a vector holds, which is at most `LIMIT` characters, becomes the text, with the pointer
+    /// at its start. The larger of the two memories is kept, and the other handed back with nothing
+    /// in it; no more is wanted. The text is copied only where its own memory is the smaller one.
     fn exchange(&mut self, text: Vec<u8>) -> Vec<u8>
         requires { length text.items ≤ LIMIT }
         ensures list { list self.new ≡ text.items }
         ensures pointer { pointer self.new ≡ 0 }
-        ensures spare { result.items ≡ [] };
+        ensures spare { result.items ≡ [] }
+        ensures room { room self.old ≤ room self.new };
 
     /// The text in two pieces, of which either may be empty.
     fn slices(&self) -> (&[u8], &[u8])

@@ -10,7 +10,8 @@ use std::marker::Model;
 use std::mem;
 use teco_base::LIMIT;
 
-/// A text in one vector, with its pointer. An edit takes time by its own characters and by all those behind it.
+/// A text in one vector, with its pointer. An edit takes time by its own characters and by all
+/// those behind it.
 #[derive(Drop)]
 pub struct VecText {
     bytes: Vec<u8>,
@@ -24,7 +25,12 @@ impl Model for VecText {
 
     ghost Value = { PointedText };
 
-    ghost view = { λ t. record { list = t.bytes.items; pointer = t.dot; room = vec_capacity t.bytes } };
+    ghost view = { λ t. record {
+      list = t.bytes.items;
+      pointer =
+          t.dot;
+      room = vec_capacity t.bytes;
+    } };
 
     ghost invariant = { λ t. (t.dot ≤ length t.bytes.items) × (length t.bytes.items ≤ LIMIT) };
 }
@@ -119,10 +125,17 @@ impl TextStore for VecText {
         Ok(())
     }
 
-    fn exchange(&mut self, text: Vec<u8>) -> Vec<u8> {
+    fn exchange(&mut self, mut text: Vec<u8>) -> Vec<u8> {
+        self.dot = 0;
+        if text.capacity() < self.bytes.capacity() {
+            self.bytes.clear();
+            // it fits
+            let _ = self.bytes.extend_from_slice(&text);
+            text.clear();
+            return text;
+        }
         let mut spare = mem::replace(&mut self.bytes, text);
         spare.clear();
-        self.dot = 0;
         spare
     }
 
@@ -131,7 +144,8 @@ impl TextStore for VecText {
     }
 }
 
-// Puts `new` in at a place, in time by `new` and the tail. Where memory is refused, nothing has moved.
+// Puts `new` in at a place, in time by `new` and the tail. Where memory is refused, nothing has
+// moved.
 fn insert_at(text: &mut Vec<u8>, at: usize, new: &[u8]) -> Result<(), AllocError>
     requires { at ≤ length text.old.items }
     ensures ok { OnOk result (text.new.items ≡ text_after_insertion text.old.items at new.now) }
@@ -160,7 +174,8 @@ fn replace_part(text: &mut Vec<u8>, a: usize, b: usize, new: &[u8]) -> Result<()
     ensures ok { OnOk result (text.new.items ≡ text_after_replacement text.old.items a b new.now) }
     ensures err { OnErr result (text.new.items ≡ text.old.items) }
     ensures capacity { vec_capacity text.old ≤ vec_capacity text.new }
-    ensures succeeds { length (text_after_replacement text.old.items a b new.now) ≤ vec_capacity text.old
+    ensures succeeds { length (text_after_replacement text.old.items a b new.now) ≤
+        vec_capacity text.old
         → IsOk result }
 {
     if new.len() < b - a {

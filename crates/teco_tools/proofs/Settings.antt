@@ -1,5 +1,5 @@
 -- Texts for some registers, and none for the others.
-use Rattle.std.proofs.Common.{◌≡◌, subst, ◌≤◌, ℕ, List, length, Option, None, Some, replicate, set}
+use Rattle.std.proofs.Common.{subst, ◌≤◌, ℕ, List, length, Option, None, Some, replicate, set}
 use Rattle.std.proofs.lemmas.List.Elements.{All-replicate, All-set}
 use Rattle.std.proofs.lemmas.Option.{same_Some}
 use Rattle.std.specs.Borrow.{Bor}

@@ -12,7 +12,7 @@ pub record Holds (size commands : Polynomial) (n : ℕ) : Type 0 where
   pub fits : value size n ≤ LIMIT
   pub counts : value commands n ≤ MOST
 
--- it does not: one of the two is too large
+-- the premise fails: one of the two is too large
 abbrev pub Fails : Polynomial → Polynomial → ℕ → Type 0
 Fails size commands n = (LIMIT < value size n) ⊎ (MOST < value commands n)
 

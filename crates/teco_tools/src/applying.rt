@@ -21,11 +21,11 @@ use std::io::{Input, Write};
 use std::rt::Files;
 use teco_apply::{Edit, Edited, Pages, edit_file};
 use teco_base::Reg;
-use teco_gap::GapText;
 use teco_library::Library;
 use teco_pages::Host;
 use teco_run::Machine;
 use teco_source::{Shown, Source};
+use teco_text::GapText;
 use teco_verify::{Refusal, Verified, account_of};
 
 /// A macro of a library, and how it is run on files.
@@ -94,7 +94,8 @@ fn tell_unedited<O: Write + Drop, E: Write + Drop>(
     }
 }
 
-/// Edits a file by a verified macro over the files of a host, and says what there is to be said of it.
+/// Edits a file by a verified macro over the files of a host, and says what there is to be said of
+/// it.
 pub fn edit_by<H: Host + Reporting, O: Write + Drop, E: Write + Drop>(
     alloc: Global,
     console: &mut Console<O, E>,
@@ -176,8 +177,8 @@ pub fn refuse_task<O: Write + Drop, E: Write + Drop>(
     }
 }
 
-/// Edits a file into another by a macro of a library, which is verified first, or whose certificate is checked, over the files of
-/// a host.
+/// Edits a file into another by a macro of a library, which is verified first, or whose certificate
+/// is checked, over the files of a host.
 pub fn apply_macro<R: Files + Input, H: Host + Reporting, O: Write + Drop, E: Write + Drop>(
     rt: &R,
     alloc: Global,

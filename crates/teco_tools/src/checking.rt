@@ -136,7 +136,8 @@ fn check_claim<O: Write + Drop, E: Write + Drop>(
     entry: Reg,
     claim: &Claim<'_>,
 ) -> Result<Outcome, ToolFault>
-    ensures { IfOk result (λ outcome. outcome ≡ Done → IsCertificate library.now entry claim.now.bytes.items) }
+    ensures { IfOk result (λ outcome. outcome ≡ Done
+        → IsCertificate library.now entry claim.now.bytes.items) }
 {
     match claim.accept(alloc, library, entry) {
         Ok(verified) => {

@@ -1,8 +1,8 @@
 //! Certificates in files.
-ghost use Rattle.std.specs.Prelude.{◌≡◌, ◌≤◌, IfOk, vec_len};
+ghost use Rattle.std.specs.Prelude.{◌≡◌, ◌≤◌, IfOk, IfSome, vec_len};
 ghost use Rattle.teco_base.specs.declared.TheConstants.{LIMIT};
 ghost use Rattle.teco_certificate.specs.Text.{certificate_text};
-ghost use Rattle.teco_verify.specs.Finding.{TakesDeclared};
+ghost use Rattle.teco_verify.specs.Certified.{TakesDeclared};
 
 use crate::fault::ToolFault;
 use crate::files::read_file;
@@ -44,7 +44,8 @@ impl<'a> Claim<'a> {
         ensures library { IfOk result (λ verified. verified.library ≡ library.now.texts) }
         ensures declared { IfOk result (λ verified. TakesDeclared library.now verified.fields) }
         ensures entry { IfOk result (λ verified. verified.fields.entry ≡ entry) }
-        ensures text { IfOk result (λ verified. certificate_text verified.fields ≡ self.now.bytes.items) }
+        ensures text { IfOk result (λ verified. certificate_text verified.fields
+            ≡ self.now.bytes.items) }
     {
         let verified = check_certificate(alloc, library, &self.bytes)?;
         if verified.entry().index() == entry.index() {
@@ -77,6 +78,8 @@ pub fn accepted<'l>(
     ensures library { IfOk result (λ verified. verified.library ≡ library.now.texts) }
     ensures declared { IfOk result (λ verified. TakesDeclared library.now verified.fields) }
     ensures entry { IfOk result (λ verified. verified.fields.entry ≡ entry) }
+    ensures text { IfSome claim.entry (λ claim. IfOk result
+        (λ verified. certificate_text verified.fields ≡ claim.now.bytes.items)) }
 {
     match claim {
         None => verify(alloc, library, entry),

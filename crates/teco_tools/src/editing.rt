@@ -48,7 +48,8 @@ const NONE: Tally = Tally {
     outcome: Outcome::Done,
 };
 
-// The name that a file's new text is written to: another name of the same file, since an edit can't read and write one name.
+// The name that a file's new text is written to: another name of the same file, since an edit can't
+// read and write one name.
 fn target_of(alloc: Global, name: &str) -> Result<String, AllocError> {
     if name.starts_with('/') {
         format!(in alloc; "/.{name}")
@@ -81,7 +82,8 @@ fn tell_name<O: Write + Drop, E: Write + Drop>(console: &mut Console<O, E>, name
     ));
 }
 
-// Edits a file, and says what became of it; none where it is left as it was because the edit failed.
+// Edits a file, and says what became of it; none where it is left as it was because the edit
+// failed.
 fn edit_with<R, O, E>(
     rt: R,
     alloc: Global,
@@ -271,9 +273,9 @@ where
     Ok(outcome)
 }
 
-/// Accepts a macro of a library once, and edits each file by it in place, with a new machine for each. Nothing is touched where
-/// the macro is refused; a file that fails is left as it was, named, and the others go on. A file that would stay as it is isn't
-/// replaced.
+/// Accepts a macro of a library once, and edits each file by it in place, with a new machine for
+/// each. Nothing is touched where the macro is refused; a file that fails is left as it was, named,
+/// and the others go on. A file that would stay as it is isn't replaced.
 pub fn edit_files<R, O, E>(
     rt: &R,
     alloc: Global,

@@ -16,7 +16,8 @@ use teco_library::Library;
 use teco_source::{Position, Shown, Source};
 use teco_verify::{Account, account_of};
 
-// The text of an element: the call that the macro is begun by, an element of a text, or nothing at the end of one.
+// The text of an element: the call that the macro is begun by, an element of a text, or nothing at
+// the end of one.
 fn text_of<'l>(library: &'l Library, account: &Account<'l>, number: usize) -> (&'l [u8], usize) {
     let Some(register) = account.register(number) else {
         return (&[], 0);
@@ -102,8 +103,8 @@ fn conclude<O: Write + Drop, E: Write + Drop>(
     }
 }
 
-/// Lists the elements that a macro of a library comes to, up to the one at which it is refused, with what is known before each, what
-/// is chosen for each iteration, and the verdict.
+/// Lists the elements that a macro of a library comes to, up to the one at which it is refused,
+/// with what is known before each, what is chosen for each iteration, and the verdict.
 pub fn explain_macro<R: Files + Input, O: Write + Drop, E: Write + Drop>(
     rt: &R,
     alloc: Global,

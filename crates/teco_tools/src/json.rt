@@ -186,7 +186,8 @@ pub fn verify_macro_as_json<R: Files + Input, O: Write + Drop, E: Write + Drop>(
     }
 }
 
-/// Verifies each macro of a library, A to Z and then 0 to 9, and prints an object of JSON for each, in a line of its own.
+/// Verifies each macro of a library, A to Z and then 0 to 9, and prints an object of JSON for each,
+/// in a line of its own.
 pub fn verify_library_as_json<R: Files + Input, O: Write + Drop, E: Write + Drop>(
     rt: &R,
     alloc: Global,

@@ -43,8 +43,8 @@ fn copy<H: Host>(
     host.close_out()
 }
 
-/// Keeps a file as it is under its name with a suffix behind it, in the place of one that has it, and says whether that could be
-/// done. It says why not.
+/// Keeps a file as it is under its name with a suffix behind it, in the place of one that has it,
+/// and says whether that could be done. It says why not.
 pub fn keep<R, O, E>(
     rt: &R,
     alloc: Global,

@@ -4,7 +4,7 @@ use std::alloc::{AllocError, Global};
 use std::fmt;
 use teco_base::Reg;
 use teco_poly::Poly;
-use teco_rules::{Distances, Interval, Value};
+use teco_verifier::{Distances, Interval, Value};
 use teco_verify::{Choice, Known};
 
 /// The numbers that a register may have.
@@ -132,8 +132,9 @@ fn push_register(
     Ok(())
 }
 
-/// What is known before an element, in words: the characters behind and ahead of the pointer, what is held at most, what is pending,
-/// what was used up in the turns of the open iterations, and what registers hold where that is known.
+/// What is known before an element, in words: the characters behind and ahead of the pointer, what
+/// is held at most, what is pending, what was used up in the turns of the open iterations, and what
+/// registers hold where that is known.
 pub fn words_of(alloc: Global, known: &Known<'_>) -> Result<String, AllocError> {
     let Distances { back, fore } = known.room();
     let ahead = known.ahead().print(alloc)?;

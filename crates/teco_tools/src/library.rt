@@ -1,6 +1,7 @@
 //! Library files with their sources.
 ghost use Rattle.std.specs.Prelude.{◌≤◌, IfOk, length, vec_len};
 ghost use Rattle.teco_base.specs.declared.TheConstants.{LIMIT};
+ghost use Rattle.teco_library.specs.Reads.{Reads};
 
 use crate::fault::ToolFault;
 use crate::files::read_file;
@@ -11,8 +12,8 @@ use std::rt::Files;
 use teco_base::{LIMIT, Reg};
 use teco_explain::Explained;
 use teco_library::{Library, LibraryFault};
-use teco_rules::Refusal as Why;
 use teco_source::Source;
+use teco_verifier::Refusal as Why;
 use teco_verify::Refusal;
 
 /// Reads the source of a library: a file, or standard input where the name is `-`.
@@ -27,7 +28,9 @@ pub fn read_source<R: Files + Input>(
 }
 
 /// The library that a source says.
-pub fn library_of(alloc: Global, source: &Source) -> Result<Library, Refusal> {
+pub fn library_of(alloc: Global, source: &Source) -> Result<Library, Refusal>
+    ensures { IfOk result (λ library. Reads source.now (Ok library)) }
+{
     if source.text().len() > LIMIT {
         return Err(Refusal::Memory);
     }

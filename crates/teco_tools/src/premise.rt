@@ -7,7 +7,8 @@ use teco_base::LIMIT;
 use teco_poly::Poly;
 use teco_poly::laws::values_grow;
 
-/// The greatest N at which a promise holds: the printed size may be held, and the printed number of commands is one of 64 bits.
+/// The greatest N at which a promise holds: the printed size may be held, and the printed number of
+/// commands is one of 64 bits.
 #[derive(Clone, Copy, Debug, PartialEq, Eq)]
 pub struct Premise {
     pub last: Option<u64>,

@@ -9,8 +9,8 @@ const FIRST: &[u8] = b"* ";
 /// What is written before each further line of a command string.
 const FURTHER: &[u8] = b"> ";
 
-/// A reader that writes a prompt before each read, where it is to: one before a command string, and another where one is begun
-/// and has no end.
+/// A reader that writes a prompt before each read, where it is to: one before a command string, and
+/// another where one is begun and has no end.
 #[derive(Drop)]
 pub struct Prompting<S: Read + Drop, P: Write + Drop> {
     reader: S,

@@ -14,13 +14,12 @@ use std::io::{Input, Read, Write};
 use std::time::Clock;
 use teco_base::{Code, LIMIT};
 use teco_explain::note_of_code;
-use teco_gap::GapText;
 use teco_model::Limits;
 use teco_pages::FileHost;
 use teco_run::{Machine, Stop, Stopped};
 use teco_session::{Conduct, Done, Listener, session_heard};
 use teco_source::{Shown, Source};
-use teco_text::TextStore;
+use teco_text::{GapText, TextStore};
 
 /// What command strings are read from.
 #[derive(Clone, Copy)]
@@ -282,7 +281,8 @@ where
     }
 }
 
-// Says what a run leaves that is lost: an output that isn't closed, and text that the end of the session drops.
+// Says what a run leaves that is lost: an output that isn't closed, and text that the end of the
+// session drops.
 fn tell_left<O: Write + Drop, E: Write + Drop>(
     console: &mut Console<O, E>,
     machine: &Machine<GapText>,
@@ -300,8 +300,9 @@ fn tell_left<O: Write + Drop, E: Write + Drop>(
     }
 }
 
-/// Runs scripts one after another on one machine, over the files of a host; the stream among them is what the reader gives. A
-/// code does not keep later ones from running, unless the first is to end it; a command string that ends the session does.
+/// Runs scripts one after another on one machine, over the files of a host; the stream among them
+/// is what the reader gives. A code does not keep later ones from running, unless the first is to
+/// end it; a command string that ends the session does.
 pub fn run_scripts<R, S, F, O, E>(
     rt: &R,
     alloc: Global,

@@ -22,7 +22,8 @@ pub struct Setting {
 }
 
 impl Setting {
-    /// Reads a word, whose text is in the form of words; none where it is no such word, or its text is too long.
+    /// Reads a word, whose text is in the form of words; none where it is no such word, or its text
+    /// is too long.
     pub fn read(alloc: Global, word: &str, escape: Escape) -> Result<Option<Setting>, AllocError> {
         let Some((name, text)) = word.split_once('=') else {
             return Ok(None);

@@ -27,8 +27,9 @@ pub fn show<R: Files + Input, O: Write + Drop, E: Write + Drop>(
     Ok(Outcome::Done)
 }
 
-/// Prints the source that says a text in a form, which reads as the same bytes. Where the text has none, because it has the
-/// mark in it or in the readable form a caret right before ESC, that is said.
+/// Prints the source that says a text in a form, which reads as the same bytes. Where the text has
+/// none, because it has the mark in it or in the readable form a caret right before ESC, that is
+/// said.
 pub fn show_source<R: Files + Input, O: Write + Drop, E: Write + Drop>(
     rt: &R,
     alloc: Global,

@@ -1,7 +1,8 @@
 //! Files, and the standard streams under a name of theirs.
-ghost use Rattle.std.specs.Prelude.{◌≡◌, ◌≤◌, ◌<◌, ◌+◌, [], None, length, IfOk, IsErr, OnErr};
+ghost use Rattle.std.specs.Prelude.{◌≡◌, ◌≤◌, ◌<◌, ◌+◌, suc, length, IfOk, IsErr, OnErr};
 ghost use Rattle.teco_base.specs.declared.TheConstants.{LIMIT};
 ghost use Rattle.teco_pages.specs.HostCalls.{Counts};
+ghost use Rattle.teco_pages.specs.HostFiles.{Notes};
 ghost use Rattle.teco_tools.specs.Streams.{given_of};
 
 use crate::reporting::Reporting;
@@ -9,7 +10,7 @@ use std::alloc::Global;
 use std::io;
 use std::io::{ErrorKind, Read, Write};
 use teco_base::LIMIT;
-use teco_pages::{Failed, Host, MemHost, Purpose, Reason, Trouble};
+use teco_pages::{Count, Failed, History, Host, Purpose, Reason, Trouble};
 
 /// What names standard input for a machine. No file can have a name with a NUL.
 pub const INPUT: &[u8] = b"\0input";
@@ -33,8 +34,8 @@ pub enum Open {
     Stream,
 }
 
-/// The files of a host, and under names of their own standard input and standard output. What is written to standard output
-/// is sent at once, and stays sent where the output is dropped.
+/// The files of a host, and under names of their own standard input and standard output. What is
+/// written to standard output is sent at once, and stays sent where the output is dropped.
 #[derive(Drop)]
 pub struct Streams<H: Host + Drop, I: Read + Drop, O: Write + Drop> {
     files: H,
@@ -46,10 +47,10 @@ pub struct Streams<H: Host + Drop, I: Read + Drop, O: Write + Drop> {
     given: usize,
     alloc: Global,
     trouble: Option<Trouble>,
-    // a host without files: its calls fail, and count the failures of the streams
-    nowhere: MemHost,
+    // those of the streams
+    failures: Count,
+    history: History,
     ghost within: { given ≤ LIMIT },
-    ghost empty: { nowhere.told.named ≡ [] },
 }
 
 impl<H: Host + Drop, I: Read + Drop, O: Write + Drop> Streams<H, I, O> {
@@ -64,7 +65,8 @@ impl<H: Host + Drop, I: Read + Drop, O: Write + Drop> Streams<H, I, O> {
             given: 0,
             alloc,
             trouble: None,
-            nowhere: MemHost::new(alloc),
+            failures: Count::new(),
+            history: History::new(),
         }
     }
 
@@ -79,7 +81,8 @@ impl<H: Host + Drop, I: Read + Drop, O: Write + Drop> Streams<H, I, O> {
             given: _,
             alloc: _,
             trouble: _,
-            nowhere: _,
+            failures: _,
+            history: _,
         } = self;
         (reader, writer)
     }
@@ -87,23 +90,21 @@ impl<H: Host + Drop, I: Read + Drop, O: Write + Drop> Streams<H, I, O> {
     // Counts a failure of a stream, and keeps why it failed.
     fn failed<T>(&mut self, purpose: Purpose, name: &[u8], reason: Reason) -> Result<T, Failed>
         ensures failed { IsErr result }
-        ensures counted { self.old.nowhere.failures < self.new.nowhere.failures }
+        ensures counted { self.new.failures.value ≡ suc self.old.failures.value }
+        ensures history { self.new.history ≡ self.old.history }
         ensures files { self.new.files ≡ self.old.files }
         ensures input { self.new.input ≡ self.old.input }
         ensures given { self.new.given ≡ self.old.given }
     {
         self.trouble = Some(Trouble::of(self.alloc, purpose, told_name(name), reason));
-        match self.nowhere.open_in(name) {
-            // unreachable: the host without files opens none
-            Ok(()) => Err(Failed),
-            Err(failed) => Err(failed),
-        }
+        self.failures.failed()
     }
 
     // Standard input could not be read.
     fn cannot_read<T>(&mut self, reason: Reason) -> Result<T, Failed>
         ensures failed { IsErr result }
-        ensures counted { self.old.nowhere.failures < self.new.nowhere.failures }
+        ensures counted { self.new.failures.value ≡ suc self.old.failures.value }
+        ensures history { self.new.history ≡ self.old.history }
         ensures files { self.new.files ≡ self.old.files }
         ensures input { self.new.input ≡ self.old.input }
         ensures given { self.new.given ≡ self.old.given }
@@ -114,7 +115,8 @@ impl<H: Host + Drop, I: Read + Drop, O: Write + Drop> Streams<H, I, O> {
     // Standard output could not be written to.
     fn cannot_write<T>(&mut self, reason: Reason) -> Result<T, Failed>
         ensures failed { IsErr result }
-        ensures counted { self.old.nowhere.failures < self.new.nowhere.failures }
+        ensures counted { self.new.failures.value ≡ suc self.old.failures.value }
+        ensures history { self.new.history ≡ self.old.history }
         ensures files { self.new.files ≡ self.old.files }
         ensures input { self.new.input ≡ self.old.input }
         ensures given { self.new.given ≡ self.old.given }
@@ -122,9 +124,11 @@ impl<H: Host + Drop, I: Read + Drop, O: Write + Drop> Streams<H, I, O> {
         self.failed(Purpose::WriteOutput, OUTPUT, reason)
     }
 
-    // Reads from the stream; one that has given `LIMIT` bytes is read past its end only to see that it is there.
+    // Reads from the stream; one that has given `LIMIT` bytes is read past its end only to see that
+    // it is there.
     fn read_stream(&mut self, buf: &mut [u8]) -> Result<usize, Failed>
-        ensures counted { Counts result self.old.nowhere.failures self.new.nowhere.failures }
+        ensures counted { Counts result self.old.failures.value self.new.failures.value }
+        ensures history { self.new.history ≡ self.old.history }
         ensures bound { IfOk result (λ n. n ≤ length buf.new) }
         ensures given { IfOk result (λ n. self.new.given ≡ self.old.given + n) }
         ensures err { OnErr result (self.new.given ≡ self.old.given) }
@@ -150,7 +154,8 @@ impl<H: Host + Drop, I: Read + Drop, O: Write + Drop> Streams<H, I, O> {
 
     // Writes to the stream.
     fn write_stream(&mut self, bytes: &[u8]) -> Result<usize, Failed>
-        ensures counted { Counts result self.old.nowhere.failures self.new.nowhere.failures }
+        ensures counted { Counts result self.old.failures.value self.new.failures.value }
+        ensures history { self.new.history ≡ self.old.history }
         ensures bound { IfOk result (λ n. n ≤ length bytes.now) }
         ensures some { IfOk result (λ n. 0 < length bytes.now → 0 < n) }
         ensures files { self.new.files ≡ self.old.files }
@@ -159,6 +164,20 @@ impl<H: Host + Drop, I: Read + Drop, O: Write + Drop> Streams<H, I, O> {
     {
         match self.writer.write_all(bytes) {
             Ok(()) => Ok(bytes.len()),
+            Err(error) => self.cannot_write(Reason::System(error)),
+        }
+    }
+
+    // Sends on what was written to the stream.
+    fn flush_stream(&mut self) -> Result<(), Failed>
+        ensures counted { Counts result self.old.failures.value self.new.failures.value }
+        ensures history { self.new.history ≡ self.old.history }
+        ensures files { self.new.files ≡ self.old.files }
+        ensures input { self.new.input ≡ self.old.input }
+        ensures given { self.new.given ≡ self.old.given }
+    {
+        match self.writer.flush() {
+            Ok(()) => Ok(()),
             Err(error) => self.cannot_write(Reason::System(error)),
         }
     }
@@ -178,9 +197,9 @@ fn read_some<I: Read>(reader: &mut I, buf: &mut [u8]) -> io::Result<usize>
 }
 
 impl<H: Host + Drop, I: Read + Drop, O: Write + Drop> Host for Streams<H, I, O> {
-    ghost files = { λ _. None };
+    ghost files = { λ s. Notes s.history.events };
 
-    ghost failures = { λ s. H.failures s.files + s.nowhere.failures };
+    ghost failures = { λ s. H.failures s.files + s.failures.value };
 
     ghost given = { λ s. given_of s.input (H.given s.files) s.given };
 
@@ -188,48 +207,57 @@ impl<H: Host + Drop, I: Read + Drop, O: Write + Drop> Host for Streams<H, I, O> 
         if name == INPUT {
             self.input = Open::Stream;
             self.given = 0;
-            return Ok(());
+        } else {
+            self.files.open_in(name)?;
+            self.input = Open::File;
         }
-        self.files.open_in(name)?;
-        self.input = Open::File;
+        self.history.opened_input(name);
         Ok(())
     }
 
     fn read(&mut self, buf: &mut [u8]) -> Result<usize, Failed> {
-        match self.input {
-            Open::File => self.files.read(buf),
-            Open::Stream => self.read_stream(buf),
-        }
+        let n = match self.input {
+            Open::File => self.files.read(buf)?,
+            Open::Stream => self.read_stream(buf)?,
+        };
+        self.history.gave(buf, n);
+        Ok(n)
     }
 
     fn open_out(&mut self, name: &[u8]) -> Result<(), Failed> {
         if name == OUTPUT {
             self.output = Open::Stream;
-            return Ok(());
+        } else {
+            self.files.open_out(name)?;
+            self.output = Open::File;
         }
-        self.files.open_out(name)?;
-        self.output = Open::File;
+        self.history.opened_output(name);
         Ok(())
     }
 
     fn write(&mut self, bytes: &[u8]) -> Result<usize, Failed> {
-        match self.output {
-            Open::File => self.files.write(bytes),
-            Open::Stream => self.write_stream(bytes),
-        }
+        let n = match self.output {
+            Open::File => self.files.write(bytes)?,
+            Open::Stream => self.write_stream(bytes)?,
+        };
+        self.history.wrote(bytes, n);
+        Ok(n)
     }
 
     fn close_out(&mut self) -> Result<(), Failed> {
-        match self.output {
+        let closed = match self.output {
             Open::File => self.files.close_out(),
-            Open::Stream => match self.writer.flush() {
-                Ok(()) => Ok(()),
-                Err(error) => self.cannot_write(Reason::System(error)),
-            },
+            Open::Stream => self.flush_stream(),
+        };
+        match closed {
+            Ok(()) => self.history.closed(),
+            Err(Failed) => self.history.dropped(),
         }
+        closed
     }
 
     fn drop_out(&mut self) -> Result<(), Failed> {
+        self.history.dropped();
         match self.output {
             Open::File => self.files.drop_out(),
             Open::Stream => Ok(()),

@@ -10,7 +10,7 @@ use std::{fs, io};
 use teco_apply::Pages;
 use teco_base::Reg;
 use teco_pages::FileHost;
-use teco_rules::Refusal as Why;
+use teco_verifier::Refusal as Why;
 
 /// Writers over memory, in place of standard output and standard error.
 fn kept(rt: &HostRuntime) -> Console<Vec<u8>, Vec<u8>> {

@@ -17,12 +17,11 @@ use std::rt::Files;
 use teco_base::bytes::ESC;
 use teco_base::{Code, LIMIT, Reg};
 use teco_explain::note_of_code;
-use teco_gap::GapText;
 use teco_model::Stop;
 use teco_pages::Host;
 use teco_run::{Machine, Progress, Site, Stopped};
 use teco_source::{Position, Shown};
-use teco_text::TextStore;
+use teco_text::{GapText, TextStore};
 
 /// What stands over the steps.
 const HEAD: &str = "step\tplace\telement\tpointer\tlength\tanswer\ttyped\n";
@@ -162,9 +161,10 @@ fn follow<T: TextStore, H: Host + Reporting, O: Write + Drop, E: Write + Drop>(
     Ok(Outcome::Done)
 }
 
-/// Lists the steps of a macro of a library on a file, `most` at most: the number of each, the register and the line and column of
-/// its element, the element, and the pointer, the length of the buffer, the value that is pending and what was typed behind it.
-/// The macro need not be one that is accepted.
+/// Lists the steps of a macro of a library on a file, `most` at most: the number of each, the
+/// register and the line and column of its element, the element, and the pointer, the length of the
+/// buffer, the value that is pending and what was typed behind it. The macro need not be one that
+/// is accepted.
 pub fn trace_macro<R: Files + Input, H: Host + Reporting, O: Write + Drop, E: Write + Drop>(
     rt: &R,
     alloc: Global,

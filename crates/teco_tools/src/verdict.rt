@@ -2,10 +2,11 @@
 use std::fmt;
 use teco_base::Reg;
 use teco_explain::number_of;
-use teco_rules::Refusal as Why;
+use teco_verifier::Refusal as Why;
 use teco_verify::Refusal;
 
-/// Why a library or a certificate is refused, and where: in the text of a register, or in the library file.
+/// Why a library or a certificate is refused, and where: in the text of a register, or in the
+/// library file.
 #[derive(Clone, Copy)]
 pub struct Verdict {
     pub why: Why,

@@ -1,7 +1,9 @@
 //! `verify`: macros of a library are verified.
-ghost use Rattle.std.specs.Prelude.{OnOk};
+ghost use Rattle.std.specs.Prelude.{◌≡◌, IfOk, OnOk};
 ghost use Rattle.std.specs.Io.KnownBytes.{Appends};
 ghost use Rattle.teco_certificate.specs.Text.{certificate_text};
+ghost use Rattle.teco_tools.specs.Certificates.{Prints, PrintsOf};
+ghost use Rattle.teco_tools.specs.declared.outcome.Outcome.TheVariants.{Done, Refused};
 
 use crate::console::{Console, Voice};
 use crate::explaining::tell_known;
@@ -24,7 +26,9 @@ pub fn refuse<O: Write + Drop, E: Write + Drop>(
     console: &mut Console<O, E>,
     source: &Source,
     refusal: Refusal,
-) -> Result<Outcome, ToolFault> {
+) -> Result<Outcome, ToolFault>
+    ensures { IfOk result (λ outcome. outcome ≡ Refused) }
+{
     let Some(verdict) = Verdict::of(&refusal) else {
         return Err(ToolFault::Memory);
     };
@@ -46,7 +50,8 @@ fn certify<O: Write + Drop, E: Write + Drop>(
     console: &mut Console<O, E>,
     verified: &Verified<'_>,
 ) -> Result<Outcome, ToolFault>
-    ensures { OnOk result (Appends (O.contents console.old.out) (O.contents console.new.out) (certificate_text verified.now.fields)) }
+    ensures { OnOk result (Appends (O.contents console.old.out) (O.contents console.new.out)
+        (certificate_text verified.now.fields)) }
 {
     let text = verified.certificate(alloc)?;
     console.out.write_all(text.as_slice())?;
@@ -61,22 +66,48 @@ pub fn refuse_macro<O: Write + Drop, E: Write + Drop>(
     source: &Source,
     account: &Account<'_>,
     refusal: Refusal,
-) -> Result<Outcome, ToolFault> {
+) -> Result<Outcome, ToolFault>
+    ensures { IfOk result (λ outcome. outcome ≡ Refused) }
+{
     let outcome = refuse(console, source, refusal)?;
     tell_known(alloc, console, account)?;
     Ok(outcome)
 }
 
-// Prints the certificate of a macro, or why it is refused.
-fn answer_macro<O: Write + Drop, E: Write + Drop>(
+// Prints the certificate of a macro of a library, or why it is refused.
+fn verify_entry<O: Write + Drop, E: Write + Drop>(
     alloc: Global,
     console: &mut Console<O, E>,
     source: &Source,
-    account: &Account<'_>,
-) -> Result<Outcome, ToolFault> {
+    library: &Library,
+    entry: Reg,
+) -> Result<Outcome, ToolFault>
+    ensures { IfOk result (λ outcome. outcome ≡ Done
+        → Prints library.now entry (O.contents console.old.out) (O.contents console.new.out)) }
+{
+    let account = account_of(alloc, library, entry)?;
     match account.verdict() {
-        Ok(verified) => certify(alloc, console, verified),
-        Err(refusal) => refuse_macro(alloc, console, source, account, refusal),
+        Ok(verified) => {
+            verified.is_certified();
+            certify(alloc, console, verified)
+        }
+        Err(refusal) => refuse_macro(alloc, console, source, &account, refusal),
+    }
+}
+
+// Prints the certificate of a macro of the library that a source says, or why it is refused.
+fn verify_source<O: Write + Drop, E: Write + Drop>(
+    alloc: Global,
+    console: &mut Console<O, E>,
+    source: &Source,
+    entry: Reg,
+) -> Result<Outcome, ToolFault>
+    ensures { IfOk result (λ outcome. outcome ≡ Done
+        → PrintsOf source.now entry (O.contents console.old.out) (O.contents console.new.out)) }
+{
+    match library_of(alloc, source) {
+        Ok(library) => verify_entry(alloc, console, source, &library, entry),
+        Err(refusal) => refuse(console, source, refusal),
     }
 }
 
@@ -89,12 +120,7 @@ pub fn verify_macro<R: Files + Input, O: Write + Drop, E: Write + Drop>(
     entry: Reg,
 ) -> Result<Outcome, ToolFault> {
     let source = read_source(rt, alloc, request.library, request.escape)?;
-    let library = match library_of(alloc, &source) {
-        Ok(library) => library,
-        Err(refusal) => return refuse(console, &source, refusal),
-    };
-    let account = account_of(alloc, &library, entry)?;
-    answer_macro(alloc, console, &source, &account)
+    verify_source(alloc, console, &source, entry)
 }
 
 // Prints what comes of one macro of several.

@@ -33,7 +33,8 @@ pub const NOTHING_SEEN: Seen = Seen {
     unread: Some(0),
 };
 
-/// Watches the runs of a verified macro on a file: it says where one is outside the promise, and refuses it if it is strict.
+/// Watches the runs of a verified macro on a file: it says where one is outside the promise, and
+/// refuses it if it is strict.
 #[derive(Drop)]
 pub struct Warden<'v, 's, E: Write + Drop> {
     voice: &'v mut Voice<E>,

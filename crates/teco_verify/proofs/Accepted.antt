@@ -4,28 +4,28 @@ use Rattle.std.proofs.lemmas.List.Elements.{All-nil}
 use Rattle.std.specs.List.{AllByRecursion, list_any}
 use Rattle.std.specs.Option.{option_copied, ForSome}
 use Rattle.teco_base.specs.declared.TheConstants.{LIMIT, REGISTERS}
-use Rattle.teco_certificate.specs.Fields.{Fields}
+use Rattle.teco_verifier.specs.certificate.Fields.{Fields}
 use Rattle.teco_certificate.specs.WellFormed.{IsWellFormed}
 use Rattle.teco_check.specs.Derived.{AreLarge, Derives}
 use Rattle.teco_check.specs.declared.derivation.NotDerived.{NotDerived}
 use Rattle.teco_check.specs.declared.derivation.NotDerived.TheVariants as fault
 use Rattle.teco_check.specs.Kept.{AreKept}
-use Rattle.teco_check.specs.Loops.{begins, loops_from, loops_of}
-use Rattle.teco_expand.specs.Expansion.{expansion}
-use Rattle.teco_expand.specs.Library.{Library}
-use Rattle.teco_expand.specs.Node.{Node}
-use Rattle.teco_expand.specs.Refusal as expanding
+use Rattle.teco_verifier.specs.table.Loops.{begins, loops_from, loops_of}
+use Rattle.teco_verifier.specs.expansion.Expansion.{expansion}
+use Rattle.teco_model.specs.Macros.{Library, ArgumentRange}
+use Rattle.teco_verifier.specs.expansion.Node.{Node}
+use Rattle.teco_verifier.specs.expansion.Refusal as expanding
 use Rattle.teco_facts.specs.Numbers.{AreSmall, IsSmallFall}
 use Rattle.teco_facts.specs.declared.few.TheConstants.{DEPTH}
 use Rattle.teco_poly.specs.Polynomial.{Polynomial}
-use Rattle.teco_rules.specs.Argument.{ArgumentRange}
-use Rattle.teco_rules.specs.declared.refusal.Refusal.{Refusal}
-use Rattle.teco_rules.specs.Facts.{Facts}
-use Rattle.teco_straight.specs.Accepted.{BeginsNoIteration, Prints, RowIsOutside, IsAccepted}
-use Rattle.teco_table.specs.Closed.{check}
-use Rattle.teco_table.specs.Deriving.{Chosen, derive}
-use Rattle.teco_table.specs.Printed.{commands}
-use Rattle.teco_table.specs.Table.{Table, facts_at}
+use Rattle.teco_verifier.specs.declared.refusal.Refusal.{Refusal}
+use Rattle.teco_verifier.specs.facts.Facts.{Facts}
+use Rattle.teco_law_tables.specs.straight_text.Accepted.{BeginsNoIteration, Prints, RowIsOutside, IsAccepted}
+use Rattle.teco_verifier.specs.table.Closed.{check}
+use Rattle.teco_verifier.specs.table.Choices.{Chosen}
+use Rattle.teco_verifier.specs.table.Deriving.{derive}
+use Rattle.teco_verifier.specs.table.Printed.{commands}
+use Rattle.teco_verifier.specs.table.Table.{Table, facts_at}
 use Rattle.teco_verify.specs.Certifying.{AreFieldsOf}
 use Rattle.teco_verify.specs.Straight.{plain_fields}
 

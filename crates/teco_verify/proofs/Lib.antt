@@ -1,4 +1,6 @@
--- Lemmas of straight text.
+-- Lemmas of verdicts.
 mod Accepted
 mod Refused
 mod Telling
+mod Nodes
+mod Judged

@@ -1,9 +1,8 @@
 -- Where memory alone is refused, that is still so.
 use Rattle.std.proofs.Common.{◌≡◌, subst, sym, refl, Result, Err}
-use Rattle.teco_certificate.specs.Fields.{Fields}
+use Rattle.teco_verifier.specs.certificate.Fields.{Fields, Finding}
 use Rattle.teco_verify.specs.declared.refusal.Refusal.{Refusal}
 use Rattle.teco_verify.specs.declared.refusal.Refusal.TheVariants.{No, Memory}
-use Rattle.teco_verify.specs.Finding.{Finding}
 use Rattle.teco_verify.specs.Straight.{IsFound}
 
 pub still_refused : (fields : Fields) (why new : Refusal) → (why ≡ Memory → new ≡ Memory) → IsFound fields (Err why) → IsFound fields (Err new)

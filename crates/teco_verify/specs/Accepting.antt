@@ -3,13 +3,13 @@ use Rattle.std.specs.Prelude.{◌≡◌, ℕ, ◌<◌, ◌≤◌, List, [], leng
 use Rattle.std.specs.declared.alloc.Global.{Global}
 use Rattle.teco_base.specs.declared.TheConstants.{LIMIT, REGISTERS}
 use Rattle.teco_certificate.specs.Text.{certificate_text}
-use Rattle.teco_expand.specs.Library.{Library, macro}
+use Rattle.teco_model.specs.Macros.{Library, macro}
 use Rattle.teco_library.specs.Library.{LibraryFile, argument_of}
 use Rattle.teco_poly.specs.Polynomial.{Polynomial}
-use Rattle.teco_straight.specs.Accepted.{IsAccepted}
-use Rattle.teco_table.specs.Deriving.{Chosen}
+use Rattle.teco_law_tables.specs.straight_text.Accepted.{IsAccepted}
+use Rattle.teco_verifier.specs.table.Choices.{Chosen}
 use Rattle.teco_verify.specs.declared.refusal.Refusal.{Refusal}
-use Rattle.teco_verify.specs.Finding.{Finding}
+use Rattle.teco_verifier.specs.certificate.Fields.{Finding}
 use Rattle.teco_verify.specs.Straight.{plain_fields, IsFound}
 
 -- texts have no more than LIMIT characters

@@ -1,17 +1,17 @@
 -- What a table certifies.
-use Rattle.std.specs.Prelude.{◌≡◌, ◌⊎◌, ℕ, List, Option, Result, Ok, Err, ⊤}
-use Rattle.teco_certificate.specs.Fields.{Fields}
+use Rattle.std.specs.Prelude.{◌≡◌, ◌⊎◌, ℕ, List, Option, Result, Ok, Err, IsOk, ⊤}
+use Rattle.teco_verifier.specs.certificate.Fields.{Fields, Finding}
 use Rattle.teco_check.specs.declared.bad.Bad.{Bad}
 use Rattle.teco_check.specs.declared.bad.Bad.TheVariants as bad
-use Rattle.teco_check.specs.Loops.{loops_of}
-use Rattle.teco_expand.specs.Node.{Node}
-use Rattle.teco_rules.specs.Argument.{ArgumentRange}
-use Rattle.teco_table.specs.Closed.{check}
-use Rattle.teco_table.specs.Printed.{commands, size, needs_in}
-use Rattle.teco_table.specs.Table.{Table}
+use Rattle.teco_check.specs.Here.{IsNumberOf}
+use Rattle.teco_verifier.specs.table.Loops.{loops_of}
+use Rattle.teco_verifier.specs.expansion.Node.{Node}
+use Rattle.teco_model.specs.Macros.{ArgumentRange}
+use Rattle.teco_verifier.specs.table.Closed.{check}
+use Rattle.teco_verifier.specs.table.Printed.{commands, size, needs_in}
+use Rattle.teco_verifier.specs.table.Table.{Table}
 use Rattle.teco_verify.specs.declared.certifying.Flaw.{Flaw}
 use Rattle.teco_verify.specs.declared.certifying.Flaw.TheVariants as flaw
-use Rattle.teco_verify.specs.Finding.{Finding}
 
 -- its argument, numbers, needs and lines
 pub record AreFieldsOf (argument : Option ArgumentRange) (nodes : List Node) (table : Table) (entry : ℕ) (fields : Fields) : Type 0 where
@@ -22,15 +22,25 @@ pub record AreFieldsOf (argument : Option ArgumentRange) (nodes : List Node) (ta
   pub size_is : size nodes table ≡ Ok fields.size
   pub loops_are : fields.loops ≡ loops_of nodes table
 
+-- A printed number of a closed table overflows at the node of this number: the commands, or else the size.
+pub record Overflows (argument : Option ArgumentRange) (nodes : List Node) (table : Table) (number : ℕ) : Type 0 where
+  pub closed : check argument nodes table ≡ Ok tt
+  pub here : (commands argument nodes table ≡ Err number) ⊎ (IsOk (commands argument nodes table) × (size nodes table ≡ Err number))
+
 -- These, or the node at which it is not closed or a number overflows.
 abbrev pub Certifies : Option ArgumentRange → List Node → Table → ℕ → Result Finding Flaw → Type 0
 Certifies argument nodes table entry (Ok found) = AreFieldsOf argument nodes table entry found.fields
 Certifies argument nodes table entry (Err (flaw.Open number)) = check argument nodes table ≡ Err number
-Certifies argument nodes table entry (Err (flaw.Overflow number)) =
-    (commands argument nodes table ≡ Err number) ⊎ (size nodes table ≡ Err number)
+Certifies argument nodes table entry (Err (flaw.Overflow number)) = Overflows argument nodes table number
 Certifies argument nodes table entry (Err flaw.Memory) = ⊤
 
 -- why, where it is not closed
 abbrev pub flaw_by : Bad → Flaw
 flaw_by (bad.Edge number) = flaw.Open number
 flaw_by bad.Memory = flaw.Memory
+
+-- there is a node of the number that is told
+abbrev pub IsFlawIn : List Node → Flaw → Type 0
+IsFlawIn nodes (flaw.Open number) = IsNumberOf nodes number
+IsFlawIn nodes (flaw.Overflow number) = IsNumberOf nodes number
+IsFlawIn nodes flaw.Memory = ⊤

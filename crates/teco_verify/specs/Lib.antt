@@ -1,6 +1,8 @@
 -- What is found of a macro.
-pub mod Finding
+pub mod Certified
 pub mod Straight
 pub mod Accepting
 pub mod Certifying
 pub mod Telling
+pub mod Refusing
+pub mod Unfit

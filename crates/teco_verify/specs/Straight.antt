@@ -1,16 +1,15 @@
 -- What is found of straight text: the rules refuse none.
 use Rattle.std.specs.Prelude.{◌≡◌, ℕ, ◌+◌, List, [], length, None, Result, Ok, Err, ⊤}
-use Rattle.teco_certificate.specs.Fields.{Fields}
+use Rattle.teco_verifier.specs.certificate.Fields.{Fields, Finding}
 use Rattle.teco_certificate.specs.Text.{certificate_text}
 use Rattle.teco_library.specs.Library.{LibraryFile, argument_of}
 use Rattle.teco_model.specs.Element.{Element}
 use Rattle.teco_poly.specs.Polynomial.{Polynomial, number}
-use Rattle.teco_rules.specs.Printed.{no_needs}
-use Rattle.teco_straight.specs.Facts.{and_more}
-use Rattle.teco_straight.specs.Straight.{inserted, IsStraight}
+use Rattle.teco_verifier.specs.facts.Printed.{no_needs}
+use Rattle.teco_law_tables.specs.straight_text.Facts.{and_more}
+use Rattle.teco_law_tables.specs.straight_text.Straight.{inserted, IsStraight}
 use Rattle.teco_verify.specs.declared.refusal.Refusal.{Refusal}
 use Rattle.teco_verify.specs.declared.refusal.Refusal.TheVariants as refusal
-use Rattle.teco_verify.specs.Finding.{Finding}
 
 -- no file must be open, and there is no iteration
 abbrev pub plain_fields : ℕ → Polynomial → Polynomial → Fields

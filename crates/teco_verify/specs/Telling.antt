@@ -2,17 +2,15 @@
 use Rattle.std.specs.Prelude.{◌≡◌, ℕ, IfOk, List, Option, Some, None, Result, Ok, Err}
 use Rattle.std.specs.Borrow.{Bor}
 use Rattle.std.specs.Option.{option_and_then}
-use Rattle.teco_certificate.specs.Fields.{Fields}
-use Rattle.teco_check.specs.Loops.{loops_of}
-use Rattle.teco_expand.specs.Node.{Node, numbered}
-use Rattle.teco_expand.specs.Refusal as expanding
+use Rattle.teco_verifier.specs.certificate.Fields.{Fields, Finding}
+use Rattle.teco_verifier.specs.table.Loops.{loops_of}
+use Rattle.teco_verifier.specs.expansion.Node.{Node, numbered}
+use Rattle.teco_verifier.specs.expansion.Refusal as expanding
 use Rattle.teco_library.specs.Library.{LibraryFile, argument_of}
-use Rattle.teco_rules.specs.Argument.{ArgumentRange}
-use Rattle.teco_table.specs.Printed.{needs_in}
-use Rattle.teco_table.specs.Table.{Table}
-use Rattle.teco_table.specs.Verified.{IsPrinted}
+use Rattle.teco_model.specs.Macros.{ArgumentRange}
+use Rattle.teco_verifier.specs.table.Printed.{needs_in, IsPrinted}
+use Rattle.teco_verifier.specs.table.Table.{Table}
 use Rattle.teco_verify.specs.declared.refusal.Refusal.{Refusal}
-use Rattle.teco_verify.specs.Finding.{Finding}
 
 -- Where there is no expansion there are no nodes. Where it is refused at a node, that is its number.
 pub record Telling : Type 0 where

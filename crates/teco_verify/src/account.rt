@@ -1,15 +1,17 @@
 //! What the verifier knows of a macro, element by element.
-ghost use Rattle.std.specs.Prelude.{◌≡◌, ◌<◌, ◌≤◌, List, length, IfOk, IfSome, IsErr, Some, None, Ok, option_map, if◌then◌else◌};
+ghost use Rattle.std.specs.Prelude.{◌≡◌, ◌<◌, ◌≤◌, List, length, IfOk, IfSome, Some, None, Ok, option_map, if◌then◌else◌};
 ghost use Rattle.std.specs.Option.{option_map_or};
 ghost use Rattle.std.specs.Result.{result_ok};
-ghost use Rattle.teco_expand.specs.Expansion.{expansion};
-ghost use Rattle.teco_expand.specs.Node.{Node, place_of};
+ghost use Rattle.teco_verifier.specs.expansion.Expansion.{expansion};
+ghost use Rattle.teco_verifier.specs.expansion.Node.{Node, place_of};
 ghost use Rattle.teco_model.specs.Element as elements;
-ghost use Rattle.teco_check.specs.Loops.{begins};
-ghost use Rattle.teco_rules.specs.Facts.{Facts};
-ghost use Rattle.teco_rules.specs.Flows as rules;
-ghost use Rattle.teco_table.specs.Table.{facts_at, choice_at};
-ghost use Rattle.teco_verify.specs.Finding.{TakesDeclared};
+ghost use Rattle.teco_verifier.specs.table.Loops.{begins};
+ghost use Rattle.teco_verifier.specs.facts.Facts.{Facts};
+ghost use Rattle.teco_verifier.specs.facts.Flows as rules;
+ghost use Rattle.teco_verifier.specs.table.Table.{facts_at, choice_at};
+ghost use Rattle.teco_expansion.specs.Refused.{refusal_seen};
+ghost use Rattle.teco_verify.specs.Certified.{TakesDeclared};
+ghost use Rattle.teco_verify.specs.Refusing.{refusal_of, register_of, IsJudged, PrintedIsFound, RefusedIsDerived, RefusedIsExpansions, RefusedIsOverflow, RefusedIsUnclosed};
 ghost use Rattle.teco_verify.specs.Straight.{StraightIsVerified};
 ghost use Rattle.teco_verify.specs.Accepting.{AcceptedIsFound};
 ghost use Rattle.teco_verify.specs.Telling.{AcceptedIsTold, IsVerdict, expanded, node_in};
@@ -18,23 +20,23 @@ use crate::known::Known;
 use crate::refusal::{Refusal, register_at};
 use crate::verdict::{found_of, texts_are_within};
 use crate::verified::Verified;
+use crate::watching::watch;
 use std::alloc::{AllocError, Global};
 use std::marker::Model;
 use teco_base::Reg;
 use teco_check::{Table, begins_iteration};
-use teco_choices::watch;
+use teco_expansion::{ExpandFault, Nodes, Refusal as Unexpanded, expand};
 use teco_facts::{Choice, turns};
+use teco_law_tables::straight::straight_texts_are_accepted;
 use teco_library::Library;
-use teco_model::Element;
-use teco_nodes::{ExpandFault, Nodes, Refusal as Unexpanded, expand};
+use teco_model::{ArgumentRange, Element};
 use teco_poly::Poly;
-use teco_rules::ArgumentRange;
-use teco_straight::laws::straight_texts_are_accepted;
 
-/// What the verifier knows of a macro: the elements that it comes to, numbered from 1, what is known before each, and the verdict.
+/// What the verifier knows of a macro: the elements that it comes to, numbered from 1, what is
+/// known before each, and the verdict.
 ///
-/// Where it is accepted, that is what the table of its certificate says. Where it is refused, it is what was known in the attempt
-/// that ended there, up to that element; of this no clause speaks.
+/// Where it is accepted, that is what the table of its certificate says. Where it is refused, it is
+/// what was known in the attempt that ended there, up to that element; of this no clause speaks.
 #[derive(Drop)]
 pub struct Account<'l> {
     nodes: Option<Nodes<'l>>,
@@ -48,7 +50,12 @@ impl<'l> Model for Account<'l> {
 
     ghost Value = { Telling };
 
-    ghost view = { λ a. record { nodes = a.nodes; table = a.table; verdict = a.verdict; stop = a.stop } };
+    ghost view = { λ a. record {
+      nodes = a.nodes;
+      table = a.table;
+      verdict = a.verdict;
+      stop = a.stop;
+    } };
 }
 
 impl<'l> Account<'l> {
@@ -101,7 +108,8 @@ impl<'l> Account<'l> {
 
     /// What is read as the element of a number; `None` at the end of a text, where it returns.
     pub fn element(&self, number: usize) -> Option<Element<'l>>
-        ensures { (node : Node) → node_in self.now.nodes number ≡ Some node → option_map elements.seen result ≡ node.element }
+        ensures { (node : Node) → node_in self.now.nodes number ≡ Some node
+            → option_map elements.seen result ≡ node.element }
     {
         match self.nodes_with(number) {
             None => None,
@@ -111,7 +119,8 @@ impl<'l> Account<'l> {
 
     /// The register in whose text it stands; the call of the entry counts to the entry.
     pub fn register(&self, number: usize) -> Option<Reg>
-        ensures { (node : Node) → node_in self.now.nodes number ≡ Some node → IfSome result (λ register. node.register ≡ register) }
+        ensures { (node : Node) → node_in self.now.nodes number ≡ Some node
+            → result ≡ register_of node.register }
     {
         match self.nodes_with(number) {
             None => None,
@@ -121,7 +130,8 @@ impl<'l> Account<'l> {
 
     /// The place of its first byte in that text, or of the text's end.
     pub fn begin(&self, number: usize) -> Option<usize>
-        ensures { (node : Node) → node_in self.now.nodes number ≡ Some node → result ≡ Some (place_of node) }
+        ensures { (node : Node) → node_in self.now.nodes number ≡ Some node
+            → result ≡ Some (place_of node) }
     {
         match self.nodes_with(number) {
             None => None,
@@ -129,7 +139,8 @@ impl<'l> Account<'l> {
         }
     }
 
-    /// What is known before it; `None` where no run comes there, and behind the element at which the macro is refused.
+    /// What is known before it; `None` where no run comes there, and behind the element at which
+    /// the macro is refused.
     pub fn known(&self, number: usize) -> Option<Known<'_>>
         ensures { result ≡ facts_at self.now.table number }
     {
@@ -148,7 +159,8 @@ impl<'l> Account<'l> {
 
     /// The most turns of the < of a number, if there is a most.
     pub fn turns(&self, number: usize) -> Option<Poly>
-        ensures { (node : Node) (facts : Facts) → node_in self.now.nodes number ≡ Some node → facts_at self.now.table number ≡ Some facts
+        ensures { (node : Node) (facts : Facts) → node_in self.now.nodes number ≡ Some node
+            → facts_at self.now.table number ≡ Some facts
             → result ≡ (if begins node then result_ok (rules.turns facts) else None) }
     {
         if !begins_iteration(&self.element(number)) {
@@ -164,7 +176,7 @@ impl<'l> Account<'l> {
 // There are no nodes.
 fn unexpanded<'l>(alloc: Global, refused: Unexpanded) -> Account<'l>
     ensures nodes { result.nodes ≡ None }
-    ensures refused { IsErr result.verdict }
+    ensures refused { result.verdict ≡ Err (refusal_of (refusal_seen refused)) }
 {
     Account {
         nodes: None,
@@ -191,12 +203,18 @@ fn table_of(
 
 // What is known of a macro.
 fn accounted<'l>(alloc: Global, library: &'l Library, entry: Reg) -> Result<Account<'l>, AllocError>
-    ensures nodes { IfOk result (λ told. told.nodes ≡ expanded (expansion library.now.texts entry)) }
-    ensures library { IfOk result (λ told. IfOk told.verdict (λ verified. verified.library ≡ library.now.texts)) }
-    ensures argument { IfOk result (λ told. IfOk told.verdict (λ verified. TakesDeclared library.now verified.fields)) }
-    ensures entry { IfOk result (λ told. IfOk told.verdict (λ verified. verified.fields.entry ≡ entry)) }
+    ensures nodes { IfOk result (λ told. told.nodes
+        ≡ expanded (expansion library.now.texts entry)) }
+    ensures library { IfOk result (λ told. IfOk told.verdict
+        (λ verified. verified.library ≡ library.now.texts)) }
+    ensures argument { IfOk result (λ told. IfOk told.verdict
+        (λ verified. TakesDeclared library.now verified.fields)) }
+    ensures entry { IfOk result (λ told. IfOk told.verdict
+        (λ verified. verified.fields.entry ≡ entry)) }
     ensures known { IfOk result (AcceptedIsTold library.now entry) }
     ensures accepted { IfOk result (λ told. AcceptedIsFound library.now entry told.verdict) }
+    ensures unexpanded { IfOk result (λ told. RefusedIsExpansions library.now entry told.verdict) }
+    ensures judged { IfOk result (λ told. IsJudged library.now entry told.verdict) }
 {
     let nodes = match expand(alloc, library, entry) {
         Ok(nodes) => nodes,
@@ -216,18 +234,28 @@ fn accounted<'l>(alloc: Global, library: &'l Library, entry: Reg) -> Result<Acco
     })
 }
 
-/// Tells what the verifier knows of a macro: the verdict of `verify`, and from what it comes. It takes up to twice as long.
+/// Tells what the verifier knows of a macro: the verdict of `verify`, and from what it comes. It
+/// takes up to twice as long.
 pub fn account_of<'l>(
     alloc: Global,
     library: &'l Library,
     entry: Reg,
 ) -> Result<Account<'l>, AllocError>
-    ensures nodes { IfOk result (λ told. told.nodes ≡ expanded (expansion library.now.texts entry)) }
-    ensures library { IfOk result (λ told. IfOk told.verdict (λ verified. verified.library ≡ library.now.texts)) }
-    ensures argument { IfOk result (λ told. IfOk told.verdict (λ verified. TakesDeclared library.now verified.fields)) }
-    ensures entry { IfOk result (λ told. IfOk told.verdict (λ verified. verified.fields.entry ≡ entry)) }
+    ensures nodes { IfOk result (λ told. told.nodes
+        ≡ expanded (expansion library.now.texts entry)) }
+    ensures library { IfOk result (λ told. IfOk told.verdict
+        (λ verified. verified.library ≡ library.now.texts)) }
+    ensures argument { IfOk result (λ told. IfOk told.verdict
+        (λ verified. TakesDeclared library.now verified.fields)) }
+    ensures entry { IfOk result (λ told. IfOk told.verdict
+        (λ verified. verified.fields.entry ≡ entry)) }
     ensures known { IfOk result (AcceptedIsTold library.now entry) }
     ensures straight { IfOk result (λ told. StraightIsVerified library.now entry told.verdict) }
+    ensures unexpanded { IfOk result (λ told. RefusedIsExpansions library.now entry told.verdict) }
+    ensures underived { IfOk result (λ told. RefusedIsDerived library.now entry told.verdict) }
+    ensures unclosed { IfOk result (λ told. RefusedIsUnclosed library.now entry told.verdict) }
+    ensures overflow { IfOk result (λ told. RefusedIsOverflow library.now entry told.verdict) }
+    ensures printed { IfOk result (λ told. PrintedIsFound library.now entry told.verdict) }
 {
     straight_texts_are_accepted();
     texts_are_within(library);

@@ -1,18 +1,19 @@
-// What is known of three macros, element by element, worked out by hand from the rules. A call that is refused memory is made once
-// more, so that the rows also hold where one allocation fails.
+// What is known of three macros, element by element, worked out by hand from the rules. A call that
+// is refused memory is made once more, so that the rows also hold where one allocation fails.
 use super::*;
 use std::alloc::Global;
 use std::process::Abort;
 use std::test::*;
 use teco_base::{LIMIT, Reg};
 use teco_poly::Poly;
-use teco_rules::Refusal as Why;
+use teco_verifier::Refusal as Why;
 
 // Marks are put behind each occurrence of a word.
 const MARK: &[u8] = b"@^UA/J<Sfoo\x1b;I!\x1b>/";
 
-// What is known before an element: its place, the characters behind and ahead of the pointer at the least, how often N and how many
-// more are held at the most, and are ahead, how many iterations are open, and how much has fallen in the innermost.
+// What is known before an element: its place, the characters behind and ahead of the pointer at the
+// least, how often N and how many more are held at the most, and are ahead, how many iterations are
+// open, and how much has fallen in the innermost.
 #[derive(Clone, Copy)]
 struct Expected {
     begin: usize,

@@ -1,24 +1,25 @@
 //! What a closed table certifies.
 ghost use Rattle.std.specs.Prelude.{◌≡◌, IfOk, Ok};
-ghost use Rattle.teco_expand.specs.Expansion.{expansion};
+ghost use Rattle.std.specs.Result.{IfErr};
+ghost use Rattle.teco_verifier.specs.expansion.Expansion.{expansion};
 ghost use Rattle.teco_library.specs.Library.{argument_of};
-ghost use Rattle.teco_verify.specs.Certifying.{flaw_by, Certifies};
-ghost use Rattle.teco_verify.specs.Finding.{TakesDeclared};
+ghost use Rattle.teco_verify.specs.Certifying.{flaw_by, Certifies, IsFlawIn};
+ghost use Rattle.teco_verify.specs.Certified.{TakesDeclared};
 ghost use Rattle.teco_verify.specs.Telling.{Tells};
 ghost use Rattle.teco_verify.specs.declared.certifying.Flaw.TheVariants as flaw;
 
 use crate::verified::Verified;
 use std::alloc::{AllocError, Global};
 use teco_base::Reg;
-use teco_certificate::{Certificate, Needs};
+use teco_certificate::Certificate;
 use teco_check::{Bad, Overflow, Table, check, commands, loops_of, needs_in, size};
+use teco_expansion::Nodes;
 use teco_library::Library;
-use teco_nodes::Nodes;
 
 /// Why a table certifies nothing.
 #[derive(Clone, Copy)]
 pub enum Flaw {
-    /// It is not closed at a node.
+    /// The table is not closed at a node.
     Open { number: usize },
     /// A printed number overflows at a node.
     Overflow { number: usize },
@@ -56,6 +57,7 @@ impl From<Overflow> for Flaw {
 }
 
 /// What a table of a library's expansion certifies of the entry, where it is closed.
+#[tactic(auto, using(crate::proofs::Nodes::begins))]
 pub fn certified<'l>(
     alloc: Global,
     library: &'l Library,
@@ -68,18 +70,16 @@ pub fn certified<'l>(
     ensures argument { IfOk result (λ verified. TakesDeclared library.now verified.fields) }
     ensures entry { IfOk result (λ verified. verified.fields.entry ≡ entry) }
     ensures value { Certifies (argument_of library.now entry) nodes.now table.now entry result }
-    ensures told { IfOk result (λ verified. Tells (argument_of library.now entry) nodes.now verified.fields table.now) }
+    ensures told { IfOk result (λ verified. Tells (argument_of library.now entry)
+        nodes.now verified.fields table.now) }
+    ensures numbered { IfErr result (IsFlawIn nodes.now) }
 {
     let argument = library.argument(entry);
     check(alloc, argument, nodes, table)?;
-    let needs = needs_in(nodes, table);
     let certificate = Certificate {
         entry,
         argument,
-        needs: Needs {
-            input: needs.input,
-            output: needs.output,
-        },
+        needs: needs_in(nodes, table),
         commands: commands(argument, nodes, table)?,
         size: size(nodes, table)?,
         loops: loops_of(alloc, nodes, table)?,

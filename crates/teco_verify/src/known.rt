@@ -1,25 +1,25 @@
 //! What is known before an element.
 ghost use Rattle.std.specs.Prelude.{◌≡◌, length, option_map, slice_get};
 ghost use Rattle.std.specs.Option.{option_flatten};
-ghost use Rattle.teco_rules.specs.Facts as rules;
-ghost use Rattle.teco_rules.specs.Values as values;
+ghost use Rattle.teco_verifier.specs.facts.Facts as rules;
+ghost use Rattle.teco_verifier.specs.facts.Values as values;
 
 use std::marker::Model;
 use teco_base::Reg;
 use teco_facts::Facts;
 use teco_model::Operator;
 use teco_poly::Poly;
-use teco_rules::{Distances, Interval, Value};
+use teco_verifier::{Distances, Interval, Value};
 
-/// What is known before an element of a macro, wherever a run comes there. Polynomials are in N, which holds the buffer, the unread
-/// input and each text as the run begins.
+/// What is known before an element of a macro, wherever a run comes there. Polynomials are in N,
+/// which holds the buffer, the unread input and each text as the run begins.
 #[derive(Drop)]
 pub struct Known<'a> {
     pub(crate) facts: &'a Facts,
 }
 
 impl<'a> Model for Known<'a> {
-    ghost use Rattle.teco_rules.specs.Facts as rules;
+    ghost use Rattle.teco_verifier.specs.facts.Facts as rules;
 
     ghost Value = { rules.Facts };
 
@@ -64,7 +64,8 @@ impl<'a> Known<'a> {
 
     /// The least and the greatest that the pending value may be.
     pub fn value_range(&self) -> Option<Interval>
-        ensures { result ≡ option_map (values.interval_of self.now.position.distances) self.now.arguments.level.value }
+        ensures { result ≡ option_map (values.interval_of self.now.position.distances)
+            self.now.arguments.level.value }
     {
         let (_first, value, _operator) = self.facts.level().parts();
         match value {
@@ -80,7 +81,8 @@ impl<'a> Known<'a> {
         self.facts.level().operator()
     }
 
-    /// Where the pending value is the answer of a search: the room where it is true, as the search found.
+    /// Where the pending value is the answer of a search: the room where it is true, as the search
+    /// found.
     pub fn found(&self) -> Option<Distances>
         ensures { result ≡ option_map (λ (a : rules.Answer). a.found.distances) self.now.answer }
     {
@@ -101,7 +103,8 @@ impl<'a> Known<'a> {
         self.facts.open()
     }
 
-    /// How much less is ahead at the least since the turn of an open iteration began, from 0 for the innermost, if that is known.
+    /// How much less is ahead at the least since the turn of an open iteration began, from 0 for
+    /// the innermost, if that is known.
     pub fn fall(&self, at: usize) -> Option<i64>
         ensures { result ≡ option_flatten (slice_get self.now.position.falls at) }
     {

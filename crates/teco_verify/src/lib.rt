@@ -2,18 +2,26 @@
 #![tactic(auto)]
 
 mod account;
+mod attempt;
 mod certifying;
 mod known;
+mod meeting;
+mod memo;
+mod named;
+mod pending;
 mod refusal;
+mod search;
+mod unfit;
 mod verdict;
 mod verified;
+mod watching;
 
 pub use account::{Account, account_of};
 pub use known::Known;
 pub use refusal::Refusal;
-pub use teco_certificate::Needs;
 pub use teco_facts::Choice;
 pub use teco_library::Library;
+pub use teco_model::Needs;
 pub use verdict::{check_certificate, verify};
 pub use verified::Verified;
 

@@ -1,18 +1,18 @@
 //! Why a macro or a certificate is refused.
-ghost use Rattle.std.specs.Prelude.{◌≡◌, IfSome};
-ghost use Rattle.teco_choices.specs.declared.unfit.Unfit.TheVariants as unfits;
-ghost use Rattle.teco_check.specs.declared.derivation.NotDerived.TheVariants as underived;
-ghost use Rattle.teco_verify.specs.declared.certifying.Flaw.TheVariants as flaws;
-ghost use Rattle.teco_nodes.specs.declared.refusal.ExpandFault.TheVariants as fault;
+ghost use Rattle.std.specs.Prelude.{◌≡◌, ◌<◌, ◌≤◌, length};
+ghost use Rattle.teco_check.specs.Here.{node_at};
+ghost use Rattle.teco_verify.specs.Unfit.{IsIn};
+ghost use Rattle.teco_expansion.specs.Refused.{reason_seen};
+ghost use Rattle.teco_verify.specs.Refusing as rules;
 ghost use Rattle.teco_verify.specs.declared.refusal.Refusal.TheVariants as refusal;
 
 use crate::certifying::Flaw;
+use crate::unfit::Unfit;
 use std::alloc::AllocError;
 use teco_base::{REGISTERS, Reg};
 use teco_check::NotDerived;
-use teco_choices::Unfit;
-use teco_nodes::{ExpandFault, Nodes, Reason};
-use teco_rules::Refusal as Why;
+use teco_expansion::{ExpandFault, Nodes, Reason};
+use teco_verifier::Refusal as Why;
 
 /// Why a macro or a certificate is refused.
 #[derive(Clone, Copy)]
@@ -40,7 +40,7 @@ impl From<AllocError> for Refusal {
 
 /// The register at a place, if there is one.
 pub fn register_at(place: usize) -> Option<Reg>
-    ensures { IfSome result (λ register. register ≡ place) }
+    ensures { result ≡ rules.register_of place }
 {
     if place < REGISTERS {
         Some(teco_check::register_at(place))
@@ -50,7 +50,9 @@ pub fn register_at(place: usize) -> Option<Reg>
 }
 
 // Why an element is not expanded.
-fn why_of(reason: Reason) -> Why {
+fn why_of(reason: Reason) -> Why
+    ensures { result ≡ rules.why_of (reason_seen reason) }
+{
     match reason {
         Reason::Fault => Why::Fault,
         Reason::Unpaired => Why::Partner,
@@ -61,7 +63,7 @@ fn why_of(reason: Reason) -> Why {
 }
 
 impl From<ExpandFault> for Refusal {
-    ghost from_gives = { λ why refused. why ≡ fault.Memory → refused ≡ refusal.Memory };
+    ghost from_gives = { λ fault refused. refused ≡ rules.refusal_of_fault fault };
 
     fn from(fault: ExpandFault) -> Refusal {
         match fault {
@@ -77,10 +79,11 @@ impl From<ExpandFault> for Refusal {
 
 impl Refusal {
     // At a node.
-    pub fn at(why: Why, nodes: &Nodes<'_>, number: usize) -> Refusal {
-        if number == 0 || number > nodes.len() {
-            return Refusal::certificate();
-        }
+    pub fn at(why: Why, nodes: &Nodes<'_>, number: usize) -> Refusal
+        requires one { 0 < number }
+        requires last { number ≤ length nodes.now }
+        ensures { result ≡ rules.refusal_at why (node_at nodes.now number) }
+    {
         Refusal::No {
             why,
             register: register_at(nodes.register(number)),
@@ -89,7 +92,9 @@ impl Refusal {
     }
 
     // Of a certificate.
-    pub fn certificate() -> Refusal {
+    pub fn certificate() -> Refusal
+        ensures { result ≡ rules.refusal_of_certificate }
+    {
         Refusal::No {
             why: Why::Certificate,
             register: None,
@@ -99,7 +104,8 @@ impl Refusal {
 
     // Where no choices are found.
     pub fn unfit(unfit: Unfit, nodes: &Nodes<'_>) -> Refusal
-        ensures { unfit ≡ unfits.Memory → result ≡ refusal.Memory }
+        requires { IsIn nodes.now unfit }
+        ensures { result ≡ rules.refusal_of_unfit nodes.now unfit }
     {
         match unfit {
             Unfit::Refused { why, number } => Refusal::at(why, nodes, number),
@@ -110,7 +116,7 @@ impl Refusal {
 
 /// Why no table is derived, as why no choices are found.
 pub fn unfit_underived(why: NotDerived) -> Unfit
-    ensures { why ≡ underived.Memory → result ≡ unfits.Memory }
+    ensures { result ≡ rules.unfit_of why }
 {
     match why {
         NotDerived::Memory => Unfit::Memory,
@@ -124,7 +130,7 @@ pub fn unfit_underived(why: NotDerived) -> Unfit
 
 /// Why a table that was derived certifies nothing, in the same way.
 pub fn unfit_flawed(flaw: Flaw) -> Unfit
-    ensures { flaw ≡ flaws.Memory → result ≡ unfits.Memory }
+    ensures { result ≡ rules.unfit_by flaw }
 {
     match flaw {
         Flaw::Open { number } => Unfit::Refused {

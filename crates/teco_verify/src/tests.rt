@@ -1,11 +1,12 @@
-// Libraries, with the certificate of their macro A or the reason and the place of its refusal, and certificates that are
-// checked. A call that is refused memory is made once more, so that the rows also hold where one allocation fails.
+// Libraries, with the certificate of their macro A or the reason and the place of its refusal, and
+// certificates that are checked. A call that is refused memory is made once more, so that the rows
+// also hold where one allocation fails.
 use super::*;
 use std::alloc::Global;
 use std::process::Abort;
 use std::test::*;
 use teco_base::{LIMIT, Reg};
-use teco_rules::Refusal as Why;
+use teco_verifier::Refusal as Why;
 
 // Marks are put behind each occurrence of a word.
 const MARK: &[u8] = b"@^UA/J<Sfoo\x1b;I!\x1b>/";
@@ -107,7 +108,8 @@ const REFUSED: [(&[u8], &str, u8, usize); 18] = [
     (b"@^UA/-1:Sfoo\x1b=/", "X15", b'A', 2),
 ];
 
-// A library, what stands in the place of a part of the certificate of its macro A, and whether that is accepted.
+// A library, what stands in the place of a part of the certificate of its macro A, and whether that
+// is accepted.
 const CHECKED: [(&[u8], &str, bool); 11] = [
     (
         ASKED,

@@ -1,31 +1,35 @@
 //! Verifying a macro, and checking a certificate.
-ghost use Rattle.std.specs.Prelude.{◌≡◌, ◌≤◌, [], length, false, IfOk, IsErr, IsSomeAnd, Ok, Err};
+ghost use Rattle.std.specs.Prelude.{◌≡◌, ◌≤◌, [], length, false, IfOk, IsSomeAnd, Ok, Err};
 ghost use Rattle.std.specs.List.{list_any};
+ghost use Rattle.std.specs.Result.{IfErr};
 ghost use Rattle.teco_base.specs.declared.TheConstants.{LIMIT};
 ghost use Rattle.teco_certificate.specs.Text.{certificate_text};
-ghost use Rattle.teco_check.specs.Loops.{begins};
-ghost use Rattle.teco_expand.specs.Expansion.{expansion};
+ghost use Rattle.teco_verifier.specs.table.Loops.{begins};
+ghost use Rattle.teco_verifier.specs.expansion.Expansion.{expansion};
 ghost use Rattle.teco_library.specs.Library.{argument_of};
 ghost use Rattle.teco_verify.specs.Accepting.{AcceptedIsChecked, AcceptedIsFound, ChoosesNothing, TextsAreWithin};
-ghost use Rattle.teco_verify.specs.Finding.{TakesDeclared};
+ghost use Rattle.teco_verify.specs.Certified.{TakesDeclared};
+ghost use Rattle.teco_verify.specs.Refusing.{refusal_of_unfit, IsJudged, IsOfCertificate, PrintedIsFound, RefusedIsDerived, RefusedIsExpansions, RefusedIsOverflow, RefusedIsUnclosed};
 ghost use Rattle.teco_verify.specs.Straight.{StraightIsChecked, StraightIsVerified};
 ghost use Rattle.teco_verify.specs.Telling.{Tells};
-ghost use Rattle.teco_choices.specs.declared.unfit.Unfit.TheVariants as unfits;
+ghost use Rattle.teco_verify.specs.Unfit.{IsIn};
 ghost use Rattle.teco_verify.specs.declared.refusal.Refusal.TheVariants as refusals;
 
 use crate::certifying::certified;
 use crate::refusal::{Refusal, unfit_flawed, unfit_underived};
+use crate::search::choose;
+use crate::unfit::Unfit;
 use crate::verified::Verified;
 use std::alloc::Global;
 use teco_base::Reg;
 use teco_certificate::laws::one_spelling;
-use teco_certificate::{Certificate, CertificateFault, LoopLine};
+use teco_certificate::{Certificate, CertificateFault};
 use teco_check::{Table, derive, has_iterations};
-use teco_choices::{Unfit, choose};
+use teco_expansion::{Nodes, expand};
+use teco_law_tables::straight::straight_texts_are_accepted;
 use teco_library::Library;
-use teco_nodes::{Nodes, expand};
-use teco_rules::ArgumentRange;
-use teco_straight::laws::straight_texts_are_accepted;
+use teco_model::ArgumentRange;
+use teco_verifier::LoopLine;
 
 /// The texts of a library have no more than LIMIT characters.
 #[tactic(auto, using(crate::proofs::Accepted::within))]
@@ -35,7 +39,8 @@ pub fn texts_are_within(library: &Library)
     let _texts = library.texts();
 }
 
-/// What is found of a macro: the verdict, the table if one is derived, and the number of the node at which it is refused, if it is.
+/// What is found of a macro: the verdict, the table if one is derived, and the number of the node
+/// at which it is refused, if it is.
 #[derive(Drop)]
 pub struct Found<'l> {
     pub verdict: Result<Verified<'l>, Refusal>,
@@ -44,10 +49,10 @@ pub struct Found<'l> {
 }
 
 impl<'l> Found<'l> {
-    // It is refused.
+    // What is found where the rules refuse, or memory is refused.
     fn unfit(why: Unfit, nodes: &Nodes<'_>, table: Option<Table>) -> Found<'l>
-        ensures refused { IsErr result.verdict }
-        ensures memory { why ≡ unfits.Memory → result.verdict ≡ Err refusals.Memory }
+        requires { IsIn nodes.now why }
+        ensures { result.verdict ≡ Err (refusal_of_unfit nodes.now why) }
     {
         let stop = match why {
             Unfit::Refused { number, .. } => Some(number),
@@ -73,8 +78,10 @@ pub fn found_with<'l>(
     ensures library { IfOk result.verdict (λ verified. verified.library ≡ library.now.texts) }
     ensures argument { IfOk result.verdict (λ verified. TakesDeclared library.now verified.fields) }
     ensures entry { IfOk result.verdict (λ verified. verified.fields.entry ≡ entry) }
-    ensures told { IfOk result.verdict (λ verified. IsSomeAnd result.table (Tells (argument_of library.now entry) nodes.now verified.fields)) }
+    ensures told { IfOk result.verdict (λ verified. IsSomeAnd result.table
+        (Tells (argument_of library.now entry) nodes.now verified.fields)) }
     ensures accepted { chosen.now ≡ [] → AcceptedIsFound library.now entry result.verdict }
+    ensures judged { chosen.now ≡ [] → IsJudged library.now entry result.verdict }
 {
     let table = match derive(alloc, library.argument(entry), nodes, chosen) {
         Ok(table) => table,
@@ -96,7 +103,8 @@ fn choices(
     argument: Option<ArgumentRange>,
     nodes: &Nodes<'_>,
 ) -> Result<Vec<LoopLine>, Unfit>
-    ensures { list_any begins nodes.now ≡ false → ChoosesNothing result }
+    ensures none { list_any begins nodes.now ≡ false → ChoosesNothing result }
+    ensures numbered { IfErr result (IsIn nodes.now) }
 {
     if has_iterations(nodes) {
         choose(alloc, argument, nodes)
@@ -111,8 +119,10 @@ pub fn found_of<'l>(alloc: Global, library: &'l Library, entry: Reg, nodes: &Nod
     ensures library { IfOk result.verdict (λ verified. verified.library ≡ library.now.texts) }
     ensures argument { IfOk result.verdict (λ verified. TakesDeclared library.now verified.fields) }
     ensures entry { IfOk result.verdict (λ verified. verified.fields.entry ≡ entry) }
-    ensures told { IfOk result.verdict (λ verified. IsSomeAnd result.table (Tells (argument_of library.now entry) nodes.now verified.fields)) }
+    ensures told { IfOk result.verdict (λ verified. IsSomeAnd result.table
+        (Tells (argument_of library.now entry) nodes.now verified.fields)) }
     ensures accepted { AcceptedIsFound library.now entry result.verdict }
+    ensures judged { IsJudged library.now entry result.verdict }
 {
     match choices(alloc, library.argument(entry), nodes) {
         Ok(choices) => found_with(alloc, library, entry, nodes, &choices),
@@ -126,21 +136,29 @@ fn verified<'l>(alloc: Global, library: &'l Library, entry: Reg) -> Result<Verif
     ensures argument { IfOk result (λ verified. TakesDeclared library.now verified.fields) }
     ensures entry { IfOk result (λ verified. verified.fields.entry ≡ entry) }
     ensures accepted { AcceptedIsFound library.now entry result }
+    ensures unexpanded { RefusedIsExpansions library.now entry result }
+    ensures judged { IsJudged library.now entry result }
 {
     let nodes = expand(alloc, library, entry)?;
     found_of(alloc, library, entry, &nodes).verdict
 }
 
-/// Verifies a macro of a library: a bound is found on what a run of it does, with any argument that the library declares for it, or
-/// it is refused. Straight text, of which each element is ESC, a comment or a plain insertion, is not refused where none is
-/// declared.
+/// Verifies a macro of a library: a bound is found on what a run of it does, with any argument that
+/// the library declares for it, or it is refused. Straight text, of which each element is ESC, a
+/// comment or a plain insertion, is not refused where none is declared.
 ///
-/// It takes time by the elements of the texts that are called, and for each iteration up to three times those in its body.
+/// It takes time by the elements of the texts that are called, and for each iteration up to three
+/// times those in its body.
 pub fn verify<'l>(alloc: Global, library: &'l Library, entry: Reg) -> Result<Verified<'l>, Refusal>
     ensures library { IfOk result (λ verified. verified.library ≡ library.now.texts) }
     ensures argument { IfOk result (λ verified. TakesDeclared library.now verified.fields) }
     ensures entry { IfOk result (λ verified. verified.fields.entry ≡ entry) }
     ensures straight { StraightIsVerified library.now entry result }
+    ensures unexpanded { RefusedIsExpansions library.now entry result }
+    ensures underived { RefusedIsDerived library.now entry result }
+    ensures unclosed { RefusedIsUnclosed library.now entry result }
+    ensures overflow { RefusedIsOverflow library.now entry result }
+    ensures printed { PrintedIsFound library.now entry result }
 {
     straight_texts_are_accepted();
     texts_are_within(library);
@@ -149,7 +167,8 @@ pub fn verify<'l>(alloc: Global, library: &'l Library, entry: Reg) -> Result<Ver
 
 // Any refusal of a certificate, but want of memory, is the same.
 fn refused(refusal: Refusal) -> Refusal
-    ensures { refusal ≡ refusals.Memory → result ≡ refusals.Memory }
+    ensures memory { refusal ≡ refusals.Memory → result ≡ refusals.Memory }
+    ensures certificate { IsOfCertificate result }
 {
     match refusal {
         Refusal::No { .. } => Refusal::certificate(),
@@ -177,12 +196,13 @@ fn certified_by<'l>(
     found_with(alloc, library, claimed.entry, &nodes, &claimed.loops).verdict
 }
 
-// The same, where the certificate's text is that of what is found.
+// What is verified, where the certificate's text is that of what is found.
 fn checked<'l>(alloc: Global, library: &'l Library, bytes: &[u8]) -> Result<Verified<'l>, Refusal>
     ensures library { IfOk result (λ verified. verified.library ≡ library.now.texts) }
     ensures argument { IfOk result (λ verified. TakesDeclared library.now verified.fields) }
     ensures text { IfOk result (λ verified. certificate_text verified.fields ≡ bytes.now) }
     ensures accepted { AcceptedIsChecked library.now bytes.now result }
+    ensures refused { IfErr result IsOfCertificate }
 {
     let verified = match certified_by(alloc, library, bytes) {
         Ok(verified) => verified,
@@ -196,8 +216,9 @@ fn checked<'l>(alloc: Global, library: &'l Library, bytes: &[u8]) -> Result<Veri
     }
 }
 
-/// Checks a certificate for a library: its choices make a table that is closed for the argument that the library declares, and it
-/// is the text of that table's certificate. That of straight text is not refused.
+/// Checks a certificate for a library: its choices make a table that is closed for the argument
+/// that the library declares, and it is the text of that table's certificate. That of straight text
+/// is not refused.
 pub fn check_certificate<'l>(
     alloc: Global,
     library: &'l Library,
@@ -208,6 +229,7 @@ pub fn check_certificate<'l>(
     ensures argument { IfOk result (λ verified. TakesDeclared library.now verified.fields) }
     ensures text { IfOk result (λ verified. certificate_text verified.fields ≡ bytes.now) }
     ensures straight { StraightIsChecked library.now bytes.now result }
+    ensures refused { IfErr result IsOfCertificate }
 {
     straight_texts_are_accepted();
     texts_are_within(library);

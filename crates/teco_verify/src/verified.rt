@@ -2,17 +2,18 @@
 ghost use Rattle.std.specs.Prelude.{◌≡◌, IfOk, slice_index_or, None, option_map};
 ghost use Rattle.std.specs.Option.{option_copied};
 ghost use Rattle.teco_certificate.specs.Text.{certificate_text};
-ghost use Rattle.teco_verify.specs.Finding.{IsCertified, bounds_of};
+ghost use Rattle.teco_verify.specs.Certified.{IsCertified, bounds_of};
 
 use std::alloc::{AllocError, Global};
 use std::marker::Model;
 use teco_base::{REGISTERS, Reg};
-use teco_certificate::{Certificate, Needs};
+use teco_certificate::Certificate;
 use teco_library::Library;
+use teco_model::Needs;
 use teco_poly::Poly;
 
-/// A macro of a library that was verified: what its certificate says is so. It is seen as the library's texts, and what that
-/// certificate says.
+/// A macro of a library that was verified: what its certificate says is so. It is seen as the
+/// library's texts, and what that certificate says.
 #[derive(Drop)]
 pub struct Verified<'l> {
     pub(crate) library: &'l Library,
@@ -20,7 +21,8 @@ pub struct Verified<'l> {
 }
 
 impl<'l> Model for Verified<'l> {
-    ghost use Rattle.teco_verify.specs.Finding.{Finding, IsCertified};
+    ghost use Rattle.teco_verifier.specs.certificate.Fields.{Finding};
+    ghost use Rattle.teco_verify.specs.Certified.{IsCertified};
 
     ghost Value = { Finding };
 
@@ -30,7 +32,8 @@ impl<'l> Model for Verified<'l> {
 }
 
 impl<'l> Verified<'l> {
-    /// What always holds: the table that the certificate tells of is closed, and its numbers are that table's.
+    /// What always holds: the table that the certificate tells of is closed, and its numbers are
+    /// that table's.
     pub fn is_certified(&self)
         ensures { IsCertified self.now.library self.now.fields }
     {

@@ -77,7 +77,8 @@ type Failing = (usize, HostCall, u64);
 
 const NONE: Failing = (4096, HostCall::Read, 0);
 
-// Edits the file `in` into the file `out`; answers what that came to, what is written, what the guard saw, and `out`.
+// Edits the file `in` into the file `out`; answers what that came to, what is written, what the
+// guard saw, and `out`.
 fn edited(
     rt: &impl Abort,
     alloc: Global,

@@ -50,7 +50,8 @@ fn is_edited<T: TextStore>(machine: &Machine<T>, page: &[u8]) -> bool {
         && front.len().checked_add(back.len()) == Some(page.len())
 }
 
-/// A library, how many bytes each call moves, which call fails, what is written, and what the file `out` has then.
+/// A library, how many bytes each call moves, which call fails, what is written, and what the file
+/// `out` has then.
 type Row = (
     &'static [u8],
     usize,
@@ -152,7 +153,8 @@ fn an_edit_fails_in_writing(rt: HostRuntime) -> Result<(), Fail> {
 /// A text is put in as often as an argument says.
 const REPEAT: &[u8] = b"!TECO-LIB 2 A 1 10!@^UA/<Ia\x1b>/";
 
-/// A library, the argument that its macro is given, and what the file `out` has then; none where that is not taken.
+/// A library, the argument that its macro is given, and what the file `out` has then; none where
+/// that is not taken.
 type Given = (&'static [u8], Option<i32>, Option<&'static [u8]>);
 
 const GIVEN: [Given; 10] = [

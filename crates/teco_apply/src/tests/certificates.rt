@@ -24,7 +24,8 @@ const TWICE: &[u8] = b"@^UA/HXB2<GB>/";
 /// Goes to the beginning, three times.
 const JUMPS: &[u8] = b"@^UA/3<J>/";
 
-/// Choices that the verifier does not make: what is said from the commands on, and whether it is accepted.
+/// Choices that the verifier does not make: what is said from the commands on, and whether it is
+/// accepted.
 const CHOICES: [(&[u8], &[u8], bool); 16] = [
     (
         MARK,

@@ -1,10 +1,10 @@
-//! The macros in `examples/`: each is verified, has the certificate that stands beside it, and edits a file and an empty one
-//! within its bound.
+//! The macros in `examples/`: each is verified, has the certificate that stands beside it, and
+//! edits a file and an empty one within its bound.
 use super::*;
 use std::alloc::AllocError;
 
-/// A library, its certificate, a file of text, N there, the steps that the macro takes on it, what becomes of it, and of an
-/// empty file.
+/// A library, its certificate, a file of text, N there, the steps that the macro takes on it, what
+/// becomes of it, and of an empty file.
 type Example = (
     &'static [u8],
     &'static str,
@@ -180,7 +180,8 @@ const EXAMPLES: [Example; 18] = [
     ),
 ];
 
-// Edits a file by a verified macro into a file of this text, and tells how many steps the macro takes.
+// Edits a file by a verified macro into a file of this text, and tells how many steps the macro
+// takes.
 fn edit(
     rt: &impl Abort,
     alloc: Global,

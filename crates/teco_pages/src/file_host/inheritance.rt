@@ -5,9 +5,9 @@ use std::os::unix::fs::{MetadataExt, PermissionsExt, lchown};
 // The permissions without the bits by which a program runs as its owner or its group.
 const WITHOUT_SET_ID: u32 = 0o1777;
 
-/// Gives a file the owner and the group of the one that it will replace, as far as the system lets it. Its permissions
-/// are given once it is written, since a write may take the set-id bits away: they are those of the other file, but
-/// without its owner and its group the set-id bits go.
+/// Gives a file the owner and the group of the one that it will replace, as far as the system lets
+/// it. Its permissions are given once it is written, since a write may take the set-id bits away:
+/// they are those of the other file, but without its owner and its group the set-id bits go.
 pub fn inherit_owner<R: Files>(rt: &R, path: &str, replaced: &Metadata) -> Permissions {
     let mode = replaced.permissions().mode();
     if takes_owner(rt, path, replaced) {

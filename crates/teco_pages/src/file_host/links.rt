@@ -8,8 +8,8 @@ use std::{fs, io};
 // How many links the system follows before it gives up.
 const LINKS: usize = 40;
 
-/// Does a name lead to a file that a process has open, as `/dev/stdout` does? What such a link is resolved to is the file
-/// behind it, which somebody else is writing.
+/// Does a name lead to a file that a process has open, as `/dev/stdout` does? What such a link is
+/// resolved to is the file behind it, which somebody else is writing.
 pub fn leads_to_open_file<R: Files>(rt: &R, alloc: Global, name: &str) -> Result<bool, Reason> {
     let mut path = String::from_str(alloc, name)?;
     for _ in 0..LINKS {

@@ -12,8 +12,8 @@ const NAME: &str = "Max file size";
 // More than the limits take.
 const ROOM: usize = 4096;
 
-/// The most bytes that a file may have. A write past them would end the process. Where the system tells no limit there
-/// is none.
+/// The most bytes that a file may have. A write past them would end the process. Where the system
+/// tells no limit there is none.
 pub fn size_limit<R: Files>(rt: &R) -> u64 {
     let mut limits = [0; ROOM];
     match read_start(rt, &mut limits) {

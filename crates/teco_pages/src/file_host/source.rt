@@ -1,11 +1,13 @@
 // The file that is read.
-ghost use Rattle.std.specs.Prelude.{◌≤◌, length, vec_len, IfOk};
+ghost use Rattle.std.specs.Prelude.{◌≡◌, ◌≤◌, ◌<◌, [], length, IfOk};
+ghost use Rattle.std.specs.Io.Buffered.{reader_buffer, reader_capacity, reader_remaining};
+ghost use Rattle.std.specs.Io.KnownBytes.{ReadConsumes};
 
 use super::descriptor::above_standard;
 use super::trouble::Reason;
 use std::alloc::Global;
 use std::fs::{Files, OpenFile};
-use std::io::Read;
+use std::io::{BufReader, Read};
 use std::{fs, io, str};
 
 // How many bytes are read ahead: the file's length, but no fewer and no more than these.
@@ -16,37 +18,30 @@ const MOST: usize = 1 << 16;
 /// A file that is read, with what was read ahead of it.
 #[derive(Drop)]
 pub struct Source<F: Drop> {
-    file: F,
-    ahead: Vec<u8>,
-    // the bytes of it that were read, and those that were given
-    filled: usize,
-    given: usize,
+    reader: BufReader<F>,
     // the length that a regular file had when it was opened
     length: Option<u64>,
-    ghost in_order: { given ≤ filled },
-    ghost within: { filled ≤ vec_len ahead },
 }
 
 impl<F: OpenFile + Read + Drop> Source<F> {
     /// Opens the file of a name. A folder is none.
-    pub fn open<R: Files<File = F>>(
-        rt: &R,
-        alloc: Global,
-        name: &[u8],
-    ) -> Result<Source<F>, Reason> {
+    pub fn open<R: Files<File = F>>(rt: &R, alloc: Global, name: &[u8]) -> Result<Source<F>, Reason>
+        ensures ahead { IfOk result (λ s. 0 < reader_capacity s.reader) }
+        ensures none { IfOk result (λ s. reader_buffer s.reader ≡ []) }
+    {
         let file = above_standard(fs::open(rt, str::from_utf8(name)?)?)?;
         let metadata = file.metadata()?;
         if metadata.is_dir() {
             return Err(Reason::Folder);
         }
-        let room = usize::try_from(metadata.len()).unwrap_or(MOST);
-        Ok(Source {
-            file,
-            ahead: vec![in alloc; 0; room.clamp(LEAST, MOST)]?,
-            filled: 0,
-            given: 0,
-            length: metadata.is_file().then_some(metadata.len()),
-        })
+        let room = room_ahead(metadata.len());
+        match BufReader::with_capacity(alloc, room, file) {
+            Ok(reader) => Ok(Source {
+                reader,
+                length: metadata.is_file().then_some(metadata.len()),
+            }),
+            Err(_) => Err(Reason::Memory),
+        }
     }
 
     /// How many bytes the file had when it was opened, where it is a regular one.
@@ -54,29 +49,15 @@ impl<F: OpenFile + Read + Drop> Source<F> {
         self.length
     }
 
-    /// Reads the next bytes, one at least unless the file is at its end.
+    /// Reads the next bytes, one at least unless the file is at its end. What the system gives at
+    /// once is served at once, be it less than was asked for; a failure of it is told when all
+    /// that was read before it is given.
     pub fn read(&mut self, buf: &mut [u8]) -> io::Result<usize>
-        ensures { IfOk result (λ n. n ≤ length buf.new) }
+        ensures bound { IfOk result (λ n. n ≤ length buf.new) }
+        ensures bytes { ReadConsumes (reader_remaining F.remaining self.old.reader)
+            (reader_remaining F.remaining self.new.reader) result buf.new }
     {
-        if self.given == self.filled {
-            if buf.len() >= self.ahead.len() {
-                return self.file.read(buf);
-            }
-            self.fill()?;
-        }
-        let ahead = &self.ahead[self.given..self.filled];
-        let n = ahead.len().min(buf.len());
-        buf[..n].copy_from_slice(&ahead[..n]);
-        self.given += n;
-        Ok(n)
-    }
-
-    // Reads ahead where all was given.
-    fn fill(&mut self) -> io::Result<()> {
-        self.given = 0;
-        self.filled = 0;
-        self.filled = self.file.read(&mut self.ahead)?;
-        Ok(())
+        self.reader.read(buf)
     }
 
     /// Does the file go on? One that cannot be read may.
@@ -86,5 +67,18 @@ impl<F: OpenFile + Read + Drop> Source<F> {
             Ok(n) => n > 0,
             Err(_) => true,
         }
+    }
+}
+
+// How many bytes are read ahead of a file of this length. A length of 0 tells nothing: pipes,
+// devices and what the system makes up as it is read have it too.
+fn room_ahead(length: u64) -> usize
+    ensures least { LEAST ≤ result }
+    ensures most { result ≤ MOST }
+    ensures unknown { length ≡ 0 → result ≡ MOST }
+{
+    match usize::try_from(length) {
+        Ok(0) | Err(_) => MOST,
+        Ok(length) => length.clamp(LEAST, MOST),
     }
 }

@@ -13,8 +13,9 @@ pub struct Target {
 }
 
 impl Target {
-    /// Finds where the output of a name will be. A name that leads by links to a regular file is that file's; what
-    /// exists and is no regular file is refused, and what leads to a file that a process has open.
+    /// Finds where the output of a name will be. A name that leads by links to a regular file is
+    /// that file's; what exists and is no regular file is refused, and what leads to a file that a
+    /// process has open.
     pub fn of<R: Files>(rt: &R, alloc: Global, name: &str) -> Result<Target, Reason> {
         let path = match fs::symlink_metadata(rt, name) {
             Ok(_) if leads_to_open_file(rt, alloc, name)? => return Err(Reason::InUse),

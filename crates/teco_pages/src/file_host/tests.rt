@@ -1,5 +1,5 @@
-// Real files, in a scratch folder. A call that is refused memory is made once more, so that each test also holds where
-// one allocation fails.
+// Real files, in a scratch folder. A call that is refused memory is made once more, so that each
+// test also holds where one allocation fails.
 use super::size_limit::limit_in;
 use super::*;
 use std::alloc::AllocError;
@@ -7,6 +7,9 @@ use std::fs::Permissions;
 use std::os::unix::fs::{PermissionsExt, symlink};
 use std::test::Fail;
 use std::{fs, io};
+
+mod buffers;
+mod faulty;
 
 fn remove(rt: &HostRuntime, folder: &str) -> io::Result<()> {
     if fs::remove_dir_all(rt, folder).is_err() {
@@ -56,7 +59,10 @@ fn host(rt: &HostRuntime) -> FileHost<HostRuntime> {
 }
 
 // Opens an output and writes some bytes to it.
-fn begin_out(host: &mut FileHost<HostRuntime>, path: &str, bytes: &[u8]) -> Result<(), Failed> {
+fn begin_out<R>(host: &mut FileHost<R>, path: &str, bytes: &[u8]) -> Result<(), Failed>
+where
+    R: Files + Clock + Drop,
+{
     if host.open_out(path.as_bytes()).is_err() {
         host.open_out(path.as_bytes())?;
     }
@@ -217,7 +223,7 @@ fn byte_at(n: usize) -> u8 {
 }
 
 // A long text, each of whose bytes tells where it stands.
-fn long_text(alloc: Global, len: usize) -> Result<Vec<u8>, AllocError> {
+fn try_long_text(alloc: Global, len: usize) -> Result<Vec<u8>, AllocError> {
     let mut bytes = vec![in alloc; 0; len]?;
     for (n, byte) in bytes.iter_mut().enumerate() {
         *byte = byte_at(n);
@@ -225,8 +231,30 @@ fn long_text(alloc: Global, len: usize) -> Result<Vec<u8>, AllocError> {
     Ok(bytes)
 }
 
+// The same, once more where memory is refused.
+fn long_text(alloc: Global, len: usize) -> Result<Vec<u8>, AllocError> {
+    match try_long_text(alloc, len) {
+        Ok(text) => Ok(text),
+        Err(AllocError) => try_long_text(alloc, len),
+    }
+}
+
+// Opens an input, once more where memory is refused.
+fn begin_in<R>(host: &mut FileHost<R>, path: &str) -> Result<(), Failed>
+where
+    R: Files + Clock + Drop,
+{
+    if host.open_in(path.as_bytes()).is_err() {
+        host.open_in(path.as_bytes())?;
+    }
+    Ok(())
+}
+
 // Writes a text in pieces of so many bytes.
-fn write_pieces(host: &mut FileHost<HostRuntime>, text: &[u8], piece: usize) -> Result<(), Failed> {
+fn write_pieces<R>(host: &mut FileHost<R>, text: &[u8], piece: usize) -> Result<(), Failed>
+where
+    R: Files + Clock + Drop,
+{
     let mut rest = text;
     for _ in 0..text.len() {
         if rest.is_empty() {
@@ -239,7 +267,10 @@ fn write_pieces(host: &mut FileHost<HostRuntime>, text: &[u8], piece: usize) -> 
 }
 
 // Reads an input in pieces of so many bytes: does it have this text?
-fn reads(host: &mut FileHost<HostRuntime>, text: &[u8], piece: usize) -> Result<bool, Failed> {
+fn reads<R>(host: &mut FileHost<R>, text: &[u8], piece: usize) -> Result<bool, Failed>
+where
+    R: Files + Clock + Drop,
+{
     let mut buf = [0; 70_000];
     let room = piece.min(70_000);
     let mut rest = text;
@@ -256,29 +287,20 @@ fn reads(host: &mut FileHost<HostRuntime>, text: &[u8], piece: usize) -> Result<
     Ok(rest.is_empty())
 }
 
-// What is written in pieces, smaller and greater than what is kept together, is read in such pieces.
+// What is written in pieces, smaller and greater than what is kept together, is read in such
+// pieces.
 #[test]
 fn pieces_keep_their_order(rt: HostRuntime) -> Result<(), Fail> {
     scratch(&rt, "somleut_test_pieces")?;
     let path = "somleut_test_pieces/out";
-    let text = match long_text(rt.alloc(), 200_000) {
-        Ok(text) => text,
-        Err(_) => long_text(rt.alloc(), 200_000)?,
-    };
+    let text = long_text(rt.alloc(), 200_000)?;
     for piece in [1, 4095, 65_535, 65_536, 70_000] {
         let mut host = host(&rt);
         begin_out(&mut host, path, b"")?;
-        if write_pieces(&mut host, &text, piece).is_err() {
-            // a growth was refused
-            host.drop_out()?;
-            begin_out(&mut host, path, b"")?;
-            write_pieces(&mut host, &text, piece)?;
-        }
+        write_pieces(&mut host, &text, piece)?;
         host.close_out()?;
         assert!(rt; is_file(&rt, path, &text)?, "by {piece}");
-        if host.open_in(path.as_bytes()).is_err() {
-            host.open_in(path.as_bytes())?;
-        }
+        begin_in(&mut host, path)?;
         assert!(rt; reads(&mut host, &text, piece)?, "by {piece}");
     }
     Ok(remove(&rt, "somleut_test_pieces")?)

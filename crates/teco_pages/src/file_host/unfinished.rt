@@ -1,5 +1,7 @@
 // Outputs that are not closed yet.
-ghost use Rattle.std.specs.Prelude.{◌≤◌, ◌<◌, length, vec_len, IfOk};
+ghost use Rattle.std.specs.Prelude.{◌≡◌, ◌≤◌, ◌<◌, [], length, IfOk, OnOk};
+ghost use Rattle.std.specs.Io.Buffered.{writer_buffer, writer_contents};
+ghost use Rattle.std.specs.Io.KnownBytes.{Keeps, WriteAppends};
 
 use super::descriptor::above_standard;
 use super::inheritance::inherit_owner;
@@ -8,12 +10,13 @@ use super::target::{Target, folder_of};
 use super::trouble::Reason;
 use std::alloc::Global;
 use std::fs::{Files, OpenFile, OpenOptions, Permissions};
-use std::io::{BufRead, BufReader, Write};
+use std::io::{BufRead, BufReader, BufWriter, Write};
 use std::os::unix::fs::{MetadataExt, OpenOptionsExt};
 use std::time::{Clock, Duration};
 use std::{fs, io, str};
 
-// How many names are tried. They begin at the time of day, so that files that killed runs left are not in the way.
+// How many names are tried. They begin at the time of day, so that files that killed runs left are
+// not in the way.
 const TRIES: u64 = 1000;
 
 // Until a file that will replace another has that file's permissions, nobody else may read it.
@@ -44,11 +47,9 @@ pub enum Closed {
 
 /// An output that is not closed yet: a new file beside its target.
 #[derive(Drop)]
-pub struct Unfinished<F: Drop> {
-    file: F,
-    // what was written and is not yet in the file, behind what was sent of it
-    kept: Vec<u8>,
-    sent: usize,
+pub struct Unfinished<F: Write + Drop> {
+    // the file, and behind what it has what is kept of small writes
+    writer: BufWriter<F>,
     // where it is
     beside: String,
     // where it will be
@@ -57,7 +58,6 @@ pub struct Unfinished<F: Drop> {
     permissions: Option<Permissions>,
     // how many bytes the system still lets it take
     room: u64,
-    ghost within: { sent ≤ vec_len kept },
 }
 
 impl<F: OpenFile + Write + Drop> Unfinished<F> {
@@ -66,17 +66,21 @@ impl<F: OpenFile + Write + Drop> Unfinished<F> {
         rt: &R,
         alloc: Global,
         name: &[u8],
-    ) -> Result<Unfinished<F>, Reason> {
+    ) -> Result<Unfinished<F>, Reason>
+        ensures { IfOk result (λ o. writer_buffer o.writer ≡ []) }
+    {
         let target = Target::of(rt, alloc, str::from_utf8(name)?)?;
         let (file, beside) = make_beside(rt, alloc, &target)?;
+        let Ok(writer) = BufWriter::with_capacity(alloc, KEPT, file) else {
+            let _removed = fs::remove_file(rt, &beside);
+            return Err(Reason::Memory);
+        };
         let permissions = target
             .replaced
             .as_ref()
             .map(|replaced| inherit_owner(rt, &beside, replaced));
         Ok(Unfinished {
-            file,
-            kept: Vec::new(alloc),
-            sent: 0,
+            writer,
             beside,
             target: target.path,
             permissions,
@@ -84,10 +88,13 @@ impl<F: OpenFile + Write + Drop> Unfinished<F> {
         })
     }
 
-    /// Writes the first of some bytes, one at least of any.
+    /// Writes the first of some bytes, one at least of any: keeps them for later, or sends them on
+    /// behind what was kept. What a failure leaves of that is kept on, and none of the bytes.
     pub fn write_some(&mut self, bytes: &[u8]) -> Result<usize, Reason>
         ensures bound { IfOk result (λ n. n ≤ length bytes.now) }
         ensures some { IfOk result (λ n. 0 < length bytes.now → 0 < n) }
+        ensures bytes { WriteAppends (writer_contents F.contents self.old.writer)
+            (writer_contents F.contents self.new.writer) result bytes.now }
     {
         let most = bytes
             .len()
@@ -95,49 +102,22 @@ impl<F: OpenFile + Write + Drop> Unfinished<F> {
         if most == 0 && !bytes.is_empty() {
             return Err(Reason::SizeLimit);
         }
-        let n = self.keep_or_send(&bytes[..most])?;
-        self.room = self.room.saturating_sub(n as u64);
-        Ok(n)
+        match self.writer.write(&bytes[..most])? {
+            0 if most > 0 => Err(no_room()),
+            n => {
+                self.room = self.room.saturating_sub(n as u64);
+                Ok(n)
+            }
+        }
     }
 
-    // Keeps bytes for later, or writes the first of them, one at least of any.
-    fn keep_or_send(&mut self, bytes: &[u8]) -> Result<usize, Reason>
-        ensures bound { IfOk result (λ n. n ≤ length bytes.now) }
-        ensures some { IfOk result (λ n. 0 < length bytes.now → 0 < n) }
+    // Gives it the permissions of the file that it replaces. Where they are refused nobody else may
+    // read it.
+    fn give_permissions(&mut self)
+        ensures { self.new.writer ≡ self.old.writer }
     {
-        if bytes.len() > KEPT.saturating_sub(self.kept.len()) {
-            self.send()?;
-        }
-        if bytes.len() < KEPT {
-            self.kept.extend_from_slice(bytes)?;
-            return Ok(bytes.len());
-        }
-        match self.file.write(bytes)? {
-            0 => Err(no_room()),
-            n => Ok(n),
-        }
-    }
-
-    // Writes what was kept. What a failure leaves of it is kept on.
-    fn send(&mut self) -> Result<(), Reason> {
-        for _ in 0..u64::MAX {
-            if self.sent == self.kept.len() {
-                break;
-            }
-            match self.file.write(&self.kept[self.sent..])? {
-                0 => return Err(no_room()),
-                n => self.sent += n,
-            }
-        }
-        self.sent = 0;
-        self.kept.clear();
-        Ok(())
-    }
-
-    // Gives it the permissions of the file that it replaces. Where they are refused nobody else may read it.
-    fn give_permissions(&mut self) {
         if let Some(permissions) = self.permissions.take() {
-            let _given = self.file.set_permissions(permissions);
+            let _given = self.writer.get_ref().set_permissions(permissions);
         }
     }
 
@@ -161,14 +141,18 @@ impl<F: OpenFile + Write + Drop> Unfinished<F> {
         }
     }
 
-    // Writes what was kept, and moves it over its target where that is asked for.
+    // Sends on what was kept, and moves it over its target where that is asked for.
     fn settle<R: Files>(
         &mut self,
         rt: &R,
         alloc: Global,
         closing: Closing,
-    ) -> Result<Settled, Reason> {
-        let written = self.send();
+    ) -> Result<Settled, Reason>
+        ensures sent { OnOk result (writer_buffer self.new.writer ≡ []) }
+        ensures bytes { Keeps (writer_contents F.contents self.old.writer)
+            (writer_contents F.contents self.new.writer) }
+    {
+        let written = self.writer.flush();
         self.give_permissions();
         written?;
         if closing != Closing::Replaces {
@@ -186,7 +170,7 @@ impl<F: OpenFile + Write + Drop> Unfinished<F> {
 
     // Moves it over its target.
     fn move_over<R: Files>(&self, rt: &R) -> Result<(), Reason> {
-        self.file.sync_all()?;
+        self.writer.get_ref().sync_all()?;
         if !self.is_in_place(rt) {
             return Err(Reason::Taken);
         }
@@ -196,10 +180,20 @@ impl<F: OpenFile + Write + Drop> Unfinished<F> {
         Ok(())
     }
 
-    /// Removes it.
+    /// Removes it. What is still kept is dropped.
     pub fn abandon<R: Files>(self, rt: &R) -> io::Result<()> {
-        if self.is_in_place(rt) {
-            fs::remove_file(rt, &self.beside)
+        let is_in_place = self.is_in_place(rt);
+        let Self {
+            writer,
+            beside,
+            target: _,
+            permissions: _,
+            room: _,
+        } = self;
+        // in parts, since a writer that is let go sends on what it keeps
+        let (_file, _kept) = writer.into_parts();
+        if is_in_place {
+            fs::remove_file(rt, &beside)
         } else {
             Ok(())
         }
@@ -207,7 +201,8 @@ impl<F: OpenFile + Write + Drop> Unfinished<F> {
 
     // Is what has its name still the file that was written? Another may have taken the name.
     fn is_in_place<R: Files>(&self, rt: &R) -> bool {
-        match (self.file.metadata(), fs::symlink_metadata(rt, &self.beside)) {
+        let written = self.writer.get_ref().metadata();
+        match (written, fs::symlink_metadata(rt, &self.beside)) {
             (Ok(written), Ok(named)) => {
                 written.dev() == named.dev() && written.ino() == named.ino()
             }
@@ -242,8 +237,8 @@ fn is_same_file<R: Files>(rt: &R, alloc: Global, one: &str, other: &str) -> Resu
     Ok(false)
 }
 
-// How many bytes at the front of two texts are the same, all of the shorter; none where they differ, or where one is at its
-// end and the other is not.
+// How many bytes at the front of two texts are the same, all of the shorter; none where they
+// differ, or where one is at its end and the other is not.
 fn same_front(one: &[u8], other: &[u8]) -> Option<usize> {
     let length = one.len().min(other.len());
     if one.is_empty() != other.is_empty() || one[..length] != other[..length] {

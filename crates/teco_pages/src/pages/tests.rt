@@ -1,5 +1,5 @@
-// Pages of inputs, copies, and what a failing call leaves. A call that is refused memory is made once more, so that each
-// test also holds where one allocation fails.
+// Pages of inputs, copies, and what a failing call leaves. A call that is refused memory is made
+// once more, so that each test also holds where one allocation fails.
 ghost use Rattle.std.specs.Prelude.{◌<◌};
 
 use super::*;

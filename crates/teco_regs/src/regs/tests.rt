@@ -1,5 +1,5 @@
-// Rows of calls, with what each answers and leaves. A call that is refused memory is made once more, so that the rows also
-// hold where one allocation fails.
+// Rows of calls, with what each answers and leaves. A call that is refused memory is made once
+// more, so that the rows also hold where one allocation fails.
 ghost use Rattle.std.specs.Prelude.{IsTrue};
 ghost use Rattle.teco_regs.specs.Texts.{IsTextWithinLimit};
 

@@ -1,4 +1,5 @@
-// A run edits the store that the machine was given, and makes no list of its own: a store counts the characters put into it.
+// A run edits the store that the machine was given, and makes no list of its own: a store counts
+// the characters put into it.
 use super::*;
 use std::alloc::Global;
 use std::marker::Model;

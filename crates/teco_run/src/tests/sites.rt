@@ -17,7 +17,7 @@ fn run_to_stop(alloc: Global, command: &[u8], limit: u64) -> (Machine<VecText>, 
     (machine, stopped)
 }
 
-// The same, and once more where memory was refused.
+// Runs the command; once more where memory was refused.
 fn run_surely(alloc: Global, command: &[u8], limit: u64) -> (Machine<VecText>, Stopped) {
     let ran = run_to_stop(alloc, command, limit);
     match ran.1.stop {
@@ -96,7 +96,8 @@ fn want_of_memory_has_a_site(rt: HostRuntime) {
     assert_eq!(rt; stopped.site, in_command(2));
 }
 
-// Does steps until the run stops, `limit` at most; answers how many were done, and what the last came to.
+// Does steps until the run stops, `limit` at most; answers how many were done, and what the last
+// came to.
 fn step_on(
     machine: &mut Machine<VecText>,
     execution: &mut Execution<'_>,
@@ -112,7 +113,8 @@ fn step_on(
     (limit, Progress::On)
 }
 
-// Does the last step of a run come to what the run answers? A run looks whether it is at its end where its limit is reached.
+// Does the last step of a run come to what the run answers? A run looks whether it is at its end
+// where its limit is reached.
 fn agrees(stop: Stop, progress: Progress) -> bool {
     match (answer(stop), progress) {
         (Ok(_), Progress::Ended | Progress::Exit | Progress::On) => true,
@@ -123,7 +125,8 @@ fn agrees(stop: Stop, progress: Progress) -> bool {
     }
 }
 
-// Does steps of a command string on a new machine, and compares them with a run of that limit; says whether memory was refused.
+// Does steps of a command string on a new machine, and compares them with a run of that limit; says
+// whether memory was refused.
 fn expect_steps(
     rt: &impl Abort,
     alloc: Global,

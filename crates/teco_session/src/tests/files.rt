@@ -1,4 +1,5 @@
-//! Sessions over files in memory, by hosts that move few bytes in a call and fail where they are told to.
+//! Sessions over files in memory, by hosts that move few bytes in a call and fail where they are
+//! told to.
 ghost use Rattle.std.specs.Prelude.{◌<◌};
 
 use super::trial::{Given, Ran, STORES, Store, run_over};
@@ -7,7 +8,8 @@ use std::process::Abort;
 use std::test::Fail;
 use teco_pages::{HostCall, MemHost, TestHost};
 
-/// What the file `in` has, the input of the session, what is written, what it comes to, and what the file `out` has then.
+/// What the file `in` has, the input of the session, what is written, what it comes to, and what
+/// the file `out` has then.
 type FileRow = (
     &'static [u8],
     &'static [u8],
@@ -217,7 +219,7 @@ fn expect_files(
     Ok(())
 }
 
-// The same over hosts that move one byte, two, and all that is asked for.
+// Expects the row over hosts that move one byte, two, and all that is asked for.
 fn expect_in_pieces(
     rt: &impl Abort,
     alloc: Global,
@@ -289,7 +291,7 @@ fn a_host_fails(rt: HostRuntime) -> Result<(), Fail> {
     Ok(())
 }
 
-// So many characters `a`, and then these.
+// A text of `many` characters `a` and then `end`.
 fn behind_many(alloc: Global, many: usize, end: &[u8]) -> Result<Vec<u8>, AllocError> {
     let mut bytes: Vec<u8> = Vec::new(alloc);
     bytes.resize(many, b'a')?;
@@ -369,8 +371,8 @@ fn is_cut_short(written: &[u8], typed: &[u8], line: &[u8]) -> bool {
     }
 }
 
-// Is what is written a part and a code, and the file `out` as it was? Or there are fewer calls of that kind, and all is as the
-// row says.
+// Is what is written a part and a code, and the file `out` as it was? Or there are fewer calls of
+// that kind, and all is as the row says.
 fn fails_well(host: &TestHost, ran: &Ran, row: FileRow, call: HostCall) -> bool {
     let (bytes, _, typed, _, out) = row;
     let mem = host.mem();
@@ -383,8 +385,8 @@ fn fails_well(host: &TestHost, ran: &Ran, row: FileRow, call: HostCall) -> bool 
     }
 }
 
-// Runs the session of a row where a call of the host fails and a file `out` is there already, once more where a growth may
-// have been refused.
+// Runs the session of a row where a call of the host fails and a file `out` is there already, once
+// more where a growth may have been refused.
 fn expect_failure(
     rt: &impl Abort,
     alloc: Global,

@@ -40,7 +40,8 @@ const CHANGED: [Row; 4] = [
     ),
 ];
 
-/// Sessions in which an iteration and a conditional overlap: a skip reads the text, a leave takes what is open.
+/// Sessions in which an iteration and a conditional overlap: a skip reads the text, a leave takes
+/// what is open.
 const OVERLAPPING: [Row; 7] = [
     (b"2<1=1\"N>'3=\x1b\x1b", b"1\r\n1\r\n3\r\n", b"", 0),
     (b"2<0\"N>'0;>5=\x1b\x1b", b"5\r\n", b"", 0),
@@ -230,7 +231,8 @@ fn flow(rt: HostRuntime) {
     }
 }
 
-/// Sessions with few steps for each string: a turn of an iteration takes a step for `>`, and one for `F>` before it.
+/// Sessions with few steps for each string: a turn of an iteration takes a step for `>`, and one
+/// for `F>` before it.
 const LIMITED: [(u64, &'static str, Row); 10] = [
     (
         10,

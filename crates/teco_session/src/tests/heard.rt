@@ -1,4 +1,5 @@
-// Sessions that are heard, and that the first code ends. One in which an allocation may have failed runs once more.
+// Sessions that are heard, and that the first code ends. One in which an allocation may have failed
+// runs once more.
 use crate::{Conduct, Done, Limits, Listener, SessionFault, session_heard};
 use std::alloc::Global;
 use std::test::Fail;
@@ -7,7 +8,8 @@ use teco_pages::{Host, MemHost};
 use teco_run::{Machine, Site, Stopped};
 use teco_text::{TextStore, VecText};
 
-// What was heard: how many strings stopped, the length of the last, its steps and its site; and the code of a rest.
+// What was heard: how many strings stopped, the length of the last, its steps and its site; and the
+// code of a rest.
 #[derive(Clone, Copy, Debug, PartialEq)]
 struct Notes {
     strings: usize,
@@ -89,7 +91,8 @@ fn heard(strings: usize, length: usize, steps: u64, place: usize, rest: Option<C
 
 #[test]
 fn sessions_are_heard(rt: HostRuntime) -> Result<(), Fail> {
-    // an input, whether the first code ends it, what is written, whether that has a code, whether a string ends it, and what is heard
+    // an input, whether the first code ends it, what is written, whether that has a code, whether a
+    // string ends it, and what is heard
     let rows: [(&[u8], bool, &[u8], bool, bool, Notes); 10] = [
         (
             b"1=\x1b\x1b9C\x1b\x1b 2=\x1b\x1b",

@@ -1,5 +1,5 @@
-//! Sessions over memory, run over both stores. A session that is refused a growth is run once more, so that each row also
-//! holds where one allocation fails.
+//! Sessions over memory, run over both stores. A session that is refused a growth is run once more,
+//! so that each row also holds where one allocation fails.
 ghost use Rattle.std.specs.Prelude.{◌≤◌};
 ghost use Rattle.teco_base.specs.declared.TheConstants.{LIMIT};
 
@@ -7,10 +7,9 @@ use crate::{Done, SessionFault, session_max};
 use std::alloc::Global;
 use std::process::Abort;
 use teco_base::LIMIT;
-use teco_gap::GapText;
 use teco_pages::{Host, MemHost};
 use teco_run::Machine;
-use teco_text::{TextStore, VecText};
+use teco_text::{GapText, TextStore, VecText};
 
 /// The steps of each string where a row names no others.
 pub const STEPS: u64 = 100_000_000;
@@ -50,7 +49,8 @@ impl<'a> Given<'a> {
     }
 }
 
-/// What came of a session: an outcome, what was written, and the buffer and the pointer that are left, front and back.
+/// What came of a session: an outcome, what was written, and the buffer and the pointer that are
+/// left, front and back.
 #[derive(Drop)]
 pub struct Ran {
     pub outcome: &'static str,
@@ -131,8 +131,8 @@ pub fn run_over<H: Host>(
     }
 }
 
-/// Runs a session over a store, without files. Where it does not write what it is to, and a growth may have been refused, it
-/// runs once more.
+/// Runs a session over a store, without files. Where it does not write what it is to, and a growth
+/// may have been refused, it runs once more.
 pub fn run_steady(
     alloc: Global,
     store: Store,

@@ -210,8 +210,8 @@ fn registers_are_set(rt: HostRuntime) -> Result<(), Fail> {
     Ok(())
 }
 
-// Whether it is only said what would change, whether files are kept, the last line, and what stands under the names of the file
-// that changes and of that which is kept.
+// Whether it is only said what would change, whether files are kept, the last line, and what stands
+// under the names of the file that changes and of that which is kept.
 type InPlaceRow = (
     bool,
     Option<&'static str>,

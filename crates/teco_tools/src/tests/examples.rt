@@ -6,11 +6,11 @@ use std::process::Abort;
 use std::test::Fail;
 use teco_apply::apply;
 use teco_base::{LIMIT, Reg};
-use teco_gap::GapText;
 use teco_library::Library;
 use teco_pages::MemHost;
 use teco_run::Machine;
 use teco_source::{Form, Source};
+use teco_text::GapText;
 use teco_verify::{Verified, check_certificate, verify};
 
 /// A macro of the examples.

@@ -1,4 +1,9 @@
+use Rattle.std.proofs.Common.{◌≡◌, Err, rules, refl}
 use Rattle.teco_apply.proofs.ByPages.{Joined-file}
+use Rattle.teco_apply.specs.ByPages.{FileEdited}
+use Rattle.teco_model.specs.State.{World}
+use Rattle.teco_session.proofs.Together.{Joined-stays}
+use Rattle.teco_session.specs.declared.fault.SessionFault.TheVariants as fault
 use Rattle.teco_apply.proofs.by_pages.edit_file.Goals as goal
 
 pub returns-clause-edits : goal.returns-clause-edits
@@ -10,3 +15,16 @@ returns-clause-edits g c =
     (g.H.Host.failures c.args.host.now) (g.H.Host.failures c.edit_opened-edited.new.host) (g.H.Host.failures c.drop_if_coded.new.host)
     (g.W.Write.contents c.args.writer.now) (g.W.Write.contents c.edit_opened-edited.new.writer)
     c.dropped.result c.edit_opened-edited.result c.dropped.ensures text c.drop_if_coded.ensures.drops
+
+pub returns-then-not-takes-clause-edits : goal.returns-then-not-takes-clause-edits
+returns-then-not-takes-clause-edits g c =
+    let failures = g.H.Host.failures c.args.host.now in
+    let sink = g.W.Write.contents c.args.writer.now in
+    (Joined-stays (λ (old : World) (new : World). FileEdited c.args.edit.now.pages (record { found = c.args.verified.now; given = c.args.edit.now.given }) c.args.edit.now.source.now c.args.edit.now.target.now old new failures failures sink sink (Err fault.Argument)) c.args.machine.now (g.H.Host.files c.args.host.now) (λ world. (refl, search rules)))
+
+pub returns-in_err-opening-clause-edits : goal.returns-in_err-opening-clause-edits
+returns-in_err-opening-clause-edits g c =
+    let is : c.from_residual.result ≡ Err fault.Memory = search rules in
+    let failures = g.H.Host.failures c.args.host.now in
+    let sink = g.W.Write.contents c.args.writer.now in
+    rw is (Joined-stays (λ (old : World) (new : World). FileEdited c.args.edit.now.pages (record { found = c.args.verified.now; given = c.args.edit.now.given }) c.args.edit.now.source.now c.args.edit.now.target.now old new failures failures sink sink (Err fault.Memory)) c.args.machine.now (g.H.Host.files c.args.host.now) (λ world. (refl, search rules)))

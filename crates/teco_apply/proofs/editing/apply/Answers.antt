@@ -1,4 +1,9 @@
+use Rattle.std.proofs.Common.{◌≡◌, Err, rules, refl}
 use Rattle.teco_apply.proofs.Edits.{applies, counts_said}
+use Rattle.teco_apply.specs.Apply.{Applied}
+use Rattle.teco_model.specs.State.{World}
+use Rattle.teco_session.proofs.Together.{Joined-stays}
+use Rattle.teco_session.specs.declared.fault.SessionFault.TheVariants as fault
 use Rattle.teco_apply.proofs.editing.apply.Goals as goal
 
 pub returns-clause-edits : goal.returns-clause-edits
@@ -15,3 +20,16 @@ pub returns-clause-counted : goal.returns-clause-counted
 returns-clause-counted g c =
     counts_said c.edit-line.result c.said.result (g.H.Host.failures c.args.host.now) (g.H.Host.failures c.edit-line.new.host) (g.H.Host.failures c.drop_if_coded.new.host)
     c.said.ensures c.edit-line.ensures.counted c.drop_if_coded.ensures.counted
+
+pub returns-then-not-takes-clause-edits : goal.returns-then-not-takes-clause-edits
+returns-then-not-takes-clause-edits g c =
+    let failures = g.H.Host.failures c.args.host.now in
+    let sink = g.W.Write.contents c.args.writer.now in
+    (Joined-stays (λ (old : World) (new : World). Applied (record { found = c.args.verified.now; given = c.args.given }) c.args.source.now c.args.target.now old new failures failures sink sink (Err fault.Argument)) c.args.machine.now (g.H.Host.files c.args.host.now) (λ world. (refl, search rules)))
+
+pub returns-in_err-opening-clause-edits : goal.returns-in_err-opening-clause-edits
+returns-in_err-opening-clause-edits g c =
+    let is : c.from_residual.result ≡ Err fault.Memory = search rules in
+    let failures = g.H.Host.failures c.args.host.now in
+    let sink = g.W.Write.contents c.args.writer.now in
+    rw is (Joined-stays (λ (old : World) (new : World). Applied (record { found = c.args.verified.now; given = c.args.given }) c.args.source.now c.args.target.now old new failures failures sink sink (Err fault.Memory)) c.args.machine.now (g.H.Host.files c.args.host.now) (λ world. (refl, search rules)))

@@ -18,7 +18,8 @@ returns-clause-calls g c =
     }) (record { found = found; given = c.args.given }) c.run_to_stop.result.stop c.args.machine.now c.run_to_stop.new.self (g.H.Host.files c.args.host.now) (g.H.Host.files c.run_to_stop.new.host) (record {
       certified = c.is_certified.ensures;
       loaded = c.requires.loaded;
-      whole = c.is_whole.ensures;
+      whole = c.is_whole.ensures.kept;
+      bytes = c.is_whole.ensures.held;
       named = subst (λ r. r < REGISTERS) (c.index.ensures.value ∙ c.entry-entry.ensures) c.index.ensures.within;
       files = c.requires.files;
       taken = c.requires.taken;

@@ -1,4 +1,5 @@
-use Rattle.teco_apply.proofs.ByPages.{Joined-runs}
+use Rattle.teco_apply.proofs.ByPages.{Joined-refused, Joined-runs}
+use Rattle.teco_apply.specs.Sure.{Call}
 use Rattle.teco_apply.proofs.stages.run_admitted.Goals as goal
 
 pub returns-clause-runs : goal.returns-clause-runs
@@ -10,3 +11,8 @@ returns-clause-runs g c =
     (g.W.Write.contents c.args.writer.now) (g.W.Write.contents c.tell-line.new.writer)
     c.in-Some.stopped.stop c.tell-line.result c.ran_by.result c.ran_by.ensures c.in-Some.ensures.counted
     c.tell-line.ensures.lines c.tell-line.ensures.told c.tell-line.ensures.taken c.in-Some.ensures.stops
+
+pub returns-in_default-clause-runs : goal.returns-in_default-clause-runs
+returns-in_default-clause-runs g c =
+    let call : Call = record { found = c.args.verified.now; given = c.args.given } in
+    rw (c.in_default.ensures.counted) (Joined-refused call c.args.machine.now c.run_guarded.new.machine (g.H.Host.files c.args.host.now) (g.H.Host.failures c.args.host.now) (g.W.Write.contents c.args.writer.now) (c.in_default.ensures.stops).0)

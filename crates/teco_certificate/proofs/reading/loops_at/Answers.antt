@@ -5,7 +5,7 @@ use Rattle.std.specs.List.{AllByRecursion}
 use Rattle.std.specs.Prelude.{codes}
 use Rattle.teco_certificate.specs.Text.{line, loop_line}
 use Rattle.teco_certificate.specs.WellFormed.{IsChosen, RegistersRise}
-use Rattle.teco_table.specs.Deriving.{Chosen}
+use Rattle.teco_verifier.specs.table.Choices.{Chosen}
 use Rattle.teco_certificate.proofs.Items.{all_and, more_read, all_read}
 use Rattle.teco_certificate.proofs.Spelling.{other_byte}
 use Rattle.teco_certificate.proofs.reading.loops_at.Invariants.{loop_rest, IsLine}

@@ -4,7 +4,7 @@ use Rattle.std.specs.Prelude.{codes}
 use Rattle.teco_base.specs.declared.bytes.TheConstants.{LF}
 use Rattle.teco_certificate.specs.Text.{longer_text, behind_comma}
 use Rattle.teco_certificate.specs.WellFormed.{IsLongerText, TextsRise, AreOfRegisters}
-use Rattle.teco_table.specs.Deriving.{LongerText}
+use Rattle.teco_verifier.specs.table.Choices.{LongerText}
 use Rattle.teco_certificate.proofs.Items.{AreLeft}
 use Rattle.teco_certificate.proofs.reading.others_at.Given as goal
 

@@ -1,5 +1,5 @@
 use Rattle.std.proofs.Common.{◌≡◌, drop}
-use Rattle.teco_table.specs.Deriving.{chosen_for}
+use Rattle.teco_verifier.specs.table.Deriving.{chosen_for}
 use Rattle.teco_check.proofs.chosen.choice_for.Given as goal
 
 -- those before this one are for others

@@ -1,18 +1,18 @@
 use Rattle.std.proofs.Common.{◌≡◌, ◌<◌, ◌∙◌, length, Err, rules, arith}
-use Rattle.teco_table.specs.Closed.{check_nodes, check}
+use Rattle.teco_verifier.specs.table.Closed.{check_nodes, check}
 use Rattle.teco_check.proofs.Steps.{check_more, says_of}
 use Rattle.teco_check.proofs.closed.check.Goals as goal
 
-pub returns-then-not-begins : goal.returns-then-not-begins
+pub returns-then-not-begins-clause-value : goal.returns-then-not-begins-clause-value
 unfolding check_nodes check
-returns-then-not-begins c = search rules
+returns-then-not-begins-clause-value c = search rules
 
 pub loop-at-init : goal.loop-at-init
 unfolding check_nodes check
 loop-at-init c = search rules
 
-pub returns-in_err-check_at : goal.returns-in_err-check_at
-returns-in_err-check_at c =
+pub returns-in_err-check_at-clause-value : goal.returns-in_err-check_at-clause-value
+returns-in_err-check_at-clause-value c =
     let within : c.loop-at.at < length c.args.nodes.now = omega (arith, c.len-at-end.ensures) in
     let said = says_of c.args.argument c.args.nodes.now c.args.table.now c.loop-at.at c.in_err-check_at.field-0.0 within c.loop-at.invariant (rw c.in_err-check_at.was at c.check_at.ensures) in
     let is : c.from_residual.result ≡ Err c.in_err-check_at.field-0.0 = search rules in

@@ -1,5 +1,5 @@
 use Rattle.std.proofs.Common.{◌≡◌, suc, drop, None}
-use Rattle.teco_table.specs.Closed.{check, check_from}
+use Rattle.teco_verifier.specs.table.Closed.{check, check_from}
 use Rattle.teco_check.proofs.closed.check.Given as goal
 
 -- the nodes before this one are closed

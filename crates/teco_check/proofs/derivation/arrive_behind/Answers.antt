@@ -1,6 +1,6 @@
 use Rattle.std.proofs.Common.{◌≡◌, sym, ◌∙◌, Some, None, arith}
-use Rattle.teco_table.specs.Deriving.{arriving}
-use Rattle.teco_table.specs.Written.{changes_in}
+use Rattle.teco_verifier.specs.table.Deriving.{arriving}
+use Rattle.teco_verifier.specs.table.Written.{changes_in}
 use Rattle.teco_check.specs.Here.{node_at}
 use Rattle.teco_check.proofs.Steps.{some_arrives, none_arrives, none_behind}
 use Rattle.teco_check.proofs.derivation.arrive_behind.Goals as goal

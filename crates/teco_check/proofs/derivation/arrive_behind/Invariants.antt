@@ -1,6 +1,6 @@
 use Rattle.std.proofs.Common.{◌≡◌, drop}
-use Rattle.teco_table.specs.Deriving.{arrivals_behind}
-use Rattle.teco_table.specs.Written.{changes_in}
+use Rattle.teco_verifier.specs.table.Deriving.{arrivals_behind}
+use Rattle.teco_verifier.specs.table.Written.{changes_in}
 use Rattle.teco_check.specs.Derived.{arrived_all}
 use Rattle.teco_check.specs.Here.{node_at}
 use Rattle.teco_check.proofs.derivation.arrive_behind.Given as goal

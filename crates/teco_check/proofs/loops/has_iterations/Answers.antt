@@ -1,7 +1,7 @@
 use Rattle.std.proofs.Common.{◌≡◌, ◌<◌, ◌+◌, true, false, length, sym, ◌∙◌, ap, arith}
 use Rattle.teco_check.specs.Here.{node_at}
-use Rattle.teco_check.specs.Loops.{begins}
-use Rattle.teco_table.specs.Closed.{begins_iteration}
+use Rattle.teco_verifier.specs.table.Loops.{begins}
+use Rattle.teco_verifier.specs.table.Closed.{begins_iteration}
 use Rattle.teco_check.proofs.Lines.{any_here, any_behind, any_in_none}
 use Rattle.teco_check.proofs.loops.has_iterations.Goals as goal
 

@@ -1,6 +1,6 @@
 use Rattle.std.proofs.Common.{◌≡◌, drop}
 use Rattle.std.specs.List.{list_any}
-use Rattle.teco_check.specs.Loops.{begins}
+use Rattle.teco_verifier.specs.table.Loops.{begins}
 use Rattle.teco_check.proofs.loops.has_iterations.Given as goal
 
 -- the nodes before this one begin none

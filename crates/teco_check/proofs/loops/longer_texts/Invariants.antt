@@ -1,5 +1,5 @@
 use Rattle.std.proofs.Common.{◌≡◌, ◌++◌, drop}
-use Rattle.teco_check.specs.Loops as rules
+use Rattle.teco_verifier.specs.table.Loops as rules
 use Rattle.teco_check.proofs.loops.longer_texts.Given as goal
 
 abbrev pub invariant-loop-place : goal.invariant-loop-place

@@ -1,5 +1,5 @@
 use Rattle.std.proofs.Common.{◌≡◌, ◌+◌, ◌++◌, drop}
-use Rattle.teco_check.specs.Loops as rules
+use Rattle.teco_verifier.specs.table.Loops as rules
 use Rattle.teco_check.proofs.loops.loops_of.Given as goal
 
 abbrev pub invariant-loop-at : goal.invariant-loop-at

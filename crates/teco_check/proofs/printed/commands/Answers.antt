@@ -1,5 +1,5 @@
 use Rattle.std.proofs.Common.{◌<◌, sym, ◌∙◌, length, refl, arith}
-use Rattle.teco_table.specs.Printed.{commands}
+use Rattle.teco_verifier.specs.table.Printed.{commands}
 use Rattle.teco_check.proofs.Steps.{count_more, count_fails}
 use Rattle.teco_check.proofs.printed.commands.Goals as goal
 
@@ -7,8 +7,8 @@ pub loop-at-init : goal.loop-at-init
 unfolding commands
 loop-at-init c = rw (c.number-total.ensures, c.steps_before.ensures) refl
 
-pub returns-in-Err : goal.returns-in-Err
-returns-in-Err c =
+pub returns-in-Err-clause-value : goal.returns-in-Err-clause-value
+returns-in-Err-clause-value c =
     let within : c.loop-at.at < length c.args.nodes.now = omega (arith, c.len-at-end.ensures) in
     c.loop-at.invariant ∙ count_fails c.args.nodes.now c.args.table.now c.loop-at.at c.loop-at.total c.in-Err.field-0 within (sym c.counted_with.ensures ∙ c.in-Err.is)
 

@@ -1,5 +1,5 @@
 use Rattle.std.proofs.Common.{◌≡◌, suc, drop, None}
-use Rattle.teco_table.specs.Printed.{commands, count_from}
+use Rattle.teco_verifier.specs.table.Printed.{commands, count_from}
 use Rattle.teco_check.proofs.printed.commands.Given as goal
 
 -- the nodes before this one are counted

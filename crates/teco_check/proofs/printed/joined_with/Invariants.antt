@@ -1,5 +1,5 @@
 use Rattle.std.proofs.Common.{◌≡◌, drop}
-use Rattle.teco_table.specs.Printed.{joined_with}
+use Rattle.teco_verifier.specs.table.Printed.{joined_with}
 use Rattle.teco_check.proofs.printed.joined_with.Given as goal
 
 -- the texts before this one are joined

@@ -1,5 +1,5 @@
 use Rattle.std.proofs.Common.{◌≡◌, ◌≤◌, length, refl, arith}
-use Rattle.teco_table.specs.Printed.{needs_in}
+use Rattle.teco_verifier.specs.table.Printed.{needs_in}
 use Rattle.teco_check.proofs.Steps.{needs_more}
 use Rattle.teco_check.proofs.printed.needs_in.Goals as goal
 

@@ -1,5 +1,5 @@
 use Rattle.std.proofs.Common.{◌<◌, sym, ◌∙◌, length, refl, arith}
-use Rattle.teco_table.specs.Printed.{size}
+use Rattle.teco_verifier.specs.table.Printed.{size}
 use Rattle.teco_check.proofs.Steps.{size_more, size_fails}
 use Rattle.teco_check.proofs.printed.size.Goals as goal
 
@@ -7,8 +7,8 @@ pub loop-at-init : goal.loop-at-init
 unfolding size
 loop-at-init c = rw c.number-most.ensures refl
 
-pub returns-in-Err : goal.returns-in-Err
-returns-in-Err c =
+pub returns-in-Err-clause-value : goal.returns-in-Err-clause-value
+returns-in-Err-clause-value c =
     let within : c.loop-at.at < length c.args.nodes.now = omega (arith, c.len-at-end.ensures) in
     c.loop-at.invariant ∙ size_fails c.args.nodes.now c.args.table.now c.loop-at.at c.loop-at.most c.in-Err.field-0 within (rw c.facts_behind.ensures.value at (sym c.sized_with.ensures ∙ c.in-Err.is))
 

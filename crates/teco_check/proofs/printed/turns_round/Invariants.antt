@@ -1,5 +1,5 @@
 use Rattle.std.proofs.Common.{◌≡◌, Ok, drop}
-use Rattle.teco_table.specs.Printed.{turns_round}
+use Rattle.teco_verifier.specs.table.Printed.{turns_round}
 use Rattle.teco_check.specs.Here.{node_at}
 use Rattle.teco_check.proofs.printed.turns_round.Given as goal
 

@@ -1,5 +1,5 @@
 use Rattle.std.proofs.Common.{◌≡◌, map, drop}
-use Rattle.teco_rules.specs.Shifts.{fall_after}
+use Rattle.teco_verifier.specs.facts.Shifts.{fall_after}
 use Rattle.teco_facts.proofs.falls.falls_after.Given as goal
 
 -- the falls from this one on are done

@@ -1,5 +1,5 @@
 use Rattle.std.proofs.Common.{◌≡◌, map, drop}
-use Rattle.teco_rules.specs.Bodies.{fall_if}
+use Rattle.teco_verifier.specs.facts.Bodies.{fall_if}
 use Rattle.teco_facts.proofs.falls.falls_if.Given as goal
 
 -- the falls from this one on are done

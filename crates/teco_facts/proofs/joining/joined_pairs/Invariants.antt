@@ -1,5 +1,5 @@
 use Rattle.std.proofs.Common.{◌≡◌, ◌≤◌, ◌++◌, length, take}
-use Rattle.teco_rules.specs.Joins.{joined_pushes}
+use Rattle.teco_verifier.specs.facts.Joins.{joined_pushes}
 use Rattle.teco_facts.proofs.Pairs.{behind}
 use Rattle.teco_facts.proofs.joining.joined_pairs.Given as goal
 

@@ -1,5 +1,6 @@
 use Rattle.std.proofs.Common.{◌≡◌, true, false, ◌∙◌, arith}
-use Rattle.teco_pages.proofs.Reading.{page-ended, page-on, topped}
+use Rattle.std.proofs.lemmas.Result.{err_from_is_err_and}
+use Rattle.teco_pages.proofs.Reading.{page-ended, page-on, topped, ends-last, ends-stopped, ends-kept}
 use Rattle.teco_pages.proofs.pages.read_page.Goals as goal
 
 pub returns-then-branch-clause-ends : goal.returns-then-branch-clause-ends
@@ -33,3 +34,19 @@ loop-preserved g c =
       shifts = p.0;
       same = t.1 ∙ c.loop.invariant.same;
     }
+
+pub returns-then-not-branch-clause-ends : goal.returns-then-not-branch-clause-ends
+returns-then-not-branch-clause-ends g c =
+    let none : c.in_ok-top_up.field-0 ≡ false = cc in
+    ends-last _ c.loop.into.items c.loop.ahead c.top_up.new.self _ _ _ _ _ _ _ none c.loop.invariant.shifts c.loop.invariant.same c.in_ok-top_up.ensures
+
+pub returns-in_err-top_up-clause-ends : goal.returns-in_err-top_up-clause-ends
+returns-in_err-top_up-clause-ends g c =
+    let p = err_from_is_err_and c.from_residual.result c.from_residual.ensures.1 in
+    rw (p.1, p.2) (ends-stopped _ c.loop.into.items c.loop.ahead c.top_up.new.self _ _ _ _ _ _ _ c.loop.invariant.shifts c.loop.invariant.same c.in_err-top_up.ensures)
+
+pub returns-in_err-give-clause-ends : goal.returns-in_err-give-clause-ends
+returns-in_err-give-clause-ends g c =
+    let p = err_from_is_err_and c.from_residual-in_err-give.result c.from_residual-in_err-give.ensures.1 in
+    let more : c.in_ok-top_up.field-0 ≡ true = cc in
+    rw (p.1, p.2) (ends-kept _ c.loop.into.items c.loop.ahead c.top_up.new.self c.give.new.self c.give.new.into.items _ _ _ _ _ _ _ _ more c.loop.invariant.shifts c.loop.invariant.same c.in_ok-top_up.ensures c.in_err-give.ensures)

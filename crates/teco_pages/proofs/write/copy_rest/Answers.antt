@@ -1,6 +1,6 @@
 use Rattle.std.proofs.Common.{◌∙◌, arith}
 use Rattle.std.proofs.lemmas.Result.{err_from_is_err_and}
-use Rattle.teco_pages.proofs.Copied.{copies-written, copies-read, copies-cut, copies-stopped, some-read}
+use Rattle.teco_pages.proofs.Copied.{copies-all, copies-written, copies-read, copies-cut, copies-stopped, some-read}
 use Rattle.teco_pages.proofs.write.copy_rest.Goals as goal
 
 pub returns-in_err-write_all-clause-copied : goal.returns-in_err-write_all-clause-copied
@@ -23,3 +23,8 @@ loop-preserved g c =
       count = omega (arith, some, c.in_ok-fill.ensures.given, c.in_ok-write_all.ensures.given, c.loop.invariant.count);
       limit = λ _. c.in_ok-fill.ensures.limit;
     }
+
+pub returns-then-is_empty-clause-copied : goal.returns-then-is_empty-clause-copied
+returns-then-is_empty-clause-copied g c =
+    let none = c.is_empty.ensures.0 c.if-is_empty.true in
+    copies-all c.args.ahead.now c.fill.new.self _ _ _ (copies-written c.args.ahead.now c.loop.ahead c.bytes.result.now _ _ _ c.loop.invariant.copied c.bytes.ensures c.in_ok-write_all.ensures.written) c.in_ok-fill.ensures.ok none (c.in_ok-fill.ensures.end none)

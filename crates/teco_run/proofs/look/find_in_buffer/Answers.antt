@@ -1,4 +1,4 @@
-use Rattle.std.proofs.Common.{refl}
+use Rattle.std.proofs.Common.{refl, true}
 use Rattle.teco_model.specs.Element.{seen}
 use Rattle.teco_model.specs.Searching as model
 use Rattle.teco_run.proofs.Together.{Joined-alone, seeks-lead}
@@ -16,6 +16,6 @@ returns-clause-leads g c =
     let before : Pending = record { arguments = c.pending.inside.arguments; left = c.pending.inside.left } in
     let after : Pending = record { arguments = c.seek.new.arguments; left = c.pending.inside.left } in
     rw (← c.pending.view_is) (Joined-alone
-    (λ (old : World) (new : World). Leads (kind.Search search_kind.Find) c.args.frames.now after (model.search_outcome_of c.args.search (seen c.args.element.now) (at c.args.frames.now before old)) old new c.settled.result)
+    (λ (old : World) (new : World). Leads (kind.Search search_kind.Find) true c.args.frames.now after (model.search_outcome_of c.args.search (seen c.args.element.now) (at c.args.frames.now before old)) old new c.settled.result)
     kept c.seek.new.editor c.desk.inside.pages (g.H.Host.files c.args.host.now) c.args.desk.now _ c.desk.view_is refl
     (λ files. seeks-lead c.args.frames.now after (model.search_outcome_of c.args.search (seen c.args.element.now) (at c.args.frames.now before (beside files kept))) (beside files kept) (beside files c.seek.new.editor) c.seek.result c.settled.result c.settled.ensures (c.seek.ensures.outcome files c.pending.inside.left)))

@@ -2,7 +2,7 @@ use Rattle.std.proofs.Common.{◌≡◌, true, false, Ok, Err, rules, refl, sym,
 use Rattle.teco_model.specs.Element.{seen}
 use Rattle.teco_model.specs.Searching.{has_colon}
 use Rattle.teco_model.specs.State.{World}
-use Rattle.teco_paging.specs.Worlds.{TellsUnread}
+use Rattle.teco_filing.specs.Worlds.{TellsUnread}
 use Rattle.teco_run.proofs.Paged.{unread-stops, unread-turns, unread-passes}
 use Rattle.teco_run.proofs.Together.{Joined-map, Joined-then}
 use Rattle.teco_run.proofs.look.look_behind.Goals as goal

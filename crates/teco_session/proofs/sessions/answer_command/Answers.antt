@@ -2,26 +2,31 @@ use Rattle.std.proofs.Common.{◌++◌, ap, sym, refl}
 use Rattle.teco_model.specs.Run.{Stops}
 use Rattle.teco_model.specs.Session.{code_line, code_of, is_code, is_exit}
 use Rattle.teco_model.specs.State.{Kept, World, start}
+use Rattle.teco_session.proofs.Counting.{stop-rises, said-counts}
 use Rattle.teco_session.proofs.Said.{said-writes, said-coded, said-exit}
 use Rattle.teco_session.proofs.Together.{Joined-typed}
 use Rattle.teco_session.proofs.sessions.answer_command.Goals as goal
 use Rattle.teco_session.specs.Answers.{Answers}
 use Rattle.teco_session.specs.declared.strings.Piece.TheVariants as piece
 
-pub returns : goal.returns
-returns g c =
+pub returns-clause-run : goal.returns-clause-run
+returns-clause-run g c =
     let stop = c.run_to_stop-stopped.result.stop in
     Joined-typed (λ (old : World) (after : World). Stops (start c.args.bytes.now old) c.args.limits.steps stop after)
-    (λ (old : World) (new : World). Answers c.args.limits piece.Command c.args.bytes.now old new (g.W.Write.contents c.args.writer.now) (g.W.Write.contents c.write_stop-line.new.writer) c.said.result)
+    (λ (old : World) (new : World). Answers c.args.limits piece.Command c.args.bytes.now old new (g.H.Host.failures c.args.host.now) (g.H.Host.failures c.run_to_stop-stopped.new.host) (g.W.Write.contents c.args.writer.now) (g.W.Write.contents c.write_stop-line.new.writer) c.said.result)
     c.args.machine.now c.run_to_stop-stopped.new.self c.write_stop-line.new.machine
     (g.H.Host.files c.args.host.now) (g.H.Host.files c.run_to_stop-stopped.new.host) c.write_stop-line.ensures.taken
     (λ (old : World) (after : World) same stops. record {
       lines = c.run_to_stop-stopped.new.self.kept.typed ++ code_line (code_of stop);
       coded = is_code (code_of stop);
       exit = is_exit stop;
-      ran = record { stop = stop; after = after; stops = stops; stays = refl; all_lines = ap (λ (kept : Kept). kept.typed ++ code_line (code_of stop)) (sym same); a_line = refl; an_exit = refl };
+      ran = record { stop = stop; after = after; stops = stops; counted = c.run_to_stop-stopped.ensures.counted; stays = refl; all_lines = ap (λ (kept : Kept). kept.typed ++ code_line (code_of stop)) (sym same); a_line = refl; an_exit = refl };
       writes = said-writes _ _ _ _ _ _ c.said.ensures c.write_stop-line.ensures.lines;
       coded_told = said-coded _ _ _ _ c.said.ensures c.write_stop-line.ensures.told;
       exit_told = rw c.is_exit.ensures at (said-exit _ _ _ c.said.ensures);
     })
     c.run_to_stop-stopped.ensures.stops
+
+pub returns-clause-counted : goal.returns-clause-counted
+returns-clause-counted g c =
+    said-counts _ _ _ _ _ _ (stop-rises c.run_to_stop-stopped.result.stop _ _ c.run_to_stop-stopped.ensures.counted) c.write_stop-line.ensures.told c.said.ensures

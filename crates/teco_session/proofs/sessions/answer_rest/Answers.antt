@@ -12,13 +12,13 @@ returns g c =
     let code = rest_code c.args.limits c.args.bytes.now in
     let writes = rw c.code_of_rest-code.ensures at c.write_lines-line.ensures.lines in
     let told = rw c.code_of_rest-code.ensures at c.write_lines-line.ensures.told in
-    Joined-stays (λ (old : World) (new : World). Answers c.args.limits piece.Rest c.args.bytes.now old new (g.W.Write.contents c.args.writer.now) (g.W.Write.contents c.write_lines-line.new.writer) c.said.result)
+    Joined-stays (λ (old : World) (new : World). Answers c.args.limits piece.Rest c.args.bytes.now old new (g.H.Host.failures c.args.host.now) (g.H.Host.failures c.args.host.now) (g.W.Write.contents c.args.writer.now) (g.W.Write.contents c.write_lines-line.new.writer) c.said.result)
     c.args.machine.now (g.H.Host.files c.args.host.now)
     (λ world. record {
       lines = code_line code;
       coded = is_code code;
       exit = false;
-      ran = (record { stays = refl; all_lines = refl; a_line = refl }, refl);
+      ran = (record { stays = refl; counted = refl; all_lines = refl; a_line = refl }, refl);
       writes = said-writes _ _ _ _ _ _ c.said.ensures writes;
       coded_told = said-coded _ _ _ _ c.said.ensures told;
       exit_told = said-exit _ _ _ c.said.ensures;

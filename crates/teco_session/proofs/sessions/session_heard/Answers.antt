@@ -2,9 +2,10 @@ use Rattle.std.proofs.Common.{length, ap, arith, refl, false, true, Ok, Err, ◌
 use Rattle.std.proofs.lemmas.Result.{err_from_is_err_and}
 use Rattle.std.specs.Io.KnownBytes.{prepend_known}
 use Rattle.teco_model.specs.State.{World}
+use Rattle.teco_session.proofs.Counting.{behind-rises}
 use Rattle.teco_session.proofs.FirstCode.{Hears-write, Hears-break, Hears-full, Hears-exit, Hears-rest, Hears-code}
 use Rattle.teco_session.proofs.SessionSteps.{Serves-start, Serves-more}
-use Rattle.teco_session.proofs.Together.{Joined-map, Joined-stays, Joined-then}
+use Rattle.teco_session.proofs.Together.{Joined-on, Joined-stays, Joined-then}
 use Rattle.teco_session.specs.Answers.{Answers}
 use Rattle.teco_session.specs.FirstCode.{Hears}
 use Rattle.teco_session.specs.Sessions.{Serves, setting}
@@ -14,9 +15,10 @@ use Rattle.teco_session.proofs.sessions.session_heard.Goals.{else-conduct-via-th
 pub loop-init : goal.loop-init
 loop-init g c = record {
   served =
-      Joined-stays (λ (old : World) (new : World). Serves c.args.conduct.limits 0 (setting old (g.R.Read.remaining c.args.reader.now) (g.W.Write.contents c.args.writer.now)) (setting new (prepend_known c.new-ahead.result (g.R.Read.remaining c.args.reader.now)) (g.W.Write.contents c.args.writer.now)) false)
+      Joined-stays (λ (old : World) (new : World). Serves c.args.conduct.limits 0 (setting old (g.H.Host.failures c.args.host.now) (g.R.Read.remaining c.args.reader.now) (g.W.Write.contents c.args.writer.now)) (setting new (g.H.Host.failures c.args.host.now) (prepend_known c.new-ahead.result (g.R.Read.remaining c.args.reader.now)) (g.W.Write.contents c.args.writer.now)) false)
       c.args.machine.now (g.H.Host.files c.args.host.now)
       (λ world. Serves-start _ _ _ c.new-ahead.ensures);
+  counted = record { rises = omega arith; plain = λ _. refl };
   one_read = omega (arith, ap length c.new-ahead.ensures);
   plain = λ until. refl;
 }
@@ -24,11 +26,11 @@ loop-init g c = record {
 pub loop-preserved : goal.loop-preserved
 loop-preserved g c =
     let now = c.loop in
-    let before = λ (old : World). setting old (g.R.Read.remaining c.args.reader.now) (g.W.Write.contents c.args.writer.now) in
-    let served = λ (old : World) (new : World). Serves c.args.conduct.limits now.counter (before old) (setting new (prepend_known now.ahead (g.R.Read.remaining now.reader)) (g.W.Write.contents now.writer)) now.coded in
+    let before = λ (old : World). setting old (g.H.Host.failures c.args.host.now) (g.R.Read.remaining c.args.reader.now) (g.W.Write.contents c.args.writer.now) in
+    let served = λ (old : World) (new : World). Serves c.args.conduct.limits now.counter (before old) (setting new (g.H.Host.failures now.host) (prepend_known now.ahead (g.R.Read.remaining now.reader)) (g.W.Write.contents now.writer)) now.coded in
     let piece = c.in_ok-piece.ensures in
-    let answers = λ (mid : World) (new : World). Answers c.args.conduct.limits c.in_ok-piece.piece c.as_slice.result.now mid new (g.W.Write.contents now.writer) (g.W.Write.contents c.answer.new.writer) c.answer.result in
-    let after = λ (new : World). setting new (prepend_known c.next_piece.new.ahead (g.R.Read.remaining c.next_piece.new.reader)) (g.W.Write.contents c.answer.new.writer) in
+    let answers = λ (mid : World) (new : World). Answers c.args.conduct.limits c.in_ok-piece.piece c.as_slice.result.now mid new (g.H.Host.failures now.host) (g.H.Host.failures c.answer.new.host) (g.W.Write.contents now.writer) (g.W.Write.contents c.answer.new.writer) c.answer.result in
+    let after = λ (new : World). setting new (g.H.Host.failures c.answer.new.host) (prepend_known c.next_piece.new.ahead (g.R.Read.remaining c.next_piece.new.reader)) (g.W.Write.contents c.answer.new.writer) in
     let more = λ (old : World) (new : World). Serves c.args.conduct.limits (now.counter + 1) (before old) (after new) (now.coded || c.in_ok-done.done.coded) in
     let cut = rw c.in_default.is at piece.piece in
     record {
@@ -37,7 +39,8 @@ loop-preserved g c =
           c.args.machine.now now.machine c.answer.new.machine
           (g.H.Host.files c.args.host.now) (g.H.Host.files now.host) (g.H.Host.files c.answer.new.host)
           (λ (old : World) (mid : World) (new : World) s (a : answers mid new). Serves-more _ _ _ _ _ _ c.in_ok-done.done _ c.if-done.false s piece.came cut (rw (c.as_slice.ensures.value, c.in_default.is, c.in_ok-done.was) at a))
-          now.invariant.served c.answer.ensures;
+          now.invariant.served c.answer.ensures.run;
+      counted = behind-rises _ _ _ _ _ now.invariant.counted c.in_ok-done.ensures.counted.0 c.in_ok-done.ensures.counted.1;
       one_read = piece.one_read now.invariant.one_read;
       plain = λ until. elim c.else-conduct.branch [
         | else-conduct-via-then-conduct+else-coded w ↦ w.if-coded.false
@@ -45,25 +48,25 @@ loop-preserved g c =
       ];
     }
 
-pub returns-in_err-piece : goal.returns-in_err-piece
-returns-in_err-piece g c =
+pub returns-in_err-piece-clause-session : goal.returns-in_err-piece-clause-session
+returns-in_err-piece-clause-session g c =
     let now = c.loop in
-    let before = λ (old : World). setting old (g.R.Read.remaining c.args.reader.now) (g.W.Write.contents c.args.writer.now) in
-    let served = λ (old : World) (new : World). Serves c.args.conduct.limits now.counter (before old) (setting new (prepend_known now.ahead (g.R.Read.remaining now.reader)) (g.W.Write.contents now.writer)) now.coded in
+    let before = λ (old : World). setting old (g.H.Host.failures c.args.host.now) (g.R.Read.remaining c.args.reader.now) (g.W.Write.contents c.args.writer.now) in
+    let served = λ (old : World) (new : World). Serves c.args.conduct.limits now.counter (before old) (setting new (g.H.Host.failures now.host) (prepend_known now.ahead (g.R.Read.remaining now.reader)) (g.W.Write.contents now.writer)) now.coded in
     let fault = c.in_err-piece.ensures in
     let left = err_from_is_err_and c.from_residual.result c.from_residual.ensures.1 in
-    rw (left.1, left.2) (Joined-map served _ c.args.machine.now now.machine (g.H.Host.files c.args.host.now) (g.H.Host.files now.host)
+    rw (left.1, left.2) (Joined-on served _ c.args.machine.now now.machine (g.H.Host.files c.args.host.now) (g.H.Host.files now.host)
     (λ (old : World) (new : World) s. Hears-break c.args.conduct.until_code _ _ _ _ _ _ _ _ _ now.invariant.plain s fault.came fault.fault (fault.one_read now.invariant.one_read) fault.all_used fault.not_writing fault.not_calling)
     now.invariant.served)
 
-pub returns-in_err-done : goal.returns-in_err-done
-returns-in_err-done g c =
+pub returns-in_err-done-clause-session : goal.returns-in_err-done-clause-session
+returns-in_err-done-clause-session g c =
     let now = c.loop in
-    let before = λ (old : World). setting old (g.R.Read.remaining c.args.reader.now) (g.W.Write.contents c.args.writer.now) in
-    let served = λ (old : World) (new : World). Serves c.args.conduct.limits now.counter (before old) (setting new (prepend_known now.ahead (g.R.Read.remaining now.reader)) (g.W.Write.contents now.writer)) now.coded in
+    let before = λ (old : World). setting old (g.H.Host.failures c.args.host.now) (g.R.Read.remaining c.args.reader.now) (g.W.Write.contents c.args.writer.now) in
+    let served = λ (old : World) (new : World). Serves c.args.conduct.limits now.counter (before old) (setting new (g.H.Host.failures now.host) (prepend_known now.ahead (g.R.Read.remaining now.reader)) (g.W.Write.contents now.writer)) now.coded in
     let piece = c.in_ok-piece.ensures in
-    let answers = λ (mid : World) (new : World). Answers c.args.conduct.limits c.in_ok-piece.piece c.as_slice.result.now mid new (g.W.Write.contents now.writer) (g.W.Write.contents c.answer.new.writer) c.answer.result in
-    let after = λ (new : World). setting new (g.R.Read.remaining c.next_piece.new.reader) (g.W.Write.contents c.answer.new.writer) in
+    let answers = λ (mid : World) (new : World). Answers c.args.conduct.limits c.in_ok-piece.piece c.as_slice.result.now mid new (g.H.Host.failures now.host) (g.H.Host.failures c.answer.new.host) (g.W.Write.contents now.writer) (g.W.Write.contents c.answer.new.writer) c.answer.result in
+    let after = λ (new : World). setting new (g.H.Host.failures c.answer.new.host) (g.R.Read.remaining c.next_piece.new.reader) (g.W.Write.contents c.answer.new.writer) in
     let left = err_from_is_err_and c.from_residual-in_err-done.result c.from_residual-in_err-done.ensures.1 in
     let cut = λ (old : World) (new : World). Hears c.args.conduct.until_code c.args.conduct.limits (before old) (after new) (Err c.in_err-done.field-0.0) in
     rw (left.1, left.2) (
@@ -71,60 +74,60 @@ returns-in_err-done g c =
     c.args.machine.now now.machine c.answer.new.machine
     (g.H.Host.files c.args.host.now) (g.H.Host.files now.host) (g.H.Host.files c.answer.new.host)
     (λ (old : World) (mid : World) (new : World) s (a : answers mid new). Hears-write c.args.conduct.until_code _ _ _ _ _ _ _ _ _ _ now.invariant.plain s piece.came piece.piece (piece.one_read now.invariant.one_read) (rw (c.as_slice.ensures.value, c.in_err-done.was) at a))
-    now.invariant.served c.answer.ensures)
+    now.invariant.served c.answer.ensures.run)
 
-pub returns : goal.returns
-returns g c =
+pub returns-clause-session : goal.returns-clause-session
+returns-clause-session g c =
     let now = c.loop in
-    let before = λ (old : World). setting old (g.R.Read.remaining c.args.reader.now) (g.W.Write.contents c.args.writer.now) in
-    let served = λ (old : World) (new : World). Serves c.args.conduct.limits now.counter (before old) (setting new (prepend_known now.ahead (g.R.Read.remaining now.reader)) (g.W.Write.contents now.writer)) now.coded in
-    Joined-map served _ c.args.machine.now now.machine (g.H.Host.files c.args.host.now) (g.H.Host.files now.host)
+    let before = λ (old : World). setting old (g.H.Host.failures c.args.host.now) (g.R.Read.remaining c.args.reader.now) (g.W.Write.contents c.args.writer.now) in
+    let served = λ (old : World) (new : World). Serves c.args.conduct.limits now.counter (before old) (setting new (g.H.Host.failures now.host) (prepend_known now.ahead (g.R.Read.remaining now.reader)) (g.W.Write.contents now.writer)) now.coded in
+    Joined-on served _ c.args.machine.now now.machine (g.H.Host.files c.args.host.now) (g.H.Host.files now.host)
     (λ (old : World) (new : World) s. Hears-full c.args.conduct.until_code _ _ _ _ _ _ now.invariant.plain s now.invariant.one_read (omega arith))
     now.invariant.served
 
-pub returns-in-Rest : goal.returns-in-Rest
-returns-in-Rest g c =
+pub returns-in-Rest-clause-session : goal.returns-in-Rest-clause-session
+returns-in-Rest-clause-session g c =
     let now = c.loop in
-    let before = λ (old : World). setting old (g.R.Read.remaining c.args.reader.now) (g.W.Write.contents c.args.writer.now) in
-    let served = λ (old : World) (new : World). Serves c.args.conduct.limits now.counter (before old) (setting new (prepend_known now.ahead (g.R.Read.remaining now.reader)) (g.W.Write.contents now.writer)) now.coded in
+    let before = λ (old : World). setting old (g.H.Host.failures c.args.host.now) (g.R.Read.remaining c.args.reader.now) (g.W.Write.contents c.args.writer.now) in
+    let served = λ (old : World) (new : World). Serves c.args.conduct.limits now.counter (before old) (setting new (g.H.Host.failures now.host) (prepend_known now.ahead (g.R.Read.remaining now.reader)) (g.W.Write.contents now.writer)) now.coded in
     let piece = c.in_ok-piece.ensures in
-    let answers = λ (mid : World) (new : World). Answers c.args.conduct.limits c.in_ok-piece.piece c.as_slice.result.now mid new (g.W.Write.contents now.writer) (g.W.Write.contents c.answer.new.writer) c.answer.result in
-    let after = λ (new : World). setting new (g.R.Read.remaining c.next_piece.new.reader) (g.W.Write.contents c.answer.new.writer) in
+    let answers = λ (mid : World) (new : World). Answers c.args.conduct.limits c.in_ok-piece.piece c.as_slice.result.now mid new (g.H.Host.failures now.host) (g.H.Host.failures c.answer.new.host) (g.W.Write.contents now.writer) (g.W.Write.contents c.answer.new.writer) c.answer.result in
+    let after = λ (new : World). setting new (g.H.Host.failures c.answer.new.host) (g.R.Read.remaining c.next_piece.new.reader) (g.W.Write.contents c.answer.new.writer) in
     let cut = rw c.in-Rest.is at piece.piece in
     let finishes = λ (old : World) (new : World). Hears c.args.conduct.until_code c.args.conduct.limits (before old) (after new) (Ok (record { coded = now.coded || c.in_ok-done.done.coded; exit = false })) in
     Joined-then served answers finishes
     c.args.machine.now now.machine c.answer.new.machine
     (g.H.Host.files c.args.host.now) (g.H.Host.files now.host) (g.H.Host.files c.answer.new.host)
     (λ (old : World) (mid : World) (new : World) s (a : answers mid new). Hears-rest _ _ (before old) _ _ now.coded c.in_ok-done.done _ _ s piece.came (piece.one_read now.invariant.one_read) cut (rw (c.as_slice.ensures.value, c.in-Rest.is, c.in_ok-done.was) at a) c.args.conduct.until_code now.invariant.plain)
-    now.invariant.served c.answer.ensures
+    now.invariant.served c.answer.ensures.run
 
-pub returns-then-done : goal.returns-then-done
-returns-then-done g c =
+pub returns-then-done-clause-session : goal.returns-then-done-clause-session
+returns-then-done-clause-session g c =
     let now = c.loop in
-    let before = λ (old : World). setting old (g.R.Read.remaining c.args.reader.now) (g.W.Write.contents c.args.writer.now) in
-    let served = λ (old : World) (new : World). Serves c.args.conduct.limits now.counter (before old) (setting new (prepend_known now.ahead (g.R.Read.remaining now.reader)) (g.W.Write.contents now.writer)) now.coded in
+    let before = λ (old : World). setting old (g.H.Host.failures c.args.host.now) (g.R.Read.remaining c.args.reader.now) (g.W.Write.contents c.args.writer.now) in
+    let served = λ (old : World) (new : World). Serves c.args.conduct.limits now.counter (before old) (setting new (g.H.Host.failures now.host) (prepend_known now.ahead (g.R.Read.remaining now.reader)) (g.W.Write.contents now.writer)) now.coded in
     let piece = c.in_ok-piece.ensures in
-    let answers = λ (mid : World) (new : World). Answers c.args.conduct.limits c.in_ok-piece.piece c.as_slice.result.now mid new (g.W.Write.contents now.writer) (g.W.Write.contents c.answer.new.writer) c.answer.result in
-    let after = λ (new : World). setting new (g.R.Read.remaining c.next_piece.new.reader) (g.W.Write.contents c.answer.new.writer) in
+    let answers = λ (mid : World) (new : World). Answers c.args.conduct.limits c.in_ok-piece.piece c.as_slice.result.now mid new (g.H.Host.failures now.host) (g.H.Host.failures c.answer.new.host) (g.W.Write.contents now.writer) (g.W.Write.contents c.answer.new.writer) c.answer.result in
+    let after = λ (new : World). setting new (g.H.Host.failures c.answer.new.host) (g.R.Read.remaining c.next_piece.new.reader) (g.W.Write.contents c.answer.new.writer) in
     let finishes = λ (old : World) (new : World). Hears c.args.conduct.until_code c.args.conduct.limits (before old) (after new) (Ok (record { coded = now.coded || c.in_ok-done.done.coded; exit = true })) in
     Joined-then served answers finishes
     c.args.machine.now now.machine c.answer.new.machine
     (g.H.Host.files c.args.host.now) (g.H.Host.files now.host) (g.H.Host.files c.answer.new.host)
     (λ (old : World) (mid : World) (new : World) s (a : answers mid new). Hears-exit _ _ (before old) _ _ now.coded c.in_ok-done.done _ _ s piece.came (piece.one_read now.invariant.one_read) c.if-done.true c.in_ok-piece.piece piece.piece (rw (c.as_slice.ensures.value, c.in_ok-done.was) at a) c.args.conduct.until_code now.invariant.plain)
-    now.invariant.served c.answer.ensures
+    now.invariant.served c.answer.ensures.run
 
-pub returns-then-coded : goal.returns-then-coded
-returns-then-coded g c =
+pub returns-then-coded-clause-session : goal.returns-then-coded-clause-session
+returns-then-coded-clause-session g c =
     let now = c.loop in
-    let before = λ (old : World). setting old (g.R.Read.remaining c.args.reader.now) (g.W.Write.contents c.args.writer.now) in
-    let served = λ (old : World) (new : World). Serves c.args.conduct.limits now.counter (before old) (setting new (prepend_known now.ahead (g.R.Read.remaining now.reader)) (g.W.Write.contents now.writer)) now.coded in
+    let before = λ (old : World). setting old (g.H.Host.failures c.args.host.now) (g.R.Read.remaining c.args.reader.now) (g.W.Write.contents c.args.writer.now) in
+    let served = λ (old : World) (new : World). Serves c.args.conduct.limits now.counter (before old) (setting new (g.H.Host.failures now.host) (prepend_known now.ahead (g.R.Read.remaining now.reader)) (g.W.Write.contents now.writer)) now.coded in
     let piece = c.in_ok-piece.ensures in
-    let answers = λ (mid : World) (new : World). Answers c.args.conduct.limits c.in_ok-piece.piece c.as_slice.result.now mid new (g.W.Write.contents now.writer) (g.W.Write.contents c.answer.new.writer) c.answer.result in
-    let after = λ (new : World). setting new (g.R.Read.remaining c.next_piece.new.reader) (g.W.Write.contents c.answer.new.writer) in
+    let answers = λ (mid : World) (new : World). Answers c.args.conduct.limits c.in_ok-piece.piece c.as_slice.result.now mid new (g.H.Host.failures now.host) (g.H.Host.failures c.answer.new.host) (g.W.Write.contents now.writer) (g.W.Write.contents c.answer.new.writer) c.answer.result in
+    let after = λ (new : World). setting new (g.H.Host.failures c.answer.new.host) (g.R.Read.remaining c.next_piece.new.reader) (g.W.Write.contents c.answer.new.writer) in
     let cut = rw c.in_default.is at piece.piece in
     let finishes = λ (old : World) (new : World). Hears c.args.conduct.until_code c.args.conduct.limits (before old) (after new) (Ok (record { coded = now.coded || c.in_ok-done.done.coded; exit = false })) in
     Joined-then served answers finishes
     c.args.machine.now now.machine c.answer.new.machine
     (g.H.Host.files c.args.host.now) (g.H.Host.files now.host) (g.H.Host.files c.answer.new.host)
     (λ (old : World) (mid : World) (new : World) s (a : answers mid new). Hears-code _ _ (before old) _ _ now.coded c.in_ok-done.done _ _ s piece.came (piece.one_read now.invariant.one_read) cut (rw (c.as_slice.ensures.value, c.in_default.is, c.in_ok-done.was) at a) c.args.conduct.until_code c.if-conduct.true now.invariant.plain c.if-coded.true c.if-done.false)
-    now.invariant.served c.answer.ensures
+    now.invariant.served c.answer.ensures.run

@@ -1,6 +1,6 @@
 use Rattle.std.proofs.Common.{◌≡◌, subst, sym, ap, ◌∙◌, [], None}
-use Rattle.teco_certificate.specs.Fields.{Fields}
-use Rattle.teco_straight.specs.Accepted.{IsAccepted}
+use Rattle.teco_verifier.specs.certificate.Fields.{Fields}
+use Rattle.teco_law_tables.specs.straight_text.Accepted.{IsAccepted}
 use Rattle.teco_verify.proofs.Accepted.{is_well_formed}
 use Rattle.teco_verify.specs.Straight.{plain_fields, IsFound}
 use Rattle.teco_library.specs.Library.{argument_of}

@@ -1,9 +1,11 @@
-use Rattle.std.proofs.Common.{◌≡◌, ◌-◌, ◌≤◌, length, arith}
-use Rattle.teco_facts.proofs.Lists.{drop-reverse-take}
+use Rattle.std.proofs.Common.{◌≤◌, ◌∙◌, length, arith}
+use Rattle.teco_facts.proofs.Shifted.{dropped_front, drop_fewer}
 use Rattle.teco_facts.proofs.few.Few.drop_front.Goals as goal
 
-pub returns : goal.returns
-returns g c =
-    let less : c.saturating_sub-self-inside.result ≡ c.self.inside.len - c.args.count = omega (arith, c.saturating_sub-self-inside.ensures) in
-    let within : c.self.inside.len ≤ length c.self.inside.items = omega (arith, c.self.invariant.0, c.self.invariant.1) in
-    rw (← c.self.view_is, less) (drop-reverse-take c.self.inside.items c.self.inside.len c.args.count within)
+pub returns-clause-value : goal.returns-clause-value
+returns-clause-value g c =
+    let items = c.self.inside.items in
+    let within : c.self.inside.len ≤ length items = omega (arith, c.self.invariant.0, c.self.invariant.1) in
+    let fewer : c.min-count.result ≤ c.self.inside.len = omega (arith, c.min-count.ensures) in
+    rw (c.copy_within.ensures.after, ← c.self.view_is)
+    (dropped_front items c.self.inside.len c.min-count.result fewer within ∙ drop_fewer items c.self.inside.len c.args.count c.min-count.result within c.min-count.ensures)

@@ -1,9 +1,9 @@
 use Rattle.std.proofs.Common.{◌≡◌, true}
-use Rattle.teco_rules.specs.Values.{is_linear}
+use Rattle.teco_verifier.specs.facts.Values.{is_linear}
 use Rattle.teco_facts.proofs.Linear.{linear_is_number}
 use Rattle.teco_facts.proofs.number.Number.linear_or.Goals as goal
 
 pub invariant_of-result : goal.invariant_of-result
 invariant_of-result c =
     let linear : is_linear c.args.exact ≡ true = cc in
-    rw c.parts-ahead.ensures.value (linear_is_number _ _ _ _ linear c.parts-ahead.ensures.ordered)
+    linear_is_number _ _ _ _ linear c.requires.ordered

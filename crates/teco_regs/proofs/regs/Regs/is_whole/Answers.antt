@@ -1,6 +1,6 @@
 use Rattle.std.proofs.Common.{sym}
 use Rattle.teco_model.specs.Registers.{IsWithinLimit}
-use Rattle.teco_model.specs.Whole.{IsWholePair}
+use Rattle.teco_model.specs.laws.Whole.{IsWholePair}
 use Rattle.teco_regs.proofs.Reversed.{All-from_reverse, each_reversed}
 use Rattle.teco_regs.proofs.regs.Regs.is_whole.Goals as goal
 

@@ -1,0 +1,3 @@
+-- Lemmas of the contracts.
+mod Numbers
+pub mod Late

@@ -1,0 +1,55 @@
+//! Commands that insert.
+ghost use Rattle.std.specs.Prelude.{◌∷◌, true};
+ghost use Rattle.teco_model.specs.Element.{seen};
+ghost use Rattle.teco_model.specs.Insertion as model;
+ghost use Rattle.teco_editor.specs.Does.{DoesIfMemory};
+
+use crate::editor::Editor;
+use crate::stuck::Stuck;
+use teco_base::Code;
+use teco_base::arithmetic::byte_of;
+use teco_base::bytes::TAB;
+use teco_model::kind::Insertion;
+use teco_model::{Element, Taken};
+use teco_text::TextStore;
+
+impl<T: TextStore> Editor<T> {
+    // Inserts before the pointer.
+    pub(crate) fn insert(&mut self, new: &[u8]) -> Result<Option<i32>, Stuck>
+        ensures { DoesIfMemory true self.old self.new (model.insertion_of new.now self.old) result }
+    {
+        self.store.insert(new)?;
+        self.last_length = new.len();
+        Ok(None)
+    }
+
+    // Inserts a byte and then a text, both or none.
+    fn insert_behind(&mut self, byte: u8, text: &[u8]) -> Result<Option<i32>, Stuck>
+        ensures { DoesIfMemory true self.old self.new
+            (model.insertion_of (byte ∷ text.now) self.old) result }
+    {
+        self.store.reserve(self.store.len() + 1 + text.len())?;
+        self.store.insert(&[byte])?;
+        self.store.insert(text)?;
+        self.last_length = text.len() + 1;
+        Ok(None)
+    }
+
+    /// `I` inserts its text, or the byte that its argument is; TAB inserts itself and its text.
+    pub fn insertion(
+        &mut self,
+        insertion: Insertion,
+        element: &Element<'_>,
+        taken: Taken,
+    ) -> Result<Option<i32>, Stuck>
+        ensures { DoesIfMemory true self.old self.new
+            (model.insertion insertion (seen element.now) taken self.old) result }
+    {
+        match (insertion, taken.value) {
+            (Insertion::Text, None) => self.insert(element.text),
+            (Insertion::Text, Some(n)) if element.text.is_empty() => self.insert(&[byte_of(n)]),
+            (Insertion::Tab, None) => self.insert_behind(TAB, element.text),
+            _ => Err(Stuck::Code(Code::Iia)),
+        }
+    }
+}

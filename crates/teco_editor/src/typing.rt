@@ -1,0 +1,119 @@
+//! Commands that type.
+ghost use Rattle.std.specs.Prelude.{◌≡◌, ◌≤◌, ◌++◌, true, Ok, OnOk, OnErr};
+ghost use Rattle.teco_base.specs.Text.{range};
+ghost use Rattle.teco_base.specs.declared.TheConstants.{LIMIT};
+ghost use Rattle.teco_text.specs.Answers.{IsPart};
+ghost use Rattle.teco_model.specs.Element.{seen};
+ghost use Rattle.teco_model.specs.Typing as model;
+ghost use Rattle.teco_editor.specs.Does.{DoesIfMemory};
+
+use crate::editor::Editor;
+use crate::stuck::Stuck;
+use std::alloc::AllocError;
+use teco_base::arithmetic::byte_of;
+use teco_base::{Code, NumberText, decimal, hex, octal};
+use teco_model::kind::{Radix, Typing};
+use teco_model::{Element, Span, Taken};
+use teco_text::TextStore;
+
+// A number as it is typed.
+fn number_text(radix: Radix, n: i32) -> NumberText
+    ensures { result ≡ model.number_text radix n }
+{
+    match radix {
+        Radix::Decimal => decimal(n),
+        Radix::Octal => octal(n),
+        Radix::Hexadecimal => hex(n),
+    }
+}
+
+// Appends two parts of a text, both or none.
+fn copy_both<T: TextStore>(
+    store: &T,
+    first: Span,
+    second: Span,
+    out: &mut Vec<u8>,
+) -> Result<(), AllocError>
+    requires first { IsPart (T.list store.now) first.start first.end }
+    requires second { IsPart (T.list store.now) second.start second.end }
+    requires within_limit { (first.end ≤ LIMIT) × (second.end ≤ LIMIT) }
+    ensures copied { OnOk result (out.new.items ≡ out.old.items ++
+        (range (T.list store.now) first.start first.end
+        ++ range (T.list store.now) second.start second.end)) }
+    ensures err { OnErr result (out.new.items ≡ out.old.items) }
+{
+    out.reserve((first.end - first.start) + (second.end - second.start))?;
+    // there is room for both, so neither is refused
+    let _ = store.copy_range(first.start, first.end, out);
+    let _ = store.copy_range(second.start, second.end, out);
+    Ok(())
+}
+
+impl<T: TextStore> Editor<T> {
+    // Types bytes.
+    fn type_bytes(&mut self, bytes: &[u8]) -> Result<Option<i32>, Stuck>
+        ensures { DoesIfMemory true self.old self.new
+            (Ok (model.typing_of bytes.now self.old)) result }
+    {
+        self.keep_typed_cap(bytes.len())?;
+        self.typed.extend_from_slice(bytes)?;
+        Ok(None)
+    }
+
+    // Types a number and, without a colon, the end of its line.
+    fn type_number(&mut self, radix: Radix, n: i32, colons: u8) -> Result<Option<i32>, Stuck>
+        ensures { DoesIfMemory true self.old self.new
+            (Ok (model.typing_of (model.number_text radix n ++ model.line_end colons) self.old)) result }
+    {
+        let text = number_text(radix, n);
+        let end: &[u8] = if colons == 0 { b"\r\n" } else { b"" };
+        self.keep_typed_cap(text.as_bytes().len() + end.len())?;
+        self.typed.reserve(text.as_bytes().len() + end.len())?;
+        self.typed.extend_from_slice(text.as_bytes())?;
+        self.typed.extend_from_slice(end)?;
+        Ok(None)
+    }
+
+    // Types lines or a range of the buffer.
+    fn type_part(&mut self, taken: Taken) -> Result<Option<i32>, Stuck>
+        ensures { DoesIfMemory true self.old self.new (model.part_typing taken self.old) result }
+    {
+        let Span { start, end } = self.part(taken)?;
+        self.keep_typed_cap(end - start)?;
+        self.store.copy_range(start, end, &mut self.typed)?;
+        Ok(None)
+    }
+
+    // Types the lines round the pointer.
+    fn view(&mut self, n: i32) -> Result<Option<i32>, Stuck>
+        ensures { DoesIfMemory true self.old self.new (Ok (model.view_typing n self.old)) result }
+    {
+        let first = self.lines(1 - i64::from(n));
+        let second = self.lines(i64::from(n));
+        self.keep_typed_cap((first.end - first.start) + (second.end - second.start))?;
+        copy_both(&self.store, first, second, &mut self.typed)?;
+        Ok(None)
+    }
+
+    /// `T` types a part of the buffer, `V` the lines round the pointer, `^A` its text, `^T` a byte,
+    /// and `=` a number.
+    pub fn typing(
+        &mut self,
+        typing: Typing,
+        element: &Element<'_>,
+        taken: Taken,
+    ) -> Result<Option<i32>, Stuck>
+        ensures { DoesIfMemory true self.old self.new
+            (model.typing typing (seen element.now) taken self.old) result }
+    {
+        match typing {
+            Typing::Part => self.type_part(taken),
+            Typing::View => self.view(taken.value.unwrap_or(1)),
+            Typing::Message => self.type_bytes(element.text),
+            Typing::Byte => self.type_bytes(&[byte_of(taken.value.ok_or(Code::Arg)?)]),
+            Typing::Number(radix) => {
+                self.type_number(radix, taken.value.ok_or(Code::Arg)?, element.colons)
+            }
+        }
+    }
+}

@@ -1,5 +1,0 @@
-use Rattle.teco_expand.proofs.Alike.{readings_are_alike}
-use Rattle.teco_expand.proofs.laws.readings_are_alike.Goals as goal
-
-pub returns : goal.returns
-returns c = readings_are_alike

@@ -1,0 +1,17 @@
+use Rattle.std.proofs.Common.{ap, ◌∙◌}
+use Rattle.teco_model.specs.Element.{seen}
+use Rattle.teco_model.specs.Skip.{skip_at}
+use Rattle.teco_expansion.proofs.Elements.{skip_of_element}
+use Rattle.teco_expansion.specs.Texts.{text_of}
+use Rattle.teco_expansion.proofs.ways.skip_at.Goals as goal
+
+pub returns-in-Some : goal.returns-in-Some
+returns-in-Some c =
+    let spot = c.args.spot.now in
+    c.in-Some.ensures ∙ skip_of_element (text_of c.args.texts.now spot.register) spot.place (seen c.args.element.now) c.requires
+
+pub returns-in-None : goal.returns-in-None
+returns-in-None c =
+    let spot = c.args.spot.now in
+    c.skip_from.ensures ∙ ap (λ text. skip_at text spot.place) c.text.ensures.value
+    ∙ skip_of_element (text_of c.args.texts.now spot.register) spot.place (seen c.args.element.now) c.requires

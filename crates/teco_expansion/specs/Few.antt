@@ -1,0 +1,6 @@
+-- Lists of a few, as lists.
+use Rattle.std.specs.Prelude.{List, take, reverse}
+use Rattle.teco_expansion.specs.declared.few.Few.{Few}
+
+abbrev pub listed : {T : Type 0} → Few T → List T
+listed few = reverse (take few.len few.items)

@@ -1,2 +1,0 @@
--- What a block with a gap shows.
-pub mod Gapped

@@ -1,0 +1,172 @@
+-- The register that an element names is one of the 36.
+use Rattle.std.proofs.Common.{◌≡◌, ℕ, ◌+◌, ◌-◌, ◌<◌, ◌≤◌, arith, refl, subst, List, [], ◌∷◌, take, drop, length, Option, Some, None, option_map, IfSome, Result, Ok, Err, IfOk, ok_or, Bool, true, false, cond, nat_le, ◌==◌, ◌&&◌}
+use Rattle.std.specs.List.{prefix_len}
+use Rattle.std.specs.Option.{option_or}
+use Rattle.std.specs.Prelude.{⊤, codes, option_and_then}
+use Rattle.std.proofs.lemmas.Bool.Decides.{nat_tests}
+use Rattle.teco_base.specs.Bytes.{is_digit, is_among, to_upper, control}
+use Rattle.teco_base.specs.Register.{register_of}
+use Rattle.teco_base.specs.declared.TheConstants.{REGISTERS}
+use Rattle.teco_base.specs.declared.bytes.TheConstants.{QUOTE}
+use Rattle.teco_base.specs.declared.code.Code.{Code}
+use Rattle.teco_base.specs.declared.code.Code.TheVariants as code
+use Rattle.teco_model.specs.Checked.{◌>>=◌}
+use Rattle.teco_model.specs.Element.{Element, TextsRead, is_modifier, modifiers_refused, colons_in, ats_in, blank_end, kind_read, texts, element_from, element_at}
+use Rattle.teco_model.specs.Form.{kind_on, texts_of}
+use Rattle.teco_model.specs.Letters as letter
+use Rattle.teco_model.specs.Letters.{letters}
+use Rattle.teco_model.specs.declared.head.Head.{Head}
+use Rattle.teco_model.specs.declared.head.Head.TheVariants as head
+use Rattle.teco_model.specs.declared.head.OnRegister.{OnRegister}
+use Rattle.teco_model.specs.declared.head.OnRegister.TheVariants as on_register
+use Rattle.teco_model.specs.declared.kind.Command.TheVariants as command
+use Rattle.teco_model.specs.declared.kind.Kind.{Kind}
+use Rattle.teco_model.specs.declared.kind.Kind.TheVariants as kind
+use Rattle.teco_model.specs.declared.kind.File.{File}
+use Rattle.teco_model.specs.declared.kind.Flow.TheVariants as flow
+use Rattle.teco_model.specs.declared.kind.Goal.{Goal}
+use Rattle.teco_model.specs.declared.kind.Query.TheVariants as query
+use Rattle.teco_model.specs.declared.kind.Search.{Search}
+use Rattle.teco_model.specs.declared.kind.Test.{Test}
+use Rattle.teco_law_facts.proofs.Bytes.{of_either, ok_then, ok_any}
+use Rattle.teco_law_facts.specs.SoundSteps.{IsNamed, ElementsAreNamed}
+
+-- ---- heads
+abbrev IsPlain : Head → Type 0
+IsPlain (head.Kind k) = IsNamed k
+IsPlain (head.OnRegister c) = ⊤
+
+mapped_so : {X : Type 0} (f : X → Head) → ((x : X) → IsPlain (f x)) → (o : Option X) → IfSome (option_map f o) IsPlain
+mapped_so f k None = tt
+mapped_so f k (Some x) = k x
+
+kinds_so : (o : Option Kind) → IfSome o IsNamed → IfSome (option_map head.Kind o) IsPlain
+kinds_so None h = tt
+kinds_so (Some k) h = h
+
+or_so : (o other : Option Head) → IfSome o IsPlain → IfSome other IsPlain → IfSome (option_or o other) IsPlain
+or_so None other h i = i
+or_so (Some x) other h i = h
+
+in_range : (a b name place : ℕ) (x y : Bool) (other : Option ℕ) → nat_le a name ≡ x → nat_le name b ≡ y → (a ≤ name → name ≤ b → place < REGISTERS) → IfSome other (λ r. r < REGISTERS) → IfSome (cond (x && y) (Some place) other) (λ r. r < REGISTERS)
+in_range a b name place true true other e f k h = k (grind (arith, nat_tests)) (grind (arith, nat_tests))
+in_range a b name place true false other e f k h = h
+in_range a b name place false y other e f k h = h
+
+register_small : (name : ℕ) → IfSome (register_of name) (λ r. r < REGISTERS)
+register_small name =
+    in_range 65 90 name (name - 65) _ _ _ refl refl (λ l m. omega arith)
+    (in_range 97 122 name (name - 97) _ _ _ refl refl (λ l m. omega arith)
+    (in_range 48 57 name (name - 48 + 26) _ _ None refl refl (λ l m. omega arith) tt))
+
+named_on : (c : OnRegister) (r : ℕ) → r < REGISTERS → IsNamed (kind_on c r)
+named_on on_register.SetNumber r l = l
+named_on on_register.Add r l = l
+named_on on_register.Number r l = l
+named_on on_register.Copy r l = l
+named_on on_register.SetText r l = l
+named_on on_register.Get r l = l
+named_on on_register.Push r l = l
+named_on on_register.Pop r l = l
+named_on on_register.Call r l = tt
+
+-- ---- letters
+plain_or : (b : Bool) (h : Head) (other : Option Head) → IsPlain h → IfSome other IsPlain → IfSome (cond b (Some h) other) IsPlain
+plain_or true h other p i = p
+plain_or false h other p i = i
+
+control_so : (b : ℕ) → IfSome (letter.control_command b) IsPlain
+control_so b = search (plain_or, tt) depth 12
+
+command_so : (b : ℕ) → IfSome (letter.command_sign b) IsPlain
+command_so b = search (plain_or, tt) depth 14
+
+to_m_so : (b : ℕ) → IfSome (letter.letter_to_m b) IsPlain
+to_m_so b = search (plain_or, tt) depth 14
+
+from_n_so : (b : ℕ) → IfSome (letter.letter_from_n b) IsPlain
+from_n_so b = search (plain_or, tt) depth 14
+
+kind_or : (b : Bool) (k : Kind) (other : Option Kind) → IsNamed k → IfSome other IsNamed → IfSome (cond b (Some k) other) IsNamed
+kind_or true k other p i = p
+kind_or false k other p i = i
+
+argument_so : (b : ℕ) → IfSome (letter.argument_sign b) IsNamed
+argument_so b = search (kind_or, tt) depth 14
+
+one_so : (b : ℕ) → IfSome (letter.one_byte b) IsPlain
+one_so b = or_so (option_map head.Kind (letter.argument_sign b)) _ (kinds_so (letter.argument_sign b) (argument_so b)) (or_so (letter.command_sign b) _ (command_so b) (or_so (letter.letter_to_m (to_upper b)) _ (to_m_so (to_upper b)) (or_so (letter.letter_from_n (to_upper b)) (letter.control_command b) (from_n_so (to_upper b)) (control_so b))))
+
+head_so : (o : Option Head) (n : ℕ) → IfSome o IsPlain → IfOk (letter.head_of o n) (λ h. IsPlain h.0)
+head_so None n h = tt
+head_so (Some x) n h = h
+
+second_so : (names : ℕ → Option Head) → ((b : ℕ) → IfSome (names b) IsPlain) → (bytes : List ℕ) → IfOk (letter.second_byte names bytes) (λ h. IsPlain h.0)
+second_so names k [] = tt
+second_so names k (b ∷ rest) = head_so (names (to_upper b)) 2 (k (to_upper b))
+
+caret_so : (bytes : List ℕ) → IfOk (letter.caret bytes) (λ h. IsPlain h.0)
+caret_so [] = tt
+caret_so (c ∷ rest) = head_so _ 2 (by (control c)) where
+  by : (o : Option ℕ) → IfSome (option_and_then letter.control_command o) IsPlain
+  by None = tt
+  by (Some b) = control_so b
+
+page_so : (bytes : List ℕ) → IsPlain (letter.page_letters bytes).0
+page_so [] = tt
+page_so (b ∷ rest) = of_either (λ (h : Head × ℕ). IsPlain h.0) (is_among (to_upper b) (codes "W")) _ _ tt tt
+
+replace_so : (b : ℕ) → IfSome (letter.replace_or_flow b) IsPlain
+replace_so b =
+    or_so (letter.replace_letter b) _ (mapped_so (λ (s : Search). head.Kind (kind.Search s)) (λ s. tt) _)
+    (mapped_so (λ (g : Goal). head.Kind (kind.Flow (flow.GoAhead g))) (λ g. tt) _)
+
+letters_so : (bytes : List ℕ) → IfOk (letters bytes) (λ h. IsPlain h.0)
+unfolding letters
+letters_so [] = tt
+letters_so (b ∷ rest) =
+    let Q : Result (Head × ℕ) Code → Type 0 = λ r. IfOk r (λ (h : Head × ℕ). IsPlain h.0) in
+    of_either Q (is_digit b) _ _ tt
+    (of_either Q (is_among b (codes "=")) _ _ tt
+    (of_either Q (is_among (to_upper b) (codes "E")) _ _ (second_so letter.file_letter (λ b. mapped_so (λ (f : File). head.Kind (kind.File f)) (λ f. tt) _) rest)
+    (of_either Q (is_among (to_upper b) (codes "F")) _ _ (second_so letter.replace_or_flow replace_so rest)
+    (of_either Q (b == QUOTE) _ _ (second_so letter.test_letter (λ b. mapped_so (λ (t : Test). head.Kind (kind.Flow (flow.Test t))) (λ t. tt) _) rest)
+    (of_either Q (is_among b (codes "^")) _ _ (caret_so rest)
+    (of_either Q (is_among (to_upper b) (codes "P")) _ _ (page_so rest) (head_so _ 1 (one_so b))))))))
+
+kind_so : (h : Head) (bytes : List ℕ) → IsPlain h → IfOk (kind_read h bytes) (λ (k : Kind × List ℕ). IsNamed k.0)
+kind_so (head.Kind k) bytes h = h
+kind_so (head.OnRegister c) [] h = tt
+kind_so (head.OnRegister c) (name ∷ rest) h = by _ (register_small name) where
+  by : (o : Option ℕ) → IfSome o (λ r. r < REGISTERS) → IfOk (ok_or o code.Iqn >>= λ r. Ok (kind_on c r, rest)) (λ (k : Kind × List ℕ). IsNamed k.0)
+  by None l = tt
+  by (Some r) l = named_on c r l
+
+-- ---- elements
+abbrev IsNamedElement : Element → Type 0
+IsNamedElement e = IsNamed e.kind
+
+made_so : (k : Kind) (modifiers text : List ℕ) (place : ℕ) (r : Result TextsRead Code) → IsNamed k → IfOk (r >>= λ read. Ok (record { kind = k; colons = colons_in modifiers; at = nat_le 1 (ats_in modifiers); text = read.text; second = read.second; place = place; next = length text - length read.rest })) IsNamedElement
+made_so k modifiers text place (Ok read) n = n
+made_so k modifiers text place (Err c) n = tt
+
+element_so : (text : List ℕ) (place : ℕ) → IfOk (element_from text place) IsNamedElement
+unfolding element_from
+element_so text place =
+    let bytes = drop place text in
+    let modifiers = take (prefix_len is_modifier bytes) bytes in
+    let behind = drop (prefix_len is_modifier bytes) bytes in
+    ok_then (λ (h : Head × ℕ). IsPlain h.0) IsNamedElement (letters behind) _ (letters_so behind) (λ named n.
+    ok_any IsNamedElement (modifiers_refused named.0 modifiers) _ (λ allowed.
+    ok_then (λ (k : Kind × List ℕ). IsNamed k.0) IsNamedElement (kind_read named.0 (drop named.1 behind)) _ (kind_so named.0 (drop named.1 behind) n) (λ kind k.
+    made_so kind.0 modifiers text place (texts (texts_of kind.0) (nat_le 1 (ats_in modifiers)) (take named.1 behind) kind.1) k)))
+
+pub elements_are_named : ElementsAreNamed
+unfolding element_at
+elements_are_named text at e r = by (nat_le (length text) (blank_end text at)) r where
+  by : (b : Bool) → elim b as (λ x. Result (Option Element) Code) [ true ↦ Ok None | false ↦ (element_from text (blank_end text at) >>= λ element. Ok (Some element)) ] ≡ Ok (Some e) → IsNamed e.kind
+  by true r = absurd (cc)
+  by false r = read _ (element_so text (blank_end text at)) r where
+    read : (o : Result Element Code) → IfOk o IsNamedElement → (o >>= λ element. Ok (Some element)) ≡ Ok (Some e) → IsNamed e.kind
+    read (Err c) n r = absurd (cc)
+    read (Ok other) n r = let same : other ≡ e = cc in subst IsNamedElement same n

@@ -1,0 +1,5 @@
+//! The laws that what the verifier knows holds of the command machine.
+#![tactic(auto)]
+
+pub mod laws;
+pub mod sound;

@@ -1,0 +1,30 @@
+-- Lemmas of the laws.
+mod Lookup
+mod Counting
+mod Standing
+mod Reading
+mod Entering
+mod Closing
+mod Leaving
+mod Passing
+mod Pending
+mod Going
+mod Entered
+mod Returned
+mod Steps
+mod Walking
+mod Underway
+mod Ending
+mod Worked
+mod Coming
+mod Fitting
+mod Leading
+mod Edging
+mod Inside
+mod Staying
+mod Completing
+mod Verifying
+mod Described
+mod Bounding
+mod Sure
+pub mod straight_text

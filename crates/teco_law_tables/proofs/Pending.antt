@@ -1,0 +1,121 @@
+-- A run that begins with an argument's digits ends as one where it is pending already.
+use Rattle.std.proofs.Common.{◌≡◌, ℕ, ◌+◌, ◌<◌, ◌^◌, refl, sym, ap, ◌∙◌, subst, arith, false, Option, Some, None, option_map}
+use Rattle.std.specs.Option.{option_map_or}
+use Rattle.teco_base.specs.declared.TheConstants.{REGISTERS}
+use Rattle.teco_model.specs.Element.{Element}
+use Rattle.teco_model.specs.Run.{Reaches, Ends, run}
+use Rattle.teco_model.specs.State.{World, State, Outcome, Next, End, Exit, Fail, Absent, start}
+use Rattle.teco_law_expansion.specs.Alike.{AreAlike, AreOutcomesAlike, StepsAreAlike, RunsAreAlike, ReadingsAreAlike, kind_of}
+use Rattle.teco_law_expansion.specs.Given.{call_given, start_pending, BeginsPending, NumbersArePending}
+use Rattle.teco_law_tables.specs.Ending.{EndsWithin}
+use Rattle.teco_law_tables.specs.Staying.{is_of_files, changes_files, NoFileCommands}
+use Rattle.teco_law_tables.proofs.Walking.{reaches_on, reads_none, none_yet, none_more, none_on}
+
+pub record CallLaws : Type 0 where
+  pub steps : StepsAreAlike
+  pub runs : RunsAreAlike
+  pub readings : ReadingsAreAlike
+  pub pending : NumbersArePending
+
+-- ---- outcomes that are alike
+record NextAlike (one : Outcome) (last : State) : Type 0 where
+  state : State
+  is : one ≡ Next state
+  alike : AreAlike state last
+
+next_alike : (one other : Outcome) (last : State) → AreOutcomesAlike one other → other ≡ Next last → NextAlike one last
+next_alike (Next s) (Next t) last a e =
+    let same : t ≡ last = cc in
+    record { state = s; is = refl; alike = subst (AreAlike s) same a }
+next_alike (End w) (Next t) last a e = absurd (a)
+next_alike (Exit w) (Next t) last a e = absurd (a)
+next_alike (Fail c w) (Next t) last a e = absurd (a)
+next_alike (Absent w) (Next t) last a e = absurd (a)
+next_alike one (End w) last a e = absurd (cc)
+next_alike one (Exit w) last a e = absurd (cc)
+next_alike one (Fail c w) last a e = absurd (cc)
+next_alike one (Absent w) last a e = absurd (cc)
+
+end_alike : (one other : Outcome) (new : World) → AreOutcomesAlike one other → other ≡ End new → one ≡ End new
+end_alike (End w) (End v) new a e = ap End a ∙ e
+end_alike (Next s) (End v) new a e = absurd (a)
+end_alike (Exit w) (End v) new a e = absurd (a)
+end_alike (Fail c w) (End v) new a e = absurd (a)
+end_alike (Absent w) (End v) new a e = absurd (a)
+end_alike one (Next t) new a e = absurd (cc)
+end_alike one (Exit w) new a e = absurd (cc)
+end_alike one (Fail c w) new a e = absurd (cc)
+end_alike one (Absent w) new a e = absurd (cc)
+
+-- and the other way round
+record OtherNext (other : Outcome) (first : State) : Type 0 where
+  state : State
+  is : other ≡ Next state
+  alike : AreAlike first state
+
+other_next : (one other : Outcome) (first : State) → AreOutcomesAlike one other → one ≡ Next first → OtherNext other first
+other_next (Next s) (Next t) first a e =
+    let same : s ≡ first = cc in
+    record { state = t; is = refl; alike = subst (λ s. AreAlike s t) same a }
+other_next (Next s) (End w) first a e = absurd (a)
+other_next (Next s) (Exit w) first a e = absurd (a)
+other_next (Next s) (Fail c w) first a e = absurd (a)
+other_next (Next s) (Absent w) first a e = absurd (a)
+other_next (End w) other first a e = absurd (cc)
+other_next (Exit w) other first a e = absurd (cc)
+other_next (Fail c w) other first a e = absurd (cc)
+other_next (Absent w) other first a e = absurd (cc)
+
+-- ---- runs that are alike
+files_by : (read : Option Element) → changes_files read ≡ option_map_or is_of_files (option_map kind_of read) false
+files_by None = refl
+files_by (Some e) = refl
+
+same_files : (read other : Option Element) → option_map kind_of read ≡ option_map kind_of other → changes_files read ≡ changes_files other
+same_files read other kinds = files_by read ∙ (ap (λ k. option_map_or is_of_files k false) kinds ∙ sym (files_by other))
+
+module _ (laws : CallLaws) (s t : State) (alike : AreAlike s t) where
+  none_alike : (steps : ℕ) → NoFileCommands t steps → NoFileCommands s steps
+  none_alike steps none k u less came read reads =
+      let there = other_next _ _ u (laws.runs k s t alike) came in
+      let other = laws.readings u there.state read there.alike reads in
+      same_files read other.other other.kinds ∙ none k there.state less there.is other.other other.reads
+
+  ends_alike : (steps : ℕ) (new : World) → Ends t steps new → Ends s steps new
+  ends_alike steps new ends =
+      let there = next_alike _ _ ends.last (laws.runs steps s t alike) ends.steps in
+      record {
+        last = there.state;
+        steps = there.is;
+        end = end_alike _ _ new (laws.steps there.state ends.last there.alike) ends.end;
+      }
+
+-- ---- the step of the digits
+module _ (laws : CallLaws) (entry n : ℕ) (world : World) (steps : ℕ) (named : entry < REGISTERS) (small : n < 2 ^ 31) (ends : EndsWithin (start_pending entry n world) steps) where
+  abbrev first : State
+  first = start (call_given entry (Some n)) world
+
+  digits : BeginsPending entry n world
+  digits = laws.pending entry n world named small
+
+  reached : Reaches 1 first digits.behind
+  unfolding run
+  reached = digits.goes
+
+  not_yet : Reaches 0 first first
+  unfolding run
+  not_yet = refl
+
+  none_first : NoFileCommands first 1
+  none_first = none_more 0 first first (none_yet first) not_yet (reads_none first (Some digits.digits) digits.reads (ap is_of_files digits.are_digits))
+
+  pub given_ends : EndsWithin first (1 + steps)
+  given_ends =
+      let later = ends_alike laws digits.behind (start_pending entry n world) digits.alike ends.steps ends.new ends.ends in
+      record {
+        steps = 1 + ends.steps;
+        new = ends.new;
+        few = omega (arith, ends.few);
+        none = none_on 1 ends.steps first digits.behind none_first reached (none_alike laws digits.behind (start_pending entry n world) digits.alike ends.steps ends.none);
+        ends = record { last = later.last; steps = reaches_on 1 ends.steps first digits.behind later.last reached later.steps; end = later.end };
+      }

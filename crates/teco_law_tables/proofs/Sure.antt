@@ -1,0 +1,130 @@
+-- A run that comes to its end does nothing else.
+use Rattle.std.proofs.Common.{◌≡◌, ℕ, zero, suc, ◌+◌, ◌-◌, ◌<◌, ◌⊎◌, inl, inr, refl, sym, ap, ◌∙◌, subst, arith, Bool, true, false, Option, Some, None, Result, Ok, Err}
+use Rattle.std.proofs.lemmas.Bool.{cases_order}
+use Rattle.teco_base.specs.declared.code.Code.{Code}
+use Rattle.teco_model.specs.declared.kind.Kind.{Kind}
+use Rattle.teco_model.specs.declared.kind.Kind.TheVariants as kind
+use Rattle.teco_model.specs.declared.kind.Page.{Page}
+use Rattle.teco_model.specs.declared.kind.Page.TheVariants as page
+use Rattle.teco_model.specs.declared.kind.Search.{Search}
+use Rattle.teco_model.specs.declared.kind.Search.TheVariants as search
+use Rattle.teco_model.specs.declared.stop.HostFault.TheVariants as host_fault
+use Rattle.teco_model.specs.declared.stop.Stop.TheVariants as stop
+use Rattle.teco_model.specs.Element.{Element, element_at}
+use Rattle.teco_model.specs.Faults.{PageBreaks, SearchBreaks, Breaks, MayBreak, BreaksAt, BreaksFrom, world_left}
+use Rattle.teco_model.specs.Memory.{grows}
+use Rattle.teco_model.specs.Run.{run, go_on, Reaches}
+use Rattle.teco_model.specs.State.{World, State, Outcome, Next, End, Exit, Fail}
+use Rattle.teco_model.specs.Step.{step}
+use Rattle.teco_law_tables.specs.Ending.{EndsWithin}
+use Rattle.teco_law_tables.specs.Staying.{is_of_files, changes_files, ReadsNoFileCommand}
+use Rattle.teco_law_tables.specs.Sure.{RunsAreSure}
+use Rattle.teco_law_tables.proofs.Walking.{same_next}
+
+-- it is no state
+abbrev IsOver : Outcome → Type 0
+IsOver o = go_on o ≡ o
+
+run-suc : (n : ℕ) (s : State) → run (suc n) s ≡ go_on (run n s)
+unfolding run
+run-suc n s = refl
+
+-- what is over stays over
+over_stays : (s : State) (o : Outcome) → IsOver o → (n : ℕ) → run n s ≡ o → (k : ℕ) → run (k + n) s ≡ o
+over_stays s o over n e zero = let none : 0 + n ≡ n = omega arith in ap (λ k. run k s) none ∙ e
+over_stays s o over n e (suc k) =
+    let more : suc k + n ≡ suc (k + n) = omega arith in
+    ap (λ j. run j s) more ∙ run-suc (k + n) s ∙ ap go_on (over_stays s o over n e k) ∙ over
+
+-- the outcome of the step behind a state that a run comes to
+behind : (s last : State) (n : ℕ) → Reaches n s last → run (suc n) s ≡ step last
+behind s last n r = run-suc n s ∙ ap go_on r
+
+-- later than that a run comes to no state
+none_later : (s last other : State) (o : Outcome) (n m : ℕ) → IsOver o → ((t : State) → o ≡ Next t → ⊥) → Reaches n s last → step last ≡ o → n < m → Reaches m s other → ⊥
+none_later s last other o n m over never r e less q =
+    let later : (m - suc n) + suc n ≡ m = omega (arith, less) in
+    let stays = over_stays s o over (suc n) (behind s last n r ∙ e) (m - suc n) in
+    never other (sym (ap (λ k. run k s) (sym later) ∙ stays) ∙ q)
+
+-- two ways of being over are one, and come at the same time
+module _ (s last other : State) (o p : Outcome) (n m : ℕ) (over : IsOver o) (never : (t : State) → o ≡ Next t → ⊥) (over' : IsOver p) (never' : (t : State) → p ≡ Next t → ⊥) (r : Reaches n s last) (e : step last ≡ o) (q : Reaches m s other) (f : step other ≡ p) where
+  same_end : (n ≡ m) × (o ≡ p)
+  same_end = by (cases_order n m)
+    where
+      by : (n ≡ m) ⊎ ((n < m) ⊎ (m < n)) → (n ≡ m) × (o ≡ p)
+      by (inl same) = (same, sym e ∙ ap step (same_next last other (sym r ∙ ap (λ k. run k s) same ∙ q)) ∙ f)
+      by (inr (inl less)) = absurd (none_later s last other o n m over never r e less q)
+      by (inr (inr less)) = absurd (none_later s other last p m n over' never' q f less r)
+
+end_is_none : (w : World) (t : State) → End w ≡ Next t → ⊥
+end_is_none w t e = absurd (cc)
+
+-- a state that a run comes to is before its end, or at it
+before_or_at : (s : State) (most : ℕ) (ends : EndsWithin s most) (k : ℕ) (t : State) → Reaches k s t → (k < ends.steps) ⊎ (step t ≡ End ends.new)
+before_or_at s most ends k t reached = by (cases_order ends.steps k)
+  where
+    by : (ends.steps ≡ k) ⊎ ((ends.steps < k) ⊎ (k < ends.steps)) → (k < ends.steps) ⊎ (step t ≡ End ends.new)
+    by (inl same) = inr (ap step (same_next t ends.ends.last (sym reached ∙ (sym (ap (λ k. run k s) same) ∙ ends.ends.steps))) ∙ ends.ends.end)
+    by (inr (inl past)) = absurd (none_later s ends.ends.last t (End ends.new) ends.steps k refl (end_is_none ends.new) ends.ends.steps ends.ends.end past reached)
+    by (inr (inr before)) = inl before
+
+-- ---- a command of files alone may find no file
+page_reads : (p : Page) (reads : Bool) (before after new : World) → PageBreaks p reads host_fault.NoFile before after new → ⊥
+page_reads page.Yank reads before after new h = h
+page_reads page.Append true before after new h = h
+page_reads page.Append false before after new h = h
+page_reads page.Next true before after new h = h
+page_reads page.Next false before after new h = h
+page_reads page.Write reads before after new h = h
+
+search_reads : (q : Search) (before after new : World) → SearchBreaks q host_fault.NoFile before after new → ⊥
+search_reads search.Find before after new h = h
+search_reads search.Replace before after new h = h
+search_reads search.FindInPages before after new h = h
+search_reads search.ReplaceInPages before after new h = h
+
+kind_opens : (k : Kind) (grows : Bool) (before after new : World) → is_of_files k ≡ false → Breaks k grows host_fault.NoFile before after new → ⊥
+kind_opens (kind.File f) grows before after new none h = absurd (cc)
+kind_opens (kind.Page p) grows before after new none h = page_reads p grows before after new h
+kind_opens (kind.Search q) grows before after new none h = search_reads q before after new h
+kind_opens k grows before after new none h = h
+
+read_opens : (t : State) (r : Result (Option Element) Code) (o : Outcome) (new : World) → ((read : Option Element) → r ≡ Ok read → changes_files read ≡ false) → BreaksAt t r o host_fault.NoFile new → ⊥
+read_opens t (Err c) o new none h = h
+read_opens t (Ok None) o new none h = h
+read_opens t (Ok (Some e)) o new none h = kind_opens e.kind (grows e.kind t.arguments.level t.left) t.world (world_left o) new (none (Some e) refl) h.1
+
+none_opens : (t : State) (new : World) → ReadsNoFileCommand t → BreaksFrom t host_fault.NoFile new → ⊥
+none_opens t new none h = read_opens t (element_at t.frames.running.text t.frames.running.place) (step t) new none h
+
+-- nothing fails at the end
+end_breaks : (t : State) (r : Result (Option Element) Code) (o : Outcome) (w new : World) → o ≡ End w → BreaksAt t r o host_fault.NoFile new → ⊥
+end_breaks t (Err c) o w new e h = h
+end_breaks t (Ok None) o w new e h = h
+end_breaks t (Ok (Some x)) o w new e h = subst (MayBreak host_fault.NoFile x.kind) e h.0
+
+pub runs_are_sure : RunsAreSure
+runs_are_sure s most limit (stop.Ended n) new ends small stops =
+    let same = same_end s ends.ends.last stops.1.last (End ends.new) (End new) ends.steps n refl (end_is_none ends.new) refl (end_is_none new) ends.ends.steps ends.ends.end stops.1.steps stops.1.end in
+    omega (arith, same.0, ends.few)
+runs_are_sure s most limit (stop.Exit n) new ends small stops =
+    let exits = stops.1 in
+    let same = same_end s ends.ends.last exits.last (End ends.new) (Exit new) ends.steps exits.before refl (end_is_none ends.new) refl (λ t e. absurd (cc)) ends.ends.steps ends.ends.end exits.steps exits.exit in
+    let not : End ends.new ≡ Exit new = same.1 in absurd (cc)
+runs_are_sure s most limit (stop.Error c) new ends small fails =
+    let same = same_end s ends.ends.last fails.last (End ends.new) (Fail c new) ends.steps fails.steps refl (end_is_none ends.new) refl (λ t e. absurd (cc)) ends.ends.steps ends.ends.end fails.reached fails.failed in
+    let not : End ends.new ≡ Fail c new = same.1 in absurd (cc)
+runs_are_sure s most limit stop.Limit new ends small limited = by (before_or_at s most ends limit limited.last limited.reached)
+  where
+    by : (limit < ends.steps) ⊎ (step limited.last ≡ End ends.new) → ⊥
+    by (inl before) = absurd (omega (arith, before, ends.few, small))
+    by (inr end) = limited.unfinished ends.new end
+runs_are_sure s most limit stop.Memory new ends small stops = tt
+runs_are_sure s most limit (stop.HostFault host_fault.In) new ends small broken = tt
+runs_are_sure s most limit (stop.HostFault host_fault.Out) new ends small broken = tt
+runs_are_sure s most limit (stop.HostFault host_fault.NoFile) new ends small broken = by (before_or_at s most ends broken.steps broken.last broken.reached)
+  where
+    by : (broken.steps < ends.steps) ⊎ (step broken.last ≡ End ends.new) → ⊥
+    by (inl before) = none_opens broken.last new (ends.none broken.steps broken.last before broken.reached) broken.breaks
+    by (inr end) = end_breaks broken.last (element_at broken.last.frames.running.text broken.last.frames.running.place) (step broken.last) ends.new new end broken.breaks

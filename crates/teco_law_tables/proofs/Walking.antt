@@ -1,0 +1,73 @@
+-- Runs that come to a state, move by move.
+use Rattle.std.proofs.Common.{◌≡◌, ◌⊎◌, inl, inr, ℕ, zero, suc, ◌+◌, ◌-◌, ◌≤◌, ◌<◌, refl, sym, ap, ◌∙◌, subst, arith, false, Option, Result, Ok}
+use Rattle.std.proofs.lemmas.Bool.{cases_order}
+use Rattle.teco_law_turns.specs.Moves.{State as Shown, Move, RunTakes}
+use Rattle.teco_law_turns.specs.Table.{Table as Numbers}
+use Rattle.teco_law_turns.specs.Turns.{Lead}
+use Rattle.teco_base.specs.declared.code.Code.{Code}
+use Rattle.teco_model.specs.Element.{Element, element_at}
+use Rattle.teco_model.specs.Run.{Reaches, run, go_on}
+use Rattle.teco_model.specs.State.{State, Next}
+use Rattle.teco_law_tables.specs.Staying.{changes_files, ReadsNoFileCommand, NoFileCommands}
+
+-- some moves lead from one state to another, in so many steps
+abbrev pub Came : Numbers → ℕ → Shown → ℕ → Shown → Type 0
+Came t zero s total last = (s ≡ last) × (total ≡ 0)
+Came t (suc moves) s total last =
+    (new : Shown) × (own : ℕ) × (rest : ℕ) × Move t s new × (own ≤ t.own s.node) × Came t moves new rest last × (total ≡ own + rest)
+
+pub came_on : (t : Numbers) (moves : ℕ) (s last new : Shown) (total own : ℕ) → Came t moves s total last → Move t last new → own ≤ t.own last.node → Came t (suc moves) s (total + own) new
+came_on t zero s last new total own c m l =
+    (new, own, 0, subst (λ (s : Shown). Move t s new) (sym c.0) m, subst (λ (s : Shown). own ≤ t.own s.node) (sym c.0) l, (refl, refl), omega (arith, c.1))
+came_on t (suc moves) s last new total own c m l =
+    (c.0, c.1, c.2 + own, c.3, c.4, came_on t moves c.0 last new c.2 own c.5 m l, omega (arith, c.6))
+
+pub came_takes : (t : Numbers) (moves : ℕ) (s last : Shown) (total k : ℕ) → Came t moves s total last → k ≤ t.own last.node → RunTakes t moves s (total + k)
+came_takes t zero s last total k c l = let e = subst (λ (s : Shown). k ≤ t.own s.node) (sym c.0) l in omega (arith, c.1, e)
+came_takes t (suc moves) s last total k c l =
+    (c.0, c.1, c.2 + k, c.3, c.4, came_takes t moves c.0 last c.2 k c.5 l, omega (arith, c.6))
+
+pub came_leads : (t : Numbers) (moves : ℕ) (s last : Shown) (total : ℕ) → Came t moves s total last → Lead t moves s last
+came_leads t zero s last total c = c.0
+came_leads t (suc moves) s last total c = (c.0, c.3, came_leads t moves c.0 last c.2 c.5)
+
+-- steps behind steps
+pub run_on : (k : ℕ) (s u : State) → Reaches k s u → (m : ℕ) → run (k + m) s ≡ run m u
+unfolding run
+run_on k s u h zero = let z : k + 0 ≡ k = omega arith in rw z h
+run_on k s u h (suc m) = let z : k + suc m ≡ suc (k + m) = omega arith in rw z (ap go_on (run_on k s u h m))
+
+pub reaches_on : (k m : ℕ) (s u v : State) → Reaches k s u → Reaches m u v → Reaches (k + m) s v
+reaches_on k m s u v h g = run_on k s u h m ∙ g
+
+pub same_next : (a b : State) → Next a ≡ Next b → a ≡ b
+same_next a b e = cc
+
+-- ---- no command of files is read on the way
+one_read : (r : Result (Option Element) Code) (read other : Option Element) → r ≡ Ok read → r ≡ Ok other → read ≡ other
+one_read r read other is reads = cc
+
+pub reads_none : (s : State) (read : Option Element) → element_at s.frames.running.text s.frames.running.place ≡ Ok read → changes_files read ≡ false → ReadsNoFileCommand s
+reads_none s read is none other reads = ap changes_files (sym (one_read _ read other is reads)) ∙ none
+
+pub none_yet : (s : State) → NoFileCommands s 0
+none_yet s k t l = absurd (omega (arith, l))
+
+pub none_more : (j : ℕ) (s u : State) → NoFileCommands s j → Reaches j s u → ReadsNoFileCommand u → NoFileCommands s (suc j)
+none_more j s u none came at k t l h = by (cases_order k j)
+  where
+    by : (k ≡ j) ⊎ ((k < j) ⊎ (j < k)) → ReadsNoFileCommand t
+    by (inl e) = subst ReadsNoFileCommand (same_next u t (sym came ∙ (sym (ap (λ k. run k s) e) ∙ h))) at
+    by (inr (inl less)) = none k t less h
+    by (inr (inr more)) = absurd (omega (arith, l, more))
+
+pub none_on : (k m : ℕ) (s u : State) → NoFileCommands s k → Reaches k s u → NoFileCommands u m → NoFileCommands s (k + m)
+none_on k m s u none came later j t l h = by (cases_order k j)
+  where
+    behind : (i : ℕ) → j ≡ k + i → ReadsNoFileCommand t
+    behind i e = later i t (omega (arith, l, e)) (sym (run_on k s u came i) ∙ subst (λ j. Reaches j s t) e h)
+
+    by : (k ≡ j) ⊎ ((k < j) ⊎ (j < k)) → ReadsNoFileCommand t
+    by (inl e) = behind 0 (omega (arith, e))
+    by (inr (inl more)) = behind (j - k) (omega (arith, more))
+    by (inr (inr less)) = none j t less h

@@ -1,0 +1,73 @@
+-- A stand compares alike to itself, and so a way to the next node has the next number.
+use Rattle.std.proofs.Common.{◌≡◌, ℕ, zero, suc, ◌+◌, ◌<◌, ◌≤◌, List, [], ◌∷◌, drop, length, nat_lt, Bool, true, false, ◌&&◌, ◌==◌, bytes_eq, Option, Some, None, refl, sym, ap, ◌∙◌, ⊎_elim, eqb-true, rules, arith}
+use Rattle.std.proofs.lemmas.Bool.{cases_lt}
+use Rattle.std.proofs.lemmas.Slice.Eq.{bytes_eq-Decides}
+use Rattle.teco_base.specs.declared.TheConstants.{REGISTERS}
+use Rattle.teco_base.specs.Register.{register_of, register_name}
+use Rattle.teco_verifier.specs.expansion.Expansion.{same_spot, same_spots, same_position, same_stand, number_behind}
+use Rattle.teco_verifier.specs.expansion.Node.{Stand}
+use Rattle.teco_verifier.specs.expansion.Position.{Spot}
+
+both : (a b : Bool) → a ≡ true → b ≡ true → (a && b) ≡ true
+both a b h g = rw (h, g) refl
+
+pub same_number : (n : ℕ) → (n == n) ≡ true
+same_number n = search rules
+
+same_bytes : (xs : List ℕ) → bytes_eq xs xs ≡ true
+same_bytes xs = (bytes_eq-Decides xs xs).1 refl
+
+spot_alike : (a : Spot) → same_spot a a ≡ true
+spot_alike a =
+    both (a.place == a.place) _ (same_number a.place)
+    (both (bytes_eq a.text a.text) (bytes_eq a.starts a.starts) (same_bytes a.text) (same_bytes a.starts))
+
+spots_alike : (spots : List Spot) → same_spots spots spots ≡ true
+spots_alike [] = refl
+spots_alike (spot ∷ spots) = both (same_spot spot spot) (same_spots spots spots) (spot_alike spot) (spots_alike spots)
+
+stand_alike : (a : Stand) → same_stand a a ≡ true
+stand_alike a =
+    both (same_position a.position a.position) (bytes_eq a.iterations a.iterations)
+    (both (same_spot a.position.running a.position.running) (same_spots a.position.callers a.position.callers)
+    (spot_alike a.position.running) (spots_alike a.position.callers))
+    (same_bytes a.iterations)
+
+pub next_number : (all rest : List Stand) (number : ℕ) (stand : Stand) → drop number all ≡ stand ∷ rest → number_behind number all stand ≡ Some (suc number)
+next_number all rest number stand h =
+    let none : number + 0 ≡ number = omega arith in
+    let some : nat_lt 0 (length (stand ∷ rest)) ≡ true = search rules in rw (h, stand_alike stand, some, none) refl
+
+pub drop-behind : {X : Type 0} (n : ℕ) (xs rest : List X) (x : X) → drop n xs ≡ x ∷ rest → drop (suc n) xs ≡ rest
+drop-behind zero [] rest x h = absurd (cc)
+drop-behind zero (y ∷ xs) rest x h = cc
+drop-behind (suc n) [] rest x h = absurd (cc)
+drop-behind (suc n) (y ∷ xs) rest x h = drop-behind n xs rest x h
+
+-- the name of a register names it
+abbrev is_number : ℕ → Option ℕ → Bool
+is_number r None = false
+is_number r (Some n) = n == r
+
+abbrev are_named : ℕ → Bool
+are_named zero = true
+are_named (suc r) = is_number r (register_of (register_name r)) && are_named r
+
+parts : (a b : Bool) → (a && b) ≡ true → (a ≡ true) × (b ≡ true)
+parts true b h = (refl, h)
+parts false b h = absurd (cc)
+
+number_is : (r : ℕ) (o : Option ℕ) → is_number r o ≡ true → o ≡ Some r
+number_is r None h = absurd (cc)
+number_is r (Some n) h = ap Some (eqb-true n r h)
+
+named_below : (n r : ℕ) → are_named n ≡ true → r < n → is_number r (register_of (register_name r)) ≡ true
+named_below zero r h l = absurd (omega arith)
+named_below (suc n) r h l =
+    let two = parts (is_number n (register_of (register_name n))) (are_named n) h in
+    ⊎_elim (λ (k : r < n). named_below n r two.1 k)
+    (λ (k : n ≤ r). let e : n ≡ r = omega arith in ap (λ r. is_number r (register_of (register_name r))) (sym e) ∙ two.0)
+    (cases_lt r n)
+
+pub names_itself : (r : ℕ) → r < REGISTERS → register_of (register_name r) ≡ Some r
+names_itself r l = number_is r (register_of (register_name r)) (named_below REGISTERS r refl l)

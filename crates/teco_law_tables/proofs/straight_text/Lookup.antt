@@ -1,0 +1,21 @@
+-- What the table of a straight text says at a number.
+use Rattle.std.proofs.Common.{◌≡◌, ℕ, zero, suc, ◌+◌, List, [], ◌∷◌, drop, length, Some, slice_get, refl, ap}
+use Rattle.teco_model.specs.Element.{Element}
+use Rattle.teco_verifier.specs.table.Table.{Table, facts_at}
+use Rattle.teco_law_tables.specs.straight_text.Nodes.{nodes_in_text}
+use Rattle.teco_law_tables.specs.straight_text.Straight.{inserted_by}
+use Rattle.teco_law_tables.specs.straight_text.Facts.{facts_behind_insertions, rows_in_text}
+
+first_behind : {X : Type 0} (n : ℕ) (xs rest : List X) (x : X) → drop n xs ≡ x ∷ rest → slice_get xs n ≡ Some x
+first_behind zero [] rest x h = absurd (cc)
+first_behind zero (y ∷ xs) rest x h = cc
+first_behind (suc n) [] rest x h = absurd (cc)
+first_behind (suc n) (y ∷ xs) rest x h = first_behind n xs rest x h
+
+pub facts_there : (table : Table) (m count : ℕ) (elements : List Element) → drop m table ≡ rows_in_text count elements → facts_at table (suc m) ≡ Some (facts_behind_insertions count)
+facts_there table m count [] h = rw (first_behind m table [] _ h) refl
+facts_there table m count (e ∷ elements) h = rw (first_behind m table (rows_in_text (count + inserted_by e) elements) _ h) refl
+
+pub length-nodes : (entry number place : ℕ) (text : List ℕ) (elements : List Element) → length (nodes_in_text entry text number place elements) ≡ suc (length elements)
+length-nodes entry number place text [] = refl
+length-nodes entry number place text (e ∷ elements) = ap suc (length-nodes entry (suc number) e.next text elements)

@@ -1,0 +1,29 @@
+-- A straight text worked by hand.
+use Rattle.std.proofs.Common.{refl, arith}
+use Rattle.std.specs.Fmt.{digits}
+use Rattle.std.specs.Int.{int_wrap}
+use Rattle.teco_model.specs.Element.{blank_len, element_from, element_at}
+use Rattle.teco_model.specs.Letters.{letters}
+use Rattle.teco_law_expansion.specs.Rows.{only}
+use Rattle.teco_law_tables.specs.straight_text.Rows.{letters_put_in, elements_put_in, WorkedStraightText}
+use Rattle.teco_law_tables.specs.straight_text.Straight.{IsStraight}
+use Rattle.teco_law_tables.proofs.straight_text.Accepting.{straight_texts_are_accepted}
+
+is_straight : IsStraight (only letters_put_in) 0 letters_put_in elements_put_in
+unfolding blank_len element_from element_at letters
+is_straight = record {
+  register = omega arith;
+  has_text = refl;
+  read = (refl, (refl, (refl, (refl, refl))));
+  straight = (tt, (tt, (tt, (tt, tt))));
+  few = omega arith;
+}
+
+pub worked_straight_text : WorkedStraightText
+unfolding digits int_wrap
+worked_straight_text = record {
+  straight = is_straight;
+  accepted = straight_texts_are_accepted (only letters_put_in) 0 letters_put_in elements_put_in is_straight (omega arith);
+  commands_text = refl;
+  size_text = refl;
+}

@@ -1,0 +1,127 @@
+//! Laws of closed tables.
+ghost use Rattle.teco_law_tables.specs.Bounded.{IterationsAreBounded, RunsAreDescribed};
+ghost use Rattle.teco_law_tables.specs.Ending.{RunsEndInTime};
+ghost use Rattle.teco_law_tables.specs.Laws.{CommandsAreSteps, TablesAreClosed};
+ghost use Rattle.teco_law_tables.specs.Moving.{StepsMove};
+ghost use Rattle.teco_law_tables.specs.Rows.{WorkedTables};
+ghost use Rattle.teco_law_tables.specs.Staying.{FilesStayOpen};
+ghost use Rattle.teco_law_tables.specs.Sure.{RunsAreSure};
+ghost use Rattle.teco_law_tables.specs.Verified.{RunsAreVerified};
+
+/// The definition gives what is worked by hand.
+pub fn worked_tables()
+    ensures { WorkedTables }
+{}
+
+/// The printed number of commands is that of the table of numbers, and of the digits before the
+/// call.
+pub fn commands_are_steps()
+    ensures { CommandsAreSteps }
+{}
+
+/// A closed table is closed as a table of numbers.
+pub fn tables_are_closed()
+    ensures { TablesAreClosed }
+{
+    teco_law_expansion::laws::iterations_are_open();
+    teco_law_expansion::laws::iterations_end();
+    teco_law_turns::laws::nodes_nest();
+}
+
+/// A step from where a run is described is a move, to where it is described again.
+pub fn steps_move()
+    ensures { StepsMove }
+{
+    teco_law_expansion::laws::iterations_are_open();
+    teco_law_expansion::laws::iterations_end();
+    teco_law_expansion::laws::left_have_ended();
+    teco_law_expansion::laws::ways_lead();
+}
+
+/// Files stay as open as they are, through each step whose element is no command of files.
+pub fn files_stay_open()
+    ensures { FilesStayOpen }
+{}
+
+/// A run of a macro ends without a code within the steps that its table tells, where each element
+/// does what the laws of facts say.
+pub fn runs_end_in_time()
+    ensures { RunsEndInTime }
+{
+    teco_law_turns::laws::runs_are_bounded();
+    teco_law_turns::laws::runs_are_covered();
+    teco_law_expansion::laws::runs_end();
+    tables_are_closed();
+    steps_move();
+}
+
+/// A macro with a closed table runs to its end without a code, within the printed number of
+/// commands, where the files that it needs are open at the start, whatever argument in the declared
+/// range it is called with; it opens and closes none.
+pub fn runs_are_verified()
+    ensures { RunsAreVerified }
+{
+    teco_law_facts::sound::steps_are_sound();
+    teco_law_facts::sound::later_steps_are_sound();
+    teco_law_facts::sound::elements_are_named();
+    teco_law_facts::laws::whole_is_kept();
+    teco_law_expansion::laws::steps_go_along_nodes();
+    teco_law_expansion::laws::stays_loaded();
+    teco_law_expansion::laws::nodes_are_sound();
+    teco_law_expansion::laws::iterations_end();
+    teco_law_expansion::laws::steps_are_alike();
+    teco_law_expansion::laws::runs_are_alike();
+    teco_law_expansion::laws::readings_are_alike();
+    teco_law_expansion::laws::numbers_are_pending();
+    files_stay_open();
+    runs_end_in_time();
+}
+
+/// Wherever an element begins in a run of a macro with a closed table, what the table knows there
+/// describes the run; or the run is over.
+pub fn runs_are_described()
+    ensures { RunsAreDescribed }
+{
+    teco_law_facts::sound::steps_are_sound();
+    teco_law_facts::sound::later_steps_are_sound();
+    teco_law_facts::sound::elements_are_named();
+    teco_law_facts::laws::whole_is_kept();
+    teco_law_expansion::laws::steps_go_along_nodes();
+    teco_law_expansion::laws::stays_loaded();
+    teco_law_expansion::laws::nodes_are_sound();
+    teco_law_expansion::laws::iterations_end();
+    teco_law_expansion::laws::runs_end();
+    teco_law_turns::laws::runs_are_bounded();
+    teco_law_turns::laws::runs_are_covered();
+    files_stay_open();
+    tables_are_closed();
+    steps_move();
+}
+
+/// Each iteration that a run of a macro with a closed table enters takes at most the turns that the
+/// table tells.
+pub fn turns_are_bounded()
+    ensures { IterationsAreBounded }
+{
+    teco_law_facts::sound::steps_are_sound();
+    teco_law_facts::sound::later_steps_are_sound();
+    teco_law_facts::sound::elements_are_named();
+    teco_law_facts::laws::whole_is_kept();
+    teco_law_expansion::laws::steps_go_along_nodes();
+    teco_law_expansion::laws::stays_loaded();
+    teco_law_expansion::laws::nodes_are_sound();
+    teco_law_expansion::laws::iterations_end();
+    teco_law_expansion::laws::runs_end();
+    teco_law_turns::laws::runs_are_bounded();
+    teco_law_turns::laws::runs_are_covered();
+    teco_law_turns::laws::turns_are_bounded();
+    files_stay_open();
+    tables_are_closed();
+    steps_move();
+}
+
+/// A run that ends within some steps, none of them a command of files, stops for nothing but its
+/// end, want of memory, or a fault of the host in reading or in writing.
+pub fn runs_are_sure()
+    ensures { RunsAreSure }
+{}

@@ -1,0 +1,4 @@
+-- Laws of the definition.
+pub mod Whole
+pub mod Matching
+pub mod StepCodes

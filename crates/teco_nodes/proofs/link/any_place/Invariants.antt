@@ -1,9 +1,0 @@
-use Rattle.std.proofs.Common.{◌≡◌, map}
-use Rattle.teco_nodes.specs.Linking.{has_place}
-use Rattle.teco_nodes.specs.Seen.{position_seen, stand_seen}
-use Rattle.teco_nodes.proofs.link.any_place.Given as goal
-
-abbrev pub invariant-loop-at : goal.invariant-loop-at
-invariant-loop-at l =
-    has_place l.number (map (stand_seen l.texts) l.stands) (position_seen l.texts l.position)
-    ≡ has_place l.at (map (stand_seen l.texts) l.stands) (position_seen l.texts l.position)

@@ -1,9 +1,0 @@
-use Rattle.std.proofs.Common.{◌≡◌, map}
-use Rattle.teco_expand.specs.Expansion.{number_behind}
-use Rattle.teco_nodes.specs.Seen.{stand_seen}
-use Rattle.teco_nodes.proofs.link.number_behind.Given as goal
-
-abbrev pub invariant-loop-at : goal.invariant-loop-at
-invariant-loop-at l =
-    number_behind l.number (map (stand_seen l.texts) l.stands) (stand_seen l.texts l.stand)
-    ≡ number_behind l.at (map (stand_seen l.texts) l.stands) (stand_seen l.texts l.stand)

@@ -1,8 +1,0 @@
-use Rattle.std.proofs.Common.{◌≡◌, drop}
-use Rattle.teco_expand.specs.Expansion.{is_open}
-use Rattle.teco_nodes.specs.Few.{listed}
-use Rattle.teco_nodes.proofs.steps.is_open.Given as goal
-
-abbrev pub invariant-loop-at : goal.invariant-loop-at
-invariant-loop-at l =
-    is_open l.register (listed l.registers) ≡ is_open l.register (drop l.at (listed l.registers))

@@ -1,0 +1,7 @@
+use Rattle.std.proofs.Common.{rules, take}
+use Rattle.teco_pages.proofs.Bytes.{noted}
+use Rattle.teco_pages.specs.Events.{gave}
+use Rattle.teco_pages.proofs.history.History.gave.Goals as goal
+
+pub returns-else-n-eq0-clause-bytes : goal.returns-else-n-eq0-clause-bytes
+returns-else-n-eq0-clause-bytes c = noted _ c.args.self.now.events c.then-else-n-eq0.result.events (gave (take c.args.n c.args.buf.now)) (search rules) tt (λ f g h. h)

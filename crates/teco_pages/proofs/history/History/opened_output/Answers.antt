@@ -1,0 +1,7 @@
+use Rattle.std.proofs.Common.{rules}
+use Rattle.teco_pages.proofs.Bytes.{noted}
+use Rattle.teco_pages.specs.Events.{opened_output}
+use Rattle.teco_pages.proofs.history.History.opened_output.Goals as goal
+
+pub returns : goal.returns
+returns c = noted _ c.args.self.now.events c.then.result.events (opened_output c.args.name.now) (search rules) tt (λ f g h. h)

@@ -1,0 +1,103 @@
+// What the calls of a host did: contracts see it, and nothing else.
+ghost use Rattle.std.specs.Prelude.{◌≡◌, ◌≤◌, ◌<◌, ◌∷◌, ◌++◌, List, [], length, take};
+ghost use Rattle.std.specs.Borrow.{ftrue};
+ghost use Rattle.teco_pages.specs.Events.{Event, events_code};
+
+use std::marker::Model;
+use teco_model::are_bytes;
+
+// What a call did that has not failed.
+#[derive(Clone, Copy, Drop)]
+pub enum Note<'a> {
+    OpenedInput(&'a [u8]),
+    Gave(&'a [u8]),
+    Ended,
+    OpenedOutput(&'a [u8]),
+    Wrote(&'a [u8]),
+    Closed,
+    Dropped,
+}
+
+/// The calls of a host that cannot tell its files. It takes no memory, and does nothing when it
+/// runs.
+#[derive(Drop)]
+pub struct History {
+    pub ghost events: { List Event } by { events_code },
+}
+
+impl Model for History {
+    ghost also_owns = { λ _. ftrue };
+}
+
+impl History {
+    ghost use Rattle.teco_pages.specs.HostCalls.{HasOpened};
+    ghost use Rattle.teco_pages.specs.HostFiles.{Becomes, Notes, NoneUnread, Reads, after_opening, after_writing, after_closing, after_dropping};
+    ghost use Rattle.teco_pages.specs.Noted.{event_of};
+
+    /// Nothing has happened yet.
+    pub fn new() -> History
+        ensures { result.events ≡ [] }
+    {
+        History {}
+    }
+
+    // This history, and behind it what a call did.
+    #[inline(always)]
+    fn then(&self, _note: &Note<'_>) -> History
+        ensures { result.events ≡ self.now.events ++ event_of _note.now ∷ [] }
+    {
+        History {}
+    }
+
+    /// The file of a name was opened as the input.
+    pub fn opened_input(&mut self, name: &[u8])
+        ensures { HasOpened name.now (Notes self.old.events) (Notes self.new.events) }
+    {
+        *self = self.then(&Note::OpenedInput(name));
+    }
+
+    /// The first `n` bytes of a buffer were read; none, where it has room, at the end of the input.
+    pub fn gave(&mut self, buf: &[u8], n: usize)
+        requires { n ≤ length buf.now }
+        ensures bytes { Reads (take n buf.now) (Notes self.old.events) (Notes self.new.events) }
+        ensures end { n ≡ 0 → 0 < length buf.now
+            → NoneUnread (Notes self.old.events) (Notes self.new.events) }
+    {
+        *self = if n == 0 && !buf.is_empty() {
+            self.then(&Note::Ended)
+        } else {
+            self.then(&Note::Gave(&buf[..n]))
+        };
+    }
+
+    /// An output of a name was opened.
+    pub fn opened_output(&mut self, name: &[u8])
+        ensures { Becomes (after_opening name.now) (Notes self.old.events) (Notes self.new.events) }
+    {
+        *self = self.then(&Note::OpenedOutput(name));
+    }
+
+    /// The first `n` of some bytes were written.
+    pub fn wrote(&mut self, bytes: &[u8], n: usize)
+        requires { n ≤ length bytes.now }
+        ensures { Becomes (after_writing (take n bytes.now))
+            (Notes self.old.events) (Notes self.new.events) }
+    {
+        are_bytes(&bytes[..n]);
+        *self = self.then(&Note::Wrote(&bytes[..n]));
+    }
+
+    /// The output took its name.
+    pub fn closed(&mut self)
+        ensures { Becomes after_closing (Notes self.old.events) (Notes self.new.events) }
+    {
+        *self = self.then(&Note::Closed);
+    }
+
+    /// The output was dropped.
+    pub fn dropped(&mut self)
+        ensures { Becomes after_dropping (Notes self.old.events) (Notes self.new.events) }
+    {
+        *self = self.then(&Note::Dropped);
+    }
+}

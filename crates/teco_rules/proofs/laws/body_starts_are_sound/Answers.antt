@@ -1,5 +1,0 @@
-use Rattle.teco_rules.proofs.Bodies.{body_starts_are_sound}
-use Rattle.teco_rules.proofs.laws.body_starts_are_sound.Goals as goal
-
-pub returns : goal.returns
-returns c = body_starts_are_sound

@@ -1,5 +1,0 @@
-use Rattle.teco_rules.proofs.Meeting.{joins_are_sound}
-use Rattle.teco_rules.proofs.laws.joins_are_sound.Goals as goal
-
-pub returns : goal.returns
-returns c = joins_are_sound

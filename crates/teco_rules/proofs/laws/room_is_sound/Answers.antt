@@ -1,5 +1,0 @@
-use Rattle.teco_rules.proofs.Bodies.{room_is_sound}
-use Rattle.teco_rules.proofs.laws.room_is_sound.Goals as goal
-
-pub returns : goal.returns
-returns c = room_is_sound

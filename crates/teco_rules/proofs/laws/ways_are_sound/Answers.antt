@@ -1,5 +1,0 @@
-use Rattle.teco_rules.proofs.Ways.{ways_are_sound}
-use Rattle.teco_rules.proofs.laws.ways_are_sound.Goals as goal
-
-pub returns : goal.returns
-returns c = ways_are_sound

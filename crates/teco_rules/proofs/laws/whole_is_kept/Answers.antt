@@ -1,5 +1,0 @@
-use Rattle.teco_rules.proofs.Stepped.{whole_is_kept}
-use Rattle.teco_rules.proofs.laws.whole_is_kept.Goals as goal
-
-pub returns : goal.returns
-returns c = whole_is_kept

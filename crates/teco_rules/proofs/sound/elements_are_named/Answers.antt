@@ -1,5 +1,0 @@
-use Rattle.teco_rules.proofs.Names.{elements_are_named}
-use Rattle.teco_rules.proofs.sound.elements_are_named.Goals as goal
-
-pub returns : goal.returns
-returns c = elements_are_named

@@ -1,5 +1,0 @@
-use Rattle.teco_rules.proofs.Elements.{elements_are_sound}
-use Rattle.teco_rules.proofs.sound.elements_are_sound.Goals as goal
-
-pub returns : goal.returns
-returns c = elements_are_sound

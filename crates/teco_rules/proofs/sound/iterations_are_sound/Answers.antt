@@ -1,5 +1,0 @@
-use Rattle.teco_rules.proofs.Flowing.{iterations_are_sound}
-use Rattle.teco_rules.proofs.sound.iterations_are_sound.Goals as goal
-
-pub returns : goal.returns
-returns c = iterations_are_sound

@@ -1,5 +1,0 @@
-use Rattle.teco_rules.proofs.Flowing.{leaves_are_sound}
-use Rattle.teco_rules.proofs.sound.leaves_are_sound.Goals as goal
-
-pub returns : goal.returns
-returns c = leaves_are_sound

@@ -1,5 +1,0 @@
-use Rattle.teco_rules.proofs.Flowing.{others_are_sound}
-use Rattle.teco_rules.proofs.sound.others_are_sound.Goals as goal
-
-pub returns : goal.returns
-returns c = others_are_sound

@@ -1,5 +1,0 @@
-use Rattle.teco_rules.proofs.Paging.{page_turns_are_sound}
-use Rattle.teco_rules.proofs.sound.page_turns_are_sound.Goals as goal
-
-pub returns : goal.returns
-returns c = page_turns_are_sound

@@ -1,5 +1,0 @@
-use Rattle.teco_rules.proofs.Searching.{searches_are_sound}
-use Rattle.teco_rules.proofs.sound.searches_are_sound.Goals as goal
-
-pub returns : goal.returns
-returns c = searches_are_sound

@@ -1,5 +1,0 @@
-use Rattle.teco_rules.proofs.Transfers.{stacks_are_sound}
-use Rattle.teco_rules.proofs.sound.stacks_are_sound.Goals as goal
-
-pub returns : goal.returns
-returns c = stacks_are_sound

@@ -1,5 +1,0 @@
-use Rattle.teco_rules.proofs.Flowing.{tags_are_sound}
-use Rattle.teco_rules.proofs.sound.tags_are_sound.Goals as goal
-
-pub returns : goal.returns
-returns c = tags_are_sound

@@ -1,5 +1,0 @@
-use Rattle.teco_rules.proofs.Flowing.{turn_ends_are_sound}
-use Rattle.teco_rules.proofs.sound.turn_ends_are_sound.Goals as goal
-
-pub returns : goal.returns
-returns c = turn_ends_are_sound

@@ -1,5 +1,0 @@
-use Rattle.teco_rules.proofs.Flowing.{turns_are_sound}
-use Rattle.teco_rules.proofs.sound.turns_are_sound.Goals as goal
-
-pub returns : goal.returns
-returns c = turns_are_sound

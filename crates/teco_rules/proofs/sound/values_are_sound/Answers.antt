@@ -1,5 +1,0 @@
-use Rattle.teco_rules.proofs.Transfers.{values_are_sound}
-use Rattle.teco_rules.proofs.sound.values_are_sound.Goals as goal
-
-pub returns : goal.returns
-returns c = values_are_sound

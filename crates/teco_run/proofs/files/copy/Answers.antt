@@ -1,0 +1,15 @@
+use Rattle.std.proofs.Common.{refl}
+use Rattle.teco_model.specs.Element.{seen}
+use Rattle.teco_model.specs.Filing as filing
+use Rattle.teco_model.specs.State.{World}
+use Rattle.teco_run.proofs.Together.{Joined-map, copy-leads}
+use Rattle.teco_run.proofs.files.copy.Goals as goal
+
+pub returns-clause-leads : goal.returns-clause-leads
+returns-clause-leads g c =
+    let leads = copy-leads c.args.frames.now c.args.pending.now c.args.pending.now (seen c.args.element.now) in
+    Joined-map _ _
+    c.desk.inside.editor c.copy_all-done.new.editor c.desk.inside.pages c.copy_all-done.new.pages
+    (g.H.Host.files c.args.host.now) (g.H.Host.files c.copy_all-done.new.host) c.args.desk.now _ c.desk.view_is refl
+    (λ (old : World) (new : World) h. leads old new c.behind.result c.copy_all-done.result c.behind.ensures refl (filing.copy_all old) h)
+    c.copy_all-done.ensures.copies

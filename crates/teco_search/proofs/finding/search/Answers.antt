@@ -1,8 +1,0 @@
-use Rattle.std.proofs.Common.{sym}
-use Rattle.teco_model.specs.Element.{seen}
-use Rattle.teco_search.proofs.Late.{search-refused}
-use Rattle.teco_search.proofs.finding.search.Goals as goal
-
-pub returns-in-Err : goal.returns-in-Err
-returns-in-Err g c =
-    rw c.stuck.ensures (search-refused c.args.search (seen c.args.element.now) c.args.taken c.args.editor.now c.in_ok-n.n (sym c.in_ok-n.ensures.value) c.in-Err.fault c.in-Err.ensures.err)

@@ -1,3 +1,0 @@
--- The words that the contracts of this crate are written in.
-pub use Rattle.teco_model.specs.Search
-pub mod Searches

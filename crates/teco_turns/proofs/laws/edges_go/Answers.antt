@@ -1,5 +1,0 @@
-use Rattle.teco_turns.proofs.Forward.{edges_go}
-use Rattle.teco_turns.proofs.laws.edges_go.Goals as goal
-
-pub returns : goal.returns
-returns c = edges_go

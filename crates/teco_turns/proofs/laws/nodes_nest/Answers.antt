@@ -1,5 +1,0 @@
-use Rattle.teco_turns.proofs.Passed.{nodes_nest}
-use Rattle.teco_turns.proofs.laws.nodes_nest.Goals as goal
-
-pub returns : goal.returns
-returns c = nodes_nest

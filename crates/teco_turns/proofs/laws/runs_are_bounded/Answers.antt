@@ -1,5 +1,0 @@
-use Rattle.teco_turns.proofs.Runs.{runs_are_bounded}
-use Rattle.teco_turns.proofs.laws.runs_are_bounded.Goals as goal
-
-pub returns : goal.returns
-returns c = runs_are_bounded

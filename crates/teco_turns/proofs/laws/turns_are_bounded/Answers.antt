@@ -1,5 +1,0 @@
-use Rattle.teco_turns.proofs.Turning.{turns_are_bounded}
-use Rattle.teco_turns.proofs.laws.turns_are_bounded.Goals as goal
-
-pub returns : goal.returns
-returns c = turns_are_bounded

@@ -1,5 +1,0 @@
-use Rattle.teco_turns.proofs.Tight.{worked_is_tight}
-use Rattle.teco_turns.proofs.laws.worked_is_tight.Goals as goal
-
-pub returns : goal.returns
-returns c = worked_is_tight

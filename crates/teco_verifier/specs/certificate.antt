@@ -1,0 +1,3 @@
+-- What a certificate says.
+pub mod ArgumentText
+pub mod Fields

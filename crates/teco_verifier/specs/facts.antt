@@ -1,0 +1,22 @@
+-- What is known before an element, what each element does to it, and what it may be relied on for.
+pub mod Attempt
+pub mod Values
+pub mod Arguments
+pub mod Facts
+pub mod Argument
+pub mod Shifts
+pub mod Motions
+pub mod Deletions
+pub mod Insertions
+pub mod Typings
+pub mod Storages
+pub mod Queries
+pub mod Ways
+pub mod Joins
+pub mod Searches
+pub mod Flows
+pub mod Pages
+pub mod Transfer
+pub mod Covers
+pub mod Bodies
+pub mod Printed

@@ -1,0 +1,275 @@
+//! The pass over the nodes that finds the choices.
+ghost use Rattle.std.specs.Prelude.{◌<◌, ◌≤◌, length, IfOk};
+ghost use Rattle.std.specs.Result.{IfErr};
+ghost use Rattle.teco_check.specs.Kept.{AreKept};
+ghost use Rattle.teco_verify.specs.Unfit.{IsAt, IsIn};
+
+use crate::attempt::{Attempt, Verdict};
+use crate::meeting::met;
+use crate::memo::Memo;
+use crate::pending::Pending;
+use crate::unfit::Unfit;
+use std::alloc::{AllocError, Global};
+use teco_check::{are_kept, begins_iteration, begins_turn, edges_from, take_along};
+use teco_expansion::Nodes;
+use teco_facts::{Edges, Facts, turns};
+use teco_model::{ArgumentRange, Element};
+use teco_poly::Poly;
+use teco_verifier::{LoopLine, Refusal};
+
+// How often the body of the innermost of six iterations may be passed: three times for each of
+// them.
+pub const PASSES: u64 = 729;
+
+// A pass over the nodes, in their order, with what is tried for the iterations that are open.
+#[derive(Drop)]
+pub struct Search {
+    pub alloc: Global,
+    // what comes from the node before
+    carried: Option<Facts>,
+    pending: Pending,
+    memo: Memo,
+    pub attempts: Vec<Attempt>,
+    pub found: Vec<LoopLine>,
+}
+
+impl Search {
+    /// None of so many nodes is passed.
+    pub fn new(
+        alloc: Global,
+        argument: Option<ArgumentRange>,
+        nodes: usize,
+    ) -> Result<Search, AllocError> {
+        Ok(Search {
+            alloc,
+            carried: Some(Facts::entry(alloc, argument)?),
+            pending: Pending::new(alloc, nodes)?,
+            memo: Memo::new(alloc, nodes)?,
+            attempts: Vec::new(alloc),
+            found: Vec::new(alloc),
+        })
+    }
+
+    /// What is known at a node, where edges lead to it.
+    pub fn met(&mut self, number: usize) -> Result<Option<Facts>, Unfit>
+        ensures { IfErr result (IsAt number) }
+    {
+        let mut arrived = self.pending.take(number)?;
+        let mut known: Option<Facts> = None;
+        for _ in 0..arrived.len() {
+            if let Some(facts) = arrived.pop() {
+                known = Some(joined(self.alloc, known, facts, number)?);
+            }
+        }
+        match self.carried.take() {
+            None => Ok(known),
+            Some(last) => Ok(Some(joined(self.alloc, known, last, number)?)),
+        }
+    }
+
+    // An edge leads to a node ahead.
+    fn arrive(&mut self, number: usize, target: usize, facts: Facts) -> Result<(), AllocError> {
+        if number < target && target - number == 1 && self.carried.is_none() {
+            self.carried = Some(facts);
+        } else {
+            self.pending.put(target, facts)?;
+        }
+        Ok(())
+    }
+
+    // The body of an iteration is entered.
+    fn begin(
+        &mut self,
+        nodes: &Nodes<'_>,
+        number: usize,
+        turns: Poly,
+        entering: Facts,
+    ) -> Result<(), AllocError> {
+        self.memo.learn(nodes, number)?;
+        let body = self.memo.body(nodes, number);
+        let attempt = Attempt::first(number, &body, turns, entering)
+            .recalling(&self.memo)?
+            .behind(self.pending.len(), self.found.len());
+        self.carried = Some(attempt.start()?);
+        self.attempts.push(attempt)?;
+        Ok(())
+    }
+
+    // The try whose > is passed, if that is the innermost.
+    fn ended(&mut self, number: usize) -> Option<Attempt> {
+        if self.attempts.last()?.end == number {
+            self.attempts.pop()
+        } else {
+            None
+        }
+    }
+
+    // The > of the innermost try is passed: the choice stands, or the body is passed again, from
+    // the number that is answered.
+    fn turn(&mut self, number: usize, known: &mut Option<Facts>) -> Result<Option<usize>, Unfit>
+        ensures { IfErr result (IsAt number) }
+    {
+        let Some(mut attempt) = self.ended(number) else {
+            return Ok(None);
+        };
+        let verdict = match known {
+            None => Verdict::Stands,
+            Some(end) => match attempt.judged(end) {
+                Ok(verdict) => verdict,
+                Err(why) => {
+                    // This attempt stays the one that is tried where the pass ends.
+                    self.attempts.push(attempt)?;
+                    return Err(Unfit::at(why, number));
+                }
+            },
+        };
+        match verdict {
+            Verdict::Stands => self.settle(&attempt)?,
+            Verdict::Again => return Ok(Some(self.again(attempt)?)),
+        }
+        Ok(None)
+    }
+
+    // A choice is found; it stands before those for the iterations inside.
+    fn settle(&mut self, attempt: &Attempt) -> Result<(), AllocError> {
+        attempt.keep(&mut self.memo)?;
+        let line = attempt.line(self.alloc)?;
+        self.found
+            .insert(attempt.found.min(self.found.len()), line)?;
+        Ok(())
+    }
+
+    // The body is passed again, from the number that is answered, and all that came of it is
+    // dropped.
+    fn again(&mut self, attempt: Attempt) -> Result<usize, AllocError> {
+        self.pending.truncate(attempt.pending);
+        self.found.truncate(attempt.found);
+        self.carried = Some(attempt.start()?);
+        let begin = attempt.begin;
+        self.attempts.push(attempt)?;
+        Ok(begin.saturating_add(1))
+    }
+
+    // Follows the ways of a node that is reached, but for those that begin a turn.
+    fn depart(
+        &mut self,
+        nodes: &Nodes<'_>,
+        number: usize,
+        read: &Option<Element<'_>>,
+        edges: &mut Edges,
+    ) -> Result<(), AllocError>
+        requires one { 0 < number }
+        requires last { number ≤ length nodes.now }
+    {
+        for at in 0..nodes.ways(number) {
+            if begins_turn(read, at) {
+                continue;
+            }
+            let Some(target) = nodes.way(number, at) else {
+                continue;
+            };
+            if let Some(edge) = take_along(read, at, edges) {
+                self.arrive(number, target, edge)?;
+            }
+        }
+        Ok(())
+    }
+
+    // Goes on from a node that is reached.
+    fn go_on(&mut self, nodes: &Nodes<'_>, number: usize, facts: Facts) -> Result<(), Unfit>
+        requires one { 0 < number }
+        requires last { number ≤ length nodes.now }
+        requires kept { AreKept facts }
+        ensures { IfErr result (IsAt number) }
+    {
+        let read = nodes.element(number);
+        let turns = if begins_iteration(&read) {
+            Some(turns(&facts))
+        } else {
+            None
+        };
+        let mut edges = edges_from(nodes, number, facts).map_err(|fault| Unfit::by(fault, number))?;
+        self.depart(nodes, number, &read, &mut edges)?;
+        match (edges.on.take(), turns) {
+            (Some(entering), Some(turns)) => {
+                let turns = turns.map_err(|why| Unfit::at(why, number))?;
+                Ok(self.begin(nodes, number, turns, entering)?)
+            }
+            _ => Ok(()),
+        }
+    }
+
+    // Passes a node, and answers the number of the next.
+    fn pass(&mut self, nodes: &Nodes<'_>, number: usize) -> Result<usize, Unfit>
+        requires one { 0 < number }
+        requires last { number ≤ length nodes.now }
+        ensures next { IfOk result (λ next. 0 < next) }
+        ensures told { IfErr result (IsAt number) }
+    {
+        let known = self.met(number)?;
+        self.leave(nodes, number, known)
+    }
+
+    /// Goes on from a node at which this is known, if it is reached, and answers the number of the
+    /// next.
+    pub fn leave(
+        &mut self,
+        nodes: &Nodes<'_>,
+        number: usize,
+        mut known: Option<Facts>,
+    ) -> Result<usize, Unfit>
+        requires one { 0 < number }
+        requires last { number ≤ length nodes.now }
+        ensures next { IfOk result (λ next. 0 < next) }
+        ensures told { IfErr result (IsAt number) }
+    {
+        if let Some(next) = self.turn(number, &mut known)? {
+            return Ok(next.max(1));
+        }
+        if let Some(facts) = known {
+            if !are_kept(&facts) {
+                return Err(Unfit::at(Refusal::Bound, number));
+            }
+            self.go_on(nodes, number, facts)?;
+        }
+        Ok(number.saturating_add(1))
+    }
+}
+
+// What is known where another edge leads to a node.
+fn joined(alloc: Global, known: Option<Facts>, more: Facts, number: usize) -> Result<Facts, Unfit>
+    ensures { IfErr result (IsAt number) }
+{
+    match known {
+        None => Ok(more),
+        Some(facts) => met(alloc, facts, more).map_err(|fault| Unfit::by(fault, number)),
+    }
+}
+
+/// Finds a choice for each iteration whose body is reached, by the numbers of their `<`; the entry
+/// takes the declared argument, if there is one.
+///
+/// The body of each iteration is passed at most three times for each pass of the one round it.
+pub fn choose(
+    alloc: Global,
+    argument: Option<ArgumentRange>,
+    nodes: &Nodes<'_>,
+) -> Result<Vec<LoopLine>, Unfit>
+    ensures { IfErr result (IsIn nodes.now) }
+{
+    let mut search = Search::new(alloc, argument, nodes.len())?;
+    let mut number = 1;
+    for _ in 0..PASSES.saturating_mul(nodes.len() as u64) {
+        if number > nodes.len() {
+            return Ok(search.found);
+        }
+        number = search.pass(nodes, number)?;
+    }
+    if number > nodes.len() {
+        return Ok(search.found);
+    }
+    Err(Unfit::at(Refusal::Bound, number))
+}
+
+#[cfg(test)]
+mod tests;

@@ -1,0 +1,52 @@
+//! Why no choices are found.
+ghost use Rattle.std.specs.Prelude.{◌≡◌};
+ghost use Rattle.teco_verify.specs.Unfit.{IsAt};
+ghost use Rattle.teco_verify.specs.declared.unfit.Unfit.TheVariants.{Memory};
+
+use std::alloc::{AllocError, AllocFailed};
+use teco_facts::Fault;
+use teco_verifier::Refusal;
+
+/// Why no choices are found.
+#[derive(Clone, Copy)]
+pub enum Unfit {
+    /// The rules refuse at the node of this number.
+    Refused { why: Refusal, number: usize },
+    /// A growth was refused.
+    Memory,
+}
+
+impl Unfit {
+    // A refusal at a node.
+    pub fn at(why: Refusal, number: usize) -> Unfit
+        ensures { IsAt number result }
+    {
+        Unfit::Refused { why, number }
+    }
+
+    // What a call on facts answers at a node.
+    pub fn by(fault: Fault, number: usize) -> Unfit
+        ensures { IsAt number result }
+    {
+        match fault {
+            Fault::Refused(why) => Unfit::at(why, number),
+            Fault::Memory => Unfit::Memory,
+        }
+    }
+}
+
+impl From<AllocError> for Unfit {
+    ghost from_gives = { λ _ why. why ≡ Memory };
+
+    fn from(_: AllocError) -> Unfit {
+        Unfit::Memory
+    }
+}
+
+impl<T: Drop> From<AllocFailed<T>> for Unfit {
+    ghost from_gives = { λ _ why. why ≡ Memory };
+
+    fn from(_: AllocFailed<T>) -> Unfit {
+        Unfit::Memory
+    }
+}
