@@ -49,15 +49,15 @@ pub struct Run<'a, 's> {
 
 // Says to people what a session stopped at.
 #[derive(Drop)]
-struct Teller<'v, 's, E: Write + Drop> {
-    voice: &'v mut Voice<E>,
-    source: Option<&'s Source>,
+struct Teller<'a, E: Write + Drop> {
+    voice: &'a mut Voice<E>,
+    source: Option<&'a Source>,
     // where the next command string begins in the source, and its number
     begin: usize,
     number: u64,
 }
 
-impl<E: Write + Drop> Teller<'_, '_, E> {
+impl<E: Write + Drop> Teller<'_, E> {
     // Says where in a command string it stopped.
     fn tell_string<T: TextStore>(
         &mut self,
@@ -93,7 +93,7 @@ impl<E: Write + Drop> Teller<'_, '_, E> {
     }
 }
 
-impl<F, E> Listener<FileHost<F>> for Teller<'_, '_, E>
+impl<F, E> Listener<FileHost<F>> for Teller<'_, E>
 where
     F: Files + Clock + Drop,
     E: Write + Drop,
@@ -173,7 +173,7 @@ fn converse<T, S, O, F, E>(
     out: &mut O,
     host: &mut FileHost<F>,
     run: &Run<'_, '_>,
-    teller: &mut Teller<'_, '_, E>,
+    teller: &mut Teller<'_, E>,
 ) -> Result<Done, ToolFault>
 where
     T: TextStore,

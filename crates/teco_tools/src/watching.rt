@@ -36,9 +36,9 @@ pub const NOTHING_SEEN: Seen = Seen {
 /// Watches the runs of a verified macro on a file: it says where one is outside the promise, and
 /// refuses it if it is strict.
 #[derive(Drop)]
-pub struct Warden<'v, 's, E: Write + Drop> {
-    voice: &'v mut Voice<E>,
-    name: &'s [u8],
+pub struct Warden<'a, E: Write + Drop> {
+    voice: &'a mut Voice<E>,
+    name: &'a [u8],
     promise: Promise,
     is_strict: bool,
     // a run was admitted, and has not stopped yet
@@ -46,14 +46,14 @@ pub struct Warden<'v, 's, E: Write + Drop> {
     seen: Seen,
 }
 
-impl<'v, 's, E: Write + Drop> Warden<'v, 's, E> {
+impl<'a, E: Write + Drop> Warden<'a, E> {
     /// Watches runs on the file of a name.
     pub fn new(
-        voice: &'v mut Voice<E>,
-        name: &'s [u8],
+        voice: &'a mut Voice<E>,
+        name: &'a [u8],
         promise: Promise,
         is_strict: bool,
-    ) -> Warden<'v, 's, E> {
+    ) -> Warden<'a, E> {
         Warden {
             voice,
             name: told_name(name),
@@ -114,7 +114,7 @@ impl<'v, 's, E: Write + Drop> Warden<'v, 's, E> {
     }
 }
 
-impl<H: Host + Reporting, E: Write + Drop> Listener<H> for Warden<'_, '_, E> {
+impl<H: Host + Reporting, E: Write + Drop> Listener<H> for Warden<'_, E> {
     fn stopped<T: TextStore>(
         &mut self,
         _text: &[u8],
@@ -140,7 +140,7 @@ impl<H: Host + Reporting, E: Write + Drop> Listener<H> for Warden<'_, '_, E> {
     fn rest(&mut self, _code: Option<Code>) {}
 }
 
-impl<H: Host + Reporting, E: Write + Drop> Guard<H> for Warden<'_, '_, E> {
+impl<H: Host + Reporting, E: Write + Drop> Guard<H> for Warden<'_, E> {
     fn admits(&mut self, held: u128, read_ahead: usize, host: &H) -> bool {
         let n = host.left_of_input().map(|left| {
             let unread = u128::from(left).saturating_add(read_ahead as u128);
