@@ -57,7 +57,27 @@ struct Teller<'a, E: Write + Drop> {
     number: u64,
 }
 
-impl<E: Write + Drop> Teller<'_, E> {
+impl<'a, E: Write + Drop> Teller<'a, E> {
+    // Tells of the command strings of a stream.
+    fn of_stream(voice: &'a mut Voice<E>) -> Teller<'a, E> {
+        Teller {
+            voice,
+            source: None,
+            begin: 0,
+            number: 0,
+        }
+    }
+
+    // Tells of the command strings of a source, by their lines.
+    fn of_source(voice: &'a mut Voice<E>, source: &'a Source) -> Teller<'a, E> {
+        Teller {
+            voice,
+            source: Some(source),
+            begin: 0,
+            number: 0,
+        }
+    }
+
     // Says where in a command string it stopped.
     fn tell_string<T: TextStore>(
         &mut self,
@@ -208,12 +228,7 @@ where
     O: Write + Drop,
     E: Write + Drop,
 {
-    let mut teller = Teller {
-        voice: &mut console.voice,
-        source: None,
-        begin: 0,
-        number: 0,
-    };
+    let mut teller = Teller::of_stream(&mut console.voice);
     converse(
         alloc,
         machine,
@@ -240,12 +255,7 @@ where
     E: Write + Drop,
 {
     let mut text = source.text();
-    let mut teller = Teller {
-        voice: &mut console.voice,
-        source: Some(source),
-        begin: 0,
-        number: 0,
-    };
+    let mut teller = Teller::of_source(&mut console.voice, source);
     converse(
         alloc,
         machine,
