@@ -49,7 +49,7 @@ pub use running::{Run, Script, run_scripts};
 pub use setting::Setting;
 pub use showing::{explain, show, show_source};
 pub use streams::{INPUT, OUTPUT, Streams};
-pub use tracing::trace_macro;
+pub use tracing::{Listing, trace_macro};
 pub use verdict::Verdict;
 pub use verifying::{verify_library, verify_macro};
 

@@ -3,11 +3,14 @@ ghost use Rattle.std.specs.Prelude.{◌≤◌, IfOk, length, vec_len};
 ghost use Rattle.teco_base.specs.declared.TheConstants.{LIMIT};
 ghost use Rattle.teco_library.specs.Reads.{Reads};
 
+use crate::console::Console;
 use crate::fault::ToolFault;
 use crate::files::read_file;
 use crate::forms::{Escape, form_of};
+use crate::request::Request;
+use crate::verifying::refuse;
 use std::alloc::Global;
-use std::io::Input;
+use std::io::{Input, Write};
 use std::rt::Files;
 use teco_base::{LIMIT, Reg};
 use teco_explain::Explained;
@@ -42,6 +45,29 @@ pub fn library_of(alloc: Global, source: &Source) -> Result<Library, Refusal>
             place,
         }),
         Err(LibraryFault::Memory) => Err(Refusal::Memory),
+    }
+}
+
+/// A library, with the source that says it.
+#[derive(Drop)]
+pub struct Sourced {
+    pub source: Source,
+    pub library: Library,
+}
+
+/// Reads a library. Where the file is none, the refusal is printed, and there is none.
+pub fn read_library<R: Files + Input, O: Write + Drop, E: Write + Drop>(
+    rt: &R,
+    console: &mut Console<O, E>,
+    request: Request<'_>,
+) -> Result<Option<Sourced>, ToolFault> {
+    let source = read_source(rt, console.alloc, request.library, request.escape)?;
+    match library_of(console.alloc, &source) {
+        Ok(library) => Ok(Some(Sourced { source, library })),
+        Err(refusal) => {
+            refuse(console, &source, refusal)?;
+            Ok(None)
+        }
     }
 }
 

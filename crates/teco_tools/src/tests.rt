@@ -94,7 +94,7 @@ fn a_macro_is_verified(rt: HostRuntime) -> Result<(), Fail> {
     let Some(entry) = Reg::of(b'A') else {
         panic!(rt; "a register");
     };
-    let outcome = verify_macro(&rt, rt.alloc(), &mut console, request, entry);
+    let outcome = verify_macro(&rt, &mut console, request, entry);
     fs::remove_file(&rt, "somleut_tools_verified")?;
     assert!(rt; matches!(outcome, Ok(Outcome::Done)));
     assert_eq!(rt;
@@ -183,14 +183,7 @@ fn words_are_run(rt: HostRuntime) -> Result<(), Fail> {
         };
         let mut console = kept(&rt);
         let mut host = FileHost::new(rt.alloc(), rt);
-        let outcome = run_scripts(
-            &rt,
-            rt.alloc(),
-            &mut console,
-            &run,
-            &mut io::empty(),
-            &mut host,
-        );
+        let outcome = run_scripts(&rt, &mut console, &run, &mut io::empty(), &mut host);
         assert!(rt; outcome.is_ok(), "row {i}");
         let (written, messages) = console.into_parts();
         assert_eq!(rt;
