@@ -17,9 +17,12 @@ use std::process::ExitCode;
 use teco_apply::Pages;
 use teco_pages::{Closing, FileHost};
 use teco_tools::{
-    Console, InPlace, Listing, Names, OUTPUT, Outcome, Prompting, Request, Run, Setting, Streams, Task,
-    apply_macro, check_macro, edit_files, explain, explain_macro, run_scripts, show, show_source,
-    trace_macro, verify_library, verify_library_as_json, verify_macro, verify_macro_as_json,
+    InPlace, Listing, Names, OUTPUT, Prompting, Run, Setting, Streams, Task, apply_macro,
+    edit_files, run_scripts, trace_macro,
+};
+use teco_verdicts::{
+    Console, Outcome, Request, check_macro, explain, explain_macro, show, show_source,
+    verify_library, verify_library_as_json, verify_macro, verify_macro_as_json,
 };
 
 /// The words are no command, or a file of macros, a certificate, standard input, standard output or

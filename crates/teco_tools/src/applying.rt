@@ -2,19 +2,11 @@
 ghost use Rattle.std.specs.Prelude.{◌≤◌, length};
 ghost use Rattle.teco_apply.specs.declared.editing.TheConstants.{NAME};
 
-use crate::checking::refuse_claim;
-use crate::claim::{Claim, accepted, read_claim};
-use crate::console::Console;
 use crate::fault::ToolFault;
-use crate::library::{Sourced, read_library};
-use crate::outcome::Outcome;
-use crate::premise::{Grouped, Known};
 use crate::promise::Promise;
 use crate::reporting::Reporting;
-use crate::request::Request;
 use crate::setting::{Setting, check_settings, set_texts};
 use crate::streams::told_name;
-use crate::verifying::refuse_macro;
 use crate::watching::{Seen, Warden};
 use std::io::{Input, Write};
 use std::rt::Files;
@@ -24,6 +16,10 @@ use teco_pages::Host;
 use teco_run::Machine;
 use teco_source::Shown;
 use teco_text::GapText;
+use teco_verdicts::{
+    AnswerFault, Claim, Console, Grouped, Known, Outcome, Request, Sourced, accepted, read_claim,
+    read_library, refuse_claim, refuse_macro,
+};
 use teco_verify::{Refusal, Verified, account_of};
 
 /// A macro of a library, and how it is run on files.
@@ -163,7 +159,7 @@ pub fn refuse_task<O: Write + Drop, E: Write + Drop>(
     entry: Reg,
     claim: Option<&Claim<'_>>,
     refusal: Refusal,
-) -> Result<Outcome, ToolFault> {
+) -> Result<Outcome, AnswerFault> {
     match claim {
         None => {
             let account = account_of(console.alloc, &sourced.library, entry)?;
@@ -190,6 +186,6 @@ pub fn apply_macro<R: Files + Input, H: Host + Reporting, O: Write + Drop, E: Wr
     let entry = task.entry;
     match accepted(console.alloc, &sourced.library, entry, claim.as_ref()) {
         Ok(verified) => edit_by(console, task, names, &verified, host),
-        Err(refusal) => refuse_task(console, &sourced, entry, claim.as_ref(), refusal),
+        Err(refusal) => Ok(refuse_task(console, &sourced, entry, claim.as_ref(), refusal)?),
     }
 }

@@ -3,12 +3,8 @@ ghost use Rattle.std.specs.Prelude.{◌≤◌, length, IsTrue};
 ghost use Rattle.teco_apply.specs.declared.editing.TheConstants.{NAME};
 
 use crate::applying::{Names, Task, edit_by, refuse_task};
-use crate::claim::{accepted, read_claim};
-use crate::console::Console;
 use crate::fault::ToolFault;
 use crate::keeping::keep;
-use crate::library::read_library;
-use crate::outcome::Outcome;
 use crate::setting::check_settings;
 use std::alloc::{AllocError, Global};
 use std::fs::Files;
@@ -18,6 +14,7 @@ use teco_apply::NAME;
 use teco_base::bytes::ESC;
 use teco_pages::{Closed, Closing, FileHost};
 use teco_source::Shown;
+use teco_verdicts::{Console, Outcome, accepted, read_claim, read_library};
 use teco_verify::Verified;
 
 /// Files that are edited in place, each by itself.
@@ -265,6 +262,6 @@ where
             };
             edit_each(rt, console, job, given)
         }
-        Err(refusal) => refuse_task(console, &sourced, entry, claim.as_ref(), refusal),
+        Err(refusal) => Ok(refuse_task(console, &sourced, entry, claim.as_ref(), refusal)?),
     }
 }

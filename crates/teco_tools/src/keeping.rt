@@ -1,11 +1,11 @@
 //! Files that are kept as they were.
-use crate::console::Console;
 use crate::fault::ToolFault;
 use crate::reporting::tell_trouble;
 use std::fs::Files;
 use std::io::Write;
 use std::time::Clock;
 use teco_pages::{Failed, FileHost, Host};
+use teco_verdicts::Console;
 
 /// The bytes that are copied at a time.
 const PIECE: usize = 1 << 16;

@@ -1,13 +1,9 @@
 //! `run`: sessions on standard input, on files and on words of the command line.
-use crate::console::{Console, Voice};
 use crate::fault::ToolFault;
-use crate::files::read_file;
-use crate::forms::{Escape, form_of, form_of_word};
-use crate::outcome::Outcome;
 use crate::reporting::tell_trouble;
 use crate::setting::{Setting, set_texts};
 use crate::strings::Progress;
-use crate::telling::{code_of, element_at, letters, size_of, tell_macro};
+use crate::telling::{code_of, size_of, tell_macro};
 use std::alloc::{AllocError, Global};
 use std::fs::Files;
 use std::io::{Input, Read, Write};
@@ -20,6 +16,9 @@ use teco_run::{Machine, Stop, Stopped};
 use teco_session::{Conduct, Done, Listener, session_heard};
 use teco_source::{Shown, Source};
 use teco_text::{GapText, TextStore};
+use teco_verdicts::{
+    Console, Escape, Outcome, Voice, element_at, form_of, form_of_word, letters, read_file,
+};
 
 /// What command strings are read from.
 #[derive(Clone, Copy)]

@@ -3,13 +3,10 @@ ghost use Rattle.std.specs.Prelude.{◌≤◌, IfOk, length};
 ghost use Rattle.teco_base.specs.declared.TheConstants.{LIMIT};
 
 use crate::applying::{Names, Task};
-use crate::console::Console;
 use crate::fault::ToolFault;
-use crate::library::read_library;
-use crate::outcome::Outcome;
 use crate::reporting::{Reporting, tell_trouble};
 use crate::setting::{check_settings, set_texts};
-use crate::telling::{code_of, element_at, letters, size_of, tell_macro};
+use crate::telling::{code_of, size_of, tell_macro};
 use std::alloc::Global;
 use std::io::{Input, Write};
 use std::rt::Files;
@@ -21,6 +18,7 @@ use teco_pages::Host;
 use teco_run::{Machine, Progress, Site, Stopped};
 use teco_source::{Position, Shown};
 use teco_text::{GapText, TextStore};
+use teco_verdicts::{AnswerFault, Console, Outcome, element_at, letters, read_library};
 
 /// What stands over the steps.
 const HEAD: &str = "step\tplace\telement\tpointer\tlength\tanswer\ttyped\n";
@@ -41,7 +39,7 @@ fn within_limit(text: &[u8]) -> Result<&[u8], ToolFault>
     ensures { IfOk result (λ text. length text.now ≤ LIMIT) }
 {
     if text.len() > LIMIT {
-        return Err(ToolFault::Memory);
+        return Err(AnswerFault::Memory.into());
     }
     Ok(text)
 }

@@ -1,8 +1,7 @@
 // Files that are edited, by pages and in place.
 use super::{kept, library_file, task, text_of};
 use crate::{
-    Escape, INPUT, InPlace, Names, OUTPUT, Outcome, Setting, Streams, Task, ToolFault, apply_macro,
-    edit_files,
+    INPUT, InPlace, Names, OUTPUT, Setting, Streams, Task, ToolFault, apply_macro, edit_files,
 };
 use std::alloc::Global;
 use std::process::Abort;
@@ -10,6 +9,7 @@ use std::test::Fail;
 use std::{fs, io};
 use teco_apply::Pages;
 use teco_pages::FileHost;
+use teco_verdicts::{Escape, Outcome};
 
 /// Puts bar in the place of each foo.
 const REPLACES: &[u8] = b"@^UA/J<FSfoo$bar$;>/";

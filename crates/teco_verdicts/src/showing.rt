@@ -1,6 +1,6 @@
 //! `show` and `explain`: texts and words for people.
 use crate::console::Console;
-use crate::fault::ToolFault;
+use crate::fault::AnswerFault;
 use crate::forms::Escape;
 use crate::library::read_source;
 use crate::outcome::Outcome;
@@ -15,7 +15,7 @@ pub fn show<R: Files + Input, O: Write + Drop, E: Write + Drop>(
     console: &mut Console<O, E>,
     name: &str,
     mark: u8,
-) -> Result<Outcome, ToolFault> {
+) -> Result<Outcome, AnswerFault> {
     let source = read_source(rt, console.alloc, name, Escape::ByName)?;
     let outline = Outline {
         text: source.text(),
@@ -33,7 +33,7 @@ pub fn show_source<R: Files + Input, O: Write + Drop, E: Write + Drop>(
     console: &mut Console<O, E>,
     name: &str,
     form: Form,
-) -> Result<Outcome, ToolFault> {
+) -> Result<Outcome, AnswerFault> {
     let source = read_source(rt, console.alloc, name, Escape::ByName)?;
     match form.write(console.alloc, source.text())? {
         Some(text) => {
@@ -54,7 +54,7 @@ pub fn show_source<R: Files + Input, O: Write + Drop, E: Write + Drop>(
 pub fn explain<O: Write + Drop, E: Write + Drop>(
     console: &mut Console<O, E>,
     word: &str,
-) -> Result<Option<Outcome>, ToolFault> {
+) -> Result<Option<Outcome>, AnswerFault> {
     if let Some(refusal) = refusal_numbered(word) {
         console.answer(note_of_refusal(refusal))?;
         return Ok(Some(Outcome::Done));

@@ -1,6 +1,6 @@
 //! Verdicts for machines: an object of JSON in each line.
 use crate::console::Console;
-use crate::fault::ToolFault;
+use crate::fault::AnswerFault;
 use crate::library::{explained, library_of, macros_of, read_source};
 use crate::outcome::Outcome;
 use crate::premise::Premise;
@@ -89,7 +89,7 @@ impl fmt::Display for Nullable {
 fn answer_accepted<O: Write + Drop, E: Write + Drop>(
     console: &mut Console<O, E>,
     verified: &Verified<'_>,
-) -> Result<Outcome, ToolFault> {
+) -> Result<Outcome, AnswerFault> {
     let name = char::from(verified.entry().name());
     let commands = Coefficients::of(console.alloc, &verified.commands())?;
     let size = Coefficients::of(console.alloc, &verified.size())?;
@@ -119,7 +119,7 @@ fn answer_refused<O: Write + Drop, E: Write + Drop>(
     source: &Source,
     entry: Option<Reg>,
     refusal: &Refusal,
-) -> Result<Outcome, ToolFault> {
+) -> Result<Outcome, AnswerFault> {
     let Some(
         Verdict {
             why,
@@ -128,7 +128,7 @@ fn answer_refused<O: Write + Drop, E: Write + Drop>(
         },
     ) = Verdict::of(refusal)
     else {
-        return Err(ToolFault::Memory);
+        return Err(AnswerFault::Memory);
     };
     let entry = Quoted(entry);
     let register = Quoted(register);
@@ -162,7 +162,7 @@ fn answer_verdict<O: Write + Drop, E: Write + Drop>(
     source: &Source,
     library: &Library,
     entry: Reg,
-) -> Result<Outcome, ToolFault> {
+) -> Result<Outcome, AnswerFault> {
     match verify(console.alloc, library, entry) {
         Ok(verified) => answer_accepted(console, &verified),
         Err(refusal) => answer_refused(console, source, Some(entry), &refusal),
@@ -175,7 +175,7 @@ pub fn verify_macro_as_json<R: Files + Input, O: Write + Drop, E: Write + Drop>(
     console: &mut Console<O, E>,
     request: Request<'_>,
     entry: Reg,
-) -> Result<Outcome, ToolFault> {
+) -> Result<Outcome, AnswerFault> {
     let source = read_source(rt, console.alloc, request.library, request.escape)?;
     match library_of(console.alloc, &source) {
         Ok(library) => answer_verdict(console, &source, &library, entry),
@@ -189,7 +189,7 @@ pub fn verify_library_as_json<R: Files + Input, O: Write + Drop, E: Write + Drop
     rt: &R,
     console: &mut Console<O, E>,
     request: Request<'_>,
-) -> Result<Outcome, ToolFault> {
+) -> Result<Outcome, AnswerFault> {
     let source = read_source(rt, console.alloc, request.library, request.escape)?;
     let library = match library_of(console.alloc, &source) {
         Ok(library) => library,

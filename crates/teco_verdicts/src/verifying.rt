@@ -2,12 +2,12 @@
 ghost use Rattle.std.specs.Prelude.{◌≡◌, IfOk, OnOk};
 ghost use Rattle.std.specs.Io.KnownBytes.{Appends};
 ghost use Rattle.teco_certificate.specs.Text.{certificate_text};
-ghost use Rattle.teco_tools.specs.Certificates.{Prints, PrintsOf};
-ghost use Rattle.teco_tools.specs.declared.outcome.Outcome.TheVariants.{Done, Refused};
+ghost use Rattle.teco_verdicts.specs.Certificates.{Prints, PrintsOf};
+ghost use Rattle.teco_verdicts.specs.declared.outcome.Outcome.TheVariants.{Done, Refused};
 
 use crate::console::{Console, Voice};
 use crate::explaining::tell_known;
-use crate::fault::ToolFault;
+use crate::fault::AnswerFault;
 use crate::library::{Sourced, explained, library_of, macros_of, read_library, read_source};
 use crate::outcome::Outcome;
 use crate::premise::Premise;
@@ -25,11 +25,11 @@ pub fn refuse<O: Write + Drop, E: Write + Drop>(
     console: &mut Console<O, E>,
     source: &Source,
     refusal: Refusal,
-) -> Result<Outcome, ToolFault>
+) -> Result<Outcome, AnswerFault>
     ensures { IfOk result (λ outcome. outcome ≡ Refused) }
 {
     let Some(verdict) = Verdict::of(&refusal) else {
-        return Err(ToolFault::Memory);
+        return Err(AnswerFault::Memory);
     };
     console.answer(format_args!("{verdict}\n"))?;
     if let Some(told) = explained(source, &refusal) {
@@ -47,7 +47,7 @@ pub fn tell_premise<E: Write + Drop>(voice: &mut Voice<E>, verified: &Verified<'
 fn certify<O: Write + Drop, E: Write + Drop>(
     console: &mut Console<O, E>,
     verified: &Verified<'_>,
-) -> Result<Outcome, ToolFault>
+) -> Result<Outcome, AnswerFault>
     ensures { OnOk result (Appends (O.contents console.old.out) (O.contents console.new.out)
         (certificate_text verified.now.fields)) }
 {
@@ -63,7 +63,7 @@ pub fn refuse_macro<O: Write + Drop, E: Write + Drop>(
     source: &Source,
     account: &Account<'_>,
     refusal: Refusal,
-) -> Result<Outcome, ToolFault>
+) -> Result<Outcome, AnswerFault>
     ensures { IfOk result (λ outcome. outcome ≡ Refused) }
 {
     let outcome = refuse(console, source, refusal)?;
@@ -77,7 +77,7 @@ fn verify_entry<O: Write + Drop, E: Write + Drop>(
     source: &Source,
     library: &Library,
     entry: Reg,
-) -> Result<Outcome, ToolFault>
+) -> Result<Outcome, AnswerFault>
     ensures { IfOk result (λ outcome. outcome ≡ Done
         → Prints library.now entry (O.contents console.old.out) (O.contents console.new.out)) }
 {
@@ -96,7 +96,7 @@ fn verify_source<O: Write + Drop, E: Write + Drop>(
     console: &mut Console<O, E>,
     source: &Source,
     entry: Reg,
-) -> Result<Outcome, ToolFault>
+) -> Result<Outcome, AnswerFault>
     ensures { IfOk result (λ outcome. outcome ≡ Done
         → PrintsOf source.now entry (O.contents console.old.out) (O.contents console.new.out)) }
 {
@@ -112,7 +112,7 @@ pub fn verify_macro<R: Files + Input, O: Write + Drop, E: Write + Drop>(
     console: &mut Console<O, E>,
     request: Request<'_>,
     entry: Reg,
-) -> Result<Outcome, ToolFault> {
+) -> Result<Outcome, AnswerFault> {
     let source = read_source(rt, console.alloc, request.library, request.escape)?;
     verify_source(console, &source, entry)
 }
@@ -122,7 +122,7 @@ fn verify_one<O: Write + Drop, E: Write + Drop>(
     console: &mut Console<O, E>,
     sourced: &Sourced,
     entry: Reg,
-) -> Result<Outcome, ToolFault> {
+) -> Result<Outcome, AnswerFault> {
     let name = char::from(entry.name());
     match verify(console.alloc, &sourced.library, entry) {
         Ok(verified) => {
@@ -133,7 +133,7 @@ fn verify_one<O: Write + Drop, E: Write + Drop>(
         }
         Err(refusal) => {
             let Some(verdict) = Verdict::of(&refusal) else {
-                return Err(ToolFault::Memory);
+                return Err(AnswerFault::Memory);
             };
             console.answer(format_args!("{name}: {verdict}\n"))?;
             if let Some(told) = explained(&sourced.source, &refusal) {
@@ -149,7 +149,7 @@ pub fn verify_library<R: Files + Input, O: Write + Drop, E: Write + Drop>(
     rt: &R,
     console: &mut Console<O, E>,
     request: Request<'_>,
-) -> Result<Outcome, ToolFault> {
+) -> Result<Outcome, AnswerFault> {
     let Some(sourced) = read_library(rt, console, request)? else {
         return Ok(Outcome::Refused);
     };

@@ -1,11 +1,11 @@
 //! `check`: certificates are checked.
 ghost use Rattle.std.specs.Prelude.{◌≡◌, IfOk};
-ghost use Rattle.teco_tools.specs.Certificates.{IsCertificate};
-ghost use Rattle.teco_tools.specs.declared.outcome.Outcome.TheVariants.{Done, Refused};
+ghost use Rattle.teco_verdicts.specs.Certificates.{IsCertificate};
+ghost use Rattle.teco_verdicts.specs.declared.outcome.Outcome.TheVariants.{Done, Refused};
 
 use crate::claim::Claim;
 use crate::console::Console;
-use crate::fault::ToolFault;
+use crate::fault::AnswerFault;
 use crate::library::{Sourced, explained, read_library};
 use crate::outcome::Outcome;
 use crate::request::Request;
@@ -88,7 +88,7 @@ fn tell_why<O: Write + Drop, E: Write + Drop>(
     sourced: &Sourced,
     entry: Reg,
     claim: &Claim<'_>,
-) -> Result<(), ToolFault> {
+) -> Result<(), AnswerFault> {
     match verify(console.alloc, &sourced.library, entry) {
         Ok(verified) => {
             let wanted = verified.certificate(console.alloc)?;
@@ -110,11 +110,11 @@ pub fn refuse_claim<O: Write + Drop, E: Write + Drop>(
     entry: Reg,
     claim: &Claim<'_>,
     refusal: Refusal,
-) -> Result<Outcome, ToolFault>
+) -> Result<Outcome, AnswerFault>
     ensures { IfOk result (λ outcome. outcome ≡ Refused) }
 {
     let Some(verdict) = Verdict::of(&refusal) else {
-        return Err(ToolFault::Memory);
+        return Err(AnswerFault::Memory);
     };
     console.answer(format_args!("{verdict}\n"))?;
     tell_why(console, sourced, entry, claim)?;
@@ -127,7 +127,7 @@ fn check_claim<O: Write + Drop, E: Write + Drop>(
     sourced: &Sourced,
     entry: Reg,
     claim: &Claim<'_>,
-) -> Result<Outcome, ToolFault>
+) -> Result<Outcome, AnswerFault>
     ensures { IfOk result (λ outcome. outcome ≡ Done
         → IsCertificate sourced.now.library entry claim.now.bytes.items) }
 {
@@ -149,7 +149,7 @@ pub fn check_macro<R: Files + Input, O: Write + Drop, E: Write + Drop>(
     request: Request<'_>,
     entry: Reg,
     name: &str,
-) -> Result<Outcome, ToolFault> {
+) -> Result<Outcome, AnswerFault> {
     let claim = Claim::read(rt, console.alloc, name)?;
     let Some(sourced) = read_library(rt, console, request)? else {
         return Ok(Outcome::Refused);

@@ -1,11 +1,11 @@
 //! `explain` of a macro: its elements, and what is known before each.
 use crate::console::Console;
-use crate::fault::ToolFault;
+use crate::fault::AnswerFault;
 use crate::known::{words_of, words_of_choice};
 use crate::library::read_library;
+use crate::naming::element_at;
 use crate::outcome::Outcome;
 use crate::request::Request;
-use crate::telling::element_at;
 use crate::verdict::Verdict;
 use crate::verifying::{refuse, tell_premise};
 use std::alloc::Global;
@@ -32,7 +32,7 @@ fn shown_element(
     library: &Library,
     account: &Account<'_>,
     number: usize,
-) -> Result<String, ToolFault> {
+) -> Result<String, AnswerFault> {
     let name = account
         .register(number)
         .map_or('-', |register| char::from(register.name()));
@@ -54,7 +54,7 @@ fn list_element<O: Write + Drop, E: Write + Drop>(
     library: &Library,
     account: &Account<'_>,
     number: usize,
-) -> Result<(), ToolFault> {
+) -> Result<(), AnswerFault> {
     let alloc = console.alloc;
     let shown = shown_element(alloc, library, account, number)?;
     match account.known(number) {
@@ -75,7 +75,7 @@ fn list_element<O: Write + Drop, E: Write + Drop>(
 pub fn tell_known<O: Write + Drop, E: Write + Drop>(
     console: &mut Console<O, E>,
     account: &Account<'_>,
-) -> Result<(), ToolFault> {
+) -> Result<(), AnswerFault> {
     let Some(number) = account.stop() else {
         return Ok(());
     };
@@ -91,7 +91,7 @@ fn conclude<O: Write + Drop, E: Write + Drop>(
     console: &mut Console<O, E>,
     source: &Source,
     account: &Account<'_>,
-) -> Result<Outcome, ToolFault> {
+) -> Result<Outcome, AnswerFault> {
     match account.verdict() {
         Ok(verified) => {
             console.answer("accepted\n")?;
@@ -109,7 +109,7 @@ pub fn explain_macro<R: Files + Input, O: Write + Drop, E: Write + Drop>(
     console: &mut Console<O, E>,
     request: Request<'_>,
     entry: Reg,
-) -> Result<Outcome, ToolFault> {
+) -> Result<Outcome, AnswerFault> {
     let Some(sourced) = read_library(rt, console, request)? else {
         return Ok(Outcome::Refused);
     };
