@@ -1,4 +1,7 @@
 //! `run`: sessions on standard input, on files and on words of the command line.
+ghost use Rattle.std.specs.Prelude.{◌≤◌};
+ghost use Rattle.teco_base.specs.declared.TheConstants.{LIMIT};
+
 use crate::fault::ToolFault;
 use crate::reporting::tell_trouble;
 use crate::setting::{Setting, set_texts};
@@ -186,7 +189,9 @@ fn source_of<R: Files + Input>(
 
 impl Run<'_, '_> {
     // How a session is conducted.
-    fn conduct(&self) -> Conduct {
+    fn conduct(&self) -> Conduct
+        ensures { result.limits.length ≤ LIMIT }
+    {
         Conduct {
             limits: Limits {
                 steps: self.limit,
