@@ -17,7 +17,7 @@ use Rattle.teco_model.specs.Filing as filing
 use Rattle.teco_model.specs.Flow as flow
 use Rattle.teco_model.specs.Flow.{Turn}
 use Rattle.teco_model.specs.Going as going
-use Rattle.teco_model.specs.Going.{After, Course, Behind, Again, Along, Into, Leave, NoFile, Refused, Reply, with_taken, code_by, code_of}
+use Rattle.teco_model.specs.Going.{After, Course, Behind, Again, Along, Into, Quit, NoFile, Refused, Reply, with_taken, code_by, code_of}
 use Rattle.teco_model.specs.Insertion as insertion
 use Rattle.teco_model.specs.Motion as motion
 use Rattle.teco_model.specs.Outside as outside
@@ -400,33 +400,16 @@ filed file_kind.Abandon name left arguments world = tt
 filed file_kind.Copy name left arguments world = going_on left arguments _ (after _ _ (needed_output world) (λ output. tt))
 filed file_kind.Exit name left arguments world = tt
 
--- what becomes of a miss
-abbrev AllowedMiss : searching.Miss → Type 0
-AllowedMiss (searching.Unended c) = IsOfStep c
-AllowedMiss miss = Unit {0}
+missed : (miss : searching.Miss) (left : Option ℕ) (arguments : Arguments) (before next : World) → Allowed (code_by (searching.missed miss left arguments before next).course)
+missed searching.Answers left arguments before next = tt
+missed (searching.Leaves turn) left arguments before next = tt
+missed searching.Unended left arguments before next = tt
+missed searching.Fails left arguments before next = tt
 
-leaving_by : (r : Result Turn Code) → Coded r → AllowedMiss (searching.leaving_by r)
-leaving_by (Ok turn) h = tt
-leaving_by (Err c) h = h
-
-miss_within : (loops : List Loop) (e : Element) (frame : Frame) → AllowedMiss (searching.miss_within loops e frame)
-miss_within [] e frame = tt
-miss_within (loop ∷ outer) e frame = leaving_by _ (jump code.Utc e _ frame tt)
-
-miss_where : (colon : Bool) (e : Element) (frame : Frame) → AllowedMiss (searching.miss_where colon e frame)
-miss_where true e frame = tt
-miss_where false e frame = miss_within frame.loops e frame
-
-missed : (miss : searching.Miss) → AllowedMiss miss → (left : Option ℕ) (arguments : Arguments) (before next : World) → Allowed (code_by (searching.missed miss left arguments before next).course)
-missed searching.Answers h left arguments before next = tt
-missed (searching.Leaves turn) h left arguments before next = tt
-missed (searching.Unended c) h left arguments before next = h
-missed searching.Fails h left arguments before next = tt
-
-module _ (x : Search) (e : Element) (miss : searching.Miss) (allowed : AllowedMiss miss) where
+module _ (x : Search) (e : Element) (miss : searching.Miss) where
   found : (left : Option ℕ) (arguments : Arguments) (world : World) (finding : search_text.Finding) → Allowed (code_by (searching.found e miss left arguments world finding).course)
   found left arguments world (search_text.Found kept) = tt
-  found left arguments world (search_text.Missed kept) = missed miss allowed left arguments _ _
+  found left arguments world (search_text.Missed kept) = missed miss left arguments _ _
 
   search_coded : (taken : Taken) (kept : Kept) → Coded (search_text.search x e taken kept)
   search_coded taken kept = search (after, count_of, pattern_coded, finding_of)
@@ -439,7 +422,7 @@ module _ (x : Search) (e : Element) (miss : searching.Miss) (allowed : AllowedMi
   looked : (arguments : Arguments) (look : paging.Looked) → Allowed (code_by (searching.looked miss arguments look).course)
   looked arguments (paging.Met world) = tt
   looked arguments (paging.Turned n world) = tt
-  looked arguments (paging.Through world) = missed miss allowed None arguments _ _
+  looked arguments (paging.Through world) = missed miss None arguments _ _
 
   looking : (arguments : Arguments) (r : Result paging.Looked Code) → Coded r → Allowed (code_of (searching.looking miss arguments r))
   looking arguments r h = answered r (λ look. Ok (searching.looked miss arguments look)) h (looked arguments)
@@ -450,11 +433,11 @@ module _ (x : Search) (e : Element) (miss : searching.Miss) (allowed : AllowedMi
       looking (levels_after_taking arguments) _ (look_first x e taken world))
   found_in_pages (Some n) arguments world = looking arguments _ (look_for x e n world)
 
-search_reply : (x : Search) (e : Element) (miss : searching.Miss) → AllowedMiss miss → (left : Option ℕ) (arguments : Arguments) (world : World) → Allowed (code_of (searching.search_reply x e miss left arguments world))
-search_reply search_kind.Find e miss h left arguments world = found_in_buffer search_kind.Find e miss h left arguments world
-search_reply search_kind.Replace e miss h left arguments world = found_in_buffer search_kind.Replace e miss h left arguments world
-search_reply search_kind.FindInPages e miss h left arguments world = found_in_pages search_kind.FindInPages e miss h left arguments world
-search_reply search_kind.ReplaceInPages e miss h left arguments world = found_in_pages search_kind.ReplaceInPages e miss h left arguments world
+search_reply : (x : Search) (e : Element) (miss : searching.Miss) (left : Option ℕ) (arguments : Arguments) (world : World) → Allowed (code_of (searching.search_reply x e miss left arguments world))
+search_reply search_kind.Find e miss left arguments world = found_in_buffer search_kind.Find e miss left arguments world
+search_reply search_kind.Replace e miss left arguments world = found_in_buffer search_kind.Replace e miss left arguments world
+search_reply search_kind.FindInPages e miss left arguments world = found_in_pages search_kind.FindInPages e miss left arguments world
+search_reply search_kind.ReplaceInPages e miss left arguments world = found_in_pages search_kind.ReplaceInPages e miss left arguments world
 
 reply_of : (k : Kind) (e : Element) (s : State) → Allowed (code_of (model.reply_of k e s))
 unfolding model.reply_of
@@ -466,7 +449,7 @@ reply_of (kind.Call c) e s = tt
 reply_of (kind.Flow f) e s = answered _ _ (turn_of f e s.arguments s.frames.running) (λ turn. tt)
 reply_of (kind.Command c) e s = on_editor s.left s.world _ (after_command c e s.world.kept s.arguments)
 reply_of (kind.Page p) e s = page_reply p s.left s.arguments s.world
-reply_of (kind.Search x) e s = search_reply x e _ (miss_where _ e s.frames.running) s.left s.arguments s.world
+reply_of (kind.Search x) e s = search_reply x e _ s.left s.arguments s.world
 reply_of (kind.File f) e s =
     taken_first s.arguments (λ taken rest. outside.filed f e.text s.left rest s.world) (λ taken. filed f e.text s.left _ s.world)
 
@@ -488,7 +471,7 @@ settled e frames reply Behind h = tt
 settled e frames reply Again h = tt
 settled e frames reply (Along frame) h = tt
 settled e frames reply (Into text) h = tt
-settled e frames reply Leave h = tt
+settled e frames reply Quit h = tt
 settled e frames reply NoFile h = tt
 settled e frames reply (Refused c) h = code_in frames.callers c h
 

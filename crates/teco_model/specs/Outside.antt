@@ -9,7 +9,7 @@ use Rattle.teco_model.specs.Arguments.{Arguments, levels_after_answer}
 use Rattle.teco_model.specs.Character.{character}
 use Rattle.teco_model.specs.Checked.{◌>>=◌}
 use Rattle.teco_model.specs.Filing.{open_input, open_output, close_output, abandon_output, copy_all, exit}
-use Rattle.teco_model.specs.Going.{Reply, Leave, NoFile, behind, again, with_taken}
+use Rattle.teco_model.specs.Going.{Reply, Quit, NoFile, behind, again, with_taken}
 use Rattle.teco_model.specs.Paging.{Progress, yank, append, pages, one_page_of, page_turned, page_written}
 use Rattle.teco_model.specs.State.{World}
 
@@ -65,7 +65,7 @@ filed file.Close name left arguments world = going_on left arguments (close_outp
 filed file.Abandon name left arguments world = Ok (behind left arguments (abandon_output world))
 filed file.Copy name left arguments world = going_on left arguments (copy_all world)
 filed file.Exit name left arguments world =
-    Ok (record { world = exit world; arguments = arguments; left = left; course = Leave })
+    Ok (record { world = exit world; arguments = arguments; left = left; course = Quit })
 
 abbrev pub file_reply : File → List ℕ → Option ℕ → Arguments → World → Result Reply Code
 file_reply f name left arguments world =
