@@ -51,9 +51,8 @@ pub fn ask<T: TextStore>(
     Ok(())
 }
 
-// Executes a command with the arguments that it took.
-#[inline(never)]
-fn command_done<T: TextStore>(
+// What a command does with the arguments that it took.
+fn execute<T: TextStore>(
     editor: &mut Editor<T>,
     command: Command,
     element: &Element<'_>,
@@ -71,26 +70,8 @@ fn command_done<T: TextStore>(
     }
 }
 
-// What a command comes to. Inlined where it works on a register, as counting does.
-#[inline(always)]
-fn done<T: TextStore>(
-    editor: &mut Editor<T>,
-    command: Command,
-    element: &Element<'_>,
-    taken: Taken,
-) -> Result<Option<i32>, Stuck>
-    ensures { DoesIfMemory (command_grows command) editor.old editor.new
-        (model.execution command (seen element.now) taken editor.old) result }
-{
-    match command {
-        Command::Storage(storage) => editor.storage(storage, element, taken),
-        _ => command_done(editor, command, element, taken),
-    }
-}
-
 /// Takes the arguments, executes the command, and gives what it answers.
-#[inline(always)]
-pub fn execute<T: TextStore>(
+pub fn perform<T: TextStore>(
     editor: &mut Editor<T>,
     command: Command,
     element: &Element<'_>,
@@ -100,7 +81,7 @@ pub fn execute<T: TextStore>(
         (model.after_command command (seen element.now) editor.old arguments.old) result }
 {
     let taken = arguments.take()?;
-    if let Some(answer) = done(editor, command, element, taken)? {
+    if let Some(answer) = execute(editor, command, element, taken)? {
         arguments.value(answer)?;
     }
     Ok(())
