@@ -1,5 +1,5 @@
 //! The commands of pages.
-ghost use Rattle.std.specs.Prelude.{◌≡◌, ◌≤◌, ⊤, None, IsSome, IfOk, MatchResult};
+ghost use Rattle.std.specs.Prelude.{◌≡◌, ◌≤◌, ⊤, true, None, IsSome, IfOk, MatchOption, MatchResult};
 ghost use Rattle.teco_base.specs.declared.code.Code.TheVariants as code;
 ghost use Rattle.teco_model.specs.Memory.{reads_page, taken_at};
 ghost use Rattle.teco_model.specs.Outside.{in_pages, page_reply, pages_reply};
@@ -9,13 +9,14 @@ ghost use Rattle.teco_model.specs.declared.kind.Kind.TheVariants as kind;
 ghost use Rattle.teco_model.specs.declared.kind.Page.TheVariants as page_kind;
 ghost use Rattle.teco_filing.specs.Halts.{Counts};
 ghost use Rattle.teco_run.specs.Holdings.{Joined};
-ghost use Rattle.teco_run.specs.Replies.{Answers, IsStraight, IsWritten, Works, page_done, reads_one};
+ghost use Rattle.teco_run.specs.Replies.{Answers, IsNoRange, IsStraight, IsWritten, Works, page_done, reads_one};
 
 use crate::course::{Course, then};
 use crate::desk::Desk;
 use crate::pending::Pending;
 use teco_base::Code;
 use teco_filing::{self as filing, Halt};
+use teco_model::Taken;
 use teco_model::kind::Page;
 use teco_pages::{Host, Pages};
 use teco_text::TextStore;
@@ -111,11 +112,44 @@ fn one_of<T: TextStore, H: Host>(
     ensures straight { IfOk result IsStraight }
 {
     need_output(&desk.pages)?;
-    one_page(desk, page, host)?;
-    Ok(pending.leave(n - 1))
+    let done = one_page(desk, page, host);
+    then(done, pending.leave(n - 1))
 }
 
-// `P` and `PW`: the first step, which may write a range, or a further one.
+// The range of two values, if both are taken.
+fn range(taken: Taken) -> Option<(i32, i32)>
+    ensures { MatchOption result (IsNoRange taken)
+        (λ places. (taken.first ≡ Some places.0) × (taken.value ≡ Some places.1)) }
+{
+    Some((taken.first?, taken.value?))
+}
+
+// The first step of `P` and `PW`, with the arguments that it took. It may write a range.
+fn first_of<T: TextStore, H: Host>(
+    desk: &mut Desk<T>,
+    page: Page,
+    taken: Taken,
+    pending: &mut Pending,
+    host: &mut H,
+) -> Result<Course, Halt>
+    requires written { IsWritten page }
+    requires output { IsSome desk.old.held.output }
+    ensures answers { (frame : Frame) → Joined (λ old new. Answers (kind.Page page)
+        (reads_page page None taken) frame pending.new
+        (in_pages pending.old.arguments (model.pages_of (page_done page) taken.first taken.value old)) old new result)
+        desk.old desk.new (H.files host.old) (H.files host.new) }
+    ensures counted { Counts result (H.failures host.old) (H.failures host.new) }
+    ensures straight { IfOk result IsStraight }
+{
+    if let Some((m, n)) = range(taken) {
+        let done = filing::write_range(&desk.editor, &desk.pages, m, n, host);
+        return then(done, pending.leave(0));
+    }
+    let n = count(taken.value.unwrap_or(1))?;
+    one_of(desk, page, n, pending, host)
+}
+
+// `P` and `PW`: the first step, or a further one.
 fn write_pages<T: TextStore, H: Host>(
     desk: &mut Desk<T>,
     page: Page,
@@ -135,12 +169,7 @@ fn write_pages<T: TextStore, H: Host>(
     }
     let taken = pending.take()?;
     need_output(&desk.pages)?;
-    if let (Some(m), Some(n)) = (taken.first, taken.value) {
-        filing::write_range(&desk.editor, &desk.pages, m, n, host)?;
-        return Ok(pending.leave(0));
-    }
-    let n = count(taken.value.unwrap_or(1))?;
-    one_of(desk, page, n, pending, host)
+    first_of(desk, page, taken, pending, host)
 }
 
 /// A command of pages. `P` and `PW` stay at their element while pages are left.
