@@ -1,5 +1,5 @@
 -- Commands of pages, as the answers of their elements.
-use Rattle.std.proofs.Common.{◌≡◌, ℕ, zero, suc, ℤ, pos, ◌-◌, ◌⊎◌, inl, inr, Bool, true, false, Result, Ok, Err, Option, Some, None, refl, ap, subst, sym}
+use Rattle.std.proofs.Common.{◌≡◌, ℕ, zero, suc, ℤ, pos, ◌-◌, ◌⊎◌, inl, inr, Bool, false, Result, Ok, Err, Option, Some, None, refl, ap, subst, sym}
 use Rattle.std.specs.Prelude.{IsSome, unwrap_or}
 use Rattle.std.specs.Option.{ok_or}
 use Rattle.teco_base.specs.declared.code.Code as base
@@ -105,7 +105,7 @@ module _ (k : Kind) (grows : Bool) (frame : Frame) (pending after : Pending) (on
   pub pages-open : (own : Taken) (result : Result Course Halt) (a b : Holdings) (x y : Telling) → IsSome a.held.output → Joined (λ old new. Answers k grows frame after (in_pages pending.arguments (pages_of one_page own.first own.value old)) old new result) a b x y →
       Joined (λ old new. Answers k grows frame after (in_pages pending.arguments (pages one_page own old)) old new result) a b x y
   pages-open own result a b x y some = Joined-open (λ old new. Answers k grows frame after (in_pages pending.arguments (pages_of one_page own.first own.value old)) old new result) (λ old new. Answers k grows frame after (in_pages pending.arguments (pages one_page own old)) old new result) a b x y some
-      (λ old new output is. with-needed (pages_of one_page own.first own.value old) old new result output is)
+      (λ old new output kept is. with-needed (pages_of one_page own.first own.value old) old new result output is)
 
   -- the number of pages is none
   pub pages-uncounted : (own : Taken) (c : base.Code) (desk : Holdings) (x : Telling) → ((world : World) → pages_of one_page own.first own.value world ≡ Err c) → Joined (λ old new. Answers k grows frame after (in_pages pending.arguments (pages_of one_page own.first own.value old)) old new (Err (halt.Code c))) desk desk x x
@@ -115,7 +115,7 @@ module _ (k : Kind) (grows : Bool) (frame : Frame) (pending after : Pending) (on
   pub page-answers : (n : ℕ) (c : Course) (done : Result (Unit {0}) Halt) (a b : Holdings) (x y : Telling) → Leaves pending after (n - 1) c → IsSome a.held.output → Joined (λ old new. Works k grows (one_page old) old new done) a b x y →
       Joined (λ old new. Answers k grows frame after (in_pages pending.arguments (one_page_of one_page n old)) old new (course_by c done)) a b x y
   page-answers n c done a b x y leaves some = Joined-open (λ old new. Works k grows (one_page old) old new done) (λ old new. Answers k grows frame after (in_pages pending.arguments (one_page_of one_page n old)) old new (course_by c done)) a b x y some
-      (λ old new output is works. with-needed (one_page old >>= (λ world. Ok (record { world = world; left = n - 1 }))) old new (course_by c done) output is
+      (λ old new output kept is works. with-needed (one_page old >>= (λ world. Ok (record { world = world; left = n - 1 }))) old new (course_by c done) output is
       (made k grows frame after c old new (λ d. in_pages pending.arguments (d >>= (λ world. Ok (record { world = world; left = n - 1 })))) (while_left (n - 1) pending.arguments) (λ w. refl) (λ c. refl)
       (unrefused pending.arguments (n - 1)) (stays pending.arguments (n - 1)) (leaves-seen frame pending after (n - 1) c new leaves) (one_page old) done works))
 

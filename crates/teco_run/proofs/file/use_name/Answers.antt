@@ -1,4 +1,4 @@
-use Rattle.std.proofs.Common.{refl}
+use Rattle.std.proofs.Common.{Ok, true, false, refl}
 use Rattle.teco_model.specs.Filing as filing
 use Rattle.teco_model.specs.State.{World}
 use Rattle.teco_model.specs.declared.kind.File.TheVariants as file
@@ -36,5 +36,5 @@ returns-in-Abandon-clause-answers g c frame pending =
     let kept = c.desk.inside.editor in
     rw (c.in-Abandon.is, c.then-in-Abandon.ensures) (Joined-map _ _ kept kept c.desk.inside.pages c.abandon_output.new.pages
     (g.H.Host.files c.args.host.now) (g.H.Host.files c.abandon_output.new.host) c.args.desk.now _ c.desk.view_is refl
-    (λ (old : World) (new : World) h. gone_on (kind.File file.Abandon) false frame pending old new _ c.abandon_output.result (letting_go (kind.File file.Abandon) old new (λ left same. same) _ c.abandon_output.result h))
+    (λ (old : World) (new : World) h. gone_on (kind.File file.Abandon) false frame pending old new (Ok (filing.abandon_output old)) c.abandon_output.result (letting_go (kind.File file.Abandon) old new (λ left same. same) (Ok (filing.abandon_output old)) c.abandon_output.result h))
     (c.abandon_output.ensures.abandons kept))

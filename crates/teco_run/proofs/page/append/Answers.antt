@@ -1,6 +1,4 @@
 use Rattle.std.proofs.Common.{◌≡◌, Err, rules}
-use Rattle.teco_model.specs.Arguments.{levels_after_answer}
-use Rattle.teco_model.specs.Character.{character}
 use Rattle.teco_model.specs.Memory.{reads_page, taken_at}
 use Rattle.teco_model.specs.Outside.{append_reply}
 use Rattle.teco_model.specs.declared.kind.Kind.TheVariants as kind
@@ -10,7 +8,6 @@ use Rattle.teco_run.proofs.Pages.{character-answers}
 use Rattle.teco_run.proofs.Taking.{untaken}
 use Rattle.teco_run.specs.Holdings.{Holdings}
 use Rattle.teco_run.specs.Pending.{Pending}
-use Rattle.teco_run.specs.Replies.{Takes}
 use Rattle.teco_run.proofs.page.append.Goals as goal
 
 pub returns-in_err-n-clause-answers : goal.returns-in_err-n-clause-answers

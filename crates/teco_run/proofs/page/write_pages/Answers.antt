@@ -1,4 +1,4 @@
-use Rattle.std.proofs.Common.{◌≡◌, Ok, Err, Some, None, rules, ap, subst, sym}
+use Rattle.std.proofs.Common.{◌≡◌, Err, Some, None, rules, ap, subst, sym}
 use Rattle.std.specs.Prelude.{IsSome}
 use Rattle.teco_base.specs.declared.code.Code.TheVariants as code
 use Rattle.teco_model.specs.Memory.{reads_page, taken_at, taken_if_any}
