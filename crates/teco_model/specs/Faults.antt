@@ -17,7 +17,7 @@ use Rattle.teco_model.specs.declared.stop.HostFault.TheVariants.{NoFile, In, Out
 use Rattle.teco_model.specs.Element.{Element, element_at}
 use Rattle.teco_model.specs.Files.{with_written}
 use Rattle.teco_model.specs.Filing.{abandon_output}
-use Rattle.teco_model.specs.Going.{Reply, code_of, world_left}
+use Rattle.teco_model.specs.Going.{code_of, world_left}
 use Rattle.teco_model.specs.Memory.{grows, is_late_in_search, is_late_in_page}
 use Rattle.teco_model.specs.Paging.{world_after_writing}
 use Rattle.teco_model.specs.State.{World, State}
@@ -125,13 +125,10 @@ is_late_for In (kind.Search s) c = is_told_by_page c
 is_late_for Out (kind.Search s) c = is_srh c
 is_late_for fault k c = false
 
--- may a fault of the host come in the place of what an element answers, by its code?
-abbrev pub MayBreakFor : HostFault → Kind → Option Code → Type 0
-MayBreakFor fault k None = ⊤
-MayBreakFor fault k (Some c) = IsTrue (is_late_for fault k c)
-
-abbrev pub MayBreak : HostFault → Kind → Result Reply Code → Type 0
-MayBreak fault k reply = MayBreakFor fault k (code_of reply)
+-- may a fault of the host come in the place of what an element answers, by the code that it is refused with?
+abbrev pub MayBreak : HostFault → Kind → Option Code → Type 0
+MayBreak fault k None = ⊤
+MayBreak fault k (Some c) = IsTrue (is_late_for fault k c)
 
 -- what stays where the host failed in the step from a state
 abbrev pub BreaksAt : State → Result (Option Element) Code → HostFault → World → Type 0
@@ -139,7 +136,7 @@ BreaksAt s (Err c) fault new = ⊥
 BreaksAt s (Ok None) fault new = ⊥
 BreaksAt s (Ok (Some e)) fault new =
     let reply = reply_of e.kind e s in
-    MayBreak fault e.kind reply
+    MayBreak fault e.kind (code_of reply)
     × Breaks e.kind (grows e.kind s.arguments.level s.left) fault s.world (world_left s.world reply) new
 
 abbrev pub BreaksFrom : State → HostFault → World → Type 0

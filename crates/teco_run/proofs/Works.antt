@@ -6,7 +6,7 @@ use Rattle.teco_base.specs.declared.code.Code.TheVariants as code
 use Rattle.teco_model.specs.Checked.{◌>>=◌}
 use Rattle.teco_model.specs.Faults.{Breaks, WritesPart, is_late_for, without_files}
 use Rattle.teco_model.specs.Filing.{abandon_output}
-use Rattle.teco_model.specs.Going.{Reply, behind, code_by}
+use Rattle.teco_model.specs.Going.{Reply, Behind, replying, code_by}
 use Rattle.teco_model.specs.Memory.{is_late}
 use Rattle.teco_model.specs.Outside.{going_on, opened}
 use Rattle.teco_model.specs.State.{World, Frame}
@@ -121,4 +121,4 @@ made k grows frame after c old new F reply ok err none stays same (Err refusal) 
 -- and the run goes on behind the element
 pub gone_on : (k : Kind) (grows : Bool) (frame : Frame) (pending : Pending) (old new : World) (d : Result World base.Code) (done : Result (Unit {0}) Halt) → Works k grows d old new done →
     Answers k grows frame pending (going_on pending.left pending.arguments d) old new (course_by course.Behind done)
-gone_on k grows frame pending old new = made k grows frame pending course.Behind old new (going_on pending.left pending.arguments) (behind pending.left pending.arguments) (λ w. refl) (λ c. refl) (λ w. refl) (λ w. refl) refl
+gone_on k grows frame pending old new = made k grows frame pending course.Behind old new (going_on pending.left pending.arguments) (replying Behind pending.left pending.arguments) (λ w. refl) (λ c. refl) (λ w. refl) (λ w. refl) refl
