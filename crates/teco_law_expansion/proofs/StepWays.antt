@@ -33,7 +33,7 @@ use Rattle.teco_verifier.specs.expansion.Refusal.{◌>>=◌}
 use Rattle.teco_model.specs.Macros.{Library, macro, IsLoaded}
 use Rattle.teco_verifier.specs.expansion.Position.{Position, position_of, position_of_frames, start_of, spot_of}
 use Rattle.teco_verifier.specs.expansion.Ways.{pattern_parts, as_fault, sound, past, read_at, search_ways, call_ways, return_ways, element_ways, ways_at, flow_ways}
-use Rattle.teco_law_expansion.specs.Was.{looking_on, levels_looking, levels_searching, Finds, Misses, Answers, GoesOnFound, GoesOnMissed, LeavesByMiss, ElementWas, StepWas}
+use Rattle.teco_law_expansion.specs.Was.{answer_where, looking_on, levels_looking, levels_searching, Finds, Misses, Answers, GoesOnFound, GoesOnMissed, LeavesByMiss, ElementWas, StepWas}
 use Rattle.teco_law_expansion.specs.Steps.{is_long, IsLeftAt, Stays, Moves, Went, Stayed, StepsGoWays}
 use Rattle.teco_law_expansion.proofs.Checks.{ok, bound_way}
 use Rattle.teco_law_expansion.proofs.Turns.{leaves_by_kind, turn_goes, jumped as jump_made}
@@ -166,15 +166,15 @@ record Searched (x : Search) (e : Element) (s : State) (left : Option ℕ) (argu
   arguments_are : arguments ≡ levels_searching x s
 
 -- a match answers where the search has a colon
-silent : (r : Result Turn Code) → searching.answers (searching.leaving_by r) ≡ false
+silent : (r : Result Turn Code) → searching.answer_by (searching.leaving_by r) ≡ None
 silent (Ok turn) = refl
 silent (Err c) = refl
 
-silent_within : (loops : List Loop) (e : Element) (frame : Frame) → searching.answers (searching.miss_within loops e frame) ≡ false
+silent_within : (loops : List Loop) (e : Element) (frame : Frame) → searching.answer_by (searching.miss_within loops e frame) ≡ None
 silent_within [] e frame = refl
 silent_within (loop ∷ outer) e frame = silent (jump code.Utc e no_arguments frame)
 
-answers_where : (colon : Bool) (e : Element) (frame : Frame) → searching.answers (searching.miss_where colon e frame) ≡ colon
+answers_where : (colon : Bool) (e : Element) (frame : Frame) → searching.answer_by (searching.miss_where colon e frame) ≡ answer_where colon (negsuc 0)
 answers_where true e frame = refl
 answers_where false e frame = silent_within frame.loops e frame
 
@@ -236,11 +236,11 @@ module _ (x : Search) (e : Element) (ways : List Position) (s t : State) (left :
   found : (colon : Bool) (world : World) → has_colon e frame ≡ colon → Finds x e s world →
       search_ways colon (map start_of frame.loops) e (position_of s) ≡ Ok ways → settle e s (Ok (searching.met (searching.miss_where colon e frame) left arguments world)) ≡ Next t → Moves (Some e) ways s t
   found colon world c finds w h =
-      let same : searching.answer_where (searching.answers (searching.miss_where colon e frame)) (negsuc 0) ≡ searching.answer_where (has_colon e frame) (negsuc 0) = ap (λ b. searching.answer_where b (negsuc 0)) (answers_where colon e frame ∙ sym c) in
+      let same : searching.answer_by (searching.miss_where colon e frame) ≡ answer_where (has_colon e frame) (negsuc 0) = answers_where colon e frame ∙ ap (λ b. answer_where b (negsuc 0)) (sym c) in
       let was : GoesOnFound x e s t = record {
         world = world;
         finds = finds;
-        answers = subst (λ levels. Answers (searching.answer_where (has_colon e frame) (negsuc 0)) world levels e s t) known.arguments_are (subst (λ answer. Answers answer world arguments e s t) same (answers _ arguments left e world s t h));
+        answers = subst (λ levels. Answers (answer_where (has_colon e frame) (negsuc 0)) world levels e s t) known.arguments_are (subst (λ answer. Answers answer world arguments e s t) same (answers _ arguments left e world s t h));
       } in
       goes_past (Some e) e ways s s _ t (of_kind (kind.Search x) 0 e s t known.kind_is (inl was)) (search_first colon (map start_of frame.loops) e (position_of s) ways w) known.done refl h
 
@@ -319,7 +319,7 @@ search_moved search_kind.ReplaceInPages e ways s t g l w h =
 
 -- calls and returns
 called : (library : Library) (c : Call) (text : Option (List ℕ)) (e : Element) (ways : List Position) (s t : State) → e.kind ≡ kind.Call c → IsLoaded library s.world.kept → macro library c.register ≡ text → s.left ≡ None →
-    call_ways text e (position_of s) ≡ Ok ways → settle e s (Ok (call_reply c s.left s.arguments s.world)) ≡ Next t → Moves (Some e) ways s t
+    call_ways text e (position_of s) ≡ Ok ways → settle e s (Ok (call_reply c s)) ≡ Next t → Moves (Some e) ways s t
 called library c None e ways s t g loaded m l w h = absurd (cc)
 called library c (Some text) e ways s t g loaded m l w h =
     let gone = next _ t h in

@@ -1,5 +1,5 @@
 -- What a step was that went a way: a return, a call, a flow element, a search, or an element that only goes on.
-use Rattle.std.specs.Prelude.{◌≡◌, ℕ, ℤ, zero, suc, pos, negsuc, List, [], ◌∷◌, true, false, Option, Some, None, ◌⊎◌, Result, Ok}
+use Rattle.std.specs.Prelude.{◌≡◌, ℕ, ℤ, zero, suc, pos, negsuc, List, [], ◌∷◌, Bool, true, false, Option, Some, None, ◌⊎◌, Result, Ok}
 use Rattle.teco_base.specs.declared.code.Code.{Code}
 use Rattle.teco_model.specs.declared.flow.Loop.{Loop}
 use Rattle.teco_model.specs.declared.kind.Call.{Call}
@@ -14,7 +14,7 @@ use Rattle.teco_model.specs.Flow.{Turn}
 use Rattle.teco_model.specs.Going.{frames_at, frames_in, with_kept, with_taken}
 use Rattle.teco_model.specs.Paging.{Looked, Met, Through, look_first, look_for, looked_through}
 use Rattle.teco_model.specs.Search.{Finding, Found, Missed, search}
-use Rattle.teco_model.specs.Searching.{has_colon, answer_where, with_message, kept_by_miss}
+use Rattle.teco_model.specs.Searching.{has_colon, with_message, kept_by_miss}
 use Rattle.teco_model.specs.State.{Kept, World, Frame, State, Next}
 use Rattle.teco_model.specs.Step.{outcome_of}
 use Rattle.teco_model.specs.Storage.{text_in}
@@ -77,6 +77,11 @@ Misses FindInPages e s world =
     (last : World) × (looking_on FindInPages e s s.left ≡ Ok (Through last)) × (world ≡ looked_through last)
 Misses ReplaceInPages e s world =
     (last : World) × (looking_on ReplaceInPages e s s.left ≡ Ok (Through last)) × (world ≡ looked_through last)
+
+-- with a colon it answers
+abbrev pub answer_where : Bool → ℤ → Option ℤ
+answer_where true n = Some n
+answer_where false n = None
 
 -- A search goes on behind itself, and may answer.
 pub record Answers (answer : Option ℤ) (world : World) (levels : Arguments) (e : Element) (s t : State) : Type 0 where
