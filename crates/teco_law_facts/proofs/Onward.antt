@@ -9,7 +9,7 @@ use Rattle.teco_model.specs.Flow as flows
 use Rattle.teco_model.specs.Flow.{Turn}
 use Rattle.teco_model.specs.Checked.{◌>>=◌ as ◌>>>=◌}
 use Rattle.teco_model.specs.Element as model_element
-use Rattle.teco_model.specs.Going.{After, Reply, behind, on_editor, settle}
+use Rattle.teco_model.specs.Going.{After, Behind, Reply, replying, on_editor, settle}
 use Rattle.teco_model.specs.Paging as paging
 use Rattle.teco_model.specs.Paging.{Looked, Met, Turned, Through, unread_of}
 use Rattle.teco_model.specs.Search as searching
@@ -37,7 +37,7 @@ use Rattle.teco_verifier.specs.facts.Flows.{Edges}
 use Rattle.teco_law_facts.specs.SoundElements.{Succeeds, Arrives, FitsOn, ArrivesOn}
 use Rattle.teco_law_facts.specs.SoundFlow.{IsReached}
 use Rattle.teco_law_facts.specs.SoundPages.{ComesTo, Comes}
-use Rattle.teco_law_facts.specs.SoundSearches.{IsInBuffer, MissArrives, SearchArrives, finding}
+use Rattle.teco_law_facts.specs.SoundSearches.{answer_where, IsInBuffer, MissArrives, SearchArrives, finding}
 use Rattle.teco_law_facts.specs.SoundSeeking.{IsInPages, facts_seeking, IsSeeking, ComesAway, MissComes, LooksOn, Seeks}
 use Rattle.teco_law_facts.specs.SoundSteps.{LeadsAhead, IsInside, KindStands, FlowStands, BeginsAt, GoesBehind, FlowGoes, KindEnds, Proceeds}
 use Rattle.teco_verifier.specs.facts.Transfer as transfers
@@ -51,15 +51,15 @@ no_colons colons leave e = by (nat_lt 0 colons) refl e where
   by false w e = grind (arith, nat_tests)
 
 -- a match answers where the search has a colon
-silent : (r : Result Turn Code) → outcomes.answers (outcomes.leaving_by r) ≡ false
+silent : (r : Result Turn Code) → outcomes.answer_by (outcomes.leaving_by r) ≡ None
 silent (Ok turn) = refl
 silent (Err c) = refl
 
-silent_within : (loops : List Loop) (e : model_element.Element) (frame : Frame) → outcomes.answers (outcomes.miss_within loops e frame) ≡ false
+silent_within : (loops : List Loop) (e : model_element.Element) (frame : Frame) → outcomes.answer_by (outcomes.miss_within loops e frame) ≡ None
 silent_within [] e frame = refl
 silent_within (loop ∷ outer) e frame = silent (flows.jump code.Utc e model.no_arguments frame)
 
-answers_where : (colon : Bool) (e : model_element.Element) (frame : Frame) → outcomes.answers (outcomes.miss_where colon e frame) ≡ colon
+answers_where : (colon : Bool) (e : model_element.Element) (frame : Frame) → outcomes.answer_by (outcomes.miss_where colon e frame) ≡ answer_where colon (negsuc 0)
 answers_where true e frame = refl
 answers_where false e frame = silent_within frame.loops e frame
 
@@ -90,11 +90,11 @@ module _ (run : Run) (facts : Facts) (x : Placed) (edges : Edges) (s : State) (h
   abbrev Goes : Kind → ℕ → Outcome → Type 0
   Goes k most outcome = Proceeds k run facts x edges s most outcome
 
-  abbrev Behind : State → Type 0
-  Behind new = GoesBehind run facts.held edges x.element s new
+  abbrev Passes : State → Type 0
+  Passes new = GoesBehind run facts.held edges x.element s new
 
   -- ---- on behind an element
-  pub outcome_goes : (k : Kind) (most : ℕ) → 1 ≤ most → ((new : State) → Behind new → KindEnds k run facts x edges s new) → (r : Result After Code) → Succeeds (ArrivesOn run facts.held u s.world.kept edges) r → Goes k most (settle x.element s (on_editor s.left s.world r))
+  pub outcome_goes : (k : Kind) (most : ℕ) → 1 ≤ most → ((new : State) → Passes new → KindEnds k run facts x edges s new) → (r : Result After Code) → Succeeds (ArrivesOn run facts.held u s.world.kept edges) r → Goes k most (settle x.element s (on_editor s.left s.world r))
   outcome_goes k most some i (Err c) g = absurd g
   outcome_goes k most some i (Ok done) g = inl (some, i _ (goes_behind run facts.held edges x.element s h.left (Ok done) g))
 
@@ -110,7 +110,7 @@ module _ (run : Run) (facts : Facts) (x : Placed) (edges : Edges) (s : State) (h
   stays_comes None e i = i
   stays_comes (Some next) e i = record { described = i; grown = rw e (omega arith) }
 
-  pub call_proceeds : (c : Call) (most : ℕ) → 1 ≤ most → x.element.kind ≡ kind.Call c → Goes (kind.Call c) most (settle x.element s (Ok (stepping.call_reply c s.left s.arguments s.world)))
+  pub call_proceeds : (c : Call) (most : ℕ) → 1 ≤ most → x.element.kind ≡ kind.Call c → Goes (kind.Call c) most (settle x.element s (Ok (stepping.call_reply c s)))
   call_proceeds c most some e = inl (
     some,
     record {
@@ -129,13 +129,13 @@ module _ (run : Run) (facts : Facts) (x : Placed) (edges : Edges) (s : State) (h
     abbrev Replies : World → model.Arguments → Option ℕ → Result Reply Code → Type 0
     Replies now arguments left r = Goes (kind.Search q) most (settle x.element (record s { world = now; arguments = arguments; left = left }) r)
 
-    found_goes : (answer : Option ℤ) (world now : World) (arguments : model.Arguments) (before left : Option ℕ) → left ≡ None → Comes run facts.held s.world (model.levels_after_answer answer rest) edges world → Replies now arguments before (Ok (behind left (model.levels_after_answer answer rest) world))
+    found_goes : (answer : Option ℤ) (world now : World) (arguments : model.Arguments) (before left : Option ℕ) → left ≡ None → Comes run facts.held s.world (model.levels_after_answer answer rest) edges world → Replies now arguments before (Ok (replying Behind left (model.levels_after_answer answer rest) world))
     found_goes answer world now arguments before left l c = inl (some, inl (record { comes = c; frames = refl; done = l }))
 
-    met_goes : (world now : World) (arguments : model.Arguments) (before left : Option ℕ) → left ≡ None → Comes run facts.held s.world (model.levels_after_answer (outcomes.answer_where x.colon (negsuc 0)) rest) edges world → Replies now arguments before (Ok (outcomes.met (outcomes.miss_where x.colon x.element frame) left rest world))
+    met_goes : (world now : World) (arguments : model.Arguments) (before left : Option ℕ) → left ≡ None → Comes run facts.held s.world (model.levels_after_answer (answer_where x.colon (negsuc 0)) rest) edges world → Replies now arguments before (Ok (outcomes.met (outcomes.miss_where x.colon x.element frame) left rest world))
     met_goes world now arguments before left l c =
-        subst (λ b. Replies now arguments before (Ok (behind left (model.levels_after_answer (outcomes.answer_where b (negsuc 0)) rest) world))) (sym (answers_where x.colon x.element frame))
-        (found_goes (outcomes.answer_where x.colon (negsuc 0)) world now arguments before left l c)
+        subst (λ answer. Replies now arguments before (Ok (replying Behind left (model.levels_after_answer answer rest) world))) (sym (answers_where x.colon x.element frame))
+        (found_goes (answer_where x.colon (negsuc 0)) world now arguments before left l c)
 
     module _ (stays missed now : World) (arguments : model.Arguments) (before left : Option ℕ) (l : left ≡ None) (colon : x.colon ≡ false) (c : ComesAway (run_behind 1 run) facts.held s.world edges missed) where
       -- a jump that leaves one iteration

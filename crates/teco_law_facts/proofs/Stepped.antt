@@ -360,9 +360,11 @@ module _ (e : Element) (b : IsOfBytes e) (s : State) (h : IsWholeState s) where
   miss_whole true = tt
   miss_whole false = within_whole s.frames.running.loops
 
-  answer_fits : (colon : Bool) → IfSome (outcomes.answer_where colon (negsuc 0)) (FitsSigned w32)
-  answer_fits true = omega (arith, ints)
-  answer_fits false = tt
+  answer_fits : (miss : outcomes.Miss) → IfSome (outcomes.answer_by miss) (FitsSigned w32)
+  answer_fits outcomes.Answers = omega (arith, ints)
+  answer_fits (outcomes.Leaves turn) = tt
+  answer_fits outcomes.Unended = tt
+  answer_fits outcomes.Fails = tt
 
   at_miss : (colons : ℕ) (kept : Kept) → IsWhole kept → IsWhole (outcomes.kept_by_miss colons kept)
   at_miss zero kept w = edited kept w _ refl refl (omega arith) w.within w.bytes w.last
@@ -377,7 +379,7 @@ module _ (e : Element) (b : IsOfBytes e) (s : State) (h : IsWholeState s) where
     missed_whole outcomes.Fails m left before now v w = record { world = w; arguments = a; course = tt }
 
     met_whole : (left : Option ℕ) (world : World) → IsWholeWorld world → IsWholeReply (outcomes.met miss left arguments world)
-    met_whole left world w = record { world = w; arguments = answer_whole (outcomes.answer_by miss) arguments (answer_fits (outcomes.answers miss)) a; course = tt }
+    met_whole left world w = record { world = w; arguments = answer_whole (outcomes.answer_by miss) arguments (answer_fits miss) a; course = tt }
 
     search_whole : (r : Result Finding Code) → IfOk r IsWholeFinding → IfOk (r >>= λ finding. Ok (outcomes.found e miss s.left arguments s.world finding)) IsWholeReply
     search_whole (Err c) i = tt
