@@ -24,8 +24,8 @@ fn use_name<T: TextStore, H: Host>(
     name: &[u8],
     host: &mut H,
 ) -> Result<Course, Halt>
-    ensures answers { (frame : Frame) (pending : Pending) → Joined (λ old new. Answers (kind.File file)
-        (file_grows file) frame pending
+    ensures answers { (frame : Frame) (pending : Pending) → Joined (λ old new. Answers
+        (kind.File file) (file_grows file) frame pending
         (filed file name.now pending.left pending.arguments old) old new result)
         desk.old desk.new (H.files host.old) (H.files host.new) }
     ensures counted { Counts result (H.failures host.old) (H.failures host.new) }

@@ -65,7 +65,8 @@ fn yank<T: TextStore, H: Host>(
     pending: &mut Pending,
     host: &mut H,
 ) -> Result<Course, Halt>
-    ensures answers { (frame : Frame) → Joined (λ old new. Answers (kind.Page page_kind.Yank) true frame pending.new
+    ensures answers { (frame : Frame) → Joined (λ old new. Answers
+        (kind.Page page_kind.Yank) true frame pending.new
         (page_reply page_kind.Yank pending.old.left pending.old.arguments old) old new result)
         desk.old desk.new (H.files host.old) (H.files host.new) }
     ensures counted { Counts result (H.failures host.old) (H.failures host.new) }
@@ -82,7 +83,8 @@ fn append<T: TextStore, H: Host>(
     host: &mut H,
 ) -> Result<Course, Halt>
     ensures answers { (frame : Frame) → Joined (λ old new. Answers (kind.Page page_kind.Append)
-        (reads_page page_kind.Append pending.old.left (taken_at pending.old.arguments.level)) frame pending.new
+        (reads_page page_kind.Append pending.old.left (taken_at pending.old.arguments.level))
+        frame pending.new
         (page_reply page_kind.Append pending.old.left pending.old.arguments old) old new result)
         desk.old desk.new (H.files host.old) (H.files host.new) }
     ensures counted { Counts result (H.failures host.old) (H.failures host.new) }
@@ -136,7 +138,8 @@ fn first_of<T: TextStore, H: Host>(
     requires output { IsSome desk.old.held.output }
     ensures answers { (frame : Frame) → Joined (λ old new. Answers (kind.Page page)
         (reads_page page None taken) frame pending.new
-        (in_pages pending.old.arguments (model.pages_of (page_done page) taken.first taken.value old)) old new result)
+        (in_pages pending.old.arguments
+        (model.pages_of (page_done page) taken.first taken.value old)) old new result)
         desk.old desk.new (H.files host.old) (H.files host.new) }
     ensures counted { Counts result (H.failures host.old) (H.failures host.new) }
     ensures straight { IfOk result IsStraight }

@@ -56,14 +56,6 @@ impl Pending {
         self.left
     }
 
-    /// Keeps how much is left to do at an element of several steps.
-    pub fn set_left(&mut self, n: u32)
-        requires { 1 ≤ n }
-        ensures { self.new ≡ record self.old { left = Some n } }
-    {
-        self.left = Some(n);
-    }
-
     /// The element goes on with what is left to do, or behind itself where that is nothing.
     pub fn leave(&mut self, n: u32) -> Course
         ensures { Leaves self.old self.new n result }
@@ -76,7 +68,7 @@ impl Pending {
         Course::Again
     }
 
-    /// Nothing is left to do at it.
+    /// Nothing is left to do.
     pub fn clear_left(&mut self)
         ensures { self.new ≡ record self.old { left = None } }
     {
