@@ -3,6 +3,7 @@ use Rattle.std.proofs.Common.{List, [], ◌∷◌, zero, suc, arith, inl, inr, �
 use Rattle.teco_base.specs.declared.code.Code.{Code}
 use Rattle.teco_model.specs.Arguments as model
 use Rattle.teco_model.specs.Files.{Input}
+use Rattle.teco_model.specs.Going.{settle}
 use Rattle.teco_model.specs.Outside as outside
 use Rattle.teco_model.specs.Paging as paging
 use Rattle.teco_model.specs.Run as runs
@@ -101,7 +102,7 @@ module _ (run : Run) (facts : Facts) (x : Placed) (edges : Edges) (s : State) (h
     by (Some w) (Some z) j a q = absurd (cc)
     by (Some w) None j a q = absurd j
 
-  looks : (q : Search) (most : Polynomial) → x.element.kind ≡ kind.Search q → IsInPages q → IsOpen s.world → u + 1 ≤ value most run.n → Proceeds (kind.Search q) run facts x edges s (value most run.n) (outcomes.looked_outcome_of q x.element s s.left)
+  looks : (q : Search) (most : Polynomial) → x.element.kind ≡ kind.Search q → IsInPages q → IsOpen s.world → u + 1 ≤ value most run.n → Proceeds (kind.Search q) run facts x edges s (value most run.n) (settle x.element s (outcomes.found_in_pages q x.element (outcomes.miss_of x.element s.frames.running) s.left s.arguments s.world))
   looks q most e b o m = look_proceeds run facts x edges s h t q (value most run.n) fits b e (stands (kind.Search q) e) o.0 o.1 m
 
   bounded : (q : Search) (most : Polynomial) → steps (kind.Search q) facts ≡ Ok most → SearchesAtMost q u (value most run.n)
@@ -116,7 +117,7 @@ module _ (run : Run) (facts : Facts) (x : Placed) (edges : Edges) (s : State) (h
   one_taken most (Err why) m = absurd (cc)
 
   first_step : (k : Kind) (most : Polynomial) → x.element.kind ≡ k → steps k facts ≡ Ok most → Proceeds k run facts x edges s (value most run.n) (stepping.outcome_of k x.element s)
-  unfolding stepping.outcome_of
+  unfolding stepping.reply_of
   first_step (kind.Argument a) most e m = outcome_goes run facts x edges s h t (kind.Argument a) (value most run.n) (one_step most m) (λ new g. g) _ (arrived (kind.Argument a) e _ _ (arguments_are_sound run facts u kept s.arguments x a h.whole.world.kept h.described e))
   first_step (kind.Value v) most e m = outcome_goes run facts x edges s h t (kind.Value v) (value most run.n) (one_step most m) (λ new g. g) _ (arrived (kind.Value v) e _ _ (values_are_sound run facts u kept s.arguments x v h.whole.world.kept h.described e))
   first_step (kind.Query q) most e m = outcome_goes run facts x edges s h t (kind.Query q) (value most run.n) (one_step most m) (λ new g. g) _ (arrived (kind.Query q) e _ _ (queries_are_sound run facts u kept s.arguments x q h.whole.world.kept h.described e (named (kind.Query q) e)))
@@ -139,26 +140,26 @@ module _ (run : Run) (facts : Facts) (x : Placed) (edges : Edges) (s : State) (h
   later world left = record s { world = world; arguments = model.levels_after_taking s.arguments; left = left }
 
   later_step : (k : Kind) (most : Polynomial) (rest : ℕ) (world : World) (left : Option ℕ) → x.element.kind ≡ k → steps k facts ≡ Ok most → IsUnderway k run facts x edges s rest (later world left) → Proceeds k run facts x edges s rest (stepping.outcome_of k x.element (later world left))
-  unfolding stepping.outcome_of
+  unfolding stepping.reply_of
   later_step (kind.Page page.Next) most rest world left e m i =
       let w = i.work in
       let o = page_output page.Next most e m (λ o. refl) in
-      subst (λ l. Proceeds (kind.Page page.Next) run facts x edges s rest (outside.pages_outcome_of paging.page_turned x.element (later world left) l)) (sym w.1)
+      subst (λ l. Proceeds (kind.Page page.Next) run facts x edges s rest (settle x.element (later world left) (outside.pages_reply paging.page_turned l (model.levels_after_taking s.arguments) world))) (sym w.1)
       (turn_again run facts x edges s h t fits rest e o w.3.0 w.3.1 w.3.2 i.some world i.output w.2 left)
   later_step (kind.Page page.Write) most rest world left e m i =
       let w = i.work in
       let o = page_output page.Write most e m (λ o. refl) in
-      subst (λ l. Proceeds (kind.Page page.Write) run facts x edges s rest (outside.pages_outcome_of paging.page_written x.element (later world left) l)) (sym w.1)
+      subst (λ l. Proceeds (kind.Page page.Write) run facts x edges s rest (settle x.element (later world left) (outside.pages_reply paging.page_written l (model.levels_after_taking s.arguments) world))) (sym w.1)
       (write_again run facts x edges s h t fits rest o w.3.0 w.3.1 w.3.2 i.some world i.output w.2 left)
   later_step (kind.Search search.FindInPages) most rest world left e m i =
       let w = i.work in
       let o = (needed (kind.Search search.FindInPages) e).output refl in
-      subst (λ l. Proceeds (kind.Search search.FindInPages) run facts x edges s rest (outcomes.looked_outcome_of search.FindInPages x.element (later world left) l)) (sym w.1.1)
+      subst (λ l. Proceeds (kind.Search search.FindInPages) run facts x edges s rest (settle x.element (later world left) (outcomes.found_in_pages search.FindInPages x.element (outcomes.miss_of x.element s.frames.running) l (model.levels_after_taking s.arguments) world))) (sym w.1.1)
       (look_again run facts x edges s h t search.FindInPages rest fits tt e (stands (kind.Search search.FindInPages) e) o.0 o.1 world w.1.0 left w.3 w.2)
   later_step (kind.Search search.ReplaceInPages) most rest world left e m i =
       let w = i.work in
       let o = (needed (kind.Search search.ReplaceInPages) e).output refl in
-      subst (λ l. Proceeds (kind.Search search.ReplaceInPages) run facts x edges s rest (outcomes.looked_outcome_of search.ReplaceInPages x.element (later world left) l)) (sym w.1.1)
+      subst (λ l. Proceeds (kind.Search search.ReplaceInPages) run facts x edges s rest (settle x.element (later world left) (outcomes.found_in_pages search.ReplaceInPages x.element (outcomes.miss_of x.element s.frames.running) l (model.levels_after_taking s.arguments) world))) (sym w.1.1)
       (look_again run facts x edges s h t search.ReplaceInPages rest fits tt e (stands (kind.Search search.ReplaceInPages) e) o.0 o.1 world w.1.0 left w.3 w.2)
   later_step (kind.Page page.Yank) most rest world left e m i = absurd i.work.0
   later_step (kind.Page page.Append) most rest world left e m i = absurd i.work.0

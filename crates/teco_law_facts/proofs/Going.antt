@@ -10,10 +10,9 @@ use Rattle.teco_model.specs.Condition.{holds}
 use Rattle.teco_model.specs.Element.{Element}
 use Rattle.teco_model.specs.Flow as flows
 use Rattle.teco_model.specs.Flow.{Turn}
-use Rattle.teco_model.specs.Going.{After, world_keeping}
+use Rattle.teco_model.specs.Going.{After, with_kept}
 use Rattle.teco_model.specs.Skip.{skip_of}
 use Rattle.teco_model.specs.State.{Kept, World, Frame, State}
-use Rattle.teco_model.specs.Step as stepping
 use Rattle.teco_model.specs.declared.flow.Loop.{Loop}
 use Rattle.teco_model.specs.declared.kind.Flow.{Flow}
 use Rattle.teco_model.specs.declared.kind.Flow.TheVariants as flow
@@ -22,7 +21,7 @@ use Rattle.teco_model.specs.declared.kind.Goal.TheVariants as goal
 use Rattle.teco_model.specs.declared.kind.Kind.TheVariants as kind
 use Rattle.teco_model.specs.declared.kind.Test.{Test}
 use Rattle.teco_model.specs.Effect.{needed_value}
-use Rattle.teco_poly.specs.Polynomial.{Polynomial, value}
+use Rattle.teco_poly.specs.Polynomial.{Polynomial}
 use Rattle.teco_law_facts.proofs.Flowing.{tests_are_sound, leaves_are_sound, iterations_are_sound, turn_ends_are_sound, tags_are_sound, others_are_sound}
 use Rattle.teco_verifier.specs.facts.Arguments as taking
 use Rattle.teco_verifier.specs.facts.Attempt.{◌>>=◌}
@@ -40,7 +39,6 @@ use Rattle.teco_verifier.specs.facts.Transfer as transfers
 use Rattle.teco_verifier.specs.facts.Transfer.{Placed, transfer}
 use Rattle.teco_verifier.specs.facts.Ways.{Numbers, way}
 use Rattle.teco_verifier.specs.declared.refusal.Refusal.{Refusal}
-use Rattle.teco_verifier.specs.declared.refusal.Refusal.TheVariants as refusal
 use Rattle.teco_verifier.specs.declared.values.Value.{Value}
 
 -- ---- steps
@@ -74,7 +72,7 @@ arrives_comes run held old kept arguments (Some next) h = record { described = h
 pub on_comes : (run : Run) (held : Polynomial) (old : World) (kept : Kept) (arguments : model.Arguments) (edges : Edges) → ArrivesOn run held (unread_of old) old.kept edges (record { kept = kept; arguments = arguments }) → Comes run held old arguments edges (record old { kept = kept })
 on_comes run held old kept arguments edges h = arrives_comes run held old kept arguments edges.on h
 
-pub goes_behind : (run : Run) (held : Polynomial) (edges : Edges) (e : Element) (s : State) → s.left ≡ None → (r : Result After Code) → Succeeds (ArrivesOn run held (unread_of s.world) s.world.kept edges) r → Succeeds (λ (done : After). GoesBehind run held edges e s (record s { world = world_keeping done.kept s; arguments = done.arguments; frames = record s.frames { running = record s.frames.running { place = e.next } } })) r
+pub goes_behind : (run : Run) (held : Polynomial) (edges : Edges) (e : Element) (s : State) → s.left ≡ None → (r : Result After Code) → Succeeds (ArrivesOn run held (unread_of s.world) s.world.kept edges) r → Succeeds (λ (done : After). GoesBehind run held edges e s (record s { world = with_kept done.kept s.world; arguments = done.arguments; frames = record s.frames { running = record s.frames.running { place = e.next } } })) r
 goes_behind run held edges e s l (Err c) h = h
 goes_behind run held edges e s l (Ok done) h = record { comes = on_comes run held s.world done.kept done.arguments edges h; frames = refl; done = l }
 

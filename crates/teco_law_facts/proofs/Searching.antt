@@ -18,7 +18,8 @@ use Rattle.teco_model.specs.Search as searching
 use Rattle.teco_model.specs.Search.{Finding, Found, Missed}
 use Rattle.teco_model.specs.State.{Kept}
 use Rattle.teco_model.specs.Going.{after}
-use Rattle.teco_model.specs.Searching.{kept_by_miss, at_start, answer_where}
+use Rattle.teco_model.specs.Searching.{kept_by_miss, at_start}
+use Rattle.teco_law_facts.specs.SoundSearches.{answer_where}
 use Rattle.teco_model.specs.declared.arguments.Taken.{Taken}
 use Rattle.teco_model.specs.declared.kind.Search.{Search}
 use Rattle.teco_model.specs.declared.kind.Search.TheVariants.{Find, Replace, FindInPages, ReplaceInPages}

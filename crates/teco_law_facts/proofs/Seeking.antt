@@ -19,7 +19,7 @@ use Rattle.teco_model.specs.Paging as paging
 use Rattle.teco_model.specs.Paging.{unread, Met, Turned, MetHere, unread_of}
 use Rattle.teco_model.specs.Pattern.{minimum}
 use Rattle.teco_model.specs.Search as searching
-use Rattle.teco_model.specs.Searching.{answer_where}
+use Rattle.teco_law_facts.specs.SoundSearches.{answer_where}
 use Rattle.teco_model.specs.State.{Kept, World}
 use Rattle.teco_model.specs.declared.arguments.Taken.{Taken}
 use Rattle.teco_model.specs.declared.kind.Search.{Search}

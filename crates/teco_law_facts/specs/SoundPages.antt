@@ -4,7 +4,7 @@ use Rattle.std.specs.Prelude.{◌≡◌, ℕ, ℤ, pos, unwrap_or, ◌≤ℤ◌,
 use Rattle.teco_model.specs.Arguments.{Arguments, arguments_of, levels_after_taking, levels_after_answer}
 use Rattle.teco_model.specs.Character.{character}
 use Rattle.teco_model.specs.Files.{Input, Output}
-use Rattle.teco_model.specs.Paging.{Progress, unread, append, pages, page_turned, page_written, unread_of}
+use Rattle.teco_model.specs.Paging.{Progress, append, pages, page_turned, page_written, unread_of}
 use Rattle.teco_model.specs.State.{Kept, World}
 use Rattle.teco_model.specs.Going.{after}
 use Rattle.teco_model.specs.declared.arguments.Taken.{Taken}

@@ -24,9 +24,7 @@ use Rattle.teco_model.specs.declared.kind.Goal.TheVariants as goal
 use Rattle.teco_model.specs.declared.kind.Kind.{Kind}
 use Rattle.teco_model.specs.declared.kind.Kind.TheVariants as kind
 use Rattle.teco_model.specs.declared.kind.Page.{Page}
-use Rattle.teco_model.specs.declared.kind.Page.TheVariants as page
 use Rattle.teco_model.specs.declared.kind.Search.{Search}
-use Rattle.teco_model.specs.declared.kind.Search.TheVariants as search
 use Rattle.teco_poly.specs.Polynomial.{Polynomial, value}
 use Rattle.teco_law_facts.specs.Describes.{Run, Describes, run_behind, run_in_turn}
 use Rattle.teco_verifier.specs.facts.Facts.{Facts, Iteration}
