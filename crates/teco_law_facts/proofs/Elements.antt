@@ -32,7 +32,7 @@ use Rattle.teco_law_facts.proofs.Transfers.{without_answer, arguments_are_sound,
 use Rattle.teco_verifier.specs.facts.Arguments as known
 use Rattle.teco_verifier.specs.facts.Arguments.{KnownTaken}
 use Rattle.teco_verifier.specs.facts.Attempt.{◌>>=◌}
-use Rattle.teco_law_facts.specs.Describes.{Run, IsTaken, IsOptional, fore_of, back_of}
+use Rattle.teco_law_facts.specs.Describes.{Run, IsTaken, IsOptional, fore_of, back_of, around_of}
 use Rattle.teco_verifier.specs.facts.Facts.{Facts}
 use Rattle.teco_verifier.specs.facts.Flows.{Edges}
 use Rattle.teco_verifier.specs.facts.Printed.{needs, needs_of_page, steps_of_page, steps_of_search, steps}
@@ -92,11 +92,11 @@ module _ (run : Run) (facts : Facts) (x : Placed) (edges : Edges) (s : State) (h
   page_output : (p : Page) (most : Polynomial) → x.element.kind ≡ kind.Page p → steps (kind.Page p) facts ≡ Ok most → ((o : Option Value) → (needs_of_page p o).output ≡ true) → IsOpen s.world
   page_output p most e m o = output_of p most o _ m (needed (kind.Page p) e)
 
-  input_of : (most : Polynomial) (r : Result KnownTaken Refusal) (c : Result Taken Code) → Covers (IsTaken (fore_of kept) (back_of kept)) r c → (r >>= λ taken. steps_of_page page.Append taken facts) ≡ Ok most → IfOk (r >>= λ taken. Ok (needs_of_page page.Append taken.value)) (λ need. AreOpen need s.world.files) → Succeeds (λ (taken : Taken). taken.value ≡ None → (input : Input) × (s.world.files.input ≡ Some input)) c
+  input_of : (most : Polynomial) (r : Result KnownTaken Refusal) (c : Result Taken Code) → Covers (IsTaken (around_of kept)) r c → (r >>= λ taken. steps_of_page page.Append taken facts) ≡ Ok most → IfOk (r >>= λ taken. Ok (needs_of_page page.Append taken.value)) (λ need. AreOpen need s.world.files) → Succeeds (λ (taken : Taken). taken.value ≡ None → (input : Input) × (s.world.files.input ≡ Some input)) c
   input_of most (Err why) c i m n = absurd (cc)
   input_of most (Ok k) (Err c) i m n = absurd i
   input_of most (Ok k) (Ok taken) i m n = by k.value taken.value i.value n where
-    by : (o : Option Value) (v : Option ℤ) → IsOptional (IsValue (fore_of kept) (back_of kept)) o v → AreOpen (needs_of_page page.Append o) s.world.files → v ≡ None → (input : Input) × (s.world.files.input ≡ Some input)
+    by : (o : Option Value) (v : Option ℤ) → IsOptional (IsValue (around_of kept)) o v → AreOpen (needs_of_page page.Append o) s.world.files → v ≡ None → (input : Input) × (s.world.files.input ≡ Some input)
     by None v j a q = a.input refl
     by (Some w) (Some z) j a q = absurd (cc)
     by (Some w) None j a q = absurd j

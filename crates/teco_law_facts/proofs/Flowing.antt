@@ -25,7 +25,7 @@ use Rattle.teco_verifier.specs.facts.Arguments as known
 use Rattle.teco_verifier.specs.facts.Arguments.{KnownLevel, KnownTaken}
 use Rattle.teco_verifier.specs.facts.Attempt.{◌>>=◌}
 use Rattle.teco_verifier.specs.facts.Deletions.{positive}
-use Rattle.teco_law_facts.specs.Describes.{Run, run_behind, run_in_turn, IsWhole, IsAt, Answers, Describes, AreEach, HasFallen, IsLevel, IsTaken, IsOptional, ArePending, fore_of, back_of}
+use Rattle.teco_law_facts.specs.Describes.{Run, run_behind, run_in_turn, IsWhole, IsAt, Answers, Describes, AreEach, HasFallen, IsLevel, IsTaken, IsOptional, ArePending, fore_of, back_of, around_of}
 use Rattle.teco_verifier.specs.facts.Facts.{Position, Answer, Facts, Iteration, sum_of, at_position, without_arguments}
 use Rattle.teco_verifier.specs.facts.Flows.{Edges, needed_taken, facts_taken, leaving, entering, begun, iteration, leaving_numbers, turns_of, bound_by, bound_of, without_value, turn_end}
 use Rattle.teco_verifier.specs.facts.Joins.{is_empty, none_pending}
@@ -33,7 +33,7 @@ use Rattle.teco_law_facts.specs.Laws.{IsTold}
 use Rattle.teco_law_facts.specs.SoundFlow.{Tells, IsReached, number_needed, TestsAreSound, LeavingOr, LeavesAreSound, EntersOr, IterationsAreSound, AreTurns, TurnsAreSound, EndsTurn, TurnEndsAreSound, TagsAreSound, OthersAreSound}
 use Rattle.teco_verifier.specs.facts.Transfer as transfers
 use Rattle.teco_verifier.specs.facts.Transfer.{Placed, transfer}
-use Rattle.teco_verifier.specs.facts.Values.{IsValue, IsWithin, interval_of}
+use Rattle.teco_verifier.specs.facts.Values.{IsValue, IsWithin, interval_of, Surroundings}
 use Rattle.teco_verifier.specs.facts.Ways.{Numbers, Positive, NotPositive, Takes, holding, other, position_by, way}
 use Rattle.teco_verifier.specs.declared.refusal.Refusal.{Refusal}
 use Rattle.teco_verifier.specs.declared.refusal.Refusal.TheVariants as refusal
@@ -73,30 +73,30 @@ each_dropped P (suc count) (x ∷ xs) [] h = absurd h
 abbrev number_in : Level → Result ℤ Code
 number_in level = model.arguments_of level >>>= λ taken. effect.needed_value taken.value
 
-told_by : (run : Run) (o : Option Answer) (fore back unread : ℕ) (pairs : List Pair) (level : Level) (r : Result Value Refusal) → Answers run o fore back unread pairs level → Covers (IsValue fore back) r (number_in level) → Covers (λ s v. IsTold run o s fore back unread pairs v) r (number_in level)
-told_by run None fore back unread pairs level r a c = weaker (IsValue fore back) _ r (number_in level) (λ s v i. i.is) c
-told_by run (Some answer) fore back unread pairs level r (v, e, i) c =
-    subst (λ level. Covers (λ (s : Value) v. IsTold run (Some answer) s fore back unread pairs v) r (number_in level)) (sym e) (always _ r v (λ s. i))
+told_by : (run : Run) (o : Option Answer) (around : Surroundings) (unread : ℕ) (pairs : List Pair) (level : Level) (r : Result Value Refusal) → Answers run o around unread pairs level → Covers (IsValue around) r (number_in level) → Covers (λ s v. IsTold run o s around unread pairs v) r (number_in level)
+told_by run None around unread pairs level r a c = weaker (IsValue around) _ r (number_in level) (λ s v i. i.is) c
+told_by run (Some answer) around unread pairs level r (v, e, i) c =
+    subst (λ level. Covers (λ (s : Value) v. IsTold run (Some answer) s around unread pairs v) r (number_in level)) (sym e) (always _ r v (λ s. i))
 
 module _ (run : Run) (facts : Facts) (unread : ℕ) (kept : Kept) (arguments : model.Arguments) (whole : IsWhole kept) (d : Describes run facts unread kept arguments) where
-  now : AreDistances facts.position.distances (fore_of kept) (back_of kept)
+  now : AreDistances facts.position.distances (around_of kept)
   now = distances run facts unread kept whole d.state
 
-  pub taking_is : Covers (IsTaken (fore_of kept) (back_of kept)) (known.arguments_of facts.arguments.level) (model.arguments_of arguments.level)
-  taking_is = taken_covers facts.position.distances (fore_of kept) (back_of kept) now facts.arguments.level arguments.level d.pending.level
+  pub taking_is : Covers (IsTaken (around_of kept)) (known.arguments_of facts.arguments.level) (model.arguments_of arguments.level)
+  taking_is = taken_covers facts.position.distances (around_of kept) now facts.arguments.level arguments.level d.pending.level
 
-  number_told : Covers (λ s v. IsTold run facts.answer s (fore_of kept) (back_of kept) unread kept.registers.pairs v) (needed_taken facts) (number_in arguments.level)
-  number_told = told_by run facts.answer (fore_of kept) (back_of kept) unread kept.registers.pairs arguments.level _ d.answers (needed_covers facts.position.distances (fore_of kept) (back_of kept) now facts.arguments.level arguments.level d.pending.level)
+  number_told : Covers (λ s v. IsTold run facts.answer s (around_of kept) unread kept.registers.pairs v) (needed_taken facts) (number_in arguments.level)
+  number_told = told_by run facts.answer (around_of kept) unread kept.registers.pairs arguments.level _ d.answers (needed_covers facts.position.distances (around_of kept) now facts.arguments.level arguments.level d.pending.level)
 
-  pub taken_are : ArePending (fore_of kept) (back_of kept) (facts_taken facts).arguments (model.levels_after_taking arguments)
-  taken_are = record { level = empty_is facts.position.distances (fore_of kept) (back_of kept) now; outer = d.pending.outer }
+  pub taken_are : ArePending (around_of kept) (facts_taken facts).arguments (model.levels_after_taking arguments)
+  taken_are = record { level = empty_is facts.position.distances (around_of kept) now; outer = d.pending.outer }
 
   -- ---- ways
-  reached : (o : Option Position) → IsOn run (fore_of kept) (back_of kept) unread kept.registers.pairs o → IsReached run (option_map (λ p. at_position p (facts_taken facts)) o) unread kept (model.levels_after_taking arguments)
+  reached : (o : Option Position) → IsOn run (around_of kept) unread kept.registers.pairs o → IsReached run (option_map (λ p. at_position p (facts_taken facts)) o) unread kept (model.levels_after_taking arguments)
   reached None i = i
   reached (Some p) i = let h = d.state in record { state = record { position = i; held = h.held; registers = h.registers; pushed = h.pushed }; pending = taken_are; answers = tt }
 
-  pub behind : (count : ℕ) (p : Position) (state : Facts) → IsAt run p (fore_of kept) (back_of kept) unread kept.registers.pairs → state.held ≡ facts.held → state.numbers ≡ facts.numbers → state.texts ≡ facts.texts → state.pushes ≡ facts.pushes → Describes (run_behind count run) (leaving count (at_position p state)) unread kept model.no_arguments
+  pub behind : (count : ℕ) (p : Position) (state : Facts) → IsAt run p (around_of kept) unread kept.registers.pairs → state.held ≡ facts.held → state.numbers ≡ facts.numbers → state.texts ≡ facts.texts → state.pushes ≡ facts.pushes → Describes (run_behind count run) (leaving count (at_position p state)) unread kept model.no_arguments
   behind count p state i e f g k = let h = d.state in record {
     state = record {
       position = record { begin = i.begin; end = i.end; fallen = each_dropped (HasFallen (fore_of kept + unread)) count p.falls run.turns i.fallen; ahead = i.ahead; saved = i.saved };
@@ -104,15 +104,15 @@ module _ (run : Run) (facts : Facts) (unread : ℕ) (kept : Kept) (arguments : m
       registers = let r = h.registers in record { numbers = rw f r.numbers; texts = rw g r.texts };
       pushed = rw k h.pushed;
     };
-    pending = nothing_is facts.position.distances (fore_of kept) (back_of kept) now;
+    pending = nothing_is facts.position.distances (around_of kept) now;
     answers = tt;
   }
 
-  left_behind : (o : Option Position) → IsOn run (fore_of kept) (back_of kept) unread kept.registers.pairs o → IsReached (run_behind 1 run) (option_map (leaving 1) (option_map (λ p. at_position p (facts_taken facts)) o)) unread kept model.no_arguments
+  left_behind : (o : Option Position) → IsOn run (around_of kept) unread kept.registers.pairs o → IsReached (run_behind 1 run) (option_map (leaving 1) (option_map (λ p. at_position p (facts_taken facts)) o)) unread kept model.no_arguments
   left_behind None i = i
   left_behind (Some p) i = behind 1 p (facts_taken facts) i refl refl refl refl
 
-  told : (n : Numbers) (s : Value) (v : ℤ) → IsTold run facts.answer s (fore_of kept) (back_of kept) unread kept.registers.pairs v → Takes n v → IsOn run (fore_of kept) (back_of kept) unread kept.registers.pairs (position_by n facts.answer s facts.position)
+  told : (n : Numbers) (s : Value) (v : ℤ) → IsTold run facts.answer s (around_of kept) unread kept.registers.pairs v → Takes n v → IsOn run (around_of kept) unread kept.registers.pairs (position_by n facts.answer s facts.position)
   told n s v i t = told_on run facts unread kept n facts.answer s v whole d.state i t
 
   -- a test
@@ -152,12 +152,12 @@ module _ (run : Run) (facts : Facts) (unread : ℕ) (kept : Kept) (arguments : m
   holding_takes test.Upper v true e = tt
   holding_takes test.Upper v false e = tt
 
-  tested : (t : Test) (s : Value) (v : ℤ) (b : Bool) → holds t v ≡ b → IsTold run facts.answer s (fore_of kept) (back_of kept) unread kept.registers.pairs v → IsReached run (cond b (way (holding t) facts.answer s (facts_taken facts)) (way (other (holding t)) facts.answer s (facts_taken facts))) unread kept (model.levels_after_taking arguments)
+  tested : (t : Test) (s : Value) (v : ℤ) (b : Bool) → holds t v ≡ b → IsTold run facts.answer s (around_of kept) unread kept.registers.pairs v → IsReached run (cond b (way (holding t) facts.answer s (facts_taken facts)) (way (other (holding t)) facts.answer s (facts_taken facts))) unread kept (model.levels_after_taking arguments)
   tested t s v true e i = reached _ (told (holding t) s v i (holding_takes t v true e))
   tested t s v false e i = reached _ (told (other (holding t)) s v i (holding_takes t v false e))
 
   conditioned : (t : Test) → Tells (λ (edges : Edges) v. IsReached run (cond (holds t v) edges.on edges.away) unread kept (model.levels_after_taking arguments)) (needed_taken facts >>= λ n. Ok (record { on = way (holding t) facts.answer n (facts_taken facts); away = way (other (holding t)) facts.answer n (facts_taken facts) })) (number_in arguments.level)
-  conditioned t = tells_then (λ s v. IsTold run facts.answer s (fore_of kept) (back_of kept) unread kept.registers.pairs v) _ _ _ _ number_told (λ s v i l. tested t s v _ refl i)
+  conditioned t = tells_then (λ s v. IsTold run facts.answer s (around_of kept) unread kept.registers.pairs v) _ _ _ _ number_told (λ s v i l. tested t s v _ refl i)
 
   -- ; and :;
   leaving_takes : (colons : ℕ) (v : ℤ) (b : Bool) → leaves colons v ≡ b → Takes (cond b (leaving_numbers colons) (other (leaving_numbers colons))) v
@@ -170,12 +170,12 @@ module _ (run : Run) (facts : Facts) (unread : ℕ) (kept : Kept) (arguments : m
   leaving_takes (suc colons) (negsuc n) true e = omega (arith, ints)
   leaving_takes (suc colons) (negsuc n) false e = absurd (cc)
 
-  leaves_or : (colons : ℕ) (s : Value) (v : ℤ) (b : Bool) → leaves colons v ≡ b → IsTold run facts.answer s (fore_of kept) (back_of kept) unread kept.registers.pairs v → LeavingOr run unread kept arguments b (record { on = way (other (leaving_numbers colons)) facts.answer s (facts_taken facts); away = option_map (leaving 1) (way (leaving_numbers colons) facts.answer s (facts_taken facts)) })
+  leaves_or : (colons : ℕ) (s : Value) (v : ℤ) (b : Bool) → leaves colons v ≡ b → IsTold run facts.answer s (around_of kept) unread kept.registers.pairs v → LeavingOr run unread kept arguments b (record { on = way (other (leaving_numbers colons)) facts.answer s (facts_taken facts); away = option_map (leaving 1) (way (leaving_numbers colons) facts.answer s (facts_taken facts)) })
   leaves_or colons s v true e i = left_behind _ (told (leaving_numbers colons) s v i (leaving_takes colons v true e))
   leaves_or colons s v false e i = reached _ (told (other (leaving_numbers colons)) s v i (leaving_takes colons v false e))
 
   left : (colons : ℕ) → Tells (λ (edges : Edges) v. LeavingOr run unread kept arguments (leaves colons v) edges) (needed_taken facts >>= λ n. Ok (record { on = way (other (leaving_numbers colons)) facts.answer n (facts_taken facts); away = option_map (leaving 1) (way (leaving_numbers colons) facts.answer n (facts_taken facts)) })) (number_in arguments.level)
-  left colons = tells_then (λ s v. IsTold run facts.answer s (fore_of kept) (back_of kept) unread kept.registers.pairs v) _ _ _ _ number_told (λ s v i l. leaves_or colons s v _ refl i)
+  left colons = tells_then (λ s v. IsTold run facts.answer s (around_of kept) unread kept.registers.pairs v) _ _ _ _ number_told (λ s v i l. leaves_or colons s v _ refl i)
 
   -- <
   abbrev taken_facts : Facts
@@ -183,10 +183,10 @@ module _ (run : Run) (facts : Facts) (unread : ℕ) (kept : Kept) (arguments : m
 
   -- nothing else is pending there
   abbrev NoneLeft : Type 0
-  NoneLeft = ArePending (fore_of kept) (back_of kept) known.no_arguments (model.levels_after_taking arguments)
+  NoneLeft = ArePending (around_of kept) known.no_arguments (model.levels_after_taking arguments)
 
-  none_with : (outer : List KnownLevel) → AreEach (IsLevel (fore_of kept) (back_of kept)) outer arguments.outer → IfOk (cond (is_empty outer) (Ok tt) (Err refusal.Pending)) (λ (u : Unit {0}). NoneLeft)
-  none_with [] h = record { level = empty_is facts.position.distances (fore_of kept) (back_of kept) now; outer = h }
+  none_with : (outer : List KnownLevel) → AreEach (IsLevel (around_of kept)) outer arguments.outer → IfOk (cond (is_empty outer) (Ok tt) (Err refusal.Pending)) (λ (u : Unit {0}). NoneLeft)
+  none_with [] h = record { level = empty_is facts.position.distances (around_of kept) now; outer = h }
   none_with (level ∷ outer) h = tt
 
   none_left : IfOk (none_pending (known.levels_after_taking facts.arguments)) (λ u. NoneLeft)
@@ -207,10 +207,10 @@ module _ (run : Run) (facts : Facts) (unread : ℕ) (kept : Kept) (arguments : m
   skipped : NoneLeft → Describes run taken_facts unread kept (model.levels_after_taking arguments)
   skipped none = record { state = let h = d.state in record { position = h.position; held = h.held; registers = h.registers; pushed = h.pushed }; pending = none; answers = tt }
 
-  pub of_value : (s : Value) (v : ℤ) → IsValue (fore_of kept) (back_of kept) s v → IsWithin (interval_of facts.position.distances s) v
-  of_value s v i = interval_of_in s facts.position.distances (fore_of kept) (back_of kept) v now.least (omega (arith, now.within)) (omega (arith, now.within)) i.is
+  pub of_value : (s : Value) (v : ℤ) → IsValue (around_of kept) s v → IsWithin (interval_of facts.position.distances s) v
+  of_value s v i = interval_of_in s facts.position.distances (around_of kept) v now.least (omega (arith, now.within)) (omega (arith, now.within)) i.is
 
-  enters : (o : Option Value) (v : Option ℤ) → NoneLeft → IsOptional (IsValue (fore_of kept) (back_of kept)) o v → EntersOr run unread kept arguments v (iteration o taken_facts)
+  enters : (o : Option Value) (v : Option ℤ) → NoneLeft → IsOptional (IsValue (around_of kept)) o v → EntersOr run unread kept arguments v (iteration o taken_facts)
   enters None None none i = entered false none
   enters (Some s) (Some (pos (suc n))) none i = rw (within_may Positive (interval_of facts.position.distances s) (pos (suc n)) (of_value s (pos (suc n)) i) (omega (arith, ints))) (entered true none)
   enters (Some s) (Some (pos zero)) none i = rw (within_may NotPositive (interval_of facts.position.distances s) (pos zero) (of_value s (pos zero) i) (omega (arith, ints))) (skipped none)
@@ -239,10 +239,10 @@ module _ (run : Run) (facts : Facts) (unread : ℕ) (kept : Kept) (arguments : m
   up_to_positive (negsuc n) = omega (arith, ints)
 
   -- of a value in which neither distance counts positively, and of any other
-  by_interval : (s : Value) (v : ℤ) → IsValue (fore_of kept) (back_of kept) s v → v ≤ℤ pos (value (number (positive (interval_of facts.position.distances s).hi)) run.n)
+  by_interval : (s : Value) (v : ℤ) → IsValue (around_of kept) s v → v ≤ℤ pos (value (number (positive (interval_of facts.position.distances s).hi)) run.n)
   by_interval s v i = let w = of_value s v i in bounded_number _ v (omega (arith, ints, w, up_to_positive (interval_of facts.position.distances s).hi))
 
-  by_signs : (x y : Bool) (s : Value) (v : ℤ) → int_le s.ahead (pos 0) ≡ x → int_le s.behind (pos 0) ≡ y → IsValue (fore_of kept) (back_of kept) s v → v ≤ℤ pos (value (number (cond (x && y) (positive s.hi) (positive (interval_of facts.position.distances s).hi))) run.n)
+  by_signs : (x y : Bool) (s : Value) (v : ℤ) → int_le s.ahead (pos 0) ≡ x → int_le s.behind (pos 0) ≡ y → IsValue (around_of kept) s v → v ≤ℤ pos (value (number (cond (x && y) (positive s.hi) (positive (interval_of facts.position.distances s).hi))) run.n)
   by_signs true true s v p q i =
       let f : (pos (fore_of kept) *ℤ s.ahead) ≤ℤ (pos (fore_of kept) *ℤ pos 0) = scaled_le (fore_of kept) s.ahead (pos 0) (omega (arith, ints)) in
       let g : (pos (back_of kept) *ℤ s.behind) ≤ℤ (pos (back_of kept) *ℤ pos 0) = scaled_le (back_of kept) s.behind (pos 0) (omega (arith, ints)) in
@@ -254,14 +254,14 @@ module _ (run : Run) (facts : Facts) (unread : ℕ) (kept : Kept) (arguments : m
   abbrev parts : ℤ → ℤ → ℤ → ℤ → Bool → Value
   parts a b lo hi saved = record { ahead = a; behind = b; lo = lo; hi = hi; saved = saved }
 
-  bounded_by : (a b lo hi : ℤ) (saved : Bool) (v : ℤ) → IsValue (fore_of kept) (back_of kept) (parts a b lo hi saved) v → IfOk (bound_by a b (positive hi) (positive (interval_of facts.position.distances (parts a b lo hi saved)).hi) facts) (λ most. v ≤ℤ pos (value most run.n))
+  bounded_by : (a b lo hi : ℤ) (saved : Bool) (v : ℤ) → IsValue (around_of kept) (parts a b lo hi saved) v → IfOk (bound_by a b (positive hi) (positive (interval_of facts.position.distances (parts a b lo hi saved)).hi) facts) (λ most. v ≤ℤ pos (value most run.n))
   bounded_by (pos (suc zero)) (pos (suc zero)) lo hi saved v i = bounded_sum facts.held (positive hi) v (omega (arith, ints, i.is.high, up_to_positive hi, d.state.held, whole.inside))
   bounded_by (pos zero) (pos (suc zero)) lo hi saved v i = bounded_sum facts.held (positive hi) v (omega (arith, ints, i.is.high, up_to_positive hi, d.state.held, whole.inside))
   bounded_by (pos (suc zero)) (pos zero) lo hi saved v i = bounded_sum facts.position.ahead (positive hi) v (omega (arith, ints, i.is.high, up_to_positive hi, d.state.position.ahead, whole.inside))
   bounded_by (pos (suc zero)) (pos (suc (suc zero))) lo hi saved v i = bounded_both (positive hi) v (omega (arith, ints, i.is.high, up_to_positive hi, d.state.held, whole.inside))
   bounded_by a b lo hi saved v i = by_signs _ _ (parts a b lo hi saved) v refl refl i
 
-  pub bound_is : (s : Value) (v : ℤ) → IsValue (fore_of kept) (back_of kept) s v → IfOk (bound_of s facts) (λ most. v ≤ℤ pos (value most run.n))
+  pub bound_is : (s : Value) (v : ℤ) → IsValue (around_of kept) s v → IfOk (bound_of s facts) (λ most. v ≤ℤ pos (value most run.n))
   bound_is s v i = bounded_by s.ahead s.behind s.lo s.hi s.saved v i
 
   ahead_and_one : IfOk (sum_of facts.position.ahead (number 1)) (λ most. fore_of kept + unread + 1 ≤ value most run.n)
@@ -274,7 +274,7 @@ module _ (run : Run) (facts : Facts) (unread : ℕ) (kept : Kept) (arguments : m
   turned (Ok most) taken h = λ l. h
   turned (Err why) taken h = tt
 
-  turns_for : (o : Option Value) (v : Option ℤ) → IsOptional (IsValue (fore_of kept) (back_of kept)) o v → IfOk (turns_of o facts) (λ most. AreTurns (value most run.n) (fore_of kept + unread) v)
+  turns_for : (o : Option Value) (v : Option ℤ) → IsOptional (IsValue (around_of kept)) o v → IfOk (turns_of o facts) (λ most. AreTurns (value most run.n) (fore_of kept + unread) v)
   turns_for None None i = ahead_and_one
   turns_for (Some s) (Some v) i = bound_is s v i
   turns_for None (Some v) i = absurd i
@@ -282,7 +282,7 @@ module _ (run : Run) (facts : Facts) (unread : ℕ) (kept : Kept) (arguments : m
 
   iterated : Tells (λ edges (taken : Taken). EntersOr run unread kept arguments taken.value edges) (known.arguments_of facts.arguments.level >>= λ taken. none_pending (known.levels_after_taking facts.arguments) >>= λ alone. turns_of taken.value (transfers.without_answer facts) >>= λ most. Ok (iteration taken.value taken_facts)) (model.arguments_of arguments.level)
   iterated =
-      tells_then (IsTaken (fore_of kept) (back_of kept)) (λ edges (taken : Taken). EntersOr run unread kept arguments taken.value edges) _ _ _ taking_is (λ own taken i.
+      tells_then (IsTaken (around_of kept)) (λ edges (taken : Taken). EntersOr run unread kept arguments taken.value edges) _ _ _ taking_is (λ own taken i.
       passes_with (λ (u : Unit {0}). NoneLeft) (λ edges (taken : Taken). EntersOr run unread kept arguments taken.value edges) (none_pending (known.levels_after_taking facts.arguments)) (Ok taken) (λ alone. turns_of own.value (transfers.without_answer facts) >>= λ most. Ok (iteration own.value taken_facts)) none_left (λ alone none.
       passes (λ edges (taken : Taken). EntersOr run unread kept arguments taken.value edges) (turns_of own.value (transfers.without_answer facts)) (Ok taken) (λ most. Ok (iteration own.value taken_facts)) (λ most l. enters own.value taken.value none i.value)))
 
@@ -296,20 +296,20 @@ module _ (run : Run) (facts : Facts) (unread : ℕ) (kept : Kept) (arguments : m
         registers = let r = h.registers in record { numbers = r.numbers; texts = r.texts };
         pushed = h.pushed;
       };
-      pending = nothing_is facts.position.distances (fore_of kept) (back_of kept) now;
+      pending = nothing_is facts.position.distances (around_of kept) now;
       answers = tt;
     };
     on = λ e. rw e (behind 1 facts.position (transfers.without_answer facts) h.position refl refl refl refl);
   }
 
   -- O
-  tagged : (leaves : ℕ) (o : Option Value) (v : Option ℤ) → IsOptional (IsValue (fore_of kept) (back_of kept)) o v → IfOk (without_value o) (λ alone. (v ≡ None) × Describes (run_behind leaves run) (leaving leaves (transfers.without_answer facts)) unread kept model.no_arguments)
+  tagged : (leaves : ℕ) (o : Option Value) (v : Option ℤ) → IsOptional (IsValue (around_of kept)) o v → IfOk (without_value o) (λ alone. (v ≡ None) × Describes (run_behind leaves run) (leaving leaves (transfers.without_answer facts)) unread kept model.no_arguments)
   tagged leaves None None i = (refl, behind leaves facts.position (transfers.without_answer facts) d.state.position refl refl refl refl)
   tagged leaves (Some s) v i = tt
   tagged leaves None (Some v) i = absurd i
 
   gone : (leaves : ℕ) → Tells (λ (edges : Edges) (taken : Taken). (taken.value ≡ None) × IsReached (run_behind leaves run) edges.away unread kept model.no_arguments) (known.arguments_of facts.arguments.level >>= λ taken. without_value taken.value >>= λ alone. Ok (record { on = None; away = Some (leaving leaves (transfers.without_answer facts)) })) (model.arguments_of arguments.level)
-  gone leaves = tells_then (IsTaken (fore_of kept) (back_of kept)) _ _ _ _ taking_is (λ known taken i. alone_on _ taken (tagged leaves known.value taken.value i.value)) where
+  gone leaves = tells_then (IsTaken (around_of kept)) _ _ _ _ taking_is (λ known taken i. alone_on _ taken (tagged leaves known.value taken.value i.value)) where
     alone_on : (r : Result (Unit {0}) Refusal) (taken : Taken) → IfOk r (λ alone. (taken.value ≡ None) × Describes (run_behind leaves run) (leaving leaves (transfers.without_answer facts)) unread kept model.no_arguments) → Tells (λ (edges : Edges) (taken : Taken). (taken.value ≡ None) × IsReached (run_behind leaves run) edges.away unread kept model.no_arguments) (r >>= λ alone. Ok (record { on = None; away = Some (leaving leaves (transfers.without_answer facts)) })) (Ok taken)
     alone_on (Ok u) taken h = λ l. h
     alone_on (Err why) taken h = tt
@@ -335,7 +335,7 @@ iterations_are_sound run facts unread kept arguments x whole d e =
 
 pub turns_are_sound : TurnsAreSound
 turns_are_sound run facts unread kept arguments whole d =
-    tells_then (IsTaken (fore_of kept) (back_of kept)) (λ most (taken : Taken). AreTurns (value most run.n) (fore_of kept + unread) taken.value) _ _ _ (taking_is run facts unread kept arguments whole d) (λ known taken i. turned run facts unread kept arguments whole d _ taken (turns_for run facts unread kept arguments whole d known.value taken.value i.value))
+    tells_then (IsTaken (around_of kept)) (λ most (taken : Taken). AreTurns (value most run.n) (fore_of kept + unread) taken.value) _ _ _ (taking_is run facts unread kept arguments whole d) (λ known taken i. turned run facts unread kept arguments whole d _ taken (turns_for run facts unread kept arguments whole d known.value taken.value i.value))
 
 pub tags_are_sound : TagsAreSound
 unfolding transfer

@@ -29,7 +29,7 @@ use Rattle.teco_verifier.specs.facts.Arguments as known
 use Rattle.teco_verifier.specs.facts.Arguments.{KnownTaken}
 use Rattle.teco_verifier.specs.facts.Attempt.{◌>>=◌}
 use Rattle.teco_verifier.specs.facts.Motions.{count_of}
-use Rattle.teco_verifier.specs.facts.Values.{IsWithin, IsValue}
+use Rattle.teco_verifier.specs.facts.Values.{IsWithin, IsValue, Surroundings}
 use Rattle.teco_verifier.specs.declared.values.Value.{Value}
 use Rattle.teco_verifier.specs.declared.refusal.Refusal.TheVariants as refusal
 use Rattle.teco_verifier.specs.facts.Flows.{Edges, facts_taken}
@@ -44,7 +44,7 @@ use Rattle.teco_model.specs.State.{Kept, World}
 use Rattle.teco_poly.specs.Polynomial.{Polynomial, value, number}
 use Rattle.teco_law_facts.proofs.Saved.{Widens, none_again, saved_after_are}
 use Rattle.teco_law_facts.proofs.Shapes.{falls_after, ahead_most, value-sum_of}
-use Rattle.teco_law_facts.specs.Describes.{Run, IsWhole, Holds, Describes, IsTaken, IsOptional, ArePending, fore_of, back_of}
+use Rattle.teco_law_facts.specs.Describes.{Run, IsWhole, Holds, Describes, IsTaken, IsOptional, ArePending, fore_of, back_of, around_of}
 use Rattle.teco_verifier.specs.facts.Facts.{Facts, nowhere, none_saved}
 use Rattle.teco_verifier.specs.facts.Shifts.{moving, ending, facts_behind, Foreseen, facts_answered, silent}
 use Rattle.teco_law_facts.specs.SoundElements.{Succeeds, Leads, FitsOn, Arrives}
@@ -69,7 +69,7 @@ rest_of files = by_input files.input where
 
 -- ---- what holds where pages went by
 module _ (run : Run) (facts : Facts) (u : ℕ) (kept : Kept) (h : Holds run facts u kept) where
-  pub paged_holds : (d : Distances) (ends : Bool) (held : Polynomial) (new : Kept) (v : ℕ) → length kept.registers.pairs ≡ REGISTERS → Widens ends (fore_of kept) (back_of kept) (fore_of new) (back_of new) → new.registers ≡ kept.registers → d.back ≤ new.pointer → d.fore + new.pointer ≤ length new.text → fore_of new + v ≤ fore_of kept + u → length new.text + v ≤ length kept.text + u → value held run.n ≡ value facts.held run.n + value (number 0) run.n → Holds run (facts_behind (record (moving d (Some (pos 0))) { ends = ends }) held facts) v new
+  pub paged_holds : (d : Distances) (ends : Bool) (held : Polynomial) (new : Kept) (v : ℕ) → length kept.registers.pairs ≡ REGISTERS → Widens ends (around_of kept) (around_of new) → new.registers ≡ kept.registers → d.back ≤ new.pointer → d.fore + new.pointer ≤ length new.text → fore_of new + v ≤ fore_of kept + u → length new.text + v ≤ length kept.text + u → value held run.n ≡ value facts.held run.n + value (number 0) run.n → Holds run (facts_behind (record (moving d (Some (pos 0))) { ends = ends }) held facts) v new
   paged_holds d ends held new v count wider r back fore ahead most e =
       let all : length new.text + v ≤ value held run.n = omega (arith, e, most, h.held) in record {
         position = record {
@@ -77,7 +77,7 @@ module _ (run : Run) (facts : Facts) (u : ℕ) (kept : Kept) (h : Holds run fact
           end = omega (arith, fore);
           fallen = falls_after (Some (pos 0)) facts.position.falls run.turns (fore_of kept + u) (fore_of new + v) (omega (arith, ints, ahead)) h.position.fallen;
           ahead = ahead_most (Some (pos 0)) run.n (fore_of kept + u) (fore_of new + v) held facts.position.ahead (omega (arith, ints, ahead)) h.position.ahead (omega (arith, all));
-          saved = rw r (saved_after_are ends (fore_of kept) (back_of kept) (fore_of new) (back_of new) facts.position.saved kept.registers.pairs count wider h.position.saved);
+          saved = rw r (saved_after_are ends (around_of kept) (around_of new) facts.position.saved kept.registers.pairs count wider h.position.saved);
         };
         held = all;
         registers = rw r h.registers;
@@ -122,7 +122,7 @@ module _ (run : Run) (facts : Facts) (world : World) (h : Holds run facts (unrea
           end = rw here (omega arith);
           fallen = falls_carried (fore_of (turned_world world).kept + unread_of (turned_world world)) (fore_of world.kept + unread_of world) facts.position.falls run.turns (omega arith) h.position.fallen;
           ahead = omega (arith, h.position.ahead);
-          saved = none_again (fore_of world.kept) (back_of world.kept) (fore_of (turned_world world).kept) (back_of (turned_world world).kept) facts.position.saved world.kept.registers.pairs none h.position.saved;
+          saved = none_again (around_of world.kept) (fore_of (turned_world world).kept) (back_of (turned_world world).kept) facts.position.saved world.kept.registers.pairs none h.position.saved;
         };
         held = omega (arith, h.held);
         registers = record { numbers = h.registers.numbers; texts = h.registers.texts };
@@ -142,11 +142,11 @@ module _ (run : Run) (facts : Facts) (world : World) (pending : arguments.Argume
   taking_holds : Holds run taking (unread_of world) world.kept
   taking_holds = pending_again run facts (unread_of world) world.kept d.state _
 
-  own_is : ArePending (fore_of world.kept) (back_of world.kept) taking.arguments (arguments.levels_after_taking pending)
+  own_is : ArePending (around_of world.kept) taking.arguments (arguments.levels_after_taking pending)
   own_is = taken_are run facts (unread_of world) world.kept pending whole d
 
-  settled_at : (ends : Bool) (fore back : ℕ) → Widens ends (fore_of world.kept) (back_of world.kept) fore back → ArePending fore back (known.settled facts.position.distances ends taking.arguments) (arguments.levels_after_taking pending)
-  settled_at ends fore back w = settled_are facts.position.distances ends (fore_of world.kept) (back_of world.kept) fore back (distances run facts (unread_of world) world.kept whole d.state) w taking.arguments (arguments.levels_after_taking pending) own_is
+  settled_at : (ends : Bool) (around : Surroundings) → Widens ends (around_of world.kept) around → ArePending around (known.settled facts.position.distances ends taking.arguments) (arguments.levels_after_taking pending)
+  settled_at ends around w = settled_are facts.position.distances ends (around_of world.kept) around (distances run facts (unread_of world) world.kept whole d.state) w taking.arguments (arguments.levels_after_taking pending) own_is
 
   -- a page that is turned, and what is known behind it
   abbrev page_behind : Polynomial → Facts
@@ -238,7 +238,7 @@ module _ (run : Run) (facts : Facts) (world : World) (pending : arguments.Argume
       more = λ later none c. page_again held e l.buffer later c;
     }
 
-    turning_turns : (f o : Option Value) (m v : Option ℤ) → IsOptional (IsValue (fore_of world.kept) (back_of world.kept)) f m → IsOptional (IsValue (fore_of world.kept) (back_of world.kept)) o v → FitsThen (Turns m v) (transfers.on (row.turning f o taking >>= λ known. Ok (facts_answered known)))
+    turning_turns : (f o : Option Value) (m v : Option ℤ) → IsOptional (IsValue (around_of world.kept)) f m → IsOptional (IsValue (around_of world.kept)) o v → FitsThen (Turns m v) (transfers.on (row.turning f o taking >>= λ known. Ok (facts_answered known)))
     turning_turns (Some s) (Some t) (Some v) (Some w) i j = range_turns _ v w (Editing.both_named run taking (unread_of world) world.kept whole taking_holds s t v w i.is j.is)
     turning_turns None o None v i j = counted_turns None v (λ P h. h) _ (some_known _ o v refl (of_count run taking (unread_of world) world.kept whole taking_holds o v j)) _ (value-sum_of run.n facts.held (number 0))
     turning_turns (Some s) None (Some v) None i j = counted_turns (Some v) None (λ P h. h) _ (some_known _ None None refl (of_count run taking (unread_of world) world.kept whole taking_holds None None tt)) _ (value-sum_of run.n facts.held (number 0))
@@ -259,7 +259,7 @@ module _ (run : Run) (facts : Facts) (world : World) (pending : arguments.Argume
     counted_writes m v c (Err why) h = tt
     counted_writes m v c (Ok u) h = λ l. with_output (λ p. ComesTo run facts.held world unchanged (arguments.levels_after_taking pending) p.world) _ _ out (λ q. c _ (counted_pages model.page_written (unwrap_or v (pos 1)) (λ p. ComesTo run facts.held world unchanged (arguments.levels_after_taking pending) p.world) h (λ k. with_output (λ p. ComesTo run facts.held world unchanged (arguments.levels_after_taking pending) p.world) _ _ out (λ opened. stays _ refl))))
 
-    writing_writes : (f o : Option Value) (m v : Option ℤ) → IsOptional (IsValue (fore_of world.kept) (back_of world.kept)) f m → IsOptional (IsValue (fore_of world.kept) (back_of world.kept)) o v → FitsThen (Writes m v) (transfers.on (row.writing f o taking >>= λ known. Ok (facts_answered known)))
+    writing_writes : (f o : Option Value) (m v : Option ℤ) → IsOptional (IsValue (around_of world.kept)) f m → IsOptional (IsValue (around_of world.kept)) o v → FitsThen (Writes m v) (transfers.on (row.writing f o taking >>= λ known. Ok (facts_answered known)))
     writing_writes (Some s) (Some t) (Some v) (Some w) i j = range_writes _ v w (Editing.both_named run taking (unread_of world) world.kept whole taking_holds s t v w i.is j.is)
     writing_writes None o None v i j = counted_writes None v (λ P h. h) _ (some_known _ o v refl (of_count run taking (unread_of world) world.kept whole taking_holds o v j))
     writing_writes (Some s) None (Some v) None i j = counted_writes (Some v) None (λ P h. h) _ (some_known _ None None refl (of_count run taking (unread_of world) world.kept whole taking_holds None None tt))
@@ -284,7 +284,7 @@ module _ (run : Run) (facts : Facts) (world : World) (pending : arguments.Argume
         let h = d.state in record {
           described = record {
             state = pending_again run _ _ _ (paged_holds run taking (unread_of world) world.kept taking_holds facts.position.distances false held grown_world.kept (unread_of grown_world) whole.count (λ e. omega (arith, l, whole.inside)) refl h.position.begin (omega (arith, h.position.end, whole.inside)) (omega (arith, whole.inside)) (omega arith) e) _;
-            pending = settled_at false (fore_of grown_world.kept) (back_of grown_world.kept) (λ e. omega (arith, l, whole.inside));
+            pending = settled_at false (around_of grown_world.kept) (λ e. omega (arith, l, whole.inside));
             answers = tt;
           };
           grown = omega (arith, e);
@@ -294,7 +294,7 @@ module _ (run : Run) (facts : Facts) (world : World) (pending : arguments.Argume
     ended_comes = let h = d.state in record {
       described = record {
         state = pending_again run _ _ _ (paged_holds run taking (unread_of world) world.kept taking_holds facts.position.distances false held world.kept (unread_of world) whole.count (λ e. omega arith) refl h.position.begin (omega (arith, h.position.end, whole.inside)) (omega arith) (omega arith) e) _;
-        pending = settled_at false (fore_of world.kept) (back_of world.kept) (λ e. omega arith);
+        pending = settled_at false (around_of world.kept) (λ e. omega arith);
         answers = tt;
       };
       grown = omega (arith, e);
@@ -323,12 +323,12 @@ module _ (run : Run) (facts : Facts) (world : World) (pending : arguments.Argume
   page_added (Err why) e = tt
   page_added (Ok held) e = λ l input q. with_input held e l.buffer input world.files.input refl q
 
-  appends : (o : Option Value) (v : Option ℤ) → IsOptional (IsValue (fore_of world.kept) (back_of world.kept)) o v → FitsThen (AppendsBy v) (transfers.on (row.append o taking >>= λ known. Ok (facts_answered known)))
+  appends : (o : Option Value) (v : Option ℤ) → IsOptional (IsValue (around_of world.kept)) o v → FitsThen (AppendsBy v) (transfers.on (row.append o taking >>= λ known. Ok (facts_answered known)))
   appends None None i = page_added _ (value-sum_of run.n facts.held (number 0))
   appends (Some s) (Some n) i = λ l. record {
     described = record {
       state = pending_again run taking (unread_of world) world.kept taking_holds _;
-      pending = record { level = record { first = tt; value = code_value (fore_of world.kept) (back_of world.kept) world.kept.text whole.bytes _; operator = refl }; outer = own_is.outer };
+      pending = record { level = record { first = tt; value = code_value (around_of world.kept) world.kept.text whole.bytes _; operator = refl }; outer = own_is.outer };
       answers = tt;
     };
     grown = omega arith;
@@ -337,7 +337,7 @@ module _ (run : Run) (facts : Facts) (world : World) (pending : arguments.Argume
   appends (Some s) None i = absurd i
 
   -- what is taken
-  taken_is : Covers (IsTaken (fore_of world.kept) (back_of world.kept)) (known.arguments_of facts.arguments.level) (arguments.arguments_of pending.level)
+  taken_is : Covers (IsTaken (around_of world.kept)) (known.arguments_of facts.arguments.level) (arguments.arguments_of pending.level)
   taken_is = taking_is run facts (unread_of world) world.kept pending whole d
 
 pub appends_are_sound : AppendsAreSound
@@ -345,7 +345,7 @@ unfolding transfer
 appends_are_sound run facts world pending x whole d e =
     let n = without_answer run facts (unread_of world) world.kept pending d in
     subst (λ k. Leads (FitsOn run.n) (Appends run facts.held world pending) (transfers.edges_of k x (transfers.answer_for k facts) (transfers.without_answer facts)) (arguments.arguments_of pending.level)) (sym e)
-    (taking_leads (FitsOn run.n) (Appends run facts.held world pending) (facts_taken (transfers.without_answer facts)) (λ k. row.append k.value (facts_taken (transfers.without_answer facts))) (IsTaken (fore_of world.kept) (back_of world.kept)) _ _ (taken_is run (transfers.without_answer facts) world pending whole n) (λ k t i.
+    (taking_leads (FitsOn run.n) (Appends run facts.held world pending) (facts_taken (transfers.without_answer facts)) (λ k. row.append k.value (facts_taken (transfers.without_answer facts))) (IsTaken (around_of world.kept)) _ _ (taken_is run (transfers.without_answer facts) world pending whole n) (λ k t i.
     as_leads run (transfers.without_answer facts) world pending whole n (Appends run facts.held world pending) t _ (appends run (transfers.without_answer facts) world pending whole n k.value t.value i.value)))
 
 pub page_turns_are_sound : PageTurnsAreSound
@@ -353,7 +353,7 @@ unfolding transfer
 page_turns_are_sound run facts world pending x output whole d e q =
     let n = without_answer run facts (unread_of world) world.kept pending d in
     subst (λ k. Leads (FitsOn run.n) (λ (edges : Edges) (t : Taken). TurnsPages run facts.held world pending edges t.first t.value) (transfers.edges_of k x (transfers.answer_for k facts) (transfers.without_answer facts)) (arguments.arguments_of pending.level)) (sym e)
-    (taking_leads (FitsOn run.n) (λ (edges : Edges) (t : Taken). TurnsPages run facts.held world pending edges t.first t.value) (facts_taken (transfers.without_answer facts)) (λ k. row.turning k.first k.value (facts_taken (transfers.without_answer facts))) (IsTaken (fore_of world.kept) (back_of world.kept)) _ _ (taken_is run (transfers.without_answer facts) world pending whole n) (λ k t i.
+    (taking_leads (FitsOn run.n) (λ (edges : Edges) (t : Taken). TurnsPages run facts.held world pending edges t.first t.value) (facts_taken (transfers.without_answer facts)) (λ k. row.turning k.first k.value (facts_taken (transfers.without_answer facts))) (IsTaken (around_of world.kept)) _ _ (taken_is run (transfers.without_answer facts) world pending whole n) (λ k t i.
     as_leads run (transfers.without_answer facts) world pending whole n (λ (edges : Edges) (t : Taken). TurnsPages run facts.held world pending edges t.first t.value) t _ (turning_turns run (transfers.without_answer facts) world pending whole n output q k.first k.value t.first t.value i.first i.value)))
 
 pub page_writes_are_sound : PageWritesAreSound
@@ -361,5 +361,5 @@ unfolding transfer
 page_writes_are_sound run facts world pending x output whole d e q =
     let n = without_answer run facts (unread_of world) world.kept pending d in
     subst (λ k. Leads (FitsOn run.n) (λ (edges : Edges) (t : Taken). Succeeds (λ (p : model.Progress). Comes run facts.held world (arguments.levels_after_taking pending) edges p.world) (model.pages model.page_written (record { first = t.first; value = t.value }) world)) (transfers.edges_of k x (transfers.answer_for k facts) (transfers.without_answer facts)) (arguments.arguments_of pending.level)) (sym e)
-    (taking_leads (FitsOn run.n) (λ (edges : Edges) (t : Taken). Succeeds (λ (p : model.Progress). Comes run facts.held world (arguments.levels_after_taking pending) edges p.world) (model.pages model.page_written (record { first = t.first; value = t.value }) world)) (facts_taken (transfers.without_answer facts)) (λ k. row.writing k.first k.value (facts_taken (transfers.without_answer facts))) (IsTaken (fore_of world.kept) (back_of world.kept)) _ _ (taken_is run (transfers.without_answer facts) world pending whole n) (λ k t i.
+    (taking_leads (FitsOn run.n) (λ (edges : Edges) (t : Taken). Succeeds (λ (p : model.Progress). Comes run facts.held world (arguments.levels_after_taking pending) edges p.world) (model.pages model.page_written (record { first = t.first; value = t.value }) world)) (facts_taken (transfers.without_answer facts)) (λ k. row.writing k.first k.value (facts_taken (transfers.without_answer facts))) (IsTaken (around_of world.kept)) _ _ (taken_is run (transfers.without_answer facts) world pending whole n) (λ k t i.
     as_leads run (transfers.without_answer facts) world pending whole n (λ (edges : Edges) (t : Taken). Succeeds (λ (p : model.Progress). Comes run facts.held world (arguments.levels_after_taking pending) edges p.world) (model.pages model.page_written (record { first = t.first; value = t.value }) world)) t _ (writing_writes run (transfers.without_answer facts) world pending whole n output q k.first k.value t.first t.value i.first i.value)))

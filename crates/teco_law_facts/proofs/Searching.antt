@@ -39,7 +39,7 @@ use Rattle.teco_law_facts.proofs.Transfers.{without_answer, pending_again}
 use Rattle.teco_verifier.specs.facts.Arguments as known
 use Rattle.teco_verifier.specs.facts.Arguments.{KnownTaken}
 use Rattle.teco_verifier.specs.facts.Attempt.{◌>>=◌}
-use Rattle.teco_law_facts.specs.Describes.{Run, run_behind, IsWhole, Holds, IsAt, Describes, HasFallen, IsTaken, IsOptional, ArePending, fore_of, back_of}
+use Rattle.teco_law_facts.specs.Describes.{Run, run_behind, IsWhole, Holds, IsAt, Describes, HasFallen, IsTaken, IsOptional, ArePending, fore_of, back_of, around_of}
 use Rattle.teco_verifier.specs.facts.Facts.{Position, Facts}
 use Rattle.teco_verifier.specs.facts.Flows.{Edges, leaving, facts_taken}
 use Rattle.teco_verifier.specs.facts.Motions.{count_of, success}
@@ -49,7 +49,7 @@ use Rattle.teco_law_facts.specs.SoundElements.{Succeeds, Leads, Arrives, FitsOn,
 use Rattle.teco_law_facts.specs.SoundSearches.{IsInBuffer, MissArrives, SearchArrives, SearchesAreSound, finding}
 use Rattle.teco_verifier.specs.facts.Transfer as transfers
 use Rattle.teco_verifier.specs.facts.Transfer.{Placed, transfer}
-use Rattle.teco_verifier.specs.facts.Values.{IsValue, IsWithin, value_in}
+use Rattle.teco_verifier.specs.facts.Values.{IsValue, IsWithin, value_in, Surroundings}
 use Rattle.teco_verifier.specs.declared.refusal.Refusal.{Refusal}
 use Rattle.teco_verifier.specs.declared.refusal.Refusal.TheVariants as refusal
 use Rattle.teco_verifier.specs.declared.values.Interval.{Interval}
@@ -83,12 +83,12 @@ allowed_count ReplaceInPages i value h = in_pages _ i value refl h
 
 -- ---- what a search leaves
 module _ (run : Run) (facts : Facts) (unread : ℕ) (kept : Kept) (whole : IsWhole kept) (h : Holds run facts unread kept) where
-  pub of_count : (o : Option Value) (v : Option ℤ) → IsOptional (IsValue (fore_of kept) (back_of kept)) o v → IsWithin (count_of o facts.position.distances) (unwrap_or v (pos 1))
+  pub of_count : (o : Option Value) (v : Option ℤ) → IsOptional (IsValue (around_of kept)) o v → IsWithin (count_of o facts.position.distances) (unwrap_or v (pos 1))
   of_count o v i =
       let d = distances run facts unread kept whole h in
-      interval_of_in _ facts.position.distances (fore_of kept) (back_of kept) _ d.least (omega (arith, d.within)) (omega (arith, d.within)) (or_single (fore_of kept) (back_of kept) o v (pos 1) i)
+      interval_of_in _ facts.position.distances (around_of kept) _ d.least (omega (arith, d.within)) (omega (arith, d.within)) (or_single (around_of kept) o v (pos 1) i)
 
-  pub counted : (s : Search) (f o : Option Value) (m v : Option ℤ) → IsOptional (IsValue (fore_of kept) (back_of kept)) f m → IsOptional (IsValue (fore_of kept) (back_of kept)) o v → IfOk (row.count_checked s f o facts.position.distances) (λ u. Counts m v)
+  pub counted : (s : Search) (f o : Option Value) (m v : Option ℤ) → IsOptional (IsValue (around_of kept)) f m → IsOptional (IsValue (around_of kept)) o v → IfOk (row.count_checked s f o facts.position.distances) (λ u. Counts m v)
   counted s None o None v i j = allowed_count s (count_of o facts.position.distances) v (of_count o v j)
   counted s (Some f) o m v i j = tt
   counted s None o (Some m) v i j = absurd i
@@ -117,12 +117,12 @@ module _ (run : Run) (facts : Facts) (unread : ℕ) (kept : Kept) (whole : IsWho
   failed_at_begin : IsAt run (position_after (row.shift_to_begin facts.position.distances) facts.held facts.position) (length kept.text - 0) 0 unread kept.registers.pairs
   failed_at_begin = shifted_at run facts unread kept whole h (row.shift_to_begin facts.position.distances) (record kept { pointer = 0 }) facts.held to_begin h.held
 
-  failed_in : (colons : ℕ) (last : List ℕ) → let new = kept_by_miss colons (record kept { search_text = last }) in IsAt run (row.position_failed_in colons facts) (fore_of new) (back_of new) unread new.registers.pairs
+  failed_in : (colons : ℕ) (last : List ℕ) → let new = kept_by_miss colons (record kept { search_text = last }) in IsAt run (row.position_failed_in colons facts) (around_of new) unread new.registers.pairs
   failed_in zero last = failed_at_begin
   failed_in (suc zero) last = failed_at_begin
   failed_in (suc (suc colons)) last = h.position
 
-  failed_at : (s : Search) → IsInBuffer s → (colons : ℕ) (last : List ℕ) → let new = kept_by_miss colons (record kept { search_text = last }) in IsAt run (row.position_failed s colons facts) (fore_of new) (back_of new) unread new.registers.pairs
+  failed_at : (s : Search) → IsInBuffer s → (colons : ℕ) (last : List ℕ) → let new = kept_by_miss colons (record kept { search_text = last }) in IsAt run (row.position_failed s colons facts) (around_of new) unread new.registers.pairs
   failed_at Find b colons last = failed_in colons last
   failed_at Replace b colons last = failed_in colons last
   failed_at FindInPages b colons last = absurd b
@@ -157,7 +157,7 @@ module _ (run : Run) (facts : Facts) (unread : ℕ) (kept : Kept) (whole : IsWho
 
   saved_alike : (s : Search) → IsInBuffer s → (colons : ℕ) (ends : Bool) → length (saved_after ends facts.position.saved) ≡ length (row.position_failed s colons facts).saved
   saved_alike s b colons ends =
-      let l : length facts.position.saved ≡ REGISTERS = saved_count (fore_of kept) (back_of kept) facts.position.saved kept.registers.pairs h.position.saved ∙ whole.count in
+      let l : length facts.position.saved ≡ REGISTERS = saved_count (around_of kept) facts.position.saved kept.registers.pairs h.position.saved ∙ whole.count in
       length_after ends facts.position.saved l ∙ (sym l ∙ sym (ap length (missed_saved s b colons)))
 
 -- ---- steps
@@ -184,24 +184,24 @@ module _ (run : Run) (facts : Facts) (unread : ℕ) (kept : Kept) (arguments : m
   abbrev taking : Facts
   taking = facts_taken facts
 
-  now : AreDistances facts.position.distances (fore_of kept) (back_of kept)
+  now : AreDistances facts.position.distances (around_of kept)
   now = distances run facts unread kept whole d.state
 
   taking_holds : Holds run taking unread kept
   taking_holds = pending_again run facts unread kept d.state _
 
-  taking_are : ArePending (fore_of kept) (back_of kept) taking.arguments (model.levels_after_taking arguments)
+  taking_are : ArePending (around_of kept) taking.arguments (model.levels_after_taking arguments)
   taking_are = taken_are run facts unread kept arguments whole d
 
   -- what is pending at another place
-  settled_at : (ends : Bool) (fore back : ℕ) → Widens ends (fore_of kept) (back_of kept) fore back → ArePending fore back (known.settled facts.position.distances ends taking.arguments) (model.levels_after_taking arguments)
-  settled_at ends fore back w = settled_are facts.position.distances ends (fore_of kept) (back_of kept) fore back now w taking.arguments (model.levels_after_taking arguments) taking_are
+  settled_at : (ends : Bool) (around : Surroundings) → Widens ends (around_of kept) around → ArePending around (known.settled facts.position.distances ends taking.arguments) (model.levels_after_taking arguments)
+  settled_at ends around w = settled_are facts.position.distances ends (around_of kept) around now w taking.arguments (model.levels_after_taking arguments) taking_are
 
   abbrev failed : Position
   failed = row.position_failed s x.element.colons taking
 
-  success_is : (fore back : ℕ) (v : ℤ) → negsuc 0 ≤ℤ v → v ≤ℤ pos 0 → IsValue fore back (value_in success) v
-  success_is fore back v l u = record { is = record { low = omega (arith, ints); high = omega (arith, ints) }; fits = omega (arith, ints); saved = tt }
+  success_is : (around : Surroundings) (v : ℤ) → negsuc 0 ≤ℤ v → v ≤ℤ pos 0 → IsValue around (value_in success) v
+  success_is around v l u = record { is = record { low = omega (arith, ints); high = omega (arith, ints) }; form = refl; fits = omega (arith, ints); saved = tt }
 
   module _ (least : ℕ) (held : Polynomial) (more : value held run.n ≡ value facts.held run.n + value (row.shift_found s least (length x.element.second) facts.position.distances).growth run.n) where
     abbrev shift : Shift
@@ -217,13 +217,13 @@ module _ (run : Run) (facts : Facts) (unread : ℕ) (kept : Kept) (arguments : m
     answered position = record found { arguments = known.levels_after_answer (Some (value_in success)) found.arguments; answer = Some (record { found = found.position; failed = failed }); position = position }
 
     found_arrives : (new : Kept) → Shifts run.n shift kept new → Arrives run facts.held unread kept found (after new (model.levels_after_taking arguments))
-    found_arrives new sh = record { described = record { state = found_holds new sh; pending = settled_at shift.ends (fore_of new) (back_of new) sh.wider; answers = tt }; grown = omega (arith, more, sh.grown) }
+    found_arrives new sh = record { described = record { state = found_holds new sh; pending = settled_at shift.ends (around_of new) sh.wider; answers = tt }; grown = omega (arith, more, sh.grown) }
 
     found_answers : (position : Position) → IsJoin run found.position failed position → (new : Kept) → Shifts run.n shift kept new → Arrives run facts.held unread kept (answered position) (after new (model.levels_after_answer (Some (negsuc 0)) (model.levels_after_taking arguments)))
     found_answers position j new sh = let h = found_holds new sh in record {
       described = record {
-        state = record { position = j.left (fore_of new) (back_of new) unread new.registers.pairs h.position; held = h.held; registers = h.registers; pushed = h.pushed };
-        pending = record { level = record { first = tt; value = success_is (fore_of new) (back_of new) (negsuc 0) (omega (arith, ints)) (omega (arith, ints)); operator = refl }; outer = (settled_at shift.ends (fore_of new) (back_of new) sh.wider).outer };
+        state = record { position = j.left (around_of new) unread new.registers.pairs h.position; held = h.held; registers = h.registers; pushed = h.pushed };
+        pending = record { level = record { first = tt; value = success_is (around_of new) (negsuc 0) (omega (arith, ints)) (omega (arith, ints)); operator = refl }; outer = (settled_at shift.ends (around_of new) sh.wider).outer };
         answers = (negsuc 0, refl, record { either = inl refl; found = λ e. h.position; failed = λ e. absurd (cc) });
       };
       grown = omega (arith, more, sh.grown);
@@ -247,8 +247,8 @@ module _ (run : Run) (facts : Facts) (unread : ℕ) (kept : Kept) (arguments : m
         let i = failed_at run taking unread kept whole taking_holds s inside_buffer x.element.colons last in
         let text : length new.text ≡ length kept.text = ap length (missed_text x.element.colons last) in record {
           described = record {
-            state = record { position = j.right (fore_of new) (back_of new) unread new.registers.pairs i; held = omega (arith, text, more, h.held); registers = rw (missed_registers x.element.colons last) (record { numbers = h.registers.numbers; texts = h.registers.texts }); pushed = rw (missed_registers x.element.colons last) h.pushed };
-            pending = record { level = record { first = tt; value = success_is (fore_of new) (back_of new) (pos 0) (omega (arith, ints)) (omega (arith, ints)); operator = refl }; outer = (settled_at shift.ends (fore_of new) (back_of new) (λ e. missed_wider run taking unread kept whole taking_holds x.element.colons last)).outer };
+            state = record { position = j.right (around_of new) unread new.registers.pairs i; held = omega (arith, text, more, h.held); registers = rw (missed_registers x.element.colons last) (record { numbers = h.registers.numbers; texts = h.registers.texts }); pushed = rw (missed_registers x.element.colons last) h.pushed };
+            pending = record { level = record { first = tt; value = success_is (around_of new) (pos 0) (omega (arith, ints)) (omega (arith, ints)); operator = refl }; outer = (settled_at shift.ends (around_of new) (λ e. missed_wider run taking unread kept whole taking_holds x.element.colons last)).outer };
             answers = (pos 0, refl, record { either = inr refl; found = λ e. absurd (cc); failed = λ e. i });
           };
           grown = omega (arith, text, more);
@@ -311,7 +311,7 @@ module _ (run : Run) (facts : Facts) (unread : ℕ) (kept : Kept) (arguments : m
   allowed_first (Ok u) z c h = h
   allowed_first (Err why) z c h = tt
 
-  at_search : (r : Result KnownTaken Refusal) (c : Result Taken Code) → Covers (IsTaken (fore_of kept) (back_of kept)) r c → Leads (FitsOn run.n) (SearchArrives run facts.held unread kept arguments x) ((r >>= λ known. row.count_checked s known.first known.value facts.position.distances >>= λ u. Ok taking) >>= λ taken. transfers.search_allowed x.inside x.colon >>= λ allowed. row.facts_found s x.element taken >>= λ found. transfers.search_outcomes x.colon found (row.facts_failed s x.element.colons taken)) (c >>>= λ t. searching.search s x.element t kept)
+  at_search : (r : Result KnownTaken Refusal) (c : Result Taken Code) → Covers (IsTaken (around_of kept)) r c → Leads (FitsOn run.n) (SearchArrives run facts.held unread kept arguments x) ((r >>= λ known. row.count_checked s known.first known.value facts.position.distances >>= λ u. Ok taking) >>= λ taken. transfers.search_allowed x.inside x.colon >>= λ allowed. row.facts_found s x.element taken >>= λ found. transfers.search_outcomes x.colon found (row.facts_failed s x.element.colons taken)) (c >>>= λ t. searching.search s x.element t kept)
   at_search (Err why) c h = tt
   at_search (Ok k) (Err c) h = absurd h
   at_search (Ok k) (Ok t) h = by_count _ (counted run facts unread kept whole d.state s k.first k.value t.first t.value h.first h.value) where
@@ -324,4 +324,4 @@ unfolding transfer
 searches_are_sound run facts unread kept arguments x s whole d e b c =
     let n = without_answer run facts unread kept arguments d in
     subst (λ k. Leads (FitsOn run.n) (SearchArrives run facts.held unread kept arguments x) (transfers.edges_of k x (transfers.answer_for k facts) (transfers.without_answer facts)) (finding s x.element kept arguments)) (sym e)
-    (at_search run (transfers.without_answer facts) unread kept arguments whole n s b x c _ _ (taken_covers facts.position.distances (fore_of kept) (back_of kept) (distances run facts unread kept whole d.state) facts.arguments.level arguments.level d.pending.level))
+    (at_search run (transfers.without_answer facts) unread kept arguments whole n s b x c _ _ (taken_covers facts.position.distances (around_of kept) (distances run facts unread kept whole d.state) facts.arguments.level arguments.level d.pending.level))

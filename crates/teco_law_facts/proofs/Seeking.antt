@@ -42,7 +42,7 @@ use Rattle.teco_law_facts.proofs.Transfers.{without_answer}
 use Rattle.teco_verifier.specs.facts.Arguments as known
 use Rattle.teco_verifier.specs.facts.Arguments.{KnownTaken}
 use Rattle.teco_verifier.specs.facts.Attempt.{◌>>=◌}
-use Rattle.teco_law_facts.specs.Describes.{AreSaved, Run, run_behind, IsWhole, Holds, IsAt, Describes, HasFallen, IsTaken, ArePending, fore_of, back_of}
+use Rattle.teco_law_facts.specs.Describes.{AreSaved, Run, run_behind, IsWhole, Holds, IsAt, Describes, HasFallen, IsTaken, ArePending, fore_of, back_of, around_of}
 use Rattle.teco_verifier.specs.facts.Facts.{none_saved, Position, Facts}
 use Rattle.teco_verifier.specs.facts.Flows.{Edges, leaving, facts_taken}
 use Rattle.teco_verifier.specs.facts.Motions.{success}
@@ -54,7 +54,7 @@ use Rattle.teco_law_facts.specs.SoundPages.{ComesTo, Comes}
 use Rattle.teco_law_facts.specs.SoundSeeking.{IsInPages, facts_seeking, IsSeeking, MissComes, LooksOn, Seeks, PageSearchesAreSound, SearchStepsAreBounded}
 use Rattle.teco_verifier.specs.facts.Transfer as transfers
 use Rattle.teco_verifier.specs.facts.Transfer.{Placed, transfer}
-use Rattle.teco_verifier.specs.facts.Values.{IsValue, value_in}
+use Rattle.teco_verifier.specs.facts.Values.{IsValue, value_in, Surroundings}
 use Rattle.teco_verifier.specs.declared.refusal.Refusal.{Refusal}
 use Rattle.teco_verifier.specs.declared.values.Distances.{Distances}
 
@@ -137,20 +137,20 @@ module _ (run : Run) (facts : Facts) (world : World) (pending : model.Arguments)
   Seeking now = IsSeeking run seeking world pending x.element.text now
 
   -- what is pending at any place
-  anywhere : (fore back : ℕ) → ArePending fore back seeking.arguments (model.levels_after_taking pending)
-  anywhere fore back = settled_are facts.position.distances true (fore_of world.kept) (back_of world.kept) fore back (distances run facts (unread_of world) world.kept whole d.state) (λ e. absurd (cc)) (facts_taken facts).arguments (model.levels_after_taking pending) (taken_are run facts (unread_of world) world.kept pending whole d)
+  anywhere : (around : Surroundings) → ArePending around seeking.arguments (model.levels_after_taking pending)
+  anywhere around = settled_are facts.position.distances true (around_of world.kept) around (distances run facts (unread_of world) world.kept whole d.state) (λ e. absurd (cc)) (facts_taken facts).arguments (model.levels_after_taking pending) (taken_are run facts (unread_of world) world.kept pending whole d)
 
   seeks_first : (output : Output) → world.files.output ≡ Some output → ((kept : Kept) → searching.search_text_of x.element.text kept ≡ x.element.text) → Seeking (paging.world_seeking x.element.text world)
   seeks_first output out own = let h = d.state in record {
     comes = record {
       described = record {
         state = record {
-          position = record { begin = omega arith; end = omega arith; fallen = h.position.fallen; ahead = h.position.ahead; saved = none_are (fore_of world.kept) (back_of world.kept) world.kept.registers.pairs whole.count };
+          position = record { begin = omega arith; end = omega arith; fallen = h.position.fallen; ahead = h.position.ahead; saved = none_are (around_of world.kept) world.kept.registers.pairs whole.count };
           held = h.held;
           registers = record { numbers = h.registers.numbers; texts = h.registers.texts };
           pushed = h.pushed;
         };
-        pending = anywhere (fore_of world.kept) (back_of world.kept);
+        pending = anywhere (around_of world.kept);
         answers = tt;
       };
       grown = omega arith;
@@ -183,8 +183,8 @@ module _ (run : Run) (facts : Facts) (world : World) (pending : model.Arguments)
       let l : length (behind_form_feed (unread now.files)) + 1 ≤ length (unread now.files) = rw e (page_shorter c bytes) in
       omega arith
 
-  success_is : (fore back : ℕ) (v : ℤ) → negsuc 0 ≤ℤ v → v ≤ℤ pos 0 → IsValue fore back (value_in success) v
-  success_is fore back v l u = record { is = record { low = omega (arith, ints); high = omega (arith, ints) }; fits = omega (arith, ints); saved = tt }
+  success_is : (around : Surroundings) (v : ℤ) → negsuc 0 ≤ℤ v → v ≤ℤ pos 0 → IsValue around (value_in success) v
+  success_is around v l u = record { is = record { low = omega (arith, ints); high = omega (arith, ints) }; form = refl; fits = omega (arith, ints); saved = tt }
 
   module _ (s : Search) (in_pages : IsInPages s) where
     -- ---- where no page is left, the buffer is empty
@@ -202,7 +202,7 @@ module _ (run : Run) (facts : Facts) (world : World) (pending : model.Arguments)
         end = omega arith;
         fallen = falls_after None facts.position.falls run.turns (fore_of now.kept + unread_of now) (0 + u) tt h.position.fallen;
         ahead = omega (arith, h.held, l);
-        saved = none_again (fore_of now.kept) (back_of now.kept) 0 0 none_saved now.kept.registers.pairs refl h.position.saved;
+        saved = none_again (around_of now.kept) 0 0 none_saved now.kept.registers.pairs refl h.position.saved;
       }
 
       by_search : (s : Search) → IsInPages s → IsAt run (row.position_failed s x.element.colons (facts_taken facts)) 0 0 u now.kept.registers.pairs
@@ -223,7 +223,7 @@ module _ (run : Run) (facts : Facts) (world : World) (pending : model.Arguments)
     saved_alike : (ends : Bool) → length (saved_after ends facts.position.saved) ≡ length failed.saved
     saved_alike ends = by_search s in_pages where
       all : length facts.position.saved ≡ REGISTERS
-      all = saved_count (fore_of world.kept) (back_of world.kept) facts.position.saved world.kept.registers.pairs d.state.position.saved ∙ whole.count
+      all = saved_count (around_of world.kept) facts.position.saved world.kept.registers.pairs d.state.position.saved ∙ whole.count
 
       by_search : (s : Search) → IsInPages s → length (saved_after ends facts.position.saved) ≡ length (row.position_failed s x.element.colons (facts_taken facts)).saved
       by_search FindInPages b = length_after ends facts.position.saved all ∙ sym (length_after true facts.position.saved all)
@@ -252,11 +252,11 @@ module _ (run : Run) (facts : Facts) (world : World) (pending : model.Arguments)
       ends : shift.ends ≡ true
       ends = ends_found least (length x.element.second) facts.position.distances
 
-      found_are : (fore back : ℕ) → ArePending fore back found.arguments (model.levels_after_taking pending)
-      found_are fore back = subst (λ ends. ArePending fore back (known.settled facts.position.distances ends (facts_taken facts).arguments) (model.levels_after_taking pending)) (sym ends) (anywhere fore back)
+      found_are : (around : Surroundings) → ArePending around found.arguments (model.levels_after_taking pending)
+      found_are around = subst (λ ends. ArePending around (known.settled facts.position.distances ends (facts_taken facts).arguments) (model.levels_after_taking pending)) (sym ends) (anywhere around)
 
-      answer_is : (fore back : ℕ) (v : ℤ) → negsuc 0 ≤ℤ v → v ≤ℤ pos 0 → ArePending fore back (known.levels_after_answer (Some (value_in success)) found.arguments) (model.levels_after_answer (Some v) (model.levels_after_taking pending))
-      answer_is fore back v l u = record { level = record { first = tt; value = success_is fore back v l u; operator = refl }; outer = (found_are fore back).outer }
+      answer_is : (around : Surroundings) (v : ℤ) → negsuc 0 ≤ℤ v → v ≤ℤ pos 0 → ArePending around (known.levels_after_answer (Some (value_in success)) found.arguments) (model.levels_after_answer (Some v) (model.levels_after_taking pending))
+      answer_is around v l u = record { level = record { first = tt; value = success_is around v l u; operator = refl }; outer = (found_are around).outer }
 
       found_holds : (now : World) → Seeking now → (new : Kept) → Shifts run.n shift now.kept new → Holds run found (unread_of now) new
       found_holds now k new sh =
@@ -268,7 +268,7 @@ module _ (run : Run) (facts : Facts) (world : World) (pending : model.Arguments)
               end = omega (arith, sh.ahead);
               fallen = falls_after shift.fall facts.position.falls run.turns (fore_of now.kept + unread_of now) (fore_of new + unread_of now) fell h.position.fallen;
               ahead = ahead_most shift.fall run.n (fore_of now.kept + unread_of now) (fore_of new + unread_of now) held facts.position.ahead fell h.position.ahead (omega (arith, all));
-              saved = rw sh.registers (subst (λ ends. AreSaved (fore_of new) (back_of new) (saved_after ends facts.position.saved) now.kept.registers.pairs) (sym ends) (none_again (fore_of now.kept) (back_of now.kept) (fore_of new) (back_of new) none_saved now.kept.registers.pairs refl h.position.saved));
+              saved = rw sh.registers (subst (λ ends. AreSaved (around_of new) (saved_after ends facts.position.saved) now.kept.registers.pairs) (sym ends) (none_again (around_of now.kept) (around_of new) none_saved now.kept.registers.pairs refl h.position.saved));
             };
             held = all;
             registers = rw sh.registers (record { numbers = h.registers.numbers; texts = h.registers.texts });
@@ -278,15 +278,15 @@ module _ (run : Run) (facts : Facts) (world : World) (pending : model.Arguments)
       -- what is known where it found
       found_comes : (now : World) → Seeking now → (new : Kept) → Shifts run.n shift now.kept new → ComesTo run facts.held world found (model.levels_after_taking pending) (record now { kept = new })
       found_comes now k new sh = record {
-        described = record { state = found_holds now k new sh; pending = found_are (fore_of new) (back_of new); answers = tt };
+        described = record { state = found_holds now k new sh; pending = found_are (around_of new); answers = tt };
         grown = omega (arith, more, sh.grown, k.comes.grown);
       }
 
       found_answers : (position : Position) → IsJoin run found.position failed position → (now : World) → Seeking now → (new : Kept) → Shifts run.n shift now.kept new → ComesTo run facts.held world (answered position) (model.levels_after_answer (Some (negsuc 0)) (model.levels_after_taking pending)) (record now { kept = new })
       found_answers position j now k new sh = let h = found_holds now k new sh in record {
         described = record {
-          state = record { position = j.left (fore_of new) (back_of new) (unread_of now) new.registers.pairs h.position; held = h.held; registers = record { numbers = h.registers.numbers; texts = h.registers.texts }; pushed = h.pushed };
-          pending = answer_is (fore_of new) (back_of new) (negsuc 0) (omega (arith, ints)) (omega (arith, ints));
+          state = record { position = j.left (around_of new) (unread_of now) new.registers.pairs h.position; held = h.held; registers = record { numbers = h.registers.numbers; texts = h.registers.texts }; pushed = h.pushed };
+          pending = answer_is (around_of new) (negsuc 0) (omega (arith, ints)) (omega (arith, ints));
           answers = (negsuc 0, refl, record { either = inl refl; found = λ e. h.position; failed = λ e. absurd (cc) });
         };
         grown = omega (arith, more, sh.grown, k.comes.grown);
@@ -388,7 +388,7 @@ module _ (run : Run) (facts : Facts) (world : World) (pending : model.Arguments)
         always_ok (Ok u) = tt
         always_ok (Err why) = tt
 
-    taken_seek : (output : Output) → world.files.output ≡ Some output → (r : Result KnownTaken Refusal) (c : Result Taken Code) → Covers (IsTaken (fore_of world.kept) (back_of world.kept)) r c → Leads (FitsOn run.n) (Seeks run seeking world pending x s) ((r >>= λ k. row.count_checked s k.first k.value facts.position.distances >>= λ u. Ok (facts_taken facts)) >>= λ taken. transfers.search_allowed x.inside x.colon >>= λ allowed. row.facts_found s x.element taken >>= λ found. transfers.search_outcomes x.colon found (row.facts_failed s x.element.colons taken)) c
+    taken_seek : (output : Output) → world.files.output ≡ Some output → (r : Result KnownTaken Refusal) (c : Result Taken Code) → Covers (IsTaken (around_of world.kept)) r c → Leads (FitsOn run.n) (Seeks run seeking world pending x s) ((r >>= λ k. row.count_checked s k.first k.value facts.position.distances >>= λ u. Ok (facts_taken facts)) >>= λ taken. transfers.search_allowed x.inside x.colon >>= λ allowed. row.facts_found s x.element taken >>= λ found. transfers.search_outcomes x.colon found (row.facts_failed s x.element.colons taken)) c
     taken_seek output out (Err why) c h = tt
     taken_seek output out (Ok k) (Err c) h = absurd h
     taken_seek output out (Ok k) (Ok t) h = as_leads _ (counted_seek output out t _ (counted run facts (unread_of world) world.kept whole d.state s k.first k.value t.first t.value h.first h.value)) where

@@ -38,7 +38,7 @@ use Rattle.teco_law_facts.proofs.Leading.{covers_leads, leads_on}
 use Rattle.teco_verifier.specs.facts.Arguments as known
 use Rattle.teco_verifier.specs.facts.Arguments.{KnownLevel, KnownArguments, KnownTaken}
 use Rattle.teco_verifier.specs.facts.Attempt.{◌>>=◌}
-use Rattle.teco_law_facts.specs.Describes.{Run, IsWhole, Holds, Describes, ArePushed, IsLevel, IsTaken, IsOptional, ArePending, fore_of, back_of}
+use Rattle.teco_law_facts.specs.Describes.{Run, IsWhole, Holds, Describes, ArePushed, IsLevel, IsTaken, IsOptional, ArePending, fore_of, back_of, around_of}
 use Rattle.teco_verifier.specs.facts.Facts.{Facts, Pushed, with_arguments}
 use Rattle.teco_verifier.specs.facts.Queries as row
 use Rattle.teco_verifier.specs.facts.Shifts.{Foreseen, facts_answered, facts_behind}
@@ -46,7 +46,7 @@ use Rattle.teco_law_facts.specs.SoundElements.{Leads, Fits, Arrives, FitsOn, Arr
 use Rattle.teco_verifier.specs.facts.Storages as storages
 use Rattle.teco_verifier.specs.facts.Transfer as transfers
 use Rattle.teco_verifier.specs.facts.Transfer.{Placed, transfer}
-use Rattle.teco_verifier.specs.facts.Values.{single, value_in, size, IsValue, any_number}
+use Rattle.teco_verifier.specs.facts.Values.{single, value_in, size, IsValue, any_number, Surroundings}
 use Rattle.teco_verifier.specs.declared.refusal.Refusal.{Refusal}
 use Rattle.teco_verifier.specs.declared.refusal.Refusal.TheVariants as refusal
 use Rattle.teco_verifier.specs.declared.values.Value.{Value}
@@ -70,41 +70,41 @@ pub without_answer : (run : Run) (facts : Facts) (unread : ℕ) (kept : Kept) (a
 without_answer run facts unread kept arguments d = let h = d.state in record { state = record { position = h.position; held = h.held; registers = h.registers; pushed = h.pushed }; pending = d.pending; answers = tt }
 
 module _ (run : Run) (facts : Facts) (unread : ℕ) (kept : Kept) (arguments : model.Arguments) (whole : IsWhole kept) (d : Describes run facts unread kept arguments) where
-  now : AreDistances facts.position.distances (fore_of kept) (back_of kept)
+  now : AreDistances facts.position.distances (around_of kept)
   now = distances run facts unread kept whole d.state
 
   -- ---- elements that change the arguments alone
-  keeps : (x : Result KnownArguments Refusal) (y : Result model.Arguments Code) → Covers (ArePending (fore_of kept) (back_of kept)) x y → Leads (Fits run.n) (Arrives run facts.held unread kept) (transfers.facts_after_levels x facts) (y >>>= λ levels. Ok (after kept levels))
-  keeps x y c = covers_leads (ArePending (fore_of kept) (back_of kept)) (Fits run.n) (Arrives run facts.held unread kept) x y _ _ c (λ p q i l. record { described = record { state = pending_again run facts unread kept d.state p; pending = i; answers = tt }; grown = omega arith })
+  keeps : (x : Result KnownArguments Refusal) (y : Result model.Arguments Code) → Covers (ArePending (around_of kept)) x y → Leads (Fits run.n) (Arrives run facts.held unread kept) (transfers.facts_after_levels x facts) (y >>>= λ levels. Ok (after kept levels))
+  keeps x y c = covers_leads (ArePending (around_of kept)) (Fits run.n) (Arrives run facts.held unread kept) x y _ _ c (λ p q i l. record { described = record { state = pending_again run facts unread kept d.state p; pending = i; answers = tt }; grown = omega arith })
 
-  levels_keep : (x : Result KnownLevel Refusal) (y : Result Level Code) → Covers (IsLevel (fore_of kept) (back_of kept)) x y → Covers (ArePending (fore_of kept) (back_of kept)) (known.with_level facts.arguments x) (model.with_level arguments y)
-  levels_keep x y c = at_level_covers facts.position.distances (fore_of kept) (back_of kept) now facts.arguments arguments x y d.pending c
+  levels_keep : (x : Result KnownLevel Refusal) (y : Result Level Code) → Covers (IsLevel (around_of kept)) x y → Covers (ArePending (around_of kept)) (known.with_level facts.arguments x) (model.with_level arguments y)
+  levels_keep x y c = at_level_covers facts.position.distances (around_of kept) now facts.arguments arguments x y d.pending c
 
-  argued : (a : Argument) (text : List ℕ) → Covers (ArePending (fore_of kept) (back_of kept)) (transfers.levels_after a text facts.position.distances facts.arguments) (step.levels_after a text arguments)
-  argued DropAll text = nothing_is facts.position.distances (fore_of kept) (back_of kept) now
-  argued Digits text = levels_keep _ _ (give_covers facts.position.distances (fore_of kept) (back_of kept) now _ _ facts.arguments.level arguments.level (single_in facts.position.distances (fore_of kept) (back_of kept) now _ (SFits-int_wrap w32 _)) d.pending.level)
-  argued (Operate operator) text = levels_keep _ _ (operate_covers facts.position.distances (fore_of kept) (back_of kept) now operator facts.arguments.level arguments.level d.pending.level)
-  argued Open text = opened_is facts.position.distances (fore_of kept) (back_of kept) now facts.arguments arguments d.pending
-  argued Close text = closed_covers facts.position.distances (fore_of kept) (back_of kept) now facts.arguments.level arguments.level facts.arguments.outer arguments.outer d.pending.level d.pending.outer
-  argued Comma text = levels_keep _ _ (comma_covers facts.position.distances (fore_of kept) (back_of kept) now facts.arguments.level arguments.level d.pending.level)
+  argued : (a : Argument) (text : List ℕ) → Covers (ArePending (around_of kept)) (transfers.levels_after a text facts.position.distances facts.arguments) (step.levels_after a text arguments)
+  argued DropAll text = nothing_is facts.position.distances (around_of kept) now
+  argued Digits text = levels_keep _ _ (give_covers facts.position.distances (around_of kept) now _ _ facts.arguments.level arguments.level (single_in facts.position.distances (around_of kept) now _ (SFits-int_wrap w32 _)) d.pending.level)
+  argued (Operate operator) text = levels_keep _ _ (operate_covers facts.position.distances (around_of kept) now operator facts.arguments.level arguments.level d.pending.level)
+  argued Open text = opened_is facts.position.distances (around_of kept) now facts.arguments arguments d.pending
+  argued Close text = closed_covers facts.position.distances (around_of kept) now facts.arguments.level arguments.level facts.arguments.outer arguments.outer d.pending.level d.pending.outer
+  argued Comma text = levels_keep _ _ (comma_covers facts.position.distances (around_of kept) now facts.arguments.level arguments.level d.pending.level)
 
-  gives : (s : Value) (v : ℤ) → IsValue (fore_of kept) (back_of kept) s v → Covers (IsLevel (fore_of kept) (back_of kept)) (known.level_with facts.position.distances s facts.arguments.level) (model.level_with v arguments.level)
-  gives s v i = give_covers facts.position.distances (fore_of kept) (back_of kept) now s v facts.arguments.level arguments.level i d.pending.level
+  gives : (s : Value) (v : ℤ) → IsValue (around_of kept) s v → Covers (IsLevel (around_of kept)) (known.level_with facts.position.distances s facts.arguments.level) (model.level_with v arguments.level)
+  gives s v i = give_covers facts.position.distances (around_of kept) now s v facts.arguments.level arguments.level i d.pending.level
 
-  zero_is : IsValue (fore_of kept) (back_of kept) (single (pos 0)) (pos 0)
-  zero_is = single_in facts.position.distances (fore_of kept) (back_of kept) now (pos 0) (omega (arith, ints))
+  zero_is : IsValue (around_of kept) (single (pos 0)) (pos 0)
+  zero_is = single_in facts.position.distances (around_of kept) now (pos 0) (omega (arith, ints))
 
-  size_is : IsValue (fore_of kept) (back_of kept) size (pos (length kept.text))
-  size_is = record { is = size_in run facts unread kept whole d.state; fits = omega (arith, ints, whole.within); saved = tt }
+  size_is : IsValue (around_of kept) size (pos (length kept.text))
+  size_is = record { is = size_in run facts unread kept whole d.state; form = refl; fits = omega (arith, ints, whole.within); saved = tt }
 
-  last_is : IsValue (fore_of kept) (back_of kept) (value_in transfers.last_length) (neg_ℤ (pos kept.last_length))
-  last_is = interval_value _ _ _ _ (record { low = omega (arith, ints, whole.last); high = omega (arith, ints) }) (omega (arith, ints, whole.last))
+  last_is : IsValue (around_of kept) (value_in transfers.last_length) (neg_ℤ (pos kept.last_length))
+  last_is = interval_value _ _ _ (record { low = omega (arith, ints, whole.last); high = omega (arith, ints) }) (omega (arith, ints, whole.last))
 
-  valued : (v : Given) → Covers (IsLevel (fore_of kept) (back_of kept)) (transfers.level_with_value v facts.position.distances facts.arguments.level) (step.level_with_value v kept arguments.level)
+  valued : (v : Given) → Covers (IsLevel (around_of kept)) (transfers.level_with_value v facts.position.distances facts.arguments.level) (step.level_with_value v kept arguments.level)
   valued Begin = gives _ _ zero_is
   valued Size = gives _ _ size_is
-  valued Pointer = gives _ _ (record { is = pointer_in run facts unread kept whole d.state; fits = omega (arith, ints, whole.within, whole.inside); saved = tt })
-  valued Whole = give_both_covers facts.position.distances (fore_of kept) (back_of kept) now _ _ _ _ facts.arguments.level arguments.level zero_is size_is d.pending.level
+  valued Pointer = gives _ _ (record { is = pointer_in run facts unread kept whole d.state; form = refl; fits = omega (arith, ints, whole.within, whole.inside); saved = tt })
+  valued Whole = give_both_covers facts.position.distances (around_of kept) now _ _ _ _ facts.arguments.level arguments.level zero_is size_is d.pending.level
   valued LastLength = gives _ _ last_is
   valued LastText = tt
 
@@ -115,31 +115,31 @@ module _ (run : Run) (facts : Facts) (unread : ℕ) (kept : Kept) (arguments : m
   taking_holds : Holds run taking unread kept
   taking_holds = pending_again run facts unread kept d.state _
 
-  taking_are : ArePending (fore_of kept) (back_of kept) taking.arguments (model.levels_after_taking arguments)
-  taking_are = record { level = empty_is facts.position.distances (fore_of kept) (back_of kept) now; outer = d.pending.outer }
+  taking_are : ArePending (around_of kept) taking.arguments (model.levels_after_taking arguments)
+  taking_are = record { level = empty_is facts.position.distances (around_of kept) now; outer = d.pending.outer }
 
-  answered_are : (fore back : ℕ) (o : Option Value) (v : Option ℤ) (pending : KnownArguments) (left : model.Arguments) → IsOptional (IsValue fore back) o v → ArePending fore back pending left → ArePending fore back (known.levels_after_answer o pending) (model.levels_after_answer v left)
-  answered_are fore back None None pending left i p = p
-  answered_are fore back (Some s) (Some v) pending left i p = record { level = record { first = tt; value = i; operator = refl }; outer = p.outer }
-  answered_are fore back None (Some v) pending left i p = absurd i
-  answered_are fore back (Some s) None pending left i p = absurd i
+  answered_are : (around : Surroundings) (o : Option Value) (v : Option ℤ) (pending : KnownArguments) (left : model.Arguments) → IsOptional (IsValue around) o v → ArePending around pending left → ArePending around (known.levels_after_answer o pending) (model.levels_after_answer v left)
+  answered_are around None None pending left i p = p
+  answered_are around (Some s) (Some v) pending left i p = record { level = record { first = tt; value = i; operator = refl }; outer = p.outer }
+  answered_are around None (Some v) pending left i p = absurd i
+  answered_are around (Some s) None pending left i p = absurd i
 
   arrived : (foreseen : Foreseen) (effect : Effect) → IsDone run taking unread kept foreseen effect → Arrives run facts.held unread kept (facts_answered foreseen) (after effect.kept (model.levels_after_answer effect.answer (model.levels_after_taking arguments)))
   arrived foreseen effect i = record {
     described = record {
       state = pending_again run foreseen.facts unread effect.kept i.state _;
-      pending = answered_are (fore_of effect.kept) (back_of effect.kept) foreseen.answer effect.answer foreseen.facts.arguments (model.levels_after_taking arguments) i.answer (i.pending (model.levels_after_taking arguments) taking_are);
+      pending = answered_are (around_of effect.kept) foreseen.answer effect.answer foreseen.facts.arguments (model.levels_after_taking arguments) i.answer (i.pending (model.levels_after_taking arguments) taking_are);
       answers = tt;
     };
     grown = i.grown;
   }
 
-  pub takes_and_acts : (act : KnownTaken → Facts → Result Foreseen Refusal) (does : Taken → Result Effect Code) → ((known : KnownTaken) (taken : Taken) → IsTaken (fore_of kept) (back_of kept) known taken → Foretells run taking unread kept (act known taking) (does taken)) → Leads (Fits run.n) (Arrives run facts.held unread kept) (transfers.after_taking act facts) (model.arguments_of arguments.level >>>= λ taken. does taken >>>= λ effect. Ok (after effect.kept (model.levels_after_answer effect.answer (model.levels_after_taking arguments))))
+  pub takes_and_acts : (act : KnownTaken → Facts → Result Foreseen Refusal) (does : Taken → Result Effect Code) → ((known : KnownTaken) (taken : Taken) → IsTaken (around_of kept) known taken → Foretells run taking unread kept (act known taking) (does taken)) → Leads (Fits run.n) (Arrives run facts.held unread kept) (transfers.after_taking act facts) (model.arguments_of arguments.level >>>= λ taken. does taken >>>= λ effect. Ok (after effect.kept (model.levels_after_answer effect.answer (model.levels_after_taking arguments))))
   takes_and_acts act does f =
-      covers_leads (IsTaken (fore_of kept) (back_of kept)) (Fits run.n) (Arrives run facts.held unread kept) _ _ _ _ (taken_covers facts.position.distances (fore_of kept) (back_of kept) now facts.arguments.level arguments.level d.pending.level) (λ known taken i.
+      covers_leads (IsTaken (around_of kept)) (Fits run.n) (Arrives run facts.held unread kept) _ _ _ _ (taken_covers facts.position.distances (around_of kept) now facts.arguments.level arguments.level d.pending.level) (λ known taken i.
       leads_on (λ (f : Foreseen). Fits run.n f.facts) (IsDone run taking unread kept) (Fits run.n) (Arrives run facts.held unread kept) _ _ facts_answered _ (λ f l. record { buffer = l.buffer; texts = l.texts }) arrived (f known taken i))
 
-  executed : (c : Command) (x : Placed) (known : KnownTaken) (taken : Taken) → IsNamedByCommand c → IsTaken (fore_of kept) (back_of kept) known taken → Foretells run taking unread kept (transfers.execution c x known taking) (step.execution c x.element taken kept)
+  executed : (c : Command) (x : Placed) (known : KnownTaken) (taken : Taken) → IsNamedByCommand c → IsTaken (around_of kept) known taken → Foretells run taking unread kept (transfers.execution c x known taking) (step.execution c x.element taken kept)
   executed (command.Motion m) x known taken w i = motion_foretold run taking unread kept whole taking_holds m x.element known taken i
   executed (command.Deletion u) x known taken w i = deletion_foretold run taking unread kept whole taking_holds u known taken i
   executed (command.Insertion t) x known taken w i = insertion_foretold run taking unread kept whole taking_holds t x.element known taken i
@@ -147,17 +147,17 @@ module _ (run : Run) (facts : Facts) (unread : ℕ) (kept : Kept) (arguments : m
   executed (command.Storage s) x known taken w i = storage_foretold run taking unread kept whole taking_holds s x.library x.element known taken w i
 
   -- ---- Q, ^X and \
-  replied : (s : Value) (v : ℤ) → IsValue (fore_of kept) (back_of kept) s v → Leads (Fits run.n) (Arrives run facts.held unread kept) (known.with_level facts.arguments (known.level_with facts.position.distances s facts.arguments.level) >>= λ pending. Ok (with_arguments pending facts)) (model.with_level arguments (model.level_with v arguments.level) >>>= λ levels. Ok (after kept levels))
+  replied : (s : Value) (v : ℤ) → IsValue (around_of kept) s v → Leads (Fits run.n) (Arrives run facts.held unread kept) (known.with_level facts.arguments (known.level_with facts.position.distances s facts.arguments.level) >>= λ pending. Ok (with_arguments pending facts)) (model.with_level arguments (model.level_with v arguments.level) >>>= λ levels. Ok (after kept levels))
   replied s v i = keeps _ _ (levels_keep _ _ (gives s v i))
 
-  standing_beside : (operator : Option Operator) (o : Option Value) (v : Option ℤ) → IsOptional (IsValue (fore_of kept) (back_of kept)) o v → IsOptional (IsValue (fore_of kept) (back_of kept)) (known.value_beside operator o) (model.value_beside operator v)
+  standing_beside : (operator : Option Operator) (o : Option Value) (v : Option ℤ) → IsOptional (IsValue (around_of kept)) o v → IsOptional (IsValue (around_of kept)) (known.value_beside operator o) (model.value_beside operator v)
   standing_beside None o v i = i
   standing_beside (Some operator) o v i = tt
 
-  standing : IsOptional (IsValue (fore_of kept) (back_of kept)) (known.standing_value facts.arguments.level) (model.standing_value arguments.level)
+  standing : IsOptional (IsValue (around_of kept)) (known.standing_value facts.arguments.level) (model.standing_value arguments.level)
   standing = rw d.pending.level.operator (standing_beside facts.arguments.level.operator facts.arguments.level.value arguments.level.value d.pending.level.value)
 
-  taken_if : (b : Bool) → IsOptional (IsValue (fore_of kept) (back_of kept)) (cond b (known.standing_value facts.arguments.level) None) (cond b (model.standing_value arguments.level) None)
+  taken_if : (b : Bool) → IsOptional (IsValue (around_of kept)) (cond b (known.standing_value facts.arguments.level) None) (cond b (model.standing_value arguments.level) None)
   taken_if true = standing
   taken_if false = tt
 
@@ -169,24 +169,24 @@ module _ (run : Run) (facts : Facts) (unread : ℕ) (kept : Kept) (arguments : m
   behind_whole : IsWhole behind_number
   behind_whole =
       let p = past run facts unread kept whole d.state in
-      record { inside = omega (arith, p.ahead); within = whole.within; bytes = whole.bytes; count = whole.count; pairs = whole.pairs; stack = whole.stack; last = whole.last; mode = whole.mode }
+      record { inside = p.inside; within = whole.within; bytes = whole.bytes; count = whole.count; pairs = whole.pairs; stack = whole.stack; last = whole.last; mode = whole.mode }
 
-  read_on : (changed : Result Polynomial Refusal) → IfOk changed (λ held. value held run.n ≡ value facts.held run.n + value (row.past_number facts.position.distances).growth run.n) → Leads (Fits run.n) (Arrives run facts.held unread kept) ((changed >>= λ held. Ok (facts_behind (row.past_number facts.position.distances) held facts)) >>= λ read. known.with_level read.arguments (known.level_with read.position.distances (value_in any_number) read.arguments.level) >>= λ pending. Ok (with_arguments pending read)) (step.after_query_with query.Conversion 0 None kept arguments)
+  read_on : (changed : Result Polynomial Refusal) → IfOk changed (λ held. value held run.n ≡ value facts.held run.n + value (row.past_number facts.position.digit facts.position.distances).growth run.n) → Leads (Fits run.n) (Arrives run facts.held unread kept) ((changed >>= λ held. Ok (facts_behind (row.past_number facts.position.digit facts.position.distances) held facts)) >>= λ read. known.with_level read.arguments (known.level_with read.position.distances (value_in any_number) read.arguments.level) >>= λ pending. Ok (with_arguments pending read)) (step.after_query_with query.Conversion 0 None kept arguments)
   read_on (Err e) h = tt
   read_on (Ok held) h =
-      let read = facts_behind (row.past_number facts.position.distances) held facts in
+      let read = facts_behind (row.past_number facts.position.digit facts.position.distances) held facts in
       let p = past run facts unread kept whole d.state in
       let here : Describes run (transfers.without_answer read) unread behind_number arguments = record {
-        state = pending_again run read unread behind_number (shifted_holds run facts unread kept whole d.state (row.past_number facts.position.distances) behind_number held p h) _;
-        pending = settled_are facts.position.distances false (fore_of kept) (back_of kept) (fore_of behind_number) (back_of behind_number) (distances run facts unread kept whole d.state) p.wider facts.arguments arguments d.pending;
+        state = pending_again run read unread behind_number (shifted_holds run facts unread kept whole d.state (row.past_number facts.position.digit facts.position.distances) behind_number held p h) _;
+        pending = settled_are facts.position.distances (row.past_number facts.position.digit facts.position.distances).ends (around_of kept) (around_of behind_number) (distances run facts unread kept whole d.state) p.wider facts.arguments arguments d.pending;
         answers = tt;
       } in
       let fits = number_fits (drop kept.pointer kept.text) in
       keeps_on run facts (transfers.without_answer read) unread kept behind_number _ _ (omega (arith, h)) (omega arith)
-      (replied run (transfers.without_answer read) unread behind_number arguments behind_whole here (value_in any_number) _ (interval_value _ _ _ _ (any_within _ fits) fits))
+      (replied run (transfers.without_answer read) unread behind_number arguments behind_whole here (value_in any_number) _ (interval_value _ _ _ (any_within _ fits) fits))
 
 module _ (run : Run) (facts : Facts) (unread : ℕ) (kept : Kept) (arguments : model.Arguments) (whole : IsWhole kept) (d : Describes run facts unread kept arguments) where
-  asked_for : (q : Query) (colons : ℕ) (o : Option Value) (v : Option ℤ) → IsOptional (IsValue (fore_of kept) (back_of kept)) o v → Leads (Fits run.n) (Arrives run facts.held unread kept) (row.facts_after_query q colons o facts) (step.after_query_with q colons v kept arguments)
+  asked_for : (q : Query) (colons : ℕ) (o : Option Value) (v : Option ℤ) → IsOptional (IsValue (around_of kept)) o v → Leads (Fits run.n) (Arrives run facts.held unread kept) (row.facts_after_query q colons o facts) (step.after_query_with q colons v kept arguments)
   asked_for (query.Number r) zero None None i = replied run facts unread kept arguments whole d _ _ (number_is run facts unread kept whole d.state r)
   asked_for (query.Number r) (suc colons) None None i = replied run facts unread kept arguments whole d _ _ (length_is run facts unread kept whole d.state r)
   asked_for query.Mode colons None None i = replied run facts unread kept arguments whole d _ _ (mode_is run facts unread kept whole d.state)

@@ -1,5 +1,5 @@
 -- The law of N and FN: page after page goes by, and what is known is true where they find, and where no page is left.
-use Rattle.std.specs.Prelude.{◌≡◌, ℕ, pos, negsuc, ◌+◌, ◌≤◌, ⊤, List, Bool, true, false, Some, MatchOption, IfOk}
+use Rattle.std.specs.Prelude.{◌≡◌, ℕ, pos, negsuc, ◌+◌, ◌≤◌, ⊤, List, Bool, true, false, if◌then◌else◌, ◌&&◌, Some, None, MatchOption, IfOk}
 use Rattle.teco_model.specs.Arguments.{Arguments, arguments_of, levels_after_taking, levels_after_answer, no_arguments}
 use Rattle.teco_model.specs.Files.{Output}
 use Rattle.teco_model.specs.Paging.{Looked, Met, Turned, Through, look_first, look_for, looked_through, unread_of}
@@ -14,7 +14,8 @@ use Rattle.teco_verifier.specs.facts.Arguments.{settled}
 use Rattle.teco_law_facts.specs.Describes.{Run, IsWhole, Describes, run_behind}
 use Rattle.teco_verifier.specs.facts.Facts.{Facts, nowhere, none_saved}
 use Rattle.teco_verifier.specs.facts.Flows.{Edges, facts_taken}
-use Rattle.teco_verifier.specs.facts.Printed.{steps}
+use Rattle.teco_verifier.specs.facts.Falls.{is_second}
+use Rattle.teco_verifier.specs.facts.Printed.{is_in_pages, steps}
 use Rattle.teco_law_facts.specs.SoundElements.{Leads, Succeeds, FitsOn}
 use Rattle.teco_law_facts.specs.SoundPages.{ComesTo, Comes}
 use Rattle.teco_verifier.specs.facts.Transfer.{Placed, transfer}
@@ -31,7 +32,7 @@ IsInPages ReplaceInPages = ⊤
 abbrev pub facts_seeking : Facts → Facts
 facts_seeking facts = record (facts_taken facts) {
   arguments = settled facts.position.distances true (facts_taken facts).arguments;
-  position = record facts.position { distances = nowhere; saved = none_saved };
+  position = record facts.position { distances = nowhere; saved = none_saved; digit = None };
 }
 
 -- The element sought so far: that is known, its text is the last search text, and an output is open.
@@ -83,6 +84,10 @@ PageSearchesAreSound =
     → Leads (FitsOn run.n) (Seeks run (facts_seeking facts) world pending x s) (transfer x facts)
     (arguments_of pending.level)
 
+-- In the second edition what is unread is counted once in a whole run, and not with N and FN.
+abbrev pub pages_left : Search → Facts → ℕ → ℕ
+pages_left s facts unread = if is_in_pages s && is_second facts.rules then unread else 0
+
 -- Since less is unread behind each page, N and FN take at most one step more than there is unread; S and FS take one.
 abbrev pub SearchesAtMost : Search → ℕ → ℕ → Type 0
 SearchesAtMost Find unread most = 1 ≤ most
@@ -94,4 +99,5 @@ abbrev pub SearchStepsAreBounded : Type 0
 SearchStepsAreBounded =
     (run : Run) (facts : Facts) (unread : ℕ) (kept : Kept) (pending : Arguments) (s : Search)
     → Describes run facts unread kept pending
-    → IfOk (steps (kind.Search s) facts) (λ most. SearchesAtMost s unread (value most run.n))
+    → IfOk (steps (kind.Search s) facts)
+    (λ most. SearchesAtMost s unread (value most run.n + pages_left s facts unread))
