@@ -1,5 +1,5 @@
 -- How many characters stand behind a line.
-use Rattle.std.proofs.Common.{◌≡◌, ℕ, zero, suc, ◌+◌, ◌-◌, ◌≤◌, ◌∙◌, arith, refl, sym, ap, subst, List, [], ◌∷◌, ◌++◌, length, drop, length-drop, get_or, filter, reverse, Bool, true, false, cond, pos, nat_lt, nat_le}
+use Rattle.std.proofs.Common.{◌≡◌, ℕ, zero, suc, ◌+◌, ◌-◌, ◌≤◌, ◌∙◌, arith, refl, sym, ap, subst, List, [], ◌∷◌, ◌++◌, length, drop, length-drop, get_or, filter, reverse, Bool, true, false, cond, pos, nat_lt, nat_le, length-append}
 use Rattle.std.proofs.lemmas.List.{get_or-reverse, get_or_past, length-reverse}
 use Rattle.std.proofs.lemmas.Bool.Decides.{nat_tests}
 use Rattle.teco_base.specs.Bytes.{is_line_end}
@@ -53,6 +53,20 @@ drop_joined zero [] ys e = refl
 drop_joined (suc n) (x ∷ xs) ys e = drop_joined n xs ys (omega arith)
 drop_joined zero (x ∷ xs) ys e = absurd (omega arith)
 drop_joined (suc n) [] ys e = absurd (omega arith)
+
+-- a text that is put behind another
+more_if : (x : Bool) (text more : List ℕ) → behind_line (text ++ more) ≤ behind_line text + length more → cond x (length (text ++ more)) (behind_line (text ++ more)) ≤ cond x (length text) (behind_line text) + length more
+more_if true text more h = omega (arith, length-append text more)
+more_if false text more h = h
+
+pub beyond_more : (text more : List ℕ) → behind_line (text ++ more) ≤ behind_line text + length more
+beyond_more [] more = omega (arith, beyond_short more)
+beyond_more (b ∷ text) more = more_if (is_line_end b) text more (beyond_more text more)
+
+pub drop_before : (n : ℕ) (text more : List ℕ) → n ≤ length text → drop n (text ++ more) ≡ drop n text ++ more
+drop_before zero text more h = refl
+drop_before (suc n) [] more h = absurd (omega arith)
+drop_before (suc n) (b ∷ text) more h = drop_before n text more (omega arith)
 
 -- ---- the first place ahead
 first_of : (x : Bool) (at : ℕ) (text : List ℕ) → get_or (line_places_from (at + 1) text) 0 (at + 1 + length text) + behind_line text ≡ at + 1 + length text → get_or (cond x ((at + 1) ∷ line_places_from (at + 1) text) (line_places_from (at + 1) text)) 0 (at + 1 + length text) + cond x (length text) (behind_line text) ≡ at + 1 + length text

@@ -14,7 +14,7 @@ use Rattle.teco_law_facts.proofs.Asking.{interval_value}
 use Rattle.teco_law_facts.proofs.Numbers.{any_within}
 use Rattle.teco_law_facts.proofs.Covering.{and_both, each_covered, interval_covered, length_covered, pushed_covered, saved_covered, le_holds, nat_le_holds}
 use Rattle.teco_law_facts.proofs.Each.{each_length, all_at}
-use Rattle.teco_law_facts.proofs.Near.{empty_whole, line_of}
+use Rattle.teco_law_facts.proofs.Near.{empty_whole, line_of, begun_fallen}
 use Rattle.teco_law_facts.proofs.Saved.{none_are, saved_after_are, unsaved_are}
 use Rattle.teco_model.specs.Macros.{ArgumentRange, IsInRange, IsAsked}
 use Rattle.teco_verifier.specs.facts.Attempt.{◌>>=◌}
@@ -171,12 +171,6 @@ falls_carried ahead begun all outer l h = each_kept (FellBefore begun) (FellBefo
 
 pub rests_carried : (unread begun : ℕ) (all : List Falls) (outer : List Begun) → unread ≤ begun → AreEach (HasRest begun) all outer → AreEach (HasRest unread) all outer
 rests_carried unread begun all outer l h = each_kept (HasRest begun) (HasRest unread) (λ falls start i. record { rest = less_now begun unread start.held falls.rest l i.rest; read = omega (arith, l, i.read); part = i.part }) all outer h
-
-begun_fallen : (rules : Rules) (unread : ℕ) (kept : Kept) → kept.pointer ≤ length kept.text → HasFallen (around_of kept) unread (falls_at_turn rules) (begun_at unread kept)
-begun_fallen First unread kept i = record { fall = omega (arith, ints); far = λ s. tt; line = tt; far_line = λ s. tt; held = tt; rest = tt; read = omega arith; part = omega arith }
-begun_fallen Second unread kept i =
-    let l = (line_of kept i).within in
-    record { fall = omega (arith, ints); far = λ s. omega (arith, ints); line = omega (arith, ints, l); far_line = λ s. omega (arith, ints, l); held = omega (arith, ints, i); rest = omega (arith, ints); read = omega arith; part = omega arith }
 
 pub returns_are_sound : ReturnsAreSound
 returns_are_sound run facts end unread kept arguments choice changes counted turns begun outer whole c d e room carried =

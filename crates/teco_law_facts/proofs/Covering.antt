@@ -62,7 +62,7 @@ pub interval_covered : (i j : Interval) (v : ℤ) → IsTrue (covers_interval i 
 interval_covered i j v c h = let p = and_both _ _ c in record { low = omega (arith, ints, le_holds i.lo j.lo p.0, h); high = omega (arith, ints, le_holds j.hi i.hi p.1, h) }
 
 -- ---- codes
-none_worth : (c : Option CharacterCode) (around : Surroundings) → IsTrue (is_none c) → code_worth c around.code_at ≡ pos 0
+pub none_worth : (c : Option CharacterCode) (around : Surroundings) → IsTrue (is_none c) → code_worth c around.code_at ≡ pos 0
 none_worth None around h = refl
 none_worth (Some c) around h = absurd (cc)
 

@@ -1,5 +1,5 @@
 -- What is known to have fallen, and what follows of it.
-use Rattle.std.proofs.Common.{◌≡◌, ℕ, zero, suc, ◌+◌, ◌≤◌, arith, refl, ℤ, pos, negsuc, ◌+ℤ◌, ◌-ℤ◌, ◌≤ℤ◌, nat_le, min, List, [], ◌∷◌, map, Bool, true, false, cond, Option, Some, None, IfSome}
+use Rattle.std.proofs.Common.{◌≡◌, ℕ, zero, suc, ◌+◌, ◌≤◌, arith, refl, ℤ, pos, negsuc, ◌+ℤ◌, ◌-ℤ◌, ◌≤ℤ◌, nat_le, min, List, [], ◌∷◌, map, Bool, true, false, cond, Option, Some, None, IfSome, subst}
 use Rattle.std.specs.Prelude.{⊤}
 use Rattle.std.proofs.lemmas.Int.{ints, clamps}
 use Rattle.std.proofs.lemmas.Bool.Decides.{nat_tests}
@@ -121,6 +121,105 @@ abbrev pub held_before : Descent → Surroundings → ℕ → ℕ
 held_before NextPage old u = u
 held_before descent old u = old.fore + old.back + u
 
+-- what is said without a condition
+pub record HasFallenAnywhere (around : Surroundings) (unread : ℕ) (falls : Falls) (begun : Begun) : Type 0 where
+  pub fall : IsLess (around.fore + unread) falls.fall begun.ahead
+  pub line : IsLess (around.beyond + unread) falls.line begun.ahead
+  pub held : IsLess (around.fore + around.back + unread) falls.held begun.held
+  pub rest : IsLess unread falls.rest begun.held
+  pub read : unread ≤ begun.unread
+  pub part : begun.unread ≤ begun.ahead
+
+pub anywhere_of : (around : Surroundings) (unread : ℕ) (falls : Falls) (begun : Begun) → HasFallen around unread falls begun → HasFallenAnywhere around unread falls begun
+anywhere_of around unread falls begun h = record { fall = h.fall; line = h.line; held = h.held; rest = h.rest; read = h.read; part = h.part }
+
+pub anywhere_without : (around : Surroundings) (unread : ℕ) (falls : Falls) (begun : Begun) → HasFallen around unread (falls_without_end falls) begun → HasFallenAnywhere around unread falls begun
+anywhere_without around unread falls begun h = record { fall = h.fall; line = h.line; held = h.held; rest = h.rest; read = h.read; part = h.part }
+
+pub without_end : (around : Surroundings) (unread : ℕ) (falls : Falls) (begun : Begun) → HasFallenAnywhere around unread falls begun → HasFallen around unread (falls_without_end falls) begun
+without_end around unread falls begun h = record {
+  fall = h.fall;
+  far = λ s. less_smaller_too _ _ falls.far falls.fall h.fall;
+  line = h.line;
+  far_line = λ s. less_smaller_too _ _ falls.far_line falls.line h.line;
+  held = h.held;
+  rest = h.rest;
+  read = h.read;
+  part = h.part;
+}
+
+-- another page comes
+pub anywhere_later : (old : Surroundings) (u : ℕ) (new : Surroundings) (u' : ℕ) (falls : Falls) (begun : Begun) → u' ≤ u → IsLine new → new.fore + new.back + u' ≤ u → HasFallenAnywhere old u falls begun → HasFallenAnywhere new u' falls begun
+anywhere_later old u new u' falls begun less line page h = record {
+  fall = less_now (old.fore + u) (new.fore + u') begun.ahead falls.fall (omega (arith, page)) h.fall;
+  line = less_now (old.beyond + u) (new.beyond + u') begun.ahead falls.line (omega (arith, page, line.within)) h.line;
+  held = less_now (old.fore + old.back + u) (new.fore + new.back + u') begun.held falls.held (omega (arith, page)) h.held;
+  rest = less_now u u' begun.held falls.rest less h.rest;
+  read = omega (arith, less, h.read);
+  part = h.part;
+}
+
+greater_first : (now begun : ℕ) (f g : Option ℤ) → IsLess now (greater_known f g) begun → IsLess now f begun
+greater_first now begun (Some v) (Some w) h = omega (arith, ints, clamps, h)
+greater_first now begun None g h = tt
+greater_first now begun (Some v) None h = h
+
+unordered : (rules : Rules) (d : Distances) (around : Surroundings) (unread : ℕ) (falls : Falls) (begun : Begun) → d.fore ≡ 0 → HasFallen around unread (in_order rules d falls) begun → HasFallenAnywhere around unread falls begun
+unordered First d around unread falls begun e h = anywhere_of around unread falls begun h
+unordered Second d around unread falls begun e h = record {
+  fall = subst (λ n. IsLess (around.fore + unread) (cond (nat_le 1 n) (greater_known falls.fall falls.far) falls.fall) begun.ahead) e h.fall;
+  line = greater_first _ _ falls.line _ h.line;
+  held = h.held;
+  rest = greater_first _ _ falls.rest _ h.rest;
+  read = h.read;
+  part = h.part;
+}
+
+-- and one more
+pub fallen_again : (rules : Rules) (d : Distances) (old : Surroundings) (u : ℕ) (new : Surroundings) (u' : ℕ) (by : Option ℤ) (falls : Falls) (begun : Begun) → d.fore ≡ 0 → d.back ≡ 0 → u' ≤ u → IsLine new → new.fore + new.back + u' ≤ u → HasFallen old u (in_order rules d (with_held_fall by (falls_at_page rules falls))) begun → HasFallen new u' (in_order rules d (with_held_fall by (falls_at_page rules falls))) begun
+fallen_again rules d old u new u' by falls begun e z less line page h =
+    let i = anywhere_later old u new u' (with_held_fall by (falls_at_page rules falls)) begun less line page (unordered rules d old u _ begun e h) in
+    let n : HasFallen new u' (with_held_fall by (falls_at_page rules falls)) begun = record {
+      fall = i.fall;
+      far = λ s. less_smaller_too _ _ falls.far (fall_at_page rules falls.fall) i.fall;
+      line = i.line;
+      far_line = λ s. less_smaller_too _ _ falls.far_line falls.line i.line;
+      held = i.held;
+      rest = i.rest;
+      read = i.read;
+      part = i.part;
+    } in
+    ordered_is new u' begun line rules d _ (omega (arith, z)) (omega (arith, e)) n
+
+module _ (old : Surroundings) (u : ℕ) (new : Surroundings) (u' : ℕ) (by : Option ℤ) (falls : Falls) (begun : Begun) (less : u' ≤ u) (ends' : IsLine new) where
+  pub refilled_by : (v : ℕ) → HasFallenAnywhere old u falls begun → (new.fore + u' + v ≤ old.fore + u) × (new.beyond + u' ≤ old.beyond + u) → IfSome by (λ v. (pos (new.fore + new.back + u') +ℤ v) ≤ℤ pos (old.fore + old.back + u)) → HasFallen new u' (with_held_fall by (falls_without_end (falls_by (Some (pos v)) falls))) begun
+  refilled_by v h d g =
+      let f = less_grown (old.fore + u) (new.fore + u') v begun.ahead falls.fall (omega (arith, d.0)) h.fall in
+      let l = less_now (old.beyond + u) (new.beyond + u') begun.ahead falls.line (omega (arith, d.1)) h.line in
+      record {
+        fall = f;
+        far = λ s. less_smaller_too _ _ (grown v falls.far) (grown v falls.fall) f;
+        line = l;
+        far_line = λ s. less_smaller_too _ _ falls.far_line falls.line l;
+        held = less_after (old.fore + old.back + u) (new.fore + new.back + u') begun.held by falls.held g h.held;
+        rest = less_now u u' begun.held falls.rest less h.rest;
+        read = omega (arith, less, h.read);
+        part = h.part;
+      }
+
+  -- nothing is known to be less ahead
+  pub lost_by : HasFallenAnywhere old u falls begun → IfSome by (λ v. (pos (new.fore + new.back + u') +ℤ v) ≤ℤ pos (old.fore + old.back + u)) → HasFallen new u' (with_held_fall by (falls_by None falls)) begun
+  lost_by h g = record {
+    fall = tt;
+    far = λ s. less_smaller_too _ _ falls.far None tt;
+    line = less_smaller_too _ _ falls.line None tt;
+    far_line = λ s. less_smaller_too _ _ falls.far_line None tt;
+    held = less_after (old.fore + old.back + u) (new.fore + new.back + u') begun.held by falls.held g h.held;
+    rest = less_now u u' begun.held falls.rest less h.rest;
+    read = omega (arith, less, h.read);
+    part = h.part;
+  }
+
 module _ (rules : Rules) (old : Surroundings) (u : ℕ) (new : Surroundings) (u' : ℕ) (by : Option ℤ) (falls : Falls) (begun : Begun) (less : u' ≤ u) (ends : IsLine old) (ends' : IsLine new) (h : HasFallen old u falls begun) where
   -- the other falls, where the fall is known alone
   of_fall : (fall : Option ℤ) → IsLess (new.fore + u') fall begun.ahead → IfSome by (λ v. (pos (new.fore + new.back + u') +ℤ v) ≤ℤ pos (old.fore + old.back + u)) → HasFallen new u' (with_held_fall by (falls_of_fall (record falls { fall = fall }))) begun
@@ -172,19 +271,7 @@ module _ (rules : Rules) (old : Surroundings) (u : ℕ) (new : Surroundings) (u'
     read = omega (arith, less, h.read);
     part = h.part;
   }
-  fallen_by (Refilled v) d g =
-      let f = less_grown (old.fore + u) (new.fore + u') v begun.ahead falls.fall (omega (arith, d.0)) h.fall in
-      let l = less_now (old.beyond + u) (new.beyond + u') begun.ahead falls.line (omega (arith, d.1)) h.line in
-      record {
-        fall = f;
-        far = λ s. less_smaller_too _ _ (grown v falls.far) (grown v falls.fall) f;
-        line = l;
-        far_line = λ s. less_smaller_too _ _ falls.far_line falls.line l;
-        held = less_after (old.fore + old.back + u) (new.fore + new.back + u') begun.held by falls.held g h.held;
-        rest = less_now u u' begun.held falls.rest less h.rest;
-        read = omega (arith, less, h.read);
-        part = h.part;
-      }
+  fallen_by (Refilled v) d g = refilled_by old u new u' by falls begun less ends' v (anywhere_of old u falls begun h) d g
   fallen_by NextPage d g =
       let f = at_page rules d in
       let l = less_now (old.beyond + u) (new.beyond + u') begun.ahead falls.line (omega (arith, d, ends'.within)) h.line in

@@ -24,6 +24,7 @@ use Rattle.teco_verifier.specs.declared.falls.DigitMark.TheVariants.{Before, At}
 use Rattle.teco_verifier.specs.facts.Falls.{smaller_falls}
 use Rattle.teco_verifier.specs.declared.falls.Falls.{Falls}
 use Rattle.teco_law_facts.proofs.Falls.{less_smaller, less_smaller_too}
+use Rattle.teco_verifier.specs.facts.Values.{Surroundings}
 
 -- ---- polynomials
 pub record IsAbove (n : ℕ) (p q r : Polynomial) : Type 0 where

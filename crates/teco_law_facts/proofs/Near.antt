@@ -4,7 +4,7 @@ use Rattle.std.specs.Prelude.{slice_get, unwrap_or}
 use Rattle.teco_model.specs.Character.{code_at}
 use Rattle.teco_law_facts.proofs.Beyond.{behind_line, beyond_short, beyond_shorter, line_end}
 use Rattle.teco_law_facts.proofs.Falls.{IsLine}
-use Rattle.teco_law_facts.specs.Describes.{AreBytes, beyond_of}
+use Rattle.teco_law_facts.specs.Describes.{AreBytes, beyond_of, HasFallen, begun_at, around_of}
 use Rattle.teco_verifier.specs.facts.Values.{IsWithin, character}
 use Rattle.std.proofs.lemmas.Int.{ints}
 use Rattle.teco_model.specs.Registers.{empty_pair}
@@ -12,6 +12,9 @@ use Rattle.teco_model.specs.State.{Kept}
 use Rattle.teco_law_facts.proofs.Numbers.{AreDistances}
 use Rattle.teco_law_facts.specs.Describes.{Run, IsWhole, IsWholePair, Holds, fore_of, back_of, around_of}
 use Rattle.teco_verifier.specs.facts.Facts.{Facts}
+use Rattle.teco_verifier.specs.declared.rules.Rules.{Rules}
+use Rattle.teco_verifier.specs.declared.rules.Rules.TheVariants.{First, Second}
+use Rattle.teco_verifier.specs.facts.Falls.{falls_at_turn}
 
 -- a code is from -1 to 255
 byte_at : (text : List ℕ) → AreBytes text → (n : ℕ) → IfSome (slice_get text n) (λ c. c < 256)
@@ -42,3 +45,10 @@ line_of kept i = record {
   within = omega (arith, beyond_is kept i, beyond_short (drop kept.pointer kept.text), length-drop kept.pointer kept.text, i);
   past = λ s. omega (arith, beyond_is kept i, beyond_shorter (drop kept.pointer kept.text) (omega (arith, length-drop kept.pointer kept.text, s)), length-drop kept.pointer kept.text, i);
 }
+
+-- where a turn begins nothing has fallen
+pub begun_fallen : (rules : Rules) (unread : ℕ) (kept : Kept) → kept.pointer ≤ length kept.text → HasFallen (around_of kept) unread (falls_at_turn rules) (begun_at unread kept)
+begun_fallen First unread kept i = record { fall = omega (arith, ints); far = λ s. tt; line = tt; far_line = λ s. tt; held = tt; rest = tt; read = omega arith; part = omega arith }
+begun_fallen Second unread kept i =
+    let l = (line_of kept i).within in
+    record { fall = omega (arith, ints); far = λ s. omega (arith, ints); line = omega (arith, ints, l); far_line = λ s. omega (arith, ints, l); held = omega (arith, ints, i); rest = omega (arith, ints); read = omega arith; part = omega arith }

@@ -1,5 +1,5 @@
 -- The law of N and FN: page after page goes by, and what is known is true where they find, and where no page is left.
-use Rattle.std.specs.Prelude.{◌≡◌, ℕ, pos, negsuc, ◌+◌, ◌≤◌, ⊤, List, Bool, true, false, if◌then◌else◌, ◌&&◌, Some, None, MatchOption, IfOk}
+use Rattle.std.specs.Prelude.{◌≡◌, ℕ, pos, negsuc, ◌+◌, ◌≤◌, ⊤, List, Bool, true, false, if◌then◌else◌, ◌&&◌, Some, None, MatchOption, IfOk, map}
 use Rattle.teco_model.specs.Arguments.{Arguments, arguments_of, levels_after_taking, levels_after_answer, no_arguments}
 use Rattle.teco_model.specs.Files.{Output}
 use Rattle.teco_model.specs.Paging.{Looked, Met, Turned, Through, look_first, look_for, looked_through, unread_of}
@@ -14,7 +14,7 @@ use Rattle.teco_verifier.specs.facts.Arguments.{settled}
 use Rattle.teco_law_facts.specs.Describes.{Run, IsWhole, Describes, run_behind}
 use Rattle.teco_verifier.specs.facts.Facts.{Facts, nowhere, none_saved}
 use Rattle.teco_verifier.specs.facts.Flows.{Edges, facts_taken}
-use Rattle.teco_verifier.specs.facts.Falls.{is_second}
+use Rattle.teco_verifier.specs.facts.Falls.{is_second, falls_without_end}
 use Rattle.teco_verifier.specs.facts.Printed.{is_in_pages, steps}
 use Rattle.teco_law_facts.specs.SoundElements.{Leads, Succeeds, FitsOn}
 use Rattle.teco_law_facts.specs.SoundPages.{ComesTo, Comes}
@@ -27,12 +27,17 @@ IsInPages Replace = ⊥
 IsInPages FindInPages = ⊤
 IsInPages ReplaceInPages = ⊤
 
--- What is known while pages go by: the pointer may be anywhere, nothing is saved, and no more is held or ahead than was
--- before the element.
+-- What is known while pages go by: the pointer may be anywhere, nothing is saved, no digit is known, more text may come
+-- to the end of the buffer, and no more is held or ahead than was before the element.
 abbrev pub facts_seeking : Facts → Facts
 facts_seeking facts = record (facts_taken facts) {
   arguments = settled facts.position.distances true (facts_taken facts).arguments;
-  position = record facts.position { distances = nowhere; saved = none_saved; digit = None };
+  position = record facts.position {
+    distances = nowhere;
+    falls = map falls_without_end facts.position.falls;
+    saved = none_saved;
+    digit = None;
+  };
 }
 
 -- The element sought so far: that is known, its text is the last search text, and an output is open.
