@@ -1,6 +1,6 @@
 -- Codes of characters, and what Q, ^X and \ give.
-use Rattle.std.proofs.Common.{ℕ, zero, suc, ◌+◌, ◌≤◌, ◌<◌, arith, w32, FitsSigned, refl, ℤ, pos, negsuc, List, [], ◌∷◌, take, drop, length, length-take, length-drop, Option, Some, None, IfSome, Bool, true, false, cond, ◌==◌, ◌||◌, option_map, get_or, ◌+ℤ◌, ◌≡◌, subst, sym}
-use Rattle.std.specs.Prelude.{slice_get, unwrap_or, codes}
+use Rattle.std.proofs.Common.{ℕ, zero, suc, ◌+◌, ◌≤◌, arith, w32, FitsSigned, refl, ℤ, pos, negsuc, List, [], ◌∷◌, take, drop, length, length-take, length-drop, Option, Some, None, Bool, true, false, cond, ◌==◌, ◌||◌, get_or, ◌+ℤ◌, ◌≡◌, subst, sym}
+use Rattle.std.specs.Prelude.{codes}
 use Rattle.std.specs.List.{prefix_len}
 use Rattle.std.proofs.lemmas.Int.{ints, SFits-int_wrap}
 use Rattle.std.proofs.lemmas.Fmt.{length_signed_le, decimal_nonempty}
@@ -17,13 +17,13 @@ use Rattle.teco_model.specs.declared.kind.Query.TheVariants.{Number, Mode, Conve
 use Rattle.teco_poly.specs.Polynomial.{number}
 use Rattle.teco_law_facts.proofs.Each.{all_at}
 use Rattle.teco_law_facts.proofs.Editing.{inserted_foretold}
-use Rattle.teco_law_facts.proofs.Moving.{pointer_at, moved_by}
+use Rattle.teco_law_facts.proofs.Moving.{moved_by}
 use Rattle.teco_law_facts.proofs.Near.{empty_whole, code_within}
 use Rattle.teco_law_facts.proofs.Numbers.{value_in_in, any_within}
 use Rattle.teco_law_facts.proofs.Registers.{number_at as known_number_at, untouched}
 use Rattle.teco_law_facts.proofs.Saved.{saved_at}
 use Rattle.teco_law_facts.proofs.Shapes.{Shifts, Foretells, value-number, done_with}
-use Rattle.teco_law_facts.specs.Describes.{Run, IsWhole, IsWholePair, AreBytes, Holds, fore_of, back_of, around_of, IsMarked}
+use Rattle.teco_law_facts.specs.Describes.{Run, IsWhole, IsWholePair, AreBytes, Holds, around_of, IsMarked}
 use Rattle.teco_verifier.specs.facts.Facts.{Facts, number_of}
 use Rattle.teco_verifier.specs.facts.Queries as row
 use Rattle.teco_verifier.specs.facts.Values.{IsWithin, IsValue, value_in, any_number, Surroundings, character}

@@ -1,9 +1,9 @@
 -- How many characters stand behind a line.
 use Rattle.std.proofs.Common.{◌≡◌, ℕ, zero, suc, ◌+◌, ◌-◌, ◌≤◌, ◌∙◌, arith, refl, sym, ap, subst, List, [], ◌∷◌, ◌++◌, length, drop, length-drop, get_or, filter, reverse, Bool, true, false, cond, pos, nat_lt, nat_le, length-append}
-use Rattle.std.proofs.lemmas.List.{get_or-reverse, get_or_past, length-reverse}
+use Rattle.std.proofs.lemmas.List.{get_or-reverse}
 use Rattle.std.proofs.lemmas.Bool.Decides.{nat_tests}
 use Rattle.teco_base.specs.Bytes.{is_line_end}
-use Rattle.teco_base.specs.Lines.{line_places_from, line_places, places_ahead, places_back, line_place}
+use Rattle.teco_base.specs.Lines.{line_places_from, line_places, places_ahead, line_place}
 
 abbrev pub behind_line : List ℕ → ℕ
 behind_line [] = 0

@@ -1,8 +1,7 @@
 -- The entry, the start of a body, and its turns.
-use Rattle.std.proofs.Common.{◌≡◌, ℕ, zero, suc, ◌+◌, ◌-◌, ◌*◌, ◌≤◌, arith, refl, sym, subst, ℤ, pos, int_le, List, [], ◌∷◌, drop, map, length, Bool, true, false, cond, Option, Some, None, ok_or, get_or, replicate, is_some}
+use Rattle.std.proofs.Common.{◌≡◌, ℕ, zero, suc, ◌+◌, ◌-◌, ◌*◌, ◌≤◌, arith, refl, sym, subst, ℤ, pos, List, [], ◌∷◌, drop, map, length, Bool, true, false, cond, Option, Some, None, ok_or, get_or, replicate, is_some}
 use Rattle.std.specs.Prelude.{IsTrue}
 use Rattle.std.specs.List.{AllByRecursion}
-use Rattle.std.specs.Option.{option_map_or}
 use Rattle.std.proofs.Math.Nat.{mul-le-mul}
 use Rattle.std.proofs.lemmas.Int.{ints}
 use Rattle.teco_base.specs.declared.TheConstants.{REGISTERS}
@@ -13,7 +12,7 @@ use Rattle.teco_poly.specs.Polynomial.{Polynomial, value, variable, sub, mul, ad
 use Rattle.teco_law_facts.proofs.Asking.{interval_value}
 use Rattle.teco_law_facts.proofs.Numbers.{any_within}
 use Rattle.teco_law_facts.proofs.Covering.{and_both, each_covered, interval_covered, length_covered, pushed_covered, saved_covered, le_holds, nat_le_holds}
-use Rattle.teco_law_facts.proofs.Each.{each_length, all_at}
+use Rattle.teco_law_facts.proofs.Each.{all_at}
 use Rattle.teco_law_facts.proofs.Near.{empty_whole, line_of, begun_fallen}
 use Rattle.teco_law_facts.proofs.Saved.{none_are, saved_after_are, unsaved_are}
 use Rattle.teco_model.specs.Macros.{ArgumentRange, IsInRange, IsAsked}

@@ -1,5 +1,5 @@
 -- What covers facts that describe a state describes it.
-use Rattle.std.proofs.Common.{◌≡◌, ℕ, ◌≤◌, ◌+◌, arith, ◌∙◌, refl, ℤ, pos, ◌≤ℤ◌, int_le, nat_le, List, [], ◌∷◌, Bool, true, false, ◌&&◌, Option, Some, None, cond, length, ◌||◌, is_none, subst, sym}
+use Rattle.std.proofs.Common.{◌≡◌, ℕ, ◌≤◌, arith, ◌∙◌, refl, ℤ, pos, ◌≤ℤ◌, int_le, nat_le, List, [], ◌∷◌, Bool, true, false, ◌&&◌, Option, Some, None, cond, length, ◌||◌, is_none, subst, sym}
 use Rattle.std.specs.Prelude.{IsTrue}
 use Rattle.std.proofs.lemmas.Int.{ints}
 use Rattle.std.proofs.lemmas.Bool.Decides.{nat_tests}
@@ -15,7 +15,7 @@ use Rattle.teco_law_facts.proofs.Near.{distances}
 use Rattle.teco_law_facts.proofs.Saved.{IsSaved, place_covered}
 use Rattle.teco_verifier.specs.facts.Arguments.{KnownLevel, KnownArguments}
 use Rattle.teco_verifier.specs.facts.Covers.{covers_falls, covers_mark, is_same_code, is_same_truth, each_covers, both_cover, covers_interval, is_interval, is_same, covers_value, is_same_operator, covers_level, covers_arguments, covers_saved, covers_fall, covers_position, covers_answer, covers_length, covers_pushed, covers}
-use Rattle.teco_law_facts.specs.Describes.{Run, IsAt, AreSaved, Answers, ArePushed, IsLevel, ArePending, IsOptional, AreEach, HasFallen, fore_of, back_of, around_of, Begun, IsLess, IsMarked}
+use Rattle.teco_law_facts.specs.Describes.{Run, IsAt, AreSaved, Answers, ArePushed, IsLevel, ArePending, IsOptional, AreEach, HasFallen, around_of, Begun, IsLess, IsMarked}
 use Rattle.teco_verifier.specs.facts.Facts.{Position, Answer, Pushed}
 use Rattle.teco_law_facts.specs.Laws.{CoversAreSound}
 use Rattle.teco_verifier.specs.facts.Values.{IsIn, IsValue, IsWithin, interval_of, Surroundings, are_equal, code_worth, has_form, has_no_distance}

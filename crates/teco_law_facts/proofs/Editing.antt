@@ -23,7 +23,7 @@ use Rattle.teco_model.specs.declared.kind.Unit.{Unit as Counted}
 use Rattle.teco_model.specs.declared.kind.Unit.TheVariants.{Characters, Lines}
 use Rattle.teco_model.specs.declared.pattern.Span.{Span as Part}
 use Rattle.teco_poly.specs.Polynomial.{Polynomial, value, number}
-use Rattle.teco_law_facts.proofs.Moving.{IsPlaced, placed_is, count_within, line_within, line_on, line_back, line_past, bound_is_placed}
+use Rattle.teco_law_facts.proofs.Moving.{IsPlaced, count_within, line_within, line_on, line_back, line_past, bound_is_placed}
 use Rattle.teco_law_facts.proofs.Shapes.{Shifts, Moves, IsDone, Foretells, shift_leads, value-number}
 use Rattle.teco_law_facts.proofs.Steps.{given_then}
 use Rattle.teco_law_facts.proofs.Leading.{leads_given}
@@ -33,21 +33,18 @@ use Rattle.teco_verifier.specs.facts.Deletions as row
 use Rattle.teco_law_facts.specs.Describes.{Run, IsWhole, Holds, IsTaken, IsOptional, fore_of, back_of, around_of, beyond_of, IsMarked}
 use Rattle.teco_verifier.specs.facts.Facts.{Facts, nowhere}
 use Rattle.teco_verifier.specs.facts.Insertions as insertions
-use Rattle.teco_verifier.specs.facts.Motions.{count_of, shift_by_lines}
+use Rattle.teco_verifier.specs.facts.Motions.{count_of}
 use Rattle.teco_verifier.specs.facts.Shifts.{Shift, moving, ending, Foreseen, silent_behind, KnownPlace}
 use Rattle.teco_verifier.specs.facts.Typings as typings
-use Rattle.teco_verifier.specs.facts.Values.{IsIn, IsWithin, IsValue, Surroundings}
+use Rattle.teco_verifier.specs.facts.Values.{IsWithin, IsValue, Surroundings}
 use Rattle.teco_verifier.specs.declared.refusal.Refusal.{Refusal}
 use Rattle.teco_verifier.specs.declared.refusal.Refusal.TheVariants as refusal
 use Rattle.teco_verifier.specs.declared.values.Interval.{Interval}
 use Rattle.teco_verifier.specs.declared.values.Value.{Value}
-use Rattle.teco_verifier.specs.facts.Falls.{By, PastLine, InLine, Refilled, NextPage, is_second, greater_known}
-use Rattle.teco_verifier.specs.declared.rules.Rules.{Rules}
-use Rattle.teco_verifier.specs.declared.rules.Rules.TheVariants.{First, Second}
+use Rattle.teco_verifier.specs.facts.Falls.{By, PastLine, greater_known}
 use Rattle.teco_verifier.specs.declared.falls.DigitMark.{DigitMark}
-use Rattle.teco_verifier.specs.declared.falls.DigitMark.TheVariants.{Before, At}
 use Rattle.teco_law_facts.proofs.Falls.{Descends, held_before}
-use Rattle.teco_law_facts.proofs.Beyond.{behind_line, beyond_later, drop_more, drop_joined}
+use Rattle.teco_law_facts.proofs.Beyond.{behind_line, beyond_later, drop_joined}
 use Rattle.teco_law_facts.proofs.Near.{beyond_is, line_of}
 use Rattle.teco_verifier.specs.declared.values.Distances.{Distances}
 

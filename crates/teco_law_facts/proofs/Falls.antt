@@ -1,5 +1,5 @@
 -- What is known to have fallen, and what follows of it.
-use Rattle.std.proofs.Common.{◌≡◌, ℕ, zero, suc, ◌+◌, ◌≤◌, arith, refl, ℤ, pos, negsuc, ◌+ℤ◌, ◌-ℤ◌, ◌≤ℤ◌, nat_le, min, List, [], ◌∷◌, map, Bool, true, false, cond, Option, Some, None, IfSome, subst}
+use Rattle.std.proofs.Common.{◌≡◌, ℕ, zero, suc, ◌+◌, ◌≤◌, arith, refl, ℤ, pos, negsuc, ◌+ℤ◌, ◌≤ℤ◌, nat_le, min, List, [], ◌∷◌, map, Bool, true, false, cond, Option, Some, None, IfSome, subst}
 use Rattle.std.specs.Prelude.{⊤}
 use Rattle.std.proofs.lemmas.Int.{ints, clamps}
 use Rattle.std.proofs.lemmas.Bool.Decides.{nat_tests}
@@ -8,8 +8,8 @@ use Rattle.teco_verifier.specs.declared.falls.Falls.{Falls}
 use Rattle.teco_verifier.specs.declared.rules.Rules.{Rules}
 use Rattle.teco_verifier.specs.declared.rules.Rules.TheVariants.{First, Second}
 use Rattle.teco_verifier.specs.declared.values.Distances.{Distances}
-use Rattle.teco_verifier.specs.facts.Falls.{greater_known, smaller_known, grown, fall_after, fall_ordered, far_ordered, line_ordered, far_line_ordered, rest_ordered, ordered, in_order, Descent, By, PastLine, InLine, Refilled, NextPage, falls_without_end, falls_of_fall, falls_by, falls_at_page, fall_at_page, falls_after}
-use Rattle.teco_verifier.specs.facts.Shifts.{Shift, with_held_fall}
+use Rattle.teco_verifier.specs.facts.Falls.{greater_known, smaller_known, grown, fall_after, fall_ordered, far_ordered, line_ordered, far_line_ordered, rest_ordered, in_order, Descent, By, PastLine, InLine, Refilled, NextPage, falls_without_end, falls_of_fall, falls_by, falls_at_page, fall_at_page, falls_after}
+use Rattle.teco_verifier.specs.facts.Shifts.{with_held_fall}
 use Rattle.teco_verifier.specs.facts.Values.{Surroundings}
 
 -- ---- one fall
@@ -299,3 +299,10 @@ each_kept P Q k [] [] h = tt
 each_kept P Q k (falls ∷ all) (begun ∷ turns) h = (k falls begun h.0, each_kept P Q k all turns h.1)
 each_kept P Q k [] (begun ∷ turns) h = absurd h
 each_kept P Q k (falls ∷ all) [] h = absurd h
+
+-- of each of two lists, where one is changed in two ways
+pub each_remapped : (P Q : Falls → Begun → Type 0) (f g : Falls → Falls) → ((falls : Falls) (begun : Begun) → P (f falls) begun → Q (g falls) begun) → (all : List Falls) (turns : List Begun) → AreEach P (map f all) turns → AreEach Q (map g all) turns
+each_remapped P Q f g k [] [] h = tt
+each_remapped P Q f g k (falls ∷ all) (begun ∷ turns) h = (k falls begun h.0, each_remapped P Q f g k all turns h.1)
+each_remapped P Q f g k [] (begun ∷ turns) h = absurd h
+each_remapped P Q f g k (falls ∷ all) [] h = absurd h

@@ -330,7 +330,7 @@ module _ (run : Run) (facts : Facts) (unread : ℕ) (kept : Kept) (arguments : m
     alone_on (Err why) taken h = tt
 
 -- what is known of a digit may be forgotten
-forgotten_answer : (run : Run) (facts : Facts) (unread : ℕ) (kept : Kept) (arguments : model.Arguments) → Describes run (transfers.without_answer facts) unread kept arguments → Describes run (without_digit (transfers.without_answer facts)) unread kept arguments
+pub forgotten_answer : (run : Run) (facts : Facts) (unread : ℕ) (kept : Kept) (arguments : model.Arguments) → Describes run (transfers.without_answer facts) unread kept arguments → Describes run (without_digit (transfers.without_answer facts)) unread kept arguments
 forgotten_answer run facts unread kept arguments d = let h = d.state in let p = h.position in record {
   state = record { position = record { begin = p.begin; end = p.end; fallen = p.fallen; ahead = p.ahead; saved = p.saved; digit = tt }; held = h.held; registers = record { numbers = h.registers.numbers; texts = h.registers.texts }; pushed = h.pushed };
   pending = d.pending;

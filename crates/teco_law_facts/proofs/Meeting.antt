@@ -1,10 +1,10 @@
 -- Where ways meet: what is known of each is true of both.
-use Rattle.std.proofs.Common.{◌≡◌, ℕ, ◌+◌, ◌≤◌, arith, refl, ℤ, List, [], ◌∷◌, length, Option, Some, None, Result, Ok, Err, IfOk, ok_or, Bool, true, false, cond, subst, sym}
+use Rattle.std.proofs.Common.{◌≡◌, ℕ, ◌≤◌, arith, refl, List, [], ◌∷◌, length, Option, Some, None, Result, Ok, Err, IfOk, ok_or, Bool, true, false, cond, subst, sym}
 use Rattle.std.proofs.lemmas.Int.{ints, clamps}
 use Rattle.teco_poly.proofs.Lawful.{value_of_join}
 use Rattle.teco_poly.specs.Polynomial.{Polynomial, value, join}
 use Rattle.teco_verifier.specs.facts.Attempt.{◌>>=◌}
-use Rattle.teco_law_facts.specs.Describes.{Run, IsAt, AreEach, HasFallen, ArePushed, ArePending, fore_of, back_of, around_of, Begun, IsMarked}
+use Rattle.teco_law_facts.specs.Describes.{Run, IsAt, AreEach, HasFallen, ArePushed, ArePending, around_of, Begun, IsMarked}
 use Rattle.teco_verifier.specs.facts.Facts.{Position, Pushed, Facts, join_of, without_arguments}
 use Rattle.teco_verifier.specs.facts.Joins.{joined_falls, joined_mark, is_same_mark, nearer_of, joined_saved, joined_position, hull, hulls, joined_lengths, joined_pushes, none_pending}
 use Rattle.teco_law_facts.specs.Laws.{MayMeet, MeetsBoth, JoinsAreSound}

@@ -13,7 +13,6 @@ use Rattle.teco_model.specs.State.{Kept}
 use Rattle.teco_model.specs.declared.arguments.Taken.{Taken}
 use Rattle.teco_model.specs.declared.kind.Motion.{Motion}
 use Rattle.teco_model.specs.declared.kind.Motion.TheVariants.{Forward, Backward, To, Lines}
-use Rattle.teco_poly.specs.Polynomial.{number}
 use Rattle.teco_law_facts.proofs.Lines.{on_within, none_within, back_within}
 use Rattle.teco_law_facts.proofs.Numbers.{AreLeast, least_in, plus_in, minus_in, interval_of_in, both_true}
 use Rattle.teco_law_facts.proofs.Near.{distances, beyond_is, line_of}
@@ -32,7 +31,7 @@ use Rattle.teco_verifier.specs.declared.refusal.Refusal.TheVariants as refusal
 use Rattle.teco_verifier.specs.declared.values.Distances.{Distances}
 use Rattle.teco_verifier.specs.declared.values.Interval.{Interval}
 use Rattle.teco_verifier.specs.declared.values.Value.{Value}
-use Rattle.teco_verifier.specs.facts.Falls.{By, PastLine, InLine, Refilled, NextPage, is_second}
+use Rattle.teco_verifier.specs.facts.Falls.{By, PastLine, InLine, is_second}
 use Rattle.teco_verifier.specs.declared.rules.Rules.{Rules}
 use Rattle.teco_verifier.specs.declared.rules.Rules.TheVariants.{First, Second}
 use Rattle.teco_verifier.specs.declared.falls.DigitMark.{DigitMark}

@@ -10,7 +10,7 @@ use Rattle.std.proofs.lemmas.Int.{ints}
 use Rattle.teco_model.specs.Registers.{empty_pair}
 use Rattle.teco_model.specs.State.{Kept}
 use Rattle.teco_law_facts.proofs.Numbers.{AreDistances}
-use Rattle.teco_law_facts.specs.Describes.{Run, IsWhole, IsWholePair, Holds, fore_of, back_of, around_of}
+use Rattle.teco_law_facts.specs.Describes.{Run, IsWhole, IsWholePair, Holds, around_of}
 use Rattle.teco_verifier.specs.facts.Facts.{Facts}
 use Rattle.teco_verifier.specs.declared.rules.Rules.{Rules}
 use Rattle.teco_verifier.specs.declared.rules.Rules.TheVariants.{First, Second}

@@ -119,7 +119,7 @@ module _ (run : Run) (facts : Facts) (x : Placed) (edges : Edges) (s : State) (h
   -- what is written changes nothing that is known
   writes_stay : (bytes : List ℕ) (now : World) (o : Option Facts) → MatchOption o ⊥ (λ next. ComesTo run facts.held s.world next (model.levels_after_taking s.arguments) now) → MatchOption o ⊥ (λ next. ComesTo run facts.held s.world next (model.levels_after_taking s.arguments) (paging.world_after_writing bytes now))
   writes_stay bytes now None c = c
-  writes_stay bytes now (Some next) c = record { described = c.described; grown = c.grown }
+  writes_stay bytes now (Some next) c = record { described = c.described; less = c.less; grown = c.grown }
 
   pub turn_proceeds : (most : Polynomial) → steps (kind.Page page.Next) facts ≡ Ok most → x.element.kind ≡ kind.Page page.Next → IsOpen s.world → Proceeds (kind.Page page.Next) run facts x edges s (value most run.n) (outside.pages_outcome_of paging.page_turned x.element s s.left)
   turn_proceeds most m e o = pages_proceed page.Next tt paging.page_turned turned_open o most m (so_far (λ (taken : Taken). TurnsPages run facts.held s.world s.arguments edges taken.first taken.value) (λ (taken : Taken). Succeeds (λ (done : Progress). ComesBehind done.world) (paging.pages paging.page_turned taken s.world)) (model.arguments_of s.arguments.level) (λ taken i. i.begins) (turns_known e o))

@@ -19,7 +19,6 @@ use Rattle.teco_verifier.specs.facts.Transfer.{transfer}
 use Rattle.teco_model.specs.Character.{character, code_at}
 use Rattle.teco_model.specs.Going.{after}
 use Rattle.teco_law_facts.proofs.Asking.{code_in_text}
-use Rattle.teco_law_facts.proofs.Bodies.{falls_carried}
 use Rattle.teco_law_facts.proofs.Flowing.{taken_are, taking_is}
 use Rattle.teco_law_facts.proofs.Near.{distances, line_of, beyond_is, code_within}
 use Rattle.teco_law_facts.proofs.Pending.{settled_are}
@@ -53,8 +52,7 @@ use Rattle.teco_verifier.specs.declared.values.Distances.{Distances}
 use Rattle.teco_verifier.specs.declared.falls.DigitMark.{DigitMark}
 use Rattle.teco_verifier.specs.declared.falls.DigitMark.TheVariants.{Before, At}
 use Rattle.teco_verifier.specs.declared.rules.Rules.{Rules}
-use Rattle.teco_verifier.specs.declared.rules.Rules.TheVariants.{First, Second}
-use Rattle.teco_verifier.specs.facts.Falls.{By, PastLine, InLine, Refilled, NextPage, is_second, Descent}
+use Rattle.teco_verifier.specs.facts.Falls.{Refilled, NextPage, is_second, Descent}
 use Rattle.teco_verifier.specs.declared.falls.Falls.{Falls}
 use Rattle.teco_law_facts.proofs.Falls.{IsLine, Descends, held_before, each_fallen, ordered_is, fallen_by, fallen_again}
 use Rattle.teco_law_facts.proofs.Beyond.{beyond_more, drop_before, behind_line}
@@ -191,6 +189,7 @@ module _ (run : Run) (facts : Facts) (world : World) (pending : arguments.Argume
         pending = settled_at true (around_of (turned_world world).kept) (λ e. absurd (cc));
         answers = tt;
       };
+      less = let p = page_short (unread world.files) in let r = rest run taking world taking_holds held e in omega (arith, p, r);
       grown = let t = turned_less run taking world taking_holds held e in omega (arith, e);
     }
 
@@ -212,6 +211,7 @@ module _ (run : Run) (facts : Facts) (world : World) (pending : arguments.Argume
             pending = settled_at true (around_of (turned_world later).kept) (λ e. absurd (cc));
             answers = tt;
           };
+          less = omega (arith, c.less, p, r);
           grown = omega (arith, c.grown);
         })
 
@@ -241,6 +241,7 @@ module _ (run : Run) (facts : Facts) (world : World) (pending : arguments.Argume
   stays : (files : Files) → unread files ≡ unread world.files → ComesTo run facts.held world unchanged (arguments.levels_after_taking pending) (record { kept = world.kept; files = files })
   stays files e = let l : length (unread files) ≡ unread_of world = ap length e in record {
     described = subst (λ u. Describes run unchanged u world.kept (arguments.levels_after_taking pending)) (sym l) (record { state = pending_again run (without_digit taking) (unread_of world) world.kept (forgotten run taking (unread_of world) world.kept whole taking_holds taking_holds) _; pending = own_is; answers = tt });
+    less = omega (arith, l);
     grown = omega arith;
   }
 
@@ -343,6 +344,7 @@ module _ (run : Run) (facts : Facts) (world : World) (pending : arguments.Argume
             pending = settled_at false (around_of grown_world.kept) (λ e. omega (arith, l, whole.inside));
             answers = tt;
           };
+          less = omega (arith, p, r);
           grown = omega (arith, e);
         }
 
@@ -353,6 +355,7 @@ module _ (run : Run) (facts : Facts) (world : World) (pending : arguments.Argume
         pending = settled_at false (around_of world.kept) (λ e. omega arith);
         answers = tt;
       };
+      less = omega arith;
       grown = omega (arith, e);
     }
 

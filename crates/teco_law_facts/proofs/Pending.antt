@@ -1,5 +1,5 @@
 -- What is done with known arguments is true of the pending ones.
-use Rattle.std.proofs.Common.{◌≡◌, ℕ, ℤ, pos, negsuc, arith, w32, FitsSigned, refl, int_le, Bool, true, false, cond, map, ok_or, Result, Ok, Err, Option, Some, None, List, [], ◌∷◌}
+use Rattle.std.proofs.Common.{◌≡◌, ℤ, pos, negsuc, arith, w32, FitsSigned, refl, int_le, Bool, true, false, cond, map, ok_or, Result, Ok, Err, Option, Some, None, List, [], ◌∷◌}
 use Rattle.std.specs.Prelude.{⊤}
 use Rattle.std.proofs.lemmas.Int.{ints, SFits-int_wrap}
 use Rattle.teco_base.specs.Arithmetic.{and, or}

@@ -31,7 +31,7 @@ use Rattle.teco_law_facts.proofs.Shapes.{IsDone, Foretells, value-sum_of, value-
 use Rattle.teco_verifier.specs.facts.Arguments.{KnownTaken}
 use Rattle.teco_verifier.specs.facts.Arguments as known
 use Rattle.teco_verifier.specs.facts.Attempt.{◌>>=◌}
-use Rattle.teco_law_facts.specs.Describes.{Run, IsWhole, Holds, IsAt, AreRegisters, IsPushed, ArePushed, IsTaken, IsOptional, fore_of, back_of, around_of}
+use Rattle.teco_law_facts.specs.Describes.{Run, IsWhole, Holds, IsAt, AreRegisters, IsPushed, ArePushed, IsTaken, IsOptional, around_of}
 use Rattle.teco_verifier.specs.facts.Facts.{Facts, Pushed, number_of, text_of, without_digit}
 use Rattle.teco_verifier.specs.facts.Motions.{count_of}
 use Rattle.teco_verifier.specs.facts.Shifts.{Foreseen, is_place, silent}

@@ -1,5 +1,5 @@
 -- S and FS: what is known of both outcomes is true.
-use Rattle.std.proofs.Common.{◌≡◌, ℕ, zero, suc, ◌+◌, ◌-◌, ◌≤◌, arith, refl, sym, subst, ap, ◌∙◌, ℤ, pos, negsuc, ◌≤ℤ◌, int_le, int_lt, List, [], ◌∷◌, map, length, Bool, true, false, cond, nat_le, ◌&&◌, Option, Some, None, Result, Ok, Err, IfOk, IfSome, inl, inr, option_map, ◌+ℤ◌}
+use Rattle.std.proofs.Common.{◌≡◌, ℕ, zero, suc, ◌+◌, ◌≤◌, arith, refl, sym, subst, ap, ◌∙◌, ℤ, pos, negsuc, ◌≤ℤ◌, int_le, int_lt, List, [], ◌∷◌, map, length, Bool, true, false, cond, nat_le, ◌&&◌, Option, Some, None, Result, Ok, Err, IfOk, IfSome, inl, inr, option_map, ◌+ℤ◌}
 use Rattle.std.specs.Prelude.{unwrap_or, not}
 use Rattle.std.proofs.lemmas.Int.{ints}
 use Rattle.std.proofs.lemmas.List.{length-map}
@@ -54,8 +54,7 @@ use Rattle.teco_verifier.specs.declared.refusal.Refusal.{Refusal}
 use Rattle.teco_verifier.specs.declared.refusal.Refusal.TheVariants as refusal
 use Rattle.teco_verifier.specs.declared.values.Interval.{Interval}
 use Rattle.teco_verifier.specs.declared.values.Value.{Value}
-use Rattle.teco_verifier.specs.declared.falls.DigitMark.{DigitMark}
-use Rattle.teco_verifier.specs.declared.falls.DigitMark.TheVariants.{Before, At}
+use Rattle.teco_verifier.specs.declared.falls.DigitMark.TheVariants.{Before}
 use Rattle.teco_verifier.specs.facts.Falls.{is_second}
 use Rattle.teco_verifier.specs.declared.falls.Falls.{Falls}
 use Rattle.teco_base.specs.Bytes.{is_digit}
@@ -87,6 +86,22 @@ allowed_count Replace i value h = in_buffer _ _ _ i value refl refl refl h
 allowed_count FindInPages i value h = in_pages _ i value refl h
 allowed_count ReplaceInPages i value h = in_pages _ i value refl h
 
+-- ---- a digit that ends a match
+at_digit : (text : List ℕ) (end : ℕ) → EndsInDigit text end → is_code_of is_digit (code_at text (pos end +ℤ negsuc 0)) ≡ true
+at_digit text end (at, e, (c, g, d)) =
+    let same : pos at ≡ pos end +ℤ negsuc 0 = omega (arith, ints, e) in
+    let code : code_at text (pos at) ≡ pos c = ap (λ o. unwrap_or (option_map pos o) (negsuc 0)) g in
+    subst (λ z. is_code_of is_digit (code_at text z) ≡ true) same (rw code d)
+
+pub marked_found : (x y : Bool) (kept : Kept) → (y ≡ true → EndsInDigit kept.text kept.pointer) → IsMarked (around_of kept) (cond (x && y) (Some Before) None)
+marked_found true true kept d = at_digit kept.text kept.pointer (d refl)
+marked_found true false kept d = tt
+marked_found false y kept d = tt
+
+pub unmarked_found : (x : Bool) → cond (x && false) (Some Before) None ≡ None
+unmarked_found true = refl
+unmarked_found false = refl
+
 -- ---- what a search leaves
 module _ (run : Run) (facts : Facts) (unread : ℕ) (kept : Kept) (whole : IsWhole kept) (h : Holds run facts unread kept) where
   pub of_count : (o : Option Value) (v : Option ℤ) → IsOptional (IsValue (around_of kept)) o v → IsWithin (count_of o facts.position.distances) (unwrap_or v (pos 1))
@@ -103,20 +118,9 @@ module _ (run : Run) (facts : Facts) (unread : ℕ) (kept : Kept) (whole : IsWho
   abbrev pub found_shift : Search → ℕ → Element → Shift
   found_shift s least e = record (row.shift_found s least (length e.second) facts.position.distances) { digit = row.digit_found facts.rules s e.text }
 
-  at_digit : (text : List ℕ) (end : ℕ) → EndsInDigit text end → is_code_of is_digit (code_at text (pos end +ℤ negsuc 0)) ≡ true
-  at_digit text end (at, e, (c, g, d)) =
-      let same : pos at ≡ pos end +ℤ negsuc 0 = omega (arith, ints, e) in
-      let code : code_at text (pos at) ≡ pos c = ap (λ o. unwrap_or (option_map pos o) (negsuc 0)) g in
-      subst (λ z. is_code_of is_digit (code_at text z) ≡ true) same (rw code d)
-
-  found_mark : (x y : Bool) (text : List ℕ) (end : ℕ) → (y ≡ true → is_code_of is_digit (code_at text (pos end +ℤ negsuc 0)) ≡ true) → IsMarked (around_of (record kept { text = text; pointer = end })) (cond (x && y) (Some Before) None)
-  found_mark true true text end d = d refl
-  found_mark true false text end d = tt
-  found_mark false y text end d = tt
-
   found_at : (s : Search) → IsInBuffer s → (e : Element) (least : ℕ) (span : Span) (last : List ℕ) → LiesAhead (row.end_in_digit (parts e.text)) kept.text kept.pointer least span → value facts.held run.n + value (found_shift s least e).growth run.n ≤ LIMIT → Succeeds (λ new. Shifts run.n (found_shift s least e) kept new) (searching.kept_after s e span (record kept { search_text = last }))
   found_at Find b e least span last l f =
-      let moved = moved_by run facts unread kept whole h (record { back = facts.position.distances.back + least; fore = 0 }) (Some (pos least)) (row.digit_found facts.rules Find e.text) span.end (omega (arith, h.position.begin, l.ahead, l.long)) (omega (arith, l.within)) (omega (arith, ints, l.ahead, l.long, l.within, whole.inside)) (found_mark (is_second facts.rules) (row.end_in_digit (parts e.text)) kept.text span.end (λ q. at_digit kept.text span.end (l.last q))) in
+      let moved = moved_by run facts unread kept whole h (record { back = facts.position.distances.back + least; fore = 0 }) (Some (pos least)) (row.digit_found facts.rules Find e.text) span.end (omega (arith, h.position.begin, l.ahead, l.long)) (omega (arith, l.within)) (omega (arith, ints, l.ahead, l.long, l.within, whole.inside)) (marked_found (is_second facts.rules) (row.end_in_digit (parts e.text)) (record kept { pointer = span.end }) l.last) in
       record { registers = refl; inside = moved.inside; behind = moved.behind; ahead = moved.ahead; grown = moved.grown; fallen = moved.fallen; elsewhere = moved.elsewhere; wider = moved.wider; digit = moved.digit }
   found_at Replace b e least span last l f = put_at _ refl
     where
@@ -124,10 +128,7 @@ module _ (run : Run) (facts : Facts) (unread : ℕ) (kept : Kept) (whole : IsWho
       within = replaced_within run facts unread kept whole h span.start span.end (length e.second) e.second (omega (arith, l.long)) l.within (omega arith) (omega (arith, f, value-number (length e.second) run.n))
 
       no_digit : row.digit_found facts.rules Replace e.text ≡ None
-      no_digit = by (is_second facts.rules) where
-        by : (x : Bool) → cond (x && false) (Some Before) None ≡ None
-        by true = refl
-        by false = refl
+      no_digit = unmarked_found (is_second facts.rules)
 
       shifts : Shifts run.n (found_shift Replace least e) kept (record kept { text = text_after_replacement kept.text span.start span.end e.second; pointer = span.start + length e.second; last_length = length e.second })
       shifts = replaced_at run facts unread kept whole h (found_shift Replace least e) (Some (pos least)) span.start span.end e.second refl no_digit (omega (arith, l.long)) l.within (omega (arith, h.position.begin, l.ahead)) (omega (arith, l.within)) (omega (arith, l.long, value-number (length e.second) run.n)) (omega (arith, ints, l.ahead, l.long, l.within, whole.inside)) (λ e. absurd (cc))

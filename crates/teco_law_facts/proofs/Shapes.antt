@@ -1,5 +1,5 @@
 -- The shapes of what commands do, and that the facts that they leave are true.
-use Rattle.std.proofs.Common.{◌≡◌, ℕ, zero, suc, ◌+◌, ◌*◌, ◌^◌, ◌≤◌, ◌∙◌, arith, refl, sym, ap, subst, cond, Bool, true, false, ◌&&◌, ◌==◌, option_map, ◌-ℤ◌, ℤ, pos, negsuc, ◌+ℤ◌, ◌≤ℤ◌, List, [], ◌∷◌, length, map, Option, Some, None, Result, Ok, Err, IfSome, IfOk, ok_or, nat_le}
+use Rattle.std.proofs.Common.{◌≡◌, ℕ, zero, suc, ◌+◌, ◌≤◌, arith, refl, sym, subst, cond, Bool, true, false, option_map, ◌-ℤ◌, pos, negsuc, ◌+ℤ◌, ◌≤ℤ◌, [], ◌∷◌, length, Option, Some, None, Result, Ok, Err, IfSome, IfOk, ok_or, nat_le}
 use Rattle.std.proofs.lemmas.Int.{ints}
 use Rattle.teco_base.specs.declared.TheConstants.{LIMIT}
 use Rattle.teco_base.specs.declared.code.Code.{Code}
@@ -12,12 +12,11 @@ use Rattle.teco_law_facts.proofs.Numbers.{both_true, both}
 use Rattle.teco_law_facts.proofs.Near.{distances, line_of}
 use Rattle.teco_law_facts.proofs.Falls.{IsLine, Descends, held_before, fallen_by, ordered_is, each_fallen}
 use Rattle.teco_verifier.specs.facts.Falls.{Descent, By, PastLine, InLine, Refilled, NextPage}
-use Rattle.std.specs.Prelude.{IsTrue}
 use Rattle.std.proofs.lemmas.Bool.Decides.{nat_tests}
 use Rattle.teco_law_facts.proofs.Pending.{settled_are}
 use Rattle.teco_law_facts.proofs.Saved.{Widens, saved_after_are}
 use Rattle.teco_verifier.specs.facts.Attempt.{◌>>=◌}
-use Rattle.teco_law_facts.specs.Describes.{Run, IsWhole, Holds, IsAt, IsOptional, AreEach, HasFallen, ArePending, fore_of, back_of, around_of, IsMarked}
+use Rattle.teco_law_facts.specs.Describes.{Run, IsWhole, Holds, IsAt, IsOptional, HasFallen, ArePending, fore_of, back_of, around_of, IsMarked}
 use Rattle.teco_verifier.specs.facts.Facts.{Facts, sum_of}
 use Rattle.teco_verifier.specs.facts.Shifts.{Shift, Foreseen, number_in, held_fall, capped, falls_behind, shifted, facts_behind, ahead_after}
 use Rattle.teco_law_facts.specs.SoundElements.{Succeeds, Leads, Fits}
@@ -104,7 +103,7 @@ Moves n shift kept answer = Succeeds (λ (effect : Effect). Shifts n shift kept 
 abbrev pub Foretells : Run → Facts → ℕ → Kept → Result Foreseen Refusal → Result Effect Code → Type 0
 Foretells run facts unread kept = Leads (λ (known : Foreseen). Fits run.n known.facts) (IsDone run facts unread kept)
 
-le_self : (n : ℕ) → n ≤ n
+pub le_self : (n : ℕ) → n ≤ n
 le_self n = omega arith
 
 module _ (run : Run) (facts : Facts) (unread : ℕ) (kept : Kept) (w : IsWhole kept) (h : Holds run facts unread kept) where

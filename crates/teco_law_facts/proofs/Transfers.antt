@@ -38,7 +38,7 @@ use Rattle.teco_law_facts.proofs.Leading.{covers_leads, leads_on}
 use Rattle.teco_verifier.specs.facts.Arguments as known
 use Rattle.teco_verifier.specs.facts.Arguments.{KnownLevel, KnownArguments, KnownTaken}
 use Rattle.teco_verifier.specs.facts.Attempt.{◌>>=◌}
-use Rattle.teco_law_facts.specs.Describes.{Run, IsWhole, Holds, Describes, ArePushed, IsLevel, IsTaken, IsOptional, ArePending, fore_of, back_of, around_of}
+use Rattle.teco_law_facts.specs.Describes.{Run, IsWhole, Holds, Describes, ArePushed, IsLevel, IsTaken, IsOptional, ArePending, around_of}
 use Rattle.teco_verifier.specs.facts.Facts.{Facts, Pushed, with_arguments}
 use Rattle.teco_verifier.specs.facts.Queries as row
 use Rattle.teco_verifier.specs.facts.Shifts.{Foreseen, facts_answered, facts_behind}

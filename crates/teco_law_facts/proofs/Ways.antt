@@ -6,7 +6,7 @@ use Rattle.teco_model.specs.Registers.{Pair}
 use Rattle.teco_law_facts.proofs.Numbers.{AreDistances, both, interval_of_in, both_true, are_equal_is}
 use Rattle.teco_law_facts.proofs.Near.{distances, line_of}
 use Rattle.teco_verifier.specs.facts.Deletions.{positive}
-use Rattle.teco_law_facts.specs.Describes.{Run, IsWhole, Holds, IsAt, IsAnswer, fore_of, back_of, around_of, Begun, HasFallen, IsMarked, IsDigitAt}
+use Rattle.teco_law_facts.specs.Describes.{Run, IsWhole, Holds, IsAt, IsAnswer, around_of, Begun, HasFallen, IsMarked, IsDigitAt}
 use Rattle.teco_verifier.specs.facts.Facts.{Position, Answer, Facts, at_position}
 use Rattle.teco_law_facts.specs.Laws.{IsTold, WaysAreSound}
 use Rattle.teco_verifier.specs.facts.Values.{IsIn, IsWithin, interval_of, Surroundings, IsValue, code_worth, has_form, has_no_distance, are_equal}
@@ -15,9 +15,7 @@ use Rattle.teco_verifier.specs.declared.values.Distances.{Distances}
 use Rattle.teco_verifier.specs.declared.values.Interval.{Interval}
 use Rattle.teco_verifier.specs.declared.values.Value.{Value}
 use Rattle.teco_verifier.specs.declared.falls.DigitMark.{DigitMark}
-use Rattle.teco_verifier.specs.declared.falls.DigitMark.TheVariants.{Before, At}
 use Rattle.teco_verifier.specs.declared.rules.Rules.{Rules}
-use Rattle.teco_verifier.specs.declared.rules.Rules.TheVariants.{First, Second}
 use Rattle.std.specs.Prelude.{IsTrue, ⊤}
 use Rattle.std.specs.Option.{option_map_or}
 use Rattle.teco_base.specs.Bytes.{is_digit}

@@ -1,10 +1,7 @@
 -- What it means that facts describe a state of the machine.
-use Rattle.std.specs.Prelude.{◌≡◌, ◌⊎◌, ℕ, ℤ, pos, negsuc, ◌+◌, ◌-◌, ◌<◌, ◌≤◌, ◌+ℤ◌, ◌≤ℤ◌, IsTrue, ⊤, List, [], ◌∷◌, length, drop, Bool, Option, Some, None, MatchOption, FitsSigned}
-use Rattle.std.specs.Int.{w32}
-use Rattle.std.specs.List.{AllByRecursion}
+use Rattle.std.specs.Prelude.{◌≡◌, ◌⊎◌, ℕ, ℤ, pos, negsuc, ◌+◌, ◌-◌, ◌≤◌, ◌+ℤ◌, ◌≤ℤ◌, IsTrue, ⊤, List, [], ◌∷◌, length, drop, Bool, Option, Some, None, MatchOption}
 use Rattle.teco_base.specs.Bytes.{is_digit}
 use Rattle.teco_base.specs.Lines.{line_place}
-use Rattle.teco_base.specs.declared.TheConstants.{LIMIT, REGISTERS}
 use Rattle.teco_model.specs.declared.arguments.Level.{Level}
 use Rattle.teco_model.specs.declared.arguments.Taken.{Taken}
 use Rattle.teco_model.specs.Arguments.{Arguments, empty_level}

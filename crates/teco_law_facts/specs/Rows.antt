@@ -1,5 +1,5 @@
 -- What is known along texts, worked by hand.
-use Rattle.std.specs.Prelude.{◌≡◌, ℕ, zero, suc, ℤ, pos, List, [], ◌∷◌, ◌++◌, codes, replicate, Bool, true, false, Option, Some, None, Result, Ok, Err}
+use Rattle.std.specs.Prelude.{◌≡◌, ℕ, zero, suc, ℤ, pos, List, [], ◌∷◌, ◌++◌, codes, replicate, Bool, true, false, Some, None, Result, Ok, Err}
 use Rattle.teco_poly.specs.declared.coefficients.TheConstants.{COEFFICIENTS}
 use Rattle.teco_base.specs.declared.TheConstants.{REGISTERS}
 use Rattle.teco_base.specs.declared.bytes.TheConstants.{ESC}
@@ -17,7 +17,7 @@ use Rattle.teco_verifier.specs.declared.refusal.Refusal.{Refusal}
 use Rattle.teco_verifier.specs.declared.refusal.Refusal.TheVariants as refusal
 use Rattle.teco_verifier.specs.declared.values.Distances.{Distances}
 use Rattle.teco_verifier.specs.declared.falls.Falls.{Falls}
-use Rattle.teco_verifier.specs.declared.rules.Rules.TheVariants.{First, Second}
+use Rattle.teco_verifier.specs.declared.rules.Rules.TheVariants.{First}
 use Rattle.teco_verifier.specs.facts.Falls.{falls_at_turn}
 
 -- an element of a text that is one of the library's, and whose register is A

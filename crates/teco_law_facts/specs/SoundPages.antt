@@ -4,7 +4,7 @@ use Rattle.std.specs.Prelude.{◌≡◌, ℕ, ℤ, pos, unwrap_or, ◌≤ℤ◌,
 use Rattle.teco_model.specs.Arguments.{Arguments, arguments_of, levels_after_taking, levels_after_answer}
 use Rattle.teco_model.specs.Character.{character}
 use Rattle.teco_model.specs.Files.{Input, Output}
-use Rattle.teco_model.specs.Paging.{Progress, unread, append, pages, page_turned, page_written, unread_of}
+use Rattle.teco_model.specs.Paging.{Progress, append, pages, page_turned, page_written, unread_of}
 use Rattle.teco_model.specs.State.{Kept, World}
 use Rattle.teco_model.specs.Going.{after}
 use Rattle.teco_model.specs.declared.arguments.Taken.{Taken}
@@ -20,10 +20,11 @@ use Rattle.teco_law_facts.specs.SoundFlow.{Tells}
 use Rattle.teco_law_facts.specs.SoundElements.{Leads, Succeeds, Arrives, FitsOn}
 use Rattle.teco_verifier.specs.facts.Transfer.{Placed, transfer}
 
--- The facts describe what a world comes to, and what is held grew by no more than they say.
+-- The facts describe what a world comes to, no more is unread, and what is held grew by no more than they say.
 pub record ComesTo
     (run : Run) (held : Polynomial) (old : World) (next : Facts) (arguments : Arguments) (new : World) : Type 0 where
   pub described : Describes run next (unread_of new) new.kept arguments
+  pub less : unread_of new ≤ unread_of old
   pub grown :
       length new.kept.text + unread_of new + value held run.n
       ≤ length old.kept.text + unread_of old + value next.held run.n

@@ -65,10 +65,12 @@ abbrev pub LooksOn : Run → Facts → World → Arguments → Placed → Edges 
 LooksOn run known old pending x edges now (Met new) =
     Comes run known.held old (levels_after_answer (answer_where x.colon (negsuc 0)) (levels_after_taking pending)) edges
     new
+    × (unread_of new ≤ unread_of now)
 LooksOn run known old pending x edges now (Turned n new) =
     IsSeeking run known old pending x.element.text new × (unread_of new + 1 ≤ unread_of now)
 LooksOn run known old pending x edges now (Through last) =
     MissComes x.colon run known.held old pending edges (looked_through last)
+    × (unread_of (looked_through last) ≤ unread_of now)
 
 -- the first step of N and FN, and each that follows
 pub record Seeks
