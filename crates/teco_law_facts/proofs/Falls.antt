@@ -29,7 +29,7 @@ less_smaller_too now begun None g h = tt
 less_smaller_too now begun (Some v) None h = tt
 
 pub less_grown : (before now n begun : ℕ) (f : Option ℤ) → now + n ≤ before → IsLess before f begun → IsLess now (grown n f) begun
-less_grown before now n begun (Some v) l h = omega (arith, ints)
+less_grown before now n begun (Some v) l h = omega (arith, ints, clamps)
 less_grown before now n begun None l h = tt
 
 pub less_now : (before now begun : ℕ) (f : Option ℤ) → now ≤ before → IsLess before f begun → IsLess now f begun
