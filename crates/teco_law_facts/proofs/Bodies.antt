@@ -22,7 +22,7 @@ use Rattle.teco_verifier.specs.facts.Covers.{covers_interval, covers_length}
 use Rattle.teco_law_facts.specs.Describes.{IsWhole, IsWholePair, AreEach, HasFallen, Holds, fore_of, back_of, around_of, Begun, begun_at, IsLess, Describes}
 use Rattle.teco_verifier.specs.facts.Facts.{Position, Facts, entry_facts, sum_of, text_at_entry, texts_at_entry}
 use Rattle.teco_verifier.specs.facts.Flows.{entering}
-use Rattle.teco_law_facts.specs.Laws.{BodyStartsAreSound, IsCarried, ReturnsAreSound, TurnsFall, HasRoom, RoomIsSound, IsEntry, EntryIsSound, amount_of, FellBefore, HasRest}
+use Rattle.teco_law_facts.specs.Laws.{BodyStartsAreSound, IsCarried, ReturnsAreSound, TurnsFall, HasRoom, RoomIsSound, IsEntry, EntryIsSound, amount_of, FellBefore, HasRest, HaveLengths}
 use Rattle.teco_verifier.specs.facts.Values.{IsWithin, any_number, Surroundings}
 use Rattle.teco_verifier.specs.declared.falls.Rank.TheVariants as rank
 use Rattle.teco_verifier.specs.declared.refusal.Refusal.TheVariants as refusal
@@ -261,14 +261,14 @@ texts_given n rules (o ∷ lengths) (suc k) (pair ∷ pairs) l h i = (by rules o
 texts_given n rules lengths zero (pair ∷ pairs) l h i = absurd (omega arith)
 texts_given n rules lengths (suc k) [] l h i = absurd (omega arith)
 
-entry_holds : (n unread : ℕ) (kept : Kept) (rules : Rules) (lengths : List (Option ℕ)) → IsWhole kept → IsEntry n lengths unread kept → Holds (record { n = n; turns = []; below = kept.registers.stack }) (entry_facts rules lengths) unread kept
-entry_holds n unread kept rules lengths whole i =
+entry_holds : (n unread : ℕ) (kept : Kept) (rules : Rules) (lengths : List (Option ℕ)) (library : ℕ → Bool) → IsWhole kept → IsEntry n unread kept → HaveLengths lengths kept → Holds (record { n = n; library = library; turns = []; below = kept.registers.stack }) (entry_facts rules lengths) unread kept
+entry_holds n unread kept rules lengths library whole i long =
     let all = (values_of_constants n 0).1 in record {
       position = record { begin = omega arith; end = omega arith; fallen = tt; ahead = omega (arith, all, i.held, whole.inside); saved = none_are (around_of kept) kept.registers.pairs whole.count; digit = tt };
       held = omega (arith, all, i.held);
       registers = record {
         numbers = each_replicated (λ i (pair : Pair). IsWithin i pair.number) REGISTERS any_number kept.registers.pairs whole.count (λ pair r e. subst (λ (p : Pair). IsWithin any_number p.number) e (any_within _ (all_at IsWholePair kept.registers.pairs empty_pair whole.pairs empty_whole r).number));
-        texts = texts_given n rules lengths REGISTERS kept.registers.pairs whole.count (λ r. omega (arith, all, i.texts r)) i.library;
+        texts = texts_given n rules lengths REGISTERS kept.registers.pairs whole.count (λ r. omega (arith, all, i.texts r)) long;
       };
       pushed = refl;
     }
@@ -277,14 +277,14 @@ entry_holds n unread kept rules lengths whole i =
 argument_within : (range : ArgumentRange) (n : ℕ) → IsInRange range n → IsWithin (record { lo = pos range.low; hi = pos range.high }) (pos n)
 argument_within range n i = record { low = omega (arith, ints, i.low); high = omega (arith, ints, i.high) }
 
-entered_with : (n unread : ℕ) (kept : Kept) (rules : Rules) (lengths : List (Option ℕ)) (argument : Option ArgumentRange) (given : Option ℕ) → IsWhole kept → IsEntry n lengths unread kept → IsAsked argument given → Describes (record { n = n; turns = []; below = kept.registers.stack }) (facts_with argument (entry_facts rules lengths)) unread kept (arguments_given given)
-entered_with n unread kept rules lengths None None whole i asked = record {
-  state = entry_holds n unread kept rules lengths whole i;
+entered_with : (n unread : ℕ) (kept : Kept) (rules : Rules) (lengths : List (Option ℕ)) (argument : Option ArgumentRange) (given : Option ℕ) (library : ℕ → Bool) → IsWhole kept → IsEntry n unread kept → HaveLengths lengths kept → IsAsked argument given → Describes (record { n = n; library = library; turns = []; below = kept.registers.stack }) (facts_with argument (entry_facts rules lengths)) unread kept (arguments_given given)
+entered_with n unread kept rules lengths None None library whole i long asked = record {
+  state = entry_holds n unread kept rules lengths library whole i long;
   pending = record { level = record { first = tt; value = tt; operator = refl }; outer = tt };
   answers = tt;
 }
-entered_with n unread kept rules lengths (Some range) (Some given) whole i asked = record {
-  state = let h = entry_holds n unread kept rules lengths whole i in record { position = h.position; held = h.held; registers = h.registers; pushed = h.pushed };
+entered_with n unread kept rules lengths (Some range) (Some given) library whole i long asked = record {
+  state = let h = entry_holds n unread kept rules lengths library whole i long in record { position = h.position; held = h.held; registers = h.registers; pushed = h.pushed };
   pending = record {
     level = record {
       first = tt;
@@ -295,8 +295,8 @@ entered_with n unread kept rules lengths (Some range) (Some given) whole i asked
   };
   answers = tt;
 }
-entered_with n unread kept rules lengths None (Some given) whole i asked = absurd (asked)
-entered_with n unread kept rules lengths (Some range) None whole i asked = absurd (asked)
+entered_with n unread kept rules lengths None (Some given) library whole i long asked = absurd (asked)
+entered_with n unread kept rules lengths (Some range) None library whole i long asked = absurd (asked)
 
 pub entry_is_sound : EntryIsSound
-entry_is_sound n unread kept entry given whole i asked = entered_with n unread kept entry.rules entry.lengths entry.argument given whole i asked
+entry_is_sound n unread kept entry library given whole i long asked = entered_with n unread kept entry.rules entry.lengths entry.argument given library whole i long asked

@@ -63,7 +63,7 @@ file_refused x facts f e = subst (λ k. IfOk (transfers.edges_of k x (transfers.
   by (Ok taken) = tt
   by (Err why) = tt
 
-module _ (run : Run) (facts : Facts) (x : Placed) (edges : Edges) (s : State) (h : BeginsAt run facts x s) (t : transfer x facts ≡ Ok edges) (fits : FitsOn run.n edges) where
+module _ (run : Run) (facts : Facts) (x : Placed) (edges : Edges) (s : State) (h : BeginsAt run facts x s) (t : transfer x facts ≡ Ok edges) (fits : FitsOn run edges) where
   abbrev u : ℕ
   u = unread_of s.world
 
@@ -81,8 +81,8 @@ module _ (run : Run) (facts : Facts) (x : Placed) (edges : Edges) (s : State) (h
     needed : IfOk (needs k facts) (λ need. AreOpen need s.world.files)
     needed = subst (λ k. IfOk (needs k facts) (λ need. AreOpen need s.world.files)) e h.files
 
-    arrived : {X : Type 0} (Q : Edges → X → Type 0) (r : Result X Code) → Leads (FitsOn run.n) Q (transfer x facts) r → Succeeds (Q edges) r
-    arrived Q r l = leads_at (FitsOn run.n) Q (transfer x facts) r edges t fits l
+    arrived : {X : Type 0} (Q : Edges → X → Type 0) (r : Result X Code) → Leads (FitsOn run) Q (transfer x facts) r → Succeeds (Q edges) r
+    arrived Q r l = leads_at (FitsOn run) Q (transfer x facts) r edges t fits l
 
   -- A without a value needs an input, P, PW, N and FN an output
   output_of : (p : Page) (most : Polynomial) → ((o : Option Value) → (needs_of_page p o).output ≡ true) → (r : Result KnownTaken Refusal) → (r >>= λ taken. steps_of_page p taken facts) ≡ Ok most → IfOk (r >>= λ taken. Ok (needs_of_page p taken.value)) (λ need. AreOpen need s.world.files) → IsOpen s.world
@@ -124,7 +124,7 @@ module _ (run : Run) (facts : Facts) (x : Placed) (edges : Edges) (s : State) (h
   first_step (kind.Value v) most e m = outcome_goes run facts x edges s h t (kind.Value v) (value most run.n + 0) (λ unread. omega (arith, one_step most m)) (λ new g. g) _ (arrived (kind.Value v) e _ _ (values_are_sound run facts u kept s.arguments x v h.whole.world.kept h.described e))
   first_step (kind.Query q) most e m = outcome_goes run facts x edges s h t (kind.Query q) (value most run.n + 0) (λ unread. omega (arith, one_step most m)) (λ new g. g) _ (arrived (kind.Query q) e _ _ (queries_are_sound run facts u kept s.arguments x q h.whole.world.kept h.described e (named (kind.Query q) e)))
   first_step (kind.Stack k) most e m = outcome_goes run facts x edges s h t (kind.Stack k) (value most run.n + 0) (λ unread. omega (arith, one_step most m)) (λ new g. g) _ (arrived (kind.Stack k) e _ _ (stacks_are_sound run facts u kept s.arguments x k h.whole.world.kept h.described e (named (kind.Stack k) e)))
-  first_step (kind.Command c) most e m = outcome_goes run facts x edges s h t (kind.Command c) (value most run.n + 0) (λ unread. omega (arith, one_step most m)) (λ new g. g) _ (arrived (kind.Command c) e _ _ (commands_are_sound run facts u kept s.arguments x c h.whole.world.kept h.described e (named (kind.Command c) e)))
+  first_step (kind.Command c) most e m = outcome_goes run facts x edges s h t (kind.Command c) (value most run.n + 0) (λ unread. omega (arith, one_step most m)) (λ new g. g) _ (arrived (kind.Command c) e _ _ (commands_are_sound run facts u kept s.arguments x c h.whole.world.kept h.described e (named (kind.Command c) e) h.library))
   first_step (kind.Call c) most e m = call_proceeds run facts x edges s h t c (value most run.n + 0) (omega (arith, one_step most m)) e
   first_step (kind.Flow f) most e m = flow_proceeds run facts x edges s h t f (value most run.n + 0) (omega (arith, one_step most m)) e (stands (kind.Flow f) e)
   first_step (kind.Page page.Yank) most e m = absurd (ok_at (λ edges. ⊥) (transfer x facts) edges t (yank_refused x facts e))
@@ -193,7 +193,7 @@ unfolding runs.run
 first_then zero s middle e = e
 first_then (suc n) s middle e = ap runs.go_on (first_then n s middle e)
 
-module _ (run : Run) (facts : Facts) (x : Placed) (edges : Edges) (most : Polynomial) (s : State) (h : BeginsAt run facts x s) (t : transfer x facts ≡ Ok edges) (fits : FitsOn run.n edges) (m : steps x.element.kind facts ≡ Ok most) where
+module _ (run : Run) (facts : Facts) (x : Placed) (edges : Edges) (most : Polynomial) (s : State) (h : BeginsAt run facts x s) (t : transfer x facts ≡ Ok edges) (fits : FitsOn run edges) (m : steps x.element.kind facts ≡ Ok most) where
   abbrev Underway : ℕ → State → Type 0
   Underway rest now = IsUnderway x.element.kind run facts x edges s rest now
 

@@ -204,19 +204,19 @@ module _ (run : Run) (facts : Facts) (x : Placed) (edges : Edges) (s : State) (h
   has_none : x.colon ≡ false → x.element.colons ≡ 0
   has_none e = no_colons x.element.colons (outcomes.is_leave _) (subst (λ colon. colon ≡ false) h.colon e)
 
-  pub search_proceeds : (q : Search) (most : ℕ) → 1 ≤ most → FitsOn run.n edges → IsInBuffer q → x.element.kind ≡ kind.Search q → KindStands (kind.Search q) facts x frame → Goes (kind.Search q) most (outcomes.search_outcome_of q x.element s)
-  search_proceeds q most some fits b e k = subst (λ colon. Goes (kind.Search q) most (outcomes.search_outcome colon x.element (taking s) (outcomes.finding q x.element s))) h.colon (finding_goes q e most u (λ unread l. in_buffer_left q b unread some) k (omega arith) has_none _ (leads_at (FitsOn run.n) _ (transfer x facts) (finding q x.element s.world.kept s.arguments) edges t fits (searches_are_sound run facts u s.world.kept s.arguments x q h.whole.world.kept h.described e b has_none)))
+  pub search_proceeds : (q : Search) (most : ℕ) → 1 ≤ most → FitsOn run edges → IsInBuffer q → x.element.kind ≡ kind.Search q → KindStands (kind.Search q) facts x frame → Goes (kind.Search q) most (outcomes.search_outcome_of q x.element s)
+  search_proceeds q most some fits b e k = subst (λ colon. Goes (kind.Search q) most (outcomes.search_outcome colon x.element (taking s) (outcomes.finding q x.element s))) h.colon (finding_goes q e most u (λ unread l. in_buffer_left q b unread some) k (omega arith) has_none _ (leads_at (FitsOn run) _ (transfer x facts) (finding q x.element s.world.kept s.arguments) edges t fits (searches_are_sound run facts u s.world.kept s.arguments x q h.whole.world.kept h.described e b has_none)))
 
-  searched : (q : Search) → FitsOn run.n edges → IsInPages q → x.element.kind ≡ kind.Search q → (output : Output) → s.world.files.output ≡ Some output → Succeeds (Seeks run (facts_seeking facts) s.world s.arguments x q edges) (model.arguments_of s.arguments.level)
-  searched q fits b e output o = leads_at (FitsOn run.n) _ (transfer x facts) (model.arguments_of s.arguments.level) edges t fits (page_searches_are_sound run facts s.world s.arguments x q output h.whole.world.kept h.described e b o)
+  searched : (q : Search) → FitsOn run edges → IsInPages q → x.element.kind ≡ kind.Search q → (output : Output) → s.world.files.output ≡ Some output → Succeeds (Seeks run (facts_seeking facts) s.world s.arguments x q edges) (model.arguments_of s.arguments.level)
+  searched q fits b e output o = leads_at (FitsOn run) _ (transfer x facts) (model.arguments_of s.arguments.level) edges t fits (page_searches_are_sound run facts s.world s.arguments x q output h.whole.world.kept h.described e b o)
 
-  pub look_proceeds : (q : Search) (most : ℕ) → FitsOn run.n edges → IsInPages q → x.element.kind ≡ kind.Search q → KindStands (kind.Search q) facts x frame → (output : Output) → s.world.files.output ≡ Some output → u + 1 ≤ most → Goes (kind.Search q) most (outcomes.looked_outcome_of q x.element s s.left)
+  pub look_proceeds : (q : Search) (most : ℕ) → FitsOn run edges → IsInPages q → x.element.kind ≡ kind.Search q → KindStands (kind.Search q) facts x frame → (output : Output) → s.world.files.output ≡ Some output → u + 1 ≤ most → Goes (kind.Search q) most (outcomes.looked_outcome_of q x.element s s.left)
   look_proceeds q most fits b e k output o m =
       subst (λ left. Goes (kind.Search q) most (outcomes.looked_outcome_of q x.element s left)) (sym h.left)
       (subst (λ colon. Goes (kind.Search q) most (outcomes.looked_outcome colon x.element (taking s) (outcomes.looking q x.element s))) h.colon
       (looked_goes q e most u (λ unread l. left_up q unread (omega (arith, l, m))) k b s.world s.left (omega arith) m _ (then_so _ (LooksOn run (facts_seeking facts) s.world s.arguments x edges s.world) (model.arguments_of s.arguments.level) (λ taken. paging.look_first q x.element taken s.world) (searched q fits b e output o) (λ taken w i. i.begins))))
 
-  pub look_again : (q : Search) (most : ℕ) → FitsOn run.n edges → IsInPages q → x.element.kind ≡ kind.Search q → KindStands (kind.Search q) facts x frame → (output : Output) → s.world.files.output ≡ Some output → (now : World) (n : ℕ) (left : Option ℕ) → IsSeeking run (facts_seeking facts) s.world s.arguments x.element.text now → unread_of now + 1 ≤ most → Goes (kind.Search q) most (outcomes.looked_outcome (outcomes.has_colon x.element frame) x.element (record s { world = now; arguments = model.levels_after_taking s.arguments; left = left }) (paging.look_for q x.element n now))
+  pub look_again : (q : Search) (most : ℕ) → FitsOn run edges → IsInPages q → x.element.kind ≡ kind.Search q → KindStands (kind.Search q) facts x frame → (output : Output) → s.world.files.output ≡ Some output → (now : World) (n : ℕ) (left : Option ℕ) → IsSeeking run (facts_seeking facts) s.world s.arguments x.element.text now → unread_of now + 1 ≤ most → Goes (kind.Search q) most (outcomes.looked_outcome (outcomes.has_colon x.element frame) x.element (record s { world = now; arguments = model.levels_after_taking s.arguments; left = left }) (paging.look_for q x.element n now))
   look_again q most fits b e k output o now n left i m =
       subst (λ colon. Goes (kind.Search q) most (outcomes.looked_outcome colon x.element (record s { world = now; arguments = model.levels_after_taking s.arguments; left = left }) (paging.look_for q x.element n now))) h.colon
       (looked_goes q e most (unread_of now) (λ unread l. left_up q unread (omega (arith, l, m))) k b now left (omega arith) m _ (of_one (Seeks run (facts_seeking facts) s.world s.arguments x q edges) (Succeeds (LooksOn run (facts_seeking facts) s.world s.arguments x edges now) (paging.look_for q x.element n now)) _ (searched q fits b e output o) (λ taken j. j.more now n i)))

@@ -227,10 +227,10 @@ module _ (run : Run) (facts : Facts) (world : World) (pending : arguments.Argume
 
   -- the edges where what is known fits
   abbrev FitsThen : (Edges → Type 0) → Result Edges Refusal → Type 0
-  FitsThen P (Ok edges) = FitsOn run.n edges → P edges
+  FitsThen P (Ok edges) = FitsOn run edges → P edges
   FitsThen P (Err why) = ⊤
 
-  as_leads : (Q : Edges → Taken → Type 0) (t : Taken) (r : Result Edges Refusal) → FitsThen (λ edges. Q edges t) r → Leads (FitsOn run.n) Q r (Ok t)
+  as_leads : (Q : Edges → Taken → Type 0) (t : Taken) (r : Result Edges Refusal) → FitsThen (λ edges. Q edges t) r → Leads (FitsOn run) Q r (Ok t)
   as_leads Q t (Ok edges) h = h
   as_leads Q t (Err why) h = tt
 
@@ -426,22 +426,22 @@ pub appends_are_sound : AppendsAreSound
 unfolding transfer
 appends_are_sound run facts world pending x whole d e =
     let n = without_answer run facts (unread_of world) world.kept pending d in
-    subst (λ k. Leads (FitsOn run.n) (Appends run facts.held world pending) (transfers.edges_of k x (transfers.answer_for k facts) (transfers.without_answer facts)) (arguments.arguments_of pending.level)) (sym e)
-    (taking_leads (FitsOn run.n) (Appends run facts.held world pending) (facts_taken (transfers.without_answer facts)) (λ k. row.append k.value (facts_taken (transfers.without_answer facts))) (IsTaken (around_of world.kept)) _ _ (taken_is run (transfers.without_answer facts) world pending whole n) (λ k t i.
+    subst (λ k. Leads (FitsOn run) (Appends run facts.held world pending) (transfers.edges_of k x (transfers.answer_for k facts) (transfers.without_answer facts)) (arguments.arguments_of pending.level)) (sym e)
+    (taking_leads (FitsOn run) (Appends run facts.held world pending) (facts_taken (transfers.without_answer facts)) (λ k. row.append k.value (facts_taken (transfers.without_answer facts))) (IsTaken (around_of world.kept)) _ _ (taken_is run (transfers.without_answer facts) world pending whole n) (λ k t i.
     as_leads run (transfers.without_answer facts) world pending whole n (Appends run facts.held world pending) t _ (appends run (transfers.without_answer facts) world pending whole n k.value t.value i.value)))
 
 pub page_turns_are_sound : PageTurnsAreSound
 unfolding transfer
 page_turns_are_sound run facts world pending x output whole d e q =
     let n = without_answer run facts (unread_of world) world.kept pending d in
-    subst (λ k. Leads (FitsOn run.n) (λ (edges : Edges) (t : Taken). TurnsPages run facts.held world pending edges t.first t.value) (transfers.edges_of k x (transfers.answer_for k facts) (transfers.without_answer facts)) (arguments.arguments_of pending.level)) (sym e)
-    (taking_leads (FitsOn run.n) (λ (edges : Edges) (t : Taken). TurnsPages run facts.held world pending edges t.first t.value) (facts_taken (transfers.without_answer facts)) (λ k. row.turning k.first k.value (facts_taken (transfers.without_answer facts))) (IsTaken (around_of world.kept)) _ _ (taken_is run (transfers.without_answer facts) world pending whole n) (λ k t i.
+    subst (λ k. Leads (FitsOn run) (λ (edges : Edges) (t : Taken). TurnsPages run facts.held world pending edges t.first t.value) (transfers.edges_of k x (transfers.answer_for k facts) (transfers.without_answer facts)) (arguments.arguments_of pending.level)) (sym e)
+    (taking_leads (FitsOn run) (λ (edges : Edges) (t : Taken). TurnsPages run facts.held world pending edges t.first t.value) (facts_taken (transfers.without_answer facts)) (λ k. row.turning k.first k.value (facts_taken (transfers.without_answer facts))) (IsTaken (around_of world.kept)) _ _ (taken_is run (transfers.without_answer facts) world pending whole n) (λ k t i.
     as_leads run (transfers.without_answer facts) world pending whole n (λ (edges : Edges) (t : Taken). TurnsPages run facts.held world pending edges t.first t.value) t _ (turning_turns run (transfers.without_answer facts) world pending whole n output q k.first k.value t.first t.value i.first i.value)))
 
 pub page_writes_are_sound : PageWritesAreSound
 unfolding transfer
 page_writes_are_sound run facts world pending x output whole d e q =
     let n = without_answer run facts (unread_of world) world.kept pending d in
-    subst (λ k. Leads (FitsOn run.n) (λ (edges : Edges) (t : Taken). Succeeds (λ (p : model.Progress). Comes run facts.held world (arguments.levels_after_taking pending) edges p.world) (model.pages model.page_written (record { first = t.first; value = t.value }) world)) (transfers.edges_of k x (transfers.answer_for k facts) (transfers.without_answer facts)) (arguments.arguments_of pending.level)) (sym e)
-    (taking_leads (FitsOn run.n) (λ (edges : Edges) (t : Taken). Succeeds (λ (p : model.Progress). Comes run facts.held world (arguments.levels_after_taking pending) edges p.world) (model.pages model.page_written (record { first = t.first; value = t.value }) world)) (facts_taken (transfers.without_answer facts)) (λ k. row.writing k.first k.value (facts_taken (transfers.without_answer facts))) (IsTaken (around_of world.kept)) _ _ (taken_is run (transfers.without_answer facts) world pending whole n) (λ k t i.
+    subst (λ k. Leads (FitsOn run) (λ (edges : Edges) (t : Taken). Succeeds (λ (p : model.Progress). Comes run facts.held world (arguments.levels_after_taking pending) edges p.world) (model.pages model.page_written (record { first = t.first; value = t.value }) world)) (transfers.edges_of k x (transfers.answer_for k facts) (transfers.without_answer facts)) (arguments.arguments_of pending.level)) (sym e)
+    (taking_leads (FitsOn run) (λ (edges : Edges) (t : Taken). Succeeds (λ (p : model.Progress). Comes run facts.held world (arguments.levels_after_taking pending) edges p.world) (model.pages model.page_written (record { first = t.first; value = t.value }) world)) (facts_taken (transfers.without_answer facts)) (λ k. row.writing k.first k.value (facts_taken (transfers.without_answer facts))) (IsTaken (around_of world.kept)) _ _ (taken_is run (transfers.without_answer facts) world pending whole n) (λ k t i.
     as_leads run (transfers.without_answer facts) world pending whole n (λ (edges : Edges) (t : Taken). Succeeds (λ (p : model.Progress). Comes run facts.held world (arguments.levels_after_taking pending) edges p.world) (model.pages model.page_written (record { first = t.first; value = t.value }) world)) t _ (writing_writes run (transfers.without_answer facts) world pending whole n output q k.first k.value t.first t.value i.first i.value)))

@@ -309,43 +309,43 @@ module _ (run : Run) (facts : Facts) (unread : ℕ) (kept : Kept) (arguments : m
     span_found : (span : Span) (last : List ℕ) → LiesAhead (row.end_in_digit (parts x.element.text)) kept.text kept.pointer least span → value held run.n ≤ LIMIT → (Q : Finding → Type 0) → ((new : Kept) → Shifts run.n shift kept new → Q (Found new)) → Succeeds Q (searching.finding_of s x.element (Some span) (record kept { search_text = last }))
     span_found span last l fits Q k = succeeds_then (λ new. Shifts run.n shift kept new) Q _ Found k (found_at run taking unread kept whole taking_holds s inside_buffer x.element least span last l (omega (arith, more, fits)))
 
-    answered_by : (r : Result Position Refusal) → IfOk r (IsJoin run found.position failed) → (o : Option Span) → IfSome o (LiesAhead (row.end_in_digit (parts x.element.text)) kept.text kept.pointer least) → (last : List ℕ) → Leads (FitsOn run.n) (ArrivesBy true) (transfers.on (r >>= λ position. Ok (answered position))) (searching.finding_of s x.element o (record kept { search_text = last }))
+    answered_by : (r : Result Position Refusal) → IfOk r (IsJoin run found.position failed) → (o : Option Span) → IfSome o (LiesAhead (row.end_in_digit (parts x.element.text)) kept.text kept.pointer least) → (last : List ℕ) → Leads (FitsOn run) (ArrivesBy true) (transfers.on (r >>= λ position. Ok (answered position))) (searching.finding_of s x.element o (record kept { search_text = last }))
     answered_by (Err why) j o l last = tt
     answered_by (Ok position) j None l last = λ fits. missed_answers position j last
     answered_by (Ok position) j (Some span) l last = λ fits. span_found span last l fits.buffer (ArrivesBy true (record { on = Some (answered position); away = None })) (found_answers position j)
 
-    outcome_leads : (colon : Bool) → (colon ≡ false → x.element.colons ≡ 0) → (o : Option Span) → IfSome o (LiesAhead (row.end_in_digit (parts x.element.text)) kept.text kept.pointer least) → (last : List ℕ) → Leads (FitsOn run.n) (ArrivesBy colon) (transfers.search_outcomes colon found (row.facts_failed s x.element.colons taking)) (searching.finding_of s x.element o (record kept { search_text = last }))
+    outcome_leads : (colon : Bool) → (colon ≡ false → x.element.colons ≡ 0) → (o : Option Span) → IfSome o (LiesAhead (row.end_in_digit (parts x.element.text)) kept.text kept.pointer least) → (last : List ℕ) → Leads (FitsOn run) (ArrivesBy colon) (transfers.search_outcomes colon found (row.facts_failed s x.element.colons taking)) (searching.finding_of s x.element o (record kept { search_text = last }))
     outcome_leads true c o l last = answered_by _ (position_joined run found.position failed (falls_alike run taking unread kept whole taking_holds s inside_buffer x.element.colons (falls_behind facts.rules shift)) (saved_alike run taking unread kept whole taking_holds s inside_buffer x.element.colons shift.ends)) o l last
     outcome_leads false c None l last = λ fits typed. missed_leaves (c refl) last typed
     outcome_leads false c (Some span) l last = λ fits. span_found span last l fits.buffer (ArrivesBy false (record { on = Some found; away = Some (leaving 1 (row.facts_failed s x.element.colons taking)) })) found_arrives
 
   -- what is held after what was put in
-  grown_leads : (least : ℕ) (r : Result Polynomial Refusal) → IfOk r (λ held. value held run.n ≡ value facts.held run.n + value (found_shift run taking unread kept whole taking_holds s least x.element).growth run.n) → (o : Option Span) → IfSome o (LiesAhead (row.end_in_digit (parts x.element.text)) kept.text kept.pointer least) → (last : List ℕ) → Leads (FitsOn run.n) (SearchArrives run facts.held unread kept arguments x) ((r >>= λ held. Ok (facts_behind (found_shift run taking unread kept whole taking_holds s least x.element) held taking)) >>= λ found. transfers.search_outcomes x.colon found (row.facts_failed s x.element.colons taking)) (searching.finding_of s x.element o (record kept { search_text = last }))
+  grown_leads : (least : ℕ) (r : Result Polynomial Refusal) → IfOk r (λ held. value held run.n ≡ value facts.held run.n + value (found_shift run taking unread kept whole taking_holds s least x.element).growth run.n) → (o : Option Span) → IfSome o (LiesAhead (row.end_in_digit (parts x.element.text)) kept.text kept.pointer least) → (last : List ℕ) → Leads (FitsOn run) (SearchArrives run facts.held unread kept arguments x) ((r >>= λ held. Ok (facts_behind (found_shift run taking unread kept whole taking_holds s least x.element) held taking)) >>= λ found. transfers.search_outcomes x.colon found (row.facts_failed s x.element.colons taking)) (searching.finding_of s x.element o (record kept { search_text = last }))
   grown_leads least (Err why) e o l last = tt
   grown_leads least (Ok held) e o l last = arrives_so x.colon has_colon (outcome_leads least held e x.colon has_colon o l last) where
-    arrives_so : (colon : Bool) → (colon ≡ false → x.element.colons ≡ 0) → Leads (FitsOn run.n) (ArrivesBy least held e x.colon) (transfers.search_outcomes x.colon (found least held e) (row.facts_failed s x.element.colons taking)) (searching.finding_of s x.element o (record kept { search_text = last })) → Leads (FitsOn run.n) (SearchArrives run facts.held unread kept arguments x) (transfers.search_outcomes x.colon (found least held e) (row.facts_failed s x.element.colons taking)) (searching.finding_of s x.element o (record kept { search_text = last }))
+    arrives_so : (colon : Bool) → (colon ≡ false → x.element.colons ≡ 0) → Leads (FitsOn run) (ArrivesBy least held e x.colon) (transfers.search_outcomes x.colon (found least held e) (row.facts_failed s x.element.colons taking)) (searching.finding_of s x.element o (record kept { search_text = last })) → Leads (FitsOn run) (SearchArrives run facts.held unread kept arguments x) (transfers.search_outcomes x.colon (found least held e) (row.facts_failed s x.element.colons taking)) (searching.finding_of s x.element o (record kept { search_text = last }))
     arrives_so colon c h = leads_as _ _ h where
-      leads_as : (r : Result Edges Refusal) (c : Result Finding Code) → Leads (FitsOn run.n) (ArrivesBy least held e x.colon) r c → Leads (FitsOn run.n) (SearchArrives run facts.held unread kept arguments x) r c
+      leads_as : (r : Result Edges Refusal) (c : Result Finding Code) → Leads (FitsOn run) (ArrivesBy least held e x.colon) r c → Leads (FitsOn run) (SearchArrives run facts.held unread kept arguments x) r c
       leads_as (Err why) c h = tt
       leads_as (Ok edges) (Err c) h = h
       leads_as (Ok edges) (Ok (Found new)) h = h
       leads_as (Ok edges) (Ok (Missed new)) h = h
 
-  searched : (t : Taken) (m : ℕ) → searching.count_of t.first t.value ≡ Ok (pos (suc m)) → Leads (FitsOn run.n) (SearchArrives run facts.held unread kept arguments x) (row.facts_found s x.element taking >>= λ found. transfers.search_outcomes x.colon found (row.facts_failed s x.element.colons taking)) (searching.search s x.element t kept)
+  searched : (t : Taken) (m : ℕ) → searching.count_of t.first t.value ≡ Ok (pos (suc m)) → Leads (FitsOn run) (SearchArrives run facts.held unread kept arguments x) (row.facts_found s x.element taking >>= λ found. transfers.search_outcomes x.colon found (row.facts_failed s x.element.colons taking)) (searching.search s x.element t kept)
   searched t m e =
       rw e
-      (minimum_leads (FitsOn run.n) (SearchArrives run facts.held unread kept arguments x) kept x.element.text (λ least. shifted (found_shift run taking unread kept whole taking_holds s least x.element) taking) (λ found. transfers.search_outcomes x.colon found (row.facts_failed s x.element.colons taking)) (λ p. searching.finding_of s x.element (searching.match_of p x.element.colons (pos (suc m)) kept.text kept.pointer) (record kept { search_text = searching.search_text_of x.element.text kept }))
+      (minimum_leads (FitsOn run) (SearchArrives run facts.held unread kept arguments x) kept x.element.text (λ least. shifted (found_shift run taking unread kept whole taking_holds s least x.element) taking) (λ found. transfers.search_outcomes x.colon found (row.facts_failed s x.element.colons taking)) (λ p. searching.finding_of s x.element (searching.match_of p x.element.colons (pos (suc m)) kept.text kept.pointer) (record kept { search_text = searching.search_text_of x.element.text kept }))
       (λ least p long. grown_leads least _ (value-sum_of run.n facts.held _) _ (match_lies p kept.text least (row.end_in_digit (parts x.element.text)) long.long long.last x.element.colons m kept.pointer) _))
 
-  allowed_first : (r : Result (Unit {0}) Refusal) (z : Result Edges Refusal) (c : Result Finding Code) → Leads (FitsOn run.n) (SearchArrives run facts.held unread kept arguments x) z c → Leads (FitsOn run.n) (SearchArrives run facts.held unread kept arguments x) (r >>= λ allowed. z) c
+  allowed_first : (r : Result (Unit {0}) Refusal) (z : Result Edges Refusal) (c : Result Finding Code) → Leads (FitsOn run) (SearchArrives run facts.held unread kept arguments x) z c → Leads (FitsOn run) (SearchArrives run facts.held unread kept arguments x) (r >>= λ allowed. z) c
   allowed_first (Ok u) z c h = h
   allowed_first (Err why) z c h = tt
 
-  at_search : (r : Result KnownTaken Refusal) (c : Result Taken Code) → Covers (IsTaken (around_of kept)) r c → Leads (FitsOn run.n) (SearchArrives run facts.held unread kept arguments x) ((r >>= λ known. row.count_checked s known.first known.value facts.position.distances >>= λ u. Ok taking) >>= λ taken. transfers.search_allowed x.inside x.colon >>= λ allowed. row.facts_found s x.element taken >>= λ found. transfers.search_outcomes x.colon found (row.facts_failed s x.element.colons taken)) (c >>>= λ t. searching.search s x.element t kept)
+  at_search : (r : Result KnownTaken Refusal) (c : Result Taken Code) → Covers (IsTaken (around_of kept)) r c → Leads (FitsOn run) (SearchArrives run facts.held unread kept arguments x) ((r >>= λ known. row.count_checked s known.first known.value facts.position.distances >>= λ u. Ok taking) >>= λ taken. transfers.search_allowed x.inside x.colon >>= λ allowed. row.facts_found s x.element taken >>= λ found. transfers.search_outcomes x.colon found (row.facts_failed s x.element.colons taken)) (c >>>= λ t. searching.search s x.element t kept)
   at_search (Err why) c h = tt
   at_search (Ok k) (Err c) h = absurd h
   at_search (Ok k) (Ok t) h = by_count _ (counted run facts unread kept whole d.state s k.first k.value t.first t.value h.first h.value) where
-    by_count : (r : Result (Unit {0}) Refusal) → IfOk r (λ u. Counts t.first t.value) → Leads (FitsOn run.n) (SearchArrives run facts.held unread kept arguments x) ((r >>= λ u. Ok taking) >>= λ taken. transfers.search_allowed x.inside x.colon >>= λ allowed. row.facts_found s x.element taken >>= λ found. transfers.search_outcomes x.colon found (row.facts_failed s x.element.colons taken)) (searching.search s x.element t kept)
+    by_count : (r : Result (Unit {0}) Refusal) → IfOk r (λ u. Counts t.first t.value) → Leads (FitsOn run) (SearchArrives run facts.held unread kept arguments x) ((r >>= λ u. Ok taking) >>= λ taken. transfers.search_allowed x.inside x.colon >>= λ allowed. row.facts_found s x.element taken >>= λ found. transfers.search_outcomes x.colon found (row.facts_failed s x.element.colons taken)) (searching.search s x.element t kept)
     by_count (Err why) n = tt
     by_count (Ok u) (m, e) = allowed_first _ _ _ (searched t m e)
 
@@ -353,5 +353,5 @@ pub searches_are_sound : SearchesAreSound
 unfolding transfer
 searches_are_sound run facts unread kept arguments x s whole d e b c =
     let n = without_answer run facts unread kept arguments d in
-    subst (λ k. Leads (FitsOn run.n) (SearchArrives run facts.held unread kept arguments x) (transfers.edges_of k x (transfers.answer_for k facts) (transfers.without_answer facts)) (finding s x.element kept arguments)) (sym e)
+    subst (λ k. Leads (FitsOn run) (SearchArrives run facts.held unread kept arguments x) (transfers.edges_of k x (transfers.answer_for k facts) (transfers.without_answer facts)) (finding s x.element kept arguments)) (sym e)
     (at_search run (transfers.without_answer facts) unread kept arguments whole n s b x c _ _ (taken_covers facts.position.distances (around_of kept) (distances run facts unread kept whole d.state) facts.arguments.level arguments.level d.pending.level))

@@ -410,7 +410,7 @@ module _ (run : Run) (facts : Facts) (world : World) (pending : model.Arguments)
 
       -- the edges, by whether the search counts as having a colon
       abbrev SeeksWith : Output → Taken → Edges → Type 0
-      SeeksWith output t edges = FitsOn run.n edges → Seeks run seeking world pending x s edges t
+      SeeksWith output t edges = FitsOn run edges → Seeks run seeking world pending x s edges t
 
       module _ (output : Output) (out : world.files.output ≡ Some output) (t : Taken) (c : Counts t.first t.value) where
         answers_seek : x.colon ≡ true → (r : Result Position Refusal) → IfOk r (IsJoin run found.position failed) → IfOk (transfers.on (r >>= λ position. Ok (answered position))) (SeeksWith output t)
@@ -427,7 +427,7 @@ module _ (run : Run) (facts : Facts) (world : World) (pending : model.Arguments)
     -- ---- through what is checked first
     module _ (output : Output) (out : world.files.output ≡ Some output) (t : Taken) where
       abbrev Seek : Edges → Type 0
-      Seek edges = FitsOn run.n edges → Seeks run seeking world pending x s edges t
+      Seek edges = FitsOn run edges → Seeks run seeking world pending x s edges t
 
       held_seek : Counts t.first t.value → (least : ℕ) → IsMinimum x.element.text least → IfOk (shifted (found_shift facts.rules s least x.element facts.position.distances) (facts_taken facts) >>= λ found. transfers.search_outcomes x.colon found (row.facts_failed s x.element.colons (facts_taken facts))) Seek
       held_seek c least minimal = by_sum _ (value-sum_of run.n facts.held _) where
@@ -446,11 +446,11 @@ module _ (run : Run) (facts : Facts) (world : World) (pending : model.Arguments)
         always_ok (Ok u) = tt
         always_ok (Err why) = tt
 
-    taken_seek : (output : Output) → world.files.output ≡ Some output → (r : Result KnownTaken Refusal) (c : Result Taken Code) → Covers (IsTaken (around_of world.kept)) r c → Leads (FitsOn run.n) (Seeks run seeking world pending x s) ((r >>= λ k. row.count_checked s k.first k.value facts.position.distances >>= λ u. Ok (facts_taken facts)) >>= λ taken. transfers.search_allowed x.inside x.colon >>= λ allowed. row.facts_found s x.element taken >>= λ found. transfers.search_outcomes x.colon found (row.facts_failed s x.element.colons taken)) c
+    taken_seek : (output : Output) → world.files.output ≡ Some output → (r : Result KnownTaken Refusal) (c : Result Taken Code) → Covers (IsTaken (around_of world.kept)) r c → Leads (FitsOn run) (Seeks run seeking world pending x s) ((r >>= λ k. row.count_checked s k.first k.value facts.position.distances >>= λ u. Ok (facts_taken facts)) >>= λ taken. transfers.search_allowed x.inside x.colon >>= λ allowed. row.facts_found s x.element taken >>= λ found. transfers.search_outcomes x.colon found (row.facts_failed s x.element.colons taken)) c
     taken_seek output out (Err why) c h = tt
     taken_seek output out (Ok k) (Err c) h = absurd h
     taken_seek output out (Ok k) (Ok t) h = as_leads _ (counted_seek output out t _ (counted run facts (unread_of world) world.kept whole d.state s k.first k.value t.first t.value h.first h.value)) where
-      as_leads : (r : Result Edges Refusal) → IfOk r (λ edges. FitsOn run.n edges → Seeks run seeking world pending x s edges t) → Leads (FitsOn run.n) (Seeks run seeking world pending x s) r (Ok t)
+      as_leads : (r : Result Edges Refusal) → IfOk r (λ edges. FitsOn run edges → Seeks run seeking world pending x s edges t) → Leads (FitsOn run) (Seeks run seeking world pending x s) r (Ok t)
       as_leads (Ok edges) h = h
       as_leads (Err why) h = tt
 
@@ -458,7 +458,7 @@ pub page_searches_are_sound : PageSearchesAreSound
 unfolding transfer
 page_searches_are_sound run facts world pending x s output whole d e b out =
     let n = without_answer run facts (unread_of world) world.kept pending d in
-    subst (λ k. Leads (FitsOn run.n) (Seeks run (facts_seeking facts) world pending x s) (transfers.edges_of k x (transfers.answer_for k facts) (transfers.without_answer facts)) (model.arguments_of pending.level)) (sym e)
+    subst (λ k. Leads (FitsOn run) (Seeks run (facts_seeking facts) world pending x s) (transfers.edges_of k x (transfers.answer_for k facts) (transfers.without_answer facts)) (model.arguments_of pending.level)) (sym e)
     (taken_seek run (transfers.without_answer facts) world pending whole n x s b output out _ _ (taking_is run (transfers.without_answer facts) (unread_of world) world.kept pending whole n))
 
 -- ---- steps

@@ -101,7 +101,7 @@ Moves n shift kept answer = Succeeds (λ (effect : Effect). Shifts n shift kept 
 
 -- what is known of a command leads to what it does
 abbrev pub Foretells : Run → Facts → ℕ → Kept → Result Foreseen Refusal → Result Effect Code → Type 0
-Foretells run facts unread kept = Leads (λ (known : Foreseen). Fits run.n known.facts) (IsDone run facts unread kept)
+Foretells run facts unread kept = Leads (λ (known : Foreseen). Fits run known.facts) (IsDone run facts unread kept)
 
 pub le_self : (n : ℕ) → n ≤ n
 le_self n = omega arith

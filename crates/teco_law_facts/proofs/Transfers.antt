@@ -1,5 +1,5 @@
 -- The laws of elements that go on behind themselves.
-use Rattle.std.proofs.Common.{◌≡◌, ℕ, zero, suc, ◌+◌, ◌≤◌, arith, w32, refl, sym, subst, ℤ, pos, neg_ℤ, List, [], ◌∷◌, length, drop, Option, Some, None, Result, Ok, Err, Bool, true, false, cond, IfOk, ok_or}
+use Rattle.std.proofs.Common.{◌≡◌, ℕ, zero, suc, ◌+◌, ◌≤◌, arith, w32, refl, sym, subst, ℤ, pos, neg_ℤ, List, [], ◌∷◌, length, drop, Option, Some, None, Result, Ok, Err, Bool, true, false, cond, IfOk, ok_or, ap, ◌∙◌}
 use Rattle.std.proofs.lemmas.Int.{ints, SFits-int_wrap}
 use Rattle.teco_base.specs.declared.code.Code.{Code}
 use Rattle.teco_base.specs.declared.code.Code.TheVariants as code
@@ -50,14 +50,15 @@ use Rattle.teco_verifier.specs.facts.Values.{single, value_in, size, IsValue, an
 use Rattle.teco_verifier.specs.declared.refusal.Refusal.{Refusal}
 use Rattle.teco_verifier.specs.declared.refusal.Refusal.TheVariants as refusal
 use Rattle.teco_verifier.specs.declared.values.Value.{Value}
+use Rattle.teco_verifier.specs.expansion.Names.{named_by, named_by_command}
 
 -- the edge that goes on
-on_leads : (run : Run) (facts : Facts) (unread : ℕ) (kept : Kept) (r : Result Facts Refusal) (c : Result After Code) → Leads (Fits run.n) (Arrives run facts.held unread kept) r c → Leads (FitsOn run.n) (ArrivesOn run facts.held unread kept) (transfers.on r) c
+on_leads : (run : Run) (facts : Facts) (unread : ℕ) (kept : Kept) (r : Result Facts Refusal) (c : Result After Code) → Leads (Fits run) (Arrives run facts.held unread kept) r c → Leads (FitsOn run) (ArrivesOn run facts.held unread kept) (transfers.on r) c
 on_leads run facts unread kept (Ok next) c h = h
 on_leads run facts unread kept (Err why) c h = tt
 
 -- where more was read first
-keeps_on : (run : Run) (facts read : Facts) (unread : ℕ) (kept new : Kept) (x : Result Facts Refusal) (y : Result After Code) → value facts.held run.n ≤ value read.held run.n → length new.text ≤ length kept.text → Leads (Fits run.n) (Arrives run read.held unread new) x y → Leads (Fits run.n) (Arrives run facts.held unread kept) x y
+keeps_on : (run : Run) (facts read : Facts) (unread : ℕ) (kept new : Kept) (x : Result Facts Refusal) (y : Result After Code) → value facts.held run.n ≤ value read.held run.n → length new.text ≤ length kept.text → Leads (Fits run) (Arrives run read.held unread new) x y → Leads (Fits run) (Arrives run facts.held unread kept) x y
 keeps_on run facts read unread kept new (Ok next) (Ok p) m n h = λ l. let i = h l in record { described = i.described; grown = omega (arith, i.grown) }
 keeps_on run facts read unread kept new (Ok next) (Err c) m n h = h
 keeps_on run facts read unread kept new (Err e) y m n h = tt
@@ -74,8 +75,8 @@ module _ (run : Run) (facts : Facts) (unread : ℕ) (kept : Kept) (arguments : m
   now = distances run facts unread kept whole d.state
 
   -- ---- elements that change the arguments alone
-  keeps : (x : Result KnownArguments Refusal) (y : Result model.Arguments Code) → Covers (ArePending (around_of kept)) x y → Leads (Fits run.n) (Arrives run facts.held unread kept) (transfers.facts_after_levels x facts) (y >>>= λ levels. Ok (after kept levels))
-  keeps x y c = covers_leads (ArePending (around_of kept)) (Fits run.n) (Arrives run facts.held unread kept) x y _ _ c (λ p q i l. record { described = record { state = pending_again run facts unread kept d.state p; pending = i; answers = tt }; grown = omega arith })
+  keeps : (x : Result KnownArguments Refusal) (y : Result model.Arguments Code) → Covers (ArePending (around_of kept)) x y → Leads (Fits run) (Arrives run facts.held unread kept) (transfers.facts_after_levels x facts) (y >>>= λ levels. Ok (after kept levels))
+  keeps x y c = covers_leads (ArePending (around_of kept)) (Fits run) (Arrives run facts.held unread kept) x y _ _ c (λ p q i l. record { described = record { state = pending_again run facts unread kept d.state p; pending = i; answers = tt }; grown = omega arith })
 
   levels_keep : (x : Result KnownLevel Refusal) (y : Result Level Code) → Covers (IsLevel (around_of kept)) x y → Covers (ArePending (around_of kept)) (known.with_level facts.arguments x) (model.with_level arguments y)
   levels_keep x y c = at_level_covers facts.position.distances (around_of kept) now facts.arguments arguments x y d.pending c
@@ -134,20 +135,20 @@ module _ (run : Run) (facts : Facts) (unread : ℕ) (kept : Kept) (arguments : m
     grown = i.grown;
   }
 
-  pub takes_and_acts : (act : KnownTaken → Facts → Result Foreseen Refusal) (does : Taken → Result Effect Code) → ((known : KnownTaken) (taken : Taken) → IsTaken (around_of kept) known taken → Foretells run taking unread kept (act known taking) (does taken)) → Leads (Fits run.n) (Arrives run facts.held unread kept) (transfers.after_taking act facts) (model.arguments_of arguments.level >>>= λ taken. does taken >>>= λ effect. Ok (after effect.kept (model.levels_after_answer effect.answer (model.levels_after_taking arguments))))
+  pub takes_and_acts : (act : KnownTaken → Facts → Result Foreseen Refusal) (does : Taken → Result Effect Code) → ((known : KnownTaken) (taken : Taken) → IsTaken (around_of kept) known taken → Foretells run taking unread kept (act known taking) (does taken)) → Leads (Fits run) (Arrives run facts.held unread kept) (transfers.after_taking act facts) (model.arguments_of arguments.level >>>= λ taken. does taken >>>= λ effect. Ok (after effect.kept (model.levels_after_answer effect.answer (model.levels_after_taking arguments))))
   takes_and_acts act does f =
-      covers_leads (IsTaken (around_of kept)) (Fits run.n) (Arrives run facts.held unread kept) _ _ _ _ (taken_covers facts.position.distances (around_of kept) now facts.arguments.level arguments.level d.pending.level) (λ known taken i.
-      leads_on (λ (f : Foreseen). Fits run.n f.facts) (IsDone run taking unread kept) (Fits run.n) (Arrives run facts.held unread kept) _ _ facts_answered _ (λ f l. record { buffer = l.buffer; texts = l.texts }) arrived (f known taken i))
+      covers_leads (IsTaken (around_of kept)) (Fits run) (Arrives run facts.held unread kept) _ _ _ _ (taken_covers facts.position.distances (around_of kept) now facts.arguments.level arguments.level d.pending.level) (λ known taken i.
+      leads_on (λ (f : Foreseen). Fits run f.facts) (IsDone run taking unread kept) (Fits run) (Arrives run facts.held unread kept) _ _ facts_answered _ (λ f l. record { buffer = l.buffer; texts = l.texts }) arrived (f known taken i))
 
-  executed : (c : Command) (x : Placed) (known : KnownTaken) (taken : Taken) → IsNamedByCommand c → IsTaken (around_of kept) known taken → Foretells run taking unread kept (transfers.execution c x known taking) (step.execution c x.element taken kept)
-  executed (command.Motion m) x known taken w i = motion_foretold run taking unread kept whole taking_holds m x.element known taken i
-  executed (command.Deletion u) x known taken w i = deletion_foretold run taking unread kept whole taking_holds u known taken i
-  executed (command.Insertion t) x known taken w i = insertion_foretold run taking unread kept whole taking_holds t x.element known taken i
-  executed (command.Typing t) x known taken w i = typing_foretold run taking unread kept whole taking_holds t x.element known taken i
-  executed (command.Storage s) x known taken w i = storage_foretold run taking unread kept whole taking_holds s x.library x.element known taken w i
+  executed : (c : Command) (x : Placed) (known : KnownTaken) (taken : Taken) → IsNamedByCommand c → ((r : ℕ) → named_by_command c ≡ Some r → run.library r ≡ x.library) → IsTaken (around_of kept) known taken → Foretells run taking unread kept (transfers.execution c x known taking) (step.execution c x.element taken kept)
+  executed (command.Motion m) x known taken w knows i = motion_foretold run taking unread kept whole taking_holds m x.element known taken i
+  executed (command.Deletion u) x known taken w knows i = deletion_foretold run taking unread kept whole taking_holds u known taken i
+  executed (command.Insertion t) x known taken w knows i = insertion_foretold run taking unread kept whole taking_holds t x.element known taken i
+  executed (command.Typing t) x known taken w knows i = typing_foretold run taking unread kept whole taking_holds t x.element known taken i
+  executed (command.Storage s) x known taken w knows i = storage_foretold run taking unread kept whole taking_holds s x.library x.element known taken w (knows _ refl) i
 
   -- ---- Q, ^X and \
-  replied : (s : Value) (v : ℤ) → IsValue (around_of kept) s v → Leads (Fits run.n) (Arrives run facts.held unread kept) (known.with_level facts.arguments (known.level_with facts.position.distances s facts.arguments.level) >>= λ pending. Ok (with_arguments pending facts)) (model.with_level arguments (model.level_with v arguments.level) >>>= λ levels. Ok (after kept levels))
+  replied : (s : Value) (v : ℤ) → IsValue (around_of kept) s v → Leads (Fits run) (Arrives run facts.held unread kept) (known.with_level facts.arguments (known.level_with facts.position.distances s facts.arguments.level) >>= λ pending. Ok (with_arguments pending facts)) (model.with_level arguments (model.level_with v arguments.level) >>>= λ levels. Ok (after kept levels))
   replied s v i = keeps _ _ (levels_keep _ _ (gives s v i))
 
   standing_beside : (operator : Option Operator) (o : Option Value) (v : Option ℤ) → IsOptional (IsValue (around_of kept)) o v → IsOptional (IsValue (around_of kept)) (known.value_beside operator o) (model.value_beside operator v)
@@ -171,7 +172,7 @@ module _ (run : Run) (facts : Facts) (unread : ℕ) (kept : Kept) (arguments : m
       let p = past run facts unread kept whole d.state in
       record { inside = p.inside; within = whole.within; bytes = whole.bytes; count = whole.count; pairs = whole.pairs; stack = whole.stack; last = whole.last; mode = whole.mode }
 
-  read_on : (changed : Result Polynomial Refusal) → IfOk changed (λ held. value held run.n ≡ value facts.held run.n + value (row.past_number facts.position.digit facts.position.distances).growth run.n) → Leads (Fits run.n) (Arrives run facts.held unread kept) ((changed >>= λ held. Ok (facts_behind (row.past_number facts.position.digit facts.position.distances) held facts)) >>= λ read. known.with_level read.arguments (known.level_with read.position.distances (value_in any_number) read.arguments.level) >>= λ pending. Ok (with_arguments pending read)) (step.after_query_with query.Conversion 0 None kept arguments)
+  read_on : (changed : Result Polynomial Refusal) → IfOk changed (λ held. value held run.n ≡ value facts.held run.n + value (row.past_number facts.position.digit facts.position.distances).growth run.n) → Leads (Fits run) (Arrives run facts.held unread kept) ((changed >>= λ held. Ok (facts_behind (row.past_number facts.position.digit facts.position.distances) held facts)) >>= λ read. known.with_level read.arguments (known.level_with read.position.distances (value_in any_number) read.arguments.level) >>= λ pending. Ok (with_arguments pending read)) (step.after_query_with query.Conversion 0 None kept arguments)
   read_on (Err e) h = tt
   read_on (Ok held) h =
       let read = facts_behind (row.past_number facts.position.digit facts.position.distances) held facts in
@@ -186,28 +187,28 @@ module _ (run : Run) (facts : Facts) (unread : ℕ) (kept : Kept) (arguments : m
       (replied run (transfers.without_answer read) unread behind_number arguments behind_whole here (value_in any_number) _ (interval_value _ _ _ (any_within _ fits) fits))
 
 module _ (run : Run) (facts : Facts) (unread : ℕ) (kept : Kept) (arguments : model.Arguments) (whole : IsWhole kept) (d : Describes run facts unread kept arguments) where
-  asked_for : (q : Query) (colons : ℕ) (o : Option Value) (v : Option ℤ) → IsOptional (IsValue (around_of kept)) o v → Leads (Fits run.n) (Arrives run facts.held unread kept) (row.facts_after_query q colons o facts) (step.after_query_with q colons v kept arguments)
+  asked_for : (q : Query) (colons : ℕ) (o : Option Value) (v : Option ℤ) → IsOptional (IsValue (around_of kept)) o v → Leads (Fits run) (Arrives run facts.held unread kept) (row.facts_after_query q colons o facts) (step.after_query_with q colons v kept arguments)
   asked_for (query.Number r) zero None None i = replied run facts unread kept arguments whole d _ _ (number_is run facts unread kept whole d.state r)
   asked_for (query.Number r) (suc colons) None None i = replied run facts unread kept arguments whole d _ _ (length_is run facts unread kept whole d.state r)
   asked_for query.Mode colons None None i = replied run facts unread kept arguments whole d _ _ (mode_is run facts unread kept whole d.state)
   asked_for query.Conversion colons None None i = read_on run facts unread kept arguments whole d _ (value-sum_of run.n facts.held _)
   asked_for q colons (Some s) (Some v) i =
-      leads_on (λ (f : Foreseen). Fits run.n f.facts) (IsDone run (taking run facts unread kept arguments whole d) unread kept) (Fits run.n) (Arrives run facts.held unread kept) _ _ facts_answered _ (λ f l. record { buffer = l.buffer; texts = l.texts }) (arrived run facts unread kept arguments whole d) (query_foretold run (taking run facts unread kept arguments whole d) unread kept whole (taking_holds run facts unread kept arguments whole d) q v i.fits)
+      leads_on (λ (f : Foreseen). Fits run f.facts) (IsDone run (taking run facts unread kept arguments whole d) unread kept) (Fits run) (Arrives run facts.held unread kept) _ _ facts_answered _ (λ f l. record { buffer = l.buffer; texts = l.texts }) (arrived run facts unread kept arguments whole d) (query_foretold run (taking run facts unread kept arguments whole d) unread kept whole (taking_holds run facts unread kept arguments whole d) q v i.fits)
   asked_for q colons None (Some v) i = absurd i
   asked_for q colons (Some s) None i = absurd i
 
   -- ---- [ and ]
-  popped_if : facts.answer ≡ None → (b : Bool) (r : ℕ) (s : Pushed) (pushes : List Pushed) (top : List Pair) → ArePushed run.n run.below (s ∷ pushes) top → Leads (Fits run.n) (Arrives run facts.held unread kept) (cond b (Ok (record (storages.with_text r s.text (storages.with_number r s.number false facts)) { pushes = pushes })) (Err refusal.Pop)) ((ok_or (registers_without_top r top kept.registers) code.Pes >>>= λ registers. Ok (record kept { registers = registers })) >>>= λ changed. Ok (after changed arguments))
+  popped_if : facts.answer ≡ None → (b : Bool) (r : ℕ) (s : Pushed) (pushes : List Pushed) (top : List Pair) → ArePushed run.n run.below (s ∷ pushes) top → Leads (Fits run) (Arrives run facts.held unread kept) (cond b (Ok (record (storages.with_text r s.text (storages.with_number r s.number false facts)) { pushes = pushes })) (Err refusal.Pop)) ((ok_or (registers_without_top r top kept.registers) code.Pes >>>= λ registers. Ok (record kept { registers = registers })) >>>= λ changed. Ok (after changed arguments))
   popped_if none false r s pushes top i = tt
   popped_if none true r s pushes [] i = absurd i
   popped_if none true r s pushes (pair ∷ rest) i = λ l. record { described = record { state = popped_holds run facts unread kept whole d.state r s pushes pair rest i.0 i.1; pending = d.pending; answers = rw none tt }; grown = omega arith }
 
-  popped : facts.answer ≡ None → (library : Bool) (r : ℕ) (pushes : List Pushed) → ArePushed run.n run.below pushes kept.registers.stack → Leads (Fits run.n) (Arrives run facts.held unread kept) (storages.not_of_library library >>= λ free. storages.with_popped r pushes facts) (step.after_stack (stack.Pop r) kept arguments)
+  popped : facts.answer ≡ None → (library : Bool) (r : ℕ) (pushes : List Pushed) → ArePushed run.n run.below pushes kept.registers.stack → Leads (Fits run) (Arrives run facts.held unread kept) (storages.not_of_library library >>= λ free. storages.with_popped r pushes facts) (step.after_stack (stack.Pop r) kept arguments)
   popped none true r pushes i = tt
   popped none false r [] i = tt
   popped none false r (s ∷ pushes) i = popped_if none _ r s pushes kept.registers.stack i
 
-  stacked : facts.answer ≡ None → (s : Stack) (library : Bool) → Leads (Fits run.n) (Arrives run facts.held unread kept) (storages.stack s library facts) (step.after_stack s kept arguments)
+  stacked : facts.answer ≡ None → (s : Stack) (library : Bool) → Leads (Fits run) (Arrives run facts.held unread kept) (storages.stack s library facts) (step.after_stack s kept arguments)
   stacked none (stack.Push r) library = λ l. record { described = record { state = pushed_holds run facts unread kept whole d.state r; pending = d.pending; answers = d.answers }; grown = omega arith }
   stacked none (stack.Pop r) library = popped none library r facts.pushes d.state.pushed
 
@@ -216,33 +217,33 @@ pub arguments_are_sound : ArgumentsAreSound
 unfolding transfer
 arguments_are_sound run facts unread kept arguments x a whole d e =
     let n = without_answer run facts unread kept arguments d in
-    subst (λ k. Leads (FitsOn run.n) (ArrivesOn run facts.held unread kept) (transfers.edges_of k x (transfers.answer_for k facts) (transfers.without_answer facts)) (step.after_argument a x.element kept arguments)) (sym e)
+    subst (λ k. Leads (FitsOn run) (ArrivesOn run facts.held unread kept) (transfers.edges_of k x (transfers.answer_for k facts) (transfers.without_answer facts)) (step.after_argument a x.element kept arguments)) (sym e)
     (on_leads run facts unread kept _ _ (keeps run (transfers.without_answer facts) unread kept arguments whole n _ _ (argued run (transfers.without_answer facts) unread kept arguments whole n a x.element.text)))
 
 pub values_are_sound : ValuesAreSound
 unfolding transfer
 values_are_sound run facts unread kept arguments x v whole d e =
     let n = without_answer run facts unread kept arguments d in
-    subst (λ k. Leads (FitsOn run.n) (ArrivesOn run facts.held unread kept) (transfers.edges_of k x (transfers.answer_for k facts) (transfers.without_answer facts)) (step.after_value v kept arguments)) (sym e)
+    subst (λ k. Leads (FitsOn run) (ArrivesOn run facts.held unread kept) (transfers.edges_of k x (transfers.answer_for k facts) (transfers.without_answer facts)) (step.after_value v kept arguments)) (sym e)
     (on_leads run facts unread kept _ _ (keeps run (transfers.without_answer facts) unread kept arguments whole n _ _ (levels_keep run (transfers.without_answer facts) unread kept arguments whole n _ _ (valued run (transfers.without_answer facts) unread kept arguments whole n v))))
 
 pub commands_are_sound : CommandsAreSound
 unfolding transfer
-commands_are_sound run facts unread kept arguments x c whole d e named =
+commands_are_sound run facts unread kept arguments x c whole d e named library =
     let n = without_answer run facts unread kept arguments d in
-    subst (λ k. Leads (FitsOn run.n) (ArrivesOn run facts.held unread kept) (transfers.edges_of k x (transfers.answer_for k facts) (transfers.without_answer facts)) (step.after_command c x.element kept arguments)) (sym e)
-    (on_leads run facts unread kept _ _ (takes_and_acts run (transfers.without_answer facts) unread kept arguments whole n (transfers.execution c x) (λ taken. step.execution c x.element taken kept) (λ known taken i. executed run (transfers.without_answer facts) unread kept arguments whole n c x known taken named i)))
+    subst (λ k. Leads (FitsOn run) (ArrivesOn run facts.held unread kept) (transfers.edges_of k x (transfers.answer_for k facts) (transfers.without_answer facts)) (step.after_command c x.element kept arguments)) (sym e)
+    (on_leads run facts unread kept _ _ (takes_and_acts run (transfers.without_answer facts) unread kept arguments whole n (transfers.execution c x) (λ taken. step.execution c x.element taken kept) (λ known taken i. executed run (transfers.without_answer facts) unread kept arguments whole n c x known taken named (λ r q. library r (ap named_by e ∙ q)) i)))
 
 pub queries_are_sound : QueriesAreSound
 unfolding transfer
 queries_are_sound run facts unread kept arguments x q whole d e named =
     let n = without_answer run facts unread kept arguments d in
-    subst (λ k. Leads (FitsOn run.n) (ArrivesOn run facts.held unread kept) (transfers.edges_of k x (transfers.answer_for k facts) (transfers.without_answer facts)) (step.after_query q x.element kept arguments)) (sym e)
+    subst (λ k. Leads (FitsOn run) (ArrivesOn run facts.held unread kept) (transfers.edges_of k x (transfers.answer_for k facts) (transfers.without_answer facts)) (step.after_query q x.element kept arguments)) (sym e)
     (on_leads run facts unread kept _ _ (asked_for run (transfers.without_answer facts) unread kept arguments whole n q x.element.colons _ _ (taken_if run (transfers.without_answer facts) unread kept arguments whole n (step.takes q x.element.colons))))
 
 pub stacks_are_sound : StacksAreSound
 unfolding transfer
 stacks_are_sound run facts unread kept arguments x s whole d e named =
     let n = without_answer run facts unread kept arguments d in
-    subst (λ k. Leads (FitsOn run.n) (ArrivesOn run facts.held unread kept) (transfers.edges_of k x (transfers.answer_for k facts) (transfers.without_answer facts)) (step.after_stack s kept arguments)) (sym e)
+    subst (λ k. Leads (FitsOn run) (ArrivesOn run facts.held unread kept) (transfers.edges_of k x (transfers.answer_for k facts) (transfers.without_answer facts)) (step.after_stack s kept arguments)) (sym e)
     (on_leads run facts unread kept _ _ (stacked run (transfers.without_answer facts) unread kept arguments whole n refl s x.library))

@@ -49,10 +49,12 @@ abbrev pub begun_at : ℕ → Kept → Begun
 begun_at unread kept =
     record { ahead = fore_of kept + unread; held = length kept.text + unread; unread = unread }
 
--- What a run is at that its facts speak of: the number that the polynomials are taken at, what the turns of the open
--- iterations began with, the innermost first, and the push-down list of the entry.
+-- What a run is at that its facts speak of: the number that the polynomials are taken at, which registers have texts of
+-- the library, what the turns of the open iterations began with, the innermost first, and the push-down list of the
+-- entry.
 pub record Run : Type 0 where
   pub n : ℕ
+  pub library : ℕ → Bool
   pub turns : List Begun
   pub below : List Pair
 

@@ -81,18 +81,20 @@ JoinsAreSound =
 
 -- At the entry no iteration is open, N holds all, the texts of the library have their lengths, and nothing is pending but
 -- the argument, where one is given.
-pub record IsEntry (n : ℕ) (lengths : List (Option ℕ)) (unread : ℕ) (kept : Kept) : Type 0 where
+pub record IsEntry (n : ℕ) (unread : ℕ) (kept : Kept) : Type 0 where
   pub held : length kept.text + unread ≤ n
   pub texts : (r : ℕ) → length (pair_of r kept.registers).text ≤ n
-  pub library :
-      (r most : ℕ) → slice_index_or lengths r None ≡ Some most → length (pair_of r kept.registers).text ≡ most
+
+abbrev pub HaveLengths : List (Option ℕ) → Kept → Type 0
+HaveLengths lengths kept =
+    (r n : ℕ) → slice_index_or lengths r None ≡ Some n → length (pair_of r kept.registers).text ≡ n
 
 abbrev pub EntryIsSound : Type 0
 EntryIsSound =
-    (n unread : ℕ) (kept : Kept) (entry : Entry) (given : Option ℕ)
-    → IsWhole kept → IsEntry n entry.lengths unread kept → IsAsked entry.argument given
-    → Describes (record { n = n; turns = []; below = kept.registers.stack }) (facts_given entry) unread kept
-    (arguments_given given)
+    (n unread : ℕ) (kept : Kept) (entry : Entry) (library : ℕ → Bool) (given : Option ℕ)
+    → IsWhole kept → IsEntry n unread kept → HaveLengths entry.lengths kept → IsAsked entry.argument given
+    → Describes (record { n = n; library = library; turns = []; below = kept.registers.stack }) (facts_given entry)
+    unread kept (arguments_given given)
 
 -- what enters a body from what is known before its <
 abbrev pub entered : Bool → Facts → Facts

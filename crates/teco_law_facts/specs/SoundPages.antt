@@ -47,7 +47,7 @@ AppendsAreSound =
     (run : Run) (facts : Facts) (world : World) (arguments : Arguments) (x : Placed)
     → IsWhole world.kept → Describes run facts (unread_of world) world.kept arguments
     → x.element.kind ≡ kind.Page page.Append
-    → Leads (FitsOn run.n) (Appends run facts.held world arguments) (transfer x facts) (arguments_of arguments.level)
+    → Leads (FitsOn run) (Appends run facts.held world arguments) (transfer x facts) (arguments_of arguments.level)
 
 -- The first page of nP, and m,nP; and each page that follows.
 pub record TurnsPages
@@ -66,7 +66,7 @@ PageTurnsAreSound =
     (run : Run) (facts : Facts) (world : World) (arguments : Arguments) (x : Placed) (output : Output)
     → IsWhole world.kept → Describes run facts (unread_of world) world.kept arguments
     → x.element.kind ≡ kind.Page page.Next → world.files.output ≡ Some output
-    → Leads (FitsOn run.n)
+    → Leads (FitsOn run)
     (λ edges (taken : Taken). TurnsPages run facts.held world arguments edges taken.first taken.value)
     (transfer x facts) (arguments_of arguments.level)
 
@@ -76,7 +76,7 @@ PageWritesAreSound =
     (run : Run) (facts : Facts) (world : World) (arguments : Arguments) (x : Placed) (output : Output)
     → IsWhole world.kept → Describes run facts (unread_of world) world.kept arguments
     → x.element.kind ≡ kind.Page page.Write → world.files.output ≡ Some output
-    → Leads (FitsOn run.n)
+    → Leads (FitsOn run)
     (λ edges (taken : Taken). Succeeds
     (λ (p : Progress). Comes run facts.held world (levels_after_taking arguments) edges p.world)
     (pages page_written (record { first = taken.first; value = taken.value }) world))

@@ -88,7 +88,7 @@ PageSearchesAreSound =
     (run : Run) (facts : Facts) (world : World) (pending : Arguments) (x : Placed) (s : Search) (output : Output)
     → IsWhole world.kept → Describes run facts (unread_of world) world.kept pending
     → x.element.kind ≡ kind.Search s → IsInPages s → world.files.output ≡ Some output
-    → Leads (FitsOn run.n) (Seeks run (facts_seeking facts) world pending x s) (transfer x facts)
+    → Leads (FitsOn run) (Seeks run (facts_seeking facts) world pending x s) (transfer x facts)
     (arguments_of pending.level)
 
 -- In the second edition what is unread is counted once in a whole run, and not with N and FN.

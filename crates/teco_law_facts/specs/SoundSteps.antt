@@ -31,7 +31,7 @@ use Rattle.teco_verifier.specs.facts.Facts.{Facts, Iteration}
 use Rattle.teco_verifier.specs.facts.Flows.{Edges}
 use Rattle.teco_model.specs.Macros.{Needs}
 use Rattle.teco_verifier.specs.facts.Printed.{needs, steps}
-use Rattle.teco_law_facts.specs.SoundElements.{FitsOn, IsNamedByCommand, IsNamedByQuery, IsNamedByStack}
+use Rattle.teco_law_facts.specs.SoundElements.{FitsOn, IsNamedByCommand, IsNamedByQuery, IsNamedByStack, KnowsLibrary}
 use Rattle.teco_law_facts.specs.SoundFlow.{number_needed}
 use Rattle.teco_model.specs.Paging.{unread_of}
 use Rattle.teco_law_facts.specs.SoundPages.{ComesTo, Comes, IsTurnOrWrite}
@@ -94,6 +94,7 @@ pub record BeginsAt (run : Run) (facts : Facts) (x : Placed) (s : State) : Type 
   pub read : element_at s.frames.running.text s.frames.running.place ≡ Ok (Some x.element)
   pub colon : x.colon ≡ has_colon x.element s.frames.running
   pub named : IsNamed x.element.kind
+  pub library : KnowsLibrary run x
   pub stands : KindStands x.element.kind facts x s.frames.running
   pub files : IfOk (needs x.element.kind facts) (λ need. AreOpen need s.world.files)
 
@@ -220,7 +221,7 @@ Proceeds k run facts x edges old most outcome = ⊥
 abbrev pub StepsAreSound : Type 0
 StepsAreSound =
     (run : Run) (facts : Facts) (x : Placed) (edges : Edges) (most : Polynomial) (s : State)
-    → BeginsAt run facts x s → transfer x facts ≡ Ok edges → FitsOn run.n edges
+    → BeginsAt run facts x s → transfer x facts ≡ Ok edges → FitsOn run edges
     → steps x.element.kind facts ≡ Ok most
     → Proceeds x.element.kind run facts x edges s
     (value most run.n + unread_left x.element.kind facts (unread_of s.world)) (step s)
@@ -228,7 +229,7 @@ StepsAreSound =
 abbrev pub LaterStepsAreSound : Type 0
 LaterStepsAreSound =
     (run : Run) (facts : Facts) (x : Placed) (edges : Edges) (most : Polynomial) (old s : State) (rest : ℕ)
-    → BeginsAt run facts x old → transfer x facts ≡ Ok edges → FitsOn run.n edges
+    → BeginsAt run facts x old → transfer x facts ≡ Ok edges → FitsOn run edges
     → steps x.element.kind facts ≡ Ok most → IsUnderway x.element.kind run facts x edges old rest s
     → Proceeds x.element.kind run facts x edges old rest (step s)
 
@@ -250,7 +251,7 @@ pub record Completes
 abbrev pub ElementsAreSound : Type 0
 ElementsAreSound =
     (run : Run) (facts : Facts) (x : Placed) (edges : Edges) (most : Polynomial) (s : State)
-    → BeginsAt run facts x s → transfer x facts ≡ Ok edges → FitsOn run.n edges
+    → BeginsAt run facts x s → transfer x facts ≡ Ok edges → FitsOn run edges
     → steps x.element.kind facts ≡ Ok most
     → Completes run facts x edges (value most run.n) s
 
