@@ -98,7 +98,7 @@ module _ (laws : ending.Laws) (sound : NodesAreSound) (bounded : TurnsAreBounded
 
   many : (number : ℕ) (turns : List OpenTurn) (s : State) (at : At number turns s) → (length at.here.node.stand.iterations ≡ length turns) × (length (there number turns s at).opened ≡ depth_of s)
   many number turns s at =
-      let opened = opened_length table n at.here.node.stand.iterations (open_loops s) turns at.here.opened in
+      let opened = opened_length nodes table n at.here.node.stand.iterations (open_loops s) turns at.here.opened in
       (opened.1, shown_length at.here.node.stand.iterations turns opened.1 ∙ opened.0)
 
   -- moves begin as many turns at least
@@ -138,7 +138,7 @@ module _ (laws : ending.Laws) (sound : NodesAreSound) (bounded : TurnsAreBounded
       next = there g.passes.goes.target m.later g.passes.next later
 
       move : Move (turning nodes table n) here next
-      move = subst (λ (node : Node). Move (turning nodes table n) here (shown g.passes.goes.target node.stand.iterations m.later g.passes.next.world))
+      move = subst (λ (node : Node). Move (turning nodes table n) here (shown nodes table g.passes.goes.target node.stand.iterations m.later g.passes.next.world))
           (same_node nodes g.passes.goes.target m.there later.here.node m.at later.here.at) m.move
 
       here_many : length here.opened ≡ depth_of s
@@ -155,7 +155,7 @@ module _ (laws : ending.Laws) (sound : NodesAreSound) (bounded : TurnsAreBounded
       back_by depth (Into enters) some reads before after = absurd (omega (arith, ap length enters.opened, here_many, next_many, before, after))
       back_by depth (Forward goes) some reads before after =
           let e = turn_end at.here.node.element reads in
-          let both = opened_length table n at.here.node.stand.iterations (open_loops s) turns at.here.opened in
+          let both = opened_length nodes table n at.here.node.stand.iterations (open_loops s) turns at.here.opened in
           let fewer = fewer_open (λ begin. end_of nodes begin) g.passes.goes.target at.here.node.stand.iterations turns both.1 (omega (arith, both.0, before, some))
           (λ b outer is. let ended = closed.only number at.here.node b at.here.at (ends_innermost at.here.node e.0 b outer e.1 e.2 is) in omega (arith, ended, goes.later)) in
           absurd (omega (arith, ap length goes.opened, fewer, both.0, next_many, before, after))
@@ -284,7 +284,7 @@ module _ (laws : ending.Laws) (sound : NodesAreSound) (bounded : TurnsAreBounded
           let reads = ap (λ (node : Node). node.element) (same_node nodes number at.here.node begin.node at.here.at begin.at) ∙ begin.reads in
           absurd (not_long at.here.node.element reads (g.amid j s (omega (arith, e)) l came).long)
 
-      most_turns : (steps count : ℕ) → BeginTurns (depth_of t) steps t count → suc count ≤ value_of n (turns_at table number)
+      most_turns : (steps count : ℕ) → BeginTurns (depth_of t) steps t count → suc count ≤ value_of n (turns_at nodes table number)
       most_turns steps count run =
           let opens = enters.opens in
           let some : 1 ≤ depth_of t = omega (arith, opens) in
@@ -296,7 +296,7 @@ module _ (laws : ending.Laws) (sound : NodesAreSound) (bounded : TurnsAreBounded
           (subst (λ depth. Repeats (turning nodes table n) depth counted.moves to counted.more) depth counted.repeats) in
           omega (arith, all, counted.enough)
 
-      few_turns : (r : Result Polynomial Refusal) → turns_at table number ≡ r → TakesFewTurns library nodes table n below s t
+      few_turns : (r : Result Polynomial Refusal) → turns_at nodes table number ≡ r → TakesFewTurns library nodes table n below s t
       few_turns (Ok most) e = subst (λ (s : State). TakesFewTurns library nodes table n below s t) (alone j refl) (record {
         number = number;
         turns = turns;

@@ -142,9 +142,9 @@ pub record Facts_laws : Type 0 where
   pub files : FilesStayOpen
 
 module _ (laws : Facts_laws) (library : Library) (entry : ℕ) (nodes : List Node) (are : AreLinked library entry nodes) (table : Table) (n : ℕ) (below : List Pair) (number : ℕ) (turns : List OpenTurn) (s : State) (here : IsDescribed library nodes table n below number turns s) where
-  module _ (e : Element) (reads : here.node.element ≡ Some e) (edges : Edges) (leads : edges_at nodes here.node here.facts ≡ Ok edges) (most : Polynomial) (takes : steps e.kind here.facts ≡ Ok most) (fits : FitsOn n edges) (begins : BeginsAt (run_at n below turns) here.facts (placed nodes here.node e) s) (wholes : (k : ℕ) (u : State) → Reaches k s u → IsWhole u.world.kept) (inside : (q : Search) → e.kind ≡ kind.Search q → (placed nodes here.node e).colon ≡ false → HasLoop s.frames.running) where
+  module _ (e : Element) (reads : here.node.element ≡ Some e) (edges : Edges) (leads : edges_at nodes here.node here.facts ≡ Ok edges) (most : Polynomial) (takes : steps e.kind here.facts ≡ Ok most) (fits : FitsOn n edges) (begins : BeginsAt (run_at library n below turns) here.facts (placed nodes here.node e) s) (wholes : (k : ℕ) (u : State) → Reaches k s u → IsWhole u.world.kept) (inside : (q : Search) → e.kind ≡ kind.Search q → (placed nodes here.node e).colon ≡ false → HasLoop s.frames.running) where
     abbrev run_here : Run
-    run_here = run_at n below turns
+    run_here = run_at library n below turns
 
     abbrev x : Placed
     x = placed nodes here.node e

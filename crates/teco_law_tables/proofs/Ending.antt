@@ -63,7 +63,7 @@ module _ (laws : Laws) (library : Library) (entry : ℕ) (nodes : List Node) (ta
     pub moves : ℕ
     pub reached : Reaches total first s
     pub here : IsDescribed library nodes table n below number turns s
-    pub came : Came (turning nodes table n) moves zeroth total (shown number here.node.stand.iterations turns s.world)
+    pub came : Came (turning nodes table n) moves zeroth total (shown nodes table number here.node.stand.iterations turns s.world)
     pub files : AreOpen (needs_in nodes table) s.world.files
     pub none : NoFileCommands first total
 
@@ -71,7 +71,7 @@ module _ (laws : Laws) (library : Library) (entry : ℕ) (nodes : List Node) (ta
   ends_here number turns s at e = record {
     steps = at.total;
     new = s.world;
-    few = let few = few_steps at.moves at.total 0 (shown number at.here.node.stand.iterations turns s.world) at.came (omega arith) in omega (arith, few);
+    few = let few = few_steps at.moves at.total 0 (shown nodes table number at.here.node.stand.iterations turns s.world) at.came (omega arith) in omega (arith, few);
     none = at.none;
     ends = record { last = s; steps = at.reached; end = e };
   }
@@ -98,15 +98,15 @@ module _ (laws : Laws) (library : Library) (entry : ℕ) (nodes : List Node) (ta
 
     pub on_there : (m : MovesOn library nodes table n below number at.here.node turns s passing.goes.target passing.next) → At passing.goes.target m.later passing.next
     on_there m =
-        let came = came_on (turning nodes table n) at.moves zeroth (shown number at.here.node.stand.iterations turns s.world) (shown passing.goes.target m.there.stand.iterations m.later passing.next.world) at.total (suc passing.before) at.came m.move own_there in
-        let within = (laws.covered (turning nodes table n) zeroth (shown passing.goes.target m.there.stand.iterations m.later passing.next.world) (suc at.moves) closed begins (came_leads (turning nodes table n) (suc at.moves) zeroth (shown passing.goes.target m.there.stand.iterations m.later passing.next.world) (at.total + suc passing.before) came)).held in
+        let came = came_on (turning nodes table n) at.moves zeroth (shown nodes table number at.here.node.stand.iterations turns s.world) (shown nodes table passing.goes.target m.there.stand.iterations m.later passing.next.world) at.total (suc passing.before) at.came m.move own_there in
+        let within = (laws.covered (turning nodes table n) zeroth (shown nodes table passing.goes.target m.there.stand.iterations m.later passing.next.world) (suc at.moves) closed begins (came_leads (turning nodes table n) (suc at.moves) zeroth (shown nodes table passing.goes.target m.there.stand.iterations m.later passing.next.world) (at.total + suc passing.before) came)).held in
         let next = m.held within in
         record {
           total = at.total + suc passing.before;
           moves = suc at.moves;
           reached = reaches_next;
           here = next;
-          came = subst (λ (node : Node). Came (turning nodes table n) (suc at.moves) zeroth (at.total + suc passing.before) (shown passing.goes.target node.stand.iterations m.later passing.next.world)) (same_node nodes passing.goes.target m.there next.node m.at next.at) came;
+          came = subst (λ (node : Node). Came (turning nodes table n) (suc at.moves) zeroth (at.total + suc passing.before) (shown nodes table passing.goes.target node.stand.iterations m.later passing.next.world)) (same_node nodes passing.goes.target m.there next.node m.at next.at) came;
           files = passing.files;
           none = none_next;
         }
@@ -117,7 +117,7 @@ module _ (laws : Laws) (library : Library) (entry : ℕ) (nodes : List Node) (ta
 
   walk : (fuel : ℕ) (number : ℕ) (turns : List OpenTurn) (s : State) (at : At number turns s) → steps_in (turning nodes table n) < at.total + fuel → EndsWithin first (steps_in (turning nodes table n))
   walk zero number turns s at l =
-      let few = few_steps at.moves at.total 0 (shown number at.here.node.stand.iterations turns s.world) at.came (omega arith) in
+      let few = few_steps at.moves at.total 0 (shown nodes table number at.here.node.stand.iterations turns s.world) at.came (omega arith) in
       absurd (omega (arith, few, l))
   walk (suc fuel) number turns s at l = go (pass number turns at.total s at.reached at.here at.files) (λ p m. walk fuel p.goes.target m.later p.next (on_there number turns s at p m) (omega (arith, l, more_there number turns s at p m)))
     where
@@ -178,7 +178,7 @@ module _ (library : Library) (entry : ℕ) (argument : Option ArgumentRange) (gi
     begins = refl;
     loaded = loaded;
     whole = whole;
-    opened = subst (λ begins. AreOpened table n begins [] []) (sym none_open) tt;
+    opened = subst (λ begins. AreOpened nodes table n begins [] []) (sym none_open) tt;
     described = covers_are_sound (run_at n world.kept.registers.stack []) one.facts (facts_given argument) (unread_of world) world.kept (arguments_given given) whole (and_both _ _ one.same).0 (entry_is_sound n (unread_of world) world.kept argument given whole entering asked);
   }
 
@@ -188,7 +188,7 @@ module _ (library : Library) (entry : ℕ) (argument : Option ArgumentRange) (gi
   pub begins : IsStart (turning nodes table n) zeroth
   begins = record { node = refl; some = omega arith; reached = refl; loops = refl; opened = refl; held = entering.held; ahead = entering.held }
 
-  into_first : Move (turning nodes table n) zeroth (shown 1 one.node.stand.iterations [] world)
+  into_first : Move (turning nodes table n) zeroth (shown nodes table 1 one.node.stand.iterations [] world)
   into_first = Forward (record {
     later = omega arith;
     inside = omega (arith, number_within nodes 1 one.node one.at);
@@ -200,8 +200,8 @@ module _ (library : Library) (entry : ℕ) (argument : Option ArgumentRange) (gi
     falls = subst (AllByRecursion (λ l. FallFollows ((turning nodes table n).fall 0 l) ((turning nodes table n).fall 1 l) (held_of world) (held_of world))) (sym (iterations_are nodes 1 one.node one.at ∙ none_open)) tt;
   })
 
-  came_first : Came (turning nodes table n) 1 zeroth 0 (shown 1 one.node.stand.iterations [] world)
-  came_first = came_on (turning nodes table n) 0 zeroth zeroth (shown 1 one.node.stand.iterations [] world) 0 0 (refl, refl) into_first (omega arith)
+  came_first : Came (turning nodes table n) 1 zeroth 0 (shown nodes table 1 one.node.stand.iterations [] world)
+  came_first = came_on (turning nodes table n) 0 zeroth zeroth (shown nodes table 1 one.node.stand.iterations [] world) 0 0 (refl, refl) into_first (omega arith)
 
 pub reached_first : (s : State) → Reaches 0 s s
 unfolding run

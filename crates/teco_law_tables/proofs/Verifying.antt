@@ -141,7 +141,7 @@ module _ (laws : Laws) (library : Library) (entry : ℕ) (nodes : List Node) (ar
     element_passes : (e : Element) → here.node.element ≡ Some e → Goes library entry nodes table n below number turns s here
     element_passes e reads =
         let most = steps_known table argument nodes number here.node here.facts commands_are printed.commands_are here.at here.known in
-        let begins : BeginsAt (run_at n below turns) here.facts (placed nodes here.node e) s = record {
+        let begins : BeginsAt (run_at library n below turns) here.facts (placed nodes here.node e) s = record {
           whole = whole_here;
           described = here.described;
           left = here.begins;
@@ -219,7 +219,7 @@ module _ (laws : Laws) (library : Library) (entry : ℕ) (nodes : List Node) (ar
               next = without_answer here.facts;
               leads = ap (λ read. edges_behind nodes here.node read here.facts) reads;
               on_way = ap (λ read. along read went.way (transfer_return here.facts)) reads;
-              described = subst (λ run. Describes run (without_answer here.facts) (unread_of s.world) s.world.kept s.arguments) (sym (ap (λ read. run_along read went.way (left_by nodes here.node) s.world (run_at n below turns)) reads)) (no_answer_needed (run_at n below turns) here.facts (unread_of s.world) s.world.kept s.arguments here.described);
+              described = subst (λ run. Describes run (without_answer here.facts) (unread_of s.world) s.world.kept s.arguments) (sym (ap (λ read. run_along read went.way (left_by nodes here.node) s.world (run_at library n below turns)) reads)) (no_answer_needed (run_at library n below turns) here.facts (unread_of s.world) s.world.kept s.arguments here.described);
               grown = omega arith;
             };
             loaded = here.loaded;

@@ -85,8 +85,8 @@ pub record MovesOn
   pub at : numbered nodes target ≡ Some there
   pub later : List OpenTurn
   pub move :
-      Move (turning nodes table n) (shown number node.stand.iterations turns s.world)
-      (shown target there.stand.iterations later t.world)
+      Move (turning nodes table n) (shown nodes table number node.stand.iterations turns s.world)
+      (shown nodes table target there.stand.iterations later t.world)
   pub held : held_of t.world ≤ held_at nodes table n target → IsDescribed library nodes table n below target later t
 
 -- A run may have come to the end instead.
@@ -107,6 +107,6 @@ StepsMove =
     → AreLinked library entry nodes → check_nodes nodes table ≡ Ok tt
     → (here : IsDescribed library nodes table n below number turns s)
     → IsLast here.node.element s last → (goes : GoesTo (stands nodes entry) number here.node last t)
-    → Comes nodes here.node here.facts goes.way (run_at n below turns) s t
+    → Comes nodes here.node here.facts goes.way (run_at library n below turns) s t
     → IsLoaded library t.world.kept → IsWhole t.world.kept
     → ComesOn library entry nodes table n below number here.node turns s goes.target t
