@@ -56,7 +56,7 @@ run_along None way between world run = run
 run_along (Some e) way between world run = run_by_kind e.kind way between world run
 
 -- What the laws of facts say of an element whose last step goes along a way: the way is reached, what is known on it
--- describes what the element comes to, and what is held grew by no more than that says.
+-- describes what the element comes to, no more is unread, and what is held grew by no more than that says.
 pub record Comes
     (nodes : List Node) (node : Node) (facts : Facts) (way : ℕ) (run : Run) (s t : State) : Type 0 where
   pub edges : Edges
@@ -66,6 +66,7 @@ pub record Comes
   pub described :
       Describes (run_along node.element way (left_by nodes node) s.world run) next (unread_of t.world) t.world.kept
       t.arguments
+  pub less : unread_of t.world ≤ unread_of s.world
   pub grown : held_of t.world + value facts.held run.n ≤ held_of s.world + value next.held run.n
 
 -- The last step of an element goes along a way. P, PW, N and FN may have taken others before, and stood where they began.
