@@ -4,6 +4,7 @@ use Rattle.std.specs.Prelude.{codes}
 use Rattle.std.specs.List.{prefix_len}
 use Rattle.std.proofs.lemmas.Int.{ints, SFits-int_wrap}
 use Rattle.std.proofs.lemmas.Fmt.{length_signed_le, decimal_nonempty}
+use Rattle.std.proofs.lemmas.Bool.Decides.{nat_tests}
 use Rattle.teco_base.specs.Bytes.{is_digit, is_among}
 use Rattle.teco_base.specs.NumberText.{decimal}
 use Rattle.teco_model.specs.Character.{code_at}
@@ -31,7 +32,6 @@ use Rattle.teco_verifier.specs.declared.values.Interval.{Interval}
 use Rattle.teco_verifier.specs.declared.falls.DigitMark.{DigitMark}
 use Rattle.teco_verifier.specs.declared.falls.DigitMark.TheVariants.{Before, At}
 use Rattle.teco_model.specs.Condition.{is_code_of}
-use Rattle.std.proofs.lemmas.Bool.Decides.{nat_tests}
 
 -- ---- characters
 -- a number of an interval that fits may be pending

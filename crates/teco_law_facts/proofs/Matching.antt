@@ -3,6 +3,7 @@ use Rattle.std.proofs.Common.{◌≡◌, ℕ, zero, suc, ◌+◌, ◌-◌, ◌�
 use Rattle.std.proofs.lemmas.Option.{slice_get_within}
 use Rattle.std.specs.Option.{option_map_or}
 use Rattle.std.specs.Prelude.{flat_map, fold, ⊤}
+use Rattle.std.proofs.lemmas.Bool.Decides.{nat_tests}
 use Rattle.teco_base.specs.declared.code.Code.{Code}
 use Rattle.teco_model.proofs.Searches.{here_finds, forward_finds, none_is_shorter}
 use Rattle.teco_model.specs.Checked.{◌>>=◌}
@@ -23,7 +24,6 @@ use Rattle.teco_model.specs.declared.pattern.Span.{Span}
 use Rattle.teco_base.specs.Bytes.{is_digit, is_letter, to_upper}
 use Rattle.teco_verifier.specs.facts.Searches.{is_digit_class, is_digit_item, is_digit_part, ends_in_digit, end_in_digit}
 use Rattle.teco_model.specs.declared.pattern.Class.{Class}
-use Rattle.std.proofs.lemmas.Bool.Decides.{nat_tests}
 
 -- ---- a match lies in the text
 has_within : (passes : ℕ → Bool) (text : List ℕ) (at : ℕ) → HasAt passes text at → at < length text

@@ -1,16 +1,15 @@
 -- Where the pointer is, and what always holds of a pair.
 use Rattle.std.proofs.Common.{◌≡◌, ℕ, zero, suc, ◌≤◌, ◌<◌, arith, ℤ, pos, negsuc, List, [], ◌∷◌, length, drop, length-drop, Option, Some, None, IfSome, option_map}
 use Rattle.std.specs.Prelude.{slice_get, unwrap_or}
+use Rattle.std.proofs.lemmas.Int.{ints}
 use Rattle.teco_model.specs.Character.{code_at}
 use Rattle.teco_law_facts.proofs.Beyond.{behind_line, beyond_short, beyond_shorter, line_end}
 use Rattle.teco_law_facts.proofs.Falls.{IsLine}
-use Rattle.teco_law_facts.specs.Describes.{AreBytes, beyond_of, HasFallen, begun_at, around_of}
+use Rattle.teco_law_facts.specs.Describes.{AreBytes, beyond_of, HasFallen, begun_at, around_of, Run, IsWhole, IsWholePair, Holds}
 use Rattle.teco_verifier.specs.facts.Values.{IsWithin, character}
-use Rattle.std.proofs.lemmas.Int.{ints}
 use Rattle.teco_model.specs.Registers.{empty_pair}
 use Rattle.teco_model.specs.State.{Kept}
 use Rattle.teco_law_facts.proofs.Numbers.{AreDistances}
-use Rattle.teco_law_facts.specs.Describes.{Run, IsWhole, IsWholePair, Holds, around_of}
 use Rattle.teco_verifier.specs.facts.Facts.{Facts}
 use Rattle.teco_verifier.specs.declared.rules.Rules.{Rules}
 use Rattle.teco_verifier.specs.declared.rules.Rules.TheVariants.{First, Second}

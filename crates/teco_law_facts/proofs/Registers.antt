@@ -22,7 +22,7 @@ use Rattle.teco_model.specs.declared.kind.Typing.TheVariants as typing_kind
 use Rattle.teco_model.specs.declared.pattern.Span.{Span as Part}
 use Rattle.teco_poly.specs.Polynomial.{Polynomial, value}
 use Rattle.teco_law_facts.proofs.Saved.{IsSaved, saved_at}
-use Rattle.teco_law_facts.proofs.Each.{IsNumber, IsText, each_at, each_set, each_kept, each_length, all_set}
+use Rattle.teco_law_facts.proofs.Each.{IsNumber, IsText, each_at, each_set, each_kept, each_length}
 use Rattle.teco_law_facts.proofs.Editing.{inserted_foretold, parts_lead}
 use Rattle.teco_law_facts.proofs.Moving.{place_known, count_within}
 use Rattle.teco_law_facts.proofs.Numbers.{interval_of_in, value_in_in, kept_in_32_bits_in}

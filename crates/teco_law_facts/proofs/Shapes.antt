@@ -1,6 +1,7 @@
 -- The shapes of what commands do, and that the facts that they leave are true.
 use Rattle.std.proofs.Common.{◌≡◌, ℕ, zero, suc, ◌+◌, ◌≤◌, arith, refl, sym, subst, cond, Bool, true, false, option_map, ◌-ℤ◌, pos, negsuc, ◌+ℤ◌, ◌≤ℤ◌, [], ◌∷◌, length, Option, Some, None, Result, Ok, Err, IfSome, IfOk, ok_or, nat_le}
 use Rattle.std.proofs.lemmas.Int.{ints}
+use Rattle.std.proofs.lemmas.Bool.Decides.{nat_tests}
 use Rattle.teco_base.specs.declared.TheConstants.{LIMIT}
 use Rattle.teco_base.specs.declared.code.Code.{Code}
 use Rattle.teco_model.specs.Arguments.{Arguments}
@@ -12,7 +13,6 @@ use Rattle.teco_law_facts.proofs.Numbers.{both_true, both}
 use Rattle.teco_law_facts.proofs.Near.{distances, line_of}
 use Rattle.teco_law_facts.proofs.Falls.{IsLine, Descends, held_before, fallen_by, ordered_is, each_fallen}
 use Rattle.teco_verifier.specs.facts.Falls.{Descent, By, PastLine, InLine, Refilled, NextPage}
-use Rattle.std.proofs.lemmas.Bool.Decides.{nat_tests}
 use Rattle.teco_law_facts.proofs.Pending.{settled_are}
 use Rattle.teco_law_facts.proofs.Saved.{Widens, saved_after_are}
 use Rattle.teco_verifier.specs.facts.Attempt.{◌>>=◌}

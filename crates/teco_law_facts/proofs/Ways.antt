@@ -1,6 +1,8 @@
 -- The way that a number takes is reached, and what is known on it holds.
 use Rattle.std.proofs.Common.{List, ◌≡◌, ℕ, zero, suc, ◌+◌, ◌≤◌, arith, refl, subst, ℤ, pos, negsuc, neg_ℤ, ◌+ℤ◌, ◌-ℤ◌, ◌≤ℤ◌, ◌*ℤ◌, int_le, Bool, true, false, ◌&&◌, not, cond, Option, Some, None, option_map, MatchOption, inl, inr, IfSome, length, [], ◌∷◌, ◌||◌, is_none, sym}
 use Rattle.std.proofs.lemmas.Int.{ints}
+use Rattle.std.specs.Prelude.{IsTrue, ⊤}
+use Rattle.std.specs.Option.{option_map_or}
 use Rattle.teco_model.specs.State.{Kept}
 use Rattle.teco_model.specs.Registers.{Pair}
 use Rattle.teco_law_facts.proofs.Numbers.{AreDistances, both, interval_of_in, both_true, are_equal_is}
@@ -16,8 +18,6 @@ use Rattle.teco_verifier.specs.declared.values.Interval.{Interval}
 use Rattle.teco_verifier.specs.declared.values.Value.{Value}
 use Rattle.teco_verifier.specs.declared.falls.DigitMark.{DigitMark}
 use Rattle.teco_verifier.specs.declared.rules.Rules.{Rules}
-use Rattle.std.specs.Prelude.{IsTrue, ⊤}
-use Rattle.std.specs.Option.{option_map_or}
 use Rattle.teco_base.specs.Bytes.{is_digit}
 use Rattle.teco_model.specs.Condition.{is_code_of}
 use Rattle.teco_model.specs.Character.{code_at}

@@ -1,7 +1,6 @@
 -- The laws of what elements do to facts: where the transfer gives facts, the machine comes to a state that they
 -- describe.
 use Rattle.std.specs.Prelude.{◌≡◌, ℕ, ◌+◌, ◌<◌, ◌≤◌, ⊤, length, MatchOption, Result, Ok, Err, false, Some}
-use Rattle.std.specs.List.{AllByRecursion}
 use Rattle.teco_base.specs.declared.TheConstants.{LIMIT, REGISTERS}
 use Rattle.teco_base.specs.declared.code.Code.{Code}
 use Rattle.teco_model.specs.declared.kind.Argument.{Argument}

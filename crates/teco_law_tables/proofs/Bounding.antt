@@ -1,7 +1,7 @@
 -- How many turns of an iteration a run begins.
-use Rattle.teco_law_tables.specs.Following.{pages_in}
 use Rattle.std.proofs.Common.{◌≡◌, ◌⊎◌, inl, inr, ℕ, zero, suc, ◌+◌, ◌≤◌, ◌<◌, ◌==◌, refl, sym, ap, ◌∙◌, subst, arith, eqb-true, List, [], ◌∷◌, length, nat_lt, Bool, true, false, ◌&&◌, if◌then◌else◌, Option, Some, None, Result, Ok, Err}
 use Rattle.std.proofs.lemmas.Bool.{cases_order}
+use Rattle.teco_law_tables.specs.Following.{pages_in, OpenTurn, loops_in, open_loops, loops_of, shown}
 use Rattle.teco_law_turns.specs.Moves.{OpenLoop, State as Shown, Move, Forward, Into, Back, Enters as EntersLoop, IsStart, still_open}
 use Rattle.teco_law_turns.specs.Turns.{Repeats, TurnsAreBounded, turns_begun as turns_by}
 use Rattle.teco_model.specs.declared.kind.Flow.TheVariants as flow
@@ -25,7 +25,6 @@ use Rattle.teco_verifier.specs.declared.refusal.Refusal.{Refusal}
 use Rattle.teco_law_tables.specs.Bounded.{depth_of, is_turn_end, reads_turn_end, stands_at_turn_end, goes_back, turns_begun, BeginTurns, Enters, TakesFewTurns, IterationsAreBounded}
 use Rattle.teco_verifier.specs.table.Closed.{check_nodes}
 use Rattle.teco_law_tables.specs.Ending.{start_given}
-use Rattle.teco_law_tables.specs.Following.{OpenTurn, loops_in, open_loops, loops_of, shown}
 use Rattle.teco_law_tables.specs.Moving.{IsLong, MovesOn, ComesOn, Over, On}
 use Rattle.teco_verifier.specs.table.Printed.{turns_at}
 use Rattle.teco_verifier.specs.table.Table.{Table}

@@ -1,9 +1,9 @@
 -- A closed table is closed as a table of numbers.
-use Rattle.teco_law_tables.specs.Following.{falling_in}
 use Rattle.std.proofs.Common.{◌≡◌, ℕ, zero, suc, ◌+◌, ◌-◌, ◌*◌, ◌≤◌, ◌<◌, ◌==◌, refl, sym, ap, ◌∙◌, subst, arith, inr, eqb-true, ℤ, pos, List, [], ◌∷◌, Bool, true, false, if◌then◌else◌, Option, Some, None, Ok}
 use Rattle.std.specs.Prelude.{IsTrue}
 use Rattle.std.specs.List.{AllByRecursion}
 use Rattle.std.specs.Option.{option_map_or}
+use Rattle.teco_law_tables.specs.Following.{falling_in}
 use Rattle.teco_law_turns.specs.Table.{IsClosedLoop}
 use Rattle.teco_law_turns.specs.Nests.{Begin, onward, NodesNest}
 use Rattle.teco_law_expansion.specs.Ends.{Descend, IsBegin, AreClosed, IterationsEnd}

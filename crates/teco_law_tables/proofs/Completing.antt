@@ -1,11 +1,11 @@
 -- An element that begins where a run is described passes, by the laws of facts.
-use Rattle.teco_verifier.specs.expansion.Node.{numbered}
-use Rattle.teco_verifier.specs.facts.Falls.{is_second}
-use Rattle.teco_verifier.specs.declared.rules.Rules.{Rules}
-use Rattle.teco_model.specs.Paging.{unread_of}
 use Rattle.std.proofs.Common.{◌&&◌, ◌||◌, if◌then◌else◌, [], ◌∷◌, ◌≡◌, ◌⊎◌, inl, inr, ℕ, zero, suc, ◌+◌, ◌≤◌, ◌<◌, refl, sym, ap, ◌∙◌, subst, arith, List, Bool, true, false, Option, Some, None, Result, Ok, Err, is_some, slice_get, ◌∷◌}
 use Rattle.std.specs.Prelude.{IsErr}
 use Rattle.std.specs.Option.{option_map_or}
+use Rattle.teco_verifier.specs.expansion.Node.{numbered, Node, stands}
+use Rattle.teco_verifier.specs.facts.Falls.{is_second}
+use Rattle.teco_verifier.specs.declared.rules.Rules.{Rules}
+use Rattle.teco_model.specs.Paging.{unread_of}
 use Rattle.teco_model.specs.declared.kind.Command.TheVariants as command
 use Rattle.teco_model.specs.declared.kind.Storage.{Storage}
 use Rattle.teco_model.specs.declared.kind.Storage.TheVariants as storage
@@ -26,7 +26,6 @@ use Rattle.teco_model.specs.Macros.{Library, is_macro, IsLoaded, Needs}
 use Rattle.teco_law_expansion.specs.Linked.{AreLinked}
 use Rattle.teco_law_expansion.specs.Loaded.{StaysLoaded}
 use Rattle.teco_verifier.specs.expansion.Names.{named_by, names_macro, written_by, writes_macro}
-use Rattle.teco_verifier.specs.expansion.Node.{Node, stands}
 use Rattle.teco_verifier.specs.expansion.Position.{position_of, position_of_frames}
 use Rattle.teco_law_expansion.specs.Run.{GoesTo, MovesFrom, Went, Stayed, StepsGoAlongNodes}
 use Rattle.teco_law_expansion.specs.Steps.{is_long, IsLeftAt}

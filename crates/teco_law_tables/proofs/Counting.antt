@@ -1,8 +1,8 @@
 -- The sum that is printed is the sum over the nodes.
+use Rattle.std.proofs.Common.{◌≡◌, ℕ, suc, ◌+◌, ◌*◌, refl, sym, ap, ◌∙◌, subst, arith, List, [], ◌∷◌, length, Bool, true, false, not, ◌&&◌, ◌||◌, if◌then◌else◌, Option, Some, None, Result, Ok, Err, slice_get}
+use Rattle.std.specs.Option.{option_map_or}
 use Rattle.teco_law_tables.specs.Following.{is_paged_from}
 use Rattle.teco_verifier.specs.facts.Attempt.{◌>>=◌}
-use Rattle.std.specs.Option.{option_map_or}
-use Rattle.std.proofs.Common.{◌≡◌, ℕ, suc, ◌+◌, ◌*◌, refl, sym, ap, ◌∙◌, subst, arith, List, [], ◌∷◌, length, Bool, true, false, not, ◌&&◌, ◌||◌, if◌then◌else◌, Option, Some, None, Result, Ok, Err, slice_get}
 use Rattle.teco_law_turns.specs.Table.{sum_below, product_by, weight_of}
 use Rattle.teco_verifier.specs.expansion.Node.{Node, numbered}
 use Rattle.teco_poly.proofs.Lawful.{values_of_constants, value_of_sum, value_of_product}

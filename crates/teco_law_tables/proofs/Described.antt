@@ -1,9 +1,9 @@
 -- Where an element begins on a run of a macro, it is described; or the run is over.
-use Rattle.teco_law_tables.specs.Following.{pages_in}
-use Rattle.teco_verifier.specs.facts.Facts.{entry_of}
-use Rattle.teco_verifier.specs.declared.rules.Rules.{Rules}
 use Rattle.std.proofs.Common.{◌≡◌, ◌⊎◌, inl, inr, ℕ, zero, suc, ◌+◌, ◌-◌, ◌≤◌, ◌<◌, sym, ap, ◌∙◌, subst, arith, List, [], Option, Some, None, Ok}
 use Rattle.std.proofs.lemmas.Bool.{cases_order}
+use Rattle.teco_law_tables.specs.Following.{pages_in, OpenTurn}
+use Rattle.teco_verifier.specs.facts.Facts.{entry_of}
+use Rattle.teco_verifier.specs.declared.rules.Rules.{Rules}
 use Rattle.teco_law_turns.specs.Moves.{State as Shown, IsStart}
 use Rattle.teco_model.specs.Registers.{Pair}
 use Rattle.teco_model.specs.Run.{Reaches, run, go_on}
@@ -19,7 +19,6 @@ use Rattle.teco_law_facts.specs.SoundSteps.{AreOpen}
 use Rattle.teco_law_tables.specs.Bounded.{IsKnown, AtNode, BehindCall, RunsAreDescribed}
 use Rattle.teco_verifier.specs.table.Closed.{check_nodes}
 use Rattle.teco_law_tables.specs.Ending.{ElementsPass, start_given}
-use Rattle.teco_law_tables.specs.Following.{OpenTurn}
 use Rattle.teco_law_tables.specs.Moving.{MovesOn, ComesOn, Over, On}
 use Rattle.teco_verifier.specs.table.Table.{Table}
 use Rattle.teco_verifier.specs.table.Printed.{needs_in, IsPrinted}

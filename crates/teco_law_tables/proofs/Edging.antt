@@ -1,8 +1,8 @@
 -- The edge that goes on behind an element fits, where what is known at the nodes does.
-use Rattle.teco_law_facts.specs.Describes.{Run}
 use Rattle.std.proofs.Common.{◌≡◌, ℕ, zero, suc, refl, sym, ap, ◌∙◌, subst, arith, List, length, nat_lt, false, Option, Some, None, MatchOption, Result, Ok, slice_get}
 use Rattle.std.specs.Prelude.{⊤}
 use Rattle.std.proofs.lemmas.Bool.{ltb-false}
+use Rattle.teco_law_facts.specs.Describes.{Run}
 use Rattle.teco_model.specs.declared.kind.Flow.TheVariants as flow
 use Rattle.teco_model.specs.declared.kind.Kind.{Kind}
 use Rattle.teco_model.specs.declared.kind.Kind.TheVariants as kind

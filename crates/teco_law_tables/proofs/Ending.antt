@@ -1,7 +1,8 @@
 -- A run with a closed table ends in time.
-use Rattle.teco_verifier.specs.declared.rules.Rules.{Rules}
 use Rattle.std.proofs.Common.{◌≡◌, ◌⊎◌, inl, inr, ℕ, zero, suc, ◌+◌, ◌≤◌, ◌<◌, refl, sym, ap, ◌∙◌, subst, arith, List, [], ◌∷◌, map, length, get_or, Bool, true, false, if◌then◌else◌, Option, Some, None, option_map, Ok, is_some}
 use Rattle.std.specs.Prelude.{IsTrue}
+use Rattle.std.specs.List.{AllByRecursion}
+use Rattle.teco_verifier.specs.declared.rules.Rules.{Rules}
 use Rattle.teco_law_turns.specs.Moves.{State as Shown, Move, Forward, FallFollows, IsStart, RunsAreBounded}
 use Rattle.teco_law_turns.specs.Table.{IsClosed, commands as steps_in}
 use Rattle.teco_law_turns.specs.Turns.{RunsAreCovered}
@@ -38,7 +39,6 @@ use Rattle.teco_law_tables.proofs.Lookup.{number_within, same_node}
 use Rattle.teco_law_tables.proofs.Standing.{iterations_are}
 use Rattle.teco_poly.proofs.Lawful.{values_of_constants}
 use Rattle.teco_model.specs.Element.{blank_len}
-use Rattle.std.specs.List.{AllByRecursion}
 use Rattle.teco_law_tables.proofs.Reading.{entry_checked, nodes_checked}
 use Rattle.teco_law_tables.proofs.Walking.{Came, came_on, came_takes, came_leads, reaches_on, none_yet, none_on}
 

@@ -1,9 +1,9 @@
 -- A step of < into its body begins its first turn.
-use Rattle.teco_verifier.specs.declared.falls.Rank.{Rank}
-use Rattle.std.proofs.Common.{◌≡◌, ◌⊎◌, inl, inr, ℕ, zero, suc, ◌+◌, ◌≤◌, ◌<◌, refl, sym, ap, ◌∙◌, subst, arith, List, [], ◌∷◌, ◌++◌, map, Bool, true, false, pos, negsuc, ℤ, Option, Some, None, Result, Ok, Err, is_some}
+use Rattle.std.proofs.Common.{◌≡◌, ◌⊎◌, inl, inr, ℕ, zero, suc, ◌≤◌, ◌<◌, refl, sym, ap, ◌∙◌, subst, arith, List, [], ◌∷◌, ◌++◌, map, Bool, true, false, pos, negsuc, ℤ, Option, Some, None, Result, Ok, Err, is_some}
 use Rattle.std.specs.Prelude.{IsTrue, ⊤}
 use Rattle.std.specs.List.{AllByRecursion}
 use Rattle.std.proofs.lemmas.Int.{ints}
+use Rattle.teco_verifier.specs.declared.falls.Rank.{Rank}
 use Rattle.teco_base.specs.declared.code.Code.{Code}
 use Rattle.teco_law_turns.specs.Moves as moves
 use Rattle.teco_law_turns.specs.Moves.{Move, Into}

@@ -1,10 +1,10 @@
 -- What is known of where an element stands: in which iteration, and where it jumps.
-use Rattle.teco_law_tables.specs.Following.{falling_in}
-use Rattle.teco_verifier.specs.declared.falls.Rank.{Rank}
 use Rattle.std.proofs.Common.{◌≡◌, ℕ, ◌≤◌, ◌<◌, refl, sym, ap, ◌∙◌, subst, arith, List, [], ◌∷◌, ◌++◌, map, Bool, true, false, Option, Some, None, Ok}
 use Rattle.std.specs.Prelude.{IsTrue}
 use Rattle.std.specs.List.{AllByRecursion}
 use Rattle.std.specs.Option.{option_map_or}
+use Rattle.teco_law_tables.specs.Following.{falling_in, OpenTurn, loops_in, AreMore, IsOpened, AreOpened, IsDescribed}
+use Rattle.teco_verifier.specs.declared.falls.Rank.{Rank}
 use Rattle.teco_model.specs.declared.flow.Loop.{Loop}
 use Rattle.teco_model.specs.declared.kind.Flow.{Flow}
 use Rattle.teco_model.specs.declared.kind.Flow.TheVariants as flow
@@ -34,7 +34,6 @@ use Rattle.teco_law_facts.specs.SoundSteps.{IsInside, LeadsAhead, FlowStands, Ki
 use Rattle.teco_verifier.specs.facts.Transfer.{search_allowed, without_answer}
 use Rattle.teco_verifier.specs.table.Behind.{is_inside, placed, edges_at}
 use Rattle.teco_verifier.specs.table.Closed.{is_counted, is_known_in, check_nodes}
-use Rattle.teco_law_tables.specs.Following.{OpenTurn, loops_in, AreMore, IsOpened, AreOpened, IsDescribed}
 use Rattle.teco_verifier.specs.table.Table.{Table}
 use Rattle.teco_verifier.specs.table.Written.{changes_in}
 use Rattle.teco_law_tables.proofs.Coming.{HasLoop}

@@ -1,8 +1,8 @@
 -- What a check that passed says at a node.
-use Rattle.teco_law_tables.specs.Following.{falling_in}
-use Rattle.teco_verifier.specs.facts.Facts.{Entry}
 use Rattle.std.proofs.Common.{◌≡◌, ℕ, zero, suc, ◌+◌, refl, sym, ap, ◌∙◌, subst, arith, List, [], ◌∷◌, Bool, true, false, is_none, not, ◌||◌, if◌then◌else◌, Option, Some, None, Result, Ok, Err, slice_get}
 use Rattle.std.specs.Prelude.{IsTrue}
+use Rattle.teco_law_tables.specs.Following.{falling_in}
+use Rattle.teco_verifier.specs.facts.Facts.{Entry, Facts}
 use Rattle.teco_model.specs.declared.kind.Flow.TheVariants as flow
 use Rattle.teco_model.specs.declared.kind.Kind.TheVariants as kind
 use Rattle.teco_model.specs.Element.{Element}
@@ -10,10 +10,8 @@ use Rattle.teco_verifier.specs.expansion.Ends.{end_of}
 use Rattle.teco_verifier.specs.expansion.Node.{Node, numbered}
 use Rattle.teco_poly.specs.Polynomial.{Polynomial}
 use Rattle.teco_law_facts.proofs.Covering.{and_both}
-use Rattle.teco_model.specs.Macros.{ArgumentRange}
 use Rattle.teco_verifier.specs.declared.refusal.Refusal.{Refusal}
 use Rattle.teco_verifier.specs.facts.Bodies.{Choice, body_start, stands}
-use Rattle.teco_verifier.specs.facts.Facts.{Facts}
 use Rattle.teco_verifier.specs.facts.Flows.{Edges, turns}
 use Rattle.teco_verifier.specs.table.Behind.{edges_at}
 use Rattle.teco_verifier.specs.table.Closed.{say_same, is_entry, is_counted, body_stands, is_entered, enters_by, enters_at, closed_behind, begins_by_kind, begins_iteration, closed_where, closed_at, check_from, check_nodes, check}

@@ -1,8 +1,8 @@
 -- A step of > back to the start of its body begins a further turn.
+use Rattle.std.proofs.Common.{◌≡◌, ℕ, zero, suc, ◌+◌, ◌-◌, ◌≤◌, ◌<◌, refl, sym, ap, ◌∙◌, subst, arith, List, [], ◌∷◌, ◌++◌, map, drop, Bool, false, Option, Some, None, Ok, is_some}
+use Rattle.std.specs.Prelude.{IsTrue}
 use Rattle.teco_verifier.specs.facts.Ranks.{rank_of, rank_at}
 use Rattle.teco_verifier.specs.declared.falls.Rank.{Rank}
-use Rattle.std.proofs.Common.{◌≡◌, ℕ, zero, suc, ◌+◌, ◌-◌, ◌≤◌, ◌<◌, refl, sym, ap, ◌∙◌, subst, arith, List, [], ◌∷◌, ◌++◌, map, drop, length, Bool, true, false, Option, Some, None, Ok, is_some}
-use Rattle.std.specs.Prelude.{IsTrue}
 use Rattle.teco_law_turns.specs.Moves as moves
 use Rattle.teco_law_turns.specs.Moves.{Move, Back}
 use Rattle.teco_model.specs.declared.flow.Loop.{Loop}

@@ -1,9 +1,10 @@
 -- A macro whose table is closed runs to its end in time.
-use Rattle.teco_verifier.specs.expansion.Names.{names_macro}
-use Rattle.teco_verifier.specs.declared.rules.Rules.{Rules}
 use Rattle.std.proofs.Common.{◌≡◌, ◌⊎◌, inl, inr, ℕ, zero, suc, ◌+◌, ◌<◌, ◌≤◌, refl, sym, ap, ◌∙◌, subst, arith, List, [], ◌∷◌, map, Bool, true, false, ◌||◌, Option, Some, None, Result, Ok, Err, IfOk, slice_get}
 use Rattle.std.specs.Prelude.{IsTrue}
 use Rattle.std.specs.Option.{option_map_or}
+use Rattle.std.proofs.lemmas.Int.{ints}
+use Rattle.teco_verifier.specs.expansion.Names.{names_macro}
+use Rattle.teco_verifier.specs.declared.rules.Rules.{Rules}
 use Rattle.teco_model.specs.declared.flow.Loop.{Loop}
 use Rattle.teco_model.specs.Element.{Element, element_at}
 use Rattle.teco_model.specs.Files.{Files}
@@ -28,7 +29,6 @@ use Rattle.teco_poly.specs.Polynomial.{Polynomial, value}
 use Rattle.teco_verifier.specs.declared.refusal.Refusal.{Refusal}
 use Rattle.teco_base.specs.declared.TheConstants.{LIMIT, REGISTERS}
 use Rattle.teco_model.specs.Arguments.{Arguments}
-use Rattle.std.proofs.lemmas.Int.{ints}
 use Rattle.teco_law_turns.specs.Table.{commands as steps_in}
 use Rattle.teco_law_expansion.specs.Given.{call_given}
 use Rattle.teco_verifier.specs.facts.Argument.{arguments_given}

@@ -7,9 +7,8 @@ use Rattle.teco_model.specs.State.{World, Frame, State}
 use Rattle.teco_model.specs.Macros.{Library, IsLoaded, is_macro}
 use Rattle.teco_verifier.specs.expansion.Node.{Node, numbered}
 use Rattle.teco_verifier.specs.expansion.Position.{position_of}
-use Rattle.teco_poly.specs.Polynomial.{value}
 use Rattle.teco_verifier.specs.facts.Bodies.{Choice}
-use Rattle.teco_law_facts.specs.Describes.{Run, AreEach, HasFallen, IsWhole, Describes, Begun}
+use Rattle.teco_law_facts.specs.Describes.{Run, IsWhole, Describes, Begun}
 use Rattle.teco_verifier.specs.facts.Facts.{Facts}
 use Rattle.teco_model.specs.Paging.{unread_of}
 use Rattle.teco_verifier.specs.table.Closed.{is_counted}

@@ -1,7 +1,7 @@
 -- The laws of tables.
-use Rattle.std.specs.Prelude.{◌≡◌, ℕ, ◌+◌, List, Option, Ok}
+use Rattle.std.specs.Prelude.{◌≡◌, ℕ, ◌+◌, List, Ok}
 use Rattle.teco_law_turns.specs.Table.{IsClosed, commands as steps_in}
-use Rattle.teco_model.specs.Macros.{Library, ArgumentRange}
+use Rattle.teco_model.specs.Macros.{Library}
 use Rattle.teco_law_expansion.specs.Linked.{AreLinked}
 use Rattle.teco_verifier.specs.expansion.Node.{Node}
 use Rattle.teco_poly.specs.Polynomial.{Polynomial, value}

@@ -1,5 +1,5 @@
 -- Tables worked by hand: what is printed of them, and where they are not closed.
-use Rattle.std.specs.Prelude.{◌≡◌, ℕ, List, [], ◌∷◌, codes, Bool, true, false, Option, Some, None, Result, Ok, Err}
+use Rattle.std.specs.Prelude.{◌≡◌, ℕ, List, [], ◌∷◌, codes, Bool, true, false, Some, None, Result, Ok, Err}
 use Rattle.teco_poly.specs.declared.coefficients.TheConstants.{COEFFICIENTS}
 use Rattle.teco_verifier.specs.expansion.Expansion.{expansion}
 use Rattle.teco_model.specs.Macros.{Library, Needs}

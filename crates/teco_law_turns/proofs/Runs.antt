@@ -2,10 +2,10 @@
 use Rattle.std.proofs.Common.{◌≡◌, ℕ, zero, suc, ◌+◌, ◌-◌, ◌<◌, ◌≤◌, ⊎_elim, Bool, true, false, cond, ltb, List, [], ◌∷◌, ◌++◌, map, length, Option, Some, None, MatchOption, sym, ap, refl, ◌∙◌, subst, arith}
 use Rattle.std.proofs.lemmas.Bool.{ltb-false}
 use Rattle.std.proofs.lemmas.List.{length-map}
+use Rattle.std.specs.Option.{option_and_then}
 use Rattle.teco_law_turns.specs.Table.{Table, IsClosed, behind, commands}
 use Rattle.teco_law_turns.specs.Moves.{OpenLoop, State, Move, Forward, Into, Back, Goes, Enters, Returns, RunTakes, IsStart, CountsDown, still_open, RunsAreBounded}
 use Rattle.teco_law_turns.specs.Machines.{after_steps, Covers, Follows, MachinesEnd}
-use Rattle.std.specs.Option.{option_and_then}
 use Rattle.teco_law_turns.proofs.Left.{Turn, begin_of, begins_of, end_of, left, Chain, all_left, past_own, further, enter, return}
 use Rattle.teco_law_turns.proofs.Standing.{Stand, most_of, carry, unwind, first, again}
 

@@ -1,7 +1,7 @@
 -- Straight text is accepted.
-use Rattle.teco_verifier.specs.facts.Facts.{Entry, entry_of}
 use Rattle.std.proofs.Common.{ℕ, ◌+◌, List, [], ◌∷◌, refl, None}
 use Rattle.std.specs.List.{AllByRecursion}
+use Rattle.teco_verifier.specs.facts.Facts.{Entry, entry_of}
 use Rattle.teco_model.specs.Element.{Element}
 use Rattle.teco_law_tables.specs.straight_text.Accepted.{RowIsOutside, StraightTextsAreAccepted}
 use Rattle.teco_law_tables.specs.straight_text.Facts.{rows_in_text, straight_table}

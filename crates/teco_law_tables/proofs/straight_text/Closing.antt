@@ -1,12 +1,12 @@
 -- The table of a straight text is closed.
+use Rattle.std.proofs.Common.{◌≡◌, ℕ, suc, ◌+◌, ◌<◌, ◌≤◌, min, nat_le, nat_lt, List, [], ◌∷◌, drop, length, Bool, true, false, Some, None, Ok, refl, rules, arith}
+use Rattle.std.specs.List.{AllByRecursion}
 use Rattle.teco_model.specs.Macros.{Library}
 use Rattle.teco_verifier.specs.declared.rules.Rules.{Rules}
 use Rattle.teco_verifier.specs.facts.Falls.{is_second}
 use Rattle.teco_poly.proofs.Lawful.{comparison_orders}
 use Rattle.teco_poly.specs.Polynomial.{Polynomial}
-use Rattle.teco_verifier.specs.facts.Facts.{Entry, entry_of}
-use Rattle.std.proofs.Common.{◌≡◌, ℕ, suc, ◌+◌, ◌<◌, ◌≤◌, min, nat_le, nat_lt, List, [], ◌∷◌, drop, length, Bool, true, false, Some, None, Ok, refl, rules, arith}
-use Rattle.std.specs.List.{AllByRecursion}
+use Rattle.teco_verifier.specs.facts.Facts.{Entry, entry_of, Facts, texts_at_entry}
 use Rattle.teco_base.specs.declared.TheConstants.{LIMIT, REGISTERS}
 use Rattle.teco_model.specs.declared.kind.Argument.TheVariants.{DropAll}
 use Rattle.teco_model.specs.declared.kind.Command.TheVariants as command
@@ -17,7 +17,6 @@ use Rattle.teco_model.specs.declared.kind.Kind.TheVariants as kind
 use Rattle.teco_model.specs.Element.{Element}
 use Rattle.teco_verifier.specs.expansion.Node.{Node, beginning}
 use Rattle.teco_verifier.specs.facts.Covers.{is_same_truth, each_covers, covers_length, covers}
-use Rattle.teco_verifier.specs.facts.Facts.{Facts, texts_at_entry}
 use Rattle.teco_verifier.specs.facts.Flows.{Edges, goes_on}
 use Rattle.teco_verifier.specs.facts.Transfer.{transfer}
 use Rattle.teco_verifier.specs.table.Behind.{placed, begins_turn, along}

@@ -1,11 +1,10 @@
 -- What is known along a straight text is derived.
-use Rattle.teco_verifier.specs.facts.Facts.{Entry, entry_of}
 use Rattle.std.proofs.Common.{◌≡◌, ℕ, suc, ◌+◌, ◌<◌, ◌≤◌, ◌==◌, List, [], ◌∷◌, ◌++◌, true, false, Some, None, Ok, refl, rules, arith}
 use Rattle.std.specs.List.{AllByRecursion}
+use Rattle.teco_verifier.specs.facts.Facts.{Entry, entry_of, Facts}
 use Rattle.teco_base.specs.declared.TheConstants.{LIMIT}
 use Rattle.teco_model.specs.Element.{Element}
 use Rattle.teco_verifier.specs.expansion.Node.{Stand, Node, beginning}
-use Rattle.teco_verifier.specs.facts.Facts.{Facts}
 use Rattle.teco_verifier.specs.facts.Flows.{goes_on}
 use Rattle.teco_verifier.specs.facts.Transfer.{transfer}
 use Rattle.teco_verifier.specs.table.Behind.{placed}

@@ -1,6 +1,6 @@
 -- What is known behind an element of a straight text.
-use Rattle.teco_verifier.specs.facts.Facts.{Entry}
 use Rattle.std.proofs.Common.{◌≡◌, ℕ, ◌+◌, ◌^◌, ◌<◌, ◌≤◌, min, nat_lt, true, length, Some, None, Ok, refl, rules, arith}
+use Rattle.teco_verifier.specs.facts.Facts.{Entry}
 use Rattle.teco_base.specs.declared.TheConstants.{LIMIT}
 use Rattle.teco_model.specs.declared.kind.Argument.TheVariants.{DropAll}
 use Rattle.teco_model.specs.declared.kind.Command.TheVariants as command

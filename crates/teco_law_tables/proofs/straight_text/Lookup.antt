@@ -1,6 +1,6 @@
 -- What the table of a straight text says at a number.
-use Rattle.teco_verifier.specs.facts.Facts.{Entry}
 use Rattle.std.proofs.Common.{◌≡◌, ℕ, zero, suc, ◌+◌, List, [], ◌∷◌, drop, length, Some, slice_get, refl, ap}
+use Rattle.teco_verifier.specs.facts.Facts.{Entry}
 use Rattle.teco_model.specs.Element.{Element}
 use Rattle.teco_verifier.specs.table.Table.{Table, facts_at}
 use Rattle.teco_law_tables.specs.straight_text.Nodes.{nodes_in_text}

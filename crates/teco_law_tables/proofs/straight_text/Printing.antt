@@ -1,12 +1,12 @@
 -- What is printed of the table of a straight text.
+use Rattle.std.proofs.Common.{◌≡◌, ℕ, zero, suc, ◌+◌, ◌≤◌, max, List, [], ◌∷◌, drop, length, ◌&&◌, Bool, true, false, Option, Some, None, Ok, refl, ap, arith}
+use Rattle.std.specs.List.{AllByRecursion}
 use Rattle.teco_verifier.specs.facts.Falls.{is_second}
 use Rattle.teco_verifier.specs.expansion.Node.{Node, beginning}
 use Rattle.teco_verifier.specs.declared.rules.Rules.TheVariants.{First, Second}
 use Rattle.teco_verifier.specs.declared.rules.Rules.{Rules}
 use Rattle.teco_model.specs.Macros.{Library}
-use Rattle.teco_verifier.specs.facts.Facts.{Entry, entry_of}
-use Rattle.std.proofs.Common.{◌≡◌, ℕ, zero, suc, ◌+◌, ◌≤◌, max, List, [], ◌∷◌, drop, length, ◌&&◌, Bool, true, false, Option, Some, None, Ok, refl, ap, arith}
-use Rattle.std.specs.List.{AllByRecursion}
+use Rattle.teco_verifier.specs.facts.Facts.{Entry, entry_of, Facts, texts_at_entry, sum_of, join_of}
 use Rattle.teco_base.specs.declared.TheConstants.{LIMIT, REGISTERS}
 use Rattle.teco_model.specs.declared.kind.Argument.TheVariants.{DropAll}
 use Rattle.teco_model.specs.declared.kind.Command.TheVariants as command
@@ -19,7 +19,6 @@ use Rattle.teco_poly.specs.declared.coefficients.TheConstants.{COEFFICIENTS}
 use Rattle.teco_poly.specs.Polynomial.{number, variable, first}
 use Rattle.teco_poly.specs.Reading.{IsPoly}
 use Rattle.teco_verifier.specs.table.Closed.{begins_by_kind}
-use Rattle.teco_verifier.specs.facts.Facts.{Facts, texts_at_entry, sum_of, join_of}
 use Rattle.teco_verifier.specs.facts.Printed.{steps, needs, no_needs}
 use Rattle.teco_verifier.specs.table.Printed.{weight, turns_pages_by, turns_pages, Counted, counted_with, count_from, multiply_from, multiplied, commands, own_texts, joined_with, sized_with, size_from, size, needs_from, needs_in}
 use Rattle.teco_verifier.specs.table.Table.{Table, facts_at}
