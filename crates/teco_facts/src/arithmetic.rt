@@ -10,7 +10,7 @@ ghost use Rattle.teco_facts.specs.Numbers.{IsSmall, IsNumber, IsShare};
 use crate::margins::Margins;
 use crate::range::Range;
 use teco_base::{LIMIT, arithmetic};
-use teco_verifier::Value;
+use teco_verifier::{CharacterCode, Value};
 
 const MOST: u64 = LIMIT as u64;
 
@@ -100,6 +100,14 @@ fn most_share(least: u64, times: i64) -> i64
     share(if times < 0 { least } else { MOST }, times)
 }
 
+/// The least and the greatest that a code is, if there is one.
+pub fn code_range(code: Option<CharacterCode>) -> (i64, i64) {
+    match code {
+        None => (0, 0),
+        Some(code) => if code.negated { (-255, 1) } else { (-1, 255) },
+    }
+}
+
 /// The range of a number.
 pub fn range_of(margins: Margins, n: Value) -> Range
     requires { IsNumber n.ahead n.behind n.lo n.hi }
@@ -109,9 +117,10 @@ pub fn range_of(margins: Margins, n: Value) -> Range
     let least_behind = least_share(margins.back, n.behind);
     let most_ahead = most_share(margins.fore, n.ahead);
     let most_behind = most_share(margins.back, n.behind);
+    let (least_code, most_code) = code_range(n.code);
     Range {
-        lo: add(add(least_ahead, least_behind), n.lo),
-        hi: add(add(most_ahead, most_behind), n.hi),
+        lo: add(add(add(least_ahead, least_behind), least_code), n.lo),
+        hi: add(add(add(most_ahead, most_behind), most_code), n.hi),
     }
 }
 

@@ -8,12 +8,12 @@ use crate::facts::{Answer, Facts, Iteration, Pushed};
 use crate::level::Level;
 use crate::margins::Margins;
 use crate::number::Number;
-use crate::position::Position;
+use crate::position::{Position, is_same_mark};
 use crate::range::Range;
 use teco_model::Operator;
 use teco_poly::Poly;
 use teco_stack::Chain;
-use teco_verifier::Value;
+use teco_verifier::{CharacterCode, DigitMark, Falls, Rules, Value};
 
 // Whether two numbers are the same.
 fn are_equal(one: i64, two: i64) -> bool
@@ -26,7 +26,7 @@ fn are_equal(one: i64, two: i64) -> bool
 fn is_interval(n: Value) -> bool
     ensures { result ≡ covers.is_interval n }
 {
-    are_equal(n.ahead, 0) && are_equal(n.behind, 0)
+    are_equal(n.ahead, 0) && are_equal(n.behind, 0) && n.code.is_none()
 }
 
 // Whether each distance counts as often in both numbers.
@@ -43,11 +43,20 @@ fn has_same_ends(one: Value, edge: Value) -> bool
     are_equal(one.lo, edge.lo) && are_equal(one.hi, edge.hi)
 }
 
+// Whether two numbers have the same code, or none.
+fn has_same_code(one: Option<CharacterCode>, edge: Option<CharacterCode>) -> bool {
+    match (one, edge) {
+        (None, None) => true,
+        (Some(one), Some(edge)) => one.offset == edge.offset && one.negated == edge.negated,
+        _ => false,
+    }
+}
+
 // Whether two numbers have the same parts.
 fn is_same(one: Value, edge: Value) -> bool
     ensures { result ≡ covers.is_same one edge }
 {
-    counts_as_often(one, edge) && has_same_ends(one, edge)
+    counts_as_often(one, edge) && has_same_ends(one, edge) && has_same_code(one.code, edge.code)
 }
 
 // Whether a linear number is the same, or a range has all that the other number may be.
@@ -124,16 +133,38 @@ impl Covers for Range {
     }
 }
 
-// A fall is smaller, or the same; an unknown one is the smallest.
-impl Covers for Option<i64> {
-    ghost covers = { covers.covers_fall };
+// Whether a fall is smaller, or the same; an unknown one is the smallest.
+fn covers_fall(one: Option<i64>, edge: Option<i64>) -> bool
+    ensures { result ≡ covers.covers_fall one edge }
+{
+    match (one, edge) {
+        (None, _) => true,
+        (Some(one), Some(edge)) => one <= edge,
+        (Some(_), None) => false,
+    }
+}
 
-    fn covers(&self, edge: &Option<i64>) -> bool {
-        match (self, edge) {
-            (None, _) => true,
-            (Some(one), Some(edge)) => one <= edge,
-            (Some(_), None) => false,
-        }
+impl Covers for Falls {
+    ghost covers = { covers.covers_falls };
+
+    fn covers(&self, edge: &Falls) -> bool {
+        covers_fall(self.fall, edge.fall)
+            && covers_fall(self.far, edge.far)
+            && covers_fall(self.line, edge.line)
+            && covers_fall(self.far_line, edge.far_line)
+            && covers_fall(self.held, edge.held)
+            && covers_fall(self.rest, edge.rest)
+    }
+}
+
+// Whether a digit stands where it stands on the edge, if it is known to stand.
+fn covers_mark(one: Option<DigitMark>, edge: Option<DigitMark>) -> bool
+    ensures { result ≡ covers.covers_mark one edge }
+{
+    match (one, edge) {
+        (None, _) => true,
+        (Some(one), Some(edge)) => is_same_mark(one, edge),
+        (Some(_), None) => false,
     }
 }
 
@@ -199,6 +230,16 @@ pub fn covers_pushes(one: &Facts, edge: &Facts) -> bool
     covers_pairs(one.known.pushes.chain(), edge.known.pushes.chain())
 }
 
+// Whether two editions are the same.
+fn is_same_edition(one: Rules, other: Rules) -> bool
+    ensures { result ≡ covers.is_same_truth (falls.is_second one) (falls.is_second other) }
+{
+    matches!(
+        (one, other),
+        (Rules::First, Rules::First) | (Rules::Second, Rules::Second)
+    )
+}
+
 // Whether the arguments are covered: each level, of as many.
 fn covers_arguments(one: &Arguments, edge: &Arguments, margins: Margins) -> bool
     ensures { result ≡ covers.covers_arguments margins one.now edge.now }
@@ -215,6 +256,7 @@ impl Position {
             && each_covers(self.falls.as_slice(), edge.falls.as_slice())
             && edge.ahead.le(&self.ahead)
             && self.saved.covers(edge.saved)
+            && covers_mark(self.digit, edge.digit)
     }
 }
 
@@ -256,7 +298,8 @@ impl Facts {
     pub fn covers(&self, edge: &Facts) -> bool
         ensures { result ≡ covers.covers self.now edge.now }
     {
-        covers_arguments(&self.known.arguments, &edge.known.arguments, edge.margins())
+        is_same_edition(self.rules(), edge.rules())
+            && covers_arguments(&self.known.arguments, &edge.known.arguments, edge.margins())
             && covers_answer(&self.known.answer, &edge.known.answer)
             && self.known.position.covers(&edge.known.position)
             && self.has_iterations_of(edge)

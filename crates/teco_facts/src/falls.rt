@@ -1,25 +1,80 @@
-//! How much less is ahead since the turns of open iterations began, the innermost first.
-ghost use Rattle.std.specs.Prelude.{◌≡◌, map, IfSome, IsTrue};
+//! How much less there is since the turns of open iterations began, the innermost first.
+ghost use Rattle.std.specs.Prelude.{◌≡◌, map, pos, IfSome, IsTrue, Some};
 ghost use Rattle.teco_verifier.specs.facts.Bodies as bodies;
+ghost use Rattle.teco_verifier.specs.facts.Falls as rules;
 ghost use Rattle.teco_verifier.specs.facts.Joins as joins;
-ghost use Rattle.teco_verifier.specs.facts.Shifts as shifts;
-ghost use Rattle.teco_facts.specs.Numbers.{IsNear, IsSmallFall, AreSmall};
+ghost use Rattle.teco_verifier.specs.facts.Ways as ways;
+ghost use Rattle.teco_facts.specs.Numbers.{IsNear, IsSmallFall, IsSmallFalls, AreSmall};
 
 use crate::each::Meets;
 use crate::few::Few;
+use crate::margins::Margins;
+use crate::shift::{Descent, Shift};
+use teco_verifier::{Falls, Rules};
 
 const LEAST: i64 = -4_611_686_018_427_387_904;
 
 const MOST: i64 = 4_611_686_018_427_387_904;
 
-/// A least fall for each open iteration, where it is known.
-pub type Falls = Few<Option<i64>>;
+/// The least falls of each open iteration.
+pub type OpenFalls = Few<Falls>;
+
+/// None is known.
+pub fn none_known() -> Falls {
+    Falls {
+        fall: None,
+        far: None,
+        line: None,
+        far_line: None,
+        held: None,
+        rest: None,
+    }
+}
+
+/// Where a turn begins nothing has fallen.
+pub fn falls_at_turn(edition: Rules) -> Falls
+    ensures { result ≡ rules.falls_at_turn edition }
+{
+    let fall = Some(0);
+    match edition {
+        Rules::First => Falls { fall, ..none_known() },
+        Rules::Second => Falls {
+            fall,
+            far: fall,
+            line: fall,
+            far_line: fall,
+            held: fall,
+            rest: fall,
+        },
+    }
+}
+
+/// The greater of what is known.
+pub fn greater_known(one: Option<i64>, two: Option<i64>) -> Option<i64>
+    ensures { result ≡ rules.greater_known one two }
+{
+    match (one, two) {
+        (Some(one), Some(two)) => Some(one.max(two)),
+        (None, two) => two,
+        (one, None) => one,
+    }
+}
+
+// The smaller of what is known, of which an unknown one is the smallest.
+fn smaller_known(one: Option<i64>, two: Option<i64>) -> Option<i64>
+    ensures { result ≡ rules.smaller_known one two }
+{
+    match (one, two) {
+        (Some(one), Some(two)) => Some(one.min(two)),
+        _ => None,
+    }
+}
 
 // A fall behind another one.
 fn fall_after(by: Option<i64>, fall: Option<i64>) -> Option<i64>
     requires near { IfSome by IsNear }
     requires small { IsSmallFall fall }
-    ensures { result ≡ shifts.fall_after by fall }
+    ensures { result ≡ rules.fall_after by fall }
 {
     match (by, fall) {
         (Some(by), Some(fall)) => Some(fall + by),
@@ -27,71 +82,225 @@ fn fall_after(by: Option<i64>, fall: Option<i64>) -> Option<i64>
     }
 }
 
-/// The falls behind one more.
-pub fn falls_after(by: &Option<i64>, falls: &Falls) -> Falls
-    requires near { IfSome by.now IsNear }
-    requires small { AreSmall falls.now }
-    ensures { result ≡ map (shifts.fall_after by.now) falls.now }
+// A fall that is so much greater.
+fn grown(by: u64, fall: Option<i64>) -> Option<i64>
+    ensures { result ≡ rules.grown by fall }
 {
-    let falls = falls.as_slice();
-    let mut after = Few::empty(None);
-    for at in (0..falls.len()).rev() {
-        after.put(fall_after(*by, falls[at]));
+    match fall {
+        Some(fall) => Some(fall + by as i64),
+        None => None,
     }
-    after
 }
 
-// The smaller of two falls, of which an unknown one is the smallest.
-impl Meets for Option<i64> {
-    ghost met = { joins.smaller_fall };
+// The falls in order: each is at least what follows from the others.
+fn ordered(margins: Margins, falls: Falls) -> Falls
+    ensures { result ≡ rules.ordered margins falls }
+{
+    let fall = if margins.fore >= 1 {
+        greater_known(falls.fall, falls.far)
+    } else {
+        falls.fall
+    };
+    let far = greater_known(falls.far, fall);
+    let line = greater_known(falls.line, grown(margins.fore.min(1), fall));
+    let far_line = greater_known(falls.far_line, greater_known(line, grown(1, far)));
+    let rest = greater_known(falls.rest, grown(margins.back + margins.fore, falls.held));
+    Falls {
+        fall,
+        far,
+        line,
+        far_line,
+        held: falls.held,
+        rest,
+    }
+}
 
-    fn met(self, other: Option<i64>) -> Option<i64> {
-        match (self, other) {
-            (Some(one), Some(two)) => Some(one.min(two)),
-            _ => None,
+// The falls in order by the second edition; the first knows the fall alone.
+fn in_order(edition: Rules, margins: Margins, falls: Falls) -> Falls
+    ensures { result ≡ rules.in_order edition margins falls }
+{
+    match edition {
+        Rules::First => falls,
+        Rules::Second => ordered(margins, falls),
+    }
+}
+
+// What is said under a condition is no more than what is said without.
+fn falls_without_end(falls: Falls) -> Falls
+    ensures { result ≡ rules.falls_without_end falls }
+{
+    Falls {
+        far: smaller_known(falls.far, falls.fall),
+        far_line: smaller_known(falls.far_line, falls.line),
+        ..falls
+    }
+}
+
+// Of what is ahead no more is said than the fall.
+fn falls_of_fall(falls: Falls) -> Falls
+    ensures { result ≡ rules.falls_of_fall falls }
+{
+    Falls {
+        far: smaller_known(falls.far, falls.fall),
+        line: smaller_known(falls.line, falls.fall),
+        far_line: smaller_known(falls.far_line, falls.fall),
+        ..falls
+    }
+}
+
+// Forward the line falls stay; backward, or by an unknown step, nothing stays but the fall.
+fn falls_by(by: Option<i64>, falls: Falls) -> Falls
+    ensures { result ≡ rules.falls_by by falls }
+{
+    let fall = fall_after(by, falls.fall);
+    let moved = Falls { fall, ..falls };
+    match by {
+        Some(0..) => Falls {
+            far: fall_after(by, falls.far),
+            ..moved
+        },
+        _ => falls_of_fall(moved),
+    }
+}
+
+// At the next page no more is ahead than was unread, which never grows.
+fn fall_at_page(edition: Rules, fall: Option<i64>) -> Option<i64>
+    ensures { result ≡ rules.fall_at_page edition fall }
+{
+    match edition {
+        Rules::First => fall,
+        Rules::Second => greater_known(fall, Some(0)),
+    }
+}
+
+fn falls_at_page(edition: Rules, falls: Falls) -> Falls
+    ensures { result ≡ rules.falls_at_page edition falls }
+{
+    falls_without_end(Falls {
+        fall: fall_at_page(edition, falls.fall),
+        held: greater_known(falls.held, falls.rest),
+        ..falls
+    })
+}
+
+// The falls where what is ahead changes.
+fn falls_after(edition: Rules, descent: Descent, falls: Falls) -> Falls
+    ensures { result ≡ rules.falls_after edition descent falls }
+{
+    match descent {
+        Descent::By(by) => falls_by(by, falls),
+        Descent::PastLine => Falls {
+            fall: greater_known(falls.fall, falls.line),
+            far: greater_known(falls.far, falls.far_line),
+            ..falls
+        },
+        Descent::InLine => Falls {
+            fall: None,
+            far: None,
+            ..falls
+        },
+        Descent::Refilled(by) => falls_without_end(falls_by(Some(by as i64), falls)),
+        Descent::NextPage => falls_at_page(edition, falls),
+    }
+}
+
+// The falls behind a shift, where the pointer has these distances.
+fn falls_behind(edition: Rules, shift: &Shift, margins: Margins, falls: Falls) -> Falls {
+    let moved = falls_after(edition, shift.descent, falls);
+    let held = fall_after(shift.held_fall(), moved.held);
+    in_order(edition, margins, Falls { held, ..moved })
+}
+
+/// The falls of each iteration behind a shift, where the pointer has these distances.
+pub fn all_behind(
+    edition: Rules,
+    shift: &Shift,
+    margins: Margins,
+    falls: &OpenFalls,
+) -> OpenFalls {
+    let falls = falls.as_slice();
+    let mut behind = Few::empty(none_known());
+    for at in (0..falls.len()).rev() {
+        behind.put(falls_behind(edition, shift, margins, falls[at]));
+    }
+    behind
+}
+
+// What is unread is less than what was held by as much as the buffer has at the least.
+fn with_rest_of(size: Option<u64>, falls: Falls) -> Falls
+    ensures { result ≡ ways.with_rest_of size falls }
+{
+    match size {
+        None => falls,
+        Some(size) => Falls {
+            rest: greater_known(falls.rest, grown(size, falls.held)),
+            ..falls
+        },
+    }
+}
+
+/// The falls of each iteration in order, where the pointer has these distances, and the buffer this
+/// least size, if one is known.
+pub fn all_near(
+    edition: Rules,
+    size: Option<u64>,
+    margins: Margins,
+    falls: &OpenFalls,
+) -> OpenFalls {
+    let falls = falls.as_slice();
+    let mut near = Few::empty(none_known());
+    for at in (0..falls.len()).rev() {
+        near.put(in_order(edition, margins, with_rest_of(size, falls[at])));
+    }
+    near
+}
+
+
+// The smaller of the falls.
+impl Meets for Falls {
+    ghost met = { rules.smaller_falls };
+
+    fn met(self, other: Falls) -> Falls {
+        Falls {
+            fall: smaller_known(self.fall, other.fall),
+            far: smaller_known(self.far, other.far),
+            line: smaller_known(self.line, other.line),
+            far_line: smaller_known(self.far_line, other.far_line),
+            held: smaller_known(self.held, other.held),
+            rest: smaller_known(self.rest, other.rest),
         }
     }
 }
 
-/// The smaller falls.
-#[tactic(auto, using(crate::proofs::Meeting::falls_are))]
-pub fn smaller_falls(one: &Falls, two: &Falls) -> Falls
-    ensures { result ≡ joins.smaller_falls one.now two.now }
+// At a body's start the falls of an iteration outside are those at the < if that is kept, and what
+// is unread has not grown.
+fn falls_outside(kept: bool, falls: Falls) -> Falls
+    ensures { result ≡ rules.falls_outside kept falls }
 {
-    one.met(two)
-}
-
-// An outer fall is kept, or unknown.
-fn fall_if(kept: bool, fall: Option<i64>) -> Option<i64>
-    ensures { result ≡ bodies.fall_if kept fall }
-{
-    if kept { fall } else { None }
-}
-
-// The falls, kept or unknown.
-fn falls_if(kept: bool, falls: &Falls) -> Falls
-    ensures { result ≡ map (bodies.fall_if kept) falls.now }
-{
-    let falls = falls.as_slice();
-    let mut outer = Few::empty(None);
-    for at in (0..falls.len()).rev() {
-        outer.put(fall_if(kept, falls[at]));
-    }
-    outer
+    let fall = if kept { falls.fall } else { None };
+    falls_of_fall(Falls {
+        fall,
+        held: None,
+        ..falls
+    })
 }
 
 /// The falls at the start of a body: nothing has fallen in it, and those outside are kept, or
 /// unknown.
-pub fn falls_at_start(kept: bool, falls: &Falls) -> Falls
-    ensures { result ≡ bodies.falls_at_start kept falls.now }
-{
-    if falls.as_slice().is_empty() {
-        return Few::empty(None);
+pub fn falls_at_start(
+    edition: Rules,
+    kept: bool,
+    margins: Margins,
+    falls: &OpenFalls,
+) -> OpenFalls {
+    let falls = falls.as_slice();
+    let mut start = Few::empty(none_known());
+    for at in (1..falls.len()).rev() {
+        start.put(in_order(edition, margins, falls_outside(kept, falls[at])));
     }
-    let mut outer = falls.copied();
-    outer.drop_front(1);
-    let mut start = falls_if(kept, &outer);
-    start.put(Some(0));
+    if !falls.is_empty() {
+        start.put(in_order(edition, margins, falls_at_turn(edition)));
+    }
     start
 }
 
@@ -106,14 +315,24 @@ fn is_small_fall(fall: Option<i64>) -> bool
     }
 }
 
+// Whether more may be added to each fall of an iteration.
+fn is_small(falls: &Falls) -> bool {
+    is_small_fall(falls.fall)
+        && is_small_fall(falls.far)
+        && is_small_fall(falls.line)
+        && is_small_fall(falls.far_line)
+        && is_small_fall(falls.held)
+        && is_small_fall(falls.rest)
+}
+
 /// Whether more may be added to each fall.
-pub fn are_small(falls: &Falls) -> bool
+pub fn are_small(falls: &OpenFalls) -> bool
     ensures yes { IsTrue result → AreSmall falls.now }
     ensures no { AreSmall falls.now → IsTrue result }
 {
     let falls = falls.as_slice();
     for at in 0..falls.len() {
-        if !is_small_fall(falls[at]) {
+        if !is_small(&falls[at]) {
             return false;
         }
     }

@@ -10,7 +10,7 @@ ghost use Rattle.teco_facts.specs.declared.few.TheConstants.{DEPTH};
 
 use crate::arithmetic::{at_most, is, positive};
 use crate::facts::{Answer, Facts, Iteration};
-use crate::falls::are_small;
+use crate::falls::{are_small, falls_at_turn};
 use crate::fault::Fault;
 use crate::few::DEPTH;
 use crate::number::Number;
@@ -20,7 +20,7 @@ use crate::ways::{Numbers, both_ways};
 use std::alloc::AllocError;
 use std::marker::Model;
 use teco_poly::Poly;
-use teco_verifier::Refusal;
+use teco_verifier::{Rank, Refusal};
 
 /// The edges behind an element, where they are reached: on, to what stands behind it, and away, to
 /// where it leads else.
@@ -100,8 +100,9 @@ impl Facts {
         ensures { result ≡ rules.at_position (flows.begun (drop 1 self.position.falls)
             self.position) (rules.without_arguments self) }
     {
+        let own = falls_at_turn(self.known.rules);
         self.known.position.falls.drop_front(1);
-        self.known.position.falls.put(Some(0));
+        self.known.position.falls.put(own);
         self.without_arguments()
     }
 
@@ -112,7 +113,8 @@ impl Facts {
         ensures { result ≡ flows.entering counted self }
     {
         let pushes = self.known.pushes.len();
-        self.known.position.falls.put(Some(0));
+        let own = falls_at_turn(self.known.rules);
+        self.known.position.falls.put(own);
         self.known.iterations.put(Iteration { counted, pushes });
         self
     }
@@ -153,25 +155,39 @@ pub fn bound_of(number: Number, facts: &Facts) -> Result<Poly, Refusal>
 {
     let most = positive(number.range(facts.margins()).hi);
     let n = number.value;
+    if n.code.is_some() {
+        return Ok(Poly::number(most));
+    }
     bound_by(n.ahead, n.behind, positive(n.hi), most, facts)
 }
 
-// The turns of an iteration with this count.
-fn turns_of(count: Option<Number>, facts: &Facts) -> Result<Poly, Refusal>
-    ensures { result ≡ flows.turns_of count facts.now }
+// The most that there is of what falls; where nothing is known to fall that is what is ahead.
+fn measure_of(rank: Option<Rank>, facts: &Facts) -> Poly
+    ensures { result ≡ ranks.measure_of rank facts.now }
 {
-    match count {
-        Some(count) => bound_of(count, facts),
-        None => sum_of(&facts.ahead(), &Poly::number(1)),
+    match rank {
+        Some(Rank::Held) => facts.held(),
+        _ => facts.ahead(),
     }
 }
 
-/// The turns of an iteration: at most its count, or without one what is ahead and one more.
-pub fn turns(facts: &Facts) -> Result<Poly, Refusal>
-    ensures { result ≡ flows.turns facts.now }
+// The turns of an iteration with this count.
+fn turns_of(rank: Option<Rank>, count: Option<Number>, facts: &Facts) -> Result<Poly, Refusal>
+    ensures { result ≡ flows.turns_of rank count facts.now }
+{
+    match count {
+        Some(count) => bound_of(count, facts),
+        None => sum_of(&measure_of(rank, facts), &Poly::number(1)),
+    }
+}
+
+/// The turns of an iteration: at most its count, or without one what there is of what falls, and
+/// one more.
+pub fn turns(rank: Option<Rank>, facts: &Facts) -> Result<Poly, Refusal>
+    ensures { result ≡ flows.turns rank facts.now }
 {
     let taken = facts.level().taken()?;
-    turns_of(taken.value, facts)
+    turns_of(rank, taken.value, facts)
 }
 
 // The edges behind the begin of an iteration with a count, if there is memory.
@@ -210,7 +226,7 @@ pub fn iterate(facts: Facts) -> Result<Edges, Fault>
     let taken = facts.level().taken()?;
     let facts = facts.taking();
     facts.known.arguments.none_pending()?;
-    let _most = turns_of(taken.value, &facts)?;
+    let _most = turns_of(None, taken.value, &facts)?;
     let facts = facts.without_arguments();
     match taken.value {
         None => Ok(Edges::on(facts.entering(false))),

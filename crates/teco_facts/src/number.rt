@@ -11,7 +11,7 @@ use crate::place::{is_linear, minus, plus};
 use crate::range::Range;
 use std::marker::Model;
 use teco_model::ArgumentRange;
-use teco_verifier::{Refusal, Value};
+use teco_verifier::{CharacterCode, Refusal, Value};
 
 /// A number that is pending: so often each distance of the pointer, and something of a range; where
 /// it is saved, it is a place of the buffer.
@@ -70,6 +70,7 @@ impl Number {
                 lo: range.lo,
                 hi: range.hi,
                 saved,
+                code: None,
             },
         }
     }
@@ -85,6 +86,7 @@ impl Number {
                 lo: 0,
                 hi: 0,
                 saved: false,
+                code: None,
             },
         }
     }
@@ -97,6 +99,27 @@ impl Number {
             value: Value {
                 ahead: 0,
                 behind: 1,
+                lo: 0,
+                hi: 0,
+                saved: false,
+                code: None,
+            },
+        }
+    }
+
+    /// The code of the character at an offset from the pointer.
+    pub fn code(offset: i64) -> Number
+        ensures { result ≡ values.code_value offset }
+    {
+        let code = CharacterCode {
+            offset,
+            negated: false,
+        };
+        Number {
+            value: Value {
+                ahead: 0,
+                behind: 0,
+                code: Some(code),
                 lo: 0,
                 hi: 0,
                 saved: false,
@@ -130,12 +153,20 @@ impl Number {
         self.value
     }
 
-    // The number that a place is, where that is linear, and else one of a range.
-    fn linear_or(range: Range, exact: Value) -> Number
-        requires { IsPlace exact.ahead exact.behind exact.lo exact.hi }
-        ensures { result ≡ (if values.is_linear exact then exact else values.value_in range) }
+    // Whether two numbers both have a code.
+    fn have_codes(self, other: Number) -> bool
+        ensures { result ≡ values.have_codes self other }
     {
-        if is_linear(exact) {
+        self.value.code.is_some() && other.value.code.is_some()
+    }
+
+    // The number that a place is, where that is linear and no code is lost, and else one of a
+    // range.
+    fn linear_or(range: Range, codes: bool, exact: Value) -> Number
+        requires { IsPlace exact.ahead exact.behind exact.lo exact.hi }
+        ensures { result ≡ (if not codes && values.is_linear exact then exact else values.value_in range) }
+    {
+        if !codes && is_linear(exact) {
             Number { value: exact }
         } else {
             Number::within(range)
@@ -147,7 +178,7 @@ impl Number {
         ensures { result ≡ values.sum margins self other }
     {
         let range = arithmetic::sum_of(self.range(margins), other.range(margins));
-        Number::linear_or(range, plus(self, other))
+        Number::linear_or(range, self.have_codes(other), plus(self, other))
     }
 
     /// The difference.
@@ -155,7 +186,7 @@ impl Number {
         ensures { result ≡ values.difference margins self other }
     {
         let range = arithmetic::difference_of(self.range(margins), other.range(margins));
-        Number::linear_or(range, minus(self, other))
+        Number::linear_or(range, self.have_codes(other), minus(self, other))
     }
 
     /// The product.

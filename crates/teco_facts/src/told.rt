@@ -52,7 +52,7 @@ impl Facts {
     {
         match self.known.position.falls.as_slice().get(at) {
             None => None,
-            Some(fall) => *fall,
+            Some(falls) => falls.fall,
         }
     }
 

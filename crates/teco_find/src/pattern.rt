@@ -86,6 +86,18 @@ pub fn minimum(text: &[u8]) -> Result<Option<usize>, FindFault>
     Ok(least)
 }
 
+/// The last part of a search text, if it has one.
+///
+/// It takes no memory.
+pub fn last_part(text: &[u8]) -> Result<Option<Part>, FindFault> {
+    let mut last = None;
+    let mut parts = Parts::of(text);
+    while let Some(part) = parts.next()? {
+        last = Some(part);
+    }
+    Ok(last)
+}
+
 // The least length with one more part.
 fn with_part(least: Option<usize>, part: Part) -> Option<usize>
     requires { IfSome least (λ n. n + 1 < 2 ^ 64) }
