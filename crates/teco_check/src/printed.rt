@@ -10,13 +10,16 @@ ghost use Rattle.teco_verifier.specs.table.Table.{facts_at};
 ghost use Rattle.teco_check.specs.Here.{node_at};
 ghost use Rattle.teco_check.specs.Says.{OverflowsAt, Prints};
 
+use crate::bodies::{begins_iteration, rank_at};
+use crate::iterations::end_of;
 use crate::node::{depth, element, iteration};
 use crate::table::Table;
+use teco_base::REGISTERS;
 use teco_expansion::Nodes;
-use teco_facts::{Facts, needs_of, steps, turns};
-use teco_model::{ArgumentRange, Element, Needs};
+use teco_facts::{Entry, Facts, is_in_pages, needs_of, steps, turns};
+use teco_model::{ArgumentRange, Element, Kind, Needs};
 use teco_poly::Poly;
-use teco_verifier::Refusal;
+use teco_verifier::{Rank, Refusal, Rules};
 
 /// A printed number overflows at the node of this number.
 #[derive(Clone, Copy, Debug, PartialEq, Eq)]
@@ -26,23 +29,29 @@ pub struct Overflow {
 
 // The turns of an iteration, from what is known at its < and at the start of its body; one that is
 // not reached counts once.
-fn turns_where(facts: Option<&Facts>, start: Option<&Facts>) -> Result<Poly, Refusal>
-    ensures { result ≡ rules.turns_where (option_copied facts.entry) (option_copied start.entry) }
+fn turns_where(
+    rank: Option<Rank>,
+    facts: Option<&Facts>,
+    start: Option<&Facts>,
+) -> Result<Poly, Refusal>
+    ensures { result ≡ rules.turns_where rank (option_copied facts.entry) (option_copied
+        start.entry) }
 {
     if start.is_none() {
         return Ok(Poly::number(1));
     }
     match facts {
         None => Ok(Poly::number(1)),
-        Some(facts) => turns(facts),
+        Some(facts) => turns(rank, facts),
     }
 }
 
 // The turns of the iteration that begins at a number.
-fn turns_at(table: &Table, begin: usize) -> Result<Poly, Refusal>
-    ensures { result ≡ rules.turns_at table.now begin }
+fn turns_at(nodes: &Nodes<'_>, table: &Table, begin: usize) -> Result<Poly, Refusal>
+    ensures { result ≡ rules.turns_at nodes.now table.now begin }
 {
-    turns_where(table.facts(begin), table.facts_behind(begin))
+    let rank = rank_at(table.facts(end_of(nodes, begin)));
+    turns_where(rank, table.facts(begin), table.facts_behind(begin))
 }
 
 // The product, where it does not overflow.
@@ -56,15 +65,64 @@ fn product_of(one: &Poly, two: &Poly) -> Result<Poly, Refusal>
 fn turns_round(nodes: &Nodes<'_>, table: &Table, number: usize) -> Result<Poly, Refusal>
     requires one { 0 < number }
     requires last { number ≤ length nodes.now }
-    ensures { result ≡ rules.turns_round table.now (node_at nodes.now number).stand.iterations }
+    ensures { result ≡ rules.turns_round nodes.now table.now
+        (node_at nodes.now number).stand.iterations }
 {
     let mut rounds = Poly::number(1);
     for at in (0..depth(nodes, number)).rev() {
         if let Some(begin) = iteration(nodes, number, at) {
-            rounds = product_of(&turns_at(table, begin)?, &rounds)?;
+            rounds = product_of(&turns_at(nodes, table, begin)?, &rounds)?;
         }
     }
     Ok(rounds)
+}
+
+// Whether the same iterations are open at two nodes.
+fn have_same_iterations(nodes: &Nodes<'_>, one: usize, other: usize) -> bool
+    requires one { 0 < one }
+    requires one_last { one ≤ length nodes.now }
+    requires other { 0 < other }
+    requires other_last { other ≤ length nodes.now }
+    ensures { IsTrue result → (node_at nodes.now one).stand.iterations
+        ≡ (node_at nodes.now other).stand.iterations }
+{
+    if depth(nodes, one) != depth(nodes, other) {
+        return false;
+    }
+    for at in 0..depth(nodes, one) {
+        if iteration(nodes, one, at) != iteration(nodes, other, at) {
+            return false;
+        }
+    }
+    true
+}
+
+// The product of the turns of the iterations that are open at a node.
+#[derive(Clone, Copy)]
+struct Rounds {
+    number: usize,
+    product: Result<Poly, Refusal>,
+}
+
+impl Rounds {
+    // Those of a node, which are mostly those of the node before.
+    fn of(self, nodes: &Nodes<'_>, table: &Table, number: usize) -> Rounds {
+        if self.number > 0 && have_same_iterations(nodes, self.number, number) {
+            return Rounds { number, ..self };
+        }
+        Rounds {
+            number,
+            product: turns_round(nodes, table, number),
+        }
+    }
+
+    // Those of no node.
+    fn of_none() -> Rounds {
+        Rounds {
+            number: 0,
+            product: Ok(Poly::number(1)),
+        }
+    }
 }
 
 // The most steps of an element; a return takes one.
@@ -78,33 +136,82 @@ fn steps_of(read: &Option<Element<'_>>, facts: &Facts) -> Result<Poly, Refusal>
 }
 
 // The steps of a node that is reached, once for each turn of each iteration round it.
-fn weight(nodes: &Nodes<'_>, table: &Table, number: usize) -> Result<Poly, Refusal>
+fn weight(
+    nodes: &Nodes<'_>,
+    table: &Table,
+    number: usize,
+    rounds: &Result<Poly, Refusal>,
+) -> Result<Poly, Refusal>
     requires one { 0 < number }
     requires last { number ≤ length nodes.now }
-    ensures { result ≡ rules.weight table.now (node_at nodes.now number)
+    ensures { rounds.now ≡ rules.turns_round nodes.now table.now
+        (node_at nodes.now number).stand.iterations
+        → result ≡ rules.weight nodes.now table.now (node_at nodes.now number)
         (facts_at table.now number) }
 {
     let Some(facts) = table.facts(number) else {
         return Ok(Poly::number(0));
     };
     let own = steps_of(&element(nodes, number), facts)?;
-    let rounds = turns_round(nodes, table, number)?;
-    product_of(&own, &rounds)
+    match rounds {
+        Ok(rounds) => product_of(&own, rounds),
+        Err(why) => Err(*why),
+    }
 }
 
-// What is counted with a node.
-fn counted_with(
-    nodes: &Nodes<'_>,
-    table: &Table,
-    number: usize,
-    total: &Poly,
-) -> Result<Poly, Refusal>
-    requires one { 0 < number }
-    requires last { number ≤ length nodes.now }
-    ensures { result ≡ rules.counted_with table.now number (node_at nodes.now number) total.now }
+// So far: the sum, and whether the pages have been counted.
+#[derive(Clone, Copy)]
+struct Counted {
+    total: Poly,
+    pages: bool,
+}
+
+// Whether an element turns pages that count once for all: N and FN do, by the second edition.
+fn turns_pages(read: &Option<Element<'_>>, facts: Option<&Facts>) -> bool {
+    match (read, facts) {
+        (Some(element), Some(facts)) => match (element.kind, facts.rules()) {
+            (Kind::Search(search), Rules::Second) => is_in_pages(search),
+            _ => false,
+        },
+        _ => false,
+    }
+}
+
+impl Counted {
+    // The pages count once, where the first element turns some.
+    fn with_pages(self, turns: bool) -> Result<Counted, Refusal> {
+        if turns && !self.pages {
+            let total = sum_of(&self.total, &Poly::variable())?;
+            Ok(Counted { total, pages: true })
+        } else {
+            Ok(self)
+        }
+    }
+
+    // What is counted with a node.
+    fn with(
+        self,
+        nodes: &Nodes<'_>,
+        table: &Table,
+        number: usize,
+        rounds: &Result<Poly, Refusal>,
+    ) -> Result<Counted, Refusal>
+        requires one { 0 < number }
+        requires last { number ≤ length nodes.now }
+    {
+        let turns = turns_pages(&element(nodes, number), table.facts(number));
+        let paged = self.with_pages(turns)?;
+        let more = weight(nodes, table, number, rounds)?;
+        let total = sum_of(&paged.total, &more)?;
+        Ok(Counted { total, ..paged })
+    }
+}
+
+// The sum, where it does not overflow.
+fn sum_of(one: &Poly, two: &Poly) -> Result<Poly, Refusal>
+    ensures { result ≡ facts.sum_of one.now two.now }
 {
-    let more = weight(nodes, table, number)?;
-    total.add(&more).ok_or(Refusal::Overflow)
+    one.add(two).ok_or(Refusal::Overflow)
 }
 
 // The steps before the first node: the digits of the argument are one, where one is declared.
@@ -117,58 +224,107 @@ fn steps_before(argument: Option<ArgumentRange>) -> u64
     }
 }
 
-/// The most steps that a run takes: the sum over the nodes, each with its steps, once for each turn
-/// round it; and the digits of the argument, where one is declared.
-pub fn commands(
-    argument: Option<ArgumentRange>,
+// The product of the turns of an iteration and of those round it, where one begins.
+fn multiplied_at(
     nodes: &Nodes<'_>,
     table: &Table,
-) -> Result<Poly, Overflow>
-    ensures value { Prints (rules.commands argument nodes.now table.now) result }
-    ensures told { OverflowsAt nodes.now result }
+    number: usize,
+    rounds: &Result<Poly, Refusal>,
+) -> Result<(), Refusal>
+    requires one { 0 < number }
+    requires last { number ≤ length nodes.now }
 {
-    let mut total = Poly::number(steps_before(argument));
+    if !begins_iteration(&element(nodes, number)) {
+        return Ok(());
+    }
+    match rounds {
+        Ok(rounds) => {
+            let most = turns_at(nodes, table, number)?;
+            product_of(&most, rounds)?;
+            Ok(())
+        }
+        Err(why) => Err(*why),
+    }
+}
+
+// By the second edition the turns are multiplied before the sum.
+fn multiplied(edition: Rules, nodes: &Nodes<'_>, table: &Table) -> Result<(), Overflow> {
+    if matches!(edition, Rules::First) {
+        return Ok(());
+    }
+    let mut rounds = Rounds::of_none();
     for at in 0..nodes.len() {
-        match counted_with(nodes, table, at + 1, &total) {
-            Ok(more) => total = more,
+        rounds = rounds.of(nodes, table, at + 1);
+        if multiplied_at(nodes, table, at + 1, &rounds.product).is_err() {
+            return Err(Overflow { node: at + 1 });
+        }
+    }
+    Ok(())
+}
+
+// The sum over the nodes.
+fn sum_over(entry: &Entry, nodes: &Nodes<'_>, table: &Table) -> Result<Poly, Overflow> {
+    let mut counted = Counted {
+        total: Poly::number(steps_before(entry.argument)),
+        pages: false,
+    };
+    let mut rounds = Rounds::of_none();
+    for at in 0..nodes.len() {
+        rounds = rounds.of(nodes, table, at + 1);
+        match counted.with(nodes, table, at + 1, &rounds.product) {
+            Ok(more) => counted = more,
             Err(_) => return Err(Overflow { node: at + 1 }),
         }
     }
-    Ok(total)
+    Ok(counted.total)
 }
 
-// The join with the length of each text.
-fn joined_with(texts: &[Poly], most: Poly) -> Result<Poly, Refusal>
-    ensures { result ≡ rules.joined_with texts.now most }
+/// The most steps that a run takes: the sum over the nodes, each with its steps, once for each turn
+/// round it; and the digits of the argument, where one is declared.
+pub fn commands(entry: &Entry, nodes: &Nodes<'_>, table: &Table) -> Result<Poly, Overflow>
+    ensures value { Prints (rules.commands entry.now nodes.now table.now) result }
+    ensures told { OverflowsAt nodes.now result }
+{
+    multiplied(entry.rules, nodes, table)?;
+    sum_over(entry, nodes, table)
+}
+
+// The join with the length of each text that counts.
+fn joined_with(entry: &Entry, texts: &[Poly; REGISTERS], most: Poly) -> Result<Poly, Refusal>
+    ensures { result ≡ rules.joined_with (rules.own_texts entry.now.rules entry.now.lengths
+        texts.now) most }
 {
     let mut joined = most;
-    for text in texts {
-        joined = joined.join(text).ok_or(Refusal::Overflow)?;
+    for register in 0..REGISTERS {
+        if entry.counts(register) {
+            joined = joined.join(&texts[register]).ok_or(Refusal::Overflow)?;
+        }
     }
     Ok(joined)
 }
 
-// The join with what is held, and with each text.
-fn sized_with(facts: Option<&Facts>, most: &Poly) -> Result<Poly, Refusal>
-    ensures { result ≡ rules.sized_with (option_copied facts.entry) most.now }
+// The join with what is held, and with each text that counts.
+fn sized_with(entry: &Entry, facts: Option<&Facts>, most: &Poly) -> Result<Poly, Refusal>
+    ensures { result ≡ rules.sized_with entry.now (option_copied facts.entry) most.now }
 {
     match facts {
         None => Ok(*most),
         Some(facts) => {
             let joined = most.join(&facts.held()).ok_or(Refusal::Overflow)?;
-            joined_with(&facts.texts(), joined)
+            joined_with(entry, &facts.texts(), joined)
         }
     }
 }
 
-/// The most that is held: at least what is held, and each text, wherever that is reached.
-pub fn size(nodes: &Nodes<'_>, table: &Table) -> Result<Poly, Overflow>
-    ensures value { Prints (rules.size nodes.now table.now) result }
+/// The most that is held: at least what is held, and each text that counts, wherever that is
+/// reached.
+pub fn size(entry: &Entry, nodes: &Nodes<'_>, table: &Table) -> Result<Poly, Overflow>
+    ensures value { Prints (rules.size entry.now nodes.now table.now) result }
     ensures told { OverflowsAt nodes.now result }
 {
     let mut most = Poly::number(0);
     for at in 0..nodes.len() {
-        match sized_with(table.facts_behind(at), &most) {
+        match sized_with(entry, table.facts_behind(at), &most) {
             Ok(more) => most = more,
             Err(_) => return Err(Overflow { node: at + 1 }),
         }

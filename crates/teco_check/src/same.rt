@@ -3,8 +3,7 @@ ghost use Rattle.std.specs.Prelude.{◌≡◌, IfOk, option_copied};
 ghost use Rattle.teco_verifier.specs.table.Closed as rules;
 
 use std::alloc::{AllocError, Global};
-use teco_facts::Facts;
-use teco_model::ArgumentRange;
+use teco_facts::{Entry, Facts};
 
 /// Whether two facts say the same.
 pub fn say_same(one: &Facts, other: &Facts) -> bool
@@ -17,15 +16,15 @@ pub fn say_same(one: &Facts, other: &Facts) -> bool
 /// declared; told if there is memory.
 pub fn is_entry(
     alloc: Global,
-    argument: Option<ArgumentRange>,
+    entry: &Entry,
     facts: Option<&Facts>,
 ) -> Result<bool, AllocError>
-    ensures { IfOk result (λ yes. yes ≡ rules.is_entry argument (option_copied facts.entry)) }
+    ensures { IfOk result (λ yes. yes ≡ rules.is_entry entry.now (option_copied facts.entry)) }
 {
-    let entry = Facts::entry(alloc, argument)?;
+    let given = Facts::entry(alloc, entry)?;
     Ok(match facts {
         None => false,
-        Some(facts) => say_same(facts, &entry),
+        Some(facts) => say_same(facts, &given),
     })
 }
 

@@ -16,6 +16,7 @@ ghost use Rattle.teco_verify.specs.Straight.{StraightIsVerified};
 ghost use Rattle.teco_verify.specs.Accepting.{AcceptedIsFound};
 ghost use Rattle.teco_verify.specs.Telling.{AcceptedIsTold, IsVerdict, expanded, node_in};
 
+use crate::asked::Asked;
 use crate::known::Known;
 use crate::refusal::{Refusal, register_at};
 use crate::verdict::{found_of, texts_are_within};
@@ -24,13 +25,14 @@ use crate::watching::watch;
 use std::alloc::{AllocError, Global};
 use std::marker::Model;
 use teco_base::Reg;
-use teco_check::{Table, begins_iteration};
+use teco_check::{Table, begins_iteration, end_of, rank_at};
 use teco_expansion::{ExpandFault, Nodes, Refusal as Unexpanded, expand};
-use teco_facts::{Choice, turns};
+use teco_facts::{Choice, Entry, turns};
 use teco_law_tables::straight::straight_texts_are_accepted;
 use teco_library::Library;
-use teco_model::{ArgumentRange, Element};
+use teco_model::Element;
 use teco_poly::Poly;
+use teco_verifier::Rules;
 
 /// What the verifier knows of a macro: the elements that it comes to, numbered from 1, what is
 /// known before each, and the verdict.
@@ -161,14 +163,16 @@ impl<'l> Account<'l> {
     pub fn turns(&self, number: usize) -> Option<Poly>
         ensures { (node : Node) (facts : Facts) → node_in self.now.nodes number ≡ Some node
             → facts_at self.now.table number ≡ Some facts
-            → result ≡ (if begins node then result_ok (rules.turns facts) else None) }
+            → result ≡ (if begins node then result_ok (turns_known self.now number facts) else None) }
     {
         if !begins_iteration(&self.element(number)) {
             return None;
         }
+        let nodes = self.nodes_with(number)?;
+        let end = self.table.facts(end_of(nodes, number));
         match self.table.facts(number) {
             None => None,
-            Some(facts) => turns(facts).ok(),
+            Some(facts) => turns(rank_at(end), facts).ok(),
         }
     }
 }
@@ -189,7 +193,7 @@ fn unexpanded<'l>(alloc: Global, refused: Unexpanded) -> Account<'l>
 // The table that was derived, or what was known as the choices were searched.
 fn table_of(
     alloc: Global,
-    argument: Option<ArgumentRange>,
+    given: &Entry,
     nodes: &Nodes<'_>,
     derived: Option<Table>,
 ) -> Result<Table, AllocError>
@@ -197,7 +201,7 @@ fn table_of(
 {
     match derived {
         Some(table) => Ok(table),
-        None => watch(alloc, argument, nodes),
+        None => watch(alloc, given, nodes),
     }
 }
 
@@ -221,11 +225,16 @@ fn accounted<'l>(alloc: Global, library: &'l Library, entry: Reg) -> Result<Acco
         Err(ExpandFault::Refused(refused)) => return Ok(unexpanded(alloc, refused)),
         Err(ExpandFault::Memory) => return Err(AllocError),
     };
-    let found = found_of(alloc, library, entry, &nodes);
+    let asked = Asked {
+        library,
+        entry,
+        rules: Rules::First,
+    };
+    let found = found_of(alloc, asked, &nodes);
     if let Err(Refusal::Memory) = &found.verdict {
         return Err(AllocError);
     }
-    let table = table_of(alloc, library.argument(entry), &nodes, found.table)?;
+    let table = table_of(alloc, &asked.given(), &nodes, found.table)?;
     Ok(Account {
         nodes: Some(nodes),
         table,

@@ -8,13 +8,12 @@ ghost use Rattle.teco_verify.specs.Certified.{TakesDeclared};
 ghost use Rattle.teco_verify.specs.Telling.{Tells};
 ghost use Rattle.teco_verify.specs.declared.certifying.Flaw.TheVariants as flaw;
 
+use crate::asked::Asked;
 use crate::verified::Verified;
 use std::alloc::{AllocError, Global};
-use teco_base::Reg;
 use teco_certificate::Certificate;
 use teco_check::{Bad, Overflow, Table, check, commands, loops_of, needs_in, size};
 use teco_expansion::Nodes;
-use teco_library::Library;
 
 /// Why a table certifies nothing.
 #[derive(Clone, Copy)]
@@ -60,8 +59,7 @@ impl From<Overflow> for Flaw {
 #[tactic(auto, using(crate::proofs::Nodes::begins))]
 pub fn certified<'l>(
     alloc: Global,
-    library: &'l Library,
-    entry: Reg,
+    asked: Asked<'l>,
     nodes: &Nodes<'_>,
     table: &Table,
 ) -> Result<Verified<'l>, Flaw>
@@ -74,18 +72,19 @@ pub fn certified<'l>(
         nodes.now verified.fields table.now) }
     ensures numbered { IfErr result (IsFlawIn nodes.now) }
 {
-    let argument = library.argument(entry);
-    check(alloc, argument, nodes, table)?;
+    let given = asked.given();
+    check(alloc, &given, nodes, table)?;
     let certificate = Certificate {
-        entry,
-        argument,
+        entry: asked.entry,
+        argument: given.argument,
+        rules: given.rules,
         needs: needs_in(nodes, table),
-        commands: commands(argument, nodes, table)?,
-        size: size(nodes, table)?,
+        commands: commands(&given, nodes, table)?,
+        size: size(&given, nodes, table)?,
         loops: loops_of(alloc, nodes, table)?,
     };
     Ok(Verified {
-        library,
+        library: asked.library,
         certificate,
     })
 }
