@@ -1,7 +1,7 @@
 // What a text says if it is that of a certificate. These functions judge nothing but that the
 // registers of a line rise: of another text they read anything at all, and who calls them has to
 // see whether what was read has this text.
-ghost use Rattle.std.specs.Prelude.{◌≡◌, ◌++◌, ◌∷◌, [], ◌≤◌, ◌<◌, ◌^◌, ◌↔◌, ℕ, Bool, true, IsTrue, List, length, flat_map, codes, Option, Some, IfOk, OnOk, IfSome};
+ghost use Rattle.std.specs.Prelude.{◌≡◌, ◌++◌, ◌∷◌, [], ◌≤◌, ◌<◌, ◌^◌, ◌↔◌, ℕ, Bool, true, IsTrue, List, length, flat_map, codes, Option, Some, IfOk, OnOk, IfSome, if◌then◌else◌};
 ghost use Rattle.std.specs.List.{AllByRecursion, list_all, prefix_len};
 ghost use Rattle.std.specs.Char.{is_ascii_digit};
 ghost use Rattle.std.specs.Fmt.{decimal};
@@ -19,6 +19,7 @@ ghost use Rattle.teco_poly.specs.Text.{text as poly_text};
 ghost use Rattle.teco_verifier.specs.certificate.ArgumentText.{range_text};
 ghost use Rattle.teco_model.specs.Macros.{IsArgumentRange, ArgumentRange as RangeOf, Needs as NeedsOf};
 ghost use Rattle.teco_verifier.specs.declared.rules.Rules.{Rules as RulesOf};
+ghost use Rattle.teco_verifier.specs.declared.rules.Rules.TheVariants.{First, Second};
 ghost use Rattle.teco_verifier.specs.declared.values.Distances.{Distances as DistancesOf};
 ghost use Rattle.teco_verifier.specs.table.Choices.{LongerText as LongerTextOf, Chosen};
 
@@ -174,8 +175,14 @@ fn rules_at(text: &[u8]) -> (Rules, &[u8])
         → (result.0 ≡ rules) × (result.1.now ≡ codes "needs " ++ rest) }
 {
     let (found, rest) = word_at(text, b"rules 2\n");
-    let rules = if found { Rules::Second } else { Rules::First };
-    (rules, rest)
+    (edition(found), rest)
+}
+
+// The edition, by whether its line is there.
+fn edition(found: bool) -> Rules
+    ensures { result ≡ (if found then Second else First) }
+{
+    if found { Rules::Second } else { Rules::First }
 }
 
 // The files at the front of a text, and what comes behind them.

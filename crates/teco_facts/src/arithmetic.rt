@@ -5,7 +5,7 @@ ghost use Rattle.teco_base.specs.declared.TheConstants.{LIMIT};
 ghost use Rattle.teco_base.specs.Arithmetic as bits;
 ghost use Rattle.teco_verifier.specs.facts.Deletions as rules;
 ghost use Rattle.teco_verifier.specs.facts.Values as values;
-ghost use Rattle.teco_facts.specs.Numbers.{IsSmall, IsNumber, IsShare};
+ghost use Rattle.teco_facts.specs.Numbers.{IsSmall, IsNumber, HasRoomForCode, IsShare};
 
 use crate::margins::Margins;
 use crate::range::Range;
@@ -100,27 +100,36 @@ fn most_share(least: u64, times: i64) -> i64
     share(if times < 0 { least } else { MOST }, times)
 }
 
-/// The least and the greatest that a code is, if there is one.
-pub fn code_range(code: Option<CharacterCode>) -> (i64, i64) {
+/// What a code may be, if there is one.
+pub fn code_range(code: Option<CharacterCode>) -> Range
+    ensures { result ≡ values.code_interval code }
+{
     match code {
-        None => (0, 0),
-        Some(code) => if code.negated { (-255, 1) } else { (-1, 255) },
+        None => Range { lo: 0, hi: 0 },
+        Some(code) => {
+            if code.negated {
+                Range { lo: -255, hi: 1 }
+            } else {
+                Range { lo: -1, hi: 255 }
+            }
+        }
     }
 }
 
 /// The range of a number.
 pub fn range_of(margins: Margins, n: Value) -> Range
-    requires { IsNumber n.ahead n.behind n.lo n.hi }
+    requires number { IsNumber n.ahead n.behind n.lo n.hi }
+    requires code { HasRoomForCode n.code n }
     ensures { result ≡ values.interval_of margins n }
 {
     let least_ahead = least_share(margins.fore, n.ahead);
     let least_behind = least_share(margins.back, n.behind);
     let most_ahead = most_share(margins.fore, n.ahead);
     let most_behind = most_share(margins.back, n.behind);
-    let (least_code, most_code) = code_range(n.code);
+    let code = code_range(n.code);
     Range {
-        lo: add(add(add(least_ahead, least_behind), least_code), n.lo),
-        hi: add(add(add(most_ahead, most_behind), most_code), n.hi),
+        lo: add(add(add(least_ahead, least_behind), code.lo), n.lo),
+        hi: add(add(add(most_ahead, most_behind), code.hi), n.hi),
     }
 }
 

@@ -80,7 +80,7 @@ impl Position {
 
     // The position at the start of a body.
     fn at_start(&self, rules: Rules, choice: &Choice, changes: &Changes) -> Position
-        ensures { result ≡ bodies.position_at_start choice.now changes.now self.now }
+        ensures { result ≡ bodies.position_at_start rules choice.now changes.now self.now }
     {
         Position {
             margins: choice.margins,

@@ -1,6 +1,8 @@
 //! When what is known at the end of an edge is covered by what is known at its target.
 ghost use Rattle.std.specs.Prelude.{◌≡◌, ◌&&◌};
 ghost use Rattle.teco_verifier.specs.facts.Covers as covers;
+ghost use Rattle.teco_verifier.specs.facts.Falls as falls;
+ghost use Rattle.teco_verifier.specs.facts.Values as values;
 
 use crate::arguments::Arguments;
 use crate::each::{Covers, each_covers};
@@ -17,7 +19,7 @@ use teco_verifier::{CharacterCode, DigitMark, Falls, Rules, Value};
 
 // Whether two numbers are the same.
 fn are_equal(one: i64, two: i64) -> bool
-    ensures { result ≡ covers.are_equal one two }
+    ensures { result ≡ values.are_equal one two }
 {
     one <= two && two <= one
 }
@@ -31,32 +33,41 @@ fn is_interval(n: Value) -> bool
 
 // Whether each distance counts as often in both numbers.
 fn counts_as_often(one: Value, edge: Value) -> bool
-    ensures { result ≡ (covers.are_equal one.ahead edge.ahead && covers.are_equal one.behind edge.behind) }
+    ensures { result ≡ (values.are_equal one.ahead edge.ahead && values.are_equal one.behind edge.behind) }
 {
     are_equal(one.ahead, edge.ahead) && are_equal(one.behind, edge.behind)
 }
 
 // Whether what else there is has the same ends.
 fn has_same_ends(one: Value, edge: Value) -> bool
-    ensures { result ≡ (covers.are_equal one.lo edge.lo && covers.are_equal one.hi edge.hi) }
+    ensures { result ≡ (values.are_equal one.lo edge.lo && values.are_equal one.hi edge.hi) }
 {
     are_equal(one.lo, edge.lo) && are_equal(one.hi, edge.hi)
 }
 
 // Whether two numbers have the same code, or none.
-fn has_same_code(one: Option<CharacterCode>, edge: Option<CharacterCode>) -> bool {
+fn has_same_code(one: Option<CharacterCode>, edge: Option<CharacterCode>) -> bool
+    ensures { result ≡ covers.both_cover covers.is_same_code one edge }
+{
     match (one, edge) {
         (None, None) => true,
-        (Some(one), Some(edge)) => one.offset == edge.offset && one.negated == edge.negated,
+        (Some(one), Some(edge)) => is_same_code(one, edge),
         _ => false,
     }
+}
+
+// Whether two codes are of the same character, or minus them.
+fn is_same_code(one: CharacterCode, edge: CharacterCode) -> bool
+    ensures { result ≡ covers.is_same_code one edge }
+{
+    are_equal(one.offset, edge.offset) && one.negated == edge.negated
 }
 
 // Whether two numbers have the same parts.
 fn is_same(one: Value, edge: Value) -> bool
     ensures { result ≡ covers.is_same one edge }
 {
-    counts_as_often(one, edge) && has_same_ends(one, edge) && has_same_code(one.code, edge.code)
+    counts_as_often(one, edge) && has_same_code(one.code, edge.code) && has_same_ends(one, edge)
 }
 
 // Whether a linear number is the same, or a range has all that the other number may be.

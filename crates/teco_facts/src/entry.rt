@@ -1,7 +1,8 @@
 //! What an entry is verified with.
-ghost use Rattle.std.specs.Prelude.{◌≡◌, length};
+ghost use Rattle.std.specs.Prelude.{◌≡◌, ◌<◌, length, slice_index_or, None};
 ghost use Rattle.teco_base.specs.declared.TheConstants.{REGISTERS};
-ghost use Rattle.teco_verifier.specs.facts.Facts as rules;
+ghost use Rattle.teco_verifier.specs.facts.Facts as facts;
+ghost use Rattle.teco_facts.specs.Counting.{text_counts};
 
 use std::marker::Model;
 use teco_base::REGISTERS;
@@ -21,9 +22,9 @@ pub struct Entry {
 impl Model for Entry {
     ghost use Rattle.std.specs.Prelude.{◌≡◌, length};
     ghost use Rattle.teco_base.specs.declared.TheConstants.{REGISTERS};
-    ghost use Rattle.teco_verifier.specs.facts.Facts as rules;
+    ghost use Rattle.teco_verifier.specs.facts.Facts as facts;
 
-    ghost Value = { rules.Entry };
+    ghost Value = { facts.Entry };
 
     ghost view = { λ e. record { rules = e.rules; lengths = e.lengths; argument = e.argument } };
 
@@ -35,7 +36,7 @@ impl Model for Entry {
 // How long a text is before the first element: one of the library has its length by the second
 // edition, and N is any other's.
 fn text_at_entry(edition: Rules, length: Option<usize>) -> Poly
-    ensures { result ≡ rules.text_at_entry edition length }
+    ensures { result ≡ facts.text_at_entry edition length }
 {
     match (edition, length) {
         (Rules::Second, Some(length)) => Poly::number(length as u64),
@@ -46,7 +47,7 @@ fn text_at_entry(edition: Rules, length: Option<usize>) -> Poly
 impl Entry {
     /// How long each text is before the first element.
     pub fn texts(&self) -> [Poly; REGISTERS]
-        ensures value { result ≡ rules.texts_at_entry self.now.rules self.now.lengths REGISTERS }
+        ensures value { result ≡ facts.texts_at_entry self.now.rules self.now.lengths REGISTERS }
         ensures all { length result ≡ REGISTERS }
     {
         let mut texts = [Poly::variable(); REGISTERS];
@@ -58,7 +59,11 @@ impl Entry {
 
     /// Whether the text of a register counts in the size: that of the library does not by the
     /// second edition.
-    pub fn counts(&self, register: usize) -> bool {
+    pub fn counts(&self, register: usize) -> bool
+        requires { register < REGISTERS }
+        ensures { result ≡ text_counts self.now.rules (slice_index_or self.now.lengths register
+            None) }
+    {
         match self.rules {
             Rules::First => true,
             Rules::Second => self.lengths[register].is_none(),

@@ -1,9 +1,12 @@
 //! How much less there is since the turns of open iterations began, the innermost first.
-ghost use Rattle.std.specs.Prelude.{◌≡◌, map, pos, IfSome, IsTrue, Some};
+ghost use Rattle.std.specs.Prelude.{◌≡◌, ◌≤◌, ◌^◌, ◌+ℤ◌, ◌≤ℤ◌, map, pos, IfSome, IsTrue, Some, None};
+ghost use Rattle.std.specs.Int.{int_min};
 ghost use Rattle.teco_verifier.specs.facts.Bodies as bodies;
 ghost use Rattle.teco_verifier.specs.facts.Falls as rules;
 ghost use Rattle.teco_verifier.specs.facts.Joins as joins;
 ghost use Rattle.teco_verifier.specs.facts.Ways as ways;
+ghost use Rattle.teco_facts.specs.Behind.{falls_at, falls_near};
+ghost use Rattle.teco_facts.specs.Descents.{seen, IsNearDescent};
 ghost use Rattle.teco_facts.specs.Numbers.{IsNear, IsSmallFall, IsSmallFalls, AreSmall};
 
 use crate::each::Meets;
@@ -20,7 +23,16 @@ const MOST: i64 = 4_611_686_018_427_387_904;
 pub type OpenFalls = Few<Falls>;
 
 /// None is known.
-pub fn none_known() -> Falls {
+pub fn none_known() -> Falls
+    ensures { result ≡ record {
+      fall = None;
+      far = None;
+      line = None;
+      far_line = None;
+      held = None;
+      rest = None;
+    } }
+{
     Falls {
         fall: None,
         far: None,
@@ -51,7 +63,9 @@ pub fn falls_at_turn(edition: Rules) -> Falls
 
 /// The greater of what is known.
 pub fn greater_known(one: Option<i64>, two: Option<i64>) -> Option<i64>
-    ensures { result ≡ rules.greater_known one two }
+    ensures value { result ≡ rules.greater_known one two }
+    ensures near { IfSome one IsNear → IfSome two IsNear → IfSome result IsNear }
+    ensures small { IsSmallFall one → IsSmallFall two → IsSmallFall result }
 {
     match (one, two) {
         (Some(one), Some(two)) => Some(one.max(two)),
@@ -82,14 +96,24 @@ fn fall_after(by: Option<i64>, fall: Option<i64>) -> Option<i64>
     }
 }
 
-// A fall that is so much greater.
+// A fall that is so much greater; falls count up to a most one.
 fn grown(by: u64, fall: Option<i64>) -> Option<i64>
+    requires { by ≤ 2 ^ 41 }
     ensures { result ≡ rules.grown by fall }
 {
     match fall {
-        Some(fall) => Some(fall + by as i64),
         None => None,
+        Some(fall) => Some(greater_by(by as i64, fall)),
     }
+}
+
+// The sum, where it is at most the most fall.
+fn greater_by(by: i64, fall: i64) -> i64
+    requires low { pos 0 ≤ℤ by }
+    requires high { by ≤ℤ pos (2 ^ 41) }
+    ensures { result ≡ int_min (fall +ℤ by) rules.most_fall }
+{
+    if fall > MOST - by { MOST } else { fall + by }
 }
 
 // The falls in order: each is at least what follows from the others.
@@ -148,18 +172,31 @@ fn falls_of_fall(falls: Falls) -> Falls
     }
 }
 
-// Forward the line falls stay; backward, or by an unknown step, nothing stays but the fall.
+// Backward, or by an unknown step, nothing stays but the fall.
 fn falls_by(by: Option<i64>, falls: Falls) -> Falls
-    ensures { result ≡ rules.falls_by by falls }
+    requires near { IfSome by IsNear }
+    requires small { IsSmallFall falls.fall }
+    ensures value { result ≡ rules.falls_by by falls }
+    ensures held { result.held ≡ falls.held }
 {
-    let fall = fall_after(by, falls.fall);
-    let moved = Falls { fall, ..falls };
     match by {
-        Some(0..) => Falls {
-            far: fall_after(by, falls.far),
-            ..moved
-        },
-        _ => falls_of_fall(moved),
+        Some(by) if by >= 0 => forward(by as u64, falls),
+        by => falls_of_fall(Falls {
+            fall: fall_after(by, falls.fall),
+            ..falls
+        }),
+    }
+}
+
+// Forward the line falls stay.
+fn forward(by: u64, falls: Falls) -> Falls
+    requires { by ≤ 2 ^ 41 }
+    ensures { result ≡ rules.falls_by (Some (pos by)) falls }
+{
+    Falls {
+        fall: grown(by, falls.fall),
+        far: grown(by, falls.far),
+        ..falls
     }
 }
 
@@ -174,7 +211,8 @@ fn fall_at_page(edition: Rules, fall: Option<i64>) -> Option<i64>
 }
 
 fn falls_at_page(edition: Rules, falls: Falls) -> Falls
-    ensures { result ≡ rules.falls_at_page edition falls }
+    ensures value { result ≡ rules.falls_at_page edition falls }
+    ensures held { IsSmallFalls falls → IsSmallFall result.held }
 {
     falls_without_end(Falls {
         fall: fall_at_page(edition, falls.fall),
@@ -185,7 +223,10 @@ fn falls_at_page(edition: Rules, falls: Falls) -> Falls
 
 // The falls where what is ahead changes.
 fn falls_after(edition: Rules, descent: Descent, falls: Falls) -> Falls
-    ensures { result ≡ rules.falls_after edition descent falls }
+    requires near { IsNearDescent descent }
+    requires small { IsSmallFalls falls }
+    ensures value { result ≡ rules.falls_after edition (seen descent) falls }
+    ensures held { IsSmallFall result.held }
 {
     match descent {
         Descent::By(by) => falls_by(by, falls),
@@ -199,13 +240,16 @@ fn falls_after(edition: Rules, descent: Descent, falls: Falls) -> Falls
             far: None,
             ..falls
         },
-        Descent::Refilled(by) => falls_without_end(falls_by(Some(by as i64), falls)),
+        Descent::Refilled(by) => falls_without_end(forward(by, falls)),
         Descent::NextPage => falls_at_page(edition, falls),
     }
 }
 
 // The falls behind a shift, where the pointer has these distances.
-fn falls_behind(edition: Rules, shift: &Shift, margins: Margins, falls: Falls) -> Falls {
+fn falls_behind(edition: Rules, shift: &Shift, margins: Margins, falls: Falls) -> Falls
+    requires { IsSmallFalls falls }
+    ensures { result ≡ falls_at edition shift.now margins falls }
+{
     let moved = falls_after(edition, shift.descent, falls);
     let held = fall_after(shift.held_fall(), moved.held);
     in_order(edition, margins, Falls { held, ..moved })
@@ -217,7 +261,10 @@ pub fn all_behind(
     shift: &Shift,
     margins: Margins,
     falls: &OpenFalls,
-) -> OpenFalls {
+) -> OpenFalls
+    requires { AreSmall falls.now }
+    ensures { result ≡ map (falls_at edition shift.now margins) falls.now }
+{
     let falls = falls.as_slice();
     let mut behind = Few::empty(none_known());
     for at in (0..falls.len()).rev() {
@@ -228,6 +275,7 @@ pub fn all_behind(
 
 // What is unread is less than what was held by as much as the buffer has at the least.
 fn with_rest_of(size: Option<u64>, falls: Falls) -> Falls
+    requires { IfSome size (λ n. n ≤ 2 ^ 41) }
     ensures { result ≡ ways.with_rest_of size falls }
 {
     match size {
@@ -246,7 +294,10 @@ pub fn all_near(
     size: Option<u64>,
     margins: Margins,
     falls: &OpenFalls,
-) -> OpenFalls {
+) -> OpenFalls
+    requires { IfSome size (λ n. n ≤ 2 ^ 41) }
+    ensures { result ≡ map (falls_near edition size margins) falls.now }
+{
     let falls = falls.as_slice();
     let mut near = Few::empty(none_known());
     for at in (0..falls.len()).rev() {
@@ -272,6 +323,14 @@ impl Meets for Falls {
     }
 }
 
+/// The smaller falls of each iteration.
+#[tactic(auto, using(crate::proofs::Meeting::falls_are))]
+pub fn joined_falls(one: &OpenFalls, two: &OpenFalls) -> OpenFalls
+    ensures { result ≡ joins.joined_falls one.now two.now }
+{
+    one.met(two)
+}
+
 // At a body's start the falls of an iteration outside are those at the < if that is kept, and what
 // is unread has not grown.
 fn falls_outside(kept: bool, falls: Falls) -> Falls
@@ -285,6 +344,19 @@ fn falls_outside(kept: bool, falls: Falls) -> Falls
     })
 }
 
+// The falls of iterations outside at the start of a body.
+fn all_outside(edition: Rules, kept: bool, margins: Margins, falls: &OpenFalls) -> OpenFalls
+    ensures { result ≡ map (rules.in_order edition margins) (map (rules.falls_outside kept)
+        falls.now) }
+{
+    let falls = falls.as_slice();
+    let mut outside = Few::empty(none_known());
+    for at in (0..falls.len()).rev() {
+        outside.put(in_order(edition, margins, falls_outside(kept, falls[at])));
+    }
+    outside
+}
+
 /// The falls at the start of a body: nothing has fallen in it, and those outside are kept, or
 /// unknown.
 pub fn falls_at_start(
@@ -292,15 +364,17 @@ pub fn falls_at_start(
     kept: bool,
     margins: Margins,
     falls: &OpenFalls,
-) -> OpenFalls {
-    let falls = falls.as_slice();
-    let mut start = Few::empty(none_known());
-    for at in (1..falls.len()).rev() {
-        start.put(in_order(edition, margins, falls_outside(kept, falls[at])));
+) -> OpenFalls
+    ensures { result ≡ map (rules.in_order edition margins) (bodies.falls_at_start edition kept
+        falls.now) }
+{
+    if falls.as_slice().is_empty() {
+        return Few::empty(none_known());
     }
-    if !falls.is_empty() {
-        start.put(in_order(edition, margins, falls_at_turn(edition)));
-    }
+    let mut outer = falls.copied();
+    outer.drop_front(1);
+    let mut start = all_outside(edition, kept, margins, &outer);
+    start.put(in_order(edition, margins, falls_at_turn(edition)));
     start
 }
 
@@ -316,7 +390,10 @@ fn is_small_fall(fall: Option<i64>) -> bool
 }
 
 // Whether more may be added to each fall of an iteration.
-fn is_small(falls: &Falls) -> bool {
+fn is_small(falls: &Falls) -> bool
+    ensures yes { IsTrue result → IsSmallFalls falls.now }
+    ensures no { IsSmallFalls falls.now → IsTrue result }
+{
     is_small_fall(falls.fall)
         && is_small_fall(falls.far)
         && is_small_fall(falls.line)

@@ -2,6 +2,7 @@
 ghost use Rattle.std.specs.Prelude.{◌≡◌, ◌<◌, drop, length, IfOk, IsTrue, Some};
 ghost use Rattle.teco_verifier.specs.facts.Facts as rules;
 ghost use Rattle.teco_verifier.specs.facts.Flows as flows;
+ghost use Rattle.teco_verifier.specs.facts.Ranks as ranks;
 ghost use Rattle.teco_facts.specs.Does.{Gives};
 ghost use Rattle.teco_facts.specs.Numbers.{AreSmall};
 ghost use Rattle.teco_facts.specs.Room.{HasRoom};
@@ -32,6 +33,7 @@ pub struct Edges {
 
 impl Model for Edges {
     ghost use Rattle.teco_verifier.specs.facts.Flows as flows;
+ghost use Rattle.teco_verifier.specs.facts.Ranks as ranks;
 
     ghost Value = { flows.Edges };
 
@@ -97,7 +99,7 @@ impl Facts {
 
     // The facts where another turn begins: nothing has fallen in it.
     fn turned(mut self) -> Facts
-        ensures { result ≡ rules.at_position (flows.begun (drop 1 self.position.falls)
+        ensures { result ≡ rules.at_position (flows.begun self.rules (drop 1 self.position.falls)
             self.position) (rules.without_arguments self) }
     {
         let own = falls_at_turn(self.known.rules);

@@ -112,12 +112,12 @@ fn goes_to_saved(motion: Motion, n: &Option<Number>) -> bool
 }
 
 // A place that is known to lie in the buffer; a saved one is somewhere in it.
-fn place_for(motion: Motion, n: Option<Number>, margins: Margins) -> Result<KnownPlace, Refusal>
-    ensures { result ≡ shifts.place_or_saved (motions.goes_to_saved motion n) (shifts.place_of
-        (motions.target motion n) margins) }
+fn place_for(motion: Motion, n: &Option<Number>, margins: Margins) -> Result<KnownPlace, Refusal>
+    ensures { result ≡ shifts.place_or_saved (motions.goes_to_saved motion n.now) (shifts.place_of
+        (motions.target motion n.now) margins) }
 {
-    let saved = goes_to_saved(motion, &n);
-    KnownPlace::or_saved(saved, KnownPlace::of(target(motion, n), margins))
+    let saved = goes_to_saved(motion, n);
+    KnownPlace::or_saved(saved, KnownPlace::of(target(motion, *n), margins))
 }
 
 // Whether the pointer goes back by one.
@@ -152,9 +152,10 @@ fn motion_to(
     ensures { result ≡ motions.motion_to motion colons n facts }
 {
     let margins = facts.margins();
+    let place = place_for(motion, &n, margins);
     let count = count_of(n, margins);
     if colons == 0 {
-        let place = place_for(motion, n, margins)?;
+        let place = place?;
         let digit = digit_after(is_step_back(motion, count), facts.digit());
         Foreseen::behind(&place.shift().marking(digit), facts)
     } else {

@@ -1,5 +1,5 @@
 //! What is known of numbers that are pending.
-ghost use Rattle.std.specs.Prelude.{◌≡◌, pos, if◌then◌else◌};
+ghost use Rattle.std.specs.Prelude.{◌≡◌, ◌&&◌, not, pos, if◌then◌else◌};
 ghost use Rattle.teco_base.specs.Arithmetic as bits;
 ghost use Rattle.teco_verifier.specs.facts.Arguments as rules;
 ghost use Rattle.teco_verifier.specs.facts.Values as values;
@@ -22,7 +22,7 @@ pub struct Number {
 
 impl Model for Number {
     ghost use Rattle.teco_verifier.specs.declared.values.Value.{Value as Told};
-    ghost use Rattle.teco_facts.specs.Numbers.{IsNumber};
+    ghost use Rattle.teco_facts.specs.Numbers.{IsNumber, HasRoomForCode};
 
     ghost Value = { Told };
 
@@ -30,7 +30,8 @@ impl Model for Number {
 
     ghost inverse = { λ s. record { value = s } };
 
-    ghost invariant = { λ n. IsNumber n.value.ahead n.value.behind n.value.lo n.value.hi };
+    ghost invariant = { λ n. IsNumber n.value.ahead n.value.behind n.value.lo
+        n.value.hi × HasRoomForCode n.value.code n.value };
 }
 
 impl Number {

@@ -2,6 +2,7 @@
 ghost use Rattle.std.specs.Prelude.{◌≡◌};
 ghost use Rattle.teco_verifier.specs.facts.Pages as pages;
 ghost use Rattle.teco_facts.specs.Numbers.{AreSmall};
+ghost use Rattle.teco_facts.specs.Offsets as offsets;
 ghost use Rattle.teco_facts.specs.Pages as parts;
 
 use crate::facts::{Facts, Foreseen};

@@ -1,5 +1,5 @@
 //! Sums and differences of numbers, without a limit, which may be places in the buffer.
-ghost use Rattle.std.specs.Prelude.{◌≡◌, IfSome, negsuc, pos, ◌≤ℤ◌, ◌^◌};
+ghost use Rattle.std.specs.Prelude.{◌≡◌, IfSome, negsuc, option_map, pos, ◌≤ℤ◌, ◌^◌};
 ghost use Rattle.teco_verifier.specs.facts.Values as values;
 ghost use Rattle.teco_facts.specs.Numbers.{IsPlace, IsNear, IsSmall};
 
@@ -116,8 +116,8 @@ pub fn least(n: Value, margins: Margins) -> Option<i64>
         return None;
     }
     let shares = add(share(margins.fore, n.ahead), share(margins.back, n.behind));
-    let codes = code_range(n.code).0;
-    Some(add(shares, add(codes, n.lo)))
+    let least_code = code_range(n.code).lo;
+    Some(add(add(shares, least_code), n.lo))
 }
 
 /// The least distance of a place from the end.

@@ -1,5 +1,6 @@
 //! Where the pointer is, and how much is ahead of it.
-ghost use Rattle.std.specs.Prelude.{◌≡◌};
+ghost use Rattle.std.specs.Prelude.{◌≡◌, [], None};
+ghost use Rattle.teco_poly.specs.Polynomial.{variable};
 ghost use Rattle.teco_verifier.specs.facts.Facts as facts;
 ghost use Rattle.teco_verifier.specs.facts.Joins as joins;
 ghost use Rattle.teco_verifier.specs.facts.Shifts as shifts;
@@ -89,7 +90,13 @@ fn joined_mark(one: Option<DigitMark>, other: Option<DigitMark>) -> Option<Digit
 impl Position {
     /// Before the first element.
     pub fn start() -> Position
-        ensures { result ≡ facts.entry_facts.position }
+        ensures { result ≡ record {
+          distances = facts.nowhere;
+          falls = [];
+          ahead = variable;
+          saved = facts.none_saved;
+          digit = None;
+        } }
     {
         Position {
             margins: Margins::nowhere(),
@@ -135,7 +142,7 @@ impl Position {
         let ahead = join_of(&self.ahead, &other.ahead)?;
         Ok(Position {
             margins: self.margins.nearer(other.margins),
-            falls: self.falls.met(&other.falls),
+            falls: falls::joined_falls(&self.falls, &other.falls),
             ahead,
             saved: self.saved.joined(other.saved),
             digit: joined_mark(self.digit, other.digit),

@@ -1,6 +1,7 @@
 //! Q, ^X and \.
 ghost use Rattle.std.specs.Prelude.{◌≡◌};
 ghost use Rattle.teco_verifier.specs.facts.Queries as queries;
+ghost use Rattle.teco_verifier.specs.facts.Values as values;
 ghost use Rattle.teco_facts.specs.Numbers.{AreSmall};
 
 use crate::facts::{Facts, Foreseen};
@@ -16,7 +17,7 @@ use teco_verifier::{DigitMark, Refusal};
 
 /// The code of a character, -1 where there is none.
 pub fn character() -> Range
-    ensures { result ≡ queries.character }
+    ensures { result ≡ values.character }
 {
     Range { lo: -1, hi: 255 }
 }

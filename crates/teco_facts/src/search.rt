@@ -3,9 +3,9 @@ ghost use Rattle.std.specs.Prelude.{◌≡◌, ◌≤◌, IfOk, IfSome, length, 
 ghost use Rattle.teco_base.specs.declared.TheConstants.{LIMIT};
 ghost use Rattle.teco_verifier.specs.facts.Arguments as arguments;
 ghost use Rattle.teco_verifier.specs.facts.Facts as known;
+ghost use Rattle.teco_model.specs.Pattern as pattern;
 ghost use Rattle.teco_verifier.specs.facts.Searches as searches;
 ghost use Rattle.teco_facts.specs.Numbers.{AreSmall, IsNear};
-ghost use Rattle.teco_poly.specs.Polynomial as polynomial;
 ghost use Rattle.teco_facts.specs.Searched as searched;
 
 use crate::facts::{Answer, Facts};
@@ -98,7 +98,8 @@ fn ends_in_digit(text: &[u8]) -> bool
 {
     match last_part(text) {
         Ok(Some(part)) => is_digit_part(part),
-        _ => false,
+        Ok(None) => false,
+        Err(_) => false,
     }
 }
 
@@ -117,6 +118,7 @@ fn digit_found(rules: Rules, search: Search, text: &[u8]) -> Option<DigitMark>
 
 // Another text takes the place of one: the buffer grows, and what is saved ends.
 fn replacing(least: usize, new: usize, shift: Shift) -> Shift
+    requires { least ≤ LIMIT }
     ensures { result ≡ searches.replacing least new shift }
 {
     let mut replacing = shift.losing(least as u64).ending();

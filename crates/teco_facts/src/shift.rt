@@ -4,7 +4,8 @@ ghost use Rattle.teco_verifier.specs.facts.Deletions as deletions;
 ghost use Rattle.teco_verifier.specs.facts.Falls as falls;
 ghost use Rattle.teco_verifier.specs.facts.Shifts as shifts;
 ghost use Rattle.teco_verifier.specs.facts.Insertions as insertions;
-ghost use Rattle.teco_facts.specs.Descents.{seen};
+ghost use Rattle.teco_base.specs.declared.TheConstants.{LIMIT};
+ghost use Rattle.teco_facts.specs.Descents.{seen, IsNearDescent};
 ghost use Rattle.teco_facts.specs.Numbers.{IsNear, IsPlace};
 
 use crate::falls::greater_known;
@@ -14,6 +15,7 @@ use crate::place::{distance_of, least, least_behind, least_past};
 use std::marker::Model;
 use teco_base::LIMIT;
 use teco_poly::Poly;
+use teco_poly::laws::{value_at, values_compare, values_of_constants};
 use teco_verifier::{DigitMark, Refusal, Rules, Value};
 
 /// How what is ahead changes.
@@ -59,6 +61,7 @@ pub struct Shift {
 }
 
 impl Model for Shift {
+    ghost use Rattle.std.specs.Prelude.{◌≤◌, ◌^◌};
     ghost use Rattle.teco_facts.specs.Descents.{seen, IsNearDescent};
     ghost use Rattle.teco_verifier.specs.facts.Shifts as shifts;
 
@@ -73,7 +76,7 @@ impl Model for Shift {
       digit = s.digit;
     } };
 
-    ghost invariant = { λ s. IsNearDescent s.descent };
+    ghost invariant = { λ s. IsNearDescent s.descent × (s.loss ≤ 2 ^ 40) };
 }
 
 impl Shift {
@@ -95,6 +98,7 @@ impl Shift {
 
     /// The shift, which takes away so many characters at the least.
     pub fn losing(mut self, loss: u64) -> Shift
+        requires { loss ≤ 2 ^ 40 }
         ensures { result ≡ record self { loss = loss } }
     {
         self.loss = loss;
@@ -103,6 +107,7 @@ impl Shift {
 
     /// A shift that takes nothing away and puts nothing in.
     pub fn moving(back: u64, fore: u64, descent: Descent) -> Shift
+        requires { IsNearDescent descent }
         ensures { result ≡ shifts.moving (record { back = back; fore = fore }) (seen descent) }
     {
         Shift {
@@ -133,7 +138,8 @@ impl Shift {
 
     /// How much less is held at the least, if that is known.
     pub fn held_fall(&self) -> Option<i64>
-        ensures { result ≡ shifts.held_fall self.now }
+        ensures value { result ≡ shifts.held_fall self.now }
+        ensures near { IfSome result IsNear }
     {
         let put_in = number_in(&self.growth)?;
         Some(self.loss as i64 - put_in as i64)
@@ -141,14 +147,18 @@ impl Shift {
 }
 
 // The number that a polynomial is, if it is one that a text may have as its length.
+#[tactic(auto, using(crate::proofs::Lengths::within))]
 fn number_in(length: &Poly) -> Option<u64>
-    ensures { result ≡ shifts.number_in length.now }
+    ensures value { result ≡ shifts.number_in length.now }
+    ensures within { IfSome result (λ n. n ≤ LIMIT) }
 {
-    if length.le(&Poly::number(LIMIT as u64)) {
-        length.at(0)
-    } else {
-        None
+    if !length.le(&Poly::number(LIMIT as u64)) {
+        return None;
     }
+    values_compare();
+    value_at();
+    values_of_constants();
+    length.at(0)
 }
 
 /// A place that is known to lie in the buffer: its least distances, and how far behind the pointer

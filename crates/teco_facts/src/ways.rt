@@ -1,9 +1,9 @@
 //! The two ways of a test, and what is known on each.
-ghost use Rattle.std.specs.Prelude.{◌≡◌, ◌≤◌, IfOk, option_map};
+ghost use Rattle.std.specs.Prelude.{◌≡◌, ◌≤◌, ◌*◌, ◌^◌, IfOk, IfSome, option_map};
 ghost use Rattle.teco_base.specs.declared.TheConstants.{LIMIT};
 ghost use Rattle.teco_facts.specs.Numbers.{IsNear};
 ghost use Rattle.teco_facts.specs.Seen.{seen};
-ghost use Rattle.teco_verifier.specs.facts.Facts as rules;
+ghost use Rattle.teco_verifier.specs.facts.Facts as known;
 ghost use Rattle.teco_verifier.specs.facts.Ways as ways;
 
 use crate::arithmetic::{add, is, negated, positive, sub};
@@ -93,8 +93,9 @@ impl Numbers {
     // The least distance, not below one, with which it and a number together take the way.
     fn least_taking(self, least: u64, k: i64) -> Option<u64>
         requires near { IsNear k }
-        requires within { least ≤ LIMIT }
-        ensures { result ≡ ways.least_taking (seen self) least k }
+        requires within { least ≤ 2 * LIMIT }
+        ensures value { result ≡ ways.least_taking (seen self) least k }
+        ensures near { IfSome result (λ n. n ≤ 2 ^ 41) }
     {
         let sum = least as i64 + k;
         match self {
@@ -151,6 +152,7 @@ fn raised(numbers: Numbers, number: Number, margins: Margins) -> Option<Margins>
 
 // A value that is plus or minus a code, plus k, is this number where no character stands.
 fn number_without(negated: bool, k: i64) -> i64
+    requires { IsNear k }
     ensures { result ≡ ways.number_without negated k }
 {
     if negated { add(k, 1) } else { sub(k, 1) }
@@ -166,6 +168,7 @@ fn is_code_itself(code: CharacterCode, n: Value) -> bool
 // Whether the way is taken where no character stands; of a character's class that is told of the
 // code itself alone.
 fn takes_without(numbers: Numbers, code: CharacterCode, n: Value) -> bool
+    requires { IsNear n.lo }
     ensures { result ≡ ways.takes_without (seen numbers) code n }
 {
     match numbers {
@@ -185,14 +188,15 @@ fn with_character(offset: i64, margins: Margins) -> Margins
     ensures { result ≡ ways.with_character offset margins }
 {
     if offset < 0 {
-        Margins::capped(margins.back.max(positive(negated(offset))), margins.fore)
+        Margins::capped(margins.back.max(offset.unsigned_abs()), margins.fore)
     } else {
-        Margins::capped(margins.back, margins.fore.max(positive(offset) + 1))
+        Margins::capped(margins.back, margins.fore.max(offset as u64 + 1))
     }
 }
 
 // The distances where the place of a code is proved on the way.
 fn proved(numbers: Numbers, n: Value, margins: Margins) -> Margins
+    requires { IsNear n.lo }
     ensures { result ≡ ways.proved (seen numbers) n margins }
 {
     match n.code {
@@ -217,7 +221,9 @@ fn mark_on(numbers: Numbers, n: Value, mark: Option<DigitMark>) -> Option<DigitM
 
 // The least size of the buffer with which a value that is plus or minus Z, plus k, takes the way.
 fn least_size(numbers: Numbers, n: Value, margins: Margins) -> Option<u64>
-    ensures { result ≡ ways.least_size (seen numbers) n margins }
+    requires { IsNear n.lo }
+    ensures value { result ≡ ways.least_size (seen numbers) n margins }
+    ensures near { IfSome result (λ n. n ≤ 2 ^ 41) }
 {
     let least = margins.back + margins.fore;
     if n.hi > n.lo {
@@ -239,6 +245,7 @@ fn position_near(
     position: &Position,
     margins: Margins,
 ) -> Position
+    requires { IsNear n.lo }
     ensures { result ≡ ways.position_near rules (seen numbers) n position.now margins }
 {
     let size = least_size(numbers, n, position.margins);
@@ -306,8 +313,8 @@ fn at_positions(
     facts: Facts,
 ) -> Result<(Option<Facts>, Option<Facts>), AllocError>
     ensures { IfOk result (λ both. both ≡ (
-      option_map (λ p. rules.at_position p facts) one,
-      option_map (λ p. rules.at_position p facts) two,
+      option_map (λ p. known.at_position p facts) one,
+      option_map (λ p. known.at_position p facts) two,
     )) }
 {
     match (one, two) {
