@@ -1,7 +1,7 @@
 -- The ends of a number's range have 32 bits.
 use Rattle.std.proofs.Common.{◌≡◌, refl, ℤ, pos, negsuc, ◌+ℤ◌, ◌≤ℤ◌, Bool, true, false, Option, Some, None, if◌then◌else◌, arith}
 use Rattle.std.proofs.lemmas.Int.{ints}
-use Rattle.teco_verifier.specs.facts.Values.{interval_of, code_interval}
+use Rattle.teco_verifier.specs.facts.Values.{least_share, most_share, interval_of, code_interval}
 use Rattle.teco_verifier.specs.declared.values.CharacterCode.{CharacterCode}
 use Rattle.teco_verifier.specs.declared.values.Distances.{Distances}
 use Rattle.teco_verifier.specs.declared.values.Interval.{Interval}
@@ -38,6 +38,10 @@ module _ (x y u v a b lo hi : ℤ) (number : IsNumber a b lo hi) (f : IsShare x 
       let none_v = rw no_behind at i in
       record { ordered = omega (arith, ints); low = omega (arith, ints); high = omega (arith, ints) }
 
--- a range by its ends
-pub of_ends : (d : Distances) (n : Value) (lo hi : ℤ) → lo ≡ (interval_of d n).lo → hi ≡ (interval_of d n).hi → record { lo = lo; hi = hi } ≡ interval_of d n
-of_ends d n lo hi e f = rw (e, f) refl
+-- a range by what its ends are sums of
+pub of_parts : (d : Distances) (n : Value) (code : Interval) (x y u v lo hi : ℤ) → x ≡ least_share d.fore n.ahead → y ≡ least_share d.back n.behind → u ≡ most_share d.fore n.ahead → v ≡ most_share d.back n.behind → code ≡ code_interval n.code → lo ≡ x +ℤ y +ℤ code.lo +ℤ n.lo → hi ≡ u +ℤ v +ℤ code.hi +ℤ n.hi → record { lo = lo; hi = hi } ≡ interval_of d n
+of_parts d n code x y u v lo hi e f g h i j k = rw (j, k, e, f, g, h, i) refl
+
+-- both ends of a sum
+pub by_code : (code interval : Interval) (x y u v k m lo hi : ℤ) → code ≡ interval → lo ≡ x +ℤ y +ℤ code.lo +ℤ k → hi ≡ u +ℤ v +ℤ code.hi +ℤ m → (lo ≡ x +ℤ y +ℤ interval.lo +ℤ k) × (hi ≡ u +ℤ v +ℤ interval.hi +ℤ m)
+by_code code interval x y u v k m lo hi e f g = (rw (← e) f, rw (← e) g)

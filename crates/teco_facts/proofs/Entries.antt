@@ -9,10 +9,10 @@ unfolding texts_at_entry
 none_known rules zero = refl
 none_known rules (suc n) = ap (λ texts. variable ∷ texts) (none_known rules n)
 
-pub one_more : (rules : Rules) (lengths : List (Option ℕ)) (n i : ℕ) (length_of : Option ℕ) → i < length lengths → i < n → length_of ≡ get_or lengths i length_of → set (texts_at_entry rules (take i lengths) n) i (text_at_entry rules length_of) ≡ texts_at_entry rules (take (suc i) lengths) n
+pub one_more : (rules : Rules) (lengths : List (Option ℕ)) (n i : ℕ) (d : Option ℕ) → i < length lengths → i < n → set (texts_at_entry rules (take i lengths) n) i (text_at_entry rules (get_or lengths i d)) ≡ texts_at_entry rules (take (suc i) lengths) n
 unfolding texts_at_entry
-one_more rules [] n i length_of h k e = absurd (omega arith)
-one_more rules (l ∷ lengths) zero i length_of h k e = absurd (omega arith)
-one_more rules (l ∷ lengths) (suc n) zero length_of h k e = rw e refl
-one_more rules (l ∷ lengths) (suc n) (suc i) length_of h k e =
-    ap (λ texts. text_at_entry rules l ∷ texts) (one_more rules lengths n i length_of (omega arith) (omega arith) e)
+one_more rules [] n i d h k = absurd (omega arith)
+one_more rules (l ∷ lengths) zero i d h k = absurd (omega arith)
+one_more rules (l ∷ lengths) (suc n) zero d h k = refl
+one_more rules (l ∷ lengths) (suc n) (suc i) d h k =
+    ap (λ texts. text_at_entry rules l ∷ texts) (one_more rules lengths n i d (omega arith) (omega arith))

@@ -1,7 +1,7 @@
 -- What the proofs of the functions share.
 pub mod Ends
 pub mod Entries
-pub mod Digits
+pub mod Parts
 pub mod Lengths
 pub mod Linear
 pub mod Places

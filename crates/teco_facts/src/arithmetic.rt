@@ -5,7 +5,7 @@ ghost use Rattle.teco_base.specs.declared.TheConstants.{LIMIT};
 ghost use Rattle.teco_base.specs.Arithmetic as bits;
 ghost use Rattle.teco_verifier.specs.facts.Deletions as rules;
 ghost use Rattle.teco_verifier.specs.facts.Values as values;
-ghost use Rattle.teco_facts.specs.Numbers.{IsSmall, IsNumber, HasRoomForCode, IsShare};
+ghost use Rattle.teco_facts.specs.Numbers.{IsNear, IsSmall, IsNumber, HasRoomForCode, IsShare};
 
 use crate::margins::Margins;
 use crate::range::Range;
@@ -116,6 +116,17 @@ pub fn code_range(code: Option<CharacterCode>) -> Range
     }
 }
 
+// The sum of what the distances and a code count, and a number.
+fn total(ahead: i64, behind: i64, code: i64, k: i64) -> i64
+    requires ahead { IsNear ahead }
+    requires behind { IsNear behind }
+    requires code { IsNear code }
+    requires k { IsNear k }
+    ensures { result ≡ ahead +ℤ behind +ℤ code +ℤ k }
+{
+    ahead + behind + code + k
+}
+
 /// The range of a number.
 pub fn range_of(margins: Margins, n: Value) -> Range
     requires number { IsNumber n.ahead n.behind n.lo n.hi }
@@ -128,8 +139,8 @@ pub fn range_of(margins: Margins, n: Value) -> Range
     let most_behind = most_share(margins.back, n.behind);
     let code = code_range(n.code);
     Range {
-        lo: add(add(add(least_ahead, least_behind), code.lo), n.lo),
-        hi: add(add(add(most_ahead, most_behind), code.hi), n.hi),
+        lo: total(least_ahead, least_behind, code.lo, n.lo),
+        hi: total(most_ahead, most_behind, code.hi, n.hi),
     }
 }
 

@@ -9,11 +9,11 @@ ghost use Rattle.teco_facts.specs.Numbers.{AreSmall};
 ghost use Rattle.teco_facts.specs.Room.{innermost};
 
 use crate::arguments::Arguments;
+use crate::entry::Entry;
 use crate::few::Few;
 use crate::level::Level;
 use crate::margins::Margins;
 use crate::number::Number;
-use crate::entry::Entry;
 use crate::position::{Position, sum_of};
 use crate::range::Range;
 use crate::shift::Shift;

@@ -1,5 +1,5 @@
 //! How much less there is since the turns of open iterations began, the innermost first.
-ghost use Rattle.std.specs.Prelude.{◌≡◌, ◌≤◌, ◌^◌, ◌+ℤ◌, ◌≤ℤ◌, map, pos, IfSome, IsTrue, Some, None};
+ghost use Rattle.std.specs.Prelude.{◌≡◌, ◌≤◌, ◌^◌, ◌+ℤ◌, ◌≤ℤ◌, length, map, pos, IfSome, IsTrue, Some, None};
 ghost use Rattle.std.specs.Int.{int_min};
 ghost use Rattle.teco_verifier.specs.facts.Bodies as bodies;
 ghost use Rattle.teco_verifier.specs.facts.Falls as rules;
@@ -49,7 +49,10 @@ pub fn falls_at_turn(edition: Rules) -> Falls
 {
     let fall = Some(0);
     match edition {
-        Rules::First => Falls { fall, ..none_known() },
+        Rules::First => Falls {
+            fall,
+            ..none_known()
+        },
         Rules::Second => Falls {
             fall,
             far: fall,
@@ -256,12 +259,7 @@ fn falls_behind(edition: Rules, shift: &Shift, margins: Margins, falls: Falls) -
 }
 
 /// The falls of each iteration behind a shift, where the pointer has these distances.
-pub fn all_behind(
-    edition: Rules,
-    shift: &Shift,
-    margins: Margins,
-    falls: &OpenFalls,
-) -> OpenFalls
+pub fn all_behind(edition: Rules, shift: &Shift, margins: Margins, falls: &OpenFalls) -> OpenFalls
     requires { AreSmall falls.now }
     ensures { result ≡ map (falls_at edition shift.now margins) falls.now }
 {
@@ -289,12 +287,7 @@ fn with_rest_of(size: Option<u64>, falls: Falls) -> Falls
 
 /// The falls of each iteration in order, where the pointer has these distances, and the buffer this
 /// least size, if one is known.
-pub fn all_near(
-    edition: Rules,
-    size: Option<u64>,
-    margins: Margins,
-    falls: &OpenFalls,
-) -> OpenFalls
+pub fn all_near(edition: Rules, size: Option<u64>, margins: Margins, falls: &OpenFalls) -> OpenFalls
     requires { IfSome size (λ n. n ≤ 2 ^ 41) }
     ensures { result ≡ map (falls_near edition size margins) falls.now }
 {
@@ -305,7 +298,6 @@ pub fn all_near(
     }
     near
 }
-
 
 // The smaller of the falls.
 impl Meets for Falls {
@@ -346,8 +338,9 @@ fn falls_outside(kept: bool, falls: Falls) -> Falls
 
 // The falls of iterations outside at the start of a body.
 fn all_outside(edition: Rules, kept: bool, margins: Margins, falls: &OpenFalls) -> OpenFalls
-    ensures { result ≡ map (rules.in_order edition margins) (map (rules.falls_outside kept)
+    ensures value { result ≡ map (rules.in_order edition margins) (map (rules.falls_outside kept)
         falls.now) }
+    ensures long { length result ≡ length falls.now }
 {
     let falls = falls.as_slice();
     let mut outside = Few::empty(none_known());
@@ -359,12 +352,7 @@ fn all_outside(edition: Rules, kept: bool, margins: Margins, falls: &OpenFalls) 
 
 /// The falls at the start of a body: nothing has fallen in it, and those outside are kept, or
 /// unknown.
-pub fn falls_at_start(
-    edition: Rules,
-    kept: bool,
-    margins: Margins,
-    falls: &OpenFalls,
-) -> OpenFalls
+pub fn falls_at_start(edition: Rules, kept: bool, margins: Margins, falls: &OpenFalls) -> OpenFalls
     ensures { result ≡ map (rules.in_order edition margins) (bodies.falls_at_start edition kept
         falls.now) }
 {

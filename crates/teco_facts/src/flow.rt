@@ -11,7 +11,7 @@ ghost use Rattle.teco_facts.specs.declared.few.TheConstants.{DEPTH};
 
 use crate::arithmetic::{at_most, is, positive};
 use crate::facts::{Answer, Facts, Iteration};
-use crate::falls::{are_small, falls_at_turn};
+use crate::falls::falls_at_turn;
 use crate::fault::Fault;
 use crate::few::DEPTH;
 use crate::number::Number;
@@ -33,7 +33,7 @@ pub struct Edges {
 
 impl Model for Edges {
     ghost use Rattle.teco_verifier.specs.facts.Flows as flows;
-ghost use Rattle.teco_verifier.specs.facts.Ranks as ranks;
+    ghost use Rattle.teco_verifier.specs.facts.Ranks as ranks;
 
     ghost Value = { flows.Edges };
 
@@ -86,7 +86,7 @@ impl Facts {
         ensures yes { IsTrue result → AreSmall self.now.position.falls }
         ensures no { AreSmall self.now.position.falls → IsTrue result }
     {
-        are_small(&self.known.position.falls)
+        self.known.position.is_small()
     }
 
     /// Whether one more iteration may be open.

@@ -70,8 +70,16 @@ impl Margins {
     /// Each distance where it is at most another, and else 0.
     pub fn where_at_most(self, other: Margins) -> Margins {
         Margins {
-            back: if self.back <= other.back { self.back } else { 0 },
-            fore: if self.fore <= other.fore { self.fore } else { 0 },
+            back: if self.back <= other.back {
+                self.back
+            } else {
+                0
+            },
+            fore: if self.fore <= other.fore {
+                self.fore
+            } else {
+                0
+            },
         }
     }
 

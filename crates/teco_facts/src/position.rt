@@ -1,5 +1,5 @@
 //! Where the pointer is, and how much is ahead of it.
-ghost use Rattle.std.specs.Prelude.{◌≡◌, [], None};
+ghost use Rattle.std.specs.Prelude.{◌≡◌, [], IsTrue, None};
 ghost use Rattle.teco_poly.specs.Polynomial.{variable};
 ghost use Rattle.teco_verifier.specs.facts.Facts as facts;
 ghost use Rattle.teco_verifier.specs.facts.Joins as joins;
@@ -60,11 +60,7 @@ pub fn join_of(one: &Poly, two: &Poly) -> Result<Poly, Refusal>
 fn ahead_after(descent: Descent, held: Poly, ahead: Poly) -> Poly
     ensures { result ≡ shifts.ahead_after (seen descent) held ahead }
 {
-    if descent.is_no_rise() {
-        ahead
-    } else {
-        held
-    }
+    if descent.is_no_rise() { ahead } else { held }
 }
 
 /// Whether a digit stands at the same place.
@@ -133,6 +129,14 @@ impl Position {
             saved: self.saved.after(shift.ends),
             digit: shift.digit,
         }
+    }
+
+    /// Whether more may be added to each fall.
+    pub fn is_small(&self) -> bool
+        ensures yes { IsTrue result → AreSmall self.now.falls }
+        ensures no { AreSmall self.now.falls → IsTrue result }
+    {
+        falls::are_small(&self.falls)
     }
 
     /// What is known at two positions.

@@ -204,10 +204,7 @@ impl KnownPlace {
     }
 
     /// That place, or where the number is a saved place, somewhere in the buffer.
-    pub fn or_saved(
-        saved: bool,
-        place: Result<KnownPlace, Refusal>,
-    ) -> Result<KnownPlace, Refusal>
+    pub fn or_saved(saved: bool, place: Result<KnownPlace, Refusal>) -> Result<KnownPlace, Refusal>
         ensures { result ≡ shifts.place_or_saved saved place }
     {
         match place {

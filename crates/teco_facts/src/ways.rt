@@ -1,7 +1,7 @@
 //! The two ways of a test, and what is known on each.
-ghost use Rattle.std.specs.Prelude.{◌≡◌, ◌≤◌, ◌*◌, ◌^◌, IfOk, IfSome, option_map};
+ghost use Rattle.std.specs.Prelude.{◌≡◌, ◌≤◌, ◌≤ℤ◌, ◌*◌, ◌^◌, ◌-◌, IfOk, IfSome, negsuc, option_map, pos};
 ghost use Rattle.teco_base.specs.declared.TheConstants.{LIMIT};
-ghost use Rattle.teco_facts.specs.Numbers.{IsNear};
+ghost use Rattle.teco_facts.specs.Numbers.{HasRoomForCode, IsBesideCode, IsNear, IsRange};
 ghost use Rattle.teco_facts.specs.Seen.{seen};
 ghost use Rattle.teco_verifier.specs.facts.Facts as known;
 ghost use Rattle.teco_verifier.specs.facts.Ways as ways;
@@ -152,8 +152,10 @@ fn raised(numbers: Numbers, number: Number, margins: Margins) -> Option<Margins>
 
 // A value that is plus or minus a code, plus k, is this number where no character stands.
 fn number_without(negated: bool, k: i64) -> i64
-    requires { IsNear k }
-    ensures { result ≡ ways.number_without negated k }
+    requires low { negsuc (2 ^ 29 - 1) ≤ℤ k }
+    requires high { k ≤ℤ pos (2 ^ 29) }
+    ensures value { result ≡ ways.number_without negated k }
+    ensures range { IsRange result result }
 {
     if negated { add(k, 1) } else { sub(k, 1) }
 }
@@ -168,7 +170,8 @@ fn is_code_itself(code: CharacterCode, n: Value) -> bool
 // Whether the way is taken where no character stands; of a character's class that is told of the
 // code itself alone.
 fn takes_without(numbers: Numbers, code: CharacterCode, n: Value) -> bool
-    requires { IsNear n.lo }
+    requires beside { IsBesideCode n }
+    requires ordered { n.lo ≤ℤ n.hi }
     ensures { result ≡ ways.takes_without (seen numbers) code n }
 {
     match numbers {
@@ -196,7 +199,8 @@ fn with_character(offset: i64, margins: Margins) -> Margins
 
 // The distances where the place of a code is proved on the way.
 fn proved(numbers: Numbers, n: Value, margins: Margins) -> Margins
-    requires { IsNear n.lo }
+    requires room { HasRoomForCode n.code n }
+    requires ordered { n.lo ≤ℤ n.hi }
     ensures { result ≡ ways.proved (seen numbers) n margins }
 {
     match n.code {
@@ -343,6 +347,12 @@ pub fn both_ways(
 {
     let rules = facts.known.rules;
     let one = position_by(rules, numbers, answer, number, &facts.known.position);
-    let two = position_by(rules, numbers.other(), answer, number, &facts.known.position);
+    let two = position_by(
+        rules,
+        numbers.other(),
+        answer,
+        number,
+        &facts.known.position,
+    );
     at_positions(one, two, facts)
 }

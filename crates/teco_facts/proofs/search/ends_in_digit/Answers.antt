@@ -1,6 +1,6 @@
 use Rattle.std.proofs.Common.{sym, ◌∙◌, Some, None}
 use Rattle.teco_model.specs.Pattern.{parts}
-use Rattle.teco_facts.proofs.Digits.{ends_by, no_end}
+use Rattle.teco_facts.proofs.Parts.{ends_by, no_end}
 use Rattle.teco_facts.proofs.search.ends_in_digit.Goals as goal
 
 pub returns-in-Ok-Some : goal.returns-in-Ok-Some
