@@ -146,3 +146,6 @@ pub same_fields : (fields : Fields) {entry : ℕ} {argument : Option ArgumentRan
     → entry ≡ fields.entry → argument ≡ fields.argument → rules ≡ fields.rules → needs ≡ fields.needs → commands ≡ fields.commands → size ≡ fields.size → loops ≡ fields.loops
     → record { entry = entry; argument = argument; rules = rules; needs = needs; commands = commands; size = size; loops = loops } ≡ fields
 same_fields fields e a r n c s l = rw (e, a, r, n, c, s, l) refl
+
+pub distances_are : (distances : Distances) {back fore : ℕ} → back ≡ distances.back → fore ≡ distances.fore → record { back = back; fore = fore } ≡ distances
+distances_are distances b f = rw (b, f) refl

@@ -1,11 +1,13 @@
 // The parts of a certificate's text.
-ghost use Rattle.std.specs.Prelude.{◌≡◌, ◌++◌, ◌<◌, OnOk, IfSome, flat_map};
+ghost use Rattle.std.specs.Prelude.{◌≡◌, ◌++◌, ◌<◌, ◌^◌, OnOk, IfSome, flat_map};
 ghost use Rattle.std.specs.List.{AllByRecursion};
 ghost use Rattle.teco_base.specs.Register.{register_name};
 ghost use Rattle.teco_base.specs.declared.TheConstants.{REGISTERS};
 ghost use Rattle.teco_certificate.specs.Text.{line as line_of, version_text, argument_line, rules_line, longer_text, longer_texts, behind_comma, kept_text, distances_text, loop_line};
 ghost use Rattle.teco_model.specs.Macros.{IsArgumentRange};
+ghost use Rattle.teco_certificate.specs.Words.{chosen_words};
 ghost use Rattle.teco_certificate.specs.WellFormed.{IsLongerText, IsChosen};
+ghost use Rattle.teco_poly.specs.Reading.{IsPoly};
 
 use std::alloc::{AllocError, Global};
 use teco_base::{REGISTERS, Reg};
@@ -116,7 +118,9 @@ fn push_distances(
     rules: Rules,
     distances: Distances,
 ) -> Result<(), AllocError>
-    ensures { OnOk result (text.new.items ≡ text.old.items ++ distances_text rules distances) }
+    ensures text { OnOk result (text.new.items ≡ text.old.items ++ distances_text rules distances) }
+    ensures back { distances.back < 2 ^ 32 }
+    ensures fore { distances.fore < 2 ^ 32 }
 {
     match rules {
         Rules::First => Ok(()),
@@ -126,6 +130,26 @@ fn push_distances(
             text.extend_from_slice(words.as_bytes())
         }
     }
+}
+
+// Adds what was chosen for an iteration, but for the texts.
+fn push_chosen(
+    text: &mut Vec<u8>,
+    alloc: Global,
+    rules: Rules,
+    line: &LoopLine,
+) -> Result<(), AllocError>
+    ensures text { OnOk result (text.new.items ≡ text.old.items ++ chosen_words rules line.now) }
+    ensures begin { line.now.begin < 2 ^ 64 }
+    ensures held { OnOk result (IsPoly line.now.held) }
+    ensures back { OnOk result (line.now.distances.back < 2 ^ 32) }
+    ensures fore { OnOk result (line.now.distances.fore < 2 ^ 32) }
+{
+    let (number, kept) = (line.number, kept_word(line.kept));
+    let held = line.held.print(alloc)?;
+    let words = format!(in alloc; "loop {number} held {held} {kept}")?;
+    text.extend_from_slice(words.as_bytes())?;
+    push_distances(text, alloc, rules, line.distances)
 }
 
 // Adds what was chosen for an iteration.
@@ -138,11 +162,7 @@ fn push_loop(
     ensures text { OnOk result (text.new.items ≡ text.old.items ++ loop_line rules line.now) }
     ensures parts { OnOk result (IsChosen line.now) }
 {
-    let (number, kept) = (line.number, kept_word(line.kept));
-    let held = line.held.print(alloc)?;
-    let words = format!(in alloc; "loop {number} held {held} {kept}")?;
-    text.extend_from_slice(words.as_bytes())?;
-    push_distances(text, alloc, rules, line.distances)?;
+    push_chosen(text, alloc, rules, line)?;
     text.extend_from_slice(b" texts ")?;
     push_texts(text, alloc, &line.longer)?;
     text.extend_from_slice(b"\n")

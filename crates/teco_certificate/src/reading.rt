@@ -328,11 +328,7 @@ fn distances_at(rules: Rules, text: &[u8]) -> (Distances, &[u8])
 }
 
 // What was chosen for an iteration by an edition, and the lines behind it.
-fn loop_at(
-    alloc: Global,
-    rules: Rules,
-    text: &[u8],
-) -> Result<(LoopLine, &[u8]), AllocError>
+fn loop_at(alloc: Global, rules: Rules, text: &[u8]) -> Result<(LoopLine, &[u8]), AllocError>
     ensures text { (c : Chosen) (rest : List ℕ) → IsChosen c → RegistersRise c
         → HasDistancesOf rules c
         → text.now ≡ line_of (chosen_text rules c) ++ rest

@@ -16,7 +16,7 @@ returns-clause-text c = λ chosen rest is rise of e.
     let word = c.behind.ensures.word.1.there behind_number number.1 in
     let held = c.held_at-held.ensures.text chosen.held behind_held is.held (ends_kept chosen.kept behind_kept) word.1 in
     let kept = c.kept_at-kept.ensures.text chosen.kept behind_kept held.1 in
-    let distances = c.distances_at-distances.ensures.text chosen.distances texts is.back is.fore of refl kept.1 in
+    let distances = c.distances_at.ensures.text chosen.distances texts is.back is.fore of refl kept.1 in
     let begin = c.behind-2.ensures.word.1.there (longer_texts chosen.longer ++ LF ∷ rest) distances.1 in
     let longer = c.in_ok-longer.ensures.text chosen.longer rest is.longer rise begin.1 in
     (same_chosen chosen number.0 held.0 kept.0 distances.0 longer.0, (c.behind-3.ensures.word.1.there rest longer.1).1)
