@@ -1,6 +1,8 @@
 //! What is printed of a table: the most steps that a run takes, the most that is held, and the
 //! files that must be open.
-ghost use Rattle.std.specs.Prelude.{◌≡◌, ◌<◌, ◌≤◌, length, option_map, None, option_copied};
+ghost use Rattle.std.specs.Prelude.{◌≡◌, ◌<◌, ◌≤◌, length, option_map, IsTrue, None, Ok, false, if◌then◌else◌, option_copied};
+ghost use Rattle.teco_base.specs.declared.TheConstants.{REGISTERS};
+ghost use Rattle.teco_poly.specs.Polynomial.{number};
 ghost use Rattle.std.specs.Option.{option_map_or};
 ghost use Rattle.teco_model.specs.Element as elements;
 ghost use Rattle.teco_verifier.specs.facts.Facts as facts;
@@ -8,12 +10,14 @@ ghost use Rattle.teco_verifier.specs.facts.Printed as needs;
 ghost use Rattle.teco_verifier.specs.table.Printed as rules;
 ghost use Rattle.teco_verifier.specs.table.Table.{facts_at};
 ghost use Rattle.teco_check.specs.Here.{node_at};
-ghost use Rattle.teco_check.specs.Says.{OverflowsAt, Prints};
+ghost use Rattle.teco_check.specs.Rounds.{AreRounds};
+ghost use Rattle.teco_check.specs.Says.{Multiplies, OverflowsAt, Prints};
 
 use crate::bodies::{begins_iteration, rank_at};
 use crate::iterations::end_of;
 use crate::node::{depth, element, iteration};
 use crate::table::Table;
+use std::marker::Model;
 use teco_base::REGISTERS;
 use teco_expansion::Nodes;
 use teco_facts::{Entry, Facts, is_in_pages, needs_of, steps, turns};
@@ -77,6 +81,17 @@ fn turns_round(nodes: &Nodes<'_>, table: &Table, number: usize) -> Result<Poly, 
     Ok(rounds)
 }
 
+// Whether two numbers are the same, or neither is there.
+fn are_same(one: Option<usize>, other: Option<usize>) -> bool
+    ensures { IsTrue result → one ≡ other }
+{
+    match (one, other) {
+        (None, None) => true,
+        (Some(one), Some(other)) => one == other,
+        _ => false,
+    }
+}
+
 // Whether the same iterations are open at two nodes.
 fn have_same_iterations(nodes: &Nodes<'_>, one: usize, other: usize) -> bool
     requires one { 0 < one }
@@ -90,14 +105,15 @@ fn have_same_iterations(nodes: &Nodes<'_>, one: usize, other: usize) -> bool
         return false;
     }
     for at in 0..depth(nodes, one) {
-        if iteration(nodes, one, at) != iteration(nodes, other, at) {
+        if !are_same(iteration(nodes, one, at), iteration(nodes, other, at)) {
             return false;
         }
     }
     true
 }
 
-// The product of the turns of the iterations that are open at a node.
+// The product of the turns of the iterations that are open at the node of a number, if there is
+// one.
 #[derive(Clone, Copy)]
 struct Rounds {
     number: usize,
@@ -105,23 +121,33 @@ struct Rounds {
 }
 
 impl Rounds {
-    // Those of a node, which are mostly those of the node before.
-    fn of(self, nodes: &Nodes<'_>, table: &Table, number: usize) -> Rounds {
-        if self.number > 0 && have_same_iterations(nodes, self.number, number) {
-            return Rounds { number, ..self };
-        }
-        Rounds {
-            number,
-            product: turns_round(nodes, table, number),
-        }
-    }
-
     // Those of no node.
-    fn of_none() -> Rounds {
+    fn of_none() -> Rounds
+        ensures { result.number ≡ 0 }
+    {
         Rounds {
             number: 0,
             product: Ok(Poly::number(1)),
         }
+    }
+
+    // Those of a node, which are mostly those of the node before.
+    fn of(self, nodes: &Nodes<'_>, table: &Table, number: usize) -> Rounds
+        requires one { 0 < number }
+        requires last { number ≤ length nodes.now }
+        requires known { AreRounds nodes.now table.now self }
+        ensures number { result.number ≡ number }
+        ensures product { result.product ≡ rules.turns_round nodes.now table.now
+            (node_at nodes.now number).stand.iterations }
+    {
+        if self.number > 0 && have_same_iterations(nodes, self.number, number) {
+            return Rounds {
+                number,
+                product: self.product,
+            };
+        }
+        let product = turns_round(nodes, table, number);
+        Rounds { number, product }
     }
 }
 
@@ -144,9 +170,9 @@ fn weight(
 ) -> Result<Poly, Refusal>
     requires one { 0 < number }
     requires last { number ≤ length nodes.now }
-    ensures { rounds.now ≡ rules.turns_round nodes.now table.now
-        (node_at nodes.now number).stand.iterations
-        → result ≡ rules.weight nodes.now table.now (node_at nodes.now number)
+    requires rounds { rounds.now ≡ rules.turns_round nodes.now table.now
+        (node_at nodes.now number).stand.iterations }
+    ensures { result ≡ rules.weight nodes.now table.now (node_at nodes.now number)
         (facts_at table.now number) }
 {
     let Some(facts) = table.facts(number) else {
@@ -159,6 +185,35 @@ fn weight(
     }
 }
 
+// Whether an element goes through pages: N and FN do.
+fn element_turns_pages(read: &Option<Element<'_>>) -> bool
+    ensures { result ≡ option_map_or (λ (e : elements.Element). rules.turns_pages_by e.kind)
+        (option_map elements.seen read.now) false }
+{
+    match read {
+        None => false,
+        Some(element) => match element.kind {
+            Kind::Search(search) => is_in_pages(search),
+            _ => false,
+        },
+    }
+}
+
+// Whether a node that is reached turns pages that count once for all, by the second edition.
+fn turns_pages(nodes: &Nodes<'_>, table: &Table, number: usize) -> bool
+    requires one { 0 < number }
+    requires last { number ≤ length nodes.now }
+    ensures { result ≡ rules.turns_pages (node_at nodes.now number) (facts_at table.now number) }
+{
+    match table.facts(number) {
+        None => false,
+        Some(facts) => match facts.rules() {
+            Rules::First => false,
+            Rules::Second => element_turns_pages(&element(nodes, number)),
+        },
+    }
+}
+
 // So far: the sum, and whether the pages have been counted.
 #[derive(Clone, Copy)]
 struct Counted {
@@ -166,45 +221,14 @@ struct Counted {
     pages: bool,
 }
 
-// Whether an element turns pages that count once for all: N and FN do, by the second edition.
-fn turns_pages(read: &Option<Element<'_>>, facts: Option<&Facts>) -> bool {
-    match (read, facts) {
-        (Some(element), Some(facts)) => match (element.kind, facts.rules()) {
-            (Kind::Search(search), Rules::Second) => is_in_pages(search),
-            _ => false,
-        },
-        _ => false,
-    }
-}
+impl Model for Counted {
+    ghost use Rattle.teco_verifier.specs.table.Printed as rules;
 
-impl Counted {
-    // The pages count once, where the first element turns some.
-    fn with_pages(self, turns: bool) -> Result<Counted, Refusal> {
-        if turns && !self.pages {
-            let total = sum_of(&self.total, &Poly::variable())?;
-            Ok(Counted { total, pages: true })
-        } else {
-            Ok(self)
-        }
-    }
+    ghost Value = { rules.Counted };
 
-    // What is counted with a node.
-    fn with(
-        self,
-        nodes: &Nodes<'_>,
-        table: &Table,
-        number: usize,
-        rounds: &Result<Poly, Refusal>,
-    ) -> Result<Counted, Refusal>
-        requires one { 0 < number }
-        requires last { number ≤ length nodes.now }
-    {
-        let turns = turns_pages(&element(nodes, number), table.facts(number));
-        let paged = self.with_pages(turns)?;
-        let more = weight(nodes, table, number, rounds)?;
-        let total = sum_of(&paged.total, &more)?;
-        Ok(Counted { total, ..paged })
-    }
+    ghost view = { λ c. record { total = c.total; pages = c.pages } };
+
+    ghost inverse = { λ c. record { total = c.total; pages = c.pages } };
 }
 
 // The sum, where it does not overflow.
@@ -212,6 +236,44 @@ fn sum_of(one: &Poly, two: &Poly) -> Result<Poly, Refusal>
     ensures { result ≡ facts.sum_of one.now two.now }
 {
     one.add(two).ok_or(Refusal::Overflow)
+}
+
+impl Counted {
+    // The pages count once, where the first element turns some.
+    fn with_pages(&self, turns: bool) -> Result<Counted, Refusal>
+        ensures { result ≡ rules.with_pages turns self.now }
+    {
+        if turns && !self.pages {
+            let total = sum_of(&self.total, &Poly::variable())?;
+            Ok(Counted { total, pages: true })
+        } else {
+            Ok(*self)
+        }
+    }
+
+    // What is counted with a node.
+    fn with(
+        &self,
+        nodes: &Nodes<'_>,
+        table: &Table,
+        number: usize,
+        rounds: &Result<Poly, Refusal>,
+    ) -> Result<Counted, Refusal>
+        requires one { 0 < number }
+        requires last { number ≤ length nodes.now }
+        requires rounds { rounds.now ≡ rules.turns_round nodes.now table.now
+            (node_at nodes.now number).stand.iterations }
+        ensures { result ≡ rules.counted_with nodes.now table.now number
+            (node_at nodes.now number) self.now }
+    {
+        let paged = self.with_pages(turns_pages(nodes, table, number))?;
+        let more = weight(nodes, table, number, rounds)?;
+        let total = sum_of(&paged.total, &more)?;
+        Ok(Counted {
+            total,
+            pages: paged.pages,
+        })
+    }
 }
 
 // The steps before the first node: the digits of the argument are one, where one is declared.
@@ -233,25 +295,28 @@ fn multiplied_at(
 ) -> Result<(), Refusal>
     requires one { 0 < number }
     requires last { number ≤ length nodes.now }
+    requires rounds { rounds.now ≡ rules.turns_round nodes.now table.now
+        (node_at nodes.now number).stand.iterations }
+    ensures { result ≡ rules.multiplied_at nodes.now table.now number (node_at nodes.now number) }
 {
     if !begins_iteration(&element(nodes, number)) {
         return Ok(());
     }
     match rounds {
+        Err(why) => Err(*why),
         Ok(rounds) => {
             let most = turns_at(nodes, table, number)?;
-            product_of(&most, rounds)?;
+            let _product = product_of(&most, rounds)?;
             Ok(())
         }
-        Err(why) => Err(*why),
     }
 }
 
-// By the second edition the turns are multiplied before the sum.
-fn multiplied(edition: Rules, nodes: &Nodes<'_>, table: &Table) -> Result<(), Overflow> {
-    if matches!(edition, Rules::First) {
-        return Ok(());
-    }
+// The turns of each iteration are multiplied with those round it.
+fn multiply(nodes: &Nodes<'_>, table: &Table) -> Result<(), Overflow>
+    ensures value { Multiplies (rules.multiply_from nodes.now table.now 1 nodes.now) result }
+    ensures told { OverflowsAt nodes.now result }
+{
     let mut rounds = Rounds::of_none();
     for at in 0..nodes.len() {
         rounds = rounds.of(nodes, table, at + 1);
@@ -262,10 +327,14 @@ fn multiplied(edition: Rules, nodes: &Nodes<'_>, table: &Table) -> Result<(), Ov
     Ok(())
 }
 
-// The sum over the nodes.
-fn sum_over(entry: &Entry, nodes: &Nodes<'_>, table: &Table) -> Result<Poly, Overflow> {
+// The sum over the nodes, behind so many steps before them.
+fn sum_over(before: u64, nodes: &Nodes<'_>, table: &Table) -> Result<Poly, Overflow>
+    ensures value { Prints (rules.count_from nodes.now table.now 1 nodes.now
+        (record { total = number before; pages = false })) result }
+    ensures told { OverflowsAt nodes.now result }
+{
     let mut counted = Counted {
-        total: Poly::number(steps_before(entry.argument)),
+        total: Poly::number(before),
         pages: false,
     };
     let mut rounds = Rounds::of_none();
@@ -279,26 +348,50 @@ fn sum_over(entry: &Entry, nodes: &Nodes<'_>, table: &Table) -> Result<Poly, Ove
     Ok(counted.total)
 }
 
+// By the second edition the turns are multiplied before the sum.
+fn multiplied(edition: Rules, nodes: &Nodes<'_>, table: &Table) -> Result<(), Overflow>
+    ensures value { Multiplies (rules.multiplied edition nodes.now table.now) result }
+    ensures told { OverflowsAt nodes.now result }
+{
+    match edition {
+        Rules::First => Ok(()),
+        Rules::Second => multiply(nodes, table),
+    }
+}
+
 /// The most steps that a run takes: the sum over the nodes, each with its steps, once for each turn
 /// round it; and the digits of the argument, where one is declared.
+#[tactic(auto, unfolding(teco_verifier::specs::table::Printed::commands))]
 pub fn commands(entry: &Entry, nodes: &Nodes<'_>, table: &Table) -> Result<Poly, Overflow>
     ensures value { Prints (rules.commands entry.now nodes.now table.now) result }
     ensures told { OverflowsAt nodes.now result }
 {
-    multiplied(entry.rules, nodes, table)?;
-    sum_over(entry, nodes, table)
+    if let Err(overflow) = multiplied(entry.rules(), nodes, table) {
+        return Err(overflow);
+    }
+    sum_over(steps_before(entry.argument()), nodes, table)
+}
+
+// The join with a length, if that counts.
+fn joined_if(counts: bool, most: Poly, text: &Poly) -> Result<Poly, Refusal>
+    ensures { result ≡ (if counts then facts.join_of most text.now else Ok most) }
+{
+    if counts {
+        most.join(text).ok_or(Refusal::Overflow)
+    } else {
+        Ok(most)
+    }
 }
 
 // The join with the length of each text that counts.
 fn joined_with(entry: &Entry, texts: &[Poly; REGISTERS], most: Poly) -> Result<Poly, Refusal>
+    requires { length texts.now ≡ REGISTERS }
     ensures { result ≡ rules.joined_with (rules.own_texts entry.now.rules entry.now.lengths
         texts.now) most }
 {
     let mut joined = most;
     for register in 0..REGISTERS {
-        if entry.counts(register) {
-            joined = joined.join(&texts[register]).ok_or(Refusal::Overflow)?;
-        }
+        joined = joined_if(entry.counts(register), joined, &texts[register])?;
     }
     Ok(joined)
 }
