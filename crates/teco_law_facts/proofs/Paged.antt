@@ -72,7 +72,7 @@ taken_both None value = λ m e f. cc
 taken_both (Some m) None = tt
 taken_both (Some m) (Some n) = λ k e f. cc
 
-module _ (run : Run) (facts : Facts) (x : Placed) (edges : Edges) (s : State) (h : BeginsAt run facts x s) (t : transfer x facts ≡ Ok edges) (fits : FitsOn run.n edges) where
+module _ (run : Run) (facts : Facts) (x : Placed) (edges : Edges) (s : State) (h : BeginsAt run facts x s) (t : transfer x facts ≡ Ok edges) (fits : FitsOn run edges) where
   abbrev at : World → Option ℕ → State
   at world left = record s { world = world; arguments = model.levels_after_taking s.arguments; left = left }
 
@@ -114,18 +114,18 @@ module _ (run : Run) (facts : Facts) (x : Placed) (edges : Edges) (s : State) (h
         by_output (Some q) e = then_so ComesBehind (λ (done : Progress). ComesBehind done.world) (page now) _ g (λ done w c. c)
 
   turns_known : x.element.kind ≡ kind.Page page.Next → IsOpen s.world → Succeeds (λ (taken : Taken). TurnsPages run facts.held s.world s.arguments edges taken.first taken.value) (model.arguments_of s.arguments.level)
-  turns_known e (output, o) = leads_at (FitsOn run.n) _ (transfer x facts) (model.arguments_of s.arguments.level) edges t fits (page_turns_are_sound run facts s.world s.arguments x output h.whole.world.kept h.described e o)
+  turns_known e (output, o) = leads_at (FitsOn run) _ (transfer x facts) (model.arguments_of s.arguments.level) edges t fits (page_turns_are_sound run facts s.world s.arguments x output h.whole.world.kept h.described e o)
 
   -- what is written changes nothing that is known
   writes_stay : (bytes : List ℕ) (now : World) (o : Option Facts) → MatchOption o ⊥ (λ next. ComesTo run facts.held s.world next (model.levels_after_taking s.arguments) now) → MatchOption o ⊥ (λ next. ComesTo run facts.held s.world next (model.levels_after_taking s.arguments) (paging.world_after_writing bytes now))
   writes_stay bytes now None c = c
-  writes_stay bytes now (Some next) c = record { described = c.described; grown = c.grown }
+  writes_stay bytes now (Some next) c = record { described = c.described; less = c.less; grown = c.grown }
 
   pub turn_proceeds : (most : Polynomial) → steps (kind.Page page.Next) facts ≡ Ok most → x.element.kind ≡ kind.Page page.Next → IsOpen s.world → Proceeds (kind.Page page.Next) run facts x edges s (value most run.n) (outside.pages_outcome_of paging.page_turned x.element s s.left)
   turn_proceeds most m e o = pages_proceed page.Next tt paging.page_turned turned_open o most m (so_far (λ (taken : Taken). TurnsPages run facts.held s.world s.arguments edges taken.first taken.value) (λ (taken : Taken). Succeeds (λ (done : Progress). ComesBehind done.world) (paging.pages paging.page_turned taken s.world)) (model.arguments_of s.arguments.level) (λ taken i. i.begins) (turns_known e o))
 
   pub write_proceeds : (most : Polynomial) → steps (kind.Page page.Write) facts ≡ Ok most → x.element.kind ≡ kind.Page page.Write → IsOpen s.world → Proceeds (kind.Page page.Write) run facts x edges s (value most run.n) (outside.pages_outcome_of paging.page_written x.element s s.left)
-  write_proceeds most m e (output, o) = pages_proceed page.Write tt paging.page_written written_open (output, o) most m (leads_at (FitsOn run.n) _ (transfer x facts) (model.arguments_of s.arguments.level) edges t fits (page_writes_are_sound run facts s.world s.arguments x output h.whole.world.kept h.described e o))
+  write_proceeds most m e (output, o) = pages_proceed page.Write tt paging.page_written written_open (output, o) most m (leads_at (FitsOn run) _ (transfer x facts) (model.arguments_of s.arguments.level) edges t fits (page_writes_are_sound run facts s.world s.arguments x output h.whole.world.kept h.described e o))
 
   pub turn_again : (most : ℕ) → x.element.kind ≡ kind.Page page.Next → IsOpen s.world → (taken : Taken) → model.arguments_of s.arguments.level ≡ Ok taken → taken.first ≡ None → 1 ≤ most → (now : World) → IsOpen now → ComesBehind now → (left : Option ℕ) → Proceeds (kind.Page page.Next) run facts x edges s most (outside.pages_outcome x.element (at now left) (paging.one_page_of paging.page_turned most now))
   turn_again most e o taken w none some now k c left = page_later page.Next tt paging.page_turned turned_open o most taken w none some now k (at_taken (model.arguments_of s.arguments.level) w (turns_known e o)) left where
@@ -153,4 +153,4 @@ module _ (run : Run) (facts : Facts) (x : Placed) (edges : Edges) (s : State) (h
   append_taken most some (Ok taken) ready g = append_by most some taken taken.value ready g
 
   pub append_proceeds : (most : ℕ) → 1 ≤ most → x.element.kind ≡ kind.Page page.Append → Succeeds (λ (taken : Taken). taken.value ≡ None → (input : Input) × (s.world.files.input ≡ Some input)) (model.arguments_of s.arguments.level) → Adds most (outside.append_outcome x.element (taking s) (model.arguments_of s.arguments.level))
-  append_proceeds most some e ready = append_taken most some _ ready (leads_at (FitsOn run.n) _ (transfer x facts) (model.arguments_of s.arguments.level) edges t fits (appends_are_sound run facts s.world s.arguments x h.whole.world.kept h.described e))
+  append_proceeds most some e ready = append_taken most some _ ready (leads_at (FitsOn run) _ (transfer x facts) (model.arguments_of s.arguments.level) edges t fits (appends_are_sound run facts s.world s.arguments x h.whole.world.kept h.described e))

@@ -1,5 +1,5 @@
 -- Each step keeps what is whole.
-use Rattle.std.proofs.Common.{subst, ◌≡◌, ℕ, zero, suc, ◌+◌, ◌-◌, ◌≤◌, arith, refl, w32, FitsSigned, ℤ, pos, negsuc, ◌+ℤ◌, List, [], ◌∷◌, length, Option, Some, None, IfSome, MatchOption, ok_or, Result, Ok, Err, IfOk, Bool, true, false, cond, nat_le}
+use Rattle.std.proofs.Common.{subst, ◌≡◌, ℕ, zero, suc, ◌+◌, ◌≤◌, arith, refl, w32, FitsSigned, ℤ, pos, negsuc, ◌+ℤ◌, List, [], ◌∷◌, length, Option, Some, None, IfSome, MatchOption, ok_or, Result, Ok, Err, IfOk, Bool, true, false, cond, nat_le}
 use Rattle.std.specs.List.{AllByRecursion}
 use Rattle.std.specs.Option.{option_map_or}
 use Rattle.std.specs.Prelude.{⊤}
@@ -54,7 +54,7 @@ use Rattle.teco_model.specs.declared.pattern.Sought.{Sought}
 use Rattle.teco_model.specs.declared.pattern.Sought.TheVariants.{Last, Wanted}
 use Rattle.teco_model.specs.declared.pattern.Span.{Span}
 use Rattle.teco_model.specs.declared.skip.Skip.{Skip}
-use Rattle.teco_law_facts.proofs.Asking.{code_within}
+use Rattle.teco_law_facts.proofs.Near.{code_within}
 use Rattle.teco_law_facts.proofs.Bytes.{ok_then, ok_any}
 use Rattle.teco_law_facts.proofs.Filing.{yanked, append_whole, abandoned, closed, opened, opened_output, turned, paged, through, copied, exited, one_page, pages_whole}
 use Rattle.teco_law_facts.proofs.Keeping as keeping

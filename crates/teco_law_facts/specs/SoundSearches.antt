@@ -59,5 +59,5 @@ SearchesAreSound =
     (run : Run) (facts : Facts) (unread : ℕ) (kept : Kept) (arguments : Arguments) (x : Placed) (s : Search)
     → IsWhole kept → Describes run facts unread kept arguments → x.element.kind ≡ kind.Search s → IsInBuffer s
     → (x.colon ≡ false → x.element.colons ≡ 0)
-    → Leads (FitsOn run.n) (SearchArrives run facts.held unread kept arguments x) (transfer x facts)
+    → Leads (FitsOn run) (SearchArrives run facts.held unread kept arguments x) (transfer x facts)
     (finding s x.element kept arguments)

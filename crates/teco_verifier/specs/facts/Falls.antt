@@ -1,5 +1,5 @@
 -- The falls of an open iteration: how they change, and which follow from others.
-use Rattle.std.specs.Prelude.{ℕ, ℤ, pos, ◌+◌, ◌+ℤ◌, min, nat_le, Bool, true, false, if◌then◌else◌, Option, Some, None, option_map}
+use Rattle.std.specs.Prelude.{ℕ, ℤ, pos, ◌+◌, ◌+ℤ◌, ◌^◌, min, nat_le, Bool, true, false, if◌then◌else◌, Option, Some, None, option_map}
 use Rattle.std.specs.Int.{int_min, int_max}
 use Rattle.teco_verifier.specs.declared.falls.Falls.{Falls}
 use Rattle.teco_verifier.specs.declared.rules.Rules.{Rules}
@@ -22,9 +22,13 @@ smaller_known (Some v) (Some w) = Some (int_min v w)
 smaller_known None w = None
 smaller_known (Some v) None = None
 
--- one more, and one behind another; an unknown one makes it unknown
+-- falls count up to 2 ^ 62
+abbrev pub most_fall : ℤ
+most_fall = pos (2 ^ 62)
+
+-- one that grows, and one behind another; an unknown one makes it unknown
 abbrev pub grown : ℕ → Option ℤ → Option ℤ
-grown n fall = option_map (λ v. v +ℤ pos n) fall
+grown n fall = option_map (λ v. int_min (v +ℤ pos n) most_fall) fall
 
 abbrev pub fall_after : Option ℤ → Option ℤ → Option ℤ
 fall_after (Some v) (Some fall) = Some (fall +ℤ v)

@@ -1,7 +1,7 @@
 -- What is known of a number: an interval, a linear value in Z and the pointer, or the code of a character. All are one
 -- thing, told in the distances of the pointer from the end of the buffer and from its begin: Z is the sum of both, and
 -- . the latter. A saved value is an interval that a saved register was asked for.
-use Rattle.std.specs.Prelude.{ℕ, ℤ, pos, negsuc, neg_ℤ, ◌-◌, ◌^◌, ◌+ℤ◌, ◌-ℤ◌, ◌*ℤ◌, ◌≤ℤ◌, int_le, int_lt, int_div, min, unsigned_abs, FitsSigned, ⊤, ◌+◌, Bool, true, false, ◌&&◌, ◌||◌, not, is_none, is_some, Option, Some, None, option_map, if◌then◌else◌}
+use Rattle.std.specs.Prelude.{ℕ, ℤ, pos, negsuc, neg_ℤ, ◌-◌, ◌^◌, ◌+ℤ◌, ◌-ℤ◌, ◌*ℤ◌, ◌≤ℤ◌, int_le, int_lt, int_div, min, unsigned_abs, FitsSigned, ⊤, ◌+◌, Bool, true, false, ◌&&◌, ◌||◌, not, is_none, is_some, Option, Some, None, option_map, if◌then◌else◌, IsTrue}
 use Rattle.std.specs.Int.{int_min, int_max, w32}
 use Rattle.teco_base.specs.declared.TheConstants.{LIMIT}
 use Rattle.teco_verifier.specs.declared.values.Value.{Value}
@@ -180,12 +180,12 @@ abbrev pub bitwise : (ℤ → ℤ → ℤ) → Interval → Interval → Value
 bitwise operation i j =
     if is_single i && is_single j then single (operation i.lo j.lo) else value_in any_number
 
--- What facts speak of: the distances of the pointer from the end of the buffer and from its begin, that from the pointer
--- to the end of its line, and the code of the character at each offset, -1 where there is none.
+-- What facts speak of: the distances of the pointer from the end of the buffer and from its begin, how many characters
+-- stand behind its line, and the code of the character at each offset, -1 where there is none.
 pub record Surroundings : Type 0 where
   pub fore : ℕ
   pub back : ℕ
-  pub line : ℕ
+  pub beyond : ℕ
   pub code_at : ℤ → ℤ
 
 -- a code, or minus it
@@ -207,9 +207,14 @@ abbrev pub IsPlaceIf : Bool → Surroundings → ℤ → Type 0
 IsPlaceIf true around v = (pos 0 ≤ℤ v) × (v ≤ℤ pos (around.fore + around.back))
 IsPlaceIf false around v = ⊤
 
+-- a code counts alone, with one number added
+abbrev pub has_form : Value → Bool
+has_form s = is_none s.code || (has_no_distance s && int_le s.hi s.lo)
+
 -- v is a number that may be pending, in the value s
 pub record IsValue (around : Surroundings) (s : Value) (v : ℤ) : Type 0 where
   pub is : IsIn s around v
+  pub form : IsTrue (has_form s)
   pub fits : FitsSigned w32 v
   pub saved : IsPlaceIf s.saved around v
 

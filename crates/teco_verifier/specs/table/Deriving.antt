@@ -14,6 +14,7 @@ use Rattle.teco_verifier.specs.facts.Bodies.{Choice, Changes, body_start}
 use Rattle.teco_verifier.specs.facts.Facts.{Facts, Entry}
 use Rattle.teco_verifier.specs.facts.Flows.{Edges}
 use Rattle.teco_verifier.specs.facts.Joins.{joined}
+use Rattle.teco_verifier.specs.facts.Shifts.{capped}
 use Rattle.teco_verifier.specs.table.Behind.{edges_at, along, along_flow}
 use Rattle.teco_verifier.specs.table.Choices.{LongerText, Chosen}
 use Rattle.teco_verifier.specs.table.Table.{Row, Table}
@@ -27,7 +28,7 @@ abbrev pub choice_of : Facts → Chosen → Choice
 choice_of facts chosen = record {
   held = chosen.held;
   kept = chosen.kept;
-  distances = chosen.distances;
+  distances = capped chosen.distances;
   texts = with_longer chosen.longer facts.texts;
 }
 
