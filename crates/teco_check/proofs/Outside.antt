@@ -1,5 +1,5 @@
 -- Where no iteration begins, none is open in what is known, and nothing falls: no facts are too large.
-use Rattle.std.proofs.Common.{◌≡◌, refl, sym, ap, ◌∙◌, subst, ℕ, zero, suc, ◌+◌, ◌-◌, ◌<◌, true, false, Bool, List, [], ◌∷◌, ◌++◌, length, map, drop, Option, Some, None, option_map, Result, Ok, Err, IfOk, slice_get, slice_index_or, unwrap_or, if◌then◌else◌, ◌==◌, ◌||◌, arith, pos}
+use Rattle.std.proofs.Common.{◌≡◌, refl, sym, ap, ◌∙◌, subst, ℕ, zero, suc, ◌+◌, ◌-◌, ◌<◌, true, false, Bool, List, [], ◌∷◌, ◌++◌, length, map, drop, Option, Some, None, option_map, Result, Ok, Err, IfOk, slice_get, slice_index_or, unwrap_or, if◌then◌else◌, ◌==◌, ◌||◌, arith}
 use Rattle.std.proofs.Math.Seq.{drop-nil}
 use Rattle.std.proofs.lemmas.List.Elements.{All-nil}
 use Rattle.std.specs.List.{list_any}
@@ -38,11 +38,9 @@ use Rattle.teco_verifier.specs.declared.refusal.Refusal.TheVariants as refusal
 use Rattle.teco_verifier.specs.declared.values.Distances.{Distances}
 use Rattle.teco_verifier.specs.declared.values.Interval.{Interval}
 use Rattle.teco_verifier.specs.declared.values.Value.{Value}
-use Rattle.teco_verifier.specs.declared.falls.DigitMark.{DigitMark}
-use Rattle.teco_verifier.specs.declared.falls.Falls.{Falls}
 use Rattle.teco_verifier.specs.declared.rules.Rules.{Rules}
 use Rattle.teco_verifier.specs.facts.Argument.{facts_given, facts_with}
-use Rattle.teco_verifier.specs.facts.Falls.{By, NextPage}
+use Rattle.teco_verifier.specs.facts.Falls.{By, NextPage, Refilled}
 use Rattle.teco_verifier.specs.facts.Arguments.{KnownArguments, KnownTaken, needed_value, with_level, level_with, levels_after_taking, arguments_of}
 use Rattle.teco_base.specs.declared.bytes.TheConstants.{TAB}
 use Rattle.teco_verifier.specs.facts.Values.{interval_of}
@@ -54,11 +52,11 @@ use Rattle.teco_verifier.specs.facts.Facts.{Position, Answer, Pushed, Facts, Ent
 use Rattle.teco_verifier.specs.facts.Flows.{Edges, leaving, turn_end, flow_edges, needed_taken, facts_taken, leaving_numbers, without_value}
 use Rattle.teco_verifier.specs.facts.Insertions.{insertion_with, insertion_of}
 use Rattle.teco_verifier.specs.facts.Joins.{joined, joined_position, joined_falls, none_pending, joined_pushes, joined_lengths}
-use Rattle.teco_verifier.specs.facts.Motions.{motion, motion_to, goes_to_saved, target, perhaps_forward, goes_forward, count_of, shift_by_lines}
+use Rattle.teco_verifier.specs.facts.Motions.{motion, motion_to, goes_to_saved, target, perhaps_forward, goes_forward, count_of, shift_by_lines, digit_after, is_step_back}
 use Rattle.teco_verifier.specs.facts.Pages.{pages, append, turning, writing, some_pages}
 use Rattle.teco_verifier.specs.facts.Queries.{facts_after_query, query_with, facts_at_query, value_for, past_number, query}
-use Rattle.teco_verifier.specs.facts.Searches.{facts_found, facts_failed, facts_of_answer, position_failed, position_failed_in, shift_to_begin, minimum_of, shift_found, facts_at_search, count_checked}
-use Rattle.teco_verifier.specs.facts.Shifts.{Shift, Foreseen, shifted, silent_behind, facts_answered, position_after, falls_behind, place_of, place_or_saved, ending, moving}
+use Rattle.teco_verifier.specs.facts.Searches.{facts_found, facts_failed, facts_of_answer, position_failed, position_failed_in, shift_to_begin, minimum_of, facts_at_search, count_checked}
+use Rattle.teco_verifier.specs.facts.Shifts.{Shift, Foreseen, shifted, silent_behind, facts_answered, position_after, falls_behind, place_of, place_or_saved, ending, moving, shift_to}
 use Rattle.teco_verifier.specs.facts.Storages.{storage, stack, with_popped, text_storage, own_text_storage, retrieval, not_of_library, is_above}
 use Rattle.teco_verifier.specs.facts.Transfer.{Placed, edges_of, search_edges, transfer, on, answer_for, without_answer, execution, after_taking, search_outcomes, search_allowed, facts_after_argument, levels_after, facts_after_value, level_with_value, facts_after_command, facts_after_page}
 use Rattle.teco_verifier.specs.facts.Typings.{typing, part_named}
@@ -149,7 +147,7 @@ module _ (facts : Facts) (o : IsOutside facts) where
   silent_out s = binds_with IsOutside IsForeseen (shifted s facts) _ (shifted_out s) (λ known q. q)
 
   motion_to_out : (m : Motion) (colons : ℕ) (n : Option Value) → IfOk (motion_to m colons n facts) IsForeseen
-  motion_to_out m zero n = binds IsForeseen (place_or_saved (goes_to_saved m n) (place_of (target m n) facts.position.distances)) _ (λ place. silent_out _)
+  motion_to_out m zero n = binds IsForeseen (place_or_saved (goes_to_saved m n) (place_of (target m n) facts.position.distances)) _ (λ place. silent_out (record (shift_to place) { digit = digit_after (is_step_back m (count_of n facts.position.distances)) facts.position.digit }))
   motion_to_out m (suc colons) n =
       let shift = perhaps_forward (goes_forward m (count_of n facts.position.distances)) in
       binds_with IsOutside IsForeseen (shifted shift facts) _ (shifted_out shift) (λ known q. q)
@@ -217,7 +215,7 @@ module _ (facts : Facts) (o : IsOutside facts) where
   stack_out (pushing.Pop r) library = binds IsOutside (not_of_library library) _ (λ free. popped_out r facts.pushes)
 
   append_out : (value : Option Value) → IfOk (append value facts) IsForeseen
-  append_out None = silent_out _
+  append_out None = silent_out (record (moving facts.position.distances (Refilled 0)) { digit = facts.position.digit })
   append_out (Some n) = o
 
   turning_out : (first value : Option Value) → IfOk (turning first value facts) IsForeseen

@@ -1,6 +1,7 @@
 -- Definitions that go through the nodes, or through a node's ways and iterations, one step further.
-use Rattle.std.proofs.Common.{Bool, ◌≡◌, refl, sym, ◌∙◌, ap, ℕ, zero, suc, ◌+◌, ◌-◌, ◌<◌, ◌≤◌, true, false, ◌||◌, List, [], ◌∷◌, length, drop, slice_get, get_or, Option, Some, None, unwrap_or, Result, Ok, Err, add-one, arith, if◌then◌else◌}
+use Rattle.std.proofs.Common.{◌≡◌, refl, sym, ◌∙◌, ap, ℕ, zero, suc, ◌+◌, ◌-◌, ◌<◌, ◌≤◌, true, false, ◌||◌, List, [], ◌∷◌, length, drop, slice_get, slice_index_or, Option, Some, None, unwrap_or, Ok, Err, add-one, arith, if◌then◌else◌}
 use Rattle.std.specs.Option.{option_map_or}
+use Rattle.std.proofs.Math.Seq.{drop-nil}
 use Rattle.std.proofs.lemmas.List.{drop_all}
 use Rattle.teco_model.specs.Element.{Element}
 use Rattle.teco_verifier.specs.expansion.Ends.{ends, first_end}
@@ -153,28 +154,39 @@ first_refused First l t lengths texts most why f = rw f refl
 first_refused Second None t lengths texts most why f = rw f refl
 first_refused Second (Some n) t lengths texts most why f = absurd (cc)
 
-pub joined_more : (rules : Rules) (lengths : List (Option ℕ)) (texts : List Polynomial) (most next text : Polynomial) (d : Option ℕ) (k : ℕ) → length lengths ≡ length texts → k < length texts → text ≡ get_or texts k text → (if text_counts rules (get_or lengths k d) then join_of most text else Ok most) ≡ Ok next → joined_with (own_texts rules (drop k lengths) (drop k texts)) most ≡ joined_with (own_texts rules (drop (k + 1) lengths) (drop (k + 1) texts)) next
-joined_more rules [] [] most next text d k long h is e = absurd (omega arith)
-joined_more rules [] (t ∷ texts) most next text d k long h is e = absurd (omega arith)
-joined_more rules (l ∷ lengths) [] most next text d k long h is e = absurd (omega arith)
-joined_more rules (l ∷ lengths) (t ∷ texts) most next text d zero long h is e = first_more rules l t lengths texts most next (rw is at e)
-joined_more rules (l ∷ lengths) (t ∷ texts) most next text d (suc k) long h is e = joined_more rules lengths texts most next text d k (omega arith) (omega arith) is e
+none_first : (rules : Rules) (t : Polynomial) (texts : List Polynomial) (most next : Polynomial) → (if text_counts rules None then join_of most t else Ok most) ≡ Ok next → joined_with (own_texts rules [] (t ∷ texts)) most ≡ joined_with (own_texts rules [] texts) next
+none_first First t texts most next f = rw f refl
+none_first Second t texts most next f = rw f refl
 
-pub joined_refused : (rules : Rules) (lengths : List (Option ℕ)) (texts : List Polynomial) (most text : Polynomial) (why : Refusal) (d : Option ℕ) (k : ℕ) → length lengths ≡ length texts → k < length texts → text ≡ get_or texts k text → (if text_counts rules (get_or lengths k d) then join_of most text else Ok most) ≡ Err why → joined_with (own_texts rules (drop k lengths) (drop k texts)) most ≡ Err why
-joined_refused rules [] [] most text why d k long h is e = absurd (omega arith)
-joined_refused rules [] (t ∷ texts) most text why d k long h is e = absurd (omega arith)
-joined_refused rules (l ∷ lengths) [] most text why d k long h is e = absurd (omega arith)
-joined_refused rules (l ∷ lengths) (t ∷ texts) most text why d zero long h is e = first_refused rules l t lengths texts most why (rw is at e)
-joined_refused rules (l ∷ lengths) (t ∷ texts) most text why d (suc k) long h is e = joined_refused rules lengths texts most text why d k (omega arith) (omega arith) is e
+none_refused : (rules : Rules) (t : Polynomial) (texts : List Polynomial) (most : Polynomial) (why : Refusal) → (if text_counts rules None then join_of most t else Ok most) ≡ Err why → joined_with (own_texts rules [] (t ∷ texts)) most ≡ Err why
+none_refused First t texts most why f = rw f refl
+none_refused Second t texts most why f = rw f refl
 
-none_own : (rules : Rules) → own_texts rules [] [] ≡ []
-none_own First = refl
-none_own Second = refl
+pub joined_more : (rules : Rules) (lengths : List (Option ℕ)) (texts : List Polynomial) (most next text : Polynomial) (k : ℕ) → k < length texts → text ≡ slice_index_or texts k text → (if text_counts rules (slice_index_or lengths k None) then join_of most text else Ok most) ≡ Ok next → joined_with (own_texts rules (drop k lengths) (drop k texts)) most ≡ joined_with (own_texts rules (drop (k + 1) lengths) (drop (k + 1) texts)) next
+joined_more rules lengths [] most next text k h is e = absurd (omega arith)
+joined_more rules [] (t ∷ texts) most next text zero h is e = none_first rules t texts most next (rw is at e)
+joined_more rules [] (t ∷ texts) most next text (suc k) h is e =
+    let same : suc k + 1 ≡ suc (k + 1) = omega arith in
+    rw same (rw (drop-nil k, drop-nil (k + 1)) at (joined_more rules [] texts most next text k (omega arith) is e))
+joined_more rules (l ∷ lengths) (t ∷ texts) most next text zero h is e = first_more rules l t lengths texts most next (rw is at e)
+joined_more rules (l ∷ lengths) (t ∷ texts) most next text (suc k) h is e =
+    let same : suc k + 1 ≡ suc (k + 1) = omega arith in
+    rw same (joined_more rules lengths texts most next text k (omega arith) is e)
 
-pub joined_done : (rules : Rules) (lengths : List (Option ℕ)) (texts : List Polynomial) (most : Polynomial) (k : ℕ) → length lengths ≡ length texts → length texts ≤ k → joined_with (own_texts rules (drop k lengths) (drop k texts)) most ≡ Ok most
-joined_done rules lengths texts most k long h =
-    let lengths_done : length lengths ≤ k = omega arith in
-    rw (drop_all k lengths lengths_done, drop_all k texts h, none_own rules) refl
+pub joined_refused : (rules : Rules) (lengths : List (Option ℕ)) (texts : List Polynomial) (most text : Polynomial) (why : Refusal) (k : ℕ) → k < length texts → text ≡ slice_index_or texts k text → (if text_counts rules (slice_index_or lengths k None) then join_of most text else Ok most) ≡ Err why → joined_with (own_texts rules (drop k lengths) (drop k texts)) most ≡ Err why
+joined_refused rules lengths [] most text why k h is e = absurd (omega arith)
+joined_refused rules [] (t ∷ texts) most text why zero h is e = none_refused rules t texts most why (rw is at e)
+joined_refused rules [] (t ∷ texts) most text why (suc k) h is e = rw (drop-nil k) at (joined_refused rules [] texts most text why k (omega arith) is e)
+joined_refused rules (l ∷ lengths) (t ∷ texts) most text why zero h is e = first_refused rules l t lengths texts most why (rw is at e)
+joined_refused rules (l ∷ lengths) (t ∷ texts) most text why (suc k) h is e = joined_refused rules lengths texts most text why k (omega arith) is e
+
+none_own : (rules : Rules) (lengths : List (Option ℕ)) → own_texts rules lengths [] ≡ []
+none_own First lengths = refl
+none_own Second [] = refl
+none_own Second (l ∷ lengths) = refl
+
+pub joined_done : (rules : Rules) (lengths : List (Option ℕ)) (texts : List Polynomial) (most : Polynomial) (k : ℕ) → length texts ≤ k → joined_with (own_texts rules (drop k lengths) (drop k texts)) most ≡ Ok most
+joined_done rules lengths texts most k h = rw (drop_all k texts h, none_own rules (drop k lengths)) refl
 
 -- needs of the nodes from the last on
 pub needs_more : (nodes : List Node) (table : Table) (k : ℕ) (needs : Needs) → 0 < k → k ≤ length nodes → needs ≡ needs_from table (suc k) (drop k nodes) → both_needs (option_map_or (needs_of (node_at nodes (k - 1 + 1)).element) (facts_at table (k - 1 + 1)) no_needs) needs ≡ needs_from table (suc (k - 1)) (drop (k - 1) nodes)

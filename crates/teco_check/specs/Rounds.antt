@@ -1,5 +1,5 @@
 -- The product of the turns round a node, where it is known.
-use Rattle.std.specs.Prelude.{◌≡◌, ℕ, ◌<◌, ◌≤◌, List, length}
+use Rattle.std.specs.Prelude.{◌≡◌, ◌<◌, ◌≤◌, List, length}
 use Rattle.teco_verifier.specs.expansion.Node.{Node}
 use Rattle.teco_verifier.specs.table.Printed.{turns_round}
 use Rattle.teco_verifier.specs.table.Table.{Table}

@@ -181,12 +181,7 @@ fn check_at(nodes: &Nodes<'_>, table: &Table, number: usize) -> Result<(), Bad>
 /// else the number of the first node at which a condition fails. It takes time by the nodes and
 /// registers, and at each node by the pairs that were pushed since the entry and the parentheses
 /// that are open.
-pub fn check(
-    alloc: Global,
-    entry: &Entry,
-    nodes: &Nodes<'_>,
-    table: &Table,
-) -> Result<(), Bad>
+pub fn check(alloc: Global, entry: &Entry, nodes: &Nodes<'_>, table: &Table) -> Result<(), Bad>
     ensures value { Says (rules.check entry.now nodes.now table.now) result }
     ensures told { 0 < length nodes.now → IsBadAt nodes.now result }
 {

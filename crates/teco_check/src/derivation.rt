@@ -207,11 +207,7 @@ fn row_at(
 }
 
 // Nothing but what is known at the entry has arrived at so many nodes, if there is memory.
-fn begun(
-    alloc: Global,
-    entry: &Entry,
-    count: usize,
-) -> Result<Arrived, AllocError>
+fn begun(alloc: Global, entry: &Entry, count: usize) -> Result<Arrived, AllocError>
     ensures { IfOk result (λ arrived. arrived
         ≡ arrived_at 1 (given.facts_given entry.now) (replicate count (Ok None))) }
 {

@@ -14,11 +14,7 @@ pub fn say_same(one: &Facts, other: &Facts) -> bool
 
 /// Whether nothing is known at the entry but what is always known there, and the argument that is
 /// declared; told if there is memory.
-pub fn is_entry(
-    alloc: Global,
-    entry: &Entry,
-    facts: Option<&Facts>,
-) -> Result<bool, AllocError>
+pub fn is_entry(alloc: Global, entry: &Entry, facts: Option<&Facts>) -> Result<bool, AllocError>
     ensures { IfOk result (λ yes. yes ≡ rules.is_entry entry.now (option_copied facts.entry)) }
 {
     let given = Facts::entry(alloc, entry)?;

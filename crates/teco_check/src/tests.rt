@@ -5,8 +5,8 @@ use std::alloc::{AllocError, Global};
 use std::process::Abort;
 use std::test::*;
 use teco_base::{LIMIT, REGISTERS, Reg};
-use teco_facts::Entry;
 use teco_expansion::{ExpandFault, Nodes, expand};
+use teco_facts::Entry;
 use teco_library::Library;
 use teco_model::ArgumentRange;
 use teco_poly::Poly;
@@ -103,12 +103,7 @@ fn table_of(
 }
 
 // What the checker says of a table.
-fn checked(
-    alloc: Global,
-    entry: &Entry,
-    nodes: &Nodes<'_>,
-    table: &Table,
-) -> Result<(), Bad> {
+fn checked(alloc: Global, entry: &Entry, nodes: &Nodes<'_>, table: &Table) -> Result<(), Bad> {
     match check(alloc, entry, nodes, table) {
         Err(Bad::Memory) => check(alloc, entry, nodes, table),
         answer => answer,
