@@ -188,7 +188,7 @@ returns_are_sound run facts end unread kept arguments choice changes counted tur
     let fallen = subst (λ turns. AreEach (HasFallen (around_of kept) unread) end.position.falls turns) e h.position.fallen in
     let less : choice.kept ≡ true → fore_of kept + unread ≤ begun.ahead = kept_falls (around_of kept) unread end.position begun outer fallen choice.kept r.1 in
     let read = no_more_unread (around_of kept) unread end.position begun outer fallen in
-    let again : IsCarried run facts choice.kept (begun_at unread kept) outer = record { ahead = λ k. omega (arith, less k, carried.ahead k); falls = λ k. falls_carried _ begun.ahead facts.position.falls outer (less k) (carried.falls k); rests = rests_carried unread begun.unread facts.position.falls outer read carried.rests } in
+    let again : IsCarried run.n facts choice.kept (begun_at unread kept) outer = record { ahead = λ k. omega (arith, less k, carried.ahead k); falls = λ k. falls_carried _ begun.ahead facts.position.falls outer (less k) (carried.falls k); rests = rests_carried unread begun.unread facts.position.falls outer read carried.rests } in
     record {
       described = record {
         state = record {

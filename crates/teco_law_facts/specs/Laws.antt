@@ -120,9 +120,9 @@ pub record HasRest (unread : ℕ) (falls : Falls) (start : Begun) : Type 0 where
 
 -- What is carried from turn to turn: a kept iteration began its turn with no more ahead than was at its <, and with falls
 -- of those outside as they were there; and whatever is kept, no more was unread.
-pub record IsCarried (run : Run) (facts : Facts) (kept_iteration : Bool) (begun : Begun) (outer : List Begun) :
+pub record IsCarried (n : ℕ) (facts : Facts) (kept_iteration : Bool) (begun : Begun) (outer : List Begun) :
     Type 0 where
-  pub ahead : kept_iteration ≡ true → begun.ahead ≤ value facts.position.ahead run.n
+  pub ahead : kept_iteration ≡ true → begun.ahead ≤ value facts.position.ahead n
   pub falls : kept_iteration ≡ true → AreEach (FellBefore begun.ahead) facts.position.falls outer
   pub rests : AreEach (HasRest begun.unread) facts.position.falls outer
 
@@ -132,7 +132,7 @@ pub record BeginsAgain
     (run : Run) (facts start : Facts) (unread : ℕ) (kept : Kept) (kept_iteration : Bool) (outer : List Begun) :
     Type 0 where
   pub described : Describes (run_in_turn unread kept (run_behind 1 run)) start unread kept no_arguments
-  pub carried : IsCarried run facts kept_iteration (begun_at unread kept) outer
+  pub carried : IsCarried run.n facts kept_iteration (begun_at unread kept) outer
 
 abbrev pub ReturnsAreSound : Type 0
 ReturnsAreSound =
@@ -141,7 +141,7 @@ ReturnsAreSound =
     → IsWhole kept → IsTrue (returns choice changes counted turns (entered counted facts) end)
     → Describes run end unread kept arguments → run.turns ≡ begun ∷ outer
     → length kept.text + unread ≤ value choice.held run.n
-    → IsCarried run facts choice.kept begun outer
+    → IsCarried run.n facts choice.kept begun outer
     → BeginsAgain run facts (body_start choice changes (entered counted facts)) unread kept choice.kept outer
 
 -- the amount by which an iteration is ranked

@@ -17,6 +17,8 @@ use Rattle.teco_verifier.specs.table.Closed.{check}
 use Rattle.teco_law_tables.specs.Ending.{EndsWithin}
 use Rattle.teco_verifier.specs.table.Printed.{commands, size, needs_in, IsPrinted}
 use Rattle.teco_verifier.specs.table.Table.{Table}
+use Rattle.teco_verifier.specs.declared.rules.Rules.{Rules}
+use Rattle.teco_verifier.specs.facts.Facts.{entry_of}
 
 -- where a run begins
 pub record IsReady (library : Library) (entry : ℕ) (most : Polynomial) (n : ℕ) (world : World) : Type 0 where
@@ -29,8 +31,8 @@ pub record IsReady (library : Library) (entry : ℕ) (most : Polynomial) (n : �
 
 abbrev pub RunsAreVerified : Type 0
 RunsAreVerified =
-    (library : Library) (entry : ℕ) (argument : Option ArgumentRange) (given : Option ℕ) (nodes : List Node)
+    (library : Library) (entry : ℕ) (rules : Rules) (argument : Option ArgumentRange) (given : Option ℕ) (nodes : List Node)
     (table : Table) (steps most : Polynomial) (n : ℕ) (world : World)
-    → AreLinked library entry nodes → IsPrinted argument nodes table steps most → IsAsked argument given
+    → AreLinked library entry nodes → IsPrinted (entry_of rules library argument) nodes table steps most → IsAsked argument given
     → IsReady library entry most n world → AreOpen (needs_in nodes table) world.files
     → EndsWithin (start (call_given entry given) world) (value steps n)

@@ -43,11 +43,11 @@ needs_of_kind k facts s = absurd s
 one_more : (c : ℕ) → suc c ≤ LIMIT → sum_of (number c) (number 1) ≡ Ok (number (suc c))
 one_more c l = let e : c + 1 ≡ suc c = omega arith in rw e (rw (fits_64 (suc c) l) refl)
 
-element_weighs : (table : Table) (entry n place : ℕ) (text : List ℕ) (e : Element) (facts : Facts) → IsStraightElement e → weight table (node_going_on entry n (stand_in_text entry text place) (Some e) false) (Some facts) ≡ Ok (number 1)
+element_weighs : (table : Table) (entry n place : ℕ) (text : List ℕ) (e : Element) (facts : Facts) → IsStraightElement e → weight nodes table (node_going_on entry n (stand_in_text entry text place) (Some e) false) (Some facts) ≡ Ok (number 1)
 element_weighs table entry n place text e facts s = rw (step_of_kind e.kind facts s) refl
 
 rows_counted : (table : Table) (entry m place : ℕ) (text : List ℕ) (count c : ℕ) (elements : List Element) → AllByRecursion IsStraightElement elements → suc (c + length elements) ≤ LIMIT → drop m table ≡ rows_in_text count elements →
-    count_from table (suc m) (nodes_in_text entry text (suc m) place elements) (number c) ≡ Ok (number (suc (c + length elements)))
+    count_from nodes table (suc m) (nodes_in_text entry text (suc m) place elements) (number c) ≡ Ok (number (suc (c + length elements)))
 rows_counted table entry m place text count c [] s l d =
     rw (facts_there table m count [] d) (rw (one_more c (omega (arith, l)), plus_none c) refl)
 rows_counted table entry m place text count c (e ∷ elements) s l d =
