@@ -1,7 +1,8 @@
 //! What is asked of the verifier.
-ghost use Rattle.std.specs.Prelude.{◌≡◌};
-ghost use Rattle.teco_verifier.specs.facts.Facts.{entry_of};
-ghost use Rattle.teco_library.specs.Library.{argument_of};
+ghost use Rattle.std.specs.Prelude.{◌≡◌, length, map, option_map};
+ghost use Rattle.std.specs.Option.{option_copied};
+ghost use Rattle.teco_base.specs.declared.TheConstants.{REGISTERS};
+ghost use Rattle.teco_verify.specs.Given.{given_by};
 
 use teco_base::{REGISTERS, Reg};
 use teco_facts::Entry;
@@ -16,23 +17,36 @@ pub struct Asked<'l> {
     pub rules: Rules,
 }
 
+// How long a text is, if there is one.
+fn length_of(text: Option<&[u8]>) -> Option<usize>
+    ensures { result ≡ option_map length (option_copied text) }
+{
+    match text {
+        None => None,
+        Some(text) => Some(text.len()),
+    }
+}
+
+// How long each text is.
+fn lengths_of(texts: &[Option<&[u8]>; REGISTERS]) -> [Option<usize>; REGISTERS]
+    ensures value { result ≡ map (option_map length) (map option_copied texts.now) }
+    ensures all { length result ≡ REGISTERS }
+{
+    let mut lengths = [None; REGISTERS];
+    for register in 0..REGISTERS {
+        lengths[register] = length_of(texts[register]);
+    }
+    lengths
+}
+
 impl<'l> Asked<'l> {
     /// What it is verified with.
     pub fn given(&self) -> Entry
-        ensures { result ≡ entry_of self.now.rules self.now.library.now.texts
-            (argument_of self.now.library.now self.now.entry) }
+        ensures { result ≡ given_by self.now.rules self.now.library.now self.now.entry }
     {
-        let texts = self.library.texts();
-        let mut lengths = [None; REGISTERS];
-        for register in 0..REGISTERS {
-            lengths[register] = match texts[register] {
-                None => None,
-                Some(text) => Some(text.len()),
-            };
-        }
         Entry {
             rules: self.rules,
-            lengths,
+            lengths: lengths_of(&self.library.texts()),
             argument: self.library.argument(self.entry),
         }
     }

@@ -2,9 +2,9 @@
 ghost use Rattle.std.specs.Prelude.{◌≡◌, IfOk, Ok};
 ghost use Rattle.std.specs.Result.{IfErr};
 ghost use Rattle.teco_verifier.specs.expansion.Expansion.{expansion};
-ghost use Rattle.teco_library.specs.Library.{argument_of};
 ghost use Rattle.teco_verify.specs.Certifying.{flaw_by, Certifies, IsFlawIn};
 ghost use Rattle.teco_verify.specs.Certified.{TakesDeclared};
+ghost use Rattle.teco_verify.specs.Given.{given_by};
 ghost use Rattle.teco_verify.specs.Telling.{Tells};
 ghost use Rattle.teco_verify.specs.declared.certifying.Flaw.TheVariants as flaw;
 
@@ -63,12 +63,13 @@ pub fn certified<'l>(
     nodes: &Nodes<'_>,
     table: &Table,
 ) -> Result<Verified<'l>, Flaw>
-    requires { expansion library.now.texts entry ≡ Ok nodes.now }
-    ensures library { IfOk result (λ verified. verified.library ≡ library.now.texts) }
-    ensures argument { IfOk result (λ verified. TakesDeclared library.now verified.fields) }
-    ensures entry { IfOk result (λ verified. verified.fields.entry ≡ entry) }
-    ensures value { Certifies (argument_of library.now entry) nodes.now table.now entry result }
-    ensures told { IfOk result (λ verified. Tells (argument_of library.now entry)
+    requires { expansion asked.library.now.texts asked.entry ≡ Ok nodes.now }
+    ensures library { IfOk result (λ verified. verified.library ≡ asked.library.now.texts) }
+    ensures argument { IfOk result (λ verified. TakesDeclared asked.library.now verified.fields) }
+    ensures entry { IfOk result (λ verified. verified.fields.entry ≡ asked.entry) }
+    ensures rules { IfOk result (λ verified. verified.fields.rules ≡ asked.rules) }
+    ensures value { Certifies (given_by asked.rules asked.library.now asked.entry) nodes.now table.now asked.entry result }
+    ensures told { IfOk result (λ verified. Tells (given_by asked.rules asked.library.now asked.entry)
         nodes.now verified.fields table.now) }
     ensures numbered { IfErr result (IsFlawIn nodes.now) }
 {

@@ -17,7 +17,7 @@ mod verdict;
 mod verified;
 mod watching;
 
-pub use account::{Account, account_of};
+pub use account::{Account, account_by, account_of};
 pub use known::Known;
 pub use refusal::Refusal;
 pub use teco_facts::Choice;

@@ -6,9 +6,10 @@ ghost use Rattle.teco_base.specs.declared.TheConstants.{LIMIT};
 ghost use Rattle.teco_certificate.specs.Text.{certificate_text};
 ghost use Rattle.teco_verifier.specs.table.Loops.{begins};
 ghost use Rattle.teco_verifier.specs.expansion.Expansion.{expansion};
-ghost use Rattle.teco_library.specs.Library.{argument_of};
+ghost use Rattle.teco_verifier.specs.declared.rules.Rules.TheVariants.{First};
 ghost use Rattle.teco_verify.specs.Accepting.{AcceptedIsChecked, AcceptedIsFound, ChoosesNothing, TextsAreWithin};
 ghost use Rattle.teco_verify.specs.Certified.{TakesDeclared};
+ghost use Rattle.teco_verify.specs.Given.{given_by};
 ghost use Rattle.teco_verify.specs.Refusing.{refusal_of_unfit, IsJudged, IsOfCertificate, PrintedIsFound, RefusedIsDerived, RefusedIsExpansions, RefusedIsOverflow, RefusedIsUnclosed};
 ghost use Rattle.teco_verify.specs.Straight.{StraightIsChecked, StraightIsVerified};
 ghost use Rattle.teco_verify.specs.Telling.{Tells};
@@ -74,14 +75,18 @@ pub fn found_with<'l>(
     nodes: &Nodes<'_>,
     chosen: &[LoopLine],
 ) -> Found<'l>
-    requires { expansion library.now.texts entry ≡ Ok nodes.now }
-    ensures library { IfOk result.verdict (λ verified. verified.library ≡ library.now.texts) }
-    ensures argument { IfOk result.verdict (λ verified. TakesDeclared library.now verified.fields) }
-    ensures entry { IfOk result.verdict (λ verified. verified.fields.entry ≡ entry) }
+    requires { expansion asked.library.now.texts asked.entry ≡ Ok nodes.now }
+    ensures library { IfOk result.verdict (λ verified. verified.library ≡ asked.library.now.texts) }
+    ensures argument { IfOk result.verdict (λ verified. TakesDeclared asked.library.now
+        verified.fields) }
+    ensures entry { IfOk result.verdict (λ verified. verified.fields.entry ≡ asked.entry) }
+    ensures rules { IfOk result.verdict (λ verified. verified.fields.rules ≡ asked.rules) }
     ensures told { IfOk result.verdict (λ verified. IsSomeAnd result.table
-        (Tells (argument_of library.now entry) nodes.now verified.fields)) }
-    ensures accepted { chosen.now ≡ [] → AcceptedIsFound library.now entry result.verdict }
-    ensures judged { chosen.now ≡ [] → IsJudged library.now entry result.verdict }
+        (Tells (given_by asked.rules asked.library.now asked.entry) nodes.now verified.fields)) }
+    ensures accepted { chosen.now ≡ [] → AcceptedIsFound asked.rules asked.library.now asked.entry
+        result.verdict }
+    ensures judged { chosen.now ≡ [] → IsJudged asked.rules asked.library.now asked.entry
+        result.verdict }
 {
     let table = match derive(alloc, &asked.given(), nodes, chosen) {
         Ok(table) => table,
@@ -115,14 +120,16 @@ fn choices(
 
 /// What is found of the nodes that a macro comes to, with the choices that are found for them.
 pub fn found_of<'l>(alloc: Global, asked: Asked<'l>, nodes: &Nodes<'_>) -> Found<'l>
-    requires { expansion library.now.texts entry ≡ Ok nodes.now }
-    ensures library { IfOk result.verdict (λ verified. verified.library ≡ library.now.texts) }
-    ensures argument { IfOk result.verdict (λ verified. TakesDeclared library.now verified.fields) }
-    ensures entry { IfOk result.verdict (λ verified. verified.fields.entry ≡ entry) }
+    requires { expansion asked.library.now.texts asked.entry ≡ Ok nodes.now }
+    ensures library { IfOk result.verdict (λ verified. verified.library ≡ asked.library.now.texts) }
+    ensures argument { IfOk result.verdict (λ verified. TakesDeclared asked.library.now
+        verified.fields) }
+    ensures entry { IfOk result.verdict (λ verified. verified.fields.entry ≡ asked.entry) }
+    ensures rules { IfOk result.verdict (λ verified. verified.fields.rules ≡ asked.rules) }
     ensures told { IfOk result.verdict (λ verified. IsSomeAnd result.table
-        (Tells (argument_of library.now entry) nodes.now verified.fields)) }
-    ensures accepted { AcceptedIsFound library.now entry result.verdict }
-    ensures judged { IsJudged library.now entry result.verdict }
+        (Tells (given_by asked.rules asked.library.now asked.entry) nodes.now verified.fields)) }
+    ensures accepted { AcceptedIsFound asked.rules asked.library.now asked.entry result.verdict }
+    ensures judged { IsJudged asked.rules asked.library.now asked.entry result.verdict }
 {
     match choices(alloc, &asked.given(), nodes) {
         Ok(choices) => found_with(alloc, asked, nodes, &choices),
@@ -132,12 +139,13 @@ pub fn found_of<'l>(alloc: Global, asked: Asked<'l>, nodes: &Nodes<'_>) -> Found
 
 // What is found of a macro.
 fn verified<'l>(alloc: Global, asked: Asked<'l>) -> Result<Verified<'l>, Refusal>
-    ensures library { IfOk result (λ verified. verified.library ≡ library.now.texts) }
-    ensures argument { IfOk result (λ verified. TakesDeclared library.now verified.fields) }
-    ensures entry { IfOk result (λ verified. verified.fields.entry ≡ entry) }
-    ensures accepted { AcceptedIsFound library.now entry result }
-    ensures unexpanded { RefusedIsExpansions library.now entry result }
-    ensures judged { IsJudged library.now entry result }
+    ensures library { IfOk result (λ verified. verified.library ≡ asked.library.now.texts) }
+    ensures argument { IfOk result (λ verified. TakesDeclared asked.library.now verified.fields) }
+    ensures entry { IfOk result (λ verified. verified.fields.entry ≡ asked.entry) }
+    ensures rules { IfOk result (λ verified. verified.fields.rules ≡ asked.rules) }
+    ensures accepted { AcceptedIsFound asked.rules asked.library.now asked.entry result }
+    ensures unexpanded { RefusedIsExpansions asked.library.now asked.entry result }
+    ensures judged { IsJudged asked.rules asked.library.now asked.entry result }
 {
     let nodes = expand(alloc, asked.library, asked.entry)?;
     found_of(alloc, asked, &nodes).verdict
@@ -158,12 +166,13 @@ pub fn verify_by<'l>(
     ensures library { IfOk result (λ verified. verified.library ≡ library.now.texts) }
     ensures argument { IfOk result (λ verified. TakesDeclared library.now verified.fields) }
     ensures entry { IfOk result (λ verified. verified.fields.entry ≡ entry) }
-    ensures straight { StraightIsVerified library.now entry result }
+    ensures rules { IfOk result (λ verified. verified.fields.rules ≡ rules) }
+    ensures straight { StraightIsVerified rules library.now entry result }
     ensures unexpanded { RefusedIsExpansions library.now entry result }
-    ensures underived { RefusedIsDerived library.now entry result }
-    ensures unclosed { RefusedIsUnclosed library.now entry result }
-    ensures overflow { RefusedIsOverflow library.now entry result }
-    ensures printed { PrintedIsFound library.now entry result }
+    ensures underived { RefusedIsDerived rules library.now entry result }
+    ensures unclosed { RefusedIsUnclosed rules library.now entry result }
+    ensures overflow { RefusedIsOverflow rules library.now entry result }
+    ensures printed { PrintedIsFound rules library.now entry result }
 {
     straight_texts_are_accepted();
     texts_are_within(library);
@@ -180,12 +189,13 @@ pub fn verify<'l>(alloc: Global, library: &'l Library, entry: Reg) -> Result<Ver
     ensures library { IfOk result (λ verified. verified.library ≡ library.now.texts) }
     ensures argument { IfOk result (λ verified. TakesDeclared library.now verified.fields) }
     ensures entry { IfOk result (λ verified. verified.fields.entry ≡ entry) }
-    ensures straight { StraightIsVerified library.now entry result }
+    ensures rules { IfOk result (λ verified. verified.fields.rules ≡ First) }
+    ensures straight { StraightIsVerified First library.now entry result }
     ensures unexpanded { RefusedIsExpansions library.now entry result }
-    ensures underived { RefusedIsDerived library.now entry result }
-    ensures unclosed { RefusedIsUnclosed library.now entry result }
-    ensures overflow { RefusedIsOverflow library.now entry result }
-    ensures printed { PrintedIsFound library.now entry result }
+    ensures underived { RefusedIsDerived First library.now entry result }
+    ensures unclosed { RefusedIsUnclosed First library.now entry result }
+    ensures overflow { RefusedIsOverflow First library.now entry result }
+    ensures printed { PrintedIsFound First library.now entry result }
 {
     verify_by(alloc, library, entry, Rules::First)
 }
@@ -210,7 +220,8 @@ fn certified_by<'l>(
 ) -> Result<Verified<'l>, Refusal>
     ensures library { IfOk result (λ verified. verified.library ≡ library.now.texts) }
     ensures argument { IfOk result (λ verified. TakesDeclared library.now verified.fields) }
-    ensures accepted { AcceptedIsChecked library.now bytes.now result }
+    ensures rules { IfOk result (λ verified. verified.fields.rules ≡ rules) }
+    ensures accepted { AcceptedIsChecked rules library.now bytes.now result }
 {
     one_spelling();
     let claimed = match Certificate::read(alloc, bytes) {
@@ -236,8 +247,9 @@ fn checked<'l>(
 ) -> Result<Verified<'l>, Refusal>
     ensures library { IfOk result (λ verified. verified.library ≡ library.now.texts) }
     ensures argument { IfOk result (λ verified. TakesDeclared library.now verified.fields) }
+    ensures rules { IfOk result (λ verified. verified.fields.rules ≡ rules) }
     ensures text { IfOk result (λ verified. certificate_text verified.fields ≡ bytes.now) }
-    ensures accepted { AcceptedIsChecked library.now bytes.now result }
+    ensures accepted { AcceptedIsChecked rules library.now bytes.now result }
     ensures refused { IfErr result IsOfCertificate }
 {
     let verified = match certified_by(alloc, library, bytes, rules) {
@@ -264,8 +276,9 @@ pub fn check_certificate_by<'l>(
     requires { length bytes.now ≤ LIMIT }
     ensures library { IfOk result (λ verified. verified.library ≡ library.now.texts) }
     ensures argument { IfOk result (λ verified. TakesDeclared library.now verified.fields) }
+    ensures rules { IfOk result (λ verified. verified.fields.rules ≡ rules) }
     ensures text { IfOk result (λ verified. certificate_text verified.fields ≡ bytes.now) }
-    ensures straight { StraightIsChecked library.now bytes.now result }
+    ensures straight { StraightIsChecked rules library.now bytes.now result }
     ensures refused { IfErr result IsOfCertificate }
 {
     straight_texts_are_accepted();
@@ -282,8 +295,9 @@ pub fn check_certificate<'l>(
     requires { length bytes.now ≤ LIMIT }
     ensures library { IfOk result (λ verified. verified.library ≡ library.now.texts) }
     ensures argument { IfOk result (λ verified. TakesDeclared library.now verified.fields) }
+    ensures rules { IfOk result (λ verified. verified.fields.rules ≡ First) }
     ensures text { IfOk result (λ verified. certificate_text verified.fields ≡ bytes.now) }
-    ensures straight { StraightIsChecked library.now bytes.now result }
+    ensures straight { StraightIsChecked First library.now bytes.now result }
     ensures refused { IfErr result IsOfCertificate }
 {
     check_certificate_by(alloc, library, bytes, Rules::First)
