@@ -97,9 +97,9 @@ pub record IsTaken (around : Surroundings) (known : KnownTaken) (taken : Taken) 
 abbrev pub IsLess : ℕ → Option ℤ → ℕ → Type 0
 IsLess now fall before = MatchOption fall ⊤ (λ v. (pos now +ℤ v) ≤ℤ pos before)
 
--- Since a turn began, what is ahead has fallen by so much, and so where a character stands at the pointer; what is ahead at
--- the end of the line, and so where a character stands there; what is held; and what is unread, against what was held.
--- What is unread never grows, and was a part of what was ahead.
+-- Since a turn began, what is ahead has fallen by so much, and so where a character stands at the pointer; what is
+-- ahead at the end of the line, and so where a character stands there; what is held; and what is unread, against what
+-- was held. What is unread never grows, and was a part of what was ahead.
 pub record HasFallen (around : Surroundings) (unread : ℕ) (falls : Falls) (begun : Begun) : Type 0 where
   pub fall : IsLess (around.fore + unread) falls.fall begun.ahead
   pub far : 1 ≤ around.fore → IsLess (around.fore + unread) falls.far begun.ahead
@@ -125,7 +125,8 @@ AreSaved around saved pairs = AreEach (λ s (pair : Pair). IsPlaceIf s around pa
 
 -- The pointer is at least so far from either end; no more is ahead than is known, nor has less fallen; what is saved of
 -- the registers is so; and a digit stands where one is known to.
-pub record IsAt (run : Run) (position : Position) (around : Surroundings) (unread : ℕ) (pairs : List Pair) : Type 0 where
+pub record IsAt
+    (run : Run) (position : Position) (around : Surroundings) (unread : ℕ) (pairs : List Pair) : Type 0 where
   pub begin : position.distances.back ≤ around.back
   pub end : position.distances.fore ≤ around.fore
   pub fallen : AreEach (HasFallen around unread) position.falls run.turns

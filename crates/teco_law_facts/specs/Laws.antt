@@ -79,8 +79,8 @@ abbrev pub JoinsAreSound : Type 0
 JoinsAreSound =
     (facts others : Facts) → MayMeet facts others → IfOk (joined facts others) (MeetsBoth facts others)
 
--- At the entry no iteration is open, N holds all, the texts of the library have their lengths, and nothing is pending but
--- the argument, where one is given.
+-- At the entry no iteration is open, N holds all, the texts of the library have their lengths, and nothing is pending
+-- but the argument, where one is given.
 pub record IsEntry (n : ℕ) (unread : ℕ) (kept : Kept) : Type 0 where
   pub held : length kept.text + unread ≤ n
   pub texts : (r : ℕ) → length (pair_of r kept.registers).text ≤ n
@@ -118,8 +118,8 @@ pub record HasRest (unread : ℕ) (falls : Falls) (start : Begun) : Type 0 where
   pub read : unread ≤ start.unread
   pub part : start.unread ≤ start.ahead
 
--- What is carried from turn to turn: a kept iteration began its turn with no more ahead than was at its <, and with falls
--- of those outside as they were there; and whatever is kept, no more was unread.
+-- What is carried from turn to turn: a kept iteration began its turn with no more ahead than was at its <, and with
+-- falls of those outside as they were there; and whatever is kept, no more was unread.
 pub record IsCarried (n : ℕ) (facts : Facts) (kept_iteration : Bool) (begun : Begun) (outer : List Begun) :
     Type 0 where
   pub ahead : kept_iteration ≡ true → begun.ahead ≤ value facts.position.ahead n

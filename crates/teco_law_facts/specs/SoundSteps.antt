@@ -210,7 +210,8 @@ abbrev pub unread_left : Kind → Facts → ℕ → ℕ
 unread_left (kind.Search s) facts unread = pages_left s facts unread
 unread_left k facts unread = 0
 
--- A step ends the element, or leaves fewer than so many steps to come, as many at the end as are unread and not counted.
+-- A step ends the element, or leaves fewer than so many steps to come, as many at the end as are unread and not
+-- counted.
 abbrev pub Proceeds : Kind → Run → Facts → Placed → Edges → State → ℕ → Outcome → Type 0
 Proceeds k run facts x edges old most (Next new) =
     ((unread_left k facts (unread_of new.world) + 1 ≤ most) × KindEnds k run facts x edges old new)
@@ -233,8 +234,8 @@ LaterStepsAreSound =
     → steps x.element.kind facts ≡ Ok most → IsUnderway x.element.kind run facts x edges old rest s
     → Proceeds x.element.kind run facts x edges old rest (step s)
 
--- An element that begins takes at most its own steps, and one more for each character that was unread and not counted and
--- is read then: the last of them ends it, and while work is left it is underway.
+-- An element that begins takes at most its own steps, and one more for each character that was unread and not counted
+-- and is read then: the last of them ends it, and while work is left it is underway.
 pub record Completes
     (run : Run) (facts : Facts) (x : Placed) (edges : Edges) (most : ℕ) (s : State) : Type 0 where
   pub before : ℕ

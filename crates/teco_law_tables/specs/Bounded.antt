@@ -38,10 +38,10 @@ pub data IsKnown
 -- A run is known wherever an element begins, from the call on; an argument that is given is pending there already.
 abbrev pub RunsAreDescribed : Type 0
 RunsAreDescribed =
-    (library : Library) (entry : ℕ) (rules : Rules) (argument : Option ArgumentRange) (given : Option ℕ) (nodes : List Node)
-    (table : Table) (commands most : Polynomial) (n : ℕ) (world : World)
-    → AreLinked library entry nodes → IsPrinted (entry_of rules library argument) nodes table commands most → IsAsked argument given
-    → IsReady library entry most n world → AreOpen (needs_in nodes table) world.files
+    (library : Library) (entry : ℕ) (rules : Rules) (argument : Option ArgumentRange) (given : Option ℕ)
+    (nodes : List Node) (table : Table) (commands most : Polynomial) (n : ℕ) (world : World)
+    → AreLinked library entry nodes → IsPrinted (entry_of rules library argument) nodes table commands most
+    → IsAsked argument given → IsReady library entry most n world → AreOpen (needs_in nodes table) world.files
     → (steps : ℕ) (s : State) → Reaches steps (start_given entry given world) s → s.left ≡ None
     → IsKnown library entry nodes table n world.kept.registers.stack s
 
@@ -99,9 +99,9 @@ pub record TakesFewTurns
 -- Each iteration that a run enters takes no more turns than the table tells.
 abbrev pub IterationsAreBounded : Type 0
 IterationsAreBounded =
-    (library : Library) (entry : ℕ) (rules : Rules) (argument : Option ArgumentRange) (given : Option ℕ) (nodes : List Node)
-    (table : Table) (commands most : Polynomial) (n : ℕ) (world : World)
-    → AreLinked library entry nodes → IsPrinted (entry_of rules library argument) nodes table commands most → IsAsked argument given
-    → IsReady library entry most n world → AreOpen (needs_in nodes table) world.files
+    (library : Library) (entry : ℕ) (rules : Rules) (argument : Option ArgumentRange) (given : Option ℕ)
+    (nodes : List Node) (table : Table) (commands most : Polynomial) (n : ℕ) (world : World)
+    → AreLinked library entry nodes → IsPrinted (entry_of rules library argument) nodes table commands most
+    → IsAsked argument given → IsReady library entry most n world → AreOpen (needs_in nodes table) world.files
     → (steps : ℕ) (s t : State) → Reaches steps (start_given entry given world) s → Enters s t
     → TakesFewTurns library nodes table n world.kept.registers.stack s t

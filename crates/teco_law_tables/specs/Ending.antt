@@ -24,9 +24,9 @@ use Rattle.teco_law_tables.specs.Turning.{value_of, turning}
 use Rattle.teco_verifier.specs.declared.rules.Rules.{Rules}
 use Rattle.teco_verifier.specs.facts.Facts.{entry_of}
 
--- An element that begins where a run is described takes no more steps than are known, and than there are pages that it
--- turns, without a code, and none of them a command of files; the last goes along a way, to a state that the facts on it describe, and leaves open the files that the
--- nodes need.
+-- An element that begins where a run is described takes no more steps than are known, and than there are pages that
+-- it turns, without a code, and none of them a command of files; the last goes along a way, to a state that the facts
+-- on it describe, and leaves open the files that the nodes need.
 pub record Passes
     (library : Library) (entry : ℕ) (nodes : List Node) (table : Table) (n : ℕ) (below : List Pair) (number : ℕ)
     (turns : List OpenTurn) (s : State) (here : IsDescribed library nodes table n below number turns s) :
@@ -69,10 +69,10 @@ start_given entry given world =
 
 abbrev pub RunsEndInTime : Type 0
 RunsEndInTime =
-    (library : Library) (entry : ℕ) (rules : Rules) (argument : Option ArgumentRange) (given : Option ℕ) (nodes : List Node)
-    (table : Table) (n : ℕ) (world : World)
-    → AreLinked library entry nodes → check (entry_of rules library argument) nodes table ≡ Ok tt → IsAsked argument given
-    → IsLoaded library world.kept → IsWhole world.kept → IsEntry n (unread_of world) world.kept
+    (library : Library) (entry : ℕ) (rules : Rules) (argument : Option ArgumentRange) (given : Option ℕ)
+    (nodes : List Node) (table : Table) (n : ℕ) (world : World)
+    → AreLinked library entry nodes → check (entry_of rules library argument) nodes table ≡ Ok tt
+    → IsAsked argument given → IsLoaded library world.kept → IsWhole world.kept → IsEntry n (unread_of world) world.kept
     → AreOpen (needs_in nodes table) world.files
     → ElementsPass library entry nodes table n world.kept.registers.stack (start_given entry given world)
     → EndsWithin (start_given entry given world) (steps_in (turning nodes table n) + pages_in nodes table n)

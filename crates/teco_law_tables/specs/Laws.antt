@@ -12,8 +12,8 @@ use Rattle.teco_law_tables.specs.Turning.{turning}
 use Rattle.teco_verifier.specs.facts.Facts.{Entry}
 use Rattle.teco_law_tables.specs.Following.{pages_in}
 
--- The printed number of commands is that of the table of numbers, of the digits before the call, and of the pages that are
--- counted once.
+-- The printed number of commands is that of the table of numbers, of the digits before the call, and of the pages
+-- that are counted once.
 abbrev pub CommandsAreSteps : Type 0
 CommandsAreSteps =
     (entry : Entry) (nodes : List Node) (table : Table) (printed : Polynomial) (n : ℕ)

@@ -31,8 +31,8 @@ pub record IsReady (library : Library) (entry : ℕ) (most : Polynomial) (n : �
 
 abbrev pub RunsAreVerified : Type 0
 RunsAreVerified =
-    (library : Library) (entry : ℕ) (rules : Rules) (argument : Option ArgumentRange) (given : Option ℕ) (nodes : List Node)
-    (table : Table) (steps most : Polynomial) (n : ℕ) (world : World)
-    → AreLinked library entry nodes → IsPrinted (entry_of rules library argument) nodes table steps most → IsAsked argument given
-    → IsReady library entry most n world → AreOpen (needs_in nodes table) world.files
+    (library : Library) (entry : ℕ) (rules : Rules) (argument : Option ArgumentRange) (given : Option ℕ)
+    (nodes : List Node) (table : Table) (steps most : Polynomial) (n : ℕ) (world : World)
+    → AreLinked library entry nodes → IsPrinted (entry_of rules library argument) nodes table steps most
+    → IsAsked argument given → IsReady library entry most n world → AreOpen (needs_in nodes table) world.files
     → EndsWithin (start (call_given entry given) world) (value steps n)

@@ -82,8 +82,8 @@ pub data Move (t : Table) (s new : State) : Type 0 where
   Into : Enters t s new → Move t s new
   Back : Returns t s new → Move t s new
 
--- A run of some moves from a state takes n steps; it may stop within its last element. An element takes its own steps, and
--- those that are not counted may come on top, once in the run.
+-- A run of some moves from a state takes n steps; it may stop within its last element. An element takes its own
+-- steps, and those that are not counted may come on top, once in the run.
 abbrev pub RunTakes : Table → ℕ → State → ℕ → Type 0
 RunTakes t zero s n = n ≤ t.own s.node + s.apart
 RunTakes t (suc moves) s n =

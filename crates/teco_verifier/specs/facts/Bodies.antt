@@ -17,9 +17,9 @@ use Rattle.teco_verifier.specs.facts.Ranks.{has_own_fall, rank_of}
 use Rattle.teco_verifier.specs.facts.Shifts.{saved_after}
 use Rattle.teco_verifier.specs.facts.Values.{any_number}
 
--- What is chosen: how much is held at most at the start of each turn, the least distances of the pointer there, how long
--- the texts are at most, and whether the iteration is kept: what is ahead, and the falls of those outside, are then those
--- at its <.
+-- What is chosen: how much is held at most at the start of each turn, the least distances of the pointer there, how
+-- long the texts are at most, and whether the iteration is kept: what is ahead, and the falls of those outside, are
+-- then those at its <.
 pub record Choice : Type 0 where
   pub held : Polynomial
   pub kept : Bool

@@ -18,9 +18,9 @@ use Rattle.teco_verifier.specs.facts.Values.{any_number}
 -- What is held is the buffer and the unread input; what is ahead is the part of it behind the pointer. How much there
 -- may be is told by polynomials in N.
 
--- Where the pointer is: its least distances, for each open iteration the falls since its turn began, the innermost first,
--- and how much is ahead; which registers are saved, in their order: their numbers are places of the buffer; and where a
--- digit is known to stand.
+-- Where the pointer is: its least distances, for each open iteration the falls since its turn began, the innermost
+-- first, and how much is ahead; which registers are saved, in their order: their numbers are places of the buffer;
+-- and where a digit is known to stand.
 pub record Position : Type 0 where
   pub distances : Distances
   pub falls : List Falls

@@ -81,9 +81,9 @@ falls_at_turn Second = record {
   rest = Some (pos 0);
 }
 
--- How what is ahead changes: it falls by so much at the least, if that is known; the pointer goes to the end of its line
--- or beyond, or back in its line; what is ahead falls by so much, and more text may come to the end of the buffer; the
--- next page comes.
+-- How what is ahead changes: it falls by so much at the least, if that is known; the pointer goes to the end of its
+-- line or beyond, or back in its line; what is ahead falls by so much, and more text may come to the end of the
+-- buffer; the next page comes.
 pub data Descent : Type 0 where
   By : Option ℤ → Descent
   PastLine : Descent

@@ -46,9 +46,9 @@ needed_taken facts = do
   taken ← arguments_of facts.arguments.level
   needed_value taken.value
 
--- The most that a value is, as a polynomial: of Z, of the pointer and of both together by what is held, of Z-. by what
--- is ahead, of a value in which neither distance counts positively by its constant, and of any other, as of a code, by its
--- interval; 0 at the least.
+-- The most that a value is, as a polynomial: of Z, of the pointer and of both together by what is held, of Z-. by
+-- what is ahead, of a value in which neither distance counts positively by its constant, and of any other, as of a
+-- code, by its interval; 0 at the least.
 abbrev pub bound_by : ℤ → ℤ → ℕ → ℕ → Facts → Result Polynomial Refusal
 bound_by (pos (suc zero)) (pos (suc zero)) k most facts = sum_of facts.held (number k)
 bound_by (pos zero) (pos (suc zero)) k most facts = sum_of facts.held (number k)

@@ -152,8 +152,8 @@ mark_on Digits s mark =
     s.code mark
 mark_on n s mark = mark
 
--- The least size of the buffer with which a value that is plus or minus Z, plus k, takes the way; what is unread is less
--- by that than what is held.
+-- The least size of the buffer with which a value that is plus or minus Z, plus k, takes the way; what is unread is
+-- less by that than what is held.
 abbrev pub least_size_by : Numbers → ℤ → ℤ → ℤ → ℕ → Option ℕ
 least_size_by n (pos (suc zero)) (pos (suc zero)) k m = least_taking n m k
 least_size_by n (negsuc zero) (negsuc zero) k m = least_taking (opposite n) m (neg_ℤ k)

@@ -129,8 +129,8 @@ commands entry nodes table =
     once (multiplied entry.rules nodes table)
     (count_from nodes table 1 nodes (record { total = number (steps_before entry.argument); pages = false }))
 
--- Size is at least what is held, and each text, wherever that is reached; in the second edition a text of the library is
--- left out.
+-- Size is at least what is held, and each text, wherever that is reached; in the second edition a text of the library
+-- is left out.
 abbrev pub own_texts : Rules → List (Option ℕ) → List Polynomial → List Polynomial
 own_texts First lengths texts = texts
 own_texts Second [] texts = texts
