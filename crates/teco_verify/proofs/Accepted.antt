@@ -16,7 +16,7 @@ use Rattle.teco_model.specs.Macros.{Library}
 use Rattle.teco_verifier.specs.declared.rules.Rules.{Rules}
 use Rattle.teco_verifier.specs.expansion.Node.{Node}
 use Rattle.teco_verifier.specs.expansion.Refusal as expanding
-use Rattle.teco_facts.specs.Numbers.{AreSmall, IsSmallFall}
+use Rattle.teco_facts.specs.Numbers.{AreSmall, IsSmallFalls}
 use Rattle.teco_facts.specs.declared.few.TheConstants.{DEPTH}
 use Rattle.teco_poly.specs.Polynomial.{Polynomial}
 use Rattle.teco_verifier.specs.declared.refusal.Refusal.{Refusal}
@@ -55,7 +55,7 @@ none_begins (node ∷ nodes) a = rw a.0 (none_begins nodes a.1)
 -- what is known outside of iterations is kept
 kept : (facts : Facts) → facts.position.falls ≡ [] → facts.iterations ≡ [] → AreKept facts
 kept facts falls iterations = record {
-  small = subst AreSmall (sym falls) (All-nil IsSmallFall);
+  small = subst AreSmall (sym falls) (All-nil IsSmallFalls);
   room = record { falls = subst (λ fs. length fs < DEPTH) (sym falls) (omega arith); iterations = subst (λ is. length is < DEPTH) (sym iterations) (omega arith) };
 }
 
@@ -88,6 +88,7 @@ module _ (edition : Rules) (library : Library) (entry : ℕ) (steps most : Polyn
   pub is_well_formed : entry < REGISTERS → IsWellFormed (plain_fields edition entry steps most)
   is_well_formed h = record {
     parts = record { entry = h; argument = tt; commands = accepted.prints.steps_fit; size = accepted.prints.most_fits; loops = tt };
+    distances = tt;
     order = record { numbers = λ k d h. absurd (omega (arith, h)); registers = tt };
   }
 

@@ -165,7 +165,7 @@ impl<'l> Account<'l> {
             → self.now.nodes ≡ Some those → numbered those number ≡ Some node
             → facts_at self.now.table number ≡ Some facts
             → result ≡ (if begins node then result_ok (turns_told those self.now.table number facts)
-                else None) }
+            else None) }
     {
         if !begins_iteration(&self.element(number)) {
             return None;
@@ -208,24 +208,25 @@ fn table_of(
 }
 
 // What is known of a macro.
-fn accounted<'l>(alloc: Global, asked: Asked<'l>) -> Result<Account<'l>, AllocError>
+fn accounted<'l>(alloc: Global, asked: &Asked<'l>) -> Result<Account<'l>, AllocError>
     ensures nodes { IfOk result (λ told. told.nodes
-        ≡ expanded (expansion asked.library.now.texts asked.entry)) }
+        ≡ expanded (expansion asked.now.library.now.texts asked.now.entry)) }
     ensures library { IfOk result (λ told. IfOk told.verdict
-        (λ verified. verified.library ≡ asked.library.now.texts)) }
+        (λ verified. verified.library ≡ asked.now.library.now.texts)) }
     ensures argument { IfOk result (λ told. IfOk told.verdict
-        (λ verified. TakesDeclared asked.library.now verified.fields)) }
+        (λ verified. TakesDeclared asked.now.library.now verified.fields)) }
     ensures entry { IfOk result (λ told. IfOk told.verdict
-        (λ verified. verified.fields.entry ≡ asked.entry)) }
+        (λ verified. verified.fields.entry ≡ asked.now.entry)) }
     ensures rules { IfOk result (λ told. IfOk told.verdict
-        (λ verified. verified.fields.rules ≡ asked.rules)) }
-    ensures known { IfOk result (AcceptedIsTold asked.rules asked.library.now asked.entry) }
+        (λ verified. verified.fields.rules ≡ asked.now.rules)) }
+    ensures known { IfOk result (AcceptedIsTold asked.now.rules asked.now.library.now
+        asked.now.entry) }
     ensures accepted { IfOk result (λ told.
-        AcceptedIsFound asked.rules asked.library.now asked.entry told.verdict) }
+        AcceptedIsFound asked.now.rules asked.now.library.now asked.now.entry told.verdict) }
     ensures unexpanded { IfOk result (λ told.
-        RefusedIsExpansions asked.library.now asked.entry told.verdict) }
+        RefusedIsExpansions asked.now.library.now asked.now.entry told.verdict) }
     ensures judged { IfOk result (λ told.
-        IsJudged asked.rules asked.library.now asked.entry told.verdict) }
+        IsJudged asked.now.rules asked.now.library.now asked.now.entry told.verdict) }
 {
     let nodes = match expand(alloc, asked.library, asked.entry) {
         Ok(nodes) => nodes,
@@ -282,7 +283,7 @@ pub fn account_by<'l>(
         entry,
         rules,
     };
-    accounted(alloc, asked)
+    accounted(alloc, &asked)
 }
 
 /// Tells what the verifier knows of a macro by the first edition of the rules.

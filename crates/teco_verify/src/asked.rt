@@ -19,7 +19,7 @@ pub struct Asked<'l> {
 
 // How long a text is, if there is one.
 fn length_of(text: Option<&[u8]>) -> Option<usize>
-    ensures { result ≡ option_map length (option_copied text) }
+    ensures { result ≡ option_map length (option_copied text.entry) }
 {
     match text {
         None => None,

@@ -140,13 +140,8 @@ impl Attempt {
     // Whether the choice stands.
     fn stands(&self, turns: &Poly, end: &Facts) -> bool {
         let counted = self.is_counted();
-        self.choice.stands(
-            &self.changes,
-            counted,
-            turns,
-            &self.entering,
-            Some(end),
-        )
+        self.choice
+            .stands(&self.changes, counted, turns, &self.entering, Some(end))
     }
 
     // Whether the choice stands with this end of a turn. Where all pairs that were pushed lie at

@@ -59,18 +59,20 @@ impl From<Overflow> for Flaw {
 #[tactic(auto, using(crate::proofs::Nodes::begins))]
 pub fn certified<'l>(
     alloc: Global,
-    asked: Asked<'l>,
+    asked: &Asked<'l>,
     nodes: &Nodes<'_>,
     table: &Table,
 ) -> Result<Verified<'l>, Flaw>
-    requires { expansion asked.library.now.texts asked.entry ≡ Ok nodes.now }
-    ensures library { IfOk result (λ verified. verified.library ≡ asked.library.now.texts) }
-    ensures argument { IfOk result (λ verified. TakesDeclared asked.library.now verified.fields) }
-    ensures entry { IfOk result (λ verified. verified.fields.entry ≡ asked.entry) }
-    ensures rules { IfOk result (λ verified. verified.fields.rules ≡ asked.rules) }
-    ensures value { Certifies (given_by asked.rules asked.library.now asked.entry) nodes.now table.now asked.entry result }
-    ensures told { IfOk result (λ verified. Tells (given_by asked.rules asked.library.now asked.entry)
-        nodes.now verified.fields table.now) }
+    requires { expansion asked.now.library.now.texts asked.now.entry ≡ Ok nodes.now }
+    ensures library { IfOk result (λ verified. verified.library ≡ asked.now.library.now.texts) }
+    ensures argument { IfOk result (λ verified. TakesDeclared asked.now.library.now
+        verified.fields) }
+    ensures entry { IfOk result (λ verified. verified.fields.entry ≡ asked.now.entry) }
+    ensures rules { IfOk result (λ verified. verified.fields.rules ≡ asked.now.rules) }
+    ensures value { Certifies (given_by asked.now.rules asked.now.library.now asked.now.entry)
+        nodes.now table.now asked.now.entry result }
+    ensures told { IfOk result (λ verified. Tells (given_by asked.now.rules asked.now.library.now
+        asked.now.entry) nodes.now verified.fields table.now) }
     ensures numbered { IfErr result (IsFlawIn nodes.now) }
 {
     let given = asked.given();

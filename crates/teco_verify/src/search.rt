@@ -40,11 +40,7 @@ pub struct Search {
 
 impl Search {
     /// None of so many nodes is passed.
-    pub fn new(
-        alloc: Global,
-        entry: &Entry,
-        nodes: usize,
-    ) -> Result<Search, AllocError> {
+    pub fn new(alloc: Global, entry: &Entry, nodes: usize) -> Result<Search, AllocError> {
         Ok(Search {
             alloc,
             carried: Some(Facts::entry(alloc, entry)?),
@@ -255,11 +251,7 @@ fn joined(alloc: Global, known: Option<Facts>, more: Facts, number: usize) -> Re
 ///
 /// The body of each iteration is passed at most three times, by the second edition four, for each
 /// pass of the one round it.
-pub fn choose(
-    alloc: Global,
-    entry: &Entry,
-    nodes: &Nodes<'_>,
-) -> Result<Vec<LoopLine>, Unfit>
+pub fn choose(alloc: Global, entry: &Entry, nodes: &Nodes<'_>) -> Result<Vec<LoopLine>, Unfit>
     ensures { IfErr result (IsIn nodes.now) }
 {
     let mut search = Search::new(alloc, entry, nodes.len())?;

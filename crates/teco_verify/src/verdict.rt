@@ -28,9 +28,9 @@ use teco_certificate::laws::one_spelling;
 use teco_certificate::{Certificate, CertificateFault};
 use teco_check::{Table, derive, has_iterations};
 use teco_expansion::{Nodes, expand};
+use teco_facts::Entry;
 use teco_law_tables::straight::straight_texts_are_accepted;
 use teco_library::Library;
-use teco_facts::Entry;
 use teco_verifier::{LoopLine, Rules};
 
 /// The texts of a library have no more than LIMIT characters.
@@ -71,22 +71,24 @@ impl<'l> Found<'l> {
 /// What is found with these choices.
 pub fn found_with<'l>(
     alloc: Global,
-    asked: Asked<'l>,
+    asked: &Asked<'l>,
     nodes: &Nodes<'_>,
     chosen: &[LoopLine],
 ) -> Found<'l>
-    requires { expansion asked.library.now.texts asked.entry ≡ Ok nodes.now }
-    ensures library { IfOk result.verdict (λ verified. verified.library ≡ asked.library.now.texts) }
-    ensures argument { IfOk result.verdict (λ verified. TakesDeclared asked.library.now
+    requires { expansion asked.now.library.now.texts asked.now.entry ≡ Ok nodes.now }
+    ensures library { IfOk result.verdict (λ verified. verified.library
+        ≡ asked.now.library.now.texts) }
+    ensures argument { IfOk result.verdict (λ verified. TakesDeclared asked.now.library.now
         verified.fields) }
-    ensures entry { IfOk result.verdict (λ verified. verified.fields.entry ≡ asked.entry) }
-    ensures rules { IfOk result.verdict (λ verified. verified.fields.rules ≡ asked.rules) }
+    ensures entry { IfOk result.verdict (λ verified. verified.fields.entry ≡ asked.now.entry) }
+    ensures rules { IfOk result.verdict (λ verified. verified.fields.rules ≡ asked.now.rules) }
     ensures told { IfOk result.verdict (λ verified. IsSomeAnd result.table
-        (Tells (given_by asked.rules asked.library.now asked.entry) nodes.now verified.fields)) }
-    ensures accepted { chosen.now ≡ [] → AcceptedIsFound asked.rules asked.library.now asked.entry
-        result.verdict }
-    ensures judged { chosen.now ≡ [] → IsJudged asked.rules asked.library.now asked.entry
-        result.verdict }
+        (Tells (given_by asked.now.rules asked.now.library.now asked.now.entry) nodes.now
+        verified.fields)) }
+    ensures accepted { chosen.now ≡ [] → AcceptedIsFound asked.now.rules asked.now.library.now
+        asked.now.entry result.verdict }
+    ensures judged { chosen.now ≡ [] → IsJudged asked.now.rules asked.now.library.now
+        asked.now.entry result.verdict }
 {
     let table = match derive(alloc, &asked.given(), nodes, chosen) {
         Ok(table) => table,
@@ -103,11 +105,7 @@ pub fn found_with<'l>(
 }
 
 // What is chosen for the iterations. Where there are none it is nothing.
-fn choices(
-    alloc: Global,
-    given: &Entry,
-    nodes: &Nodes<'_>,
-) -> Result<Vec<LoopLine>, Unfit>
+fn choices(alloc: Global, given: &Entry, nodes: &Nodes<'_>) -> Result<Vec<LoopLine>, Unfit>
     ensures none { list_any begins nodes.now ≡ false → ChoosesNothing result }
     ensures numbered { IfErr result (IsIn nodes.now) }
 {
@@ -119,17 +117,20 @@ fn choices(
 }
 
 /// What is found of the nodes that a macro comes to, with the choices that are found for them.
-pub fn found_of<'l>(alloc: Global, asked: Asked<'l>, nodes: &Nodes<'_>) -> Found<'l>
-    requires { expansion asked.library.now.texts asked.entry ≡ Ok nodes.now }
-    ensures library { IfOk result.verdict (λ verified. verified.library ≡ asked.library.now.texts) }
-    ensures argument { IfOk result.verdict (λ verified. TakesDeclared asked.library.now
+pub fn found_of<'l>(alloc: Global, asked: &Asked<'l>, nodes: &Nodes<'_>) -> Found<'l>
+    requires { expansion asked.now.library.now.texts asked.now.entry ≡ Ok nodes.now }
+    ensures library { IfOk result.verdict (λ verified. verified.library
+        ≡ asked.now.library.now.texts) }
+    ensures argument { IfOk result.verdict (λ verified. TakesDeclared asked.now.library.now
         verified.fields) }
-    ensures entry { IfOk result.verdict (λ verified. verified.fields.entry ≡ asked.entry) }
-    ensures rules { IfOk result.verdict (λ verified. verified.fields.rules ≡ asked.rules) }
+    ensures entry { IfOk result.verdict (λ verified. verified.fields.entry ≡ asked.now.entry) }
+    ensures rules { IfOk result.verdict (λ verified. verified.fields.rules ≡ asked.now.rules) }
     ensures told { IfOk result.verdict (λ verified. IsSomeAnd result.table
-        (Tells (given_by asked.rules asked.library.now asked.entry) nodes.now verified.fields)) }
-    ensures accepted { AcceptedIsFound asked.rules asked.library.now asked.entry result.verdict }
-    ensures judged { IsJudged asked.rules asked.library.now asked.entry result.verdict }
+        (Tells (given_by asked.now.rules asked.now.library.now asked.now.entry) nodes.now
+        verified.fields)) }
+    ensures accepted { AcceptedIsFound asked.now.rules asked.now.library.now asked.now.entry
+        result.verdict }
+    ensures judged { IsJudged asked.now.rules asked.now.library.now asked.now.entry result.verdict }
 {
     match choices(alloc, &asked.given(), nodes) {
         Ok(choices) => found_with(alloc, asked, nodes, &choices),
@@ -138,14 +139,16 @@ pub fn found_of<'l>(alloc: Global, asked: Asked<'l>, nodes: &Nodes<'_>) -> Found
 }
 
 // What is found of a macro.
-fn verified<'l>(alloc: Global, asked: Asked<'l>) -> Result<Verified<'l>, Refusal>
-    ensures library { IfOk result (λ verified. verified.library ≡ asked.library.now.texts) }
-    ensures argument { IfOk result (λ verified. TakesDeclared asked.library.now verified.fields) }
-    ensures entry { IfOk result (λ verified. verified.fields.entry ≡ asked.entry) }
-    ensures rules { IfOk result (λ verified. verified.fields.rules ≡ asked.rules) }
-    ensures accepted { AcceptedIsFound asked.rules asked.library.now asked.entry result }
-    ensures unexpanded { RefusedIsExpansions asked.library.now asked.entry result }
-    ensures judged { IsJudged asked.rules asked.library.now asked.entry result }
+fn verified<'l>(alloc: Global, asked: &Asked<'l>) -> Result<Verified<'l>, Refusal>
+    ensures library { IfOk result (λ verified. verified.library ≡ asked.now.library.now.texts) }
+    ensures argument { IfOk result (λ verified. TakesDeclared asked.now.library.now
+        verified.fields) }
+    ensures entry { IfOk result (λ verified. verified.fields.entry ≡ asked.now.entry) }
+    ensures rules { IfOk result (λ verified. verified.fields.rules ≡ asked.now.rules) }
+    ensures accepted { AcceptedIsFound asked.now.rules asked.now.library.now asked.now.entry
+        result }
+    ensures unexpanded { RefusedIsExpansions asked.now.library.now asked.now.entry result }
+    ensures judged { IsJudged asked.now.rules asked.now.library.now asked.now.entry result }
 {
     let nodes = expand(alloc, asked.library, asked.entry)?;
     found_of(alloc, asked, &nodes).verdict
@@ -181,7 +184,7 @@ pub fn verify_by<'l>(
         entry,
         rules,
     };
-    verified(alloc, asked)
+    verified(alloc, &asked)
 }
 
 /// Verifies a macro of a library by the first edition of the rules.
@@ -235,7 +238,7 @@ fn certified_by<'l>(
         entry: claimed.entry,
         rules,
     };
-    found_with(alloc, asked, &nodes, &claimed.loops).verdict
+    found_with(alloc, &asked, &nodes, &claimed.loops).verdict
 }
 
 // What is verified, where the certificate's text is that of what is found.

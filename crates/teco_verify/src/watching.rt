@@ -76,12 +76,7 @@ impl Search {
     }
 
     // Passes the nodes up to the end or the first refusal, and keeps what is known.
-    fn follow(
-        &mut self,
-        nodes: &Nodes<'_>,
-        rules: Rules,
-        trail: &mut Trail,
-    ) -> Result<(), Unfit> {
+    fn follow(&mut self, nodes: &Nodes<'_>, rules: Rules, trail: &mut Trail) -> Result<(), Unfit> {
         let mut number = 1;
         for _ in 0..passes(rules).saturating_mul(nodes.len() as u64) {
             if number > nodes.len() {
@@ -103,11 +98,7 @@ impl Search {
 }
 
 // Follows the pass to its end, or to the refusal that ends it.
-fn followed(
-    alloc: Global,
-    entry: &Entry,
-    nodes: &Nodes<'_>,
-) -> Result<Table, Unfit> {
+fn followed(alloc: Global, entry: &Entry, nodes: &Nodes<'_>) -> Result<Table, Unfit> {
     let mut search = Search::new(alloc, entry, nodes.len())?;
     let mut trail = Trail {
         known: Vec::new(alloc),
@@ -121,11 +112,7 @@ fn followed(
 
 /// What is known at each node as the choices are searched, up to the last node that is passed: in
 /// the last try, where a body is tried again; and what is chosen so far.
-pub fn watch(
-    alloc: Global,
-    entry: &Entry,
-    nodes: &Nodes<'_>,
-) -> Result<Table, AllocError> {
+pub fn watch(alloc: Global, entry: &Entry, nodes: &Nodes<'_>) -> Result<Table, AllocError> {
     match followed(alloc, entry, nodes) {
         Ok(table) => Ok(table),
         Err(_) => Err(AllocError),
