@@ -3,6 +3,7 @@ use crate::words::WordsFault;
 use std::alloc::{AllocError, AllocFailed};
 use std::io;
 use teco_tools::ToolFault;
+use teco_verdicts::AnswerFault;
 use thiserror::Error;
 
 /// Why the program ends with its status of failure.
@@ -31,6 +32,12 @@ impl From<WordsFault> for ProgramFault {
 impl From<ToolFault> for ProgramFault {
     fn from(fault: ToolFault) -> ProgramFault {
         ProgramFault::Tool(fault)
+    }
+}
+
+impl From<AnswerFault> for ProgramFault {
+    fn from(fault: AnswerFault) -> ProgramFault {
+        ProgramFault::Tool(ToolFault::Answer(fault))
     }
 }
 

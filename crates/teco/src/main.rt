@@ -17,9 +17,12 @@ use std::process::ExitCode;
 use teco_apply::Pages;
 use teco_pages::{Closing, FileHost};
 use teco_tools::{
-    Console, InPlace, Names, OUTPUT, Outcome, Prompting, Request, Run, Setting, Streams, Task,
-    apply_macro, check_macro, edit_files, explain, explain_macro, run_scripts, show, show_source,
-    trace_macro, verify_library, verify_library_as_json, verify_macro, verify_macro_as_json,
+    InPlace, Listing, Names, OUTPUT, Prompting, Run, Setting, Streams, Task, apply_macro,
+    edit_files, run_scripts, trace_macro,
+};
+use teco_verdicts::{
+    Console, Outcome, Request, check_macro, explain, explain_macro, show, show_source,
+    verify_library, verify_library_as_json, verify_macro, verify_macro_as_json,
 };
 
 /// The words are no command, or a file of macros, a certificate, standard input, standard output or
@@ -47,7 +50,7 @@ fn run<O: Write + Drop, E: Write + Drop>(
     let is_terminal = rt.stdin().is_terminal() && errors.is_terminal();
     let mut reader = Prompting::new(rt.reader(), io::writer(&errors), is_terminal);
     let mut host = FileHost::new(rt.alloc(), *rt);
-    Ok(run_scripts(rt, rt.alloc(), console, &run, &mut reader, &mut host)?)
+    Ok(run_scripts(rt, console, &run, &mut reader, &mut host)?)
 }
 
 // The library that is named, and how it writes ESC.
@@ -68,10 +71,10 @@ fn show_file<O: Write + Drop, E: Write + Drop>(
     let name = words::word(given, "FILE");
     if given.get_flag("source") {
         let form = words::form_of_source(escape);
-        return Ok(show_source(rt, rt.alloc(), console, name, form)?);
+        return Ok(show_source(rt, console, name, form)?);
     }
     let mark = words::mark_of(escape);
-    Ok(show(rt, rt.alloc(), console, name, mark)?)
+    Ok(show(rt, console, name, mark)?)
 }
 
 // `verify`, of a macro or of a library.
@@ -84,16 +87,16 @@ fn verify<O: Write + Drop, E: Write + Drop>(
     let is_json = given.get_flag("json");
     if !words::names_register(given) {
         return Ok(if is_json {
-            verify_library_as_json(rt, rt.alloc(), console, request)?
+            verify_library_as_json(rt, console, request)?
         } else {
-            verify_library(rt, rt.alloc(), console, request)?
+            verify_library(rt, console, request)?
         });
     }
     let entry = words::entry(given)?;
     Ok(if is_json {
-        verify_macro_as_json(rt, rt.alloc(), console, request, entry)?
+        verify_macro_as_json(rt, console, request, entry)?
     } else {
-        verify_macro(rt, rt.alloc(), console, request, entry)?
+        verify_macro(rt, console, request, entry)?
     })
 }
 
@@ -106,7 +109,7 @@ fn check<O: Write + Drop, E: Write + Drop>(
     let request = request(given)?;
     let entry = words::entry(given)?;
     let certificate = words::word(given, "CERT");
-    Ok(check_macro(rt, rt.alloc(), console, request, entry, certificate)?)
+    Ok(check_macro(rt, console, request, entry, certificate)?)
 }
 
 // How a macro edits files.
@@ -147,9 +150,9 @@ fn apply<'a, O: Write + Drop, E: Write + Drop>(
     if names.target == OUTPUT {
         let errors = rt.stderr();
         let mut aside = Console::new(rt.alloc(), io::writer(&errors), io::writer(&errors));
-        return Ok(apply_macro(rt, rt.alloc(), &mut aside, &task, names, &mut host)?);
+        return Ok(apply_macro(rt, &mut aside, &task, names, &mut host)?);
     }
-    Ok(apply_macro(rt, rt.alloc(), console, &task, names, &mut host)?)
+    Ok(apply_macro(rt, console, &task, names, &mut host)?)
 }
 
 // `edit`.
@@ -168,7 +171,7 @@ fn edit<O: Write + Drop, E: Write + Drop>(
         is_dry: given.get_flag("dry-run"),
         suffix: given.get_str("backup"),
     };
-    Ok(edit_files(rt, rt.alloc(), console, &task, &edit)?)
+    Ok(edit_files(rt, console, &task, &edit)?)
 }
 
 // `trace`. What the macro writes to files is dropped.
@@ -191,15 +194,17 @@ fn trace<'a, O: Write + Drop, E: Write + Drop>(
         tells_counts: false,
     };
     words::check_streams(given, false)?;
-    let names = Names {
-        source: words::source_name(given, arguments)?,
-        target: OUTPUT,
+    let listing = Listing {
+        names: Names {
+            source: words::source_name(given, arguments)?,
+            target: OUTPUT,
+        },
+        most: u64::from(words::limit(given)),
     };
     let mut files = FileHost::new(rt.alloc(), *rt);
     files.set_closing(Closing::Compares);
     let mut host = Streams::new(rt.alloc(), files, rt.reader(), io::sink());
-    let most = u64::from(words::limit(given));
-    Ok(trace_macro(rt, rt.alloc(), console, &task, names, most, &mut host)?)
+    Ok(trace_macro(rt, console, &task, listing, &mut host)?)
 }
 
 // `explain`, of a macro where a register is named, or of a word.
@@ -210,7 +215,7 @@ fn explain_what<O: Write + Drop, E: Write + Drop>(
 ) -> Result<Outcome, ProgramFault> {
     if words::names_register(given) {
         let entry = words::entry(given)?;
-        return Ok(explain_macro(rt, rt.alloc(), console, request(given)?, entry)?);
+        return Ok(explain_macro(rt, console, request(given)?, entry)?);
     }
     match explain(console, words::word(given, "LIB"))? {
         Some(outcome) => Ok(outcome),

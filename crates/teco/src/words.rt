@@ -10,7 +10,8 @@ use teco_apply::{NAME, Pages};
 use teco_base::Reg;
 use teco_base::bytes::ESC;
 use teco_source::Form;
-use teco_tools::{Escape, INPUT, OUTPUT, STREAM, Script, Setting};
+use teco_tools::{INPUT, OUTPUT, Script, Setting};
+use teco_verdicts::{Escape, STREAM};
 use thiserror::Error;
 
 /// The step limit of each command string where no other is given.

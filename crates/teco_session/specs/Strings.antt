@@ -1,5 +1,5 @@
 -- Command strings, cut from an input.
-use Rattle.std.specs.Prelude.{ℕ, ◌-◌, ◌≡◌, ◌<◌, ◌≤◌, List, length, slice_index, Bool, ◌&&◌, ◌==◌, nat_lt, Option, Some, None}
+use Rattle.std.specs.Prelude.{ℕ, ◌-◌, ◌≡◌, ◌<◌, ◌≤◌, List, [], ◌∷◌, length, slice_index, Bool, false, ◌&&◌, ◌==◌, nat_lt, Option, Some, None}
 use Rattle.std.specs.Io.KnownBytes.{IsAtEnd}
 use Rattle.teco_model.specs.Session.{string_end, IsCommandString}
 use Rattle.teco_model.specs.declared.session.Limits.{Limits}
@@ -9,6 +9,11 @@ use Rattle.teco_session.specs.declared.strings.Piece.TheVariants.{Command, Rest}
 -- whether there is a last byte and it is ESC
 abbrev pub last_is_esc : List ℕ → Bool
 last_is_esc bytes = nat_lt 0 (length bytes) && slice_index bytes (length bytes - 1) == 27
+
+-- whether there is a first byte and it is ESC
+abbrev pub first_is_esc : List ℕ → Bool
+first_is_esc [] = false
+first_is_esc (b ∷ bytes) = b == 27
 
 -- the first two successive ESC are the last two bytes
 abbrev pub IsEnded : List ℕ → Type 0

@@ -2,11 +2,12 @@
 ghost use Rattle.std.specs.Prelude.{◌≡◌, ◌≢◌, ◌≤◌, ◌<◌, ◌++◌, [], length, take, vec_len, IfOk, IfErr, IfSome, IfNone, OnOk, OnErr, true};
 ghost use Rattle.std.specs.Io.KnownBytes.{Consumes, prepend_known};
 ghost use Rattle.teco_model.specs.Session.{string_end};
-ghost use Rattle.teco_session.specs.Strings.{last_is_esc, IsEnded, IsPiece, IsUnended};
+ghost use Rattle.teco_session.specs.Strings.{first_is_esc, last_is_esc, IsEnded, IsPiece, IsUnended};
 ghost use Rattle.teco_session.specs.declared.fault.SessionFault.TheVariants as fault;
 
 use crate::ahead::{Ahead, CHUNK};
 use crate::fault::SessionFault;
+use memchr::memmem;
 use std::io::Read;
 use teco_base::bytes::ESC;
 use teco_model::Limits;
@@ -29,6 +30,13 @@ fn has_esc_last(bytes: &[u8]) -> bool
     n > 0 && bytes[n - 1] == ESC
 }
 
+// Is the first byte an ESC?
+fn has_esc_first(bytes: &[u8]) -> bool
+    ensures { result ≡ first_is_esc bytes.now }
+{
+    !bytes.is_empty() && bytes[0] == ESC
+}
+
 // How many of the bytes belong to the string that goes on with them, if its end is among them.
 fn end_behind(string: &[u8], bytes: &[u8]) -> Option<usize>
     requires { string_end string.now ≡ None }
@@ -36,14 +44,11 @@ fn end_behind(string: &[u8], bytes: &[u8]) -> Option<usize>
     ensures end { IfSome result (λ n. IsEnded (string.now ++ take n bytes.now)) }
     ensures none { IfNone result (string_end (string.now ++ bytes.now) ≡ None) }
 {
-    let mut esc = has_esc_last(string);
-    for (i, byte) in bytes.iter().enumerate() {
-        if esc && *byte == ESC {
-            return Some(i + 1);
-        }
-        esc = *byte == ESC;
+    if has_esc_last(string) && has_esc_first(bytes) {
+        return Some(1);
     }
-    None
+    let place = memmem::find(bytes, &[ESC, ESC])?;
+    Some(place + 2)
 }
 
 // Moves bytes from those ahead to a string that goes on with them, up to its end or to as many as

@@ -1,4 +1,2 @@
--- What certificates are printed and accepted, up to which N a promise holds, and what streams gave.
-pub mod Certificates
-pub mod Premise
+-- How many bytes streams gave.
 pub mod Streams

@@ -2,30 +2,24 @@
 ghost use Rattle.std.specs.Prelude.{◌≤◌, length};
 ghost use Rattle.teco_apply.specs.declared.editing.TheConstants.{NAME};
 
-use crate::checking::refuse_claim;
-use crate::claim::{Claim, accepted, read_claim};
-use crate::console::Console;
 use crate::fault::ToolFault;
-use crate::library::{library_of, read_source};
-use crate::outcome::Outcome;
-use crate::premise::{Grouped, Known};
 use crate::promise::Promise;
 use crate::reporting::Reporting;
-use crate::request::Request;
 use crate::setting::{Setting, check_settings, set_texts};
 use crate::streams::told_name;
-use crate::verifying::{refuse, refuse_macro};
 use crate::watching::{Seen, Warden};
-use std::alloc::Global;
 use std::io::{Input, Write};
 use std::rt::Files;
 use teco_apply::{Edit, Edited, Pages, edit_file};
 use teco_base::Reg;
-use teco_library::Library;
 use teco_pages::Host;
 use teco_run::Machine;
-use teco_source::{Shown, Source};
+use teco_source::Shown;
 use teco_text::GapText;
+use teco_verdicts::{
+    AnswerFault, Claim, Console, Grouped, Known, Outcome, Request, Sourced, accepted, read_claim,
+    read_library, refuse_claim, refuse_macro,
+};
 use teco_verify::{Refusal, Verified, account_of};
 
 /// A macro of a library, and how it is run on files.
@@ -97,13 +91,13 @@ fn tell_unedited<O: Write + Drop, E: Write + Drop>(
 /// Edits a file by a verified macro over the files of a host, and says what there is to be said of
 /// it.
 pub fn edit_by<H: Host + Reporting, O: Write + Drop, E: Write + Drop>(
-    alloc: Global,
     console: &mut Console<O, E>,
     task: &Task<'_, '_>,
     names: Names<'_>,
     verified: &Verified<'_>,
     host: &mut H,
 ) -> Result<Outcome, ToolFault> {
+    let alloc = console.alloc;
     let mut machine = Machine::new(alloc, GapText::new(alloc));
     machine.set_cap(task.cap);
     set_texts(&mut machine, task.settings)?;
@@ -160,20 +154,18 @@ fn conclude<O: Write + Drop, E: Write + Drop>(
 
 /// Says why a macro is refused, by its certificate if there is one.
 pub fn refuse_task<O: Write + Drop, E: Write + Drop>(
-    alloc: Global,
     console: &mut Console<O, E>,
-    source: &Source,
-    library: &Library,
+    sourced: &Sourced,
     entry: Reg,
     claim: Option<&Claim<'_>>,
     refusal: Refusal,
-) -> Result<Outcome, ToolFault> {
+) -> Result<Outcome, AnswerFault> {
     match claim {
         None => {
-            let account = account_of(alloc, library, entry)?;
-            refuse_macro(alloc, console, source, &account, refusal)
+            let account = account_of(console.alloc, &sourced.library, entry)?;
+            refuse_macro(console, &sourced.source, &account, refusal)
         }
-        Some(claim) => refuse_claim(alloc, console, source, library, entry, claim, refusal),
+        Some(claim) => refuse_claim(console, sourced, entry, claim, refusal),
     }
 }
 
@@ -181,32 +173,19 @@ pub fn refuse_task<O: Write + Drop, E: Write + Drop>(
 /// is checked, over the files of a host.
 pub fn apply_macro<R: Files + Input, H: Host + Reporting, O: Write + Drop, E: Write + Drop>(
     rt: &R,
-    alloc: Global,
     console: &mut Console<O, E>,
     task: &Task<'_, '_>,
     names: Names<'_>,
     host: &mut H,
 ) -> Result<Outcome, ToolFault> {
-    let source = read_source(rt, alloc, task.library.library, task.library.escape)?;
-    let claim = read_claim(rt, alloc, task.certificate)?;
-    let library = match library_of(alloc, &source) {
-        Ok(library) => library,
-        Err(refusal) => return refuse(console, &source, refusal),
+    let claim = read_claim(rt, console.alloc, task.certificate)?;
+    let Some(sourced) = read_library(rt, console, task.library)? else {
+        return Ok(Outcome::Refused);
     };
-    check_settings(&library, task.settings)?;
+    check_settings(&sourced.library, task.settings)?;
     let entry = task.entry;
-    match accepted(alloc, &library, entry, claim.as_ref()) {
-        Ok(verified) => edit_by(alloc, console, task, names, &verified, host),
-        Err(refusal) => {
-            refuse_task(
-                alloc,
-                console,
-                &source,
-                &library,
-                entry,
-                claim.as_ref(),
-                refusal,
-            )
-        }
+    match accepted(console.alloc, &sourced.library, entry, claim.as_ref()) {
+        Ok(verified) => edit_by(console, task, names, &verified, host),
+        Err(refusal) => Ok(refuse_task(console, &sourced, entry, claim.as_ref(), refusal)?),
     }
 }

@@ -3,14 +3,9 @@ ghost use Rattle.std.specs.Prelude.{◌≤◌, length, IsTrue};
 ghost use Rattle.teco_apply.specs.declared.editing.TheConstants.{NAME};
 
 use crate::applying::{Names, Task, edit_by, refuse_task};
-use crate::claim::{accepted, read_claim};
-use crate::console::Console;
 use crate::fault::ToolFault;
 use crate::keeping::keep;
-use crate::library::{library_of, read_source};
-use crate::outcome::Outcome;
 use crate::setting::check_settings;
-use crate::verifying::refuse;
 use std::alloc::{AllocError, Global};
 use std::fs::Files;
 use std::io::{Input, Write};
@@ -19,6 +14,7 @@ use teco_apply::NAME;
 use teco_base::bytes::ESC;
 use teco_pages::{Closed, Closing, FileHost};
 use teco_source::Shown;
+use teco_verdicts::{Console, Outcome, accepted, read_claim, read_library};
 use teco_verify::Verified;
 
 /// Files that are edited in place, each by itself.
@@ -82,14 +78,19 @@ fn tell_name<O: Write + Drop, E: Write + Drop>(console: &mut Console<O, E>, name
     ));
 }
 
+// A macro that was accepted, and how files are edited by it.
+#[derive(Clone, Copy)]
+struct Job<'a> {
+    task: &'a Task<'a, 'a>,
+    verified: &'a Verified<'a>,
+}
+
 // Edits a file, and says what became of it; none where it is left as it was because the edit
 // failed.
 fn edit_with<R, O, E>(
     rt: R,
-    alloc: Global,
     console: &mut Console<O, E>,
-    task: &Task<'_, '_>,
-    verified: &Verified<'_>,
+    job: Job<'_>,
     names: Names<'_>,
     closing: Closing,
 ) -> Result<Ended, ToolFault>
@@ -98,9 +99,9 @@ where
     O: Write + Drop,
     E: Write + Drop,
 {
-    let mut host = FileHost::new(alloc, rt);
+    let mut host = FileHost::new(console.alloc, rt);
     host.set_closing(closing);
-    let outcome = edit_by(alloc, console, task, names, verified, &mut host)?;
+    let outcome = edit_by(console, job.task, names, job.verified, &mut host)?;
     Ok(Ended {
         outcome,
         closed: host.closed(),
@@ -130,10 +131,8 @@ const FAILED: Ended = Ended {
 // Edits a file in place, once a file that would change is kept under its other name.
 fn edit_kept<R, O, E>(
     rt: &R,
-    alloc: Global,
     console: &mut Console<O, E>,
-    task: &Task<'_, '_>,
-    verified: &Verified<'_>,
+    job: Job<'_>,
     names: Names<'_>,
     suffix: &str,
 ) -> Result<Ended, ToolFault>
@@ -143,41 +142,23 @@ where
     E: Write + Drop,
 {
     let mut apart = console.apart();
-    let tried = edit_with(
-        *rt,
-        alloc,
-        &mut apart,
-        task,
-        verified,
-        names,
-        Closing::Compares,
-    )?;
+    let tried = edit_with(*rt, &mut apart, job, names, Closing::Compares)?;
     if !tried.is_change() {
         console.repeat(apart)?;
         return Ok(tried);
     }
-    if !keep(rt, alloc, console, names.source, suffix)? {
+    if !keep(rt, console, names.source, suffix)? {
         return Ok(FAILED);
     }
-    edit_with(
-        *rt,
-        alloc,
-        console,
-        task,
-        verified,
-        names,
-        Closing::ReplacesOther,
-    )
+    edit_with(*rt, console, job, names, Closing::ReplacesOther)
 }
 
 // Edits a file in place, and says what became of it.
 fn edit_one<R, O, E>(
     rt: &R,
-    alloc: Global,
     console: &mut Console<O, E>,
-    task: &Task<'_, '_>,
+    job: Job<'_>,
     given: &InPlace<'_>,
-    verified: &Verified<'_>,
     name: &str,
 ) -> Result<Ended, ToolFault>
 where
@@ -185,33 +166,15 @@ where
     O: Write + Drop,
     E: Write + Drop,
 {
-    let beside = target_of(alloc, name)?;
+    let beside = target_of(console.alloc, name)?;
     let Some(names) = names_of(name.as_bytes(), beside.as_bytes()) else {
         tell_name(console, name);
         return Ok(FAILED);
     };
     match given.suffix {
-        _ if given.is_dry => {
-            edit_with(
-                *rt,
-                alloc,
-                console,
-                task,
-                verified,
-                names,
-                Closing::Compares,
-            )
-        }
-        None => edit_with(
-            *rt,
-            alloc,
-            console,
-            task,
-            verified,
-            names,
-            Closing::ReplacesOther,
-        ),
-        Some(suffix) => edit_kept(rt, alloc, console, task, verified, names, suffix),
+        _ if given.is_dry => edit_with(*rt, console, job, names, Closing::Compares),
+        None => edit_with(*rt, console, job, names, Closing::ReplacesOther),
+        Some(suffix) => edit_kept(rt, console, job, names, suffix),
     }
 }
 
@@ -242,11 +205,9 @@ fn count<O: Write + Drop, E: Write + Drop>(
 // Edits each file in turn; one that fails is left as it was, and the others go on.
 fn edit_each<R, O, E>(
     rt: &R,
-    alloc: Global,
     console: &mut Console<O, E>,
-    task: &Task<'_, '_>,
+    job: Job<'_>,
     given: &InPlace<'_>,
-    verified: &Verified<'_>,
 ) -> Result<Outcome, ToolFault>
 where
     R: Files + Clock + Copy + Drop,
@@ -255,7 +216,7 @@ where
 {
     let mut tally = NONE;
     for name in given.files {
-        let ended = edit_one(rt, alloc, console, task, given, verified, *name)?;
+        let ended = edit_one(rt, console, job, given, *name)?;
         count(console, &mut tally, *name, ended, given.is_dry);
     }
     let Tally {
@@ -278,7 +239,6 @@ where
 /// and the others go on. A file that would stay as it is isn't replaced.
 pub fn edit_files<R, O, E>(
     rt: &R,
-    alloc: Global,
     console: &mut Console<O, E>,
     task: &Task<'_, '_>,
     given: &InPlace<'_>,
@@ -288,26 +248,20 @@ where
     O: Write + Drop,
     E: Write + Drop,
 {
-    let source = read_source(rt, alloc, task.library.library, task.library.escape)?;
-    let claim = read_claim(rt, alloc, task.certificate)?;
-    let library = match library_of(alloc, &source) {
-        Ok(library) => library,
-        Err(refusal) => return refuse(console, &source, refusal),
+    let claim = read_claim(rt, console.alloc, task.certificate)?;
+    let Some(sourced) = read_library(rt, console, task.library)? else {
+        return Ok(Outcome::Refused);
     };
-    check_settings(&library, task.settings)?;
+    check_settings(&sourced.library, task.settings)?;
     let entry = task.entry;
-    match accepted(alloc, &library, entry, claim.as_ref()) {
-        Ok(verified) => edit_each(rt, alloc, console, task, given, &verified),
-        Err(refusal) => {
-            refuse_task(
-                alloc,
-                console,
-                &source,
-                &library,
-                entry,
-                claim.as_ref(),
-                refusal,
-            )
+    match accepted(console.alloc, &sourced.library, entry, claim.as_ref()) {
+        Ok(verified) => {
+            let job = Job {
+                task,
+                verified: &verified,
+            };
+            edit_each(rt, console, job, given)
         }
+        Err(refusal) => Ok(refuse_task(console, &sourced, entry, claim.as_ref(), refusal)?),
     }
 }

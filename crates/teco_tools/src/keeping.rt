@@ -1,12 +1,11 @@
 //! Files that are kept as they were.
-use crate::console::Console;
 use crate::fault::ToolFault;
 use crate::reporting::tell_trouble;
-use std::alloc::Global;
 use std::fs::Files;
 use std::io::Write;
 use std::time::Clock;
 use teco_pages::{Failed, FileHost, Host};
+use teco_verdicts::Console;
 
 /// The bytes that are copied at a time.
 const PIECE: usize = 1 << 16;
@@ -47,7 +46,6 @@ fn copy<H: Host>(
 /// and says whether that could be done. It says why not.
 pub fn keep<R, O, E>(
     rt: &R,
-    alloc: Global,
     console: &mut Console<O, E>,
     name: &[u8],
     suffix: &str,
@@ -57,6 +55,7 @@ where
     O: Write + Drop,
     E: Write + Drop,
 {
+    let alloc = console.alloc;
     let mut target = name.to_vec(alloc)?;
     target.extend_from_slice(suffix.as_bytes())?;
     let mut piece = vec![in alloc; 0; PIECE]?;

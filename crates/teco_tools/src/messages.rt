@@ -1,8 +1,8 @@
 //! What is said of files that could not be used.
-use crate::console::Voice;
 use std::io::Write;
 use teco_pages::{Purpose, Trouble};
 use teco_source::Shown;
+use teco_verdicts::Voice;
 
 // The code that is typed for it.
 fn code_of(purpose: Purpose) -> &'static str {

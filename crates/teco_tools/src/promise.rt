@@ -1,6 +1,6 @@
 //! What a verified macro promises.
-use crate::premise::Premise;
 use teco_poly::Poly;
+use teco_verdicts::Premise;
 use teco_verify::Verified;
 
 /// What a verified macro promises: to end within so many commands, for texts up to a length.

@@ -1,10 +1,10 @@
 //! What hosts of files say of their calls.
-use crate::console::Voice;
 use crate::messages::tell;
 use std::fs::Files;
 use std::io::Write;
 use std::time::Clock;
 use teco_pages::{FileHost, Trouble};
+use teco_verdicts::Voice;
 
 /// A host that says what is left of its input, and why its last call that failed did.
 pub trait Reporting {

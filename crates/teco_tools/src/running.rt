@@ -1,13 +1,12 @@
 //! `run`: sessions on standard input, on files and on words of the command line.
-use crate::console::{Console, Voice};
+ghost use Rattle.std.specs.Prelude.{◌≤◌};
+ghost use Rattle.teco_base.specs.declared.TheConstants.{LIMIT};
+
 use crate::fault::ToolFault;
-use crate::files::read_file;
-use crate::forms::{Escape, form_of, form_of_word};
-use crate::outcome::Outcome;
 use crate::reporting::tell_trouble;
 use crate::setting::{Setting, set_texts};
 use crate::strings::Progress;
-use crate::telling::{code_of, element_at, letters, size_of, tell_macro};
+use crate::telling::{code_of, size_of, tell_macro};
 use std::alloc::{AllocError, Global};
 use std::fs::Files;
 use std::io::{Input, Read, Write};
@@ -20,6 +19,9 @@ use teco_run::{Machine, Stop, Stopped};
 use teco_session::{Conduct, Done, Listener, session_heard};
 use teco_source::{Shown, Source};
 use teco_text::{GapText, TextStore};
+use teco_verdicts::{
+    Console, Escape, Outcome, Voice, element_at, form_of, form_of_word, letters, read_file,
+};
 
 /// What command strings are read from.
 #[derive(Clone, Copy)]
@@ -57,7 +59,27 @@ struct Teller<'a, E: Write + Drop> {
     number: u64,
 }
 
-impl<E: Write + Drop> Teller<'_, E> {
+impl<'a, E: Write + Drop> Teller<'a, E> {
+    // Tells of the command strings of a stream.
+    fn of_stream(voice: &'a mut Voice<E>) -> Teller<'a, E> {
+        Teller {
+            voice,
+            source: None,
+            begin: 0,
+            number: 0,
+        }
+    }
+
+    // Tells of the command strings of a source, by their lines.
+    fn of_source(voice: &'a mut Voice<E>, source: &'a Source) -> Teller<'a, E> {
+        Teller {
+            voice,
+            source: Some(source),
+            begin: 0,
+            number: 0,
+        }
+    }
+
     // Says where in a command string it stopped.
     fn tell_string<T: TextStore>(
         &mut self,
@@ -165,41 +187,27 @@ fn source_of<R: Files + Input>(
     }
 }
 
-// A session that a reader gives, whose stops are told.
-fn converse<T, S, O, F, E>(
-    alloc: Global,
-    machine: &mut Machine<T>,
-    reader: &mut S,
-    out: &mut O,
-    host: &mut FileHost<F>,
-    run: &Run<'_, '_>,
-    teller: &mut Teller<'_, E>,
-) -> Result<Done, ToolFault>
-where
-    T: TextStore,
-    S: Read,
-    O: Write,
-    F: Files + Clock + Drop,
-    E: Write + Drop,
-{
-    let conduct = Conduct {
-        limits: Limits {
-            steps: run.limit,
-            length: LIMIT,
-        },
-        until_code: run.until_code,
-    };
-    let done = session_heard(alloc, machine, reader, out, host, conduct, teller)?;
-    Ok(done)
+impl Run<'_, '_> {
+    // How a session is conducted.
+    fn conduct(&self) -> Conduct
+        ensures { result.limits.length ≤ LIMIT }
+    {
+        Conduct {
+            limits: Limits {
+                steps: self.limit,
+                length: LIMIT,
+            },
+            until_code: self.until_code,
+        }
+    }
 }
 
 // Runs what a reader gives.
 fn run_stream<S, F, O, E>(
-    alloc: Global,
-    machine: &mut Machine<GapText>,
-    reader: &mut S,
-    run: &Run<'_, '_>,
     console: &mut Console<O, E>,
+    machine: &mut Machine<GapText>,
+    run: &Run<'_, '_>,
+    reader: &mut S,
     host: &mut FileHost<F>,
 ) -> Result<Done, ToolFault>
 where
@@ -208,30 +216,26 @@ where
     O: Write + Drop,
     E: Write + Drop,
 {
-    let mut teller = Teller {
-        voice: &mut console.voice,
-        source: None,
-        begin: 0,
-        number: 0,
-    };
-    converse(
-        alloc,
+    let mut teller = Teller::of_stream(&mut console.voice);
+    let out = &mut console.out;
+    let conduct = run.conduct();
+    Ok(session_heard(
+        console.alloc,
         machine,
         reader,
-        &mut console.out,
+        out,
         host,
-        run,
+        conduct,
         &mut teller,
-    )
+    )?)
 }
 
 // Runs what a source says.
 fn run_source<F, O, E>(
-    alloc: Global,
-    machine: &mut Machine<GapText>,
-    source: &Source,
-    run: &Run<'_, '_>,
     console: &mut Console<O, E>,
+    machine: &mut Machine<GapText>,
+    run: &Run<'_, '_>,
+    source: &Source,
     host: &mut FileHost<F>,
 ) -> Result<Done, ToolFault>
 where
@@ -240,45 +244,18 @@ where
     E: Write + Drop,
 {
     let mut text = source.text();
-    let mut teller = Teller {
-        voice: &mut console.voice,
-        source: Some(source),
-        begin: 0,
-        number: 0,
-    };
-    converse(
-        alloc,
+    let mut teller = Teller::of_source(&mut console.voice, source);
+    let out = &mut console.out;
+    let conduct = run.conduct();
+    Ok(session_heard(
+        console.alloc,
         machine,
         &mut text,
-        &mut console.out,
+        out,
         host,
-        run,
+        conduct,
         &mut teller,
-    )
-}
-
-// Runs a script.
-fn run_script<R, S, F, O, E>(
-    rt: &R,
-    alloc: Global,
-    machine: &mut Machine<GapText>,
-    script: Script<'_>,
-    reader: &mut S,
-    run: &Run<'_, '_>,
-    console: &mut Console<O, E>,
-    host: &mut FileHost<F>,
-) -> Result<Done, ToolFault>
-where
-    R: Files + Input,
-    S: Read,
-    F: Files + Clock + Drop,
-    O: Write + Drop,
-    E: Write + Drop,
-{
-    match source_of(rt, alloc, script, run.escape)? {
-        None => run_stream(alloc, machine, reader, run, console, host),
-        Some(source) => run_source(alloc, machine, &source, run, console, host),
-    }
+    )?)
 }
 
 // Says what a run leaves that is lost: an output that isn't closed, and text that the end of the
@@ -305,7 +282,6 @@ fn tell_left<O: Write + Drop, E: Write + Drop>(
 /// end it; a command string that ends the session does.
 pub fn run_scripts<R, S, F, O, E>(
     rt: &R,
-    alloc: Global,
     console: &mut Console<O, E>,
     run: &Run<'_, '_>,
     reader: &mut S,
@@ -318,13 +294,17 @@ where
     O: Write + Drop,
     E: Write + Drop,
 {
+    let alloc = console.alloc;
     let mut machine = Machine::new(alloc, GapText::new(alloc));
     machine.set_cap(run.cap);
     set_texts(&mut machine, run.settings)?;
     let mut outcome = Outcome::Done;
     let mut is_exit = false;
     for script in run.scripts {
-        let done = run_script(rt, alloc, &mut machine, *script, reader, run, console, host)?;
+        let done = match source_of(rt, alloc, *script, run.escape)? {
+            None => run_stream(console, &mut machine, run, reader, host)?,
+            Some(source) => run_source(console, &mut machine, run, &source, host)?,
+        };
         if done.coded {
             outcome = Outcome::Coded;
         }

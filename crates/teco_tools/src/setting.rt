@@ -5,13 +5,13 @@ ghost use Rattle.teco_base.specs.declared.TheConstants.{LIMIT};
 ghost use Rattle.teco_regs.specs.Texts.{IsTextWithinLimit};
 
 use crate::fault::ToolFault;
-use crate::forms::{Escape, form_of_word};
 use std::alloc::{AllocError, Global};
 use teco_base::{LIMIT, REGISTERS, Reg};
 use teco_library::Library;
 use teco_run::Machine;
 use teco_source::Source;
 use teco_text::TextStore;
+use teco_verdicts::{Escape, form_of_word};
 
 /// A word of the command line that gives a register a text, as `A=TEXT`.
 #[derive(Drop)]

@@ -1,14 +1,12 @@
 //! What is said of stops: the code, where it was met, and what it means.
-use crate::console::Voice;
 use std::io::Write;
-use std::str;
 use teco_base::{Code, Reg};
 use teco_explain::note_of_code;
-use teco_lex::element;
 use teco_model::HostFault;
 use teco_run::{Machine, Stop, Stopped};
 use teco_source::{Position, Shown};
 use teco_text::TextStore;
+use teco_verdicts::{Voice, element_at, letters};
 
 /// The code that is typed for a stop.
 pub fn code_of(stop: Stop) -> Option<Code> {
@@ -21,26 +19,6 @@ pub fn code_of(stop: Stop) -> Option<Code> {
         Stop::HostFault(HostFault::In) => Some(Code::Inp),
         Stop::HostFault(HostFault::Out) => Some(Code::Out),
     }
-}
-
-/// The letters of a code.
-pub fn letters(code: Code) -> &'static str {
-    str::from_utf8(code.name().as_slice()).unwrap_or("")
-}
-
-/// The part of a text that the element at a place takes.
-pub fn element_at(text: &[u8], place: usize) -> &[u8] {
-    if place > text.len() {
-        return &[];
-    }
-    let behind = match element(text, place) {
-        Ok(Some(found)) => found.next,
-        _ => text.len().min(place.saturating_add(1)),
-    };
-    text.get(..behind)
-        .unwrap_or(text)
-        .get(place..)
-        .unwrap_or(&[])
 }
 
 /// The pointer, and the length of the buffer.

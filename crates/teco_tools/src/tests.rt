@@ -10,7 +10,7 @@ use std::{fs, io};
 use teco_apply::Pages;
 use teco_base::Reg;
 use teco_pages::FileHost;
-use teco_verifier::Refusal as Why;
+use teco_verdicts::{Console, Escape, Outcome, Request};
 
 /// Writers over memory, in place of standard output and standard error.
 fn kept(rt: &HostRuntime) -> Console<Vec<u8>, Vec<u8>> {
@@ -52,77 +52,6 @@ fn task(rt: &impl Abort, library: Request<'static>) -> Task<'static, 'static> {
 // What is read is text.
 fn text_of(rt: &HostRuntime, bytes: &[u8]) -> Result<String, Fail> {
     Ok(String::from_utf8_lossy(rt.alloc(), bytes)?)
-}
-
-#[test]
-fn premises_are_the_last(rt: HostRuntime) -> Result<(), Fail> {
-    let rows: [(&[u8], &[u8], &str); 4] = [
-        (
-            b"1 + 2*N",
-            b"8 + 4*N",
-            "holds for texts up to N = 134,217,727 characters",
-        ),
-        (
-            b"12 + 13*N",
-            b"7 + 9*N",
-            "holds for texts up to N = 20,648,880 characters",
-        ),
-        (b"2147483647 + N", b"4294967301", "holds for no text"),
-        (
-            b"N",
-            b"5",
-            "holds for texts up to N = 268,435,456 characters",
-        ),
-    ];
-    for (size, commands, said) in rows {
-        let (Some(size), Some(commands)) = (
-            teco_poly::Poly::read(size),
-            teco_poly::Poly::read(commands),
-        ) else {
-            panic!(rt; "polynomials");
-        };
-        let printed = format!(in rt.alloc(); "{}", Premise::of(&size, &commands))?;
-        assert_eq!(rt; printed.as_str(), said);
-    }
-    Ok(())
-}
-
-#[test]
-fn a_macro_is_verified(rt: HostRuntime) -> Result<(), Fail> {
-    let request = library_file(&rt, "somleut_tools_verified", b"@^UA/J<Sfoo$;I!$>/")?;
-    let mut console = kept(&rt);
-    let Some(entry) = Reg::of(b'A') else {
-        panic!(rt; "a register");
-    };
-    let outcome = verify_macro(&rt, rt.alloc(), &mut console, request, entry);
-    fs::remove_file(&rt, "somleut_tools_verified")?;
-    assert!(rt; matches!(outcome, Ok(Outcome::Done)));
-    assert_eq!(rt;
-        console.out.as_slice(),
-        b"TECO-CERT 1\nentry A\nneeds -\ncommands 8 + 4*N\nsize 1 + 2*N\nloop 3 held 2*N kept texts -\nend\n".as_slice()
-    );
-    Ok(())
-}
-
-#[test]
-fn refusals_are_printed(rt: HostRuntime) -> Result<(), Fail> {
-    let rows: [(Why, Option<Reg>, usize, &str); 5] = [
-        (Why::Place, Reg::of(b'a'), 1, "refused X6 in A at 1"),
-        (Why::Bound, Reg::of(b'0'), 12, "refused X10 in 0 at 12"),
-        (Why::Overflow, Reg::of(b'Z'), 0, "refused X17 in Z at 0"),
-        (Why::Library, None, 3, "refused X1 at 3"),
-        (Why::Certificate, None, 0, "refused X18"),
-    ];
-    for (i, (why, register, place, line)) in rows.iter().enumerate() {
-        let verdict = Verdict {
-            why: *why,
-            register: *register,
-            place: *place,
-        };
-        let printed = format!(in rt.alloc(); "{verdict}")?;
-        assert_eq!(rt; printed.as_str(), *line, "row {i}");
-    }
-    Ok(())
 }
 
 // Words that are run, whether the first code ends it, what is typed, and what is said.
@@ -183,14 +112,7 @@ fn words_are_run(rt: HostRuntime) -> Result<(), Fail> {
         };
         let mut console = kept(&rt);
         let mut host = FileHost::new(rt.alloc(), rt);
-        let outcome = run_scripts(
-            &rt,
-            rt.alloc(),
-            &mut console,
-            &run,
-            &mut io::empty(),
-            &mut host,
-        );
+        let outcome = run_scripts(&rt, &mut console, &run, &mut io::empty(), &mut host);
         assert!(rt; outcome.is_ok(), "row {i}");
         let (written, messages) = console.into_parts();
         assert_eq!(rt;

@@ -3,14 +3,10 @@ ghost use Rattle.std.specs.Prelude.{◌≤◌, IfOk, length};
 ghost use Rattle.teco_base.specs.declared.TheConstants.{LIMIT};
 
 use crate::applying::{Names, Task};
-use crate::console::Console;
 use crate::fault::ToolFault;
-use crate::library::{library_of, read_source};
-use crate::outcome::Outcome;
 use crate::reporting::{Reporting, tell_trouble};
 use crate::setting::{check_settings, set_texts};
-use crate::telling::{code_of, element_at, letters, size_of, tell_macro};
-use crate::verifying::refuse;
+use crate::telling::{code_of, size_of, tell_macro};
 use std::alloc::Global;
 use std::io::{Input, Write};
 use std::rt::Files;
@@ -22,6 +18,7 @@ use teco_pages::Host;
 use teco_run::{Machine, Progress, Site, Stopped};
 use teco_source::{Position, Shown};
 use teco_text::{GapText, TextStore};
+use teco_verdicts::{AnswerFault, Console, Outcome, element_at, letters, read_library};
 
 /// What stands over the steps.
 const HEAD: &str = "step\tplace\telement\tpointer\tlength\tanswer\ttyped\n";
@@ -42,7 +39,7 @@ fn within_limit(text: &[u8]) -> Result<&[u8], ToolFault>
     ensures { IfOk result (λ text. length text.now ≤ LIMIT) }
 {
     if text.len() > LIMIT {
-        return Err(ToolFault::Memory);
+        return Err(AnswerFault::Memory.into());
     }
     Ok(text)
 }
@@ -137,7 +134,6 @@ fn tell_code<O: Write + Drop, E: Write + Drop>(console: &mut Console<O, E>, code
 
 // Does the steps of a command string one by one, and lists them.
 fn follow<T: TextStore, H: Host + Reporting, O: Write + Drop, E: Write + Drop>(
-    alloc: Global,
     console: &mut Console<O, E>,
     machine: &mut Machine<T>,
     text: &[u8],
@@ -148,7 +144,7 @@ fn follow<T: TextStore, H: Host + Reporting, O: Write + Drop, E: Write + Drop>(
     let mut execution = machine.begin(command)?;
     for steps in 0..most {
         let site = execution.site();
-        let shown = shown_site(alloc, machine, command, &site)?;
+        let shown = shown_site(console.alloc, machine, command, &site)?;
         let progress = machine.step(&mut execution, host);
         if let Some(stop) = stop_of(progress, steps) {
             let stopped = Stopped { stop, steps, site };
@@ -161,35 +157,45 @@ fn follow<T: TextStore, H: Host + Reporting, O: Write + Drop, E: Write + Drop>(
     Ok(Outcome::Done)
 }
 
-/// Lists the steps of a macro of a library on a file, `most` at most: the number of each, the
+/// The file whose steps are listed, and how many are at most.
+#[derive(Clone, Copy)]
+pub struct Listing<'a> {
+    pub names: Names<'a>,
+    pub most: u64,
+}
+
+/// Lists the steps of a macro of a library on a file, up to the most: the number of each, the
 /// register and the line and column of its element, the element, and the pointer, the length of the
 /// buffer, the value that is pending and what was typed behind it. The macro need not be one that
 /// is accepted.
 pub fn trace_macro<R: Files + Input, H: Host + Reporting, O: Write + Drop, E: Write + Drop>(
     rt: &R,
-    alloc: Global,
     console: &mut Console<O, E>,
     task: &Task<'_, '_>,
-    names: Names<'_>,
-    most: u64,
+    listing: Listing<'_>,
     host: &mut H,
 ) -> Result<Outcome, ToolFault> {
-    let source = read_source(rt, alloc, task.library.library, task.library.escape)?;
-    let library = match library_of(alloc, &source) {
-        Ok(library) => library,
-        Err(refusal) => return refuse(console, &source, refusal),
+    let Some(sourced) = read_library(rt, console, task.library)? else {
+        return Ok(Outcome::Refused);
     };
-    check_settings(&library, task.settings)?;
+    check_settings(&sourced.library, task.settings)?;
+    let alloc = console.alloc;
     let mut machine = Machine::new(alloc, GapText::new(alloc));
     machine.set_cap(task.cap);
     set_texts(&mut machine, task.settings)?;
-    let opening = opening(alloc, &names)?;
+    let opening = opening(alloc, &listing.names)?;
     let stopped = machine.run_to_stop(within_limit(&opening)?, u64::MAX, host);
     if code_of(stopped.stop).is_some() {
         return Ok(conclude(console, &machine, &stopped, host));
     }
-    machine.load(library.texts())?;
+    machine.load(sourced.library.texts())?;
     console.answer(HEAD)?;
     let command = call(alloc, task.entry, task.argument)?;
-    follow(alloc, console, &mut machine, command.as_bytes(), most, host)
+    follow(
+        console,
+        &mut machine,
+        command.as_bytes(),
+        listing.most,
+        host,
+    )
 }

@@ -1,10 +1,8 @@
 //! What is seen, and said, of the runs of a verified macro on files.
-use crate::console::Voice;
-use crate::premise::Grouped;
 use crate::promise::Promise;
 use crate::reporting::{Reporting, tell_trouble};
 use crate::streams::told_name;
-use crate::telling::{code_of, letters, tell_macro};
+use crate::telling::{code_of, tell_macro};
 use std::io::Write;
 use teco_apply::Guard;
 use teco_base::Code;
@@ -14,6 +12,7 @@ use teco_run::{Machine, Stop, Stopped};
 use teco_session::Listener;
 use teco_source::Shown;
 use teco_text::TextStore;
+use teco_verdicts::{Grouped, Voice, letters};
 
 /// What was seen of the runs on a file. A number that can't be told is none.
 #[derive(Clone, Copy, Debug, PartialEq, Eq)]

@@ -1,8 +1,7 @@
 // Files that are edited, by pages and in place.
 use super::{kept, library_file, task, text_of};
 use crate::{
-    Escape, INPUT, InPlace, Names, OUTPUT, Outcome, Setting, Streams, Task, ToolFault, apply_macro,
-    edit_files,
+    INPUT, InPlace, Names, OUTPUT, Setting, Streams, Task, ToolFault, apply_macro, edit_files,
 };
 use std::alloc::Global;
 use std::process::Abort;
@@ -10,6 +9,7 @@ use std::test::Fail;
 use std::{fs, io};
 use teco_apply::Pages;
 use teco_pages::FileHost;
+use teco_verdicts::{Escape, Outcome};
 
 /// Puts bar in the place of each foo.
 const REPLACES: &[u8] = b"@^UA/J<FSfoo$bar$;>/";
@@ -80,7 +80,7 @@ fn pages_are_edited(rt: HostRuntime) -> Result<(), Fail> {
         };
         let mut console = kept(&rt);
         let mut host = FileHost::new(rt.alloc(), rt);
-        let outcome = apply_macro(&rt, rt.alloc(), &mut console, &task, names, &mut host)?;
+        let outcome = apply_macro(&rt, &mut console, &task, names, &mut host)?;
         assert_eq!(rt; outcome, *wanted, "row {i}");
         let (typed, messages) = console.into_parts();
         assert!(rt; typed.is_empty(), "row {i}");
@@ -112,7 +112,7 @@ fn a_strict_edit_is_refused_outside_the_promise(rt: HostRuntime) -> Result<(), F
     };
     let mut console = kept(&rt);
     let mut host = FileHost::new(rt.alloc(), rt);
-    let outcome = apply_macro(&rt, rt.alloc(), &mut console, &task, names, &mut host)?;
+    let outcome = apply_macro(&rt, &mut console, &task, names, &mut host)?;
     assert_eq!(rt; outcome, Outcome::Refused);
     let (_, messages) = console.into_parts();
     assert_eq!(rt;
@@ -151,7 +151,7 @@ fn streams_are_edited(rt: HostRuntime) -> Result<(), Fail> {
         let mut console = kept(&rt);
         let files = FileHost::new(rt.alloc(), rt);
         let mut host = Streams::new(rt.alloc(), files, THREE, Vec::new(rt.alloc()));
-        let outcome = apply_macro(&rt, rt.alloc(), &mut console, &task, names, &mut host)?;
+        let outcome = apply_macro(&rt, &mut console, &task, names, &mut host)?;
         let (_, messages) = console.into_parts();
         assert_eq!(rt; outcome, Outcome::Done, "{}", text_of(&rt, &messages)?);
         let (_, written) = host.into_parts();
@@ -163,7 +163,7 @@ fn streams_are_edited(rt: HostRuntime) -> Result<(), Fail> {
     };
     let files = FileHost::new(rt.alloc(), rt);
     let mut host = Streams::new(rt.alloc(), files, THREE, io::sink());
-    let outcome = apply_macro(&rt, rt.alloc(), &mut kept(&rt), &task, names, &mut host);
+    let outcome = apply_macro(&rt, &mut kept(&rt), &task, names, &mut host);
     assert!(rt; matches!(outcome, Err(ToolFault::Unsized)));
     fs::remove_file(&rt, "somleut_tools_stream")?;
     Ok(())
@@ -193,7 +193,7 @@ fn registers_are_set(rt: HostRuntime) -> Result<(), Fail> {
         ..task(&rt, request)
     };
     let mut host = FileHost::new(rt.alloc(), rt);
-    let outcome = apply_macro(&rt, rt.alloc(), &mut kept(&rt), &good, names, &mut host)?;
+    let outcome = apply_macro(&rt, &mut kept(&rt), &good, names, &mut host)?;
     assert_eq!(rt; outcome, Outcome::Done);
     assert_eq!(rt;
         fs::read(&rt, "somleut_tools_plain")?.as_slice(),
@@ -203,7 +203,7 @@ fn registers_are_set(rt: HostRuntime) -> Result<(), Fail> {
         settings: &taken,
         ..task(&rt, request)
     };
-    let outcome = apply_macro(&rt, rt.alloc(), &mut kept(&rt), &bad, names, &mut host);
+    let outcome = apply_macro(&rt, &mut kept(&rt), &bad, names, &mut host);
     assert!(rt; matches!(outcome, Err(ToolFault::Taken { register: 'A' })));
     fs::remove_file(&rt, "somleut_tools_set")?;
     fs::remove_file(&rt, "somleut_tools_plain")?;
@@ -261,7 +261,7 @@ fn files_are_edited_in_place(rt: HostRuntime) -> Result<(), Fail> {
             suffix: *suffix,
         };
         let mut console = kept(&rt);
-        let outcome = edit_files(&rt, rt.alloc(), &mut console, &task(&rt, request), &given);
+        let outcome = edit_files(&rt, &mut console, &task(&rt, request), &given);
         assert!(rt; matches!(outcome, Ok(Outcome::Coded)), "row {i}");
         let (written, messages) = console.into_parts();
         assert_eq!(rt; written.as_slice(), b"?FNF\r\n".as_slice(), "row {i}");

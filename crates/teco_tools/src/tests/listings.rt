@@ -1,40 +1,11 @@
-// What is listed, prompted and printed for machines.
-use super::{kept, library_file, register, task, text_of};
-use crate::{
-    Names, OUTPUT, Outcome, Prompting, Streams, trace_macro, verify_library_as_json,
-    verify_macro_as_json,
-};
+// What is listed and prompted.
+use super::{kept, library_file, task, text_of};
+use crate::{Listing, Names, OUTPUT, Prompting, Streams, trace_macro};
 use std::io::Read;
 use std::test::Fail;
 use std::{fs, io};
 use teco_pages::FileHost;
-
-#[test]
-fn verdicts_are_json(rt: HostRuntime) -> Result<(), Fail> {
-    let request = library_file(
-        &rt,
-        "somleut_tools_json",
-        b"@^UA/J<Sfoo$;I!$>/\n@^UB/J\n5C/@^UC~J2147483647U0Q0<I*$>~",
-    )?;
-    let rows =
-        "{\"macro\": \"A\", \"accepted\": true, \"commands\": [8, 4], \"size\": [1, 2], \"needs_input\": false, \"needs_output\": false, \"greatest_n\": 134217727}\n{\"macro\": \"B\", \"accepted\": false, \"refusal\": \"X6\", \"register\": \"B\", \"place\": 3, \"line\": 3, \"column\": 2}\n";
-    let mut console = kept(&rt);
-    let outcome = verify_library_as_json(&rt, rt.alloc(), &mut console, request)?;
-    assert_eq!(rt; outcome, Outcome::Refused);
-    let written = text_of(&rt, &console.out)?;
-    assert!(rt; written.as_str().starts_with(rows), "{written}");
-    assert!(rt;
-        written.as_str().ends_with("\"greatest_n\": null}\n"),
-        "{written}"
-    );
-    let mut console = kept(&rt);
-    let entry = register(&rt, b'B');
-    let outcome = verify_macro_as_json(&rt, rt.alloc(), &mut console, request, entry)?;
-    assert_eq!(rt; outcome, Outcome::Refused);
-    assert!(rt; rows.ends_with(text_of(&rt, &console.out)?.as_str()));
-    fs::remove_file(&rt, "somleut_tools_json")?;
-    Ok(())
-}
+use teco_verdicts::Outcome;
 
 #[test]
 fn steps_are_listed(rt: HostRuntime) -> Result<(), Fail> {
@@ -61,7 +32,7 @@ fn steps_are_listed(rt: HostRuntime) -> Result<(), Fail> {
         let files = FileHost::new(rt.alloc(), rt);
         let mut host = Streams::new(rt.alloc(), files, io::empty(), io::sink());
         let task = task(&rt, request);
-        let outcome = trace_macro(&rt, rt.alloc(), &mut console, &task, names, most, &mut host)?;
+        let outcome = trace_macro(&rt, &mut console, &task, Listing { names, most }, &mut host)?;
         assert_eq!(rt; outcome, Outcome::Done);
         let (written, messages) = console.into_parts();
         assert_eq!(rt; text_of(&rt, &written)?.as_str(), listed);

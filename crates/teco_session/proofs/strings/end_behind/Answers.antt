@@ -1,36 +1,34 @@
-use Rattle.std.proofs.Common.{◌≡◌, ◌≢◌, ℕ, Bool, true, false, ◌&&◌, ◌==◌, get_or, refl, ap, sym, ◌∙◌, append-nil}
-use Rattle.std.proofs.lemmas.Bool.{ne_eqb}
-use Rattle.std.proofs.lemmas.List.{take_all}
-use Rattle.teco_session.proofs.Pairs.{IsEnded-next, endless-next, esc_last-next, last_is_esc-value}
+use Rattle.std.proofs.Common.{◌≡◌, ◌∙◌, sym}
+use Rattle.teco_session.proofs.Pairs.{AreApart, apart_by_first, apart_by_last, ended_at_meeting, endless_behind, ended_within}
 use Rattle.teco_session.proofs.strings.end_behind.Goals as goal
-use Rattle.teco_session.proofs.strings.end_behind.Goals.{else-esc-via-then-esc+else-byte-eq-ESC, else-esc-via-else-esc}
+use Rattle.teco_session.proofs.strings.end_behind.Goals.{else-has_esc_last-via-then-has_esc_last+else-has_esc_first, else-has_esc_last-via-else-has_esc_last}
 
-other_byte : (t : Bool) (b : ℕ) → b ≢ 27 → (t && b == 27) ≡ false
-other_byte true b other = ne_eqb b 27 other
-other_byte false b other = refl
+pub returns-then-has_esc_first-clause-end : goal.returns-then-has_esc_first-clause-end
+returns-then-has_esc_first-clause-end c =
+    ended_at_meeting c.args.string.now c.args.bytes.now c.requires
+    (sym c.has_esc_last.ensures ∙ c.if-has_esc_last.true)
+    (sym c.has_esc_first.ensures ∙ c.if-has_esc_first.true)
 
-pub loop-i-init : goal.loop-i-init
-loop-i-init c = record {
-  endless = rw append-nil c.requires;
-  last = rw append-nil (c.has_esc_last-esc.ensures ∙ last_is_esc-value c.args.string.now);
-}
-
-pub loop-i-preserved : goal.loop-i-preserved
-loop-i-preserved c =
-    let byte = get_or c.args.bytes.now c.loop-i.i 0 in
-    let apart : (c.loop-i.esc && byte == 27) ≡ false = elim c.else-esc.branch [
-      | else-esc-via-then-esc+else-byte-eq-ESC w ↦ other_byte c.loop-i.esc byte w.if-byte-eq-ESC.false
-      | else-esc-via-else-esc w ↦ ap (λ t. t && byte == 27) w.if-esc.false
+pub returns-in_err-place-clause-none : goal.returns-in_err-place-clause-none
+returns-in_err-place-clause-none c =
+    let string = c.args.string.now in
+    let bytes = c.args.bytes.now in
+    let apart : AreApart string bytes = elim c.else-has_esc_last.branch [
+      | else-has_esc_last-via-then-has_esc_last+else-has_esc_first w ↦
+          apart_by_first string bytes (sym w.has_esc_first.ensures ∙ w.if-has_esc_first.false)
+      | else-has_esc_last-via-else-has_esc_last w ↦
+          apart_by_last string bytes (sym c.has_esc_last.ensures ∙ w.if-has_esc_last.false)
     ] in
-    record {
-      endless = endless-next c.args.string.now c.args.bytes.now c.loop-i.i c.loop-i-test.true c.loop-i.invariant.endless (rw c.loop-i.invariant.last at apart);
-      last = sym (esc_last-next c.args.string.now c.args.bytes.now c.loop-i.i c.loop-i-test.true);
-    }
+    rw c.from_residual.ensures (endless_behind string bytes c.requires apart c.in_err-place.ensures)
 
-pub returns-then-byte-eq-ESC-clause-end : goal.returns-then-byte-eq-ESC-clause-end
-returns-then-byte-eq-ESC-clause-end c =
-    let esc = sym c.loop-i.invariant.last ∙ c.if-esc.true in
-    IsEnded-next c.args.string.now c.args.bytes.now c.loop-i.i c.loop-i-test.true c.loop-i.invariant.endless esc c.if-byte-eq-ESC.true
-
-pub returns-clause-none : goal.returns-clause-none
-returns-clause-none c = rw (take_all _ _ c.loop-i-test.false) at c.loop-i.invariant.endless
+pub returns-clause-end : goal.returns-clause-end
+returns-clause-end c =
+    let string = c.args.string.now in
+    let bytes = c.args.bytes.now in
+    let apart : AreApart string bytes = elim c.else-has_esc_last.branch [
+      | else-has_esc_last-via-then-has_esc_last+else-has_esc_first w ↦
+          apart_by_first string bytes (sym w.has_esc_first.ensures ∙ w.if-has_esc_first.false)
+      | else-has_esc_last-via-else-has_esc_last w ↦
+          apart_by_last string bytes (sym c.has_esc_last.ensures ∙ w.if-has_esc_last.false)
+    ] in
+    ended_within string bytes c.in_ok-place.place c.requires apart c.in_ok-place.ensures

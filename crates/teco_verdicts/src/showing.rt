@@ -1,10 +1,9 @@
 //! `show` and `explain`: texts and words for people.
 use crate::console::Console;
-use crate::fault::ToolFault;
+use crate::fault::AnswerFault;
 use crate::forms::Escape;
 use crate::library::read_source;
 use crate::outcome::Outcome;
-use std::alloc::Global;
 use std::io::{Input, Write};
 use std::rt::Files;
 use teco_explain::{Outline, code_named, note_of_code, note_of_refusal, refusal_numbered};
@@ -13,12 +12,11 @@ use teco_source::{Form, Shown};
 /// Prints the text of a file as its elements, safe for a terminal, with a character for ESC.
 pub fn show<R: Files + Input, O: Write + Drop, E: Write + Drop>(
     rt: &R,
-    alloc: Global,
     console: &mut Console<O, E>,
     name: &str,
     mark: u8,
-) -> Result<Outcome, ToolFault> {
-    let source = read_source(rt, alloc, name, Escape::ByName)?;
+) -> Result<Outcome, AnswerFault> {
+    let source = read_source(rt, console.alloc, name, Escape::ByName)?;
     let outline = Outline {
         text: source.text(),
         mark,
@@ -32,13 +30,12 @@ pub fn show<R: Files + Input, O: Write + Drop, E: Write + Drop>(
 /// said.
 pub fn show_source<R: Files + Input, O: Write + Drop, E: Write + Drop>(
     rt: &R,
-    alloc: Global,
     console: &mut Console<O, E>,
     name: &str,
     form: Form,
-) -> Result<Outcome, ToolFault> {
-    let source = read_source(rt, alloc, name, Escape::ByName)?;
-    match form.write(alloc, source.text())? {
+) -> Result<Outcome, AnswerFault> {
+    let source = read_source(rt, console.alloc, name, Escape::ByName)?;
+    match form.write(console.alloc, source.text())? {
         Some(text) => {
             console.out.write_all(text.as_slice())?;
             Ok(Outcome::Done)
@@ -57,7 +54,7 @@ pub fn show_source<R: Files + Input, O: Write + Drop, E: Write + Drop>(
 pub fn explain<O: Write + Drop, E: Write + Drop>(
     console: &mut Console<O, E>,
     word: &str,
-) -> Result<Option<Outcome>, ToolFault> {
+) -> Result<Option<Outcome>, AnswerFault> {
     if let Some(refusal) = refusal_numbered(word) {
         console.answer(note_of_refusal(refusal))?;
         return Ok(Some(Outcome::Done));

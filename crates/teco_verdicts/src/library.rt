@@ -3,11 +3,14 @@ ghost use Rattle.std.specs.Prelude.{◌≤◌, IfOk, length, vec_len};
 ghost use Rattle.teco_base.specs.declared.TheConstants.{LIMIT};
 ghost use Rattle.teco_library.specs.Reads.{Reads};
 
-use crate::fault::ToolFault;
+use crate::console::Console;
+use crate::fault::AnswerFault;
 use crate::files::read_file;
 use crate::forms::{Escape, form_of};
+use crate::request::Request;
+use crate::verifying::refuse;
 use std::alloc::Global;
-use std::io::Input;
+use std::io::{Input, Write};
 use std::rt::Files;
 use teco_base::{LIMIT, Reg};
 use teco_explain::Explained;
@@ -22,7 +25,7 @@ pub fn read_source<R: Files + Input>(
     alloc: Global,
     name: &str,
     escape: Escape,
-) -> Result<Source, ToolFault> {
+) -> Result<Source, AnswerFault> {
     let bytes = read_file(rt, alloc, name)?;
     Ok(Source::new(alloc, name, bytes, form_of(name, escape))?)
 }
@@ -42,6 +45,29 @@ pub fn library_of(alloc: Global, source: &Source) -> Result<Library, Refusal>
             place,
         }),
         Err(LibraryFault::Memory) => Err(Refusal::Memory),
+    }
+}
+
+/// A library, with the source that says it.
+#[derive(Drop)]
+pub struct Sourced {
+    pub source: Source,
+    pub library: Library,
+}
+
+/// Reads a library. Where the file is none, the refusal is printed, and there is none.
+pub fn read_library<R: Files + Input, O: Write + Drop, E: Write + Drop>(
+    rt: &R,
+    console: &mut Console<O, E>,
+    request: Request<'_>,
+) -> Result<Option<Sourced>, AnswerFault> {
+    let source = read_source(rt, console.alloc, request.library, request.escape)?;
+    match library_of(console.alloc, &source) {
+        Ok(library) => Ok(Some(Sourced { source, library })),
+        Err(refusal) => {
+            refuse(console, &source, refusal)?;
+            Ok(None)
+        }
     }
 }
 
@@ -66,7 +92,7 @@ pub fn explained<'a>(source: &'a Source, refusal: &Refusal) -> Option<Explained<
 pub const NAMES: &[u8; 36] = b"ABCDEFGHIJKLMNOPQRSTUVWXYZ0123456789";
 
 /// The registers that a library gives a text.
-pub fn macros_of(alloc: Global, library: &Library) -> Result<Vec<Reg>, ToolFault> {
+pub fn macros_of(alloc: Global, library: &Library) -> Result<Vec<Reg>, AnswerFault> {
     let mut macros = Vec::new(alloc);
     for name in NAMES {
         if let Some(register) = Reg::of(*name) {

@@ -4,7 +4,7 @@ ghost use Rattle.teco_base.specs.declared.TheConstants.{LIMIT};
 ghost use Rattle.teco_certificate.specs.Text.{certificate_text};
 ghost use Rattle.teco_verify.specs.Certified.{TakesDeclared};
 
-use crate::fault::ToolFault;
+use crate::fault::AnswerFault;
 use crate::files::read_file;
 use std::alloc::Global;
 use std::io::Input;
@@ -29,7 +29,7 @@ impl<'a> Claim<'a> {
         rt: &R,
         alloc: Global,
         name: &'a str,
-    ) -> Result<Claim<'a>, ToolFault> {
+    ) -> Result<Claim<'a>, AnswerFault> {
         let bytes = read_file(rt, alloc, name)?;
         Ok(Claim { name, bytes })
     }
@@ -61,7 +61,7 @@ pub fn read_claim<'a, R: Files + Input>(
     rt: &R,
     alloc: Global,
     name: Option<&'a str>,
-) -> Result<Option<Claim<'a>>, ToolFault> {
+) -> Result<Option<Claim<'a>>, AnswerFault> {
     match name {
         None => Ok(None),
         Some(name) => Ok(Some(Claim::read(rt, alloc, name)?)),

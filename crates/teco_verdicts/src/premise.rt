@@ -1,6 +1,6 @@
 //! Up to which N a promise holds.
 ghost use Rattle.std.specs.Prelude.{◌≤◌, ◌↔◌, IsTrue, IfSome};
-ghost use Rattle.teco_tools.specs.Premise.{IsPremise};
+ghost use Rattle.teco_verdicts.specs.Premise.{IsPremise};
 
 use std::fmt;
 use teco_base::LIMIT;

@@ -1,6 +1,6 @@
 //! Verdicts for machines: an object of JSON in each line.
 use crate::console::Console;
-use crate::fault::ToolFault;
+use crate::fault::AnswerFault;
 use crate::library::{explained, library_of, macros_of, read_source};
 use crate::outcome::Outcome;
 use crate::premise::Premise;
@@ -87,13 +87,12 @@ impl fmt::Display for Nullable {
 
 // Prints that a macro is accepted, and what it promises.
 fn answer_accepted<O: Write + Drop, E: Write + Drop>(
-    alloc: Global,
     console: &mut Console<O, E>,
     verified: &Verified<'_>,
-) -> Result<Outcome, ToolFault> {
+) -> Result<Outcome, AnswerFault> {
     let name = char::from(verified.entry().name());
-    let commands = Coefficients::of(alloc, &verified.commands())?;
-    let size = Coefficients::of(alloc, &verified.size())?;
+    let commands = Coefficients::of(console.alloc, &verified.commands())?;
+    let size = Coefficients::of(console.alloc, &verified.size())?;
     let needs = verified.needs();
     let input = needs.input;
     let output = needs.output;
@@ -120,7 +119,7 @@ fn answer_refused<O: Write + Drop, E: Write + Drop>(
     source: &Source,
     entry: Option<Reg>,
     refusal: &Refusal,
-) -> Result<Outcome, ToolFault> {
+) -> Result<Outcome, AnswerFault> {
     let Some(
         Verdict {
             why,
@@ -129,7 +128,7 @@ fn answer_refused<O: Write + Drop, E: Write + Drop>(
         },
     ) = Verdict::of(refusal)
     else {
-        return Err(ToolFault::Memory);
+        return Err(AnswerFault::Memory);
     };
     let entry = Quoted(entry);
     let register = Quoted(register);
@@ -159,14 +158,13 @@ impl fmt::Display for Quoted {
 
 // Prints the verdict on a macro.
 fn answer_verdict<O: Write + Drop, E: Write + Drop>(
-    alloc: Global,
     console: &mut Console<O, E>,
     source: &Source,
     library: &Library,
     entry: Reg,
-) -> Result<Outcome, ToolFault> {
-    match verify(alloc, library, entry) {
-        Ok(verified) => answer_accepted(alloc, console, &verified),
+) -> Result<Outcome, AnswerFault> {
+    match verify(console.alloc, library, entry) {
+        Ok(verified) => answer_accepted(console, &verified),
         Err(refusal) => answer_refused(console, source, Some(entry), &refusal),
     }
 }
@@ -174,14 +172,13 @@ fn answer_verdict<O: Write + Drop, E: Write + Drop>(
 /// Verifies a macro of a library, and prints the verdict as an object of JSON.
 pub fn verify_macro_as_json<R: Files + Input, O: Write + Drop, E: Write + Drop>(
     rt: &R,
-    alloc: Global,
     console: &mut Console<O, E>,
     request: Request<'_>,
     entry: Reg,
-) -> Result<Outcome, ToolFault> {
-    let source = read_source(rt, alloc, request.library, request.escape)?;
-    match library_of(alloc, &source) {
-        Ok(library) => answer_verdict(alloc, console, &source, &library, entry),
+) -> Result<Outcome, AnswerFault> {
+    let source = read_source(rt, console.alloc, request.library, request.escape)?;
+    match library_of(console.alloc, &source) {
+        Ok(library) => answer_verdict(console, &source, &library, entry),
         Err(refusal) => answer_refused(console, &source, None, &refusal),
     }
 }
@@ -190,19 +187,18 @@ pub fn verify_macro_as_json<R: Files + Input, O: Write + Drop, E: Write + Drop>(
 /// in a line of its own.
 pub fn verify_library_as_json<R: Files + Input, O: Write + Drop, E: Write + Drop>(
     rt: &R,
-    alloc: Global,
     console: &mut Console<O, E>,
     request: Request<'_>,
-) -> Result<Outcome, ToolFault> {
-    let source = read_source(rt, alloc, request.library, request.escape)?;
-    let library = match library_of(alloc, &source) {
+) -> Result<Outcome, AnswerFault> {
+    let source = read_source(rt, console.alloc, request.library, request.escape)?;
+    let library = match library_of(console.alloc, &source) {
         Ok(library) => library,
         Err(refusal) => return answer_refused(console, &source, None, &refusal),
     };
-    let macros = macros_of(alloc, &library)?;
+    let macros = macros_of(console.alloc, &library)?;
     let mut outcome = Outcome::Done;
     for entry in &macros {
-        outcome = outcome.worse(answer_verdict(alloc, console, &source, &library, *entry)?);
+        outcome = outcome.worse(answer_verdict(console, &source, &library, *entry)?);
     }
     Ok(outcome)
 }

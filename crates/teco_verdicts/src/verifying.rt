@@ -2,18 +2,17 @@
 ghost use Rattle.std.specs.Prelude.{◌≡◌, IfOk, OnOk};
 ghost use Rattle.std.specs.Io.KnownBytes.{Appends};
 ghost use Rattle.teco_certificate.specs.Text.{certificate_text};
-ghost use Rattle.teco_tools.specs.Certificates.{Prints, PrintsOf};
-ghost use Rattle.teco_tools.specs.declared.outcome.Outcome.TheVariants.{Done, Refused};
+ghost use Rattle.teco_verdicts.specs.Certificates.{Prints, PrintsOf};
+ghost use Rattle.teco_verdicts.specs.declared.outcome.Outcome.TheVariants.{Done, Refused};
 
 use crate::console::{Console, Voice};
 use crate::explaining::tell_known;
-use crate::fault::ToolFault;
-use crate::library::{explained, library_of, macros_of, read_source};
+use crate::fault::AnswerFault;
+use crate::library::{Sourced, explained, library_of, macros_of, read_library, read_source};
 use crate::outcome::Outcome;
 use crate::premise::Premise;
 use crate::request::Request;
 use crate::verdict::Verdict;
-use std::alloc::Global;
 use std::io::{Input, Write};
 use std::rt::Files;
 use teco_base::Reg;
@@ -26,11 +25,11 @@ pub fn refuse<O: Write + Drop, E: Write + Drop>(
     console: &mut Console<O, E>,
     source: &Source,
     refusal: Refusal,
-) -> Result<Outcome, ToolFault>
+) -> Result<Outcome, AnswerFault>
     ensures { IfOk result (λ outcome. outcome ≡ Refused) }
 {
     let Some(verdict) = Verdict::of(&refusal) else {
-        return Err(ToolFault::Memory);
+        return Err(AnswerFault::Memory);
     };
     console.answer(format_args!("{verdict}\n"))?;
     if let Some(told) = explained(source, &refusal) {
@@ -46,14 +45,13 @@ pub fn tell_premise<E: Write + Drop>(voice: &mut Voice<E>, verified: &Verified<'
 
 // Prints the certificate of a macro, and up to which N its promise holds.
 fn certify<O: Write + Drop, E: Write + Drop>(
-    alloc: Global,
     console: &mut Console<O, E>,
     verified: &Verified<'_>,
-) -> Result<Outcome, ToolFault>
+) -> Result<Outcome, AnswerFault>
     ensures { OnOk result (Appends (O.contents console.old.out) (O.contents console.new.out)
         (certificate_text verified.now.fields)) }
 {
-    let text = verified.certificate(alloc)?;
+    let text = verified.certificate(console.alloc)?;
     console.out.write_all(text.as_slice())?;
     tell_premise(&mut console.voice, verified);
     Ok(Outcome::Done)
@@ -61,52 +59,49 @@ fn certify<O: Write + Drop, E: Write + Drop>(
 
 /// Says why a macro of a library is refused, and what is known there.
 pub fn refuse_macro<O: Write + Drop, E: Write + Drop>(
-    alloc: Global,
     console: &mut Console<O, E>,
     source: &Source,
     account: &Account<'_>,
     refusal: Refusal,
-) -> Result<Outcome, ToolFault>
+) -> Result<Outcome, AnswerFault>
     ensures { IfOk result (λ outcome. outcome ≡ Refused) }
 {
     let outcome = refuse(console, source, refusal)?;
-    tell_known(alloc, console, account)?;
+    tell_known(console, account)?;
     Ok(outcome)
 }
 
 // Prints the certificate of a macro of a library, or why it is refused.
 fn verify_entry<O: Write + Drop, E: Write + Drop>(
-    alloc: Global,
     console: &mut Console<O, E>,
     source: &Source,
     library: &Library,
     entry: Reg,
-) -> Result<Outcome, ToolFault>
+) -> Result<Outcome, AnswerFault>
     ensures { IfOk result (λ outcome. outcome ≡ Done
         → Prints library.now entry (O.contents console.old.out) (O.contents console.new.out)) }
 {
-    let account = account_of(alloc, library, entry)?;
+    let account = account_of(console.alloc, library, entry)?;
     match account.verdict() {
         Ok(verified) => {
             verified.is_certified();
-            certify(alloc, console, verified)
+            certify(console, verified)
         }
-        Err(refusal) => refuse_macro(alloc, console, source, &account, refusal),
+        Err(refusal) => refuse_macro(console, source, &account, refusal),
     }
 }
 
 // Prints the certificate of a macro of the library that a source says, or why it is refused.
 fn verify_source<O: Write + Drop, E: Write + Drop>(
-    alloc: Global,
     console: &mut Console<O, E>,
     source: &Source,
     entry: Reg,
-) -> Result<Outcome, ToolFault>
+) -> Result<Outcome, AnswerFault>
     ensures { IfOk result (λ outcome. outcome ≡ Done
         → PrintsOf source.now entry (O.contents console.old.out) (O.contents console.new.out)) }
 {
-    match library_of(alloc, source) {
-        Ok(library) => verify_entry(alloc, console, source, &library, entry),
+    match library_of(console.alloc, source) {
+        Ok(library) => verify_entry(console, source, &library, entry),
         Err(refusal) => refuse(console, source, refusal),
     }
 }
@@ -114,25 +109,22 @@ fn verify_source<O: Write + Drop, E: Write + Drop>(
 /// Verifies a macro of a library, and prints its certificate.
 pub fn verify_macro<R: Files + Input, O: Write + Drop, E: Write + Drop>(
     rt: &R,
-    alloc: Global,
     console: &mut Console<O, E>,
     request: Request<'_>,
     entry: Reg,
-) -> Result<Outcome, ToolFault> {
-    let source = read_source(rt, alloc, request.library, request.escape)?;
-    verify_source(alloc, console, &source, entry)
+) -> Result<Outcome, AnswerFault> {
+    let source = read_source(rt, console.alloc, request.library, request.escape)?;
+    verify_source(console, &source, entry)
 }
 
 // Prints what comes of one macro of several.
 fn verify_one<O: Write + Drop, E: Write + Drop>(
-    alloc: Global,
     console: &mut Console<O, E>,
-    source: &Source,
-    library: &Library,
+    sourced: &Sourced,
     entry: Reg,
-) -> Result<Outcome, ToolFault> {
+) -> Result<Outcome, AnswerFault> {
     let name = char::from(entry.name());
-    match verify(alloc, library, entry) {
+    match verify(console.alloc, &sourced.library, entry) {
         Ok(verified) => {
             console.answer(format_args!("{name}: accepted\n"))?;
             let premise = Premise::of(&verified.size(), &verified.commands());
@@ -141,10 +133,10 @@ fn verify_one<O: Write + Drop, E: Write + Drop>(
         }
         Err(refusal) => {
             let Some(verdict) = Verdict::of(&refusal) else {
-                return Err(ToolFault::Memory);
+                return Err(AnswerFault::Memory);
             };
             console.answer(format_args!("{name}: {verdict}\n"))?;
-            if let Some(told) = explained(source, &refusal) {
+            if let Some(told) = explained(&sourced.source, &refusal) {
                 console.say(told);
             }
             Ok(Outcome::Refused)
@@ -155,19 +147,16 @@ fn verify_one<O: Write + Drop, E: Write + Drop>(
 /// Verifies each macro of a library, A to Z and then 0 to 9, and prints a line for each.
 pub fn verify_library<R: Files + Input, O: Write + Drop, E: Write + Drop>(
     rt: &R,
-    alloc: Global,
     console: &mut Console<O, E>,
     request: Request<'_>,
-) -> Result<Outcome, ToolFault> {
-    let source = read_source(rt, alloc, request.library, request.escape)?;
-    let library = match library_of(alloc, &source) {
-        Ok(library) => library,
-        Err(refusal) => return refuse(console, &source, refusal),
+) -> Result<Outcome, AnswerFault> {
+    let Some(sourced) = read_library(rt, console, request)? else {
+        return Ok(Outcome::Refused);
     };
-    let macros = macros_of(alloc, &library)?;
+    let macros = macros_of(console.alloc, &sourced.library)?;
     let mut outcome = Outcome::Done;
     for entry in &macros {
-        outcome = outcome.worse(verify_one(alloc, console, &source, &library, *entry)?);
+        outcome = outcome.worse(verify_one(console, &sourced, *entry)?);
     }
     Ok(outcome)
 }

@@ -1,23 +1,21 @@
 //! `check`: certificates are checked.
 ghost use Rattle.std.specs.Prelude.{◌≡◌, IfOk};
-ghost use Rattle.teco_tools.specs.Certificates.{IsCertificate};
-ghost use Rattle.teco_tools.specs.declared.outcome.Outcome.TheVariants.{Done, Refused};
+ghost use Rattle.teco_verdicts.specs.Certificates.{IsCertificate};
+ghost use Rattle.teco_verdicts.specs.declared.outcome.Outcome.TheVariants.{Done, Refused};
 
 use crate::claim::Claim;
 use crate::console::Console;
-use crate::fault::ToolFault;
-use crate::library::{explained, library_of, read_source};
+use crate::fault::AnswerFault;
+use crate::library::{Sourced, explained, read_library};
 use crate::outcome::Outcome;
 use crate::request::Request;
 use crate::verdict::Verdict;
-use crate::verifying::{refuse, tell_premise};
-use std::alloc::Global;
+use crate::verifying::tell_premise;
 use std::io::{Input, Write};
 use std::rt::Files;
 use teco_base::Reg;
 use teco_base::bytes::LF;
-use teco_library::Library;
-use teco_source::{Shown, Source};
+use teco_source::Shown;
 use teco_verify::{Refusal, verify};
 
 // The first line of a text, and what comes behind its end.
@@ -86,20 +84,18 @@ fn tell_difference<O: Write + Drop, E: Write + Drop>(
 
 // Says why a certificate is refused: the macro is, or a line is another.
 fn tell_why<O: Write + Drop, E: Write + Drop>(
-    alloc: Global,
     console: &mut Console<O, E>,
-    source: &Source,
-    library: &Library,
+    sourced: &Sourced,
     entry: Reg,
     claim: &Claim<'_>,
-) -> Result<(), ToolFault> {
-    match verify(alloc, library, entry) {
+) -> Result<(), AnswerFault> {
+    match verify(console.alloc, &sourced.library, entry) {
         Ok(verified) => {
-            let wanted = verified.certificate(alloc)?;
+            let wanted = verified.certificate(console.alloc)?;
             tell_difference(console, claim.name, &claim.bytes, &wanted);
         }
         Err(refusal) => {
-            if let Some(told) = explained(source, &refusal) {
+            if let Some(told) = explained(&sourced.source, &refusal) {
                 console.say(told);
             }
         }
@@ -109,61 +105,54 @@ fn tell_why<O: Write + Drop, E: Write + Drop>(
 
 /// Prints why a certificate is refused, and says in which line it is another.
 pub fn refuse_claim<O: Write + Drop, E: Write + Drop>(
-    alloc: Global,
     console: &mut Console<O, E>,
-    source: &Source,
-    library: &Library,
+    sourced: &Sourced,
     entry: Reg,
     claim: &Claim<'_>,
     refusal: Refusal,
-) -> Result<Outcome, ToolFault>
+) -> Result<Outcome, AnswerFault>
     ensures { IfOk result (λ outcome. outcome ≡ Refused) }
 {
     let Some(verdict) = Verdict::of(&refusal) else {
-        return Err(ToolFault::Memory);
+        return Err(AnswerFault::Memory);
     };
     console.answer(format_args!("{verdict}\n"))?;
-    tell_why(alloc, console, source, library, entry, claim)?;
+    tell_why(console, sourced, entry, claim)?;
     Ok(Outcome::Refused)
 }
 
 // Accepts a certificate, or says why not.
 fn check_claim<O: Write + Drop, E: Write + Drop>(
-    alloc: Global,
     console: &mut Console<O, E>,
-    source: &Source,
-    library: &Library,
+    sourced: &Sourced,
     entry: Reg,
     claim: &Claim<'_>,
-) -> Result<Outcome, ToolFault>
+) -> Result<Outcome, AnswerFault>
     ensures { IfOk result (λ outcome. outcome ≡ Done
-        → IsCertificate library.now entry claim.now.bytes.items) }
+        → IsCertificate sourced.now.library entry claim.now.bytes.items) }
 {
-    match claim.accept(alloc, library, entry) {
+    match claim.accept(console.alloc, &sourced.library, entry) {
         Ok(verified) => {
             verified.is_certified();
             console.answer("accepted\n")?;
             tell_premise(&mut console.voice, &verified);
             Ok(Outcome::Done)
         }
-        Err(refusal) => refuse_claim(alloc, console, source, library, entry, claim, refusal),
+        Err(refusal) => refuse_claim(console, sourced, entry, claim, refusal),
     }
 }
 
 /// Checks a certificate of a macro of a library.
 pub fn check_macro<R: Files + Input, O: Write + Drop, E: Write + Drop>(
     rt: &R,
-    alloc: Global,
     console: &mut Console<O, E>,
     request: Request<'_>,
     entry: Reg,
     name: &str,
-) -> Result<Outcome, ToolFault> {
-    let source = read_source(rt, alloc, request.library, request.escape)?;
-    let claim = Claim::read(rt, alloc, name)?;
-    let library = match library_of(alloc, &source) {
-        Ok(library) => library,
-        Err(refusal) => return refuse(console, &source, refusal),
+) -> Result<Outcome, AnswerFault> {
+    let claim = Claim::read(rt, console.alloc, name)?;
+    let Some(sourced) = read_library(rt, console, request)? else {
+        return Ok(Outcome::Refused);
     };
-    check_claim(alloc, console, &source, &library, entry, &claim)
+    check_claim(console, &sourced, entry, &claim)
 }

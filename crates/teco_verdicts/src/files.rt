@@ -2,7 +2,7 @@
 ghost use Rattle.std.specs.Prelude.{◌≤◌, IfOk, length, vec_len};
 ghost use Rattle.teco_base.specs.declared.TheConstants.{LIMIT};
 
-use crate::fault::ToolFault;
+use crate::fault::AnswerFault;
 use std::alloc::{AllocError, Global};
 use std::io::{Input, Read};
 use std::rt::Files;
@@ -19,10 +19,10 @@ fn shown(alloc: Global, name: &str) -> Result<String, AllocError> {
 }
 
 // Why a file can't be read.
-fn unread(alloc: Global, name: &str, reason: io::Error) -> ToolFault {
+fn unread(alloc: Global, name: &str, reason: io::Error) -> AnswerFault {
     match shown(alloc, name) {
-        Ok(name) => ToolFault::Read { name, reason },
-        Err(AllocError) => ToolFault::Memory,
+        Ok(name) => AnswerFault::Read { name, reason },
+        Err(AllocError) => AnswerFault::Memory,
     }
 }
 
@@ -43,12 +43,16 @@ fn read_named<R: Files + Input>(rt: &R, alloc: Global, name: &str) -> io::Result
 }
 
 /// Reads a file of at most `LIMIT` bytes; `-` is standard input.
-pub fn read_file<R: Files + Input>(rt: &R, alloc: Global, name: &str) -> Result<Vec<u8>, ToolFault>
+pub fn read_file<R: Files + Input>(
+    rt: &R,
+    alloc: Global,
+    name: &str,
+) -> Result<Vec<u8>, AnswerFault>
     ensures { IfOk result (λ bytes. vec_len bytes ≤ LIMIT) }
 {
     match read_named(rt, alloc, name) {
         Err(reason) => Err(unread(alloc, name, reason)),
-        Ok(bytes) if bytes.len() > LIMIT => Err(ToolFault::Long {
+        Ok(bytes) if bytes.len() > LIMIT => Err(AnswerFault::Long {
             name: shown(alloc, name)?,
         }),
         Ok(bytes) => Ok(bytes),

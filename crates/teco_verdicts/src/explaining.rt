@@ -1,11 +1,11 @@
 //! `explain` of a macro: its elements, and what is known before each.
 use crate::console::Console;
-use crate::fault::ToolFault;
+use crate::fault::AnswerFault;
 use crate::known::{words_of, words_of_choice};
-use crate::library::{explained, library_of, read_source};
+use crate::library::read_library;
+use crate::naming::element_at;
 use crate::outcome::Outcome;
 use crate::request::Request;
-use crate::telling::element_at;
 use crate::verdict::Verdict;
 use crate::verifying::{refuse, tell_premise};
 use std::alloc::Global;
@@ -32,7 +32,7 @@ fn shown_element(
     library: &Library,
     account: &Account<'_>,
     number: usize,
-) -> Result<String, ToolFault> {
+) -> Result<String, AnswerFault> {
     let name = account
         .register(number)
         .map_or('-', |register| char::from(register.name()));
@@ -50,12 +50,12 @@ fn shown_element(
 
 // Lists an element, and what is known before it.
 fn list_element<O: Write + Drop, E: Write + Drop>(
-    alloc: Global,
     console: &mut Console<O, E>,
     library: &Library,
     account: &Account<'_>,
     number: usize,
-) -> Result<(), ToolFault> {
+) -> Result<(), AnswerFault> {
+    let alloc = console.alloc;
     let shown = shown_element(alloc, library, account, number)?;
     match account.known(number) {
         None => console.answer(format_args!("{number}\t{shown}\t-\n"))?,
@@ -73,15 +73,14 @@ fn list_element<O: Write + Drop, E: Write + Drop>(
 
 /// Says what is known at the element at which a macro is refused.
 pub fn tell_known<O: Write + Drop, E: Write + Drop>(
-    alloc: Global,
     console: &mut Console<O, E>,
     account: &Account<'_>,
-) -> Result<(), ToolFault> {
+) -> Result<(), AnswerFault> {
     let Some(number) = account.stop() else {
         return Ok(());
     };
     if let Some(known) = account.known(number) {
-        let words = words_of(alloc, &known)?;
+        let words = words_of(console.alloc, &known)?;
         console.say(format_args!("  known there: {words}"));
     }
     Ok(())
@@ -92,7 +91,7 @@ fn conclude<O: Write + Drop, E: Write + Drop>(
     console: &mut Console<O, E>,
     source: &Source,
     account: &Account<'_>,
-) -> Result<Outcome, ToolFault> {
+) -> Result<Outcome, AnswerFault> {
     match account.verdict() {
         Ok(verified) => {
             console.answer("accepted\n")?;
@@ -107,22 +106,19 @@ fn conclude<O: Write + Drop, E: Write + Drop>(
 /// with what is known before each, what is chosen for each iteration, and the verdict.
 pub fn explain_macro<R: Files + Input, O: Write + Drop, E: Write + Drop>(
     rt: &R,
-    alloc: Global,
     console: &mut Console<O, E>,
     request: Request<'_>,
     entry: Reg,
-) -> Result<Outcome, ToolFault> {
-    let source = read_source(rt, alloc, request.library, request.escape)?;
-    let library = match library_of(alloc, &source) {
-        Ok(library) => library,
-        Err(refusal) => return refuse(console, &source, refusal),
+) -> Result<Outcome, AnswerFault> {
+    let Some(sourced) = read_library(rt, console, request)? else {
+        return Ok(Outcome::Refused);
     };
-    let account = account_of(alloc, &library, entry)?;
+    let account = account_of(console.alloc, &sourced.library, entry)?;
     console.answer("number\tplace\telement\tknown before it\n")?;
     let last = account.stop().unwrap_or(account.len());
     for before in 0..last {
         let number = before.saturating_add(1);
-        list_element(alloc, console, &library, &account, number)?;
+        list_element(console, &sourced.library, &account, number)?;
     }
-    conclude(console, &source, &account)
+    conclude(console, &sourced.source, &account)
 }

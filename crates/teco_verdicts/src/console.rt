@@ -55,7 +55,8 @@ impl<E: Write + Drop> Voice<E> {
 /// A writer for what was asked for, and a voice for what is said of it.
 #[derive(Drop)]
 pub struct Console<O: Write + Drop, E: Write + Drop> {
-    alloc: Global,
+    /// Where memory comes from.
+    pub alloc: Global,
     pub out: O,
     pub voice: Voice<E>,
 }

@@ -1,0 +1,47 @@
+//! What keeps the program from an answer.
+use std::alloc::{AllocError, AllocFailed};
+use std::io;
+use thiserror::Error;
+
+/// Why there is no answer, beside refusals.
+#[derive(Debug, Drop, Error)]
+pub enum AnswerFault {
+    /// A file can't be read.
+    #[error("cannot read {name}: {reason}")]
+    Read {
+        /// Its name, as a terminal can show it.
+        name: String,
+        /// What the system says.
+        reason: io::Error,
+    },
+    /// A file has more than `LIMIT` bytes.
+    #[error("cannot read {name}: it has more than 268,435,456 bytes")]
+    Long {
+        /// Its name, as a terminal can show it.
+        name: String,
+    },
+    /// The answer can't be written.
+    #[error("cannot write the answer: {0}")]
+    Write(io::Error),
+    /// A growth was refused.
+    #[error("out of memory")]
+    Memory,
+}
+
+impl From<AllocError> for AnswerFault {
+    fn from(_refused: AllocError) -> AnswerFault {
+        AnswerFault::Memory
+    }
+}
+
+impl<T: Drop> From<AllocFailed<T>> for AnswerFault {
+    fn from(_refused: AllocFailed<T>) -> AnswerFault {
+        AnswerFault::Memory
+    }
+}
+
+impl From<io::Error> for AnswerFault {
+    fn from(error: io::Error) -> AnswerFault {
+        AnswerFault::Write(error)
+    }
+}
