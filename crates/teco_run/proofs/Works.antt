@@ -118,7 +118,7 @@ made k grows frame after c old new F reply ok err none stays same d (Ok u) h = r
 made k grows frame after c old new F reply ok err none stays same (Ok w) (Err why) h = rw (ok w, none w, stays w) h
 made k grows frame after c old new F reply ok err none stays same (Err refusal) (Err why) h = rw (err refusal) h
 
--- and the run goes on behind the element
+-- the run goes on behind the element
 pub gone_on : (k : Kind) (grows : Bool) (frame : Frame) (pending : Pending) (old new : World) (d : Result World base.Code) (done : Result (Unit {0}) Halt) → Works k grows d old new done →
     Answers k grows frame pending (going_on pending.left pending.arguments d) old new (course_by course.Behind done)
 gone_on k grows frame pending old new = made k grows frame pending course.Behind old new (going_on pending.left pending.arguments) (replying Behind pending.left pending.arguments) (λ w. refl) (λ c. refl) (λ w. refl) (λ w. refl) refl

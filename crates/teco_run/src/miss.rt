@@ -1,7 +1,6 @@
 //! What becomes of searches that miss.
 ghost use Rattle.std.specs.Prelude.{◌≡◌, false};
 ghost use Rattle.std.specs.Option.{option_map_or};
-ghost use Rattle.teco_model.specs.Arguments.{levels_after_answer};
 ghost use Rattle.teco_model.specs.Element.{seen};
 ghost use Rattle.teco_model.specs.Searching as model;
 ghost use Rattle.teco_run.specs.Misses.{HasNoColon, MissFits, miss_seen};
@@ -20,13 +19,13 @@ pub const MESSAGE: &[u8] = b"%SRH\r\n";
 /// What becomes of a search that misses.
 #[derive(Clone, Copy)]
 pub enum Miss {
-    /// It answers 0.
+    /// The answer is 0.
     Answers,
-    /// It leaves its iteration.
+    /// The iteration is left.
     Leaves(Way),
-    /// It is UTC, since its iteration has no end.
+    /// UTC: the iteration has no end.
     Unended,
-    /// It is SRH, since no iteration is open.
+    /// SRH: no iteration is open.
     Fails,
 }
 
