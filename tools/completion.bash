@@ -9,10 +9,10 @@ _teco() {
   local options
   case ${COMP_WORDS[1]} in
     run) options="--limit --memory --stop --set --esc -e --help" ;;
-    verify) options="--json --esc --help" ;;
-    check) options="--esc --help" ;;
-    apply) options="--memory --arg --set --pages --strict --stats --cert --esc --help" ;;
-    edit) options="--memory --arg --set --pages --strict --stats --cert --esc --dry-run --backup --quiet --help" ;;
+    verify) options="--rules --json --esc --help" ;;
+    check) options="--rules --esc --help" ;;
+    apply) options="--memory --arg --set --pages --strict --stats --cert --rules --esc --help" ;;
+    edit) options="--memory --arg --set --pages --strict --stats --cert --rules --esc --dry-run --backup --quiet --help" ;;
     trace) options="--limit --memory --arg --set --esc --help" ;;
     show) options="--source --esc --help" ;;
     explain)

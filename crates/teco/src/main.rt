@@ -53,11 +53,12 @@ fn run<O: Write + Drop, E: Write + Drop>(
     Ok(run_scripts(rt, console, &run, &mut reader, &mut host)?)
 }
 
-// The library that is named, and how it writes ESC.
+// The library that is named, how it writes ESC, and by which rules it is verified.
 fn request<'a>(given: &ArgMatches<'a>) -> Result<Request<'a>, WordsFault> {
     Ok(Request {
         library: words::word(given, "LIB"),
         escape: words::escape_of(given)?,
+        rules: words::rules_of(given)?,
     })
 }
 

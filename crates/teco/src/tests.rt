@@ -5,6 +5,7 @@ use crate::words::WordsFault;
 use std::env::{Env, FillError};
 use std::test::Fail;
 use teco_tools::Script;
+use teco_verdicts::Rules;
 
 #[test]
 fn words_are_read(rt: HostRuntime) -> Result<(), Fail> {
@@ -56,6 +57,35 @@ fn macros_are_named(rt: HostRuntime) -> Result<(), Fail> {
             None => None,
         };
         assert_eq!(rt; found.map(|register| register.name()), *name, "row {i}");
+    }
+    Ok(())
+}
+
+// The edition of the rules that is asked for, if it is one.
+#[test]
+fn rules_are_named(rt: HostRuntime) -> Result<(), Fail> {
+    let rows: [(&[&str], Option<u8>); 8] = [
+        (&["teco", "verify", "LIB", "A"], Some(1)),
+        (&["teco", "verify", "--rules", "1", "LIB"], Some(1)),
+        (&["teco", "verify", "--rules", "2", "LIB", "A"], Some(2)),
+        (&["teco", "check", "--rules", "2", "LIB", "A", "CERT"], Some(2)),
+        (&["teco", "apply", "--rules", "2", "LIB", "A", "IN", "OUT"], Some(2)),
+        (&["teco", "explain", "--rules", "2", "LIB", "A"], Some(2)),
+        (&["teco", "verify", "--rules", "3", "LIB", "A"], None),
+        (&["teco", "trace", "--rules", "two", "LIB", "A", "IN"], None),
+    ];
+    for (i, (words, edition)) in rows.iter().enumerate() {
+        let command = words::command(rt.alloc())?;
+        let matches = command.try_get_matches_from(*words)?;
+        let found = match matches.subcommand() {
+            Some((_, given)) => words::rules_of(given).ok(),
+            None => None,
+        };
+        let found = found.map(|rules| match rules {
+            Rules::First => 1,
+            Rules::Second => 2,
+        });
+        assert_eq!(rt; found, *edition, "row {i}");
     }
     Ok(())
 }

@@ -11,7 +11,7 @@ use teco_base::Reg;
 use teco_base::bytes::ESC;
 use teco_source::Form;
 use teco_tools::{INPUT, OUTPUT, Script, Setting};
-use teco_verdicts::{Escape, STREAM};
+use teco_verdicts::{Escape, Rules, STREAM};
 use thiserror::Error;
 
 /// The step limit of each command string where no other is given.
@@ -48,6 +48,9 @@ pub enum WordsFault {
     /// Which pages are edited is none of the three words for that.
     #[error("--pages takes first, each or whole")]
     Pages,
+    /// The edition of the rules is neither of the two.
+    #[error("--rules takes 1 or 2")]
+    Rules,
     /// A text of a register is none.
     #[error("--set takes a register and its text, as A=TEXT")]
     Setting,
@@ -127,6 +130,7 @@ fn verify<'a>(alloc: Global) -> Result<Command<'a>, AllocError> {
         .arg(json)?
         .arg(file(alloc, "LIB", "A file of macros, or - for standard input"))?
         .arg(register)?
+        .arg(rules(alloc))?
         .arg(escape(alloc))
 }
 
@@ -140,6 +144,7 @@ fn check<'a>(alloc: Global) -> Result<Command<'a>, AllocError> {
         .arg(file(alloc, "LIB", "A file of macros, or - for standard input"))?
         .arg(register(alloc))?
         .arg(file(alloc, "CERT", "A certificate"))?
+        .arg(rules(alloc))?
         .arg(escape(alloc))
 }
 
@@ -223,6 +228,7 @@ fn edit_options<'a>(alloc: Global, command: Command<'a>) -> Result<Command<'a>, 
         .arg(memory(alloc))?
         .arg(argument(alloc))?
         .arg(setting(alloc))?
+        .arg(rules(alloc))?
         .arg(escape(alloc))?
         .arg(pages)?
         .arg(strict)?
@@ -245,6 +251,7 @@ fn trace<'a>(alloc: Global) -> Result<Command<'a>, AllocError> {
         .arg(memory(alloc))?
         .arg(argument(alloc))?
         .arg(setting(alloc))?
+        .arg(rules(alloc))?
         .arg(escape(alloc))?
         .arg(file(alloc, "LIB", "A file of macros, or - for standard input"))?
         .arg(register(alloc))?
@@ -287,6 +294,7 @@ fn explain<'a>(alloc: Global) -> Result<Command<'a>, AllocError> {
             "Says what a code or a refusal means and how to mend what causes it, or what is known at each element of a macro",
         )
         .after_help("Examples:\n  teco explain X9\n  teco explain trim.tes A")
+        .arg(rules(alloc))?
         .arg(escape(alloc))?
         .arg(word)?
         .arg(register)
@@ -318,6 +326,15 @@ fn setting<'a>(alloc: Global) -> Arg<'a> {
         .value_name("Q=TEXT")
         .action(ArgAction::Append)
         .help("Give register Q this text before the run, in the form of -e")
+}
+
+// The edition of the rules.
+fn rules<'a>(alloc: Global) -> Arg<'a> {
+    Arg::new(alloc, "rules")
+        .long("rules")
+        .value_name("N")
+        .default_value("1")
+        .help("The edition of the rules that macros are verified by: 1 or 2")
 }
 
 // What stands for ESC.
@@ -417,6 +434,15 @@ pub fn escape_of(words: &ArgMatches<'_>) -> Result<Escape, WordsFault> {
         b"none" => Ok(Escape::Mark(ESC)),
         [mark] if mark.is_ascii() => Ok(Escape::Mark(*mark)),
         _ => Err(WordsFault::Escape),
+    }
+}
+
+/// The edition of the rules.
+pub fn rules_of(words: &ArgMatches<'_>) -> Result<Rules, WordsFault> {
+    match word(words, "rules") {
+        "1" => Ok(Rules::First),
+        "2" => Ok(Rules::Second),
+        _ => Err(WordsFault::Rules),
     }
 }
 

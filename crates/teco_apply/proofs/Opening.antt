@@ -10,20 +10,20 @@ use Rattle.teco_apply.specs.Sure.{MOST}
 use Rattle.teco_base.specs.declared.bytes.TheConstants.{ESC}
 use Rattle.teco_base.specs.declared.code.Code.{Code}
 use Rattle.teco_base.specs.declared.code.Code.TheVariants as code
-use Rattle.teco_model.specs.Arguments.{arguments_of}
+use Rattle.teco_model.specs.Arguments.{arguments_of, levels_after_taking}
 use Rattle.teco_model.specs.Checked.{◌>>=◌}
 use Rattle.teco_model.specs.Element.{Element, blank_len, blank_end, element_from, element_at, text_up_to}
 use Rattle.teco_model.specs.Files.{Input, Output, file_named, output_of}
 use Rattle.teco_model.specs.Filing.{name_apart_from, no_output, open_input, open_output, with_input}
-use Rattle.teco_model.specs.Going.{frames_at, taking}
+use Rattle.teco_model.specs.Going.{frames_at, settle}
 use Rattle.teco_model.specs.Letters.{letters}
-use Rattle.teco_model.specs.Outside.{file_outcome, opened_outcome, page_outcome, world_outcome}
+use Rattle.teco_model.specs.Outside.{file_reply, going_on, opened, page_reply}
 use Rattle.teco_model.specs.Pages.{first_page}
 use Rattle.teco_model.specs.Paging.{files_behind_page, nothing_lost, page_taken, unread, world_with_next_page, yank}
 use Rattle.teco_model.specs.Run.{Stops, go_on, run}
 use Rattle.teco_model.specs.Session.{code_of, is_code}
 use Rattle.teco_model.specs.State.{Frames, Kept, Outcome, Next, End, Exit, Fail, Absent, State, World, start}
-use Rattle.teco_model.specs.Step.{end_of_text, end_outcome, outcome_at, outcome_of, step}
+use Rattle.teco_model.specs.Step.{end_of_text, end_outcome, outcome_at, reply_of, step}
 use Rattle.teco_model.specs.declared.arguments.Taken.{Taken}
 use Rattle.teco_model.specs.declared.kind.File.TheVariants as file
 use Rattle.teco_model.specs.declared.kind.Kind.{Kind}
@@ -196,45 +196,45 @@ unfolding frames_from
 moved s text place next is = ap (frames_at next) is
 
 -- ER
-input_goes : (source target : List ℕ) (s : State) → s.frames ≡ frames_from (opening source target) 0 → Goes source target (file_outcome file.Read (named (kind.File file.Read) source 0 (second_place source)) s)
+input_goes : (source target : List ℕ) (s : State) → s.frames ≡ frames_from (opening source target) 0 → Goes source target (settle (named (kind.File file.Read) source 0 (second_place source)) s (file_reply file.Read source s.left s.arguments s.world))
 unfolding Goes named
 input_goes source target s is = taken (arguments_of s.arguments.level)
   where
     e : Element
     e = named (kind.File file.Read) source 0 (second_place source)
 
-    found : (o : Option (List ℕ)) → Goes source target (opened_outcome e (taking s) (Ok (option_map (with_input source s.world) o)))
+    found : (o : Option (List ℕ)) → Goes source target (settle e s (Ok (opened s.left (levels_after_taking s.arguments) s.world (option_map (with_input source s.world) o))))
     found None = tt
     found (Some bytes) = Stage.reads (moved s (opening source target) 0 (second_place source) is) refl
 
-    apart : (r : Result (Unit {0}) Code) → Goes source target (opened_outcome e (taking s) (r >>= (λ u. Ok (option_map (with_input source s.world) (file_named source s.world.files.named)))))
+    apart : (r : Result (Unit {0}) Code) → Goes source target (settle e s ((r >>= (λ u. Ok (option_map (with_input source s.world) (file_named source s.world.files.named)))) >>= (λ found. Ok (opened s.left (levels_after_taking s.arguments) s.world found))))
     apart (Err c) = tt
     apart (Ok u) = found (file_named source s.world.files.named)
 
-    taken : (r : Result Taken Code) → Goes source target (opened_outcome e (taking s) (r >>= (λ t. open_input source s.world)))
+    taken : (r : Result Taken Code) → Goes source target (settle e s (r >>= (λ t. open_input source s.world >>= (λ found. Ok (opened s.left (levels_after_taking s.arguments) s.world found)))))
     taken (Err c) = tt
     taken (Ok t) = apart (name_apart_from (option_map (λ (output : Output). output.name) s.world.files.output) source)
 
 -- EW
-output_goes : (source target : List ℕ) (s : State) → s.frames ≡ frames_from (opening source target) (second_place source) → IsSome s.world.files.input → Goes source target (file_outcome file.Write (named (kind.File file.Write) target (second_place source) (third_place source target)) s)
+output_goes : (source target : List ℕ) (s : State) → s.frames ≡ frames_from (opening source target) (second_place source) → IsSome s.world.files.input → Goes source target (settle (named (kind.File file.Write) target (second_place source) (third_place source target)) s (file_reply file.Write target s.left s.arguments s.world))
 unfolding Goes named
 output_goes source target s is input = taken (arguments_of s.arguments.level)
   where
     e : Element
     e = named (kind.File file.Write) target (second_place source) (third_place source target)
 
-    opened : World
-    opened = record s.world { files = record s.world.files { output = Some (output_of target) } }
+    with_output : World
+    with_output = record s.world { files = record s.world.files { output = Some (output_of target) } }
 
-    apart : (r : Result (Unit {0}) Code) → Goes source target (world_outcome e (taking s) (r >>= (λ u. Ok opened)))
+    apart : (r : Result (Unit {0}) Code) → Goes source target (settle e s (going_on s.left (levels_after_taking s.arguments) (r >>= (λ u. Ok with_output))))
     apart (Err c) = tt
     apart (Ok u) = Stage.writes (moved s (opening source target) (second_place source) (third_place source target) is) (record { input = input; output = refl })
 
-    alone : (r : Result (Unit {0}) Code) → Goes source target (world_outcome e (taking s) (r >>= (λ u. name_apart_from (option_map (λ (input : Input). input.name) s.world.files.input) target >>= (λ v. Ok opened))))
+    alone : (r : Result (Unit {0}) Code) → Goes source target (settle e s (going_on s.left (levels_after_taking s.arguments) (r >>= (λ u. name_apart_from (option_map (λ (input : Input). input.name) s.world.files.input) target >>= (λ v. Ok with_output)))))
     alone (Err c) = tt
     alone (Ok u) = apart (name_apart_from (option_map (λ (input : Input). input.name) s.world.files.input) target)
 
-    taken : (r : Result Taken Code) → Goes source target (world_outcome e (taking s) (r >>= (λ t. open_output target s.world)))
+    taken : (r : Result Taken Code) → Goes source target (settle e s (r >>= (λ t. going_on s.left (levels_after_taking s.arguments) (open_output target s.world))))
     taken (Err c) = tt
     taken (Ok t) = alone (no_output s.world.files.output)
 
@@ -243,26 +243,26 @@ stays_open : (f : Input → Input) (input : Option Input) → IsSome input → I
 stays_open f None is = absurd (cc)
 stays_open f (Some input) is = refl
 
-yank_goes : (source target : List ℕ) (s : State) → s.frames ≡ frames_from (opening source target) (third_place source target) → BothOpen s.world.files → Goes source target (page_outcome page.Yank (named (kind.Page page.Yank) [] (third_place source target) (length (opening source target))) s)
+yank_goes : (source target : List ℕ) (s : State) → s.frames ≡ frames_from (opening source target) (third_place source target) → BothOpen s.world.files → Goes source target (settle (named (kind.Page page.Yank) [] (third_place source target) (length (opening source target))) s (page_reply page.Yank s.left s.arguments s.world))
 unfolding Goes named
 yank_goes source target s is both = taken (arguments_of s.arguments.level)
   where
     e : Element
     e = named (kind.Page page.Yank) [] (third_place source target) (length (opening source target))
 
-    page : (r : Result Kept Code) → Goes source target (world_outcome e (taking s) (r >>= (λ kept. Ok (record { kept = kept; files = files_behind_page s.world.files }))))
+    page : (r : Result Kept Code) → Goes source target (settle e s (going_on s.left (levels_after_taking s.arguments) (r >>= (λ kept. Ok (record { kept = kept; files = files_behind_page s.world.files })))))
     page (Err c) = tt
     page (Ok kept) = Stage.ends (moved s (opening source target) (third_place source target) (length (opening source target)) is) (record { input = stays_open _ s.world.files.input both.input; output = both.output })
 
-    saved : (r : Result (Unit {0}) Code) → Goes source target (world_outcome e (taking s) (r >>= (λ u. world_with_next_page s.world)))
+    saved : (r : Result (Unit {0}) Code) → Goes source target (settle e s (going_on s.left (levels_after_taking s.arguments) (r >>= (λ u. world_with_next_page s.world))))
     saved (Err c) = tt
     saved (Ok u) = page (page_taken (first_page (unread s.world.files)) s.world.kept)
 
-    there : (r : Result Input Code) → Goes source target (world_outcome e (taking s) (r >>= (λ i. nothing_lost s.world.kept.text s.world.files.output >>= (λ u. world_with_next_page s.world))))
+    there : (r : Result Input Code) → Goes source target (settle e s (going_on s.left (levels_after_taking s.arguments) (r >>= (λ i. nothing_lost s.world.kept.text s.world.files.output >>= (λ u. world_with_next_page s.world)))))
     there (Err c) = tt
     there (Ok i) = saved (nothing_lost s.world.kept.text s.world.files.output)
 
-    taken : (r : Result Taken Code) → Goes source target (world_outcome e (taking s) (r >>= (λ t. yank s.world)))
+    taken : (r : Result Taken Code) → Goes source target (settle e s (r >>= (λ t. going_on s.left (levels_after_taking s.arguments) (yank s.world))))
     taken (Err c) = tt
     taken (Ok t) = there (ok_or s.world.files.input code.Nfi)
 
@@ -280,7 +280,7 @@ end_goes source target s text is both =
 
 -- each stage
 stage_goes : (source target : List ℕ) → has_esc source ≡ false → has_esc target ≡ false → (s : State) → Stage source target s → Goes source target (step s)
-unfolding step outcome_of named
+unfolding step reply_of named
 stage_goes source target plain plain' s (Stage.begins is) =
     subst (λ r. Goes source target (outcome_at s r)) (sym (reads_at s _ _ _ is (first_read source target plain))) (input_goes source target s is)
 stage_goes source target plain plain' s (Stage.reads is input) =

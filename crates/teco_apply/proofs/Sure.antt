@@ -90,7 +90,7 @@ module _ (laws : Laws) (call : Call) (kept : Kept) (held : Held) (is : IsCalled 
       let fields = call.found.fields in
       let now = world kept held files in
       let files_open = are_open fields.needs kept held files same is.files.input is.files.output in
-      laws.verified call.found.library fields.entry fields.argument given certified.nodes certified.table fields.commands fields.size (n_of now) now (laws.linked call.found.library fields.entry certified.nodes certified.expanded) certified.printed asked (record {
+      laws.verified call.found.library fields.entry fields.rules fields.argument given certified.nodes certified.table fields.commands fields.size (n_of now) now (laws.linked call.found.library fields.entry certified.nodes certified.expanded) certified.printed asked (record {
         named = is.named;
         loaded = is.loaded;
         whole = record { kept = is.whole; files = files_whole held files is.bytes bytes };

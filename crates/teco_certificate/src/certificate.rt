@@ -6,14 +6,14 @@ ghost use Rattle.teco_certificate.specs.WellFormed.{HasText};
 
 use crate::fault::CertificateFault;
 use crate::order::numbers_rise;
-use crate::printing::{name_of, push_argument, push_line, push_loops, version};
+use crate::printing::{name_of, push_argument, push_line, push_loops, push_rules, version};
 use crate::reading::certificate_in;
 use std::alloc::{AllocError, Global};
 use std::marker::Model;
 use teco_base::Reg;
 use teco_model::{ArgumentRange, Needs};
 use teco_poly::Poly;
-use teco_verifier::LoopLine;
+use teco_verifier::{LoopLine, Rules};
 
 // The files that must be open, as a certificate has them.
 fn letters(needs: Needs) -> &'static str
@@ -34,6 +34,8 @@ pub struct Certificate {
     pub entry: Reg,
     /// The argument that it takes, if any.
     pub argument: Option<ArgumentRange>,
+    /// The edition of the rules.
+    pub rules: Rules,
     /// The files that must be open.
     pub needs: Needs,
     /// The most commands that a run takes.
@@ -52,6 +54,7 @@ impl Model for Certificate {
     ghost view = { λ c. record {
       entry = c.entry;
       argument = c.argument;
+      rules = c.rules;
       needs = c.needs;
       commands = c.commands;
       size = c.size;
@@ -70,12 +73,13 @@ impl Certificate {
         push_line(&mut text, b"TECO-CERT ", version(self.argument).as_bytes())?;
         push_line(&mut text, b"entry ", &[name_of(self.entry)])?;
         push_argument(&mut text, alloc, self.argument)?;
+        push_rules(&mut text, self.rules)?;
         push_line(&mut text, b"needs ", letters(self.needs).as_bytes())?;
         let commands = self.commands.print(alloc)?;
         push_line(&mut text, b"commands ", commands.as_bytes())?;
         let size = self.size.print(alloc)?;
         push_line(&mut text, b"size ", size.as_bytes())?;
-        push_loops(&mut text, alloc, &self.loops)?;
+        push_loops(&mut text, alloc, self.rules, &self.loops)?;
         push_line(&mut text, b"end", b"")?;
         Ok(text)
     }

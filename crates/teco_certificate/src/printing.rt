@@ -1,16 +1,18 @@
 // The parts of a certificate's text.
-ghost use Rattle.std.specs.Prelude.{◌≡◌, ◌++◌, ◌<◌, OnOk, IfSome, flat_map};
+ghost use Rattle.std.specs.Prelude.{◌≡◌, ◌++◌, ◌<◌, ◌^◌, OnOk, IfSome, flat_map};
 ghost use Rattle.std.specs.List.{AllByRecursion};
 ghost use Rattle.teco_base.specs.Register.{register_name};
 ghost use Rattle.teco_base.specs.declared.TheConstants.{REGISTERS};
-ghost use Rattle.teco_certificate.specs.Text.{line as line_of, version_text, argument_line, longer_text, longer_texts, behind_comma, kept_text, loop_line};
+ghost use Rattle.teco_certificate.specs.Text.{line as line_of, version_text, argument_line, rules_line, longer_text, longer_texts, behind_comma, kept_text, distances_text, loop_line};
 ghost use Rattle.teco_model.specs.Macros.{IsArgumentRange};
+ghost use Rattle.teco_certificate.specs.Words.{chosen_words};
 ghost use Rattle.teco_certificate.specs.WellFormed.{IsLongerText, IsChosen};
+ghost use Rattle.teco_poly.specs.Reading.{IsPoly};
 
 use std::alloc::{AllocError, Global};
 use teco_base::{REGISTERS, Reg};
 use teco_model::ArgumentRange;
-use teco_verifier::{LongerText, LoopLine};
+use teco_verifier::{Distances, LongerText, LoopLine, Rules};
 
 /// Adds a line: a word that says what it has, and this.
 pub fn push_line(text: &mut Vec<u8>, word: &[u8], words: &[u8]) -> Result<(), AllocError>
@@ -46,6 +48,16 @@ pub fn push_argument(
     let (low, high) = (range.low(), range.high());
     let line = format!(in alloc; "argument {low} {high}\n")?;
     text.extend_from_slice(line.as_bytes())
+}
+
+/// Adds the line of the edition of the rules, if it has one.
+pub fn push_rules(text: &mut Vec<u8>, rules: Rules) -> Result<(), AllocError>
+    ensures { OnOk result (text.new.items ≡ text.old.items ++ rules_line rules) }
+{
+    match rules {
+        Rules::First => Ok(()),
+        Rules::Second => push_line(text, b"rules ", b"2"),
+    }
 }
 
 /// The name of a register, which is one of those there are.
@@ -99,26 +111,76 @@ fn kept_word(kept: bool) -> &'static str
     if kept { "kept" } else { "lost" }
 }
 
-// Adds what was chosen for an iteration.
-fn push_loop(text: &mut Vec<u8>, alloc: Global, line: &LoopLine) -> Result<(), AllocError>
-    ensures text { OnOk result (text.new.items ≡ text.old.items ++ loop_line line.now) }
-    ensures parts { OnOk result (IsChosen line.now) }
+// Adds the least distances, which the second edition chooses.
+fn push_distances(
+    text: &mut Vec<u8>,
+    alloc: Global,
+    rules: Rules,
+    distances: Distances,
+) -> Result<(), AllocError>
+    ensures text { OnOk result (text.new.items ≡ text.old.items ++ distances_text rules distances) }
+    ensures back { distances.back < 2 ^ 32 }
+    ensures fore { distances.fore < 2 ^ 32 }
+{
+    match rules {
+        Rules::First => Ok(()),
+        Rules::Second => {
+            let (back, fore) = (distances.back, distances.fore);
+            let words = format!(in alloc; " back {back} fore {fore}")?;
+            text.extend_from_slice(words.as_bytes())
+        }
+    }
+}
+
+// Adds what was chosen for an iteration, but for the texts.
+fn push_chosen(
+    text: &mut Vec<u8>,
+    alloc: Global,
+    rules: Rules,
+    line: &LoopLine,
+) -> Result<(), AllocError>
+    ensures text { OnOk result (text.new.items ≡ text.old.items ++ chosen_words rules line.now) }
+    ensures begin { line.now.begin < 2 ^ 64 }
+    ensures held { OnOk result (IsPoly line.now.held) }
+    ensures back { OnOk result (line.now.distances.back < 2 ^ 32) }
+    ensures fore { OnOk result (line.now.distances.fore < 2 ^ 32) }
 {
     let (number, kept) = (line.number, kept_word(line.kept));
     let held = line.held.print(alloc)?;
-    let words = format!(in alloc; "loop {number} held {held} {kept} texts ")?;
+    let words = format!(in alloc; "loop {number} held {held} {kept}")?;
     text.extend_from_slice(words.as_bytes())?;
+    push_distances(text, alloc, rules, line.distances)
+}
+
+// Adds what was chosen for an iteration.
+fn push_loop(
+    text: &mut Vec<u8>,
+    alloc: Global,
+    rules: Rules,
+    line: &LoopLine,
+) -> Result<(), AllocError>
+    ensures text { OnOk result (text.new.items ≡ text.old.items ++ loop_line rules line.now) }
+    ensures parts { OnOk result (IsChosen line.now) }
+{
+    push_chosen(text, alloc, rules, line)?;
+    text.extend_from_slice(b" texts ")?;
     push_texts(text, alloc, &line.longer)?;
     text.extend_from_slice(b"\n")
 }
 
 /// Adds what was chosen for the iterations, a line for each.
-pub fn push_loops(text: &mut Vec<u8>, alloc: Global, loops: &[LoopLine]) -> Result<(), AllocError>
-    ensures text { OnOk result (text.new.items ≡ text.old.items ++ flat_map loop_line loops.now) }
+pub fn push_loops(
+    text: &mut Vec<u8>,
+    alloc: Global,
+    rules: Rules,
+    loops: &[LoopLine],
+) -> Result<(), AllocError>
+    ensures text { OnOk result (text.new.items
+        ≡ text.old.items ++ flat_map (loop_line rules) loops.now) }
     ensures parts { OnOk result (AllByRecursion IsChosen loops.now) }
 {
     for line in loops {
-        push_loop(text, alloc, line)?;
+        push_loop(text, alloc, rules, line)?;
     }
     Ok(())
 }

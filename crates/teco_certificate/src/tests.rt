@@ -7,7 +7,7 @@ use std::test::*;
 use teco_base::Reg;
 use teco_model::Needs;
 use teco_poly::Poly;
-use teco_verifier::{LongerText, LoopLine};
+use teco_verifier::{Distances, LongerText, LoopLine, Rules};
 
 // Marks are put behind each occurrence of a word: one iteration.
 const MARK: &str = "TECO-CERT 1
@@ -20,7 +20,7 @@ end
 ";
 
 // What else may be the certificate of some macro.
-const CERTIFICATES: [&str; 9] = [
+const CERTIFICATES: [&str; 12] = [
     "TECO-CERT 1\nentry A\nneeds -\ncommands 8 + 4*N\nsize 1 + 3*N\nloop 3 held 3*N kept texts -\nend\n",
     "TECO-CERT 1\nentry A\nneeds -\ncommands 6 + 3*N\nsize 1 + N\nloop 2 held N kept texts -\nend\n",
     "TECO-CERT 1\nentry 0\nneeds IO\ncommands 2\nsize N\nend\n",
@@ -31,6 +31,40 @@ const CERTIFICATES: [&str; 9] = [
      loop 10 held 1 + N kept texts A=N,B=N\nloop 18446744073709551615 held N lost texts -\nend\n",
     "TECO-CERT 2\nentry 0\nargument 0 2147483647\nneeds -\ncommands 4\nsize N\nend\n",
     "TECO-CERT 2\nentry Z\nargument 7 7\nneeds IO\ncommands 4\nsize N\nend\n",
+    "TECO-CERT 1\nentry A\nrules 2\nneeds -\ncommands 3\nsize N\nend\n",
+    "TECO-CERT 2\nentry Z\nargument 7 7\nrules 2\nneeds IO\ncommands 4\nsize N\nend\n",
+    "TECO-CERT 1\nentry B\nrules 2\nneeds -\ncommands 9\nsize 4*N\nloop 1 held 0 lost back 0 fore 4294967295 texts 9=7\n\
+     loop 9 held N kept back 10 fore 3 texts -\nend\n",
+];
+
+// By the second edition there are least distances, too.
+const SECOND: &str = "TECO-CERT 1
+entry A
+rules 2
+needs -
+commands 13 + 9*N
+size N
+loop 7 held N kept back 3 fore 0 texts -
+end
+";
+
+// What stands in the place of a part of that, and the part.
+const OTHER_RULES: [(&str, &str); 15] = [
+    ("rules 2\n", ""),
+    ("rules 2\n", "rules 1\n"),
+    ("rules 2\n", "rules 3\n"),
+    ("rules 2\n", "rules 02\n"),
+    ("rules 2\n", "rules 2\nrules 2\n"),
+    ("entry A\nrules 2\n", "rules 2\nentry A\n"),
+    ("rules 2\nneeds -\n", "needs -\nrules 2\n"),
+    ("back 3 fore 0", "back 03 fore 0"),
+    ("back 3 fore 0", "back 3 fore 00"),
+    ("back 3 fore 0", "fore 0 back 3"),
+    ("back 3 fore 0", "back 3"),
+    ("back 3 fore 0", "back  3 fore 0"),
+    ("back 3 fore 0", "back 4294967296 fore 0"),
+    ("back 3 fore 0", "back -1 fore 0"),
+    (" back 3 fore 0", ""),
 ];
 
 // A text is put in as often as an argument says.
@@ -77,7 +111,7 @@ end
 const MORE_TEXTS: [&str; 5] = ["8=0", "9=0,9=0", "9=0,A=0", "9=0,:=0", "9=0,-"];
 
 // What stands in the place of a part of that for marks, and the part.
-const OTHERS: [(&str, &str); 40] = [
+const OTHERS: [(&str, &str); 42] = [
     ("TECO-CERT 1\n", ""),
     ("TECO-CERT 1\n", "TECO-CERT 2\n"),
     ("TECO-CERT 1\n", "teco-cert 1\n"),
@@ -90,6 +124,8 @@ const OTHERS: [(&str, &str); 40] = [
     ("entry A\n", "entry AA\n"),
     ("entry A\n", "entry .\n"),
     ("entry A\n", "entry A\nentry A\n"),
+    ("entry A\n", "entry A\nrules 2\n"),
+    ("kept texts", "kept back 0 fore 0 texts"),
     ("needs -\n", "needs \n"),
     ("needs -\n", "needs OI\n"),
     ("needs -\n", "needs I-\n"),
@@ -209,12 +245,14 @@ fn prints_the_fields(rt: HostRuntime) {
         number: 5,
         held: Poly::variable(),
         kept: false,
+        distances: Distances { back: 0, fore: 0 },
         longer,
     };
     push(&rt, &mut loops, line);
     let certificate = Certificate {
         entry: Reg::default(),
         argument: None,
+        rules: Rules::First,
         needs: Needs {
             input: true,
             output: true,
@@ -258,6 +296,16 @@ fn reads_an_argument(rt: HostRuntime) {
 fn refuses_other_arguments(rt: HostRuntime) {
     for (part, other) in OTHER_ARGUMENTS {
         let (before, after) = REPEAT.split_once(part).expect(&rt, "a part");
+        let text = with_other(&rt, rt.alloc(), before, other, after);
+        assert!(rt; is_refused(rt.alloc(), text.as_bytes()), "{text}");
+    }
+}
+
+#[test]
+fn refuses_other_rules(rt: HostRuntime) {
+    assert!(rt; is_read(&rt, rt.alloc(), SECOND.as_bytes()));
+    for (part, other) in OTHER_RULES {
+        let (before, after) = SECOND.split_once(part).expect(&rt, "a part");
         let text = with_other(&rt, rt.alloc(), before, other, after);
         assert!(rt; is_refused(rt.alloc(), text.as_bytes()), "{text}");
     }

@@ -1,6 +1,7 @@
 -- What the proofs of the functions share.
 pub mod Numbered
 pub mod Ways
+mod Wholes
 pub mod Steps
 pub mod Writing
 pub mod Arriving

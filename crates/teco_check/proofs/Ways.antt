@@ -1,5 +1,5 @@
 -- Ways by whether they are the first.
-use Rattle.std.proofs.Common.{Bool, ◌≡◌, refl, ℕ, zero, suc, ◌==◌, ◌&&◌, false, if◌then◌else◌, List, Option, Some, None, arith}
+use Rattle.std.proofs.Common.{◌≡◌, refl, ℕ, zero, suc, ◌==◌, ◌&&◌, false, if◌then◌else◌, Option, Some, None, arith}
 use Rattle.std.proofs.lemmas.Bool.Decides.{nat_tests}
 use Rattle.teco_model.specs.declared.kind.Kind.{Kind}
 use Rattle.teco_model.specs.declared.kind.Kind.TheVariants as kind

@@ -2,6 +2,7 @@
 pub mod Here
 pub mod Kept
 pub mod Says
+pub mod Rounds
 pub mod Writes
 pub mod Ways
 pub mod Known

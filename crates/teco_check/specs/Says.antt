@@ -30,7 +30,12 @@ abbrev pub Prints : Result Polynomial ℕ → Result Polynomial Overflow → Typ
 Prints printed (Ok number) = printed ≡ Ok number
 Prints printed (Err at) = printed ≡ Err at.node
 
+-- so is where the turns are multiplied
+abbrev pub Multiplies : Result (Unit {0}) ℕ → Result (Unit {0}) Overflow → Type 0
+Multiplies multiplied (Ok done) = multiplied ≡ Ok tt
+Multiplies multiplied (Err at) = multiplied ≡ Err at.node
+
 -- there is a node of that number
-abbrev pub OverflowsAt : List Node → Result Polynomial Overflow → Type 0
-OverflowsAt nodes (Ok number) = Unit {0}
+abbrev pub OverflowsAt : {X : Type 0} → List Node → Result X Overflow → Type 0
+OverflowsAt nodes (Ok x) = Unit {0}
 OverflowsAt nodes (Err at) = IsNumberOf nodes at.node

@@ -1,6 +1,7 @@
 //! What enters the body of an iteration, and what is chosen for it.
 ghost use Rattle.std.specs.Prelude.{◌≡◌, ◌<◌, ◌≤◌, length, option_map, option_copied, Some, Ok};
 ghost use Rattle.teco_model.specs.Element as elements;
+ghost use Rattle.teco_verifier.specs.facts.Ranks as ranks;
 ghost use Rattle.teco_verifier.specs.table.Closed as rules;
 ghost use Rattle.teco_check.specs.Here.{node_at};
 
@@ -12,7 +13,7 @@ use teco_facts::{Changes, Choice, Facts, body_start, turns};
 use teco_model::Element;
 use teco_model::kind::{Flow, Kind};
 use teco_poly::Poly;
-use teco_verifier::Refusal;
+use teco_verifier::{Rank, Refusal};
 
 /// Whether an element is a <.
 pub fn begins_iteration(read: &Option<Element<'_>>) -> bool
@@ -49,6 +50,16 @@ fn start_stands(
 {
     let stands = choice.stands(changes, is_counted(&entering), most, &entering, end);
     say_same(start, &body_start(choice, changes, entering)) && stands
+}
+
+/// What falls in each turn, from what is known at the > where that is reached.
+pub fn rank_at(end: Option<&Facts>) -> Option<Rank>
+    ensures { result ≡ ranks.rank_at (option_copied end.entry) }
+{
+    match end {
+        None => None,
+        Some(facts) => facts.rank(),
+    }
 }
 
 // Whether the body stands, where the choice or one of the facts may be absent.
@@ -93,7 +104,7 @@ pub fn is_entered(
                 entering,
                 start,
                 &table.choice(number),
-                &turns(facts),
+                &turns(rank_at(end), facts),
             )
         }
     }

@@ -4,7 +4,7 @@ ghost use Rattle.teco_base.specs.declared.TheConstants.{REGISTERS};
 ghost use Rattle.teco_verifier.specs.table.Deriving as rules;
 
 use teco_base::REGISTERS;
-use teco_facts::{Choice, Facts};
+use teco_facts::{Choice, Facts, Margins};
 use teco_poly::Poly;
 use teco_verifier::{LongerText, LoopLine};
 
@@ -27,6 +27,7 @@ fn choice_of(facts: &Facts, chosen: &LoopLine) -> Choice
     Choice {
         held: chosen.held,
         kept: chosen.kept,
+        margins: Margins::of(chosen.distances),
         texts: with_longer(&chosen.longer, &facts.texts()),
     }
 }

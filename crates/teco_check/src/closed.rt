@@ -16,8 +16,8 @@ use crate::same::{is_covered, is_entry};
 use crate::table::Table;
 use std::alloc::Global;
 use teco_expansion::Nodes;
-use teco_facts::{Edges, Facts, Fault};
-use teco_model::{ArgumentRange, Element};
+use teco_facts::{Edges, Entry, Facts, Fault};
+use teco_model::Element;
 
 // Whether an edge is covered where it leads. Behind all nodes nothing is known; the return of the
 // entry alone leads there.
@@ -177,20 +177,15 @@ fn check_at(nodes: &Nodes<'_>, table: &Table, number: usize) -> Result<(), Bad>
     }
 }
 
-/// Whether a table is closed for an entry that takes the declared argument, if there is one; or
+/// Whether a table is closed for what the entry is verified with; or
 /// else the number of the first node at which a condition fails. It takes time by the nodes and
 /// registers, and at each node by the pairs that were pushed since the entry and the parentheses
 /// that are open.
-pub fn check(
-    alloc: Global,
-    argument: Option<ArgumentRange>,
-    nodes: &Nodes<'_>,
-    table: &Table,
-) -> Result<(), Bad>
-    ensures value { Says (rules.check argument nodes.now table.now) result }
+pub fn check(alloc: Global, entry: &Entry, nodes: &Nodes<'_>, table: &Table) -> Result<(), Bad>
+    ensures value { Says (rules.check entry.now nodes.now table.now) result }
     ensures told { 0 < length nodes.now → IsBadAt nodes.now result }
 {
-    let Ok(begins) = is_entry(alloc, argument, table.facts(1)) else {
+    let Ok(begins) = is_entry(alloc, entry, table.facts(1)) else {
         return Err(Bad::Memory);
     };
     if !begins {

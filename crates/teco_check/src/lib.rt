@@ -18,7 +18,7 @@ mod table;
 
 pub use bad::Bad;
 pub use behind::{along, begins_turn, edges_at, edges_from, take_along};
-pub use bodies::begins_iteration;
+pub use bodies::{begins_iteration, rank_at};
 pub use chosen::choice_for;
 pub use closed::check;
 pub use derivation::{NotDerived, derive};

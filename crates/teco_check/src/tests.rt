@@ -4,12 +4,13 @@ use super::*;
 use std::alloc::{AllocError, Global};
 use std::process::Abort;
 use std::test::*;
-use teco_base::{LIMIT, Reg};
+use teco_base::{LIMIT, REGISTERS, Reg};
 use teco_expansion::{ExpandFault, Nodes, expand};
+use teco_facts::Entry;
 use teco_library::Library;
 use teco_model::ArgumentRange;
 use teco_poly::Poly;
-use teco_verifier::LoopLine;
+use teco_verifier::{Distances, LoopLine, Rules};
 
 // A library, the number of its `<` and what is held there at the start of a turn, or 0, commands
 // and size.
@@ -34,6 +35,15 @@ const ROWS: [Row; 5] = [
     ),
     (b"@^UA/HXB2<GB>/", 5, b"2*N", b"10", b"3*N"),
 ];
+
+// An entry of the first edition.
+fn entry_of(argument: Option<ArgumentRange>) -> Entry {
+    Entry {
+        rules: Rules::First,
+        lengths: [None; REGISTERS],
+        argument,
+    }
+}
 
 // The library of a file.
 fn library_of(rt: &impl Abort, alloc: Global, file: &[u8]) -> Library {
@@ -64,6 +74,7 @@ fn choices(rt: &impl Abort, alloc: Global, number: usize, held: &[u8]) -> Vec<Lo
             number,
             held: Poly::read(held).expect(rt, "a polynomial"),
             kept: true,
+            distances: Distances { back: 0, fore: 0 },
             longer: Vec::new(alloc),
         };
         if let Err(refused) = lines.push(line) {
@@ -77,12 +88,12 @@ fn choices(rt: &impl Abort, alloc: Global, number: usize, held: &[u8]) -> Vec<Lo
 fn table_of(
     rt: &impl Abort,
     alloc: Global,
-    argument: &Option<ArgumentRange>,
+    entry: &Entry,
     nodes: &Nodes<'_>,
     lines: &[LoopLine],
 ) -> Table {
-    let answer = match derive(alloc, *argument, nodes, lines) {
-        Err(NotDerived::Memory) => derive(alloc, *argument, nodes, lines),
+    let answer = match derive(alloc, entry, nodes, lines) {
+        Err(NotDerived::Memory) => derive(alloc, entry, nodes, lines),
         answer => answer,
     };
     match answer {
@@ -92,14 +103,9 @@ fn table_of(
 }
 
 // What the checker says of a table.
-fn checked(
-    alloc: Global,
-    argument: &Option<ArgumentRange>,
-    nodes: &Nodes<'_>,
-    table: &Table,
-) -> Result<(), Bad> {
-    match check(alloc, *argument, nodes, table) {
-        Err(Bad::Memory) => check(alloc, *argument, nodes, table),
+fn checked(alloc: Global, entry: &Entry, nodes: &Nodes<'_>, table: &Table) -> Result<(), Bad> {
+    match check(alloc, entry, nodes, table) {
+        Err(Bad::Memory) => check(alloc, entry, nodes, table),
         answer => answer,
     }
 }
@@ -110,11 +116,11 @@ fn prints_what_is_closed(rt: HostRuntime) {
         let library = library_of(&rt, rt.alloc(), file);
         let nodes = nodes_of(&rt, rt.alloc(), &library);
         let lines = choices(&rt, rt.alloc(), number, held);
-        let table = table_of(&rt, rt.alloc(), &None, &nodes, &lines);
+        let table = table_of(&rt, rt.alloc(), &entry_of(None), &nodes, &lines);
         assert!(rt; table.len() == nodes.len());
-        assert!(rt; checked(rt.alloc(), &None, &nodes, &table).is_ok());
-        assert!(rt; commands(None, &nodes, &table).ok() == Poly::read(commands_text));
-        assert!(rt; size(&nodes, &table).ok() == Poly::read(size_text));
+        assert!(rt; checked(rt.alloc(), &entry_of(None), &nodes, &table).is_ok());
+        assert!(rt; commands(&entry_of(None), &nodes, &table).ok() == Poly::read(commands_text));
+        assert!(rt; size(&entry_of(None), &nodes, &table).ok() == Poly::read(size_text));
         let needs = needs_in(&nodes, &table);
         assert!(rt; !needs.input && !needs.output);
         if let Ok(printed) = loops_of(rt.alloc(), &nodes, &table) {
@@ -133,9 +139,9 @@ fn refuses_too_small_a_choice(rt: HostRuntime) {
         let library = library_of(&rt, rt.alloc(), file);
         let nodes = nodes_of(&rt, rt.alloc(), &library);
         let lines = choices(&rt, rt.alloc(), number, held);
-        let table = table_of(&rt, rt.alloc(), &None, &nodes, &lines);
+        let table = table_of(&rt, rt.alloc(), &entry_of(None), &nodes, &lines);
         let wanted = Bad::Edge { node: number };
-        assert!(rt; checked(rt.alloc(), &None, &nodes, &table) == Err(wanted));
+        assert!(rt; checked(rt.alloc(), &entry_of(None), &nodes, &table) == Err(wanted));
     }
 }
 
@@ -145,13 +151,14 @@ fn counts_the_digits_of_an_argument(rt: HostRuntime) {
     let nodes = nodes_of(&rt, rt.alloc(), &library);
     let lines = choices(&rt, rt.alloc(), 2, b"9 + N");
     let argument = ArgumentRange::between(1, 10);
-    let table = table_of(&rt, rt.alloc(), &argument, &nodes, &lines);
-    assert!(rt; checked(rt.alloc(), &argument, &nodes, &table).is_ok());
-    assert!(rt; commands(argument, &nodes, &table).ok() == Poly::read(b"24"));
-    assert!(rt; size(&nodes, &table).ok() == Poly::read(b"10 + N"));
-    let other = ArgumentRange::between(1, 11);
+    let entry = entry_of(argument);
+    let table = table_of(&rt, rt.alloc(), &entry, &nodes, &lines);
+    assert!(rt; checked(rt.alloc(), &entry, &nodes, &table).is_ok());
+    assert!(rt; commands(&entry, &nodes, &table).ok() == Poly::read(b"24"));
+    assert!(rt; size(&entry_of(None), &nodes, &table).ok() == Poly::read(b"10 + N"));
+    let other = entry_of(ArgumentRange::between(1, 11));
     assert!(rt; checked(rt.alloc(), &other, &nodes, &table) == Err(Bad::Edge { node: 1 }));
-    assert!(rt; checked(rt.alloc(), &None, &nodes, &table) == Err(Bad::Edge { node: 1 }));
+    assert!(rt; checked(rt.alloc(), &entry_of(None), &nodes, &table) == Err(Bad::Edge { node: 1 }));
 }
 
 // A text of A that pushes one pair, and then goes to the begin so often.
@@ -186,8 +193,8 @@ fn packs_what_was_pushed(rt: HostRuntime) {
     let file = pushing_file(&rt, rt.alloc(), 140);
     let library = library_of(&rt, rt.alloc(), &file);
     let nodes = nodes_of(&rt, rt.alloc(), &library);
-    let table = table_of(&rt, rt.alloc(), &None, &nodes, &[]);
-    assert!(rt; checked(rt.alloc(), &None, &nodes, &table).is_ok());
+    let table = table_of(&rt, rt.alloc(), &entry_of(None), &nodes, &[]);
+    assert!(rt; checked(rt.alloc(), &entry_of(None), &nodes, &table).is_ok());
     assert!(rt; lie_together(&table, 3, 127));
     assert!(rt; !lie_together(&table, 127, 128));
     assert!(rt; lie_together(&table, 128, 140));

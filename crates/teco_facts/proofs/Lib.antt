@@ -1,5 +1,8 @@
 -- What the proofs of the functions share.
 pub mod Ends
+pub mod Entries
+pub mod Parts
+pub mod Lengths
 pub mod Linear
 pub mod Places
 pub mod Wholes

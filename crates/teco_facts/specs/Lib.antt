@@ -1,5 +1,9 @@
 -- The words of the contracts.
 pub mod Numbers
+pub mod Descents
+pub mod Behind
+pub mod Offsets
+pub mod Counting
 pub mod Each
 pub mod Does
 pub mod Seen

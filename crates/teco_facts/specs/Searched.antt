@@ -7,7 +7,7 @@ use Rattle.teco_verifier.specs.facts.Attempt.{◌>>=◌}
 use Rattle.teco_verifier.specs.facts.Facts.{Position, Facts}
 use Rattle.teco_verifier.specs.facts.Joins.{joined_position}
 use Rattle.teco_verifier.specs.facts.Motions.{success}
-use Rattle.teco_verifier.specs.facts.Searches.{minimum_of, shift_found}
+use Rattle.teco_verifier.specs.facts.Searches.{digit_found, minimum_of, shift_found}
 use Rattle.teco_verifier.specs.facts.Shifts.{shifted}
 use Rattle.teco_verifier.specs.facts.Values.{value_in}
 
@@ -15,7 +15,11 @@ use Rattle.teco_verifier.specs.facts.Values.{value_in}
 abbrev pub facts_found : Search → List ℕ → List ℕ → Facts → Result Facts Refusal
 facts_found s text second facts = do
   least ← minimum_of text
-  shifted (shift_found s least (length second) facts.position.distances) facts
+  shifted
+      (record (shift_found s least (length second) facts.position.distances) {
+        digit = digit_found facts.rules s text;
+      })
+      facts
 
 -- with the position where it failed
 abbrev pub facts_of_answer : Facts → Position → Result Facts Refusal

@@ -1,7 +1,7 @@
 -- The numbers that take a way, as the rules have them.
 use Rattle.teco_verifier.specs.facts.Ways as ways
 use Rattle.teco_facts.specs.declared.ways.Numbers.{Numbers}
-use Rattle.teco_facts.specs.declared.ways.Numbers.TheVariants.{Zero, NotZero, Negative, NotNegative, Positive, NotPositive, All}
+use Rattle.teco_facts.specs.declared.ways.Numbers.TheVariants.{Zero, NotZero, Negative, NotNegative, Positive, NotPositive, Characters, Digits, All}
 
 abbrev pub seen : Numbers → ways.Numbers
 seen Zero = ways.Zero
@@ -10,4 +10,6 @@ seen Negative = ways.Negative
 seen NotNegative = ways.NotNegative
 seen Positive = ways.Positive
 seen NotPositive = ways.NotPositive
+seen Characters = ways.Characters
+seen Digits = ways.Digits
 seen All = ways.All

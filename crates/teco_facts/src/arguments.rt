@@ -1,5 +1,6 @@
 //! What is known of the pending arguments.
 ghost use Rattle.std.specs.Prelude.{◌≡◌, IfOk, OnOk};
+ghost use Rattle.std.specs.Option.{option_map_or};
 ghost use Rattle.teco_verifier.specs.facts.Argument as given;
 ghost use Rattle.teco_verifier.specs.facts.Arguments as rules;
 ghost use Rattle.teco_verifier.specs.facts.Covers as covers;
@@ -39,7 +40,7 @@ impl Model for Arguments {
 impl Arguments {
     /// Nothing is pending but the argument that is declared.
     pub fn declared(alloc: Global, argument: Option<ArgumentRange>) -> Arguments
-        ensures { result ≡ (given.facts_given argument).arguments }
+        ensures { result ≡ option_map_or given.known_in argument rules.no_arguments }
     {
         let level = match argument {
             None => Level::empty(),

@@ -2,6 +2,7 @@
 ghost use Rattle.std.specs.Prelude.{◌≡◌, length, option_copied};
 ghost use Rattle.teco_base.specs.declared.TheConstants.{REGISTERS};
 ghost use Rattle.teco_verifier.specs.facts.Bodies as bodies;
+ghost use Rattle.teco_verifier.specs.facts.Ranks as ranks;
 ghost use Rattle.teco_verifier.specs.facts.Shifts as shifts;
 ghost use Rattle.teco_facts.specs.Chosen as chosen;
 
@@ -16,7 +17,7 @@ use crate::saved::Saved;
 use std::marker::Model;
 use teco_base::REGISTERS;
 use teco_poly::Poly;
-use teco_verifier::Refusal;
+use teco_verifier::{Rank, Refusal, Rules};
 
 /// What is chosen: how much is held at most at the start of each turn, how long the texts are at
 /// most, and whether the iteration is kept: what is ahead, and the falls of those outside, are then
@@ -25,6 +26,7 @@ use teco_verifier::Refusal;
 pub struct Choice {
     pub held: Poly,
     pub kept: bool,
+    pub margins: Margins,
     pub texts: [Poly; REGISTERS],
 }
 
@@ -33,9 +35,9 @@ impl Model for Choice {
 
     ghost Value = { bodies.Choice };
 
-    ghost view = { λ c. record { held = c.held; kept = c.kept; texts = c.texts } };
+    ghost view = { λ c. record { held = c.held; kept = c.kept; distances = c.margins; texts = c.texts } };
 
-    ghost inverse = { λ c. record { held = c.held; kept = c.kept; texts = c.texts } };
+    ghost inverse = { λ c. record { held = c.held; kept = c.kept; margins = c.distances; texts = c.texts } };
 
     ghost use Rattle.std.specs.Prelude.{◌≡◌, length};
     ghost use Rattle.teco_base.specs.declared.TheConstants.{REGISTERS};
@@ -77,34 +79,75 @@ impl Position {
     }
 
     // The position at the start of a body.
-    fn at_start(&self, choice: &Choice, changes: &Changes) -> Position
-        ensures { result ≡ bodies.position_at_start choice.now changes.now self.now }
+    fn at_start(&self, rules: Rules, choice: &Choice, changes: &Changes) -> Position
+        ensures { result ≡ bodies.position_at_start rules choice.now changes.now self.now }
     {
         Position {
-            margins: Margins::nowhere(),
-            falls: falls_at_start(choice.kept, &self.falls),
+            margins: choice.margins,
+            falls: falls_at_start(rules, choice.kept, choice.margins, &self.falls),
             ahead: if choice.kept { self.ahead } else { choice.held },
             saved: self.saved_at_start(changes),
+            digit: None,
+        }
+    }
+
+    // Whether the held fall of the innermost iteration is known to be at least so much.
+    fn has_own_held_fall(&self, least: u32) -> bool
+        ensures { result ≡ ranks.has_own_held_fall least self.now }
+    {
+        match self.falls.as_slice() {
+            [own, ..] => is_known(least, own.held),
+            [] => false,
         }
     }
 
     // Whether the fall of the innermost iteration is known to be at least so much.
     fn has_own_fall(&self, least: u32) -> bool
-        ensures { result ≡ bodies.has_own_fall least self.now }
+        ensures { result ≡ ranks.has_own_fall least self.now }
     {
         match self.falls.as_slice() {
-            [Some(fall), ..] => i64::from(least) <= *fall,
-            _ => false,
+            [own, ..] => is_known(least, own.fall),
+            [] => false,
         }
     }
 }
 
+// Whether a fall is known to be at least so much.
+fn is_known(least: u32, fall: Option<i64>) -> bool
+    ensures { result ≡ ranks.is_known least fall }
+{
+    match fall {
+        None => false,
+        Some(fall) => i64::from(least) <= fall,
+    }
+}
+
 impl Facts {
+    /// What falls in each turn of the innermost iteration, where this is known at its end.
+    pub fn rank(&self) -> Option<Rank>
+        ensures { result ≡ ranks.rank_of self.now.position }
+    {
+        rank_of(&self.known.position)
+    }
+
     /// Whether the fall of the innermost iteration is known to be at least so much.
     pub fn has_fallen(&self, least: u32) -> bool
-        ensures { result ≡ bodies.has_own_fall least self.now.position }
+        ensures { result ≡ ranks.has_own_fall least self.now.position }
     {
         self.known.position.has_own_fall(least)
+    }
+}
+
+// What falls in each turn: what is ahead, where it is known to fall, or else what is held.
+fn rank_of(position: &Position) -> Option<Rank>
+    ensures { result ≡ ranks.rank_of position.now }
+{
+    if position.has_own_fall(1) {
+        Some(Rank::Ahead)
+    } else if position.has_own_held_fall(1) {
+        Some(Rank::Held)
+    } else {
+        None
     }
 }
 
@@ -112,7 +155,7 @@ impl Facts {
 fn counts(counted: bool, position: &Position) -> bool
     ensures { result ≡ bodies.counts counted position.now }
 {
-    counted || position.has_own_fall(1)
+    counted || rank_of(position).is_some()
 }
 
 // Whether a kept iteration lets no more be ahead from turn to turn.
@@ -160,12 +203,25 @@ fn has_room(choice: &Choice, turns: &Poly, entering: &Facts, end: &Facts) -> boo
     }
 }
 
+// Whether these distances may be chosen: the first edition chooses none.
+fn may_choose(rules: Rules, margins: Margins) -> bool
+    ensures { result ≡ bodies.may_choose rules margins }
+{
+    match rules {
+        Rules::First => margins.covers(Margins::nowhere()),
+        Rules::Second => true,
+    }
+}
+
 impl Choice {
     /// Whether the choice is enough to begin with: it holds what the < does.
     pub fn begins(&self, entering: &Facts) -> bool
         ensures { result ≡ bodies.begins self.now entering.now }
     {
-        entering.known.held.le(&self.held) && each_covers(&self.texts, &entering.known.texts)
+        entering.known.held.le(&self.held)
+            && each_covers(&self.texts, &entering.known.texts)
+            && self.margins.covers(entering.margins())
+            && may_choose(entering.rules(), self.margins)
     }
 }
 
@@ -184,7 +240,8 @@ fn unknown_where(written: &[bool; REGISTERS], numbers: &[Range; REGISTERS]) -> [
 pub fn body_start(choice: &Choice, changes: &Changes, mut entering: Facts) -> Facts
     ensures { result ≡ bodies.body_start choice.now changes.now entering }
 {
-    entering.known.position = entering.known.position.at_start(choice, changes);
+    let rules = entering.rules();
+    entering.known.position = entering.known.position.at_start(rules, choice, changes);
     entering.known.held = choice.held;
     entering.known.numbers = unknown_where(&changes.written, &entering.known.numbers);
     entering.known.texts = choice.texts;
@@ -202,6 +259,7 @@ fn begins_again(choice: &Choice, changes: &Changes, entering: &Facts, end: &Fact
         && each_covers(&choice.texts, &end.known.texts)
         && covers_pushes(entering, end)
         && saved.covers(end.known.position.saved)
+        && choice.margins.covers(end.margins())
 }
 
 impl Choice {

@@ -1,6 +1,8 @@
 //! When what is known at the end of an edge is covered by what is known at its target.
 ghost use Rattle.std.specs.Prelude.{◌≡◌, ◌&&◌};
 ghost use Rattle.teco_verifier.specs.facts.Covers as covers;
+ghost use Rattle.teco_verifier.specs.facts.Falls as falls;
+ghost use Rattle.teco_verifier.specs.facts.Values as values;
 
 use crate::arguments::Arguments;
 use crate::each::{Covers, each_covers};
@@ -8,16 +10,16 @@ use crate::facts::{Answer, Facts, Iteration, Pushed};
 use crate::level::Level;
 use crate::margins::Margins;
 use crate::number::Number;
-use crate::position::Position;
+use crate::position::{Position, is_same_mark};
 use crate::range::Range;
 use teco_model::Operator;
 use teco_poly::Poly;
 use teco_stack::Chain;
-use teco_verifier::Value;
+use teco_verifier::{CharacterCode, DigitMark, Falls, Rules, Value};
 
 // Whether two numbers are the same.
 fn are_equal(one: i64, two: i64) -> bool
-    ensures { result ≡ covers.are_equal one two }
+    ensures { result ≡ values.are_equal one two }
 {
     one <= two && two <= one
 }
@@ -26,28 +28,46 @@ fn are_equal(one: i64, two: i64) -> bool
 fn is_interval(n: Value) -> bool
     ensures { result ≡ covers.is_interval n }
 {
-    are_equal(n.ahead, 0) && are_equal(n.behind, 0)
+    are_equal(n.ahead, 0) && are_equal(n.behind, 0) && n.code.is_none()
 }
 
 // Whether each distance counts as often in both numbers.
 fn counts_as_often(one: Value, edge: Value) -> bool
-    ensures { result ≡ (covers.are_equal one.ahead edge.ahead && covers.are_equal one.behind edge.behind) }
+    ensures { result ≡ (values.are_equal one.ahead edge.ahead && values.are_equal one.behind edge.behind) }
 {
     are_equal(one.ahead, edge.ahead) && are_equal(one.behind, edge.behind)
 }
 
 // Whether what else there is has the same ends.
 fn has_same_ends(one: Value, edge: Value) -> bool
-    ensures { result ≡ (covers.are_equal one.lo edge.lo && covers.are_equal one.hi edge.hi) }
+    ensures { result ≡ (values.are_equal one.lo edge.lo && values.are_equal one.hi edge.hi) }
 {
     are_equal(one.lo, edge.lo) && are_equal(one.hi, edge.hi)
+}
+
+// Whether two numbers have the same code, or none.
+fn has_same_code(one: Option<CharacterCode>, edge: Option<CharacterCode>) -> bool
+    ensures { result ≡ covers.both_cover covers.is_same_code one edge }
+{
+    match (one, edge) {
+        (None, None) => true,
+        (Some(one), Some(edge)) => is_same_code(one, edge),
+        _ => false,
+    }
+}
+
+// Whether two codes are of the same character, or minus them.
+fn is_same_code(one: CharacterCode, edge: CharacterCode) -> bool
+    ensures { result ≡ covers.is_same_code one edge }
+{
+    are_equal(one.offset, edge.offset) && one.negated == edge.negated
 }
 
 // Whether two numbers have the same parts.
 fn is_same(one: Value, edge: Value) -> bool
     ensures { result ≡ covers.is_same one edge }
 {
-    counts_as_often(one, edge) && has_same_ends(one, edge)
+    counts_as_often(one, edge) && has_same_code(one.code, edge.code) && has_same_ends(one, edge)
 }
 
 // Whether a linear number is the same, or a range has all that the other number may be.
@@ -124,16 +144,38 @@ impl Covers for Range {
     }
 }
 
-// A fall is smaller, or the same; an unknown one is the smallest.
-impl Covers for Option<i64> {
-    ghost covers = { covers.covers_fall };
+// Whether a fall is smaller, or the same; an unknown one is the smallest.
+fn covers_fall(one: Option<i64>, edge: Option<i64>) -> bool
+    ensures { result ≡ covers.covers_fall one edge }
+{
+    match (one, edge) {
+        (None, _) => true,
+        (Some(one), Some(edge)) => one <= edge,
+        (Some(_), None) => false,
+    }
+}
 
-    fn covers(&self, edge: &Option<i64>) -> bool {
-        match (self, edge) {
-            (None, _) => true,
-            (Some(one), Some(edge)) => one <= edge,
-            (Some(_), None) => false,
-        }
+impl Covers for Falls {
+    ghost covers = { covers.covers_falls };
+
+    fn covers(&self, edge: &Falls) -> bool {
+        covers_fall(self.fall, edge.fall)
+            && covers_fall(self.far, edge.far)
+            && covers_fall(self.line, edge.line)
+            && covers_fall(self.far_line, edge.far_line)
+            && covers_fall(self.held, edge.held)
+            && covers_fall(self.rest, edge.rest)
+    }
+}
+
+// Whether a digit stands where it stands on the edge, if it is known to stand.
+fn covers_mark(one: Option<DigitMark>, edge: Option<DigitMark>) -> bool
+    ensures { result ≡ covers.covers_mark one edge }
+{
+    match (one, edge) {
+        (None, _) => true,
+        (Some(one), Some(edge)) => is_same_mark(one, edge),
+        (Some(_), None) => false,
     }
 }
 
@@ -199,6 +241,16 @@ pub fn covers_pushes(one: &Facts, edge: &Facts) -> bool
     covers_pairs(one.known.pushes.chain(), edge.known.pushes.chain())
 }
 
+// Whether two editions are the same.
+fn is_same_edition(one: Rules, other: Rules) -> bool
+    ensures { result ≡ covers.is_same_truth (falls.is_second one) (falls.is_second other) }
+{
+    matches!(
+        (one, other),
+        (Rules::First, Rules::First) | (Rules::Second, Rules::Second)
+    )
+}
+
 // Whether the arguments are covered: each level, of as many.
 fn covers_arguments(one: &Arguments, edge: &Arguments, margins: Margins) -> bool
     ensures { result ≡ covers.covers_arguments margins one.now edge.now }
@@ -215,6 +267,7 @@ impl Position {
             && each_covers(self.falls.as_slice(), edge.falls.as_slice())
             && edge.ahead.le(&self.ahead)
             && self.saved.covers(edge.saved)
+            && covers_mark(self.digit, edge.digit)
     }
 }
 
@@ -256,7 +309,8 @@ impl Facts {
     pub fn covers(&self, edge: &Facts) -> bool
         ensures { result ≡ covers.covers self.now edge.now }
     {
-        covers_arguments(&self.known.arguments, &edge.known.arguments, edge.margins())
+        is_same_edition(self.rules(), edge.rules())
+            && covers_arguments(&self.known.arguments, &edge.known.arguments, edge.margins())
             && covers_answer(&self.known.answer, &edge.known.answer)
             && self.known.position.covers(&edge.known.position)
             && self.has_iterations_of(edge)

@@ -8,12 +8,19 @@ use crate::arithmetic::positive;
 use crate::facts::{Facts, Foreseen};
 use crate::level::Taken;
 use crate::margins::Margins;
-use crate::motion::{count_of, shift_by_lines};
+use crate::motion::count_of;
 use crate::number::Number;
 use crate::range::Range;
-use crate::shift::Shift;
+use crate::shift::{Descent, KnownPlace, Shift};
 use teco_model::kind::Unit;
-use teco_verifier::Refusal;
+use teco_verifier::{Refusal, Rules};
+
+// How many characters a count takes away at the least.
+fn least_count(n: Range) -> u64
+    ensures { result ≡ deletions.least_count n }
+{
+    positive(n.lo).max(positive(-n.hi))
+}
 
 // The characters that a count names are known to be there, on either side.
 fn character_deletion(margins: Margins, n: Range) -> Result<Shift, Refusal>
@@ -22,20 +29,36 @@ fn character_deletion(margins: Margins, n: Range) -> Result<Shift, Refusal>
     let behind = positive(-n.lo);
     let ahead = positive(n.hi);
     if ahead <= margins.fore && behind <= margins.back {
-        let fall = Some(positive(n.lo) as i64);
-        Ok(Shift::moving(margins.back - behind, margins.fore - ahead, fall))
+        let fall = Descent::By(Some(positive(n.lo) as i64));
+        let shift = Shift::moving(margins.back - behind, margins.fore - ahead, fall);
+        Ok(shift.losing(least_count(n)))
     } else {
         Err(Refusal::Deletion)
     }
 }
 
 // A part between two places that are known to lie in the buffer.
-fn range_deletion(m: Number, n: Number, margins: Margins) -> Result<Shift, Refusal>
-    ensures { result ≡ deletions.range_deletion m n margins }
+fn range_deletion(rules: Rules, m: Number, n: Number, margins: Margins) -> Result<Shift, Refusal>
+    ensures { result ≡ deletions.range_deletion rules m n margins }
 {
-    let from = Shift::to(m.place(), margins)?;
-    let to = Shift::to(n.place(), margins)?;
-    Ok(from.nearer(&to))
+    let from = KnownPlace::bound(rules, m, margins)?;
+    let to = KnownPlace::bound(rules, n, margins)?;
+    Ok(from.nearer(to))
+}
+
+// nK: the lines from the pointer on, where n is at least 1; a character is taken away where one
+// stood at the pointer.
+fn lines_deletion(margins: Margins, n: Range) -> Shift
+    ensures { result ≡ deletions.lines_deletion margins n }
+{
+    let still = Descent::By(Some(0));
+    if 1 <= n.lo {
+        Shift::moving(margins.back, 0, Descent::PastLine).losing(margins.fore.min(1))
+    } else if n.hi <= 0 {
+        Shift::moving(0, margins.fore, still)
+    } else {
+        Shift::moving(0, 0, still)
+    }
 }
 
 // A part, or the lines that the argument counts.
@@ -46,11 +69,11 @@ fn part_deletion(taken: Taken, facts: Facts) -> Result<Foreseen, Refusal>
     let margins = facts.margins();
     match (taken.first, taken.value) {
         (Some(m), Some(n)) => {
-            let shift = range_deletion(m, n, margins)?;
+            let shift = range_deletion(facts.rules(), m, n, margins)?;
             Foreseen::behind(&shift.ending(), facts)
         }
         (_, value) => {
-            let shift = shift_by_lines(Some(0), margins, count_of(value, margins));
+            let shift = lines_deletion(margins, count_of(value, margins));
             Foreseen::behind(&shift.ending(), facts)
         }
     }

@@ -321,7 +321,7 @@ fn edges_of(placed: &Placed<'_>, answer: &Option<Answer>, facts: Facts) -> Resul
             on(facts_after_query(kind, element.colons, taken, facts))
         }
         Kind::Stack(kind) => stack_edges(kind, placed.library, facts),
-        Kind::Call(_) => Ok(Edges::on(facts)),
+        Kind::Call(_) => Ok(Edges::on(facts.without_digit())),
         Kind::Flow(kind) => flow_edges(kind, element.colons, placed.leaves, answer, facts),
         Kind::Command(kind) => on(facts_after_command(kind, placed, facts)),
         Kind::Page(kind) => on(facts_after_page(kind, facts)),
@@ -360,7 +360,7 @@ pub fn return_from(mut facts: Facts) -> Edges
     ensures { result ≡ rules.transfer_return facts }
 {
     facts.known.answer = None;
-    Edges::on(facts)
+    Edges::on(facts.without_digit())
 }
 
 /// The edge behind the end of a called text, from a copy of what is known there, if there is

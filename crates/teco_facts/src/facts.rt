@@ -9,6 +9,7 @@ ghost use Rattle.teco_facts.specs.Numbers.{AreSmall};
 ghost use Rattle.teco_facts.specs.Room.{innermost};
 
 use crate::arguments::Arguments;
+use crate::entry::Entry;
 use crate::few::Few;
 use crate::level::Level;
 use crate::margins::Margins;
@@ -19,10 +20,9 @@ use crate::shift::Shift;
 use std::alloc::{AllocError, Global};
 use std::marker::Model;
 use teco_base::{REGISTERS, Reg};
-use teco_model::ArgumentRange;
 use teco_poly::Poly;
 use teco_stack::Stack;
-use teco_verifier::Refusal;
+use teco_verifier::{DigitMark, Refusal, Rules};
 
 /// The positions where a search found, and where it failed.
 #[derive(Drop)]
@@ -96,6 +96,7 @@ pub struct Facts {
 // What facts say.
 #[derive(Drop)]
 pub(crate) struct Known {
+    pub rules: Rules,
     pub arguments: Arguments,
     pub answer: Option<Answer>,
     pub position: Position,
@@ -114,6 +115,7 @@ impl Model for Facts {
     ghost Value = { rules.Facts };
 
     ghost view = { λ f. let k = f.known.value in record {
+      rules = k.rules;
       arguments = k.arguments;
       answer =
           k.answer;
@@ -133,11 +135,12 @@ impl Model for Facts {
 impl Facts {
     /// Before the first element: nothing is pending but the argument that is declared, and N holds
     /// all. It is there if there is memory.
-    pub fn entry(alloc: Global, argument: Option<ArgumentRange>) -> Result<Facts, AllocError>
-        ensures { IfOk result (λ facts. facts ≡ given.facts_given argument) }
+    pub fn entry(alloc: Global, entry: &Entry) -> Result<Facts, AllocError>
+        ensures { IfOk result (λ facts. facts ≡ given.facts_given entry.now) }
     {
         let known = Known {
-            arguments: Arguments::declared(alloc, argument),
+            rules: entry.rules,
+            arguments: Arguments::declared(alloc, entry.argument),
             answer: None,
             position: Position::start(),
             iterations: Few::empty(Iteration {
@@ -146,7 +149,7 @@ impl Facts {
             }),
             held: Poly::variable(),
             numbers: [Range::any(); REGISTERS],
-            texts: [Poly::variable(); REGISTERS],
+            texts: entry.texts(),
             pushes: Stack::new(alloc),
         };
         let known = Box::new(alloc, known)?;
@@ -158,6 +161,7 @@ impl Facts {
         ensures { IfOk result (λ copy. copy ≡ self.now) }
     {
         let known = Known {
+            rules: self.known.rules,
             arguments: self.known.arguments.copied()?,
             answer: answer_copied(&self.known.answer),
             position: self.known.position.copied(),
@@ -172,6 +176,28 @@ impl Facts {
             alloc: self.alloc,
             known,
         })
+    }
+
+    /// The edition of the rules.
+    pub fn rules(&self) -> Rules
+        ensures { result ≡ self.now.rules }
+    {
+        self.known.rules
+    }
+
+    /// Where a digit is known to stand.
+    pub fn digit(&self) -> Option<DigitMark>
+        ensures { result ≡ self.now.position.digit }
+    {
+        self.known.position.digit
+    }
+
+    /// The facts where no digit is known.
+    pub fn without_digit(mut self) -> Facts
+        ensures { result ≡ rules.without_digit self }
+    {
+        self.known.position.digit = None;
+        self
     }
 
     /// The distances of the pointer.
@@ -285,7 +311,7 @@ impl Facts {
         let held = sum_of(&self.known.held, &shift.growth)?;
         let margins = self.known.position.margins;
         self.known.arguments.settle(margins, shift.ends);
-        self.known.position = self.known.position.after(shift, held);
+        self.known.position = self.known.position.after(self.known.rules, shift, held);
         self.known.held = held;
         Ok(self)
     }
@@ -321,9 +347,16 @@ impl Foreseen {
     pub fn answering(range: Range, facts: Facts) -> Foreseen
         ensures { result ≡ shifts.answering range facts }
     {
+        Foreseen::giving(Number::within(range), facts)
+    }
+
+    /// With an answer.
+    pub fn giving(answer: Number, facts: Facts) -> Foreseen
+        ensures { result ≡ shifts.answering_value answer facts }
+    {
         Foreseen {
             facts,
-            answer: Some(Number::within(range)),
+            answer: Some(answer),
         }
     }
 

@@ -1,25 +1,97 @@
-//! How much less is ahead since the turns of open iterations began, the innermost first.
-ghost use Rattle.std.specs.Prelude.{◌≡◌, map, IfSome, IsTrue};
+//! How much less there is since the turns of open iterations began, the innermost first.
+ghost use Rattle.std.specs.Prelude.{◌≡◌, ◌≤◌, ◌^◌, ◌+ℤ◌, ◌≤ℤ◌, length, map, pos, IfSome, IsTrue, Some, None};
+ghost use Rattle.std.specs.Int.{int_min};
 ghost use Rattle.teco_verifier.specs.facts.Bodies as bodies;
+ghost use Rattle.teco_verifier.specs.facts.Falls as rules;
 ghost use Rattle.teco_verifier.specs.facts.Joins as joins;
-ghost use Rattle.teco_verifier.specs.facts.Shifts as shifts;
-ghost use Rattle.teco_facts.specs.Numbers.{IsNear, IsSmallFall, AreSmall};
+ghost use Rattle.teco_verifier.specs.facts.Ways as ways;
+ghost use Rattle.teco_facts.specs.Behind.{falls_at, falls_near};
+ghost use Rattle.teco_facts.specs.Descents.{seen, IsNearDescent};
+ghost use Rattle.teco_facts.specs.Numbers.{IsNear, IsSmallFall, IsSmallFalls, AreSmall};
 
 use crate::each::Meets;
 use crate::few::Few;
+use crate::margins::Margins;
+use crate::shift::{Descent, Shift};
+use teco_verifier::{Falls, Rules};
 
 const LEAST: i64 = -4_611_686_018_427_387_904;
 
 const MOST: i64 = 4_611_686_018_427_387_904;
 
-/// A least fall for each open iteration, where it is known.
-pub type Falls = Few<Option<i64>>;
+/// The least falls of each open iteration.
+pub type OpenFalls = Few<Falls>;
+
+/// None is known.
+pub fn none_known() -> Falls
+    ensures { result ≡ record {
+      fall = None;
+      far = None;
+      line = None;
+      far_line = None;
+      held = None;
+      rest = None;
+    } }
+{
+    Falls {
+        fall: None,
+        far: None,
+        line: None,
+        far_line: None,
+        held: None,
+        rest: None,
+    }
+}
+
+/// Where a turn begins nothing has fallen.
+pub fn falls_at_turn(edition: Rules) -> Falls
+    ensures { result ≡ rules.falls_at_turn edition }
+{
+    let fall = Some(0);
+    match edition {
+        Rules::First => Falls {
+            fall,
+            ..none_known()
+        },
+        Rules::Second => Falls {
+            fall,
+            far: fall,
+            line: fall,
+            far_line: fall,
+            held: fall,
+            rest: fall,
+        },
+    }
+}
+
+/// The greater of what is known.
+pub fn greater_known(one: Option<i64>, two: Option<i64>) -> Option<i64>
+    ensures value { result ≡ rules.greater_known one two }
+    ensures near { IfSome one IsNear → IfSome two IsNear → IfSome result IsNear }
+    ensures small { IsSmallFall one → IsSmallFall two → IsSmallFall result }
+{
+    match (one, two) {
+        (Some(one), Some(two)) => Some(one.max(two)),
+        (None, two) => two,
+        (one, None) => one,
+    }
+}
+
+// The smaller of what is known, of which an unknown one is the smallest.
+fn smaller_known(one: Option<i64>, two: Option<i64>) -> Option<i64>
+    ensures { result ≡ rules.smaller_known one two }
+{
+    match (one, two) {
+        (Some(one), Some(two)) => Some(one.min(two)),
+        _ => None,
+    }
+}
 
 // A fall behind another one.
 fn fall_after(by: Option<i64>, fall: Option<i64>) -> Option<i64>
     requires near { IfSome by IsNear }
     requires small { IsSmallFall fall }
-    ensures { result ≡ shifts.fall_after by fall }
+    ensures { result ≡ rules.fall_after by fall }
 {
     match (by, fall) {
         (Some(by), Some(fall)) => Some(fall + by),
@@ -27,71 +99,270 @@ fn fall_after(by: Option<i64>, fall: Option<i64>) -> Option<i64>
     }
 }
 
-/// The falls behind one more.
-pub fn falls_after(by: &Option<i64>, falls: &Falls) -> Falls
-    requires near { IfSome by.now IsNear }
-    requires small { AreSmall falls.now }
-    ensures { result ≡ map (shifts.fall_after by.now) falls.now }
+// A fall that is so much greater; falls count up to a most one.
+fn grown(by: u64, fall: Option<i64>) -> Option<i64>
+    requires { by ≤ 2 ^ 41 }
+    ensures { result ≡ rules.grown by fall }
 {
-    let falls = falls.as_slice();
-    let mut after = Few::empty(None);
-    for at in (0..falls.len()).rev() {
-        after.put(fall_after(*by, falls[at]));
+    match fall {
+        None => None,
+        Some(fall) => Some(greater_by(by as i64, fall)),
     }
-    after
 }
 
-// The smaller of two falls, of which an unknown one is the smallest.
-impl Meets for Option<i64> {
-    ghost met = { joins.smaller_fall };
+// The sum, where it is at most the most fall.
+fn greater_by(by: i64, fall: i64) -> i64
+    requires low { pos 0 ≤ℤ by }
+    requires high { by ≤ℤ pos (2 ^ 41) }
+    ensures { result ≡ int_min (fall +ℤ by) rules.most_fall }
+{
+    if fall > MOST - by { MOST } else { fall + by }
+}
 
-    fn met(self, other: Option<i64>) -> Option<i64> {
-        match (self, other) {
-            (Some(one), Some(two)) => Some(one.min(two)),
-            _ => None,
+// The falls in order: each is at least what follows from the others.
+fn ordered(margins: Margins, falls: Falls) -> Falls
+    ensures { result ≡ rules.ordered margins falls }
+{
+    let fall = if margins.fore >= 1 {
+        greater_known(falls.fall, falls.far)
+    } else {
+        falls.fall
+    };
+    let far = greater_known(falls.far, fall);
+    let line = greater_known(falls.line, grown(margins.fore.min(1), fall));
+    let far_line = greater_known(falls.far_line, greater_known(line, grown(1, far)));
+    let rest = greater_known(falls.rest, grown(margins.back + margins.fore, falls.held));
+    Falls {
+        fall,
+        far,
+        line,
+        far_line,
+        held: falls.held,
+        rest,
+    }
+}
+
+// The falls in order by the second edition; the first knows the fall alone.
+fn in_order(edition: Rules, margins: Margins, falls: Falls) -> Falls
+    ensures { result ≡ rules.in_order edition margins falls }
+{
+    match edition {
+        Rules::First => falls,
+        Rules::Second => ordered(margins, falls),
+    }
+}
+
+// What is said under a condition is no more than what is said without.
+fn falls_without_end(falls: Falls) -> Falls
+    ensures { result ≡ rules.falls_without_end falls }
+{
+    Falls {
+        far: smaller_known(falls.far, falls.fall),
+        far_line: smaller_known(falls.far_line, falls.line),
+        ..falls
+    }
+}
+
+// Of what is ahead no more is said than the fall.
+fn falls_of_fall(falls: Falls) -> Falls
+    ensures { result ≡ rules.falls_of_fall falls }
+{
+    Falls {
+        far: smaller_known(falls.far, falls.fall),
+        line: smaller_known(falls.line, falls.fall),
+        far_line: smaller_known(falls.far_line, falls.fall),
+        ..falls
+    }
+}
+
+// Backward, or by an unknown step, nothing stays but the fall.
+fn falls_by(by: Option<i64>, falls: Falls) -> Falls
+    requires near { IfSome by IsNear }
+    requires small { IsSmallFall falls.fall }
+    ensures value { result ≡ rules.falls_by by falls }
+    ensures held { result.held ≡ falls.held }
+{
+    match by {
+        Some(by) if by >= 0 => forward(by as u64, falls),
+        by => falls_of_fall(Falls {
+            fall: fall_after(by, falls.fall),
+            ..falls
+        }),
+    }
+}
+
+// Forward the line falls stay.
+fn forward(by: u64, falls: Falls) -> Falls
+    requires { by ≤ 2 ^ 41 }
+    ensures { result ≡ rules.falls_by (Some (pos by)) falls }
+{
+    Falls {
+        fall: grown(by, falls.fall),
+        far: grown(by, falls.far),
+        ..falls
+    }
+}
+
+// At the next page no more is ahead than was unread, which never grows.
+fn fall_at_page(edition: Rules, fall: Option<i64>) -> Option<i64>
+    ensures { result ≡ rules.fall_at_page edition fall }
+{
+    match edition {
+        Rules::First => fall,
+        Rules::Second => greater_known(fall, Some(0)),
+    }
+}
+
+fn falls_at_page(edition: Rules, falls: Falls) -> Falls
+    ensures value { result ≡ rules.falls_at_page edition falls }
+    ensures held { IsSmallFalls falls → IsSmallFall result.held }
+{
+    falls_without_end(Falls {
+        fall: fall_at_page(edition, falls.fall),
+        held: greater_known(falls.held, falls.rest),
+        ..falls
+    })
+}
+
+// The falls where what is ahead changes.
+fn falls_after(edition: Rules, descent: Descent, falls: Falls) -> Falls
+    requires near { IsNearDescent descent }
+    requires small { IsSmallFalls falls }
+    ensures value { result ≡ rules.falls_after edition (seen descent) falls }
+    ensures held { IsSmallFall result.held }
+{
+    match descent {
+        Descent::By(by) => falls_by(by, falls),
+        Descent::PastLine => Falls {
+            fall: greater_known(falls.fall, falls.line),
+            far: greater_known(falls.far, falls.far_line),
+            ..falls
+        },
+        Descent::InLine => Falls {
+            fall: None,
+            far: None,
+            ..falls
+        },
+        Descent::Refilled(by) => falls_without_end(forward(by, falls)),
+        Descent::NextPage => falls_at_page(edition, falls),
+    }
+}
+
+// The falls behind a shift, where the pointer has these distances.
+fn falls_behind(edition: Rules, shift: &Shift, margins: Margins, falls: Falls) -> Falls
+    requires { IsSmallFalls falls }
+    ensures { result ≡ falls_at edition shift.now margins falls }
+{
+    let moved = falls_after(edition, shift.descent, falls);
+    let held = fall_after(shift.held_fall(), moved.held);
+    in_order(edition, margins, Falls { held, ..moved })
+}
+
+/// The falls of each iteration behind a shift, where the pointer has these distances.
+pub fn all_behind(edition: Rules, shift: &Shift, margins: Margins, falls: &OpenFalls) -> OpenFalls
+    requires { AreSmall falls.now }
+    ensures { result ≡ map (falls_at edition shift.now margins) falls.now }
+{
+    let falls = falls.as_slice();
+    let mut behind = Few::empty(none_known());
+    for at in (0..falls.len()).rev() {
+        behind.put(falls_behind(edition, shift, margins, falls[at]));
+    }
+    behind
+}
+
+// What is unread is less than what was held by as much as the buffer has at the least.
+fn with_rest_of(size: Option<u64>, falls: Falls) -> Falls
+    requires { IfSome size (λ n. n ≤ 2 ^ 41) }
+    ensures { result ≡ ways.with_rest_of size falls }
+{
+    match size {
+        None => falls,
+        Some(size) => Falls {
+            rest: greater_known(falls.rest, grown(size, falls.held)),
+            ..falls
+        },
+    }
+}
+
+/// The falls of each iteration in order, where the pointer has these distances, and the buffer this
+/// least size, if one is known.
+pub fn all_near(edition: Rules, size: Option<u64>, margins: Margins, falls: &OpenFalls) -> OpenFalls
+    requires { IfSome size (λ n. n ≤ 2 ^ 41) }
+    ensures { result ≡ map (falls_near edition size margins) falls.now }
+{
+    let falls = falls.as_slice();
+    let mut near = Few::empty(none_known());
+    for at in (0..falls.len()).rev() {
+        near.put(in_order(edition, margins, with_rest_of(size, falls[at])));
+    }
+    near
+}
+
+// The smaller of the falls.
+impl Meets for Falls {
+    ghost met = { rules.smaller_falls };
+
+    fn met(self, other: Falls) -> Falls {
+        Falls {
+            fall: smaller_known(self.fall, other.fall),
+            far: smaller_known(self.far, other.far),
+            line: smaller_known(self.line, other.line),
+            far_line: smaller_known(self.far_line, other.far_line),
+            held: smaller_known(self.held, other.held),
+            rest: smaller_known(self.rest, other.rest),
         }
     }
 }
 
-/// The smaller falls.
+/// The smaller falls of each iteration.
 #[tactic(auto, using(crate::proofs::Meeting::falls_are))]
-pub fn smaller_falls(one: &Falls, two: &Falls) -> Falls
-    ensures { result ≡ joins.smaller_falls one.now two.now }
+pub fn joined_falls(one: &OpenFalls, two: &OpenFalls) -> OpenFalls
+    ensures { result ≡ joins.joined_falls one.now two.now }
 {
     one.met(two)
 }
 
-// An outer fall is kept, or unknown.
-fn fall_if(kept: bool, fall: Option<i64>) -> Option<i64>
-    ensures { result ≡ bodies.fall_if kept fall }
+// At a body's start the falls of an iteration outside are those at the < if that is kept, and what
+// is unread has not grown.
+fn falls_outside(kept: bool, falls: Falls) -> Falls
+    ensures { result ≡ rules.falls_outside kept falls }
 {
-    if kept { fall } else { None }
+    let fall = if kept { falls.fall } else { None };
+    falls_of_fall(Falls {
+        fall,
+        held: None,
+        ..falls
+    })
 }
 
-// The falls, kept or unknown.
-fn falls_if(kept: bool, falls: &Falls) -> Falls
-    ensures { result ≡ map (bodies.fall_if kept) falls.now }
+// The falls of iterations outside at the start of a body.
+fn all_outside(edition: Rules, kept: bool, margins: Margins, falls: &OpenFalls) -> OpenFalls
+    ensures value { result ≡ map (rules.in_order edition margins) (map (rules.falls_outside kept)
+        falls.now) }
+    ensures long { length result ≡ length falls.now }
 {
     let falls = falls.as_slice();
-    let mut outer = Few::empty(None);
+    let mut outside = Few::empty(none_known());
     for at in (0..falls.len()).rev() {
-        outer.put(fall_if(kept, falls[at]));
+        outside.put(in_order(edition, margins, falls_outside(kept, falls[at])));
     }
-    outer
+    outside
 }
 
 /// The falls at the start of a body: nothing has fallen in it, and those outside are kept, or
 /// unknown.
-pub fn falls_at_start(kept: bool, falls: &Falls) -> Falls
-    ensures { result ≡ bodies.falls_at_start kept falls.now }
+pub fn falls_at_start(edition: Rules, kept: bool, margins: Margins, falls: &OpenFalls) -> OpenFalls
+    ensures { result ≡ map (rules.in_order edition margins) (bodies.falls_at_start edition kept
+        falls.now) }
 {
     if falls.as_slice().is_empty() {
-        return Few::empty(None);
+        return Few::empty(none_known());
     }
     let mut outer = falls.copied();
     outer.drop_front(1);
-    let mut start = falls_if(kept, &outer);
-    start.put(Some(0));
+    let mut start = all_outside(edition, kept, margins, &outer);
+    start.put(in_order(edition, margins, falls_at_turn(edition)));
     start
 }
 
@@ -106,14 +377,27 @@ fn is_small_fall(fall: Option<i64>) -> bool
     }
 }
 
+// Whether more may be added to each fall of an iteration.
+fn is_small(falls: &Falls) -> bool
+    ensures yes { IsTrue result → IsSmallFalls falls.now }
+    ensures no { IsSmallFalls falls.now → IsTrue result }
+{
+    is_small_fall(falls.fall)
+        && is_small_fall(falls.far)
+        && is_small_fall(falls.line)
+        && is_small_fall(falls.far_line)
+        && is_small_fall(falls.held)
+        && is_small_fall(falls.rest)
+}
+
 /// Whether more may be added to each fall.
-pub fn are_small(falls: &Falls) -> bool
+pub fn are_small(falls: &OpenFalls) -> bool
     ensures yes { IsTrue result → AreSmall falls.now }
     ensures no { AreSmall falls.now → IsTrue result }
 {
     let falls = falls.as_slice();
     for at in 0..falls.len() {
-        if !is_small_fall(falls[at]) {
+        if !is_small(&falls[at]) {
             return false;
         }
     }

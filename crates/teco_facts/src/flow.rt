@@ -2,6 +2,7 @@
 ghost use Rattle.std.specs.Prelude.{◌≡◌, ◌<◌, drop, length, IfOk, IsTrue, Some};
 ghost use Rattle.teco_verifier.specs.facts.Facts as rules;
 ghost use Rattle.teco_verifier.specs.facts.Flows as flows;
+ghost use Rattle.teco_verifier.specs.facts.Ranks as ranks;
 ghost use Rattle.teco_facts.specs.Does.{Gives};
 ghost use Rattle.teco_facts.specs.Numbers.{AreSmall};
 ghost use Rattle.teco_facts.specs.Room.{HasRoom};
@@ -10,7 +11,7 @@ ghost use Rattle.teco_facts.specs.declared.few.TheConstants.{DEPTH};
 
 use crate::arithmetic::{at_most, is, positive};
 use crate::facts::{Answer, Facts, Iteration};
-use crate::falls::are_small;
+use crate::falls::falls_at_turn;
 use crate::fault::Fault;
 use crate::few::DEPTH;
 use crate::number::Number;
@@ -20,7 +21,7 @@ use crate::ways::{Numbers, both_ways};
 use std::alloc::AllocError;
 use std::marker::Model;
 use teco_poly::Poly;
-use teco_verifier::Refusal;
+use teco_verifier::{Rank, Refusal};
 
 /// The edges behind an element, where they are reached: on, to what stands behind it, and away, to
 /// where it leads else.
@@ -32,6 +33,7 @@ pub struct Edges {
 
 impl Model for Edges {
     ghost use Rattle.teco_verifier.specs.facts.Flows as flows;
+    ghost use Rattle.teco_verifier.specs.facts.Ranks as ranks;
 
     ghost Value = { flows.Edges };
 
@@ -84,7 +86,7 @@ impl Facts {
         ensures yes { IsTrue result → AreSmall self.now.position.falls }
         ensures no { AreSmall self.now.position.falls → IsTrue result }
     {
-        are_small(&self.known.position.falls)
+        self.known.position.is_small()
     }
 
     /// Whether one more iteration may be open.
@@ -97,11 +99,12 @@ impl Facts {
 
     // The facts where another turn begins: nothing has fallen in it.
     fn turned(mut self) -> Facts
-        ensures { result ≡ rules.at_position (flows.begun (drop 1 self.position.falls)
+        ensures { result ≡ rules.at_position (flows.begun self.rules (drop 1 self.position.falls)
             self.position) (rules.without_arguments self) }
     {
+        let own = falls_at_turn(self.known.rules);
         self.known.position.falls.drop_front(1);
-        self.known.position.falls.put(Some(0));
+        self.known.position.falls.put(own);
         self.without_arguments()
     }
 
@@ -112,7 +115,8 @@ impl Facts {
         ensures { result ≡ flows.entering counted self }
     {
         let pushes = self.known.pushes.len();
-        self.known.position.falls.put(Some(0));
+        let own = falls_at_turn(self.known.rules);
+        self.known.position.falls.put(own);
         self.known.iterations.put(Iteration { counted, pushes });
         self
     }
@@ -153,25 +157,39 @@ pub fn bound_of(number: Number, facts: &Facts) -> Result<Poly, Refusal>
 {
     let most = positive(number.range(facts.margins()).hi);
     let n = number.value;
+    if n.code.is_some() {
+        return Ok(Poly::number(most));
+    }
     bound_by(n.ahead, n.behind, positive(n.hi), most, facts)
 }
 
-// The turns of an iteration with this count.
-fn turns_of(count: Option<Number>, facts: &Facts) -> Result<Poly, Refusal>
-    ensures { result ≡ flows.turns_of count facts.now }
+// The most that there is of what falls; where nothing is known to fall that is what is ahead.
+fn measure_of(rank: Option<Rank>, facts: &Facts) -> Poly
+    ensures { result ≡ ranks.measure_of rank facts.now }
 {
-    match count {
-        Some(count) => bound_of(count, facts),
-        None => sum_of(&facts.ahead(), &Poly::number(1)),
+    match rank {
+        Some(Rank::Held) => facts.held(),
+        _ => facts.ahead(),
     }
 }
 
-/// The turns of an iteration: at most its count, or without one what is ahead and one more.
-pub fn turns(facts: &Facts) -> Result<Poly, Refusal>
-    ensures { result ≡ flows.turns facts.now }
+// The turns of an iteration with this count.
+fn turns_of(rank: Option<Rank>, count: Option<Number>, facts: &Facts) -> Result<Poly, Refusal>
+    ensures { result ≡ flows.turns_of rank count facts.now }
+{
+    match count {
+        Some(count) => bound_of(count, facts),
+        None => sum_of(&measure_of(rank, facts), &Poly::number(1)),
+    }
+}
+
+/// The turns of an iteration: at most its count, or without one what there is of what falls, and
+/// one more.
+pub fn turns(rank: Option<Rank>, facts: &Facts) -> Result<Poly, Refusal>
+    ensures { result ≡ flows.turns rank facts.now }
 {
     let taken = facts.level().taken()?;
-    turns_of(taken.value, facts)
+    turns_of(rank, taken.value, facts)
 }
 
 // The edges behind the begin of an iteration with a count, if there is memory.
@@ -210,7 +228,7 @@ pub fn iterate(facts: Facts) -> Result<Edges, Fault>
     let taken = facts.level().taken()?;
     let facts = facts.taking();
     facts.known.arguments.none_pending()?;
-    let _most = turns_of(taken.value, &facts)?;
+    let _most = turns_of(None, taken.value, &facts)?;
     let facts = facts.without_arguments();
     match taken.value {
         None => Ok(Edges::on(facts.entering(false))),

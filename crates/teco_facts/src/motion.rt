@@ -10,9 +10,9 @@ use crate::margins::Margins;
 use crate::number::Number;
 use crate::place::{minus, plus};
 use crate::range::Range;
-use crate::shift::Shift;
+use crate::shift::{Descent, KnownPlace, Shift};
 use teco_model::kind::Motion;
-use teco_verifier::{Refusal, Value};
+use teco_verifier::{DigitMark, Refusal, Rules, Value};
 
 /// The argument, 1 where there is none.
 pub fn or_one(value: Option<Number>) -> Number
@@ -63,20 +63,41 @@ fn goes_forward(motion: Motion, n: Range) -> bool
 fn perhaps_forward(forward: bool) -> Shift
     ensures { result ≡ motions.perhaps_forward forward }
 {
-    Shift::moving(0, 0, if forward { Some(0) } else { None })
+    let fall = if forward { Some(0) } else { None };
+    Shift::moving(0, 0, Descent::By(fall))
 }
 
-/// To a line place, or up to one: what is passed is no more behind, or no more ahead.
-pub fn shift_by_lines(back: Option<i64>, margins: Margins, n: Range) -> Shift
-    requires { IfSome back IsNear }
-    ensures { result ≡ motions.shift_by_lines back margins n }
+// The distance from the begin past the end of the line: in the second edition the pointer is
+// farther from the begin where a character stood at it.
+fn back_past_line(rules: Rules, margins: Margins) -> u64
+    ensures { result ≡ (motions.distances_past_line rules margins).back }
+{
+    match rules {
+        Rules::First => margins.back,
+        Rules::Second => margins.back + margins.fore.min(1),
+    }
+}
+
+// Whether every number of a range is one.
+fn is_exactly(n: i64, range: Range) -> bool
+    ensures { result ≡ motions.is_exactly n range }
+{
+    range.lo == n && range.hi == n
+}
+
+// nL: where n is at least 1 past the end of the line, where it is 0 to the begin of the line, where
+// it is less behind that.
+fn shift_by_lines(rules: Rules, margins: Margins, n: Range) -> Shift
+    ensures { result ≡ motions.shift_by_lines rules margins n }
 {
     if 1 <= n.lo {
-        Shift::moving(margins.back, 0, Some(0))
+        Shift::moving(back_past_line(rules, margins), 0, Descent::PastLine)
+    } else if is_exactly(0, n) {
+        Shift::moving(0, margins.fore, Descent::InLine)
     } else if n.hi <= 0 {
-        Shift::moving(0, margins.fore, back)
+        Shift::moving(0, margins.fore, Descent::By(None))
     } else {
-        Shift::moving(0, 0, back)
+        Shift::moving(0, 0, Descent::By(None))
     }
 }
 
@@ -90,16 +111,33 @@ fn goes_to_saved(motion: Motion, n: &Option<Number>) -> bool
     }
 }
 
-// To a place that is known to lie in the buffer; a saved one is somewhere in it.
-fn shift_for(motion: Motion, n: Option<Number>, margins: Margins) -> Result<Shift, Refusal>
-    ensures { result ≡ motions.shift_or_saved (motions.goes_to_saved motion n) (shifts.shift_to
-        (motions.target motion n) margins) }
+// A place that is known to lie in the buffer; a saved one is somewhere in it.
+fn place_for(motion: Motion, n: &Option<Number>, margins: Margins) -> Result<KnownPlace, Refusal>
+    ensures { result ≡ shifts.place_or_saved (motions.goes_to_saved motion n.now) (shifts.place_of
+        (motions.target motion n.now) margins) }
 {
-    let saved = goes_to_saved(motion, &n);
-    match Shift::to(target(motion, n), margins) {
-        Ok(shift) => Ok(shift),
-        Err(_) if saved => Ok(Shift::moving(0, 0, None)),
-        Err(why) => Err(why),
+    let saved = goes_to_saved(motion, n);
+    KnownPlace::or_saved(saved, KnownPlace::of(target(motion, *n), margins))
+}
+
+// Whether the pointer goes back by one.
+fn is_step_back(motion: Motion, n: Range) -> bool
+    ensures { result ≡ motions.is_step_back motion n }
+{
+    match motion {
+        Motion::Forward => is_exactly(-1, n),
+        Motion::Backward => is_exactly(1, n),
+        Motion::To | Motion::Lines => false,
+    }
+}
+
+// One step back from behind a digit leads to it.
+fn digit_after(step_back: bool, digit: Option<DigitMark>) -> Option<DigitMark>
+    ensures { result ≡ motions.digit_after step_back digit }
+{
+    match digit {
+        Some(DigitMark::Before) if step_back => Some(DigitMark::At),
+        _ => None,
     }
 }
 
@@ -113,11 +151,15 @@ fn motion_to(
     requires { AreSmall facts.position.falls }
     ensures { result ≡ motions.motion_to motion colons n facts }
 {
+    let margins = facts.margins();
+    let place = place_for(motion, &n, margins);
+    let count = count_of(n, margins);
     if colons == 0 {
-        let shift = shift_for(motion, n, facts.margins())?;
-        Foreseen::behind(&shift, facts)
+        let place = place?;
+        let digit = digit_after(is_step_back(motion, count), facts.digit());
+        Foreseen::behind(&place.shift().marking(digit), facts)
     } else {
-        let forward = goes_forward(motion, count_of(n, facts.margins()));
+        let forward = goes_forward(motion, count);
         let facts = facts.shifted(&perhaps_forward(forward))?;
         Ok(Foreseen::answering(success(), facts))
     }
@@ -131,7 +173,7 @@ pub fn motion(motion: Motion, colons: u8, taken: Taken, facts: Facts) -> Result<
     match motion {
         Motion::Lines => {
             let margins = facts.margins();
-            let shift = shift_by_lines(None, margins, count_of(taken.value, margins));
+            let shift = shift_by_lines(facts.rules(), margins, count_of(taken.value, margins));
             Foreseen::behind(&shift, facts)
         }
         motion => motion_to(motion, colons, taken.value, facts),

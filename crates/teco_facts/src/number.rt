@@ -1,5 +1,5 @@
 //! What is known of numbers that are pending.
-ghost use Rattle.std.specs.Prelude.{◌≡◌, pos, if◌then◌else◌};
+ghost use Rattle.std.specs.Prelude.{◌≡◌, ◌&&◌, not, pos, if◌then◌else◌};
 ghost use Rattle.teco_base.specs.Arithmetic as bits;
 ghost use Rattle.teco_verifier.specs.facts.Arguments as rules;
 ghost use Rattle.teco_verifier.specs.facts.Values as values;
@@ -11,7 +11,7 @@ use crate::place::{is_linear, minus, plus};
 use crate::range::Range;
 use std::marker::Model;
 use teco_model::ArgumentRange;
-use teco_verifier::{Refusal, Value};
+use teco_verifier::{CharacterCode, Refusal, Value};
 
 /// A number that is pending: so often each distance of the pointer, and something of a range; where
 /// it is saved, it is a place of the buffer.
@@ -22,7 +22,7 @@ pub struct Number {
 
 impl Model for Number {
     ghost use Rattle.teco_verifier.specs.declared.values.Value.{Value as Told};
-    ghost use Rattle.teco_facts.specs.Numbers.{IsNumber};
+    ghost use Rattle.teco_facts.specs.Numbers.{IsNumber, HasRoomForCode};
 
     ghost Value = { Told };
 
@@ -30,7 +30,8 @@ impl Model for Number {
 
     ghost inverse = { λ s. record { value = s } };
 
-    ghost invariant = { λ n. IsNumber n.value.ahead n.value.behind n.value.lo n.value.hi };
+    ghost invariant = { λ n. IsNumber n.value.ahead n.value.behind n.value.lo
+        n.value.hi × HasRoomForCode n.value.code n.value };
 }
 
 impl Number {
@@ -70,6 +71,7 @@ impl Number {
                 lo: range.lo,
                 hi: range.hi,
                 saved,
+                code: None,
             },
         }
     }
@@ -85,6 +87,7 @@ impl Number {
                 lo: 0,
                 hi: 0,
                 saved: false,
+                code: None,
             },
         }
     }
@@ -97,6 +100,27 @@ impl Number {
             value: Value {
                 ahead: 0,
                 behind: 1,
+                lo: 0,
+                hi: 0,
+                saved: false,
+                code: None,
+            },
+        }
+    }
+
+    /// The code of the character at an offset from the pointer.
+    pub fn code(offset: i64) -> Number
+        ensures { result ≡ values.code_value offset }
+    {
+        let code = CharacterCode {
+            offset,
+            negated: false,
+        };
+        Number {
+            value: Value {
+                ahead: 0,
+                behind: 0,
+                code: Some(code),
                 lo: 0,
                 hi: 0,
                 saved: false,
@@ -130,12 +154,20 @@ impl Number {
         self.value
     }
 
-    // The number that a place is, where that is linear, and else one of a range.
-    fn linear_or(range: Range, exact: Value) -> Number
-        requires { IsPlace exact.ahead exact.behind exact.lo exact.hi }
-        ensures { result ≡ (if values.is_linear exact then exact else values.value_in range) }
+    // Whether two numbers both have a code.
+    fn have_codes(self, other: Number) -> bool
+        ensures { result ≡ values.have_codes self other }
     {
-        if is_linear(exact) {
+        self.value.code.is_some() && other.value.code.is_some()
+    }
+
+    // The number that a place is, where that is linear and no code is lost, and else one of a
+    // range.
+    fn linear_or(range: Range, codes: bool, exact: Value) -> Number
+        requires { IsPlace exact.ahead exact.behind exact.lo exact.hi }
+        ensures { result ≡ (if not codes && values.is_linear exact then exact else values.value_in range) }
+    {
+        if !codes && is_linear(exact) {
             Number { value: exact }
         } else {
             Number::within(range)
@@ -147,7 +179,7 @@ impl Number {
         ensures { result ≡ values.sum margins self other }
     {
         let range = arithmetic::sum_of(self.range(margins), other.range(margins));
-        Number::linear_or(range, plus(self, other))
+        Number::linear_or(range, self.have_codes(other), plus(self, other))
     }
 
     /// The difference.
@@ -155,7 +187,7 @@ impl Number {
         ensures { result ≡ values.difference margins self other }
     {
         let range = arithmetic::difference_of(self.range(margins), other.range(margins));
-        Number::linear_or(range, minus(self, other))
+        Number::linear_or(range, self.have_codes(other), minus(self, other))
     }
 
     /// The product.

@@ -11,7 +11,7 @@ use crate::position::sum_of;
 use teco_model::kind::{Page, Search};
 use teco_model::{Kind, Needs};
 use teco_poly::Poly;
-use teco_verifier::Refusal;
+use teco_verifier::{Refusal, Rules};
 
 // A step for each page, or one for a part.
 fn steps_of_pages(taken: Taken, facts: &Facts) -> Result<Poly, Refusal>
@@ -34,13 +34,21 @@ fn steps_of_page(page: Page, taken: Taken, facts: &Facts) -> Result<Poly, Refusa
     }
 }
 
-// N and FN take a step for each page that is ahead, and one more.
+/// Whether a search looks through pages: N and FN do.
+pub fn is_in_pages(search: Search) -> bool
+    ensures { result ≡ printed.is_in_pages search }
+{
+    matches!(search, Search::FindInPages | Search::ReplaceInPages)
+}
+
+// By the first edition N and FN take a step for each page that is ahead, and one more. By the
+// second these pages count once for all.
 fn steps_of_search(search: Search, facts: &Facts) -> Result<Poly, Refusal>
     ensures { result ≡ printed.steps_of_search search facts.now }
 {
-    match search {
-        Search::FindInPages | Search::ReplaceInPages => sum_of(&facts.ahead(), &Poly::number(1)),
-        Search::Find | Search::Replace => Ok(Poly::number(1)),
+    match facts.rules() {
+        Rules::First if is_in_pages(search) => sum_of(&facts.ahead(), &Poly::number(1)),
+        _ => Ok(Poly::number(1)),
     }
 }
 
@@ -80,7 +88,7 @@ fn needs_of_search(search: Search) -> Needs
 {
     Needs {
         input: false,
-        output: matches!(search, Search::FindInPages | Search::ReplaceInPages),
+        output: is_in_pages(search),
     }
 }
 

@@ -1,21 +1,23 @@
 //! Q, ^X and \.
 ghost use Rattle.std.specs.Prelude.{◌≡◌};
 ghost use Rattle.teco_verifier.specs.facts.Queries as queries;
+ghost use Rattle.teco_verifier.specs.facts.Values as values;
 ghost use Rattle.teco_facts.specs.Numbers.{AreSmall};
 
 use crate::facts::{Facts, Foreseen};
 use crate::level::Level;
+use crate::margins::Margins;
 use crate::number::Number;
 use crate::range::Range;
-use crate::shift::Shift;
+use crate::shift::{Descent, Shift};
 use teco_base::LIMIT;
 use teco_model::kind::Query;
 use teco_poly::Poly;
-use teco_verifier::Refusal;
+use teco_verifier::{DigitMark, Refusal};
 
 /// The code of a character, -1 where there is none.
 pub fn character() -> Range
-    ensures { result ≡ queries.character }
+    ensures { result ≡ values.character }
 {
     Range { lo: -1, hi: 255 }
 }
@@ -41,6 +43,17 @@ impl Facts {
     }
 }
 
+// On past the number that is read, of which a digit that is known to stand at the pointer is one.
+fn past_number(digit: Option<DigitMark>, margins: Margins) -> Shift
+    ensures { result ≡ queries.past_number digit margins }
+{
+    let digits = match digit {
+        Some(DigitMark::At) => 1,
+        _ => 0,
+    };
+    Shift::moving(margins.back + digits, 0, Descent::By(Some(digits as i64)))
+}
+
 // What is known where nothing is taken.
 fn facts_at_query(query: Query, facts: Facts) -> Result<Facts, Refusal>
     requires { AreSmall facts.position.falls }
@@ -48,8 +61,7 @@ fn facts_at_query(query: Query, facts: Facts) -> Result<Facts, Refusal>
 {
     match query {
         Query::Conversion => {
-            // on past the number that is read
-            let shift = Shift::moving(facts.margins().back, 0, Some(0));
+            let shift = past_number(facts.digit(), facts.margins());
             facts.shifted(&shift)
         }
         Query::Number(_) | Query::Mode => Ok(facts),

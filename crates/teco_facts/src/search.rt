@@ -3,9 +3,9 @@ ghost use Rattle.std.specs.Prelude.{◌≡◌, ◌≤◌, IfOk, IfSome, length, 
 ghost use Rattle.teco_base.specs.declared.TheConstants.{LIMIT};
 ghost use Rattle.teco_verifier.specs.facts.Arguments as arguments;
 ghost use Rattle.teco_verifier.specs.facts.Facts as known;
+ghost use Rattle.teco_model.specs.Pattern as pattern;
 ghost use Rattle.teco_verifier.specs.facts.Searches as searches;
 ghost use Rattle.teco_facts.specs.Numbers.{AreSmall, IsNear};
-ghost use Rattle.teco_poly.specs.Polynomial as polynomial;
 ghost use Rattle.teco_facts.specs.Searched as searched;
 
 use crate::facts::{Answer, Facts};
@@ -15,11 +15,12 @@ use crate::motion::{count_of, success};
 use crate::number::Number;
 use crate::position::Position;
 use crate::range::Range;
-use crate::shift::Shift;
-use teco_find::minimum;
+use crate::shift::{Descent, Shift};
+use teco_find::{last_part, minimum};
 use teco_model::kind::Search;
+use teco_model::pattern::{Class, Item, Part};
 use teco_poly::Poly;
-use teco_verifier::Refusal;
+use teco_verifier::{DigitMark, Refusal, Rules};
 
 // S and FS: a count that may be 0 may be refused, and one that may be negative is not verified.
 fn count_in_buffer(n: Range) -> Result<(), Refusal>
@@ -80,24 +81,49 @@ fn minimum_of(text: &[u8]) -> Result<usize, Refusal>
     }
 }
 
-// Another text takes the place of one: the buffer grows, and what is saved ends.
-fn replacing(back: u64, fall: Option<i64>, new: usize) -> Shift
-    requires { IfSome fall IsNear }
-    ensures { result ≡ record {
-      distances = record { back = back; fore = 0 };
-      fall = fall;
-      growth
-          = polynomial.number new;
-      ends = true;
-    } }
+// Whether a part of a search text is one digit.
+fn is_digit_part(part: Part) -> bool
+    ensures { result ≡ searches.is_digit_part part }
 {
-    Shift {
-        back,
-        fore: 0,
-        fall,
-        growth: Poly::number(new as u64),
-        ends: true,
+    match part {
+        Part::Item(Item::Is(Class::Digit)) => true,
+        Part::Item(Item::Is(Class::Literal(byte))) => byte.is_ascii_digit(),
+        _ => false,
     }
+}
+
+// Whether the last element of a search text is one digit.
+fn ends_in_digit(text: &[u8]) -> bool
+    ensures { result ≡ searches.end_in_digit (pattern.parts text.now) }
+{
+    match last_part(text) {
+        Ok(Some(part)) => is_digit_part(part),
+        Ok(None) => false,
+        Err(_) => false,
+    }
+}
+
+// A digit stands before the pointer where the last element of what S and N sought is one, in the
+// second edition.
+fn digit_found(rules: Rules, search: Search, text: &[u8]) -> Option<DigitMark>
+    ensures { result ≡ searches.digit_found rules search text.now }
+{
+    let seeks = matches!(search, Search::Find | Search::FindInPages);
+    if matches!(rules, Rules::Second) && seeks && ends_in_digit(text) {
+        Some(DigitMark::Before)
+    } else {
+        None
+    }
+}
+
+// Another text takes the place of one: the buffer grows, and what is saved ends.
+fn replacing(least: usize, new: usize, shift: Shift) -> Shift
+    requires { least ≤ LIMIT }
+    ensures { result ≡ searches.replacing least new shift }
+{
+    let mut replacing = shift.losing(least as u64).ending();
+    replacing.growth = Poly::number(new as u64);
+    replacing
 }
 
 // What is found lies ahead; the pointer goes behind it, or behind what replaces it. A shorter
@@ -107,12 +133,19 @@ fn shift_found(search: Search, least: usize, new: usize, margins: Margins) -> Sh
     requires new_within { new ≤ LIMIT }
     ensures { result ≡ searches.shift_found search least new margins }
 {
-    let fall = Some(least as i64);
+    let fall = Descent::By(Some(least as i64));
+    let refilled = Descent::Refilled(least as u64);
     match search {
         Search::Find => Shift::moving(margins.back + least as u64, 0, fall),
-        Search::Replace => replacing(margins.back + new as u64, fall, new),
-        Search::FindInPages => Shift::moving(least as u64, 0, fall).ending(),
-        Search::ReplaceInPages => replacing(new as u64, fall, new),
+        Search::Replace => {
+            let shift = Shift::moving(margins.back + new as u64, 0, fall);
+            replacing(least, new, shift)
+        }
+        Search::FindInPages => Shift::moving(least as u64, 0, refilled).ending(),
+        Search::ReplaceInPages => {
+            let shift = Shift::moving(new as u64, 0, refilled);
+            replacing(least, new, shift)
+        }
     }
 }
 
@@ -125,10 +158,11 @@ fn position_failed_in(colons: u8, facts: &Facts) -> Position
         return facts.known.position.copied();
     }
     let margins = facts.margins();
-    facts.known.position.after(
-        &Shift::moving(0, margins.back + margins.fore, None),
-        facts.held(),
-    )
+    let shift = Shift::moving(0, margins.back + margins.fore, Descent::By(None));
+    facts
+        .known
+        .position
+        .after(facts.rules(), &shift, facts.held())
 }
 
 /// The position where a search failed.
@@ -137,10 +171,13 @@ pub fn position_failed(search: Search, colons: u8, facts: &Facts) -> Position
     ensures { result ≡ searches.position_failed search colons facts.now }
 {
     match search {
-        Search::FindInPages | Search::ReplaceInPages => facts
-            .known
-            .position
-            .after(&Shift::moving(0, 0, None).ending(), facts.held()),
+        Search::FindInPages | Search::ReplaceInPages => {
+            let shift = Shift::moving(0, 0, Descent::By(None)).ending();
+            facts
+                .known
+                .position
+                .after(facts.rules(), &shift, facts.held())
+        }
         Search::Find | Search::Replace => position_failed_in(colons, facts),
     }
 }
@@ -159,7 +196,8 @@ pub fn facts_found(
 {
     let least = minimum_of(text)?;
     let shift = shift_found(search, least, second.len(), facts.margins());
-    facts.shifted(&shift)
+    let digit = digit_found(facts.rules(), search, text);
+    facts.shifted(&shift.marking(digit))
 }
 
 /// The answer tells the outcomes apart.

@@ -12,7 +12,7 @@ use crate::motion::count_of;
 use crate::number::Number;
 use crate::position::sum_of;
 use crate::range::Range;
-use crate::shift::Shift;
+use crate::shift::{KnownPlace, Shift};
 use crate::typing::{needed_value, part_named};
 use teco_base::Reg;
 use teco_model::kind::Storage;
@@ -77,7 +77,7 @@ fn copy(
 ) -> Result<Foreseen, Refusal>
     ensures { result ≡ storages.copy library colons register taken facts }
 {
-    part_named(taken, facts.margins())?;
+    part_named(facts.rules(), taken, facts.margins())?;
     not_of_library(library)?;
     let held = facts.held();
     text_storage(colons, register, held, facts)
@@ -110,7 +110,7 @@ fn retrieval(colons: u8, register: Reg, facts: Facts) -> Result<Foreseen, Refusa
         let shift = Shift::inserting(0, facts.text_of(register), facts.margins());
         Foreseen::behind(&shift, facts)
     } else {
-        Ok(Foreseen::silent(facts))
+        Ok(Foreseen::silent(facts.without_digit()))
     }
 }
 
@@ -118,7 +118,7 @@ fn retrieval(colons: u8, register: Reg, facts: Facts) -> Result<Foreseen, Refusa
 fn is_place(n: Number, margins: Margins) -> bool
     ensures { result ≡ shifts.is_place n margins }
 {
-    n.value.saved || Shift::to(n.place(), margins).is_ok()
+    n.value.saved || KnownPlace::of(n.place(), margins).is_ok()
 }
 
 /// What is done with a register.

@@ -2,11 +2,18 @@
 // more, so that the rows also hold where one allocation fails.
 use super::*;
 use std::alloc::Global;
-use teco_base::LIMIT;
+use teco_base::{LIMIT, REGISTERS};
 use teco_lex::{Element, element};
 use teco_model::Kind;
 use teco_model::kind::Flow;
-use teco_verifier::Refusal;
+use teco_verifier::{Refusal, Rules};
+
+// The first edition, with no library.
+const FIRST: Entry = Entry {
+    rules: Rules::First,
+    argument: None,
+    lengths: [None; REGISTERS],
+};
 
 // Whether a semicolon is the next element.
 fn is_answered(text: &[u8], next: usize) -> bool {
@@ -52,7 +59,7 @@ fn stepped(text: &[u8], at: usize, library: bool, facts: &Facts) -> Result<(Fact
 
 // The facts behind so many elements.
 fn behind(alloc: Global, text: &[u8], count: usize, library: bool) -> Result<Facts, Fault> {
-    let mut facts = Facts::entry(alloc, None)?;
+    let mut facts = Facts::entry(alloc, &FIRST)?;
     let mut at = 0;
     for _ in 0..count {
         let (after, next) = stepped(text, at, library, &facts)?;
@@ -139,7 +146,7 @@ fn number(why: Refusal) -> u8 {
 #[test]
 fn turns_of_a_search_loop(rt: HostRuntime) {
     match known(rt.alloc(), b"J<Sfoo\x1b;I!\x1b>", 1, false) {
-        Ok(facts) => match turns(&facts) {
+        Ok(facts) => match turns(None, &facts) {
             Ok(most) => assert_eq!(rt; most.at(6), Some(7)),
             Err(_) => assert!(rt; false),
         },

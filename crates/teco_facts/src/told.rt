@@ -1,6 +1,7 @@
 //! What facts say, in plain numbers, for those who tell of it.
 ghost use Rattle.std.specs.Prelude.{◌≡◌, option_map, slice_get};
-ghost use Rattle.std.specs.Option.{option_flatten};
+ghost use Rattle.std.specs.Option.{option_and_then};
+ghost use Rattle.teco_verifier.specs.declared.falls.Falls.{Falls};
 ghost use Rattle.teco_verifier.specs.facts.Facts as rules;
 
 use crate::facts::Facts;
@@ -48,11 +49,12 @@ impl Facts {
     /// How much less is ahead at the least since the turn of an open iteration began, from 0 for
     /// the innermost, if that is known.
     pub fn fall(&self, at: usize) -> Option<i64>
-        ensures { result ≡ option_flatten (slice_get self.now.position.falls at) }
+        ensures { result ≡ option_and_then (λ (f : Falls). f.fall) (slice_get
+            self.now.position.falls at) }
     {
         match self.known.position.falls.as_slice().get(at) {
             None => None,
-            Some(fall) => *fall,
+            Some(falls) => falls.fall,
         }
     }
 

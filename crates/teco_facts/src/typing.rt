@@ -7,17 +7,17 @@ use crate::facts::{Facts, Foreseen};
 use crate::level::Taken;
 use crate::margins::Margins;
 use crate::number::Number;
-use crate::shift::Shift;
+use crate::shift::KnownPlace;
 use teco_model::kind::Typing;
-use teco_verifier::Refusal;
+use teco_verifier::{Refusal, Rules};
 
 /// Two places that are known to lie in the buffer, if there are two.
-pub fn part_named(taken: Taken, margins: Margins) -> Result<(), Refusal>
-    ensures { result ≡ typings.part_named taken.first taken.value margins }
+pub fn part_named(rules: Rules, taken: Taken, margins: Margins) -> Result<(), Refusal>
+    ensures { result ≡ typings.part_named rules taken.first taken.value margins }
 {
     if let (Some(m), Some(n)) = (taken.first, taken.value) {
-        let _from = Shift::to(m.place(), margins)?;
-        let _to = Shift::to(n.place(), margins)?;
+        let _from = KnownPlace::bound(rules, m, margins)?;
+        let _to = KnownPlace::bound(rules, n, margins)?;
     }
     Ok(())
 }
@@ -34,7 +34,7 @@ pub fn typing(typing: Typing, taken: Taken, facts: Facts) -> Result<Foreseen, Re
     ensures { result ≡ typings.typing typing taken facts }
 {
     match typing {
-        Typing::Part => part_named(taken, facts.margins())?,
+        Typing::Part => part_named(facts.rules(), taken, facts.margins())?,
         Typing::View | Typing::Message => {}
         Typing::Byte | Typing::Number(_) => {
             let _needed = needed_value(taken.value)?;

@@ -1,7 +1,7 @@
 // Patterns, and how they are read.
 ghost use Rattle.std.specs.Prelude.{◌≡◌, [], ◌+◌, ◌^◌, ◌<◌, length, IsOk, IfSome};
 ghost use Rattle.teco_model.specs.Pattern as model;
-ghost use Rattle.teco_find.specs.Reading.{Judges, Reads};
+ghost use Rattle.teco_find.specs.Reading.{Judges, Reads, last_part};
 
 use crate::anchor::{Anchor, anchor_of};
 use crate::fault::FindFault;
@@ -84,6 +84,20 @@ pub fn minimum(text: &[u8]) -> Result<Option<usize>, FindFault>
         least = with_part(least, part);
     }
     Ok(least)
+}
+
+/// The last part of a search text, if it has one.
+///
+/// It takes no memory.
+pub fn last_part(text: &[u8]) -> Result<Option<Part>, FindFault>
+    ensures { Judges result (last_part text.now) }
+{
+    let mut last = None;
+    let mut parts = Parts::of(text);
+    while let Some(part) = parts.next()? {
+        last = Some(part);
+    }
+    Ok(last)
 }
 
 // The least length with one more part.

@@ -1,33 +1,19 @@
 -- States that are the same but for the text of the command string step to such.
-use Rattle.std.proofs.Common.{◌≡◌, ℕ, ℤ, zero, suc, List, [], ◌∷◌, Bool, true, false, Option, Some, None, Result, Ok, Err, refl, sym, ap, ◌∙◌, subst, option_map}
+use Rattle.std.proofs.Common.{◌≡◌, ℕ, zero, suc, List, [], ◌∷◌, Option, Some, None, Result, Ok, Err, refl, sym, ap, ◌∙◌, subst}
 use Rattle.teco_base.specs.declared.code.Code.{Code}
 use Rattle.teco_base.specs.declared.code.Code.TheVariants as code
-use Rattle.teco_model.specs.declared.arguments.Taken.{Taken}
 use Rattle.teco_model.specs.declared.flow.Loop.{Loop}
 use Rattle.teco_model.specs.declared.kind.Call.{Call}
-use Rattle.teco_model.specs.declared.kind.File.{File}
-use Rattle.teco_model.specs.declared.kind.File.TheVariants as file
 use Rattle.teco_model.specs.declared.kind.Kind.{Kind}
 use Rattle.teco_model.specs.declared.kind.Kind.TheVariants as kind
-use Rattle.teco_model.specs.declared.kind.Page.{Page}
-use Rattle.teco_model.specs.declared.kind.Page.TheVariants as page
-use Rattle.teco_model.specs.declared.kind.Search.{Search}
-use Rattle.teco_model.specs.declared.kind.Search.TheVariants as search_kind
-use Rattle.teco_model.specs.Arguments.{Arguments, no_arguments, arguments_of, levels_after_taking}
-use Rattle.teco_model.specs.Checked.{◌>>=◌}
+use Rattle.teco_model.specs.Arguments.{Arguments}
 use Rattle.teco_model.specs.Element.{Element, element_at}
-use Rattle.teco_model.specs.Filing.{open_input, open_output, close_output, copy_all, abandon_output}
-use Rattle.teco_model.specs.Flow.{Turn, turn_of, jump}
-use Rattle.teco_model.specs.Going.{After, code_in, failure, frames_in, outcome_behind, taking, with_nothing_left}
-use Rattle.teco_model.specs.Outside.{world_outcome, pages_outcome, pages_behind, pages_done, pages_outcome_of, append_outcome, character_outcome, opened_outcome, exit_outcome, page_outcome, file_outcome}
-use Rattle.teco_model.specs.Paging.{yank, append, one_page_of, look_for, page_turned, page_written, Progress, Looked, Met, Turned, Through, looked_through}
+use Rattle.teco_model.specs.Going.{Course, Behind, Again, Along, Into, Quit, NoFile, Refused, Reply, code_in, frames_in, settled, settle}
 use Rattle.teco_model.specs.Run.{run, go_on}
-use Rattle.teco_model.specs.Search.{Finding, Found, Missed}
-use Rattle.teco_model.specs.Searching.{has_colon, leaving_outcome, missed_outcome, miss_outcome, search_outcome, kept_by_miss, finding, looking, looked_outcome, looked_outcome_of, outcome_of_search}
-use Rattle.teco_model.specs.State.{Kept, World, Frame, Frames, State, Outcome, Next, End, Exit, Fail, Absent}
-use Rattle.teco_model.specs.Step.{flow_outcome, call_outcome, after_argument, after_value, after_query, after_stack, after_command, outcome_of, end_outcome, end_of_text, outcome_at, step}
+use Rattle.teco_model.specs.State.{World, Frame, State, Outcome, Next, End, Exit, Fail, Absent}
+use Rattle.teco_model.specs.Step.{reply_of, outcome_of, end_of_text, outcome_at, step}
 use Rattle.teco_model.specs.Storage.{text_in}
-use Rattle.teco_law_expansion.specs.Alike.{Waits, CallsLast, AreAtBottom, Waiting, Calling, AreTextsAlike, AreAlike, AreOutcomesAlike, ReadsAlike, kind_of, StepsAreAlike, RunsAreAlike, ReadingsAreAlike}
+use Rattle.teco_law_expansion.specs.Alike.{Waits, CallsLast, AreAtBottom, Waiting, Calling, AreTextsAlike, AreAlike, AreOutcomesAlike, ReadsAlike, StepsAreAlike, RunsAreAlike, ReadingsAreAlike}
 
 -- ---- texts that wait below a running one
 module _ (c d : Frame) (cs ds : List Frame) (alike : AreTextsAlike c cs d ds) where
@@ -51,119 +37,43 @@ module _ (c d : Frame) (cs ds : List Frame) (alike : AreTextsAlike c cs d ds) wh
     abbrev t : State
     t = other w g l f
 
-    behind_alike : (e : Element) (r : Result After Code) → AreOutcomesAlike (outcome_behind e s r) (outcome_behind e t r)
-    behind_alike e (Ok done) = same _ _ _ _
-    behind_alike e (Err k) = (code_same k, refl)
+    settled_alike : (e : Element) (reply : Reply) (course : Course) → AreOutcomesAlike (settled e s.frames reply course) (settled e t.frames reply course)
+    settled_alike e reply Behind = same _ _ _ _
+    settled_alike e reply Again = same _ _ _ _
+    settled_alike e reply (Along frame) = same _ _ _ _
+    settled_alike e reply (Into text) = record { world = refl; arguments = refl; left = refl; texts = (refl, (refl, alike)) }
+    settled_alike e reply Quit = refl
+    settled_alike e reply NoFile = refl
+    settled_alike e reply (Refused k) = (code_same k, refl)
 
-    world_alike : (e : Element) (r : Result World Code) → AreOutcomesAlike (world_outcome e s r) (world_outcome e t r)
-    world_alike e (Ok world) = same _ _ _ _
-    world_alike e (Err k) = (code_same k, refl)
+    settle_alike : (e : Element) (r : Result Reply Code) → AreOutcomesAlike (settle e s r) (settle e t r)
+    settle_alike e (Ok reply) = settled_alike e reply reply.course
+    settle_alike e (Err k) = (code_same k, refl)
 
-    pages_alike : (e : Element) (r : Result Progress Code) → AreOutcomesAlike (pages_outcome e s r) (pages_outcome e t r)
-    pages_alike e (Err k) = (code_same k, refl)
-    pages_alike e (Ok done) = among done.left
-      where
-        among : (left : ℕ) → AreOutcomesAlike (pages_behind e s done.world left) (pages_behind e t done.world left)
-        among zero = same _ _ _ _
-        among (suc n) = same _ _ _ _
+    -- an element sees nothing of the texts that wait
+    same_reply : (k : Kind) (e : Element) → reply_of k e s ≡ reply_of k e t
+    unfolding reply_of
+    same_reply (kind.Argument a) e = refl
+    same_reply (kind.Value v) e = refl
+    same_reply (kind.Query q) e = refl
+    same_reply (kind.Stack x) e = refl
+    same_reply (kind.Command x) e = refl
+    same_reply (kind.Call x) e = refl
+    same_reply (kind.Flow x) e = refl
+    same_reply (kind.Page p) e = refl
+    same_reply (kind.Search x) e = refl
+    same_reply (kind.File x) e = refl
 
-    opened_alike : (e : Element) (r : Result (Option World) Code) → AreOutcomesAlike (opened_outcome e s r) (opened_outcome e t r)
-    opened_alike e (Err k) = (code_same k, refl)
-    opened_alike e (Ok None) = refl
-    opened_alike e (Ok (Some world)) = same _ _ _ _
-
-    exit_alike : (r : Result Taken Code) → AreOutcomesAlike (exit_outcome s r) (exit_outcome t r)
-    exit_alike (Err k) = (code_same k, refl)
-    exit_alike (Ok taken) = refl
-
-    leaving_alike : (stays missed : World) (r : Result Turn Code) → AreOutcomesAlike (leaving_outcome stays missed s r) (leaving_outcome stays missed t r)
-    leaving_alike stays missed (Err k) = (code_same k, refl)
-    leaving_alike stays missed (Ok turn) = same _ _ _ _
-
-    missed_alike : (e : Element) (stays missed : World) (loops : List Loop) → AreOutcomesAlike (missed_outcome e stays missed s loops) (missed_outcome e stays missed t loops)
-    missed_alike e stays missed [] = (refl, refl)
-    missed_alike e stays missed (loop ∷ outer) = leaving_alike stays missed (jump code.Utc e no_arguments f)
-
-    miss_alike : (colon : Bool) (e : Element) (stays missed : World) → AreOutcomesAlike (miss_outcome colon e stays missed s) (miss_outcome colon e stays missed t)
-    miss_alike true e stays missed = same _ _ _ _
-    miss_alike false e stays missed = missed_alike e stays missed f.loops
-
-    search_alike : (colon : Bool) (e : Element) (r : Result Finding Code) → AreOutcomesAlike (search_outcome colon e s r) (search_outcome colon e t r)
-    search_alike colon e (Err k) = (code_same k, refl)
-    search_alike colon e (Ok (Found kept)) = same _ _ _ _
-    search_alike colon e (Ok (Missed kept)) = miss_alike colon e _ _
-
-    flow_alike : (r : Result Turn Code) → AreOutcomesAlike (flow_outcome s r) (flow_outcome t r)
-    flow_alike (Err k) = (code_same k, refl)
-    flow_alike (Ok turn) = same _ _ _ _
+    element_alike : (k : Kind) (e : Element) → AreOutcomesAlike (outcome_of k e s) (outcome_of k e t)
+    element_alike k e = subst (λ r. AreOutcomesAlike (settle e s (reply_of k e s)) (settle e t r)) (same_reply k e) (settle_alike e (reply_of k e s))
 
     end_alike : (loops : List Loop) → AreOutcomesAlike (end_of_text loops s) (end_of_text loops t)
     end_alike [] = record { world = refl; arguments = refl; left = refl; texts = alike }
     end_alike (loop ∷ outer) = (code_same code.Utc, refl)
 
-  looked_alike : (w : World) (g : Arguments) (l : Option ℕ) (f : Frame) (colon : Bool) (e : Element) (r : Result Looked Code) → AreOutcomesAlike (looked_outcome colon e (one w g l f) r) (looked_outcome colon e (other w g l f) r)
-  looked_alike w g l f colon e (Err k) = (code_same k, refl)
-  looked_alike w g l f colon e (Ok (Met world)) = same _ _ _ _
-  looked_alike w g l f colon e (Ok (Turned n world)) = same _ _ _ _
-  looked_alike w g l f colon e (Ok (Through world)) = miss_alike w g None f colon e _ _
-
-  append_alike : (w : World) (g : Arguments) (l : Option ℕ) (f : Frame) (e : Element) (r : Result Taken Code) → AreOutcomesAlike (append_outcome e (one w g l f) r) (append_outcome e (other w g l f) r)
-  append_alike w g l f e (Err k) = (code_same k, refl)
-  append_alike w g l f e (Ok taken) = among taken.value
-    where
-      among :
-          (value : Option ℤ)
-          → AreOutcomesAlike
-          (elim value [ None ↦ world_outcome e (one w g l f) (append w) | Some n ↦ character_outcome e (one w g l f) n ])
-          (elim value [ None ↦ world_outcome e (other w g l f) (append w) | Some n ↦ character_outcome e (other w g l f) n ])
-      among None = world_alike w g l f e (append w)
-      among (Some n) = same _ _ _ _
-
-  module _ (w : World) (g : Arguments) (l : Option ℕ) (f : Frame) where
-    pages_of_alike : (one_page : World → Result World Code) (e : Element) (left : Option ℕ) → AreOutcomesAlike (pages_outcome_of one_page e (one w g l f) left) (pages_outcome_of one_page e (other w g l f) left)
-    pages_of_alike one_page e None = pages_alike w (levels_after_taking g) l f e (pages_done one_page (one w g l f))
-    pages_of_alike one_page e (Some n) = pages_alike w g l f e (one_page_of one_page n w)
-
-    page_alike : (p : Page) (e : Element) → AreOutcomesAlike (page_outcome p e (one w g l f)) (page_outcome p e (other w g l f))
-    page_alike page.Yank e = world_alike w (levels_after_taking g) l f e (arguments_of g.level >>= (λ taken. yank w))
-    page_alike page.Append e = append_alike w (levels_after_taking g) l f e (arguments_of g.level)
-    page_alike page.Next e = pages_of_alike page_turned e l
-    page_alike page.Write e = pages_of_alike page_written e l
-
-    file_alike : (x : File) (e : Element) → AreOutcomesAlike (file_outcome x e (one w g l f)) (file_outcome x e (other w g l f))
-    file_alike file.Read e = opened_alike w (levels_after_taking g) l f e (arguments_of g.level >>= (λ taken. open_input e.text w))
-    file_alike file.Write e = world_alike w (levels_after_taking g) l f e (arguments_of g.level >>= (λ taken. open_output e.text w))
-    file_alike file.Close e = world_alike w (levels_after_taking g) l f e (arguments_of g.level >>= (λ taken. close_output w))
-    file_alike file.Abandon e = world_alike w (levels_after_taking g) l f e (arguments_of g.level >>= (λ taken. Ok (abandon_output w)))
-    file_alike file.Copy e = world_alike w (levels_after_taking g) l f e (arguments_of g.level >>= (λ taken. copy_all w))
-    file_alike file.Exit e = exit_alike w g l f (arguments_of g.level)
-
-    looked_of_alike : (x : Search) (e : Element) (left : Option ℕ) → AreOutcomesAlike (looked_outcome_of x e (one w g l f) left) (looked_outcome_of x e (other w g l f) left)
-    looked_of_alike x e None = looked_alike w (levels_after_taking g) l f (has_colon e f) e (looking x e (one w g l f))
-    looked_of_alike x e (Some n) = looked_alike w g l f (has_colon e f) e (look_for x e n w)
-
-    searched_alike : (x : Search) (e : Element) → AreOutcomesAlike (outcome_of_search x e (one w g l f)) (outcome_of_search x e (other w g l f))
-    searched_alike search_kind.Find e = search_alike w (levels_after_taking g) l f (has_colon e f) e (finding search_kind.Find e (one w g l f))
-    searched_alike search_kind.Replace e = search_alike w (levels_after_taking g) l f (has_colon e f) e (finding search_kind.Replace e (one w g l f))
-    searched_alike search_kind.FindInPages e = looked_of_alike search_kind.FindInPages e l
-    searched_alike search_kind.ReplaceInPages e = looked_of_alike search_kind.ReplaceInPages e l
-
-    element_alike : (k : Kind) (e : Element) → AreOutcomesAlike (outcome_of k e (one w g l f)) (outcome_of k e (other w g l f))
-    unfolding outcome_of
-    element_alike (kind.Argument a) e = behind_alike w g l f e (after_argument a e w.kept g)
-    element_alike (kind.Value v) e = behind_alike w g l f e (after_value v w.kept g)
-    element_alike (kind.Query q) e = behind_alike w g l f e (after_query q e w.kept g)
-    element_alike (kind.Stack k) e = behind_alike w g l f e (after_stack k w.kept g)
-    element_alike (kind.Command k) e = behind_alike w g l f e (after_command k e w.kept g)
-    element_alike (kind.Call k) e = record { world = refl; arguments = refl; left = refl; texts = (refl, (refl, alike)) }
-    element_alike (kind.Flow x) e = flow_alike w g l f (turn_of x e g f)
-    element_alike (kind.Page p) e = page_alike p e
-    element_alike (kind.Search x) e = searched_alike x e
-    element_alike (kind.File x) e = file_alike x e
-
     outcomes_alike : (r : Result (Option Element) Code) → AreOutcomesAlike (outcome_at (one w g l f) r) (outcome_at (other w g l f) r)
     outcomes_alike (Err k) = (code_same k, refl)
-    outcomes_alike (Ok None) = end_alike w g l f f.loops
+    outcomes_alike (Ok None) = end_alike f.loops
     outcomes_alike (Ok (Some e)) = element_alike e.kind e
 
     inner_alike : AreOutcomesAlike (step (one w g l f)) (step (other w g l f))
@@ -183,7 +93,7 @@ module _ (w : World) (g : Arguments) (l : Option ℕ) where
   called c f next = record (alone f) { frames = frames_in (text_in c.register w.kept) next (record { running = f; callers = [] }) }
 
   by_kind : (k : Kind) (c : Call) (f : Frame) (e : Element) → k ≡ kind.Call c → outcome_of k e (alone f) ≡ Next (called c f e.next)
-  unfolding outcome_of
+  unfolding reply_of
   by_kind k c f e h = rw h refl
 
   calling_calls : (c : Call) (f : Frame) (h : CallsLast c f) → step (alone f) ≡ Next (called c f h.element.next)

@@ -1,5 +1,5 @@
 -- A number before a call is taken first, and then it is pending.
-use Rattle.std.proofs.Common.{◌≡◌, ℕ, zero, suc, ◌+◌, ◌-◌, ◌<◌, ◌≤◌, ◌^◌, arith, pos, List, [], ◌∷◌, ◌++◌, take, drop, map, length, length-append, Bool, true, false, Option, Some, None, Ok, refl, sym, ap, ◌∙◌, subst, nat_le, lit<, w32}
+use Rattle.std.proofs.Common.{◌≡◌, ℕ, zero, suc, ◌+◌, ◌-◌, ◌<◌, ◌≤◌, ◌^◌, arith, pos, List, [], ◌∷◌, ◌++◌, take, drop, map, length, length-append, true, false, Some, None, Ok, refl, sym, ap, ◌∙◌, subst, nat_le, lit<, w32}
 use Rattle.std.proofs.Math.Seq.{take-append_seam, drop-append_seam}
 use Rattle.std.proofs.lemmas.Bool.{le-leb}
 use Rattle.std.proofs.lemmas.Bool.Decides.{nat_tests}
@@ -8,7 +8,6 @@ use Rattle.std.proofs.lemmas.Fmt.{decimal_digit, decimal-digits_of}
 use Rattle.std.proofs.lemmas.Int.{ints, int_wrap_fits}
 use Rattle.std.specs.Int.{int_wrap}
 use Rattle.std.proofs.lemmas.Int.Digits.{all_below_base_digits_of, number_digits_of}
-use Rattle.std.specs.Fmt as fmt
 use Rattle.std.specs.Int.Digits.{AllBelowBase, digits_of, number_from_digits}
 use Rattle.std.specs.List.{prefix_len}
 use Rattle.teco_base.specs.Bytes.{is_digit}
@@ -16,16 +15,15 @@ use Rattle.teco_base.specs.NumberText.{decimal}
 use Rattle.teco_base.specs.Register.{register_of, register_name}
 use Rattle.teco_base.specs.declared.TheConstants.{REGISTERS}
 use Rattle.teco_model.specs.declared.kind.Argument.TheVariants as argument
-use Rattle.teco_model.specs.declared.kind.Call.{Call}
 use Rattle.teco_model.specs.declared.kind.Kind.TheVariants as kind
 use Rattle.teco_model.specs.Arguments.{no_arguments, levels_after_answer, run_value}
 use Rattle.teco_model.specs.Element.{Element, element_at, element_from, blank_len, blank_end}
 use Rattle.teco_model.specs.Checked.{◌>>=◌}
 use Rattle.teco_model.specs.Letters.{letters}
-use Rattle.teco_model.specs.State.{World, Frame, State, Next, start}
-use Rattle.teco_model.specs.Step.{outcome_of, outcome_at, step}
-use Rattle.teco_law_expansion.specs.Alike.{Waits, CallsLast, Calling, AreAlike}
-use Rattle.teco_law_expansion.specs.Given.{start_pending, BeginsPending, NumbersArePending}
+use Rattle.teco_model.specs.State.{World, State, Next, start}
+use Rattle.teco_model.specs.Step.{reply_of, outcome_of, outcome_at, step}
+use Rattle.teco_law_expansion.specs.Alike.{CallsLast, Calling, AreAlike}
+use Rattle.teco_law_expansion.specs.Given.{start_pending, NumbersArePending}
 use Rattle.teco_model.specs.Macros.{call_of}
 
 -- ---- digits at the front of a text
@@ -216,7 +214,7 @@ module _ (entry n : ℕ) (world : World) (named : entry < REGISTERS) (small : n 
 
   digits_step : (e : Element) → e.kind ≡ kind.Argument argument.Digits → outcome_of e.kind e (start text world) ≡
       Next (record { world = world; arguments = levels_after_answer (Some (run_value e.text)) no_arguments; frames = record { running = record { text = text; place = e.next; loops = [] }; callers = [] }; left = None })
-  unfolding outcome_of
+  unfolding reply_of
   digits_step e h = rw h refl
 
   goes_on : step (start text world) ≡ Next behind

@@ -9,19 +9,16 @@ use Rattle.teco_model.specs.declared.arguments.Taken.{Taken}
 use Rattle.teco_model.specs.declared.kind.Search.{Search}
 use Rattle.teco_model.specs.declared.kind.Search.TheVariants as search_kind
 use Rattle.teco_model.specs.declared.pattern.Span.{Span}
-use Rattle.teco_model.specs.Arguments.{arguments_of}
 use Rattle.teco_model.specs.Checked.{◌>>=◌}
 use Rattle.teco_model.specs.Element.{Element}
-use Rattle.teco_model.specs.Outside.{pages_done}
 use Rattle.teco_model.specs.Pages.{first_page}
 use Rattle.teco_model.specs.declared.pattern.Sought.{Sought}
 use Rattle.teco_model.specs.declared.pattern.Sought.TheVariants.{Last, Wanted}
-use Rattle.teco_model.specs.Paging.{fitting, page_taken, page_added, world_with_next_page, yank, append, appended, page_turned, page_written, Progress, one_page_of, pages_of, range_written, sought, Looked, Met, Turned, Through, page_looked_for, looked_on, look_for, unread, nothing_lost, page_count, needed_output, match_count, Here, MetHere, WantedYet, here_of, look_here, world_seeking}
+use Rattle.teco_model.specs.Paging.{fitting, page_taken, page_added, world_with_next_page, yank, append, appended, page_turned, page_written, Progress, one_page_of, pages, pages_of, range_written, sought, Looked, Met, Turned, Through, page_looked_for, looked_on, look_first, look_for, unread, nothing_lost, page_count, needed_output, match_count, Here, MetHere, WantedYet, here_of, look_here, world_seeking}
 use Rattle.teco_model.specs.Search.{Finding, Found, Missed, kept_after, finding_of, search, count_of, pattern_of, search_text_of, match_of}
 use Rattle.teco_model.specs.Places.{text_between}
 use Rattle.std.specs.Prelude.{unwrap_or}
-use Rattle.teco_model.specs.Searching.{looking}
-use Rattle.teco_model.specs.State.{Kept, World, State}
+use Rattle.teco_model.specs.State.{Kept, World}
 use Rattle.teco_model.specs.Macros.{Library}
 use Rattle.teco_law_expansion.proofs.Texts.{Keeps}
 use Rattle.teco_law_expansion.proofs.Keeping.{AllKeep, itself, untouched, after}
@@ -114,13 +111,12 @@ pages_of_keeps library one_page None value world h =
 pages_of_keeps library one_page (Some m) None world h =
     after library world.kept kept_of_progress (page_count (pos 1)) _ (λ n. one_page_keeps library one_page n world h)
 
-pub pages_done_keeps :
-    (library : Library) (one_page : World → Result World Code) (s : State)
-    → AllKeep library s.world.kept kept_of_world (one_page s.world)
-    → AllKeep library s.world.kept kept_of_progress (pages_done one_page s)
-pages_done_keeps library one_page s h =
-    after library s.world.kept kept_of_progress (arguments_of s.arguments.level) _ (λ taken.
-    after library s.world.kept kept_of_progress (needed_output s.world) _ (λ output. pages_of_keeps library one_page taken.first taken.value s.world h))
+pub pages_keep :
+    (library : Library) (one_page : World → Result World Code) (taken : Taken) (world : World)
+    → AllKeep library world.kept kept_of_world (one_page world)
+    → AllKeep library world.kept kept_of_progress (pages one_page taken world)
+pages_keep library one_page taken world h =
+    after library world.kept kept_of_progress (needed_output world) _ (λ output. pages_of_keeps library one_page taken.first taken.value world h)
 
 -- N and FN
 page_looked_keeps : (library : Library) (bytes : List ℕ) (n : ℕ) (world : World) → AllKeep library world.kept kept_of_looked (page_looked_for bytes n world)
@@ -150,10 +146,8 @@ pub look_for_keeps :
 look_for_keeps library x e n world =
     onto library world.kept (kept_of_here world.kept) kept_of_looked (look_here x e n world.kept) _ (look_here_keeps library x e n world.kept) (λ here k. looked_on_keeps library here world k)
 
-pub looking_keeps :
-    (library : Library) (x : Search) (e : Element) (s : State)
-    → AllKeep library s.world.kept kept_of_looked (looking x e s)
-looking_keeps library x e s =
-    after library s.world.kept kept_of_looked (arguments_of s.arguments.level) _ (λ taken.
-    after library s.world.kept kept_of_looked (match_count taken.first taken.value) _ (λ n.
-    look_for_keeps library x e n (world_seeking e.text s.world)))
+pub look_first_keeps :
+    (library : Library) (x : Search) (e : Element) (taken : Taken) (world : World)
+    → AllKeep library world.kept kept_of_looked (look_first x e taken world)
+look_first_keeps library x e taken world =
+    after library world.kept kept_of_looked (match_count taken.first taken.value) _ (λ n. look_for_keeps library x e n (world_seeking e.text world))

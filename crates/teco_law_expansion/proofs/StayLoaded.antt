@@ -1,9 +1,7 @@
 -- A library stays loaded through each step that writes none of its registers.
-use Rattle.std.proofs.Common.{◌≡◌, ℕ, ℤ, zero, suc, List, [], ◌∷◌, Bool, true, false, Option, Some, None, Result, Ok, Err, sym, ◌∙◌, subst}
+use Rattle.std.proofs.Common.{◌≡◌, ℕ, ℤ, zero, suc, List, [], ◌∷◌, false, Option, Some, None, Result, Ok, Err, sym, ◌∙◌, subst}
 use Rattle.std.specs.Option.{option_map_or, option_map}
 use Rattle.teco_base.specs.declared.code.Code.{Code}
-use Rattle.teco_base.specs.declared.code.Code.TheVariants as code
-use Rattle.teco_model.specs.declared.arguments.Taken.{Taken}
 use Rattle.teco_model.specs.declared.flow.Loop.{Loop}
 use Rattle.teco_model.specs.declared.kind.File.{File}
 use Rattle.teco_model.specs.declared.kind.File.TheVariants as file
@@ -13,25 +11,25 @@ use Rattle.teco_model.specs.declared.kind.Page.{Page}
 use Rattle.teco_model.specs.declared.kind.Page.TheVariants as page
 use Rattle.teco_model.specs.declared.kind.Search.{Search}
 use Rattle.teco_model.specs.declared.kind.Search.TheVariants as search_kind
-use Rattle.teco_model.specs.Arguments.{no_arguments, arguments_of}
+use Rattle.teco_model.specs.Arguments.{Arguments, arguments_of, levels_after_taking}
 use Rattle.teco_model.specs.Checked.{◌>>=◌}
 use Rattle.teco_model.specs.Element.{Element}
-use Rattle.teco_model.specs.Filing.{open_output, close_output, copy_all, abandon_output, open_input, with_input, name_apart_from, no_output}
+use Rattle.teco_model.specs.Filing.{open_output, close_output, copy_all, with_input, name_apart_from, no_output, exit_from}
 use Rattle.teco_model.specs.Files.{Input, Output, file_named}
-use Rattle.teco_model.specs.Flow.{Turn, turn_of, jump}
-use Rattle.teco_model.specs.Going.{After, outcome_behind, taking, with_nothing_left}
-use Rattle.teco_model.specs.Outside.{world_outcome, pages_outcome, pages_behind, pages_done, pages_outcome_of, append_outcome, character_outcome, opened_outcome, exit_outcome, page_outcome, file_outcome}
-use Rattle.teco_model.specs.Paging.{yank, append, one_page_of, look_for, needed_output, page_turned, page_written, Progress, Looked, Met, Turned, Through}
-use Rattle.teco_model.specs.Search.{Finding, Found, Missed}
-use Rattle.teco_model.specs.Searching.{has_colon, leaving_outcome, missed_outcome, miss_outcome, search_outcome, kept_by_miss, finding, looking, looked_outcome, looked_outcome_of, outcome_of_search}
+use Rattle.teco_model.specs.Flow.{Turn, turn_of}
+use Rattle.teco_model.specs.Going.{After, Course, Behind, Again, Along, Into, Quit, NoFile, Refused, Reply, on_editor, settled, settle}
+use Rattle.teco_model.specs.Outside.{going_on, while_left, in_pages, pages_reply, append_reply, page_reply, opened, filed, file_reply}
+use Rattle.teco_model.specs.Paging.{yank, append, one_page_of, pages, look_first, look_for, needed_output, page_turned, page_written, Progress, Looked, Met, Turned, Through}
+use Rattle.teco_model.specs.Search.{Finding, Found, Missed, search}
+use Rattle.teco_model.specs.Searching.{Miss, Answers, Leaves, Unended, Fails, miss_of, missed, found, found_in_buffer, looked, looking, found_in_pages, search_reply, kept_by_miss}
 use Rattle.teco_model.specs.State.{Kept, World, Frame, State, Outcome, Next, End, Exit, Fail, Absent}
-use Rattle.teco_model.specs.Step.{flow_outcome, after_argument, after_value, after_query, after_stack, after_command, value_for, outcome_of, end_outcome, end_of_text, outcome_at}
+use Rattle.teco_model.specs.Step.{flow_reply, after_argument, after_value, after_query, after_stack, after_command, value_for, reply_of, end_outcome, end_of_text, outcome_at}
 use Rattle.teco_model.specs.Macros.{Library, is_macro}
 use Rattle.teco_law_expansion.specs.Loaded.{StaysLoaded}
 use Rattle.teco_verifier.specs.expansion.Names.{written_by, writes_macro}
 use Rattle.teco_law_expansion.proofs.Texts.{Keeps, still_loaded}
 use Rattle.teco_law_expansion.proofs.Keeping.{AllKeep, kept_of_after, untouched, after, after_argument_keeps, after_value_keeps, after_query_keeps, after_stack_keeps, after_command_keeps}
-use Rattle.teco_law_expansion.proofs.KeepingPages.{kept_of_world, kept_of_progress, kept_of_looked, kept_of_finding, yank_keeps, append_keeps, turned_keeps, written_keeps, one_page_keeps, pages_done_keeps, look_for_keeps, looking_keeps, search_keeps}
+use Rattle.teco_law_expansion.proofs.KeepingPages.{kept_of_world, kept_of_progress, kept_of_looked, kept_of_finding, yank_keeps, append_keeps, turned_keeps, written_keeps, onto, one_page_keeps, pages_keep, look_for_keeps, look_first_keeps, search_keeps}
 use Rattle.teco_law_expansion.proofs.StepWays.{as_read}
 
 -- an outcome keeps the library's texts, where it is a state
@@ -39,168 +37,152 @@ abbrev Keeping : Library → Kept → Outcome → Type 0
 Keeping library old (Next t) = Keeps library old.registers t.world.kept.registers
 Keeping library old outcome = Unit {0}
 
+abbrev kept_of_reply : Reply → Kept
+kept_of_reply reply = reply.world.kept
+
 module _ (library : Library) (s : State) where
   abbrev KeptBy : Outcome → Type 0
   KeptBy outcome = Keeping library s.world.kept outcome
 
-  behind_keeps : (e : Element) (r : Result After Code) → AllKeep library s.world.kept kept_of_after r → KeptBy (outcome_behind e s r)
-  behind_keeps e (Ok done) k = k
-  behind_keeps e (Err c) k = tt
+  abbrev Replied : Result Reply Code → Type 0
+  Replied r = AllKeep library s.world.kept kept_of_reply r
 
-  world_keeps :
-      (u : State) (e : Element) (r : Result World Code) → AllKeep library s.world.kept kept_of_world r
-      → KeptBy (world_outcome e u r)
-  world_keeps u e (Ok world) k = k
-  world_keeps u e (Err c) k = tt
+  behind_keeps : (r : Result After Code) → AllKeep library s.world.kept kept_of_after r → Replied (on_editor s.left s.world r)
+  behind_keeps (Ok done) k = k
+  behind_keeps (Err c) k = tt
 
-  pages_keep :
-      (u : State) (e : Element) (r : Result Progress Code) → AllKeep library s.world.kept kept_of_progress r
-      → KeptBy (pages_outcome e u r)
-  pages_keep u e (Err c) k = tt
-  pages_keep u e (Ok done) k = among done.left
+  world_keeps : (arguments : Arguments) (r : Result World Code) → AllKeep library s.world.kept kept_of_world r → Replied (going_on s.left arguments r)
+  world_keeps arguments (Ok world) k = k
+  world_keeps arguments (Err c) k = tt
+
+  pages_answer : (arguments : Arguments) (r : Result Progress Code) → AllKeep library s.world.kept kept_of_progress r → Replied (in_pages arguments r)
+  pages_answer arguments (Err c) k = tt
+  pages_answer arguments (Ok done) k = among done.left
     where
-      among : (left : ℕ) → KeptBy (pages_behind e u done.world left)
+      among : (left : ℕ) → Keeps library s.world.kept.registers (while_left left arguments done.world).world.kept.registers
       among zero = k
       among (suc n) = k
 
   pages_of_keep :
-      (one_page : World → Result World Code) (e : Element) (left : Option ℕ)
-      → AllKeep library s.world.kept kept_of_world (one_page s.world) → KeptBy (pages_outcome_of one_page e s left)
-  pages_of_keep one_page e None k =
-      pages_keep (taking s) e (pages_done one_page s) (pages_done_keeps library one_page s k)
-  pages_of_keep one_page e (Some n) k =
-      pages_keep s e (one_page_of one_page n s.world) (one_page_keeps library one_page n s.world k)
+      (one_page : World → Result World Code) (left : Option ℕ)
+      → AllKeep library s.world.kept kept_of_world (one_page s.world) → Replied (pages_reply one_page left s.arguments s.world)
+  pages_of_keep one_page None k = after library s.world.kept kept_of_reply (arguments_of s.arguments.level) _ (λ taken.
+      pages_answer (levels_after_taking s.arguments) (pages one_page taken s.world) (pages_keep library one_page taken s.world k))
+  pages_of_keep one_page (Some n) k =
+      pages_answer s.arguments (one_page_of one_page n s.world) (one_page_keeps library one_page n s.world k)
 
-  append_outcome_keeps : (e : Element) (r : Result Taken Code) → KeptBy (append_outcome e (taking s) r)
-  append_outcome_keeps e (Err c) = tt
-  append_outcome_keeps e (Ok taken) = among taken.value
+  append_reply_keeps : (value : Option ℤ) (arguments : Arguments) → Replied (append_reply value s.left arguments s.world)
+  append_reply_keeps None arguments = world_keeps arguments (append s.world) (append_keeps library s.world)
+  append_reply_keeps (Some n) arguments = untouched library s.world.kept
+
+  page_keeps : (p : Page) → Replied (page_reply p s.left s.arguments s.world)
+  page_keeps page.Yank = after library s.world.kept kept_of_reply (arguments_of s.arguments.level) _ (λ taken.
+      world_keeps (levels_after_taking s.arguments) (yank s.world) (yank_keeps library s.world))
+  page_keeps page.Append = after library s.world.kept kept_of_reply (arguments_of s.arguments.level) _ (λ taken.
+      append_reply_keeps taken.value (levels_after_taking s.arguments))
+  page_keeps page.Next = pages_of_keep page_turned s.left (turned_keeps library s.world)
+  page_keeps page.Write = pages_of_keep page_written s.left (written_keeps library s.world)
+
+  input_keeps : (arguments : Arguments) (name : List ℕ) (bytes : Option (List ℕ)) → Keeps library s.world.kept.registers (opened s.left arguments s.world (option_map (with_input name s.world) bytes)).world.kept.registers
+  input_keeps arguments name None = untouched library s.world.kept
+  input_keeps arguments name (Some bytes) = untouched library s.world.kept
+
+  read_keeps : (arguments : Arguments) (name : List ℕ) (r : Result (Unit {0}) Code) →
+      Replied ((r >>= (λ apart. Ok (option_map (with_input name s.world) (file_named name s.world.files.named)))) >>= (λ found. Ok (opened s.left arguments s.world found)))
+  read_keeps arguments name (Ok apart) = input_keeps arguments name (file_named name s.world.files.named)
+  read_keeps arguments name (Err c) = tt
+
+  filed_keeps : (f : File) (name : List ℕ) (arguments : Arguments) → Replied (filed f name s.left arguments s.world)
+  filed_keeps file.Read name arguments = read_keeps arguments name (name_apart_from (option_map (λ (output : Output). output.name) s.world.files.output) name)
+  filed_keeps file.Write name arguments = world_keeps arguments (open_output name s.world)
+      (after library s.world.kept kept_of_world (no_output s.world.files.output) _ (λ alone.
+      after library s.world.kept kept_of_world (name_apart_from (option_map (λ (input : Input). input.name) s.world.files.input) name) _ (λ apart. untouched library s.world.kept)))
+  filed_keeps file.Close name arguments = world_keeps arguments (close_output s.world)
+      (after library s.world.kept kept_of_world (needed_output s.world) _ (λ output. untouched library s.world.kept))
+  filed_keeps file.Abandon name arguments = untouched library s.world.kept
+  filed_keeps file.Copy name arguments = world_keeps arguments (copy_all s.world)
+      (after library s.world.kept kept_of_world (needed_output s.world) _ (λ output. untouched library s.world.kept))
+  filed_keeps file.Exit name arguments = exit_keeps s.world.files.output
     where
-      among :
-          (value : Option ℤ)
-          → KeptBy (elim value [
-            | None ↦ world_outcome e (taking s) (append s.world)
-            | Some n ↦ character_outcome e (taking s) n
-          ])
-      among None = world_keeps (taking s) e (append s.world) (append_keeps library s.world)
-      among (Some n) = untouched library s.world.kept
+      exit_keeps : (output : Option Output) → Keeps library s.world.kept.registers (exit_from output s.world).kept.registers
+      exit_keeps None = untouched library s.world.kept
+      exit_keeps (Some output) = untouched library s.world.kept
 
-  page_keeps : (p : Page) (e : Element) → KeptBy (page_outcome p e s)
-  page_keeps page.Yank e =
-      world_keeps (taking s) e (arguments_of s.arguments.level >>= (λ taken. yank s.world))
-      (after library s.world.kept kept_of_world (arguments_of s.arguments.level) _ (λ taken.
-      yank_keeps library s.world))
-  page_keeps page.Append e = append_outcome_keeps e (arguments_of s.arguments.level)
-  page_keeps page.Next e = pages_of_keep page_turned e s.left (turned_keeps library s.world)
-  page_keeps page.Write e = pages_of_keep page_written e s.left (written_keeps library s.world)
-
-  abbrev kept_of_opened : Option World → Kept
-  kept_of_opened None = s.world.kept
-  kept_of_opened (Some world) = world.kept
-
-  opened_keeps :
-      (u : State) (e : Element) (r : Result (Option World) Code) → AllKeep library s.world.kept kept_of_opened r
-      → KeptBy (opened_outcome e u r)
-  opened_keeps u e (Err c) k = tt
-  opened_keeps u e (Ok None) k = tt
-  opened_keeps u e (Ok (Some world)) k = k
-
-  input_keeps : (name : List ℕ) (bytes : Option (List ℕ)) → Keeps library s.world.kept.registers (kept_of_opened (option_map (with_input name s.world) bytes)).registers
-  input_keeps name None = untouched library s.world.kept
-  input_keeps name (Some bytes) = untouched library s.world.kept
-
-  exit_keeps : (r : Result Taken Code) → KeptBy (exit_outcome s r)
-  exit_keeps (Err c) = tt
-  exit_keeps (Ok taken) = tt
-
-  file_keeps : (f : File) (e : Element) → KeptBy (file_outcome f e s)
-  file_keeps file.Read e =
-      opened_keeps (taking s) e (arguments_of s.arguments.level >>= (λ taken. open_input e.text s.world))
-      (after library s.world.kept kept_of_opened (arguments_of s.arguments.level) _ (λ taken.
-      after library s.world.kept kept_of_opened (name_apart_from (option_map (λ (output : Output). output.name) s.world.files.output) e.text) _ (λ apart. input_keeps e.text (file_named e.text s.world.files.named))))
-  file_keeps file.Write e =
-      world_keeps (taking s) e (arguments_of s.arguments.level >>= (λ taken. open_output e.text s.world))
-      (after library s.world.kept kept_of_world (arguments_of s.arguments.level) _ (λ taken.
-      after library s.world.kept kept_of_world (no_output s.world.files.output) _ (λ alone.
-      after library s.world.kept kept_of_world (name_apart_from (option_map (λ (input : Input). input.name) s.world.files.input) e.text) _ (λ apart. untouched library s.world.kept))))
-  file_keeps file.Close e =
-      world_keeps (taking s) e (arguments_of s.arguments.level >>= (λ taken. close_output s.world))
-      (after library s.world.kept kept_of_world (arguments_of s.arguments.level) _ (λ taken.
-      after library s.world.kept kept_of_world (needed_output s.world) _ (λ output. untouched library s.world.kept)))
-  file_keeps file.Abandon e =
-      world_keeps (taking s) e (arguments_of s.arguments.level >>= (λ taken. Ok (abandon_output s.world)))
-      (after library s.world.kept kept_of_world (arguments_of s.arguments.level) _ (λ taken. untouched library s.world.kept))
-  file_keeps file.Copy e =
-      world_keeps (taking s) e (arguments_of s.arguments.level >>= (λ taken. copy_all s.world))
-      (after library s.world.kept kept_of_world (arguments_of s.arguments.level) _ (λ taken.
-      after library s.world.kept kept_of_world (needed_output s.world) _ (λ output. untouched library s.world.kept)))
-  file_keeps file.Exit e = exit_keeps (arguments_of s.arguments.level)
+  file_keeps : (f : File) (name : List ℕ) → Replied (file_reply f name s.left s.arguments s.world)
+  file_keeps f name = after library s.world.kept kept_of_reply (arguments_of s.arguments.level) _ (λ taken. filed_keeps f name (levels_after_taking s.arguments))
 
   -- searches
-  leaving_keeps : (old new : World) (u : State) (r : Result Turn Code) → Keeps library s.world.kept.registers new.kept.registers → KeptBy (leaving_outcome old new u r)
-  leaving_keeps old new u (Err c) k = tt
-  leaving_keeps old new u (Ok turn) k = k
-
-  missed_keeps : (e : Element) (old new : World) (u : State) (loops : List Loop) → Keeps library s.world.kept.registers new.kept.registers → KeptBy (missed_outcome e old new u loops)
-  missed_keeps e old new u [] k = tt
-  missed_keeps e old new u (loop ∷ outer) k = leaving_keeps old new u (jump code.Utc e no_arguments u.frames.running) k
-
-  miss_keeps : (colon : Bool) (e : Element) (old new : World) (u : State) → Keeps library s.world.kept.registers new.kept.registers → KeptBy (miss_outcome colon e old new u)
-  miss_keeps true e old new u k = k
-  miss_keeps false e old new u k = missed_keeps e old new u u.frames.running.loops k
+  missed_keeps : (miss : Miss) (left : Option ℕ) (arguments : Arguments) (old new : World) → Keeps library s.world.kept.registers old.kept.registers → Keeps library s.world.kept.registers new.kept.registers →
+      Keeps library s.world.kept.registers (missed miss left arguments old new).world.kept.registers
+  missed_keeps Answers left arguments old new h k = k
+  missed_keeps (Leaves turn) left arguments old new h k = k
+  missed_keeps Unended left arguments old new h k = h
+  missed_keeps Fails left arguments old new h k = k
 
   moved_by_miss : (colons : ℕ) (kept : Kept) → Keeps library s.world.kept.registers kept.registers → Keeps library s.world.kept.registers (kept_by_miss colons kept).registers
   moved_by_miss zero kept k = k
   moved_by_miss (suc zero) kept k = k
   moved_by_miss (suc (suc colons)) kept k = k
 
-  searched_keeps :
-      (colon : Bool) (e : Element) (r : Result Finding Code) → AllKeep library s.world.kept kept_of_finding r
-      → KeptBy (search_outcome colon e (taking s) r)
-  searched_keeps colon e (Err c) k = tt
-  searched_keeps colon e (Ok (Found kept)) k = k
-  searched_keeps colon e (Ok (Missed kept)) k = miss_keeps colon e _ _ (taking s) (moved_by_miss e.colons kept k)
+  module _ (x : Search) (e : Element) (miss : Miss) where
+    found_keeps : (arguments : Arguments) (finding : Finding) → Keeps library s.world.kept.registers (kept_of_finding finding).registers → Keeps library s.world.kept.registers (found e miss s.left arguments s.world finding).world.kept.registers
+    found_keeps arguments (Found kept) k = k
+    found_keeps arguments (Missed kept) k = missed_keeps miss s.left arguments _ _ k (moved_by_miss e.colons kept k)
 
-  looked_keeps :
-      (colon : Bool) (u : State) (e : Element) (r : Result Looked Code)
-      → AllKeep library s.world.kept kept_of_looked r → KeptBy (looked_outcome colon e u r)
-  looked_keeps colon u e (Err c) k = tt
-  looked_keeps colon u e (Ok (Met world)) k = k
-  looked_keeps colon u e (Ok (Turned n world)) k = k
-  looked_keeps colon u e (Ok (Through world)) k = miss_keeps colon e _ _ (with_nothing_left u) k
+    in_buffer_keeps : Replied (found_in_buffer x e miss s.left s.arguments s.world)
+    in_buffer_keeps = after library s.world.kept kept_of_reply (arguments_of s.arguments.level) _ (λ taken.
+        onto library s.world.kept kept_of_finding kept_of_reply (search x e taken s.world.kept) (λ finding. Ok (found e miss s.left (levels_after_taking s.arguments) s.world finding)) (search_keeps library x e taken s.world.kept) (found_keeps (levels_after_taking s.arguments)))
 
-  looked_of_keeps : (x : Search) (e : Element) (left : Option ℕ) → KeptBy (looked_outcome_of x e s left)
-  looked_of_keeps x e None =
-      looked_keeps (has_colon e s.frames.running) (taking s) e (looking x e s) (looking_keeps library x e s)
-  looked_of_keeps x e (Some n) =
-      looked_keeps (has_colon e s.frames.running) s e (look_for x e n s.world) (look_for_keeps library x e n s.world)
+    looked_keeps : (arguments : Arguments) (look : Looked) → Keeps library s.world.kept.registers (kept_of_looked look).registers → Keeps library s.world.kept.registers (looked miss arguments look).world.kept.registers
+    looked_keeps arguments (Met world) k = k
+    looked_keeps arguments (Turned n world) k = k
+    looked_keeps arguments (Through world) k = missed_keeps miss None arguments _ _ k k
 
-  finding_keeps : (x : Search) (e : Element) → AllKeep library s.world.kept kept_of_finding (finding x e s)
-  finding_keeps x e = after library s.world.kept kept_of_finding (arguments_of s.arguments.level) _ (λ taken. search_keeps library x e taken s.world.kept)
+    looking_keeps : (arguments : Arguments) (r : Result Looked Code) → AllKeep library s.world.kept kept_of_looked r → Replied (looking miss arguments r)
+    looking_keeps arguments r k = onto library s.world.kept kept_of_looked kept_of_reply r (λ look. Ok (looked miss arguments look)) k (looked_keeps arguments)
 
-  search_outcome_keeps : (x : Search) (e : Element) → KeptBy (outcome_of_search x e s)
-  search_outcome_keeps search_kind.Find e = searched_keeps (has_colon e s.frames.running) e (finding search_kind.Find e s) (finding_keeps search_kind.Find e)
-  search_outcome_keeps search_kind.Replace e = searched_keeps (has_colon e s.frames.running) e (finding search_kind.Replace e s) (finding_keeps search_kind.Replace e)
-  search_outcome_keeps search_kind.FindInPages e = looked_of_keeps search_kind.FindInPages e s.left
-  search_outcome_keeps search_kind.ReplaceInPages e = looked_of_keeps search_kind.ReplaceInPages e s.left
+    in_pages_keeps : (left : Option ℕ) → Replied (found_in_pages x e miss left s.arguments s.world)
+    in_pages_keeps None = after library s.world.kept kept_of_reply (arguments_of s.arguments.level) _ (λ taken.
+        looking_keeps (levels_after_taking s.arguments) (look_first x e taken s.world) (look_first_keeps library x e taken s.world))
+    in_pages_keeps (Some n) = looking_keeps s.arguments (look_for x e n s.world) (look_for_keeps library x e n s.world)
+
+  search_reply_keeps : (x : Search) (e : Element) (miss : Miss) → Replied (search_reply x e miss s.left s.arguments s.world)
+  search_reply_keeps search_kind.Find e miss = in_buffer_keeps search_kind.Find e miss
+  search_reply_keeps search_kind.Replace e miss = in_buffer_keeps search_kind.Replace e miss
+  search_reply_keeps search_kind.FindInPages e miss = in_pages_keeps search_kind.FindInPages e miss s.left
+  search_reply_keeps search_kind.ReplaceInPages e miss = in_pages_keeps search_kind.ReplaceInPages e miss s.left
 
   -- all elements
-  flow_keeps : (r : Result Turn Code) → KeptBy (flow_outcome s r)
+  flow_keeps : (r : Result Turn Code) → Replied (flow_reply s.left s.world r)
   flow_keeps (Err c) = tt
   flow_keeps (Ok turn) = untouched library s.world.kept
 
-  element_keeps : (k : Kind) (e : Element) → option_map_or (is_macro library) (written_by k) false ≡ false → KeptBy (outcome_of k e s)
-  unfolding outcome_of
-  element_keeps (kind.Argument a) e h = behind_keeps e (after_argument a e s.world.kept s.arguments) (after_argument_keeps library s.world.kept a e s.arguments)
-  element_keeps (kind.Value v) e h = behind_keeps e (after_value v s.world.kept s.arguments) (after_value_keeps library s.world.kept v s.arguments)
-  element_keeps (kind.Query q) e h =
-      behind_keeps e (after_query q e s.world.kept s.arguments) (after_query_keeps library s.world.kept q e.colons (value_for q e.colons s.arguments.level) s.arguments)
-  element_keeps (kind.Stack k) e h = behind_keeps e (after_stack k s.world.kept s.arguments) (after_stack_keeps library s.world.kept k s.arguments h)
-  element_keeps (kind.Command c) e h = behind_keeps e (after_command c e s.world.kept s.arguments) (after_command_keeps library s.world.kept c e s.arguments h)
-  element_keeps (kind.Call c) e h = untouched library s.world.kept
-  element_keeps (kind.Flow f) e h = flow_keeps (turn_of f e s.arguments s.frames.running)
-  element_keeps (kind.Page p) e h = page_keeps p e
-  element_keeps (kind.Search x) e h = search_outcome_keeps x e
-  element_keeps (kind.File f) e h = file_keeps f e
+  reply_keeps : (k : Kind) (e : Element) → option_map_or (is_macro library) (written_by k) false ≡ false → Replied (reply_of k e s)
+  unfolding reply_of
+  reply_keeps (kind.Argument a) e h = behind_keeps (after_argument a e s.world.kept s.arguments) (after_argument_keeps library s.world.kept a e s.arguments)
+  reply_keeps (kind.Value v) e h = behind_keeps (after_value v s.world.kept s.arguments) (after_value_keeps library s.world.kept v s.arguments)
+  reply_keeps (kind.Query q) e h =
+      behind_keeps (after_query q e s.world.kept s.arguments) (after_query_keeps library s.world.kept q e.colons (value_for q e.colons s.arguments.level) s.arguments)
+  reply_keeps (kind.Stack k) e h = behind_keeps (after_stack k s.world.kept s.arguments) (after_stack_keeps library s.world.kept k s.arguments h)
+  reply_keeps (kind.Command c) e h = behind_keeps (after_command c e s.world.kept s.arguments) (after_command_keeps library s.world.kept c e s.arguments h)
+  reply_keeps (kind.Call c) e h = untouched library s.world.kept
+  reply_keeps (kind.Flow f) e h = flow_keeps (turn_of f e s.arguments s.frames.running)
+  reply_keeps (kind.Page p) e h = page_keeps p
+  reply_keeps (kind.Search x) e h = search_reply_keeps x e (miss_of e s.frames.running)
+  reply_keeps (kind.File f) e h = file_keeps f e.text
+
+  settled_keeps : (e : Element) (reply : Reply) (course : Course) → Keeps library s.world.kept.registers reply.world.kept.registers → KeptBy (settled e s.frames reply course)
+  settled_keeps e reply Behind k = k
+  settled_keeps e reply Again k = k
+  settled_keeps e reply (Along frame) k = k
+  settled_keeps e reply (Into text) k = k
+  settled_keeps e reply Quit k = tt
+  settled_keeps e reply NoFile k = tt
+  settled_keeps e reply (Refused c) k = tt
+
+  settle_keeps : (e : Element) (r : Result Reply Code) → Replied r → KeptBy (settle e s r)
+  settle_keeps e (Ok reply) k = settled_keeps e reply reply.course k
+  settle_keeps e (Err c) k = tt
 
   return_keeps : (callers : List Frame) → KeptBy (end_outcome callers s)
   return_keeps [] = tt
@@ -212,7 +194,7 @@ module _ (library : Library) (s : State) where
 
   outcome_keeps : (read : Option Element) → writes_macro library read ≡ false → KeptBy (outcome_at s (Ok read))
   outcome_keeps None h = end_keeps s.frames.running.loops
-  outcome_keeps (Some e) h = element_keeps e.kind e h
+  outcome_keeps (Some e) h = settle_keeps e (reply_of e.kind e s) (reply_keeps e.kind e h)
 
 kept_there : (library : Library) (old : Kept) (outcome : Outcome) (t : State) → Keeping library old outcome → outcome ≡ Next t → Keeps library old.registers t.world.kept.registers
 kept_there library old (Next u) t k h = let e : u ≡ t = cc in subst (λ (t : State). Keeps library old.registers t.world.kept.registers) e k

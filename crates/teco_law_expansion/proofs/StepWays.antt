@@ -14,22 +14,26 @@ use Rattle.teco_model.specs.declared.kind.Page.{Page}
 use Rattle.teco_model.specs.declared.kind.Page.TheVariants as page
 use Rattle.teco_model.specs.declared.kind.Search.{Search}
 use Rattle.teco_model.specs.declared.kind.Search.TheVariants as search_kind
-use Rattle.teco_model.specs.Arguments.{Arguments, no_arguments, levels_after_answer}
+use Rattle.std.specs.Prelude.{⊤}
+use Rattle.teco_model.specs.Arguments.{Arguments, arguments_of, no_arguments, levels_after_answer, levels_after_taking}
+use Rattle.teco_model.specs.Checked.{◌>>=◌ as ◌>>>=◌}
 use Rattle.teco_model.specs.Element.{Element, blank_end, element_at}
 use Rattle.teco_model.specs.Flow.{Turn, turn_of, jump}
-use Rattle.teco_model.specs.Going.{After, frames_at, frames_in, outcome_behind, world_keeping, taking, with_nothing_left}
-use Rattle.teco_model.specs.Outside.{world_outcome, pages_outcome, pages_behind, pages_done, pages_outcome_of, append_outcome, character_outcome, opened_outcome, exit_outcome, page_outcome, file_outcome}
-use Rattle.teco_model.specs.Paging.{append, Progress, page_turned, page_written, one_page_of, look_for, looked_through, Looked, Met, Turned, Through}
-use Rattle.teco_model.specs.Search.{Finding, Found, Missed}
-use Rattle.teco_model.specs.Searching.{has_colon, answer_where, search_behind, kept_by_miss, finding, looking, leaving_outcome, missed_outcome, miss_outcome, search_outcome, looked_outcome, looked_outcome_of, outcome_of_search}
-use Rattle.teco_model.specs.State.{Kept, World, Frame, Frames, State, Next, End}
-use Rattle.teco_model.specs.Step.{flow_outcome, call_outcome, outcome_of, end_of_text, outcome_at, step}
+use Rattle.teco_model.specs.Going.{After, Course, Behind, Again, Along, Into, Quit, NoFile, Refused, Reply, frames_at, frames_in, on_editor, settled, settle, with_kept}
+use Rattle.teco_model.specs.Outside as outside
+use Rattle.teco_model.specs.Paging.{append, yank, pages, look_first, Progress, page_turned, page_written, one_page_of, look_for, looked_through, Looked, Met, Turned, Through}
+use Rattle.teco_model.specs.Filing.{open_input, open_output, close_output, copy_all}
+use Rattle.teco_model.specs.Search.{Finding, Found, Missed, search}
+use Rattle.teco_model.specs.Searching as searching
+use Rattle.teco_model.specs.Searching.{has_colon, kept_by_miss}
+use Rattle.teco_model.specs.State.{Kept, World, Frame, State, Next, End}
+use Rattle.teco_model.specs.Step.{flow_reply, call_reply, reply_of, outcome_of, end_of_text, outcome_at, step}
 use Rattle.teco_model.proofs.Ahead.{element_at-again}
 use Rattle.teco_verifier.specs.expansion.Refusal.{◌>>=◌}
 use Rattle.teco_model.specs.Macros.{Library, macro, IsLoaded}
 use Rattle.teco_verifier.specs.expansion.Position.{Position, position_of, position_of_frames, start_of, spot_of}
 use Rattle.teco_verifier.specs.expansion.Ways.{pattern_parts, as_fault, sound, past, read_at, search_ways, call_ways, return_ways, element_ways, ways_at, flow_ways}
-use Rattle.teco_law_expansion.specs.Was.{looking_on, levels_looking, levels_searching, Finds, Misses, Answers, GoesOnFound, GoesOnMissed, LeavesByMiss, ElementWas, StepWas}
+use Rattle.teco_law_expansion.specs.Was.{answer_where, looking_on, levels_looking, levels_searching, Finds, Misses, Answers, GoesOnFound, GoesOnMissed, LeavesByMiss, ElementWas, StepWas}
 use Rattle.teco_law_expansion.specs.Steps.{is_long, IsLeftAt, Stays, Moves, Went, Stayed, StepsGoWays}
 use Rattle.teco_law_expansion.proofs.Checks.{ok, bound_way}
 use Rattle.teco_law_expansion.proofs.Turns.{leaves_by_kind, turn_goes, jumped as jump_made}
@@ -75,83 +79,78 @@ stays : (read : Option Element) (n : ℕ) (ways : List Position) (s u t : State)
 stays read n ways s u t l f long h =
     Stayed (subst (λ (t : State). Stays read s t) (next u t h) (record { n = n; left = l; same = f; long = subst (IsLeftAt read) (sym l) long }))
 
--- elements that go on behind themselves
-performed : (r : Result After Code) (e : Element) (ways : List Position) (s t : State) → StepWas (Some e) 0 s t → slice_get ways 0 ≡ Some (past e (position_of s)) → s.left ≡ None → outcome_behind e s r ≡ Next t → Moves (Some e) ways s t
-performed (Err c) e ways s t was w l h = absurd (cc)
-performed (Ok done) e ways s t was w l h = goes_past (Some e) e ways s s _ t was w l refl h
+-- what goes on at its element or behind it: nothing is left behind it
+abbrev GoesOnBy : Element → Reply → Course → Type 0
+GoesOnBy e reply Behind = reply.left ≡ None
+GoesOnBy e reply Again = (n : ℕ) × (reply.left ≡ Some n) × IsLeftAt (Some e) (Some n)
+GoesOnBy e reply (Along frame) = ⊥
+GoesOnBy e reply (Into text) = ⊥
+GoesOnBy e reply course = ⊤
 
-did_world :
-    (r : Result World Code) (e : Element) (ways : List Position) (s t : State) → StepWas (Some e) 0 s t
-    → slice_get ways 0 ≡ Some (past e (position_of s)) → s.left ≡ None → world_outcome e (taking s) r ≡ Next t
-    → Moves (Some e) ways s t
-did_world (Err c) e ways s t was w l h = absurd (cc)
-did_world (Ok world) e ways s t was w l h = goes_past (Some e) e ways s s _ t was w l refl h
+abbrev GoesOn : Element → Result Reply Code → Type 0
+GoesOn e (Ok reply) = GoesOnBy e reply reply.course
+GoesOn e (Err c) = ⊤
 
-opened :
-    (r : Result (Option World) Code) (e : Element) (ways : List Position) (s t : State) → StepWas (Some e) 0 s t
-    → slice_get ways 0 ≡ Some (past e (position_of s)) → s.left ≡ None → opened_outcome e (taking s) r ≡ Next t
-    → Moves (Some e) ways s t
-opened (Err c) e ways s t was w l h = absurd (cc)
-opened (Ok None) e ways s t was w l h = absurd (cc)
-opened (Ok (Some world)) e ways s t was w l h = goes_past (Some e) e ways s s _ t was w l refl h
+moved_by : (reply : Reply) (course : Course) (e : Element) (ways : List Position) (s t : State) → GoesOnBy e reply course → StepWas (Some e) 0 s t → slice_get ways 0 ≡ Some (past e (position_of s)) → settled e s.frames reply course ≡ Next t → Moves (Some e) ways s t
+moved_by reply Behind e ways s t l was w h = goes_past (Some e) e ways s s _ t was w l refl h
+moved_by reply Again e ways s t l was w h = stays (Some e) l.0 ways s _ t l.1 refl l.2 h
+moved_by reply (Along frame) e ways s t l was w h = absurd l
+moved_by reply (Into text) e ways s t l was w h = absurd l
+moved_by reply Quit e ways s t l was w h = absurd (cc)
+moved_by reply NoFile e ways s t l was w h = absurd (cc)
+moved_by reply (Refused c) e ways s t l was w h = absurd (cc)
 
-exited : {P : Type 0} (r : Result Taken Code) (s t : State) → exit_outcome s r ≡ Next t → P
-exited (Err c) s t h = absurd (cc)
-exited (Ok taken) s t h = absurd (cc)
+moved : (r : Result Reply Code) (e : Element) (ways : List Position) (s t : State) → GoesOn e r → StepWas (Some e) 0 s t → slice_get ways 0 ≡ Some (past e (position_of s)) → settle e s r ≡ Next t → Moves (Some e) ways s t
+moved (Err c) e ways s t l was w h = absurd (cc)
+moved (Ok reply) e ways s t l was w h = moved_by reply reply.course e ways s t l was w h
 
-appended :
-    (r : Result Taken Code) (e : Element) (ways : List Position) (s t : State) → StepWas (Some e) 0 s t
-    → slice_get ways 0 ≡ Some (past e (position_of s)) → s.left ≡ None → append_outcome e (taking s) r ≡ Next t
-    → Moves (Some e) ways s t
-appended (Err c) e ways s t was w l h = absurd (cc)
-appended (Ok taken) e ways s t was w l h = among taken.value h
+-- a chain whose last part goes on
+goes_then : {X : Type 0} (e : Element) (r : Result X Code) (f : X → Result Reply Code) → ((x : X) → GoesOn e (f x)) → GoesOn e (r >>>= f)
+goes_then e (Ok x) f k = k x
+goes_then e (Err c) f k = tt
+
+performed : (e : Element) (left : Option ℕ) (world : World) (r : Result After Code) → left ≡ None → GoesOn e (on_editor left world r)
+performed e left world (Err c) l = tt
+performed e left world (Ok done) l = l
+
+did_world : (e : Element) (left : Option ℕ) (arguments : Arguments) (r : Result World Code) → left ≡ None → GoesOn e (outside.going_on left arguments r)
+did_world e left arguments (Err c) l = tt
+did_world e left arguments (Ok world) l = l
+
+appended : (e : Element) (value : Option ℤ) (left : Option ℕ) (arguments : Arguments) (world : World) → left ≡ None → GoesOn e (outside.append_reply value left arguments world)
+appended e None left arguments world l = did_world e left arguments (append world) l
+appended e (Some n) left arguments world l = l
+
+paged : (k : Kind) (e : Element) (arguments : Arguments) (r : Result Progress Code) → e.kind ≡ k → is_long k ≡ true → GoesOn e (outside.in_pages arguments r)
+paged k e arguments (Err c) g long = tt
+paged k e arguments (Ok done) g long = among done.left
   where
-    among :
-        (value : Option ℤ)
-        → elim value [
-          | None ↦ world_outcome e (taking s) (append s.world)
-          | Some n ↦ character_outcome e (taking s) n
-        ] ≡ Next t
-        → Moves (Some e) ways s t
-    among None h = did_world (append s.world) e ways s t was w l h
-    among (Some n) h = goes_past (Some e) e ways s s _ t was w l refl h
+    among : (left : ℕ) → GoesOnBy e (outside.while_left left arguments done.world) (outside.while_left left arguments done.world).course
+    among zero = refl
+    among (suc n) = (suc n, refl, ap is_long g ∙ long)
 
-paged :
-    (k : Kind) (r : Result Progress Code) (e : Element) (ways : List Position) (s u t : State) → u.frames ≡ s.frames
-    → e.kind ≡ k → is_long k ≡ true → StepWas (Some e) 0 s t → slice_get ways 0 ≡ Some (past e (position_of s))
-    → pages_outcome e u r ≡ Next t → Moves (Some e) ways s t
-paged k (Err c) e ways s u t f g long was w h = absurd (cc)
-paged k (Ok done) e ways s u t f g long was w h = among done.left h
-  where
-    among : (left : ℕ) → pages_behind e u done.world left ≡ Next t → Moves (Some e) ways s t
-    among zero h = goes_past (Some e) e ways s s _ t was w refl (ap (frames_at e.next) f) h
-    among (suc n) h = stays (Some e) (suc n) ways s _ t refl f (ap is_long g ∙ long) h
+paged_from : (k : Kind) (one_page : World → Result World Code) (left : Option ℕ) (e : Element) (arguments : Arguments) (world : World) → e.kind ≡ k → is_long k ≡ true → GoesOn e (outside.pages_reply one_page left arguments world)
+paged_from k one_page None e arguments world g long = goes_then e (arguments_of arguments.level) (λ taken. outside.in_pages (levels_after_taking arguments) (pages one_page taken world)) (λ taken. paged k e (levels_after_taking arguments) (pages one_page taken world) g long)
+paged_from k one_page (Some n) e arguments world g long = paged k e arguments (one_page_of one_page n world) g long
 
-paged_from :
-    (k : Kind) (one_page : World → Result World Code) (left : Option ℕ) (e : Element) (ways : List Position)
-    (s t : State)
-    → e.kind ≡ k → is_long k ≡ true → StepWas (Some e) 0 s t → slice_get ways 0 ≡ Some (past e (position_of s))
-    → pages_outcome_of one_page e s left ≡ Next t → Moves (Some e) ways s t
-paged_from k one_page None e ways s t g long was w h =
-    paged k (pages_done one_page s) e ways s (taking s) t refl g long was w h
-paged_from k one_page (Some n) e ways s t g long was w h =
-    paged k (one_page_of one_page n s.world) e ways s s t refl g long was w h
+page_goes : (p : Page) (e : Element) (s : State) → e.kind ≡ kind.Page p → IsLeftAt (Some e) s.left → GoesOn e (outside.page_reply p s.left s.arguments s.world)
+page_goes page.Yank e s g l = goes_then e (arguments_of s.arguments.level) (λ taken. outside.going_on s.left (levels_after_taking s.arguments) (yank s.world)) (λ taken. did_world e s.left (levels_after_taking s.arguments) (yank s.world) (nothing_left (kind.Page page.Yank) e s.left g refl l))
+page_goes page.Append e s g l = goes_then e (arguments_of s.arguments.level) (λ taken. outside.append_reply taken.value s.left (levels_after_taking s.arguments) s.world) (λ taken. appended e taken.value s.left (levels_after_taking s.arguments) s.world (nothing_left (kind.Page page.Append) e s.left g refl l))
+page_goes page.Next e s g l = paged_from (kind.Page page.Next) page_turned s.left e s.arguments s.world g refl
+page_goes page.Write e s g l = paged_from (kind.Page page.Write) page_written s.left e s.arguments s.world g refl
 
-page_moved : (p : Page) (e : Element) (ways : List Position) (s t : State) → e.kind ≡ kind.Page p → IsLeftAt (Some e) s.left → StepWas (Some e) 0 s t → slice_get ways 0 ≡ Some (past e (position_of s)) → page_outcome p e s ≡ Next t → Moves (Some e) ways s t
-page_moved page.Yank e ways s t g l was w h = did_world _ e ways s t was w (nothing_left (kind.Page page.Yank) e s.left g refl l) h
-page_moved page.Append e ways s t g l was w h = appended _ e ways s t was w (nothing_left (kind.Page page.Append) e s.left g refl l) h
-page_moved page.Next e ways s t g l was w h =
-    paged_from (kind.Page page.Next) page_turned s.left e ways s t g refl was w h
-page_moved page.Write e ways s t g l was w h =
-    paged_from (kind.Page page.Write) page_written s.left e ways s t g refl was w h
+opened : (e : Element) (left : Option ℕ) (arguments : Arguments) (world : World) (r : Result (Option World) Code) → left ≡ None → GoesOn e (r >>>= (λ found. Ok (outside.opened left arguments world found)))
+opened e left arguments world (Err c) l = tt
+opened e left arguments world (Ok None) l = tt
+opened e left arguments world (Ok (Some new)) l = l
 
-file_moved : (f : File) (e : Element) (ways : List Position) (s t : State) → s.left ≡ None → StepWas (Some e) 0 s t → slice_get ways 0 ≡ Some (past e (position_of s)) → file_outcome f e s ≡ Next t → Moves (Some e) ways s t
-file_moved file.Read e ways s t l was w h = opened _ e ways s t was w l h
-file_moved file.Write e ways s t l was w h = did_world _ e ways s t was w l h
-file_moved file.Close e ways s t l was w h = did_world _ e ways s t was w l h
-file_moved file.Abandon e ways s t l was w h = did_world _ e ways s t was w l h
-file_moved file.Copy e ways s t l was w h = did_world _ e ways s t was w l h
-file_moved file.Exit e ways s t l was w h = exited _ s t h
+filed : (f : File) (e : Element) (name : List ℕ) (left : Option ℕ) (arguments : Arguments) (world : World) → left ≡ None → GoesOn e (outside.filed f name left arguments world)
+filed file.Read e name left arguments world l = opened e left arguments world (open_input name world) l
+filed file.Write e name left arguments world l = did_world e left arguments (open_output name world) l
+filed file.Close e name left arguments world l = did_world e left arguments (close_output world) l
+filed file.Abandon e name left arguments world l = l
+filed file.Copy e name left arguments world l = did_world e left arguments (copy_all world) l
+filed file.Exit e name left arguments world l = tt
 
 -- searches
 search_first : (colon : Bool) (starts : List ℕ) (e : Element) (p : Position) (ways : List Position) → search_ways colon starts e p ≡ Ok ways → slice_get ways 0 ≡ Some (past e p)
@@ -160,156 +159,167 @@ search_first false [] e p ways h = only (past e p) ways h
 search_first true [] e p ways h = only (past e p) ways h
 search_first true (start ∷ outer) e p ways h = only (past e p) ways h
 
--- what is known of the search where it missed
-record Missing (x : Search) (colon : Bool) (e : Element) (s u : State) (new : World) : Type 0 where
+-- what is known where a search has come to its end
+record Searched (x : Search) (e : Element) (s : State) (left : Option ℕ) (arguments : Arguments) : Type 0 where
   kind_is : e.kind ≡ kind.Search x
-  done : u.left ≡ None
-  frames_are : u.frames ≡ s.frames
-  arguments_are : u.arguments ≡ levels_searching x s
-  misses : Misses x e s new
-  colon_is : has_colon e s.frames.running ≡ colon
+  done : left ≡ None
+  arguments_are : arguments ≡ levels_searching x s
+
+-- a match answers where the search has a colon
+silent : (r : Result Turn Code) → searching.answer_by (searching.leaving_by r) ≡ None
+silent (Ok turn) = refl
+silent (Err c) = refl
+
+silent_within : (loops : List Loop) (e : Element) (frame : Frame) → searching.answer_by (searching.miss_within loops e frame) ≡ None
+silent_within [] e frame = refl
+silent_within (loop ∷ outer) e frame = silent (jump code.Utc e no_arguments frame)
+
+answers_where : (colon : Bool) (e : Element) (frame : Frame) → searching.answer_by (searching.miss_where colon e frame) ≡ answer_where colon (negsuc 0)
+answers_where true e frame = refl
+answers_where false e frame = silent_within frame.loops e frame
 
 answers :
-    (answer : Option ℤ) (levels : Arguments) (e : Element) (world : World) (s u t : State)
-    → u.frames ≡ s.frames → u.arguments ≡ levels → search_behind e answer world u ≡ Next t
+    (answer : Option ℤ) (levels : Arguments) (left : Option ℕ) (e : Element) (world : World) (s t : State)
+    → Next (record { world = world; arguments = levels_after_answer answer levels; frames = frames_at e.next s.frames; left = left }) ≡ Next t
     → Answers answer world levels e s t
-answers answer levels e world s u t f a h =
+answers answer levels left e world s t h =
     let g = sym (next _ t h) in
     record {
       world_is = ap (λ (t : State). t.world) g;
-      arguments_are = ap (λ (t : State). t.arguments) g ∙ ap (levels_after_answer answer) a;
-      frames_are = ap (λ (t : State). t.frames) g ∙ ap (frames_at e.next) f;
+      arguments_are = ap (λ (t : State). t.arguments) g;
+      frames_are = ap (λ (t : State). t.frames) g;
     }
 
-left_by_miss : (x : Search) (loops : List Loop) (e : Element) (old new : World) (ways : List Position) (s u t : State) → Missing x false e s u new → s.frames.running.loops ≡ loops →
-    search_ways false (map start_of loops) e (position_of s) ≡ Ok ways → missed_outcome e old new u loops ≡ Next t → Moves (Some e) ways s t
-left_by_miss x [] e old new ways s u t m o w h = absurd (cc)
-left_by_miss x (loop ∷ outer) e old new ways s u t m o w h = among (jump code.Utc e no_arguments u.frames.running) (ap (λ (f : Frames). jump code.Utc e no_arguments f.running) (sym m.frames_are)) h
-  where
-    among : (r : Result Turn Code) → jump code.Utc e no_arguments s.frames.running ≡ r → leaving_outcome old new u r ≡ Next t → Moves (Some e) ways s t
-    among (Err c) j h = absurd (cc)
-    among (Ok turn) j h =
-        let jumps = jump_made code.Utc 1 e no_arguments s.frames.running turn (leaves_by_kind (kind.Search x) e s.frames.running.text m.kind_is) j in
-        let leads = jump_leads 1 e no_arguments s.frames.running s.frames.callers turn jumps in
-        let g = next _ t h in
-        let was : LeavesByMiss x e s t = record {
-          world = new;
-          misses = m.misses;
-          colon = m.colon_is;
-          loop = loop;
-          outer = outer;
-          inside = o;
-          turn = turn;
-          jumps = jumps;
-          world_is = ap (λ (t : State). t.world) (sym g);
-          arguments_are = ap (λ (t : State). t.arguments) (sym g);
-          frames_are = ap (λ (t : State). t.frames) (sym g) ∙ ap (λ (f : Frames). record f { running = turn.frame }) m.frames_are;
-        } in
-        on_way (Some e) 1 ways (position_in turn.frame s.frames.callers) s _ t (of_kind (kind.Search x) 1 e s t m.kind_is was)
-        (second_way (past e (position_of s)) _ e (position_of s) ways leads w) m.done
-        (ap (λ (f : Frames). position_in turn.frame f.callers) m.frames_are) g
+module _ (x : Search) (e : Element) (ways : List Position) (s t : State) (left : Option ℕ) (arguments : Arguments) (known : Searched x e s left arguments) where
+  abbrev frame : Frame
+  frame = s.frames.running
 
-missed : (x : Search) (colon : Bool) (e : Element) (old new : World) (ways : List Position) (s u t : State) → Missing x colon e s u new →
-    search_ways colon (map start_of s.frames.running.loops) e (position_of s) ≡ Ok ways → miss_outcome colon e old new u ≡ Next t → Moves (Some e) ways s t
-missed x true e old new ways s u t m w h =
-    let was : GoesOnMissed x e s t = record {
-      world = new;
-      misses = m.misses;
-      colon = m.colon_is;
-      answers = answers (Some (pos 0)) (levels_searching x s) e new s u t m.frames_are m.arguments_are h;
-    } in
-    goes_past (Some e) e ways s s _ t (of_kind (kind.Search x) 0 e s t m.kind_is (inr was)) (search_first true (map start_of s.frames.running.loops) e (position_of s) ways w) m.done (ap (frames_at e.next) m.frames_are) h
-missed x false e old new ways s u t m w h =
-    left_by_miss x s.frames.running.loops e old new ways s u t m refl w (ap (λ (f : Frames). missed_outcome e old new u f.running.loops) (sym m.frames_are) ∙ h)
+  leaves_by_miss : (loops : List Loop) (before now : World) → has_colon e frame ≡ false → Misses x e s now → frame.loops ≡ loops →
+      search_ways false (map start_of loops) e (position_of s) ≡ Ok ways → settle e s (Ok (searching.missed (searching.miss_within loops e frame) left arguments before now)) ≡ Next t → Moves (Some e) ways s t
+  leaves_by_miss [] before now c misses o w h = absurd (cc)
+  leaves_by_miss (loop ∷ outer) before now c misses o w h = among (jump code.Utc e no_arguments frame) refl h
+    where
+      among : (r : Result Turn Code) → jump code.Utc e no_arguments frame ≡ r → settle e s (Ok (searching.missed (searching.leaving_by r) left arguments before now)) ≡ Next t → Moves (Some e) ways s t
+      among (Err c) j h = absurd (cc)
+      among (Ok turn) j h =
+          let jumps = jump_made code.Utc 1 e no_arguments frame turn (leaves_by_kind (kind.Search x) e frame.text known.kind_is) j in
+          let leads = jump_leads 1 e no_arguments frame s.frames.callers turn jumps in
+          let g = next _ t h in
+          let was : LeavesByMiss x e s t = record {
+            world = now;
+            misses = misses;
+            colon = c;
+            loop = loop;
+            outer = outer;
+            inside = o;
+            turn = turn;
+            jumps = jumps;
+            world_is = ap (λ (t : State). t.world) (sym g);
+            arguments_are = ap (λ (t : State). t.arguments) (sym g);
+            frames_are = ap (λ (t : State). t.frames) (sym g);
+          } in
+          on_way (Some e) 1 ways (position_in turn.frame s.frames.callers) s _ t (of_kind (kind.Search x) 1 e s t known.kind_is was)
+          (second_way (past e (position_of s)) _ e (position_of s) ways leads w) known.done refl g
 
-found :
-    (x : Search) (colon : Bool) (e : Element) (world : World) (ways : List Position) (s u t : State)
-    → e.kind ≡ kind.Search x → u.left ≡ None → u.frames ≡ s.frames → u.arguments ≡ levels_searching x s
-    → Finds x e s world → has_colon e s.frames.running ≡ colon
-    → search_ways colon (map start_of s.frames.running.loops) e (position_of s) ≡ Ok ways
-    → search_behind e (answer_where colon (negsuc 0)) world u ≡ Next t → Moves (Some e) ways s t
-found x colon e world ways s u t g l f a finds c w h =
-    let gone = ap (λ colon. search_behind e (answer_where colon (negsuc 0)) world u) c ∙ h in
-    let was : GoesOnFound x e s t = record {
-      world = world;
-      finds = finds;
-      answers = answers _ (levels_searching x s) e world s u t f a gone;
-    } in
-    goes_past (Some e) e ways s s _ t (of_kind (kind.Search x) 0 e s t g (inl was)) (search_first colon (map start_of s.frames.running.loops) e (position_of s) ways w) l (ap (frames_at e.next) f) h
+  missed : (colon : Bool) (before now : World) → has_colon e frame ≡ colon → Misses x e s now →
+      search_ways colon (map start_of frame.loops) e (position_of s) ≡ Ok ways → settle e s (Ok (searching.missed (searching.miss_where colon e frame) left arguments before now)) ≡ Next t → Moves (Some e) ways s t
+  missed true before now c misses w h =
+      let was : GoesOnMissed x e s t = record {
+        world = now;
+        misses = misses;
+        colon = c;
+        answers = subst (λ levels. Answers (Some (pos 0)) now levels e s t) known.arguments_are (answers (Some (pos 0)) arguments left e now s t h);
+      } in
+      goes_past (Some e) e ways s s _ t (of_kind (kind.Search x) 0 e s t known.kind_is (inr was)) (search_first true (map start_of frame.loops) e (position_of s) ways w) known.done refl h
+  missed false before now c misses w h = leaves_by_miss frame.loops before now c misses refl w h
 
-searched :
-    (x : Search) (r : Result Finding Code) (e : Element) (ways : List Position) (s t : State) → e.kind ≡ kind.Search x
-    → s.left ≡ None → (taking s).arguments ≡ levels_searching x s
-    → ((kept : Kept) → r ≡ Ok (Found kept) → Finds x e s (world_keeping kept s))
-    → ((kept : Kept) → r ≡ Ok (Missed kept) → Misses x e s (world_keeping (kept_by_miss e.colons kept) s))
-    → search_ways (has_colon e s.frames.running) (map start_of s.frames.running.loops) e (position_of s) ≡ Ok ways
-    → search_outcome (has_colon e s.frames.running) e (taking s) r ≡ Next t → Moves (Some e) ways s t
-searched x (Err c) e ways s t g l a finds misses w h = absurd (cc)
-searched x (Ok (Found kept)) e ways s t g l a finds misses w h =
-    found x (has_colon e s.frames.running) e (world_keeping kept s) ways s (taking s) t g l refl a (finds kept refl)
-    refl w h
-searched x (Ok (Missed kept)) e ways s t g l a finds misses w h =
-    missed x (has_colon e s.frames.running) e _ _ ways s (taking s) t (record {
-      kind_is = g;
-      done = l;
-      frames_are = refl;
-      arguments_are = a;
-      misses = misses kept refl;
-      colon_is = refl;
-    }) w h
+  found : (colon : Bool) (world : World) → has_colon e frame ≡ colon → Finds x e s world →
+      search_ways colon (map start_of frame.loops) e (position_of s) ≡ Ok ways → settle e s (Ok (searching.met (searching.miss_where colon e frame) left arguments world)) ≡ Next t → Moves (Some e) ways s t
+  found colon world c finds w h =
+      let same : searching.answer_by (searching.miss_where colon e frame) ≡ answer_where (has_colon e frame) (negsuc 0) = answers_where colon e frame ∙ ap (λ b. answer_where b (negsuc 0)) (sym c) in
+      let was : GoesOnFound x e s t = record {
+        world = world;
+        finds = finds;
+        answers = subst (λ levels. Answers (answer_where (has_colon e frame) (negsuc 0)) world levels e s t) known.arguments_are (subst (λ answer. Answers answer world arguments e s t) same (answers _ arguments left e world s t h));
+      } in
+      goes_past (Some e) e ways s s _ t (of_kind (kind.Search x) 0 e s t known.kind_is (inl was)) (search_first colon (map start_of frame.loops) e (position_of s) ways w) known.done refl h
 
-looked :
-    (x : Search) (r : Result Looked Code) (e : Element) (ways : List Position) (s u t : State)
-    → e.kind ≡ kind.Search x → is_long (kind.Search x) ≡ true → u.frames ≡ s.frames
-    → u.arguments ≡ levels_searching x s → ((world : World) → r ≡ Ok (Met world) → Finds x e s world)
-    → ((last : World) → r ≡ Ok (Through last) → Misses x e s (looked_through last))
-    → search_ways (has_colon e s.frames.running) (map start_of s.frames.running.loops) e (position_of s) ≡ Ok ways
-    → looked_outcome (has_colon e s.frames.running) e u r ≡ Next t → Moves (Some e) ways s t
-looked x (Err c) e ways s u t g long f a finds misses w h = absurd (cc)
-looked x (Ok (Met world)) e ways s u t g long f a finds misses w h =
-    found x (has_colon e s.frames.running) e world ways s (with_nothing_left u) t g refl f a (finds world refl) refl w h
-looked x (Ok (Turned n world)) e ways s u t g long f a finds misses w h =
-    stays (Some e) n ways s _ t refl f (ap is_long g ∙ long) h
-looked x (Ok (Through last)) e ways s u t g long f a finds misses w h =
-    missed x (has_colon e s.frames.running) e _ _ ways s (with_nothing_left u) t (record {
-      kind_is = g;
-      done = refl;
-      frames_are = f;
-      arguments_are = a;
-      misses = misses last refl;
-      colon_is = refl;
-    }) w h
+module _ (x : Search) (e : Element) (ways : List Position) (s t : State) (g : e.kind ≡ kind.Search x) where
+  abbrev miss : searching.Miss
+  miss = searching.miss_of e s.frames.running
 
-looked_from :
-    (x : Search) (left : Option ℕ) (e : Element) (ways : List Position) (s t : State)
-    → e.kind ≡ kind.Search x → is_long (kind.Search x) ≡ true → levels_looking left s.arguments ≡ levels_searching x s
-    → ((world : World) → looking_on x e s left ≡ Ok (Met world) → Finds x e s world)
-    → ((last : World) → looking_on x e s left ≡ Ok (Through last) → Misses x e s (looked_through last))
-    → search_ways (has_colon e s.frames.running) (map start_of s.frames.running.loops) e (position_of s) ≡ Ok ways
-    → looked_outcome_of x e s left ≡ Next t → Moves (Some e) ways s t
-looked_from x None e ways s t g long a finds misses w h =
-    looked x (looking x e s) e ways s (taking s) t g long refl a finds misses w h
-looked_from x (Some n) e ways s t g long a finds misses w h =
-    looked x (look_for x e n s.world) e ways s s t g long refl a finds misses w h
+  searched :
+      (r : Result Finding Code) → s.left ≡ None → levels_after_taking s.arguments ≡ levels_searching x s
+      → ((kept : Kept) → r ≡ Ok (Found kept) → Finds x e s (with_kept kept s.world))
+      → ((kept : Kept) → r ≡ Ok (Missed kept) → Misses x e s (with_kept (kept_by_miss e.colons kept) s.world))
+      → search_ways (has_colon e s.frames.running) (map start_of s.frames.running.loops) e (position_of s) ≡ Ok ways
+      → settle e s (r >>>= (λ finding. Ok (searching.found e miss s.left (levels_after_taking s.arguments) s.world finding))) ≡ Next t → Moves (Some e) ways s t
+  searched (Err c) l a finds misses w h = absurd (cc)
+  searched (Ok (Found kept)) l a finds misses w h =
+      found x e ways s t s.left (levels_after_taking s.arguments) (record { kind_is = g; done = l; arguments_are = a }) (has_colon e s.frames.running) _ refl (finds kept refl) w h
+  searched (Ok (Missed kept)) l a finds misses w h =
+      missed x e ways s t s.left (levels_after_taking s.arguments) (record { kind_is = g; done = l; arguments_are = a }) (has_colon e s.frames.running) _ _ refl (misses kept refl) w h
+
+  in_buffer :
+      (r : Result Taken Code) → s.left ≡ None → levels_after_taking s.arguments ≡ levels_searching x s
+      → ((kept : Kept) → (r >>>= (λ taken. search x e taken s.world.kept)) ≡ Ok (Found kept) → Finds x e s (with_kept kept s.world))
+      → ((kept : Kept) → (r >>>= (λ taken. search x e taken s.world.kept)) ≡ Ok (Missed kept) → Misses x e s (with_kept (kept_by_miss e.colons kept) s.world))
+      → search_ways (has_colon e s.frames.running) (map start_of s.frames.running.loops) e (position_of s) ≡ Ok ways
+      → settle e s (r >>>= (λ taken. search x e taken s.world.kept >>>= (λ finding. Ok (searching.found e miss s.left (levels_after_taking s.arguments) s.world finding)))) ≡ Next t → Moves (Some e) ways s t
+  in_buffer (Err c) l a finds misses w h = absurd (cc)
+  in_buffer (Ok taken) l a finds misses w h = searched (search x e taken s.world.kept) l a finds misses w h
+
+  looked :
+      (r : Result Looked Code) (arguments : Arguments) → is_long (kind.Search x) ≡ true
+      → arguments ≡ levels_searching x s → ((world : World) → r ≡ Ok (Met world) → Finds x e s world)
+      → ((last : World) → r ≡ Ok (Through last) → Misses x e s (looked_through last))
+      → search_ways (has_colon e s.frames.running) (map start_of s.frames.running.loops) e (position_of s) ≡ Ok ways
+      → settle e s (searching.looking miss arguments r) ≡ Next t → Moves (Some e) ways s t
+  looked (Err c) arguments long a finds misses w h = absurd (cc)
+  looked (Ok (Met world)) arguments long a finds misses w h =
+      found x e ways s t None arguments (record { kind_is = g; done = refl; arguments_are = a }) (has_colon e s.frames.running) world refl (finds world refl) w h
+  looked (Ok (Turned n world)) arguments long a finds misses w h =
+      stays (Some e) n ways s _ t refl refl (ap is_long g ∙ long) h
+  looked (Ok (Through last)) arguments long a finds misses w h =
+      missed x e ways s t None arguments (record { kind_is = g; done = refl; arguments_are = a }) (has_colon e s.frames.running) _ _ refl (misses last refl) w h
+
+  looked_first :
+      (r : Result Taken Code) → is_long (kind.Search x) ≡ true → levels_after_taking s.arguments ≡ levels_searching x s
+      → ((world : World) → (r >>>= (λ taken. look_first x e taken s.world)) ≡ Ok (Met world) → Finds x e s world)
+      → ((last : World) → (r >>>= (λ taken. look_first x e taken s.world)) ≡ Ok (Through last) → Misses x e s (looked_through last))
+      → search_ways (has_colon e s.frames.running) (map start_of s.frames.running.loops) e (position_of s) ≡ Ok ways
+      → settle e s (r >>>= (λ taken. searching.looking miss (levels_after_taking s.arguments) (look_first x e taken s.world))) ≡ Next t → Moves (Some e) ways s t
+  looked_first (Err c) long a finds misses w h = absurd (cc)
+  looked_first (Ok taken) long a finds misses w h = looked (look_first x e taken s.world) (levels_after_taking s.arguments) long a finds misses w h
+
+  looked_from :
+      (left : Option ℕ) → is_long (kind.Search x) ≡ true → levels_looking left s.arguments ≡ levels_searching x s
+      → ((world : World) → looking_on x e s left ≡ Ok (Met world) → Finds x e s world)
+      → ((last : World) → looking_on x e s left ≡ Ok (Through last) → Misses x e s (looked_through last))
+      → search_ways (has_colon e s.frames.running) (map start_of s.frames.running.loops) e (position_of s) ≡ Ok ways
+      → settle e s (searching.found_in_pages x e miss left s.arguments s.world) ≡ Next t → Moves (Some e) ways s t
+  looked_from None long a finds misses w h = looked_first (arguments_of s.arguments.level) long a finds misses w h
+  looked_from (Some n) long a finds misses w h = looked (look_for x e n s.world) s.arguments long a finds misses w h
 
 search_moved : (x : Search) (e : Element) (ways : List Position) (s t : State) → e.kind ≡ kind.Search x → IsLeftAt (Some e) s.left →
-    search_ways (has_colon e s.frames.running) (map start_of s.frames.running.loops) e (position_of s) ≡ Ok ways → outcome_of_search x e s ≡ Next t → Moves (Some e) ways s t
+    search_ways (has_colon e s.frames.running) (map start_of s.frames.running.loops) e (position_of s) ≡ Ok ways →
+    settle e s (searching.search_reply x e (searching.miss_of e s.frames.running) s.left s.arguments s.world) ≡ Next t → Moves (Some e) ways s t
 search_moved search_kind.Find e ways s t g l w h =
-    searched search_kind.Find (finding search_kind.Find e s) e ways s t g
+    in_buffer search_kind.Find e ways s t g (arguments_of s.arguments.level)
     (nothing_left (kind.Search search_kind.Find) e s.left g refl l) refl
     (λ kept r. (kept, r, refl)) (λ kept r. (kept, r, refl)) w h
 search_moved search_kind.Replace e ways s t g l w h =
-    searched search_kind.Replace (finding search_kind.Replace e s) e ways s t g
+    in_buffer search_kind.Replace e ways s t g (arguments_of s.arguments.level)
     (nothing_left (kind.Search search_kind.Replace) e s.left g refl l) refl
     (λ kept r. (kept, r, refl)) (λ kept r. (kept, r, refl)) w h
 search_moved search_kind.FindInPages e ways s t g l w h =
-    looked_from search_kind.FindInPages s.left e ways s t g refl refl (λ world r. r) (λ last r. (last, r, refl)) w h
+    looked_from search_kind.FindInPages e ways s t g s.left refl refl (λ world r. r) (λ last r. (last, r, refl)) w h
 search_moved search_kind.ReplaceInPages e ways s t g l w h =
-    looked_from search_kind.ReplaceInPages s.left e ways s t g refl refl (λ world r. r) (λ last r. (last, r, refl)) w h
+    looked_from search_kind.ReplaceInPages e ways s t g s.left refl refl (λ world r. r) (λ last r. (last, r, refl)) w h
 
 -- calls and returns
 called : (library : Library) (c : Call) (text : Option (List ℕ)) (e : Element) (ways : List Position) (s t : State) → e.kind ≡ kind.Call c → IsLoaded library s.world.kept → macro library c.register ≡ text → s.left ≡ None →
-    call_ways text e (position_of s) ≡ Ok ways → call_outcome c e s ≡ Next t → Moves (Some e) ways s t
+    call_ways text e (position_of s) ≡ Ok ways → settle e s (Ok (call_reply c s)) ≡ Next t → Moves (Some e) ways s t
 called library c None e ways s t g loaded m l w h = absurd (cc)
 called library c (Some text) e ways s t g loaded m l w h =
     let gone = next _ t h in
@@ -325,7 +335,7 @@ returned [] (caller ∷ callers) ways s t o c l w h =
     on_way None 0 ways _ s _ t (record { caller = caller; callers = callers; waiting = c; closed = o; gone = sym gone }) (only _ ways w) l refl gone
 
 turned : (r : Result Turn Code) (f : Flow) (e : Element) (ways : List Position) (s t : State) → e.kind ≡ kind.Flow f → s.left ≡ None → turn_of f e s.arguments s.frames.running ≡ r →
-    flow_ways f e (position_of s) ≡ Ok ways → flow_outcome s r ≡ Next t → Moves (Some e) ways s t
+    flow_ways f e (position_of s) ≡ Ok ways → settle e s (flow_reply s.left s.world r) ≡ Next t → Moves (Some e) ways s t
 turned (Err c) f e ways s t g l r w h = absurd (cc)
 turned (Ok turn) f e ways s t g l r w h =
     let goes = turn_goes f e s.arguments s.frames.running turn g r in
@@ -337,26 +347,28 @@ turned (Ok turn) f e ways s t g l r w h =
 -- an element of a kind, whose outcome is told as the kind has it
 obeyed : (library : Library) (k : Kind) (e : Element) (ways : List Position) (s t : State) → e.kind ≡ k → IsLoaded library s.world.kept → IsLeftAt (Some e) s.left →
     element_ways library k e (position_of s) ≡ Ok ways → outcome_of k e s ≡ Next t → Moves (Some e) ways s t
-unfolding outcome_of
+unfolding reply_of
 obeyed library (kind.Argument a) e ways s t g loaded l w h =
-    performed _ e ways s t (of_kind (kind.Argument a) 0 e s t g h) (only _ ways w) (nothing_left (kind.Argument a) e s.left g refl l) h
+    moved _ e ways s t (performed e s.left s.world _ (nothing_left (kind.Argument a) e s.left g refl l)) (of_kind (kind.Argument a) 0 e s t g h) (only _ ways w) h
 obeyed library (kind.Value v) e ways s t g loaded l w h =
-    performed _ e ways s t (of_kind (kind.Value v) 0 e s t g h) (only _ ways w) (nothing_left (kind.Value v) e s.left g refl l) h
+    moved _ e ways s t (performed e s.left s.world _ (nothing_left (kind.Value v) e s.left g refl l)) (of_kind (kind.Value v) 0 e s t g h) (only _ ways w) h
 obeyed library (kind.Query q) e ways s t g loaded l w h =
-    performed _ e ways s t (of_kind (kind.Query q) 0 e s t g h) (only _ ways w) (nothing_left (kind.Query q) e s.left g refl l) h
+    moved _ e ways s t (performed e s.left s.world _ (nothing_left (kind.Query q) e s.left g refl l)) (of_kind (kind.Query q) 0 e s t g h) (only _ ways w) h
 obeyed library (kind.Stack k) e ways s t g loaded l w h =
-    performed _ e ways s t (of_kind (kind.Stack k) 0 e s t g h) (only _ ways w) (nothing_left (kind.Stack k) e s.left g refl l) h
+    moved _ e ways s t (performed e s.left s.world _ (nothing_left (kind.Stack k) e s.left g refl l)) (of_kind (kind.Stack k) 0 e s t g h) (only _ ways w) h
 obeyed library (kind.Command c) e ways s t g loaded l w h =
-    performed _ e ways s t (of_kind (kind.Command c) 0 e s t g h) (only _ ways w) (nothing_left (kind.Command c) e s.left g refl l) h
+    moved _ e ways s t (performed e s.left s.world _ (nothing_left (kind.Command c) e s.left g refl l)) (of_kind (kind.Command c) 0 e s t g h) (only _ ways w) h
 obeyed library (kind.Call c) e ways s t g loaded l w h =
     called library c (macro library c.register) e ways s t g loaded refl (nothing_left (kind.Call c) e s.left g refl l) w h
 obeyed library (kind.Flow f) e ways s t g loaded l w h =
     turned (turn_of f e s.arguments s.frames.running) f e ways s t g (nothing_left (kind.Flow f) e s.left g refl l) refl w h
 obeyed library (kind.Page p) e ways s t g loaded l w h =
-    page_moved p e ways s t g l (of_kind (kind.Page p) 0 e s t g h) (only _ ways w) h
+    moved _ e ways s t (page_goes p e s g l) (of_kind (kind.Page p) 0 e s t g h) (only _ ways w) h
 obeyed library (kind.Search x) e ways s t g loaded l w h = search_moved x e ways s t g l w h
 obeyed library (kind.File f) e ways s t g loaded l w h =
-    file_moved f e ways s t (nothing_left (kind.File f) e s.left g refl l) (of_kind (kind.File f) 0 e s t g h) (only _ ways w) h
+    moved _ e ways s t
+    (goes_then e (arguments_of s.arguments.level) (λ taken. outside.filed f e.text s.left (levels_after_taking s.arguments) s.world) (λ taken. filed f e e.text s.left (levels_after_taking s.arguments) s.world (nothing_left (kind.File f) e s.left g refl l)))
+    (of_kind (kind.File f) 0 e s t g h) (only _ ways w) h
 
 none_left : (left : Option ℕ) → IsLeftAt None left → left ≡ None
 none_left None l = refl

@@ -1,13 +1,12 @@
 -- States that are the same but for the text of the command string: in both that only waits at its end, or calls the same
 -- macro before its end.
 use Rattle.std.specs.Prelude.{◌≡◌, ℕ, List, [], ◌∷◌, Option, Some, None, option_map, Ok}
-use Rattle.teco_base.specs.declared.code.Code.{Code}
 use Rattle.teco_model.specs.declared.kind.Call.{Call}
 use Rattle.teco_model.specs.declared.kind.Kind.{Kind}
 use Rattle.teco_model.specs.declared.kind.Kind.TheVariants as kind
 use Rattle.teco_model.specs.Element.{Element, element_at}
 use Rattle.teco_model.specs.Run.{run}
-use Rattle.teco_model.specs.State.{Frame, Frames, State, Outcome, Next, End, Exit, Fail, Absent}
+use Rattle.teco_model.specs.State.{Frame, State, Outcome, Next, End, Exit, Fail, Absent}
 use Rattle.teco_model.specs.Step.{step}
 
 -- a text at its end, with no iteration open

@@ -1,5 +1,5 @@
 -- What a step was that went a way: a return, a call, a flow element, a search, or an element that only goes on.
-use Rattle.std.specs.Prelude.{◌≡◌, ℕ, ℤ, zero, suc, pos, negsuc, List, [], ◌∷◌, true, false, Option, Some, None, ◌⊎◌, Result, Ok}
+use Rattle.std.specs.Prelude.{◌≡◌, ℕ, ℤ, zero, suc, pos, negsuc, List, [], ◌∷◌, Bool, true, false, Option, Some, None, ◌⊎◌, Result, Ok}
 use Rattle.teco_base.specs.declared.code.Code.{Code}
 use Rattle.teco_model.specs.declared.flow.Loop.{Loop}
 use Rattle.teco_model.specs.declared.kind.Call.{Call}
@@ -11,10 +11,10 @@ use Rattle.teco_model.specs.declared.kind.Search.TheVariants.{Find, Replace, Fin
 use Rattle.teco_model.specs.Arguments.{Arguments, no_arguments, levels_after_taking, levels_after_answer}
 use Rattle.teco_model.specs.Element.{Element}
 use Rattle.teco_model.specs.Flow.{Turn}
-use Rattle.teco_model.specs.Going.{frames_at, frames_in, world_keeping}
-use Rattle.teco_model.specs.Paging.{Looked, Met, Through, look_for, looked_through}
-use Rattle.teco_model.specs.Search.{Found, Missed}
-use Rattle.teco_model.specs.Searching.{has_colon, answer_where, with_message, kept_by_miss, finding, looking}
+use Rattle.teco_model.specs.Going.{frames_at, frames_in, with_kept, with_taken}
+use Rattle.teco_model.specs.Paging.{Looked, Met, Through, look_first, look_for, looked_through}
+use Rattle.teco_model.specs.Search.{Finding, Found, Missed, search}
+use Rattle.teco_model.specs.Searching.{has_colon, with_message, kept_by_miss}
 use Rattle.teco_model.specs.State.{Kept, World, Frame, State, Next}
 use Rattle.teco_model.specs.Step.{outcome_of}
 use Rattle.teco_model.specs.Storage.{text_in}
@@ -38,6 +38,13 @@ pub record Turns (f : Flow) (way : ℕ) (e : Element) (s t : State) : Type 0 whe
   pub went : Went f way e s.arguments s.frames.running turn
   pub gone : t ≡ record s { arguments = turn.arguments; frames = record s.frames { running = turn.frame } }
 
+-- what S and FS come to with the arguments that they take, and N and FN in their first step
+abbrev pub finding : Search → Element → State → Result Finding Code
+finding x e s = with_taken s.arguments (λ taken rest. search x e taken s.world.kept)
+
+abbrev pub looking : Search → Element → State → Result Looked Code
+looking x e s = with_taken s.arguments (λ taken rest. look_first x e taken s.world)
+
 -- what N and FN look for: the first step takes their arguments, and one that goes on wants so many matches yet
 abbrev pub looking_on : Search → Element → State → Option ℕ → Result Looked Code
 looking_on x e s None = looking x e s
@@ -56,20 +63,25 @@ levels_searching ReplaceInPages s = levels_looking s.left s.arguments
 
 -- what stays where a search finds, and where it misses
 abbrev pub Finds : Search → Element → State → World → Type 0
-Finds Find e s world = (kept : Kept) × (finding Find e s ≡ Ok (Found kept)) × (world ≡ world_keeping kept s)
-Finds Replace e s world = (kept : Kept) × (finding Replace e s ≡ Ok (Found kept)) × (world ≡ world_keeping kept s)
+Finds Find e s world = (kept : Kept) × (finding Find e s ≡ Ok (Found kept)) × (world ≡ with_kept kept s.world)
+Finds Replace e s world = (kept : Kept) × (finding Replace e s ≡ Ok (Found kept)) × (world ≡ with_kept kept s.world)
 Finds FindInPages e s world = looking_on FindInPages e s s.left ≡ Ok (Met world)
 Finds ReplaceInPages e s world = looking_on ReplaceInPages e s s.left ≡ Ok (Met world)
 
 abbrev pub Misses : Search → Element → State → World → Type 0
 Misses Find e s world =
-    (kept : Kept) × (finding Find e s ≡ Ok (Missed kept)) × (world ≡ world_keeping (kept_by_miss e.colons kept) s)
+    (kept : Kept) × (finding Find e s ≡ Ok (Missed kept)) × (world ≡ with_kept (kept_by_miss e.colons kept) s.world)
 Misses Replace e s world =
-    (kept : Kept) × (finding Replace e s ≡ Ok (Missed kept)) × (world ≡ world_keeping (kept_by_miss e.colons kept) s)
+    (kept : Kept) × (finding Replace e s ≡ Ok (Missed kept)) × (world ≡ with_kept (kept_by_miss e.colons kept) s.world)
 Misses FindInPages e s world =
     (last : World) × (looking_on FindInPages e s s.left ≡ Ok (Through last)) × (world ≡ looked_through last)
 Misses ReplaceInPages e s world =
     (last : World) × (looking_on ReplaceInPages e s s.left ≡ Ok (Through last)) × (world ≡ looked_through last)
+
+-- with a colon it answers
+abbrev pub answer_where : Bool → ℤ → Option ℤ
+answer_where true n = Some n
+answer_where false n = None
 
 -- A search goes on behind itself, and may answer.
 pub record Answers (answer : Option ℤ) (world : World) (levels : Arguments) (e : Element) (s t : State) : Type 0 where

@@ -1,5 +1,5 @@
 -- Texts of bytes, and numbers that fit 32 bits.
-use Rattle.std.proofs.Common.{◌≡◌, ℕ, zero, suc, ◌+◌, ◌-◌, ◌<◌, arith, mod-lt, refl, w32, FitsSigned, ℤ, pos, negsuc, List, [], ◌∷◌, ◌++◌, take, drop, set, Result, Ok, Err, IfOk, Bool, true, false, cond}
+use Rattle.std.proofs.Common.{◌≡◌, ℕ, zero, suc, ◌-◌, ◌<◌, arith, mod-lt, refl, w32, FitsSigned, ℤ, pos, negsuc, List, [], ◌∷◌, ◌++◌, take, drop, set, Result, Ok, Err, IfOk, Bool, true, false, cond}
 use Rattle.std.specs.List.{AllByRecursion}
 use Rattle.std.specs.Fmt.{signed_decimal}
 use Rattle.std.specs.Str.{IsAscii}
@@ -7,7 +7,6 @@ use Rattle.std.proofs.lemmas.Fmt.{IsAscii-signed}
 use Rattle.std.proofs.lemmas.Int.{ints}
 use Rattle.teco_base.specs.Arithmetic.{byte_of}
 use Rattle.teco_base.specs.declared.code.Code.{Code}
-use Rattle.teco_base.specs.declared.code.Code.TheVariants as code
 use Rattle.teco_base.specs.NumberText.{decimal}
 use Rattle.teco_base.specs.Text.{range, text_after_replacement}
 use Rattle.teco_model.specs.Checked.{◌>>=◌}

@@ -1,5 +1,5 @@
 -- Pages and files are of bytes, and stay so.
-use Rattle.std.proofs.Common.{◌≡◌, ℕ, ◌+◌, ◌-◌, arith, refl, ℤ, pos, List, [], ◌∷◌, ◌++◌, length, length-append, Option, Some, None, option_map, IfSome, ok_or, Result, Ok, Err, IfOk, Bool, true, false, cond, nat_le, ◌==◌}
+use Rattle.std.proofs.Common.{◌≡◌, ℕ, arith, refl, ℤ, pos, List, [], ◌∷◌, ◌++◌, length, length-append, Option, Some, None, option_map, IfSome, ok_or, Result, Ok, Err, IfOk, Bool, true, false, cond, nat_le, ◌==◌}
 use Rattle.std.specs.List.{AllByRecursion}
 use Rattle.std.specs.Option.{option_map_or}
 use Rattle.std.specs.Prelude.{bytes_eq, unwrap_or}

@@ -10,10 +10,9 @@ use Rattle.teco_model.specs.Condition.{holds}
 use Rattle.teco_model.specs.Element.{Element}
 use Rattle.teco_model.specs.Flow as flows
 use Rattle.teco_model.specs.Flow.{Turn}
-use Rattle.teco_model.specs.Going.{After, world_keeping}
+use Rattle.teco_model.specs.Going.{After, with_kept}
 use Rattle.teco_model.specs.Skip.{skip_of}
 use Rattle.teco_model.specs.State.{Kept, World, Frame, State}
-use Rattle.teco_model.specs.Step as stepping
 use Rattle.teco_model.specs.declared.flow.Loop.{Loop}
 use Rattle.teco_model.specs.declared.kind.Flow.{Flow}
 use Rattle.teco_model.specs.declared.kind.Flow.TheVariants as flow
@@ -22,7 +21,7 @@ use Rattle.teco_model.specs.declared.kind.Goal.TheVariants as goal
 use Rattle.teco_model.specs.declared.kind.Kind.TheVariants as kind
 use Rattle.teco_model.specs.declared.kind.Test.{Test}
 use Rattle.teco_model.specs.Effect.{needed_value}
-use Rattle.teco_poly.specs.Polynomial.{Polynomial, value}
+use Rattle.teco_poly.specs.Polynomial.{Polynomial}
 use Rattle.teco_law_facts.proofs.Flowing.{tests_are_sound, leaves_are_sound, iterations_are_sound, turn_ends_are_sound, tags_are_sound, others_are_sound}
 use Rattle.teco_verifier.specs.facts.Arguments as taking
 use Rattle.teco_verifier.specs.facts.Attempt.{◌>>=◌}
@@ -40,7 +39,6 @@ use Rattle.teco_verifier.specs.facts.Transfer as transfers
 use Rattle.teco_verifier.specs.facts.Transfer.{Placed, transfer}
 use Rattle.teco_verifier.specs.facts.Ways.{Numbers, way}
 use Rattle.teco_verifier.specs.declared.refusal.Refusal.{Refusal}
-use Rattle.teco_verifier.specs.declared.refusal.Refusal.TheVariants as refusal
 use Rattle.teco_verifier.specs.declared.values.Value.{Value}
 
 -- ---- steps
@@ -69,12 +67,12 @@ in_turn Q (Err c) f g h = h
 -- ---- behind an element
 arrives_comes : (run : Run) (held : Polynomial) (old : World) (kept : Kept) (arguments : model.Arguments) (o : Option Facts) → MatchOption o ⊥ (λ next. Arrives run held (unread_of old) old.kept next (record { kept = kept; arguments = arguments })) → MatchOption o ⊥ (λ next. ComesTo run held old next arguments (record old { kept = kept }))
 arrives_comes run held old kept arguments None h = h
-arrives_comes run held old kept arguments (Some next) h = record { described = h.described; grown = omega (arith, h.grown) }
+arrives_comes run held old kept arguments (Some next) h = record { described = h.described; less = omega arith; grown = omega (arith, h.grown) }
 
 pub on_comes : (run : Run) (held : Polynomial) (old : World) (kept : Kept) (arguments : model.Arguments) (edges : Edges) → ArrivesOn run held (unread_of old) old.kept edges (record { kept = kept; arguments = arguments }) → Comes run held old arguments edges (record old { kept = kept })
 on_comes run held old kept arguments edges h = arrives_comes run held old kept arguments edges.on h
 
-pub goes_behind : (run : Run) (held : Polynomial) (edges : Edges) (e : Element) (s : State) → s.left ≡ None → (r : Result After Code) → Succeeds (ArrivesOn run held (unread_of s.world) s.world.kept edges) r → Succeeds (λ (done : After). GoesBehind run held edges e s (record s { world = world_keeping done.kept s; arguments = done.arguments; frames = record s.frames { running = record s.frames.running { place = e.next } } })) r
+pub goes_behind : (run : Run) (held : Polynomial) (edges : Edges) (e : Element) (s : State) → s.left ≡ None → (r : Result After Code) → Succeeds (ArrivesOn run held (unread_of s.world) s.world.kept edges) r → Succeeds (λ (done : After). GoesBehind run held edges e s (record s { world = with_kept done.kept s.world; arguments = done.arguments; frames = record s.frames { running = record s.frames.running { place = e.next } } })) r
 goes_behind run held edges e s l (Err c) h = h
 goes_behind run held edges e s l (Ok done) h = record { comes = on_comes run held s.world done.kept done.arguments edges h; frames = refl; done = l }
 
@@ -119,7 +117,7 @@ gone_held leaves facts (Ok u) = (tt, refl)
 gone_held leaves facts (Err why) = tt
 
 flow_held : (f : Flow) (colons leaves : ℕ) (answer : Option Answer) (facts : Facts) → IfOk (edge.flow_edges f colons leaves answer facts) (KeepsHeld facts)
-flow_held flow.Iterate colons leaves answer facts = ok_always (KeepsHeld facts) (taking.arguments_of facts.arguments.level) _ (λ taken. ok_always (KeepsHeld facts) (none_pending (taking.levels_after_taking facts.arguments)) _ (λ alone. ok_always (KeepsHeld facts) (edge.turns_of taken.value facts) _ (λ most. entered_held taken.value (without_arguments facts))))
+flow_held flow.Iterate colons leaves answer facts = ok_always (KeepsHeld facts) (taking.arguments_of facts.arguments.level) _ (λ taken. ok_always (KeepsHeld facts) (none_pending (taking.levels_after_taking facts.arguments)) _ (λ alone. ok_always (KeepsHeld facts) (edge.turns_of None taken.value facts) _ (λ most. entered_held taken.value (without_arguments facts))))
 flow_held flow.EndTurn colons leaves answer facts = ended_held facts.iterations facts
 flow_held flow.Leave colons leaves answer facts = left_or_held _ _ answer facts _
 flow_held (flow.Test test) colons leaves answer facts = tested_held _ _ answer facts _
@@ -143,7 +141,7 @@ module _ (run : Run) (facts : Facts) (x : Placed) (edges : Edges) (s : State) (h
 
   reached : (other : Run) (arguments : model.Arguments) (o : Option Facts) → other.n ≡ run.n → IfSome o (λ next. next.held ≡ facts.held) → IsReached other o u kept arguments → MatchOption o ⊥ (λ next. ComesTo other facts.held s.world next arguments s.world)
   reached other arguments None n e i = i
-  reached other arguments (Some next) n e i = record { described = i; grown = rw e (omega arith) }
+  reached other arguments (Some next) n e i = record { described = i; less = omega arith; grown = rw e (omega arith) }
 
   abbrev frame : Frame
   frame = s.frames.running

@@ -1,5 +1,6 @@
 -- Lemmas of the laws.
 pub mod Steps
+pub mod Falls
 pub mod Numbers
 pub mod Quotients
 pub mod Pending
@@ -13,6 +14,7 @@ pub mod Bodies
 pub mod Worked
 pub mod Leading
 pub mod Lines
+pub mod Beyond
 pub mod Shapes
 pub mod Moving
 pub mod Editing

@@ -19,13 +19,11 @@ use Rattle.teco_model.specs.declared.head.Head.{Head}
 use Rattle.teco_model.specs.declared.head.Head.TheVariants as head
 use Rattle.teco_model.specs.declared.head.OnRegister.{OnRegister}
 use Rattle.teco_model.specs.declared.head.OnRegister.TheVariants as on_register
-use Rattle.teco_model.specs.declared.kind.Command.TheVariants as command
 use Rattle.teco_model.specs.declared.kind.Kind.{Kind}
 use Rattle.teco_model.specs.declared.kind.Kind.TheVariants as kind
 use Rattle.teco_model.specs.declared.kind.File.{File}
 use Rattle.teco_model.specs.declared.kind.Flow.TheVariants as flow
 use Rattle.teco_model.specs.declared.kind.Goal.{Goal}
-use Rattle.teco_model.specs.declared.kind.Query.TheVariants as query
 use Rattle.teco_model.specs.declared.kind.Search.{Search}
 use Rattle.teco_model.specs.declared.kind.Test.{Test}
 use Rattle.teco_law_facts.proofs.Bytes.{of_either, ok_then, ok_any}

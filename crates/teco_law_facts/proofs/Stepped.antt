@@ -1,5 +1,5 @@
 -- Each step keeps what is whole.
-use Rattle.std.proofs.Common.{subst, ◌≡◌, ℕ, zero, suc, ◌+◌, ◌-◌, ◌≤◌, arith, refl, w32, FitsSigned, ℤ, pos, negsuc, ◌+ℤ◌, List, [], ◌∷◌, length, Option, Some, None, IfSome, MatchOption, ok_or, Result, Ok, Err, IfOk, Bool, true, false, cond, nat_le}
+use Rattle.std.proofs.Common.{subst, ◌≡◌, ℕ, zero, suc, ◌+◌, ◌≤◌, arith, refl, w32, FitsSigned, ℤ, pos, negsuc, ◌+ℤ◌, List, [], ◌∷◌, length, Option, Some, None, IfSome, MatchOption, ok_or, Result, Ok, Err, IfOk, Bool, true, false, cond, nat_le}
 use Rattle.std.specs.List.{AllByRecursion}
 use Rattle.std.specs.Option.{option_map_or}
 use Rattle.std.specs.Prelude.{⊤}
@@ -19,7 +19,7 @@ use Rattle.teco_model.specs.Element.{Element}
 use Rattle.teco_model.specs.Filing as filing
 use Rattle.teco_model.specs.Flow as flows
 use Rattle.teco_model.specs.Flow.{Turn}
-use Rattle.teco_model.specs.Going.{After, frames_at, taking, outcome_behind}
+use Rattle.teco_model.specs.Going.{After, Course, Behind, Again, Along, Into, Quit, NoFile, Refused, Reply, on_editor, settled, settle}
 use Rattle.teco_model.specs.Match.{here, forward, backward}
 use Rattle.teco_model.specs.laws.Matching.{Matches, InTurn, IsMatch, IsFirstFrom, IsLastBefore, IsNth}
 use Rattle.teco_model.specs.Outside as outside
@@ -54,7 +54,7 @@ use Rattle.teco_model.specs.declared.pattern.Sought.{Sought}
 use Rattle.teco_model.specs.declared.pattern.Sought.TheVariants.{Last, Wanted}
 use Rattle.teco_model.specs.declared.pattern.Span.{Span}
 use Rattle.teco_model.specs.declared.skip.Skip.{Skip}
-use Rattle.teco_law_facts.proofs.Asking.{code_within}
+use Rattle.teco_law_facts.proofs.Near.{code_within}
 use Rattle.teco_law_facts.proofs.Bytes.{ok_then, ok_any}
 use Rattle.teco_law_facts.proofs.Filing.{yanked, append_whole, abandoned, closed, opened, opened_output, turned, paged, through, copied, exited, one_page, pages_whole}
 use Rattle.teco_law_facts.proofs.Keeping as keeping
@@ -236,19 +236,44 @@ module _ (e : Element) (frame : Frame) (b : AreBytes frame.text) where
   turn_whole (flow.GoAhead goal.EndTest) arguments h = jumped code.Utc arguments h
   turn_whole (flow.GoAhead goal.Otherwise) arguments h = jumped code.Utc arguments h
 
--- ---- outcomes
+-- ---- replies
 record IsWholeAfter (done : After) : Type 0 where
   kept : IsWhole done.kept
   arguments : AreWholeArguments done.arguments
 
-module _ (e : Element) (b : IsOfBytes e) (s : State) (h : IsWholeState s) where
-  -- the state with what is left of it
-  onward : (world : World) (arguments : Arguments) (place : ℕ) (left : Option ℕ) → IsWholeWorld world → AreWholeArguments arguments → IsWholeState (record { world = world; arguments = arguments; frames = frames_at place s.frames; left = left })
-  onward world arguments place left w a = record { world = w; arguments = a; frames = record { running = h.frames.running; callers = h.frames.callers } }
+-- the texts that a course goes on in
+abbrev IsWholeCourse : Course → Type 0
+IsWholeCourse (Along frame) = AreBytes frame.text
+IsWholeCourse (Into text) = AreBytes text
+IsWholeCourse course = ⊤
 
-  behind_whole : (r : Result After Code) → IfOk r IsWholeAfter → IsWholeOutcome (outcome_behind e s r)
-  behind_whole (Err c) i = h.world
-  behind_whole (Ok done) i = onward _ _ e.next s.left (record { kept = i.kept; files = h.world.files }) i.arguments
+record IsWholeReply (reply : Reply) : Type 0 where
+  world : IsWholeWorld reply.world
+  arguments : AreWholeArguments reply.arguments
+  course : IsWholeCourse reply.course
+
+-- what becomes of a miss
+abbrev IsWholeMiss : outcomes.Miss → Type 0
+IsWholeMiss (outcomes.Leaves turn) = IsWholeTurn turn
+IsWholeMiss miss = ⊤
+
+module _ (e : Element) (b : IsOfBytes e) (s : State) (h : IsWholeState s) where
+  settled_whole : (reply : Reply) (course : Course) → IsWholeWorld reply.world → AreWholeArguments reply.arguments → IsWholeCourse course → IsWholeOutcome (settled e s.frames reply course)
+  settled_whole reply Behind w a c = record { world = w; arguments = a; frames = record { running = h.frames.running; callers = h.frames.callers } }
+  settled_whole reply Again w a c = record { world = w; arguments = a; frames = record { running = h.frames.running; callers = h.frames.callers } }
+  settled_whole reply (Along frame) w a c = record { world = w; arguments = a; frames = record { running = c; callers = h.frames.callers } }
+  settled_whole reply (Into text) w a c = record { world = w; arguments = a; frames = record { running = c; callers = (h.frames.running, h.frames.callers) } }
+  settled_whole reply Quit w a c = w
+  settled_whole reply NoFile w a c = w
+  settled_whole reply (Refused code) w a c = w
+
+  settle_whole : (r : Result Reply Code) → IfOk r IsWholeReply → IsWholeOutcome (settle e s r)
+  settle_whole (Err c) i = h.world
+  settle_whole (Ok reply) i = settled_whole reply reply.course i.world i.arguments i.course
+
+  behind_whole : (r : Result After Code) → IfOk r IsWholeAfter → IfOk (on_editor s.left s.world r) IsWholeReply
+  behind_whole (Err c) i = tt
+  behind_whole (Ok done) i = record { world = record { kept = i.kept; files = h.world.files }; arguments = i.arguments; course = tt }
 
   effect_after : (r : Result Effect Code) → IfOk r IsWholeEffect → IfOk (r >>= λ effect. Ok (record { kept = effect.kept; arguments = levels_after_answer effect.answer (levels_after_taking s.arguments) })) IsWholeAfter
   effect_after (Err c) i = tt
@@ -273,128 +298,131 @@ module _ (e : Element) (b : IsOfBytes e) (s : State) (h : IsWholeState s) where
   stack_after (Err c) i = tt
   stack_after (Ok changed) i = record { kept = i; arguments = h.arguments }
 
-  flow_whole : (r : Result Turn Code) → IfOk r IsWholeTurn → IsWholeOutcome (steps.flow_outcome s r)
-  flow_whole (Err c) i = h.world
-  flow_whole (Ok turn) i = record { world = h.world; arguments = i.arguments; frames = record { running = i.text; callers = h.frames.callers } }
+  flow_whole : (r : Result Turn Code) → IfOk r IsWholeTurn → IfOk (steps.flow_reply s.left s.world r) IsWholeReply
+  flow_whole (Err c) i = tt
+  flow_whole (Ok turn) i = record { world = h.world; arguments = i.arguments; course = i.text }
 
   -- ---- files
-  world_whole : (r : Result World Code) → IfOk r IsWholeWorld → IsWholeOutcome (outside.world_outcome e (taking s) r)
-  world_whole (Err c) i = h.world
-  world_whole (Ok world) i = onward world _ e.next s.left i (taking_whole s.arguments h.arguments)
+  module _ (arguments : Arguments) (a : AreWholeArguments arguments) where
+    world_whole : (r : Result World Code) → IfOk r IsWholeWorld → IfOk (outside.going_on s.left arguments r) IsWholeReply
+    world_whole (Err c) i = tt
+    world_whole (Ok world) i = record { world = i; arguments = a; course = tt }
 
-  world_taken : (r : Result World Code) → IfOk r IsWholeWorld → IsWholeOutcome (outside.world_outcome e (taking s) (arguments_of s.arguments.level >>= λ taken. r))
-  world_taken r i = world_whole (arguments_of s.arguments.level >>= λ taken. r) (ok_any IsWholeWorld (arguments_of s.arguments.level) _ (λ taken. i))
+    opened_whole : (r : Result (Option World) Code) → IfOk r (λ o. IfSome o IsWholeWorld) → IfOk (r >>= λ found. Ok (outside.opened s.left arguments s.world found)) IsWholeReply
+    opened_whole (Err c) i = tt
+    opened_whole (Ok None) i = record { world = h.world; arguments = a; course = tt }
+    opened_whole (Ok (Some world)) i = record { world = i; arguments = a; course = tt }
 
-  opened_whole : (r : Result (Option World) Code) → IfOk r (λ o. IfSome o IsWholeWorld) → IsWholeOutcome (outside.opened_outcome e (taking s) r)
-  opened_whole (Err c) i = h.world
-  opened_whole (Ok None) i = h.world
-  opened_whole (Ok (Some world)) i = onward world _ e.next s.left i (taking_whole s.arguments h.arguments)
+    filed_whole : (f : File) → IfOk (outside.filed f e.text s.left arguments s.world) IsWholeReply
+    filed_whole file.Read = opened_whole _ (opened s.world h.world e.text)
+    filed_whole file.Write = world_whole _ (opened_output s.world h.world e.text)
+    filed_whole file.Close = world_whole _ (closed s.world h.world)
+    filed_whole file.Abandon = world_whole (Ok (filing.abandon_output s.world)) (abandoned s.world h.world)
+    filed_whole file.Copy = world_whole _ (copied s.world h.world)
+    filed_whole file.Exit = record { world = exited s.world h.world; arguments = a; course = tt }
 
-  exit_whole : (r : Result Taken Code) → IsWholeOutcome (outside.exit_outcome s r)
-  exit_whole (Err c) = h.world
-  exit_whole (Ok taken) = exited s.world h.world
+    -- ---- pages
+    progress_whole : (r : Result paging.Progress Code) → IfOk r (λ p. IsWholeWorld p.world) → IfOk (outside.in_pages arguments r) IsWholeReply
+    progress_whole (Err c) i = tt
+    progress_whole (Ok done) i = by done.left where
+      by : (left : ℕ) → IsWholeReply (outside.while_left left arguments done.world)
+      by zero = record { world = i; arguments = a; course = tt }
+      by (suc n) = record { world = i; arguments = a; course = tt }
 
-  file_whole : (f : File) → IsWholeOutcome (outside.file_outcome f e s)
-  file_whole file.Read = opened_whole _ (ok_any (λ o. IfSome o IsWholeWorld) (arguments_of s.arguments.level) _ (λ taken. opened s.world h.world e.text))
-  file_whole file.Write = world_taken _ (opened_output s.world h.world e.text)
-  file_whole file.Close = world_taken _ (closed s.world h.world)
-  file_whole file.Abandon = world_taken (Ok (filing.abandon_output s.world)) (abandoned s.world h.world)
-  file_whole file.Copy = world_taken _ (copied s.world h.world)
-  file_whole file.Exit = exit_whole _
+    append_by : (o : Option ℤ) → IfOk (outside.append_reply o s.left arguments s.world) IsWholeReply
+    append_by None = world_whole _ (append_whole s.world h.world)
+    append_by (Some n) = record {
+      world = h.world;
+      arguments = answer_whole (Some (character n s.world.kept)) _ (let c = code_within s.world.kept.text h.world.kept.bytes (pos s.world.kept.pointer +ℤ n) in omega (arith, ints, c)) a;
+      course = tt;
+    }
 
-  -- ---- pages
-  progress_whole : (arguments : Arguments) → AreWholeArguments arguments → (r : Result paging.Progress Code) → IfOk r (λ p. IsWholeWorld p.world) → IsWholeOutcome (outside.pages_outcome e (record s { arguments = arguments }) r)
-  progress_whole arguments a (Err c) i = h.world
-  progress_whole arguments a (Ok done) i = by done.left where
-    by : (left : ℕ) → IsWholeOutcome (outside.pages_behind e (record s { arguments = arguments }) done.world left)
-    by zero = onward done.world arguments e.next None i a
-    by (suc n) = onward done.world arguments s.frames.running.place (Some (suc n)) i a
+  pages_by : (one : World → Result World Code) → IfOk (one s.world) IsWholeWorld → (left : Option ℕ) → IfOk (outside.pages_reply one left s.arguments s.world) IsWholeReply
+  pages_by one i None = ok_any IsWholeReply (arguments_of s.arguments.level) _ (λ taken. progress_whole _ (taking_whole s.arguments h.arguments) _ (ok_any (λ (p : paging.Progress). IsWholeWorld p.world) (paging.needed_output s.world) _ (λ output. pages_whole s.world h.world one i taken.first taken.value)))
+  pages_by one i (Some n) = progress_whole s.arguments h.arguments _ (one_page s.world h.world one i n)
 
-  pages_by : (one : World → Result World Code) → IfOk (one s.world) IsWholeWorld → (left : Option ℕ) → IsWholeOutcome (outside.pages_outcome_of one e s left)
-  pages_by one i None = progress_whole _ (taking_whole s.arguments h.arguments) _ (ok_any (λ (p : paging.Progress). IsWholeWorld p.world) (arguments_of s.arguments.level) _ (λ taken. ok_any (λ (p : paging.Progress). IsWholeWorld p.world) (paging.needed_output s.world) _ (λ output. pages_whole s.world h.world one i taken.first taken.value)))
-  pages_by one i (Some n) = progress_whole s.arguments h.arguments _ (keeping_one one i n) where
-    keeping_one : (one : World → Result World Code) → IfOk (one s.world) IsWholeWorld → (n : ℕ) → IfOk (paging.one_page_of one n s.world) (λ p. IsWholeWorld p.world)
-    keeping_one one i n = one_page s.world h.world one i n
-
-  append_by : (taken : Taken) (o : Option ℤ) → IsWholeOutcome (elim o as (λ x. Outcome) [ None ↦ outside.world_outcome e (taking s) (paging.append s.world) | Some n ↦ outside.character_outcome e (taking s) n ])
-  append_by taken None = world_whole _ (append_whole s.world h.world)
-  append_by taken (Some n) = onward s.world _ e.next s.left h.world (answer_whole (Some (character n s.world.kept)) _ (let c = code_within s.world.kept.text h.world.kept.bytes (pos s.world.kept.pointer +ℤ n) in omega (arith, ints, c)) (taking_whole s.arguments h.arguments))
-
-  appended_by : (r : Result Taken Code) → IsWholeOutcome (outside.append_outcome e (taking s) r)
-  appended_by (Err c) = h.world
-  appended_by (Ok taken) = append_by taken taken.value
-
-  page_whole : (p : Page) → IsWholeOutcome (outside.page_outcome p e s)
-  page_whole page.Yank = world_taken _ (yanked s.world h.world)
-  page_whole page.Append = appended_by _
+  page_whole : (p : Page) → IfOk (outside.page_reply p s.left s.arguments s.world) IsWholeReply
+  page_whole page.Yank = ok_any IsWholeReply (arguments_of s.arguments.level) _ (λ taken. world_whole _ (taking_whole s.arguments h.arguments) _ (yanked s.world h.world))
+  page_whole page.Append = ok_any IsWholeReply (arguments_of s.arguments.level) _ (λ taken. append_by _ (taking_whole s.arguments h.arguments) taken.value)
   page_whole page.Next = pages_by paging.page_turned (turned s.world h.world) s.left
   page_whole page.Write = pages_by paging.page_written (paged s.world h.world) s.left
 
   -- ---- searches
-  module _ (arguments : Arguments) (a : AreWholeArguments arguments) (left : Option ℕ) where
-    abbrev seeking : State
-    seeking = record s { arguments = arguments; left = left }
+  leaving_whole : (r : Result Turn Code) → IfOk r IsWholeTurn → IsWholeMiss (outcomes.leaving_by r)
+  leaving_whole (Err c) i = tt
+  leaving_whole (Ok turn) i = i
 
-    behind_search : (answer : Option ℤ) → IfSome answer (FitsSigned w32) → (world : World) → IsWholeWorld world → IsWholeOutcome (outcomes.search_behind e answer world seeking)
-    behind_search answer f world w = onward world _ e.next left w (answer_whole answer arguments f a)
+  within_whole : (loops : List Loop) → IsWholeMiss (outcomes.miss_within loops e s.frames.running)
+  within_whole [] = tt
+  within_whole (loop ∷ outer) = leaving_whole _ (jumped e s.frames.running h.frames.running code.Utc no_arguments none_whole)
 
-    leaving_whole : (stays missed : World) → IsWholeWorld stays → IsWholeWorld missed → (r : Result Turn Code) → IfOk r IsWholeTurn → IsWholeOutcome (outcomes.leaving_outcome stays missed seeking r)
-    leaving_whole stays missed v w (Err c) i = v
-    leaving_whole stays missed v w (Ok turn) i = record { world = record { kept = typed missed.kept w.kept _; files = w.files }; arguments = i.arguments; frames = record { running = i.text; callers = h.frames.callers } }
+  miss_whole : (colon : Bool) → IsWholeMiss (outcomes.miss_where colon e s.frames.running)
+  miss_whole true = tt
+  miss_whole false = within_whole s.frames.running.loops
 
-    missed_whole : (stays missed : World) → IsWholeWorld stays → IsWholeWorld missed → (loops : List Loop) → IsWholeOutcome (outcomes.missed_outcome e stays missed seeking loops)
-    missed_whole stays missed v w [] = w
-    missed_whole stays missed v w (loop ∷ outer) = leaving_whole stays missed v w _ (jumped e s.frames.running h.frames.running code.Utc no_arguments none_whole)
+  answer_fits : (miss : outcomes.Miss) → IfSome (outcomes.answer_by miss) (FitsSigned w32)
+  answer_fits outcomes.Answers = omega (arith, ints)
+  answer_fits (outcomes.Leaves turn) = tt
+  answer_fits outcomes.Unended = tt
+  answer_fits outcomes.Fails = tt
 
-    miss_whole : (colon : Bool) (stays missed : World) → IsWholeWorld stays → IsWholeWorld missed → IsWholeOutcome (outcomes.miss_outcome colon e stays missed seeking)
-    miss_whole true stays missed v w = behind_search (Some (pos 0)) (omega (arith, ints)) missed w
-    miss_whole false stays missed v w = missed_whole stays missed v w s.frames.running.loops
+  at_miss : (colons : ℕ) (kept : Kept) → IsWhole kept → IsWhole (outcomes.kept_by_miss colons kept)
+  at_miss zero kept w = edited kept w _ refl refl (omega arith) w.within w.bytes w.last
+  at_miss (suc zero) kept w = edited kept w _ refl refl (omega arith) w.within w.bytes w.last
+  at_miss (suc (suc colons)) kept w = w
 
-    answer_fits : (colon : Bool) → IfSome (outcomes.answer_where colon (negsuc 0)) (FitsSigned w32)
-    answer_fits true = omega (arith, ints)
-    answer_fits false = tt
+  module _ (miss : outcomes.Miss) (m : IsWholeMiss miss) (arguments : Arguments) (a : AreWholeArguments arguments) where
+    missed_whole : (miss : outcomes.Miss) → IsWholeMiss miss → (left : Option ℕ) (before now : World) → IsWholeWorld before → IsWholeWorld now → IsWholeReply (outcomes.missed miss left arguments before now)
+    missed_whole outcomes.Answers m left before now v w = record { world = w; arguments = answer_whole (Some (pos 0)) arguments (omega (arith, ints)) a; course = tt }
+    missed_whole (outcomes.Leaves turn) m left before now v w = record { world = record { kept = typed now.kept w.kept _; files = w.files }; arguments = m.arguments; course = m.text }
+    missed_whole outcomes.Unended m left before now v w = record { world = v; arguments = a; course = tt }
+    missed_whole outcomes.Fails m left before now v w = record { world = w; arguments = a; course = tt }
 
-    at_miss : (colons : ℕ) (kept : Kept) → IsWhole kept → IsWhole (outcomes.kept_by_miss colons kept)
-    at_miss zero kept w = edited kept w _ refl refl (omega arith) w.within w.bytes w.last
-    at_miss (suc zero) kept w = edited kept w _ refl refl (omega arith) w.within w.bytes w.last
-    at_miss (suc (suc colons)) kept w = w
+    met_whole : (left : Option ℕ) (world : World) → IsWholeWorld world → IsWholeReply (outcomes.met miss left arguments world)
+    met_whole left world w = record { world = w; arguments = answer_whole (outcomes.answer_by miss) arguments (answer_fits miss) a; course = tt }
 
-    search_whole : (colon : Bool) (r : Result Finding Code) → IfOk r IsWholeFinding → IsWholeOutcome (outcomes.search_outcome colon e seeking r)
-    search_whole colon (Err c) i = h.world
-    search_whole colon (Ok (Found kept)) i = behind_search _ (answer_fits colon) _ (record { kept = i; files = h.world.files })
-    search_whole colon (Ok (Missed kept)) i = miss_whole colon _ _ (record { kept = i; files = h.world.files }) (record { kept = at_miss e.colons kept i; files = h.world.files })
+    search_whole : (r : Result Finding Code) → IfOk r IsWholeFinding → IfOk (r >>= λ finding. Ok (outcomes.found e miss s.left arguments s.world finding)) IsWholeReply
+    search_whole (Err c) i = tt
+    search_whole (Ok (Found kept)) i = met_whole s.left _ (record { kept = i; files = h.world.files })
+    search_whole (Ok (Missed kept)) i = missed_whole miss m s.left _ _ (record { kept = i; files = h.world.files }) (record { kept = at_miss e.colons kept i; files = h.world.files })
 
-  looking_whole : (arguments : Arguments) → AreWholeArguments arguments → (left : Option ℕ) (colon : Bool) (r : Result Looked Code) → IfOk r IsWholeLooked → IsWholeOutcome (outcomes.looked_outcome colon e (record s { arguments = arguments; left = left }) r)
-  looking_whole arguments a left colon (Err c) i = h.world
-  looking_whole arguments a left colon (Ok (Met world)) i = behind_search arguments a None _ (answer_fits arguments a None colon) world i
-  looking_whole arguments a left colon (Ok (Turned n world)) i = onward world arguments s.frames.running.place (Some n) i a
-  looking_whole arguments a left colon (Ok (Through world)) i = miss_whole arguments a None colon world _ i (through world i)
+    looking_whole : (r : Result Looked Code) → IfOk r IsWholeLooked → IfOk (outcomes.looking miss arguments r) IsWholeReply
+    looking_whole (Err c) i = tt
+    looking_whole (Ok (Met world)) i = met_whole None world i
+    looking_whole (Ok (Turned n world)) i = record { world = i; arguments = a; course = tt }
+    looking_whole (Ok (Through world)) i = missed_whole miss m None world _ i (through world i)
 
-  searching_whole : (x : Search) → IsWholeOutcome (outcomes.search_outcome_of x e s)
-  searching_whole x = search_whole _ (taking_whole s.arguments h.arguments) s.left (outcomes.has_colon e s.frames.running) (outcomes.finding x e s) (ok_any IsWholeFinding (arguments_of s.arguments.level) _ (λ taken. searched_whole x e taken s.world.kept h.world.kept b))
+  abbrev miss : outcomes.Miss
+  miss = outcomes.miss_of e s.frames.running
 
-  looking_by : (x : Search) (left : Option ℕ) → left ≡ s.left → IsWholeOutcome (outcomes.looked_outcome_of x e s left)
-  looking_by x None i = looking_whole _ (taking_whole s.arguments h.arguments) s.left (outcomes.has_colon e s.frames.running) (outcomes.looking x e s) (ok_any IsWholeLooked (arguments_of s.arguments.level) _ (λ taken. first_whole x e taken s.world h.world b))
-  looking_by x (Some n) i = looking_whole s.arguments h.arguments s.left (outcomes.has_colon e s.frames.running) _ (looked_whole x e n s.world h.world b)
+  whole_miss : IsWholeMiss miss
+  whole_miss = miss_whole (outcomes.has_colon e s.frames.running)
 
-  sought_whole : (x : Search) → IsWholeOutcome (outcomes.outcome_of_search x e s)
+  searching_whole : (x : Search) → IfOk (outcomes.found_in_buffer x e miss s.left s.arguments s.world) IsWholeReply
+  searching_whole x = ok_any IsWholeReply (arguments_of s.arguments.level) _ (λ taken. search_whole miss whole_miss _ (taking_whole s.arguments h.arguments) _ (searched_whole x e taken s.world.kept h.world.kept b))
+
+  looking_by : (x : Search) (left : Option ℕ) → IfOk (outcomes.found_in_pages x e miss left s.arguments s.world) IsWholeReply
+  looking_by x None = ok_any IsWholeReply (arguments_of s.arguments.level) _ (λ taken. looking_whole miss whole_miss _ (taking_whole s.arguments h.arguments) _ (first_whole x e taken s.world h.world b))
+  looking_by x (Some n) = looking_whole miss whole_miss s.arguments h.arguments _ (looked_whole x e n s.world h.world b)
+
+  sought_whole : (x : Search) → IfOk (outcomes.search_reply x e miss s.left s.arguments s.world) IsWholeReply
   sought_whole search_kind.Find = searching_whole search_kind.Find
   sought_whole search_kind.Replace = searching_whole search_kind.Replace
-  sought_whole search_kind.FindInPages = looking_by search_kind.FindInPages s.left refl
-  sought_whole search_kind.ReplaceInPages = looking_by search_kind.ReplaceInPages s.left refl
+  sought_whole search_kind.FindInPages = looking_by search_kind.FindInPages s.left
+  sought_whole search_kind.ReplaceInPages = looking_by search_kind.ReplaceInPages s.left
 
-  outcome_whole : (k : Kind) → IsWholeOutcome (steps.outcome_of k e s)
-  unfolding steps.outcome_of
-  outcome_whole (kind.Argument a) = behind_whole _ (levels_after s.world.kept h.world.kept _ (levels_whole a e.text s.arguments h.arguments))
-  outcome_whole (kind.Value v) = behind_whole _ (levels_after s.world.kept h.world.kept _ (level_whole s.arguments _ h.arguments (value_whole v s.world.kept s.arguments.level h.world.kept h.arguments.level)))
-  outcome_whole (kind.Query q) = behind_whole _ (query_after q _ (taken_if (steps.takes q e.colons)))
-  outcome_whole (kind.Stack k) = behind_whole _ (stack_after _ (stack_whole s.world.kept h.world.kept k))
-  outcome_whole (kind.Call c) = record { world = h.world; arguments = h.arguments; frames = record { running = (pair_whole s.world.kept h.world.kept c.register).bytes; callers = (h.frames.running, h.frames.callers) } }
-  outcome_whole (kind.Flow f) = flow_whole _ (turn_whole e s.frames.running h.frames.running f s.arguments h.arguments)
-  outcome_whole (kind.Command c) = behind_whole _ (command_after c)
-  outcome_whole (kind.Page p) = page_whole p
-  outcome_whole (kind.Search x) = sought_whole x
-  outcome_whole (kind.File f) = file_whole f
+  reply_whole : (k : Kind) → IfOk (steps.reply_of k e s) IsWholeReply
+  unfolding steps.reply_of
+  reply_whole (kind.Argument a) = behind_whole _ (levels_after s.world.kept h.world.kept _ (levels_whole a e.text s.arguments h.arguments))
+  reply_whole (kind.Value v) = behind_whole _ (levels_after s.world.kept h.world.kept _ (level_whole s.arguments _ h.arguments (value_whole v s.world.kept s.arguments.level h.world.kept h.arguments.level)))
+  reply_whole (kind.Query q) = behind_whole _ (query_after q _ (taken_if (steps.takes q e.colons)))
+  reply_whole (kind.Stack k) = behind_whole _ (stack_after _ (stack_whole s.world.kept h.world.kept k))
+  reply_whole (kind.Call c) = record { world = h.world; arguments = h.arguments; course = (pair_whole s.world.kept h.world.kept c.register).bytes }
+  reply_whole (kind.Flow f) = flow_whole _ (turn_whole e s.frames.running h.frames.running f s.arguments h.arguments)
+  reply_whole (kind.Command c) = behind_whole _ (command_after c)
+  reply_whole (kind.Page p) = page_whole p
+  reply_whole (kind.Search x) = sought_whole x
+  reply_whole (kind.File f) = ok_any IsWholeReply (arguments_of s.arguments.level) _ (λ taken. filed_whole _ (taking_whole s.arguments h.arguments) f)
 
 -- ---- the step
 module _ (s : State) (h : IsWholeState s) where
@@ -409,7 +437,7 @@ module _ (s : State) (h : IsWholeState s) where
   at_place : (r : Result (Option Element) Code) → IfOk r (λ o. IfSome o IsOfBytes) → IsWholeOutcome (steps.outcome_at s r)
   at_place (Err c) i = h.world
   at_place (Ok None) i = text_end s.frames.running.loops
-  at_place (Ok (Some e)) i = outcome_whole e i s h e.kind
+  at_place (Ok (Some e)) i = settle_whole e i s h _ (reply_whole e i s h e.kind)
 
 step_whole : (s : State) → IsWholeState s → IsWholeOutcome (step s)
 unfolding step

@@ -1,5 +1,5 @@
 -- The law of searches in the buffer: what is known where they found, and where they failed.
-use Rattle.std.specs.Prelude.{◌≡◌, ℕ, pos, negsuc, ⊤, List, Bool, true, false, Some, MatchOption, Result}
+use Rattle.std.specs.Prelude.{◌≡◌, ℕ, ℤ, pos, negsuc, ⊤, List, Bool, true, false, Option, Some, None, MatchOption, Result}
 use Rattle.teco_base.specs.declared.code.Code.{Code}
 use Rattle.teco_model.specs.Arguments.{Arguments, arguments_of, levels_after_taking, levels_after_answer, no_arguments}
 use Rattle.teco_model.specs.Checked.{◌>>=◌}
@@ -7,7 +7,7 @@ use Rattle.teco_model.specs.Element.{Element}
 use Rattle.teco_model.specs.Search.{Finding, Found, Missed, search}
 use Rattle.teco_model.specs.State.{Kept}
 use Rattle.teco_model.specs.Going.{After, after}
-use Rattle.teco_model.specs.Searching.{answer_where, kept_by_miss, at_start}
+use Rattle.teco_model.specs.Searching.{kept_by_miss, at_start}
 use Rattle.teco_model.specs.declared.kind.Kind.TheVariants as kind
 use Rattle.teco_model.specs.declared.kind.Search.{Search}
 use Rattle.teco_model.specs.declared.kind.Search.TheVariants.{Find, Replace, FindInPages, ReplaceInPages}
@@ -45,6 +45,11 @@ MissArrives false run held unread kept arguments colons edges missed =
     (typed : List ℕ) → ArrivesAway (run_behind 1 run) held unread kept edges
     (after (record (at_start missed) { typed = typed }) no_arguments)
 
+-- with a colon it answers
+abbrev pub answer_where : Bool → ℤ → Option ℤ
+answer_where true n = Some n
+answer_where false n = None
+
 -- What is found is answered where the search counts as having a colon.
 abbrev pub SearchArrives : Run → Polynomial → ℕ → Kept → Arguments → Placed → Edges → Finding → Type 0
 SearchArrives run held unread kept arguments x edges (Found found) =
@@ -59,5 +64,5 @@ SearchesAreSound =
     (run : Run) (facts : Facts) (unread : ℕ) (kept : Kept) (arguments : Arguments) (x : Placed) (s : Search)
     → IsWhole kept → Describes run facts unread kept arguments → x.element.kind ≡ kind.Search s → IsInBuffer s
     → (x.colon ≡ false → x.element.colons ≡ 0)
-    → Leads (FitsOn run.n) (SearchArrives run facts.held unread kept arguments x) (transfer x facts)
+    → Leads (FitsOn run) (SearchArrives run facts.held unread kept arguments x) (transfer x facts)
     (finding s x.element kept arguments)

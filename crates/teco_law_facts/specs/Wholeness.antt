@@ -3,7 +3,6 @@ use Rattle.std.specs.Prelude.{ℕ, List, IfSome, FitsSigned}
 use Rattle.std.specs.Int.{w32}
 use Rattle.std.specs.List.{AllByRecursion}
 use Rattle.teco_model.specs.Arguments.{Arguments}
-use Rattle.teco_model.specs.Files.{File, Input, Output, Files}
 use Rattle.teco_model.specs.Run.{Reaches}
 use Rattle.teco_model.specs.State.{World, Frame, Frames, State, Outcome, Next, End, Exit, Fail, Absent, start}
 use Rattle.teco_model.specs.Step.{step}

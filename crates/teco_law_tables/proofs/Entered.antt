@@ -1,9 +1,9 @@
 -- A step of < into its body begins its first turn.
-use Rattle.std.proofs.Common.{◌≡◌, ◌⊎◌, inl, inr, ℕ, zero, suc, ◌+◌, ◌≤◌, ◌<◌, refl, sym, ap, ◌∙◌, subst, arith, List, [], ◌∷◌, ◌++◌, map, Bool, true, false, pos, negsuc, ℤ, Option, Some, None, Result, Ok, Err, is_some}
-use Rattle.std.proofs.lemmas.List.{length-map}
+use Rattle.std.proofs.Common.{◌≡◌, ◌⊎◌, inl, inr, ℕ, zero, suc, ◌≤◌, ◌<◌, refl, sym, ap, ◌∙◌, subst, arith, List, [], ◌∷◌, ◌++◌, map, Bool, true, false, pos, negsuc, ℤ, Option, Some, None, Result, Ok, Err, is_some}
 use Rattle.std.specs.Prelude.{IsTrue, ⊤}
 use Rattle.std.specs.List.{AllByRecursion}
 use Rattle.std.proofs.lemmas.Int.{ints}
+use Rattle.teco_verifier.specs.declared.falls.Rank.{Rank}
 use Rattle.teco_base.specs.declared.code.Code.{Code}
 use Rattle.teco_law_turns.specs.Moves as moves
 use Rattle.teco_law_turns.specs.Moves.{Move, Into}
@@ -29,27 +29,26 @@ use Rattle.teco_law_expansion.specs.Steps.{is_long}
 use Rattle.teco_law_expansion.specs.Turns as went
 use Rattle.teco_law_expansion.specs.Was.{StepWas, ElementWas, Turns}
 use Rattle.teco_poly.specs.Polynomial.{Polynomial, value}
-use Rattle.teco_law_facts.proofs.Bodies.{body_starts_are_sound}
+use Rattle.teco_law_facts.proofs.Bodies.{body_starts_are_sound, fell_before, rests_of}
 use Rattle.teco_law_facts.proofs.Covering.{and_both, covers_are_sound}
-use Rattle.teco_law_facts.proofs.Each.{each_length}
 use Rattle.teco_law_facts.proofs.Flowing.{taking_is, turns_are_sound}
 use Rattle.teco_law_facts.proofs.Steps.{Covers}
 use Rattle.teco_verifier.specs.facts.Arguments.{KnownTaken, arguments_of}
 use Rattle.teco_verifier.specs.facts.Bodies.{Changes, Choice, body_start, begins, stands as choice_stands}
 use Rattle.teco_verifier.specs.facts.Covers.{covers, each_covers, is_same_truth, is_same_iteration}
-use Rattle.teco_law_facts.specs.Describes.{HasFallen, IsOptional, IsTaken, IsWhole, Describes, fore_of, back_of}
+use Rattle.teco_law_facts.specs.Describes.{Begun, begun_at, IsOptional, IsTaken, IsWhole, Describes, around_of}
 use Rattle.teco_verifier.specs.facts.Facts.{Iteration, Facts}
 use Rattle.teco_verifier.specs.facts.Flows.{turns as turns_of}
-use Rattle.teco_law_facts.specs.Laws.{entered}
+use Rattle.teco_law_facts.specs.Laws.{entered, amount_of}
 use Rattle.teco_law_facts.specs.SoundElements.{Leads}
 use Rattle.teco_law_facts.specs.SoundFlow.{AreTurns}
 use Rattle.teco_model.specs.Paging.{unread_of}
-use Rattle.teco_verifier.specs.facts.Values.{IsValue}
+use Rattle.teco_verifier.specs.facts.Values.{IsValue, Surroundings}
 use Rattle.teco_verifier.specs.declared.refusal.Refusal.{Refusal}
 use Rattle.teco_verifier.specs.declared.values.Value.{Value}
 use Rattle.teco_verifier.specs.table.Behind.{left_by, along, turns_by_flow, turns_by_kind, begins_turn}
 use Rattle.teco_verifier.specs.table.Closed.{say_same, is_counted, body_stands, is_entered, enters_by, enters_at, closed_behind, check_nodes}
-use Rattle.teco_law_tables.specs.Following.{OpenTurn, begun_of, run_at, loops_in, open_loops, AreMore, IsOpened, AreOpened, IsDescribed, held_of, loops_of, shown}
+use Rattle.teco_law_tables.specs.Following.{OpenTurn, begun_of, run_at, falling_in, loops_in, open_loops, AreMore, IsOpened, AreOpened, IsDescribed, held_of, loops_of, shown}
 use Rattle.teco_law_tables.specs.Moving.{run_by_kind, run_along, IsLong, IsLast, Alone, Again, Comes, MovesOn}
 use Rattle.teco_verifier.specs.table.Table.{Table, facts_at, choice_at}
 use Rattle.teco_verifier.specs.table.Printed.{turns_at}
@@ -121,11 +120,11 @@ record Started (nodes : List Node) (table : Table) (begin : ℕ) (facts entering
   most : Polynomial
   started : facts_at table (suc begin) ≡ Some start
   chosen : choice_at table begin ≡ Some choice
-  turns_are : turns_of facts ≡ Ok most
+  turns_are : turns_of (falling_in nodes table begin) facts ≡ Ok most
   same : IsTrue (say_same start (body_start choice (changes_in nodes begin) entering))
   starts : IsTrue (begins choice entering)
 
-started_by : (nodes : List Node) (table : Table) (begin : ℕ) (facts entering : Facts) (o : Option Facts) (c : Option Choice) (r : Result Polynomial Refusal) → facts_at table (suc begin) ≡ o → choice_at table begin ≡ c → turns_of facts ≡ r →
+started_by : (nodes : List Node) (table : Table) (begin : ℕ) (facts entering : Facts) (o : Option Facts) (c : Option Choice) (r : Result Polynomial Refusal) → facts_at table (suc begin) ≡ o → choice_at table begin ≡ c → turns_of (falling_in nodes table begin) facts ≡ r →
     IsTrue (body_stands (changes_in nodes begin) (facts_at table (end_of nodes begin)) entering o c r) → Started nodes table begin facts entering
 started_by nodes table begin facts entering None c r s k t h = absurd (cc)
 started_by nodes table begin facts entering (Some start) None r s k t h = absurd (cc)
@@ -135,9 +134,9 @@ started_by nodes table begin facts entering (Some start) (Some choice) (Ok most)
     record { start = start; choice = choice; most = most; started = s; chosen = k; turns_are = t; same = p.0; starts = choice_begins choice (changes_in nodes begin) (is_counted entering.iterations) most entering (facts_at table (end_of nodes begin)) p.1 }
 
 -- ---- how many turns come after the first
-record First_turn (table : Table) (counted : Bool) (most ahead : ℕ) (left : Option ℕ) : Type 0 where
+record First_turn (falling : Option Rank) (counted : Bool) (most : ℕ) (begun : Begun) (left : Option ℕ) : Type 0 where
   more : ℕ
-  is : AreMore left counted (record { begun = ahead; more = more })
+  is : AreMore falling left counted (record { begun = begun; more = more })
   few : more < most
 
 later_is : (v : ℤ) (more : ℕ) → later_turns v ≡ Some more → v ≡ pos (suc more)
@@ -145,27 +144,27 @@ later_is (pos zero) more h = absurd (cc)
 later_is (pos (suc m)) more h = let e : m ≡ more = cc in ap (λ k. pos (suc k)) e
 later_is (negsuc m) more h = absurd (cc)
 
-first_turn : (table : Table) (counted : Bool) (most ahead : ℕ) (value : Option ℤ) (left : Option ℕ) → went.Counts value left → AreTurns most ahead value → (counted ≡ is_some value) → First_turn table counted most ahead left
-first_turn table counted most ahead None left counts are f =
-    record { more = ahead; is = subst (λ left. AreMore left counted (record { begun = ahead; more = ahead })) (sym counts) (f, omega arith); few = omega (arith, are) }
-first_turn table counted most ahead (Some v) left counts are f =
-    record { more = counts.0; is = subst (λ left. AreMore left counted (record { begun = ahead; more = counts.0 })) (sym counts.1) (f, refl); few = omega (arith, ints, are, later_is v counts.0 counts.2) }
+first_turn : (falling : Option Rank) (counted : Bool) (most : ℕ) (begun : Begun) (value : Option ℤ) (left : Option ℕ) → went.Counts value left → AreTurns most (amount_of falling begun) value → (counted ≡ is_some value) → First_turn falling counted most begun left
+first_turn falling counted most begun None left counts are f =
+    record { more = amount_of falling begun; is = subst (λ left. AreMore falling left counted (record { begun = begun; more = amount_of falling begun })) (sym counts) (f, omega arith); few = omega (arith, are) }
+first_turn falling counted most begun (Some v) left counts are f =
+    record { more = counts.0; is = subst (λ left. AreMore falling left counted (record { begun = begun; more = counts.0 })) (sym counts.1) (f, refl); few = omega (arith, ints, are, later_is v counts.0 counts.2) }
 
 taken_turns : (n a : ℕ) (r : Result Polynomial Refusal) (c : Result Taken Code) (p : Polynomial) (taken : Taken) → r ≡ Ok p → c ≡ Ok taken → Leads (λ edges. ⊤) (λ p (taken : Taken). AreTurns (value p n) a taken.value) r c → AreTurns (value p n) a taken.value
 taken_turns n a r c p taken e f h =
     (subst (λ c. Leads (λ edges. ⊤) (λ p (taken : Taken). AreTurns (value p n) a taken.value) (Ok p) c) f
     (subst (λ r. Leads (λ edges. ⊤) (λ p (taken : Taken). AreTurns (value p n) a taken.value) r c) e h)) tt
 
-both_optional : (fore back : ℕ) (known : Option Value) (v : Option ℤ) → IsOptional (IsValue fore back) known v → is_some known ≡ is_some v
-both_optional fore back None None h = refl
-both_optional fore back (Some k) (Some v) h = refl
-both_optional fore back None (Some v) h = absurd h
-both_optional fore back (Some k) None h = absurd h
+both_optional : (around : Surroundings) (known : Option Value) (v : Option ℤ) → IsOptional (IsValue around) known v → is_some known ≡ is_some v
+both_optional around None None h = refl
+both_optional around (Some k) (Some v) h = refl
+both_optional around None (Some v) h = absurd h
+both_optional around (Some k) None h = absurd h
 
-both_taken : (fore back : ℕ) (r : Result KnownTaken Refusal) (c : Result Taken Code) (known : KnownTaken) (taken : Taken) → r ≡ Ok known → c ≡ Ok taken → Covers (IsTaken fore back) r c → is_some known.value ≡ is_some taken.value
-both_taken fore back r c known taken e f h =
-    both_optional fore back known.value taken.value
-    (subst (λ c. Covers (IsTaken fore back) (Ok known) c) f (subst (λ r. Covers (IsTaken fore back) r c) e h)).value
+both_taken : (around : Surroundings) (r : Result KnownTaken Refusal) (c : Result Taken Code) (known : KnownTaken) (taken : Taken) → r ≡ Ok known → c ≡ Ok taken → Covers (IsTaken around) r c → is_some known.value ≡ is_some taken.value
+both_taken around r c known taken e f h =
+    both_optional around known.value taken.value
+    (subst (λ c. Covers (IsTaken around) (Ok known) c) f (subst (λ r. Covers (IsTaken around) r c) e h)).value
 
 -- ---- the step
 short : (f : Flow) (k : Kind) → k ≡ kind.Flow f → is_long k ≡ true → ⊥
@@ -179,7 +178,7 @@ pub world_same : (f : Flow) (way : ℕ) (e : Element) (s t : State) → Turns f 
 world_same f way e s t w = ap (λ (t : State). t.world) w.gone
 
 module _ (laws : Laws) (library : Library) (entry : ℕ) (nodes : List Node) (are : AreLinked library entry nodes) (closed : AreClosed nodes) (table : Table) (n : ℕ) (below : List Pair) (passes : check_nodes nodes table ≡ Ok tt) where
-  module _ (number : ℕ) (turns : List OpenTurn) (s last t : State) (here : IsDescribed library nodes table n below number turns s) (again : IsLast here.node.element s last) (goes : GoesTo (stands nodes entry) number here.node last t) (comes : Comes nodes here.node here.facts goes.way (run_at n below turns) s t) (loaded : IsLoaded library t.world.kept) (whole : IsWhole t.world.kept) where
+  module _ (number : ℕ) (turns : List OpenTurn) (s last t : State) (here : IsDescribed library nodes table n below number turns s) (again : IsLast here.node.element s last) (goes : GoesTo (stands nodes entry) number here.node last t) (comes : Comes nodes here.node here.facts goes.way (run_at library n below turns) s t) (loaded : IsLoaded library t.world.kept) (whole : IsWhole t.world.kept) where
     module _ (there : Node) (at : numbered nodes goes.target ≡ Some there) (stand : there.stand ≡ stand_at number here.node.stand (position_of t)) where
       module _ (e : Element) (reads : here.node.element ≡ Some e) (is : e.kind ≡ kind.Flow flow.Iterate) (first : goes.way ≡ 0) where
         was : Turns flow.Iterate zero e s t
@@ -199,8 +198,11 @@ module _ (laws : Laws) (library : Library) (entry : ℕ) (nodes : List Node) (ar
         same_world : t.world ≡ s.world
         same_world = world_same flow.Iterate zero e s t was
 
-        abbrev begun : ℕ
-        begun = fore_of s.world.kept + unread_of s.world
+        abbrev begun : Begun
+        begun = begun_at (unread_of s.world) s.world.kept
+
+        abbrev falling : Option Rank
+        falling = falling_in nodes table number
 
         entering : Entering here.facts comes.next
         entering = enters nodes here.node e here.facts comes.next comes.edges reads is comes.leads on
@@ -217,13 +219,13 @@ module _ (laws : Laws) (library : Library) (entry : ℕ) (nodes : List Node) (ar
         counted : is_counted body.start.iterations ≡ is_some entering.taken.value
         counted = counted_covered body.start (body_start body.choice (changes_in nodes number) comes.next) (and_both _ _ body.same).0 ∙ ap (λ (facts : Facts). is_counted facts.iterations) entering.is
 
-        first_one : First_turn table (is_counted body.start.iterations) (value body.most n) begun was.went.turns
-        first_one = first_turn table (is_counted body.start.iterations) (value body.most n) begun was.went.value was.went.turns was.went.counts
-            (subst (λ v. AreTurns (value body.most n) begun v) was.went.took.value_is
-            (taken_turns n begun (turns_of here.facts) (model.arguments_of s.arguments.level) body.most was.went.took.taken body.turns_are was.went.took.took
-            (turns_are_sound (run_at n below turns) here.facts (unread_of s.world) s.world.kept s.arguments here.whole here.described)))
-            (counted ∙ (both_taken (fore_of s.world.kept) (back_of s.world.kept) (arguments_of here.facts.arguments.level) (model.arguments_of s.arguments.level) entering.taken was.went.took.taken entering.took was.went.took.took
-            (taking_is (run_at n below turns) here.facts (unread_of s.world) s.world.kept s.arguments here.whole here.described) ∙ ap (λ v. is_some v) was.went.took.value_is))
+        first_one : First_turn falling (is_counted body.start.iterations) (value body.most n) begun was.went.turns
+        first_one = first_turn falling (is_counted body.start.iterations) (value body.most n) begun was.went.value was.went.turns was.went.counts
+            (subst (λ v. AreTurns (value body.most n) (amount_of falling begun) v) was.went.took.value_is
+            (taken_turns n (amount_of falling begun) (turns_of falling here.facts) (model.arguments_of s.arguments.level) body.most was.went.took.taken body.turns_are was.went.took.took
+            (turns_are_sound (run_at library n below turns) here.facts (unread_of s.world) s.world.kept s.arguments falling here.whole here.described)))
+            (counted ∙ (both_taken (around_of s.world.kept) (arguments_of here.facts.arguments.level) (model.arguments_of s.arguments.level) entering.taken was.went.took.taken entering.took was.went.took.took
+            (taking_is (run_at library n below turns) here.facts (unread_of s.world) s.world.kept s.arguments here.whole here.described) ∙ ap (λ v. is_some v) was.went.took.value_is))
 
         abbrev turn : OpenTurn
         turn = record { begun = begun; more = first_one.more }
@@ -232,30 +234,30 @@ module _ (laws : Laws) (library : Library) (entry : ℕ) (nodes : List Node) (ar
         later = turn ∷ turns
 
         -- what is known on the way in describes the state there
-        run_is : run_along here.node.element goes.way (left_by nodes here.node) s.world (run_at n below turns) ≡ run_at n below later
+        run_is : run_along here.node.element goes.way (left_by nodes here.node) s.world (run_at library n below turns) ≡ run_at library n below later
         run_is =
-            ap (λ read. run_along read goes.way (left_by nodes here.node) s.world (run_at n below turns)) reads
-            ∙ (ap (λ way. run_along (Some e) way (left_by nodes here.node) s.world (run_at n below turns)) first
-            ∙ ap (λ k. run_by_kind k zero (left_by nodes here.node) s.world (run_at n below turns)) is)
+            ap (λ read. run_along read goes.way (left_by nodes here.node) s.world (run_at library n below turns)) reads
+            ∙ (ap (λ way. run_along (Some e) way (left_by nodes here.node) s.world (run_at library n below turns)) first
+            ∙ ap (λ k. run_by_kind k zero (left_by nodes here.node) s.world (run_at library n below turns)) is)
 
-        described_in : Describes (run_at n below later) (entered (is_some entering.taken.value) here.facts) (unread_of s.world) s.world.kept t.arguments
-        described_in = subst (λ facts. Describes (run_at n below later) facts (unread_of s.world) s.world.kept t.arguments) entering.is
-            (subst (λ (world : World). Describes (run_at n below later) comes.next (unread_of world) world.kept t.arguments) same_world
+        described_in : Describes (run_at library n below later) (entered (is_some entering.taken.value) here.facts) (unread_of s.world) s.world.kept t.arguments
+        described_in = subst (λ facts. Describes (run_at library n below later) facts (unread_of s.world) s.world.kept t.arguments) entering.is
+            (subst (λ (world : World). Describes (run_at library n below later) comes.next (unread_of world) world.kept t.arguments) same_world
             (subst (λ run. Describes run comes.next (unread_of t.world) t.world.kept t.arguments) run_is comes.described))
 
-        described_start : Describes (run_at n below later) (body_start body.choice (changes_in nodes number) (entered (is_some entering.taken.value) here.facts)) (unread_of s.world) s.world.kept t.arguments
-        described_start = body_starts_are_sound (run_at n below turns) here.facts (unread_of s.world) s.world.kept t.arguments body.choice (changes_in nodes number) (is_some entering.taken.value) here.whole
+        described_start : Describes (run_at library n below later) (body_start body.choice (changes_in nodes number) (entered (is_some entering.taken.value) here.facts)) (unread_of s.world) s.world.kept t.arguments
+        described_start = body_starts_are_sound (run_at library n below turns) here.facts (unread_of s.world) s.world.kept t.arguments body.choice (changes_in nodes number) (is_some entering.taken.value) here.whole
             (subst (λ facts. IsTrue (begins body.choice facts)) entering.is body.starts) described_in
 
-        described_there : Describes (run_at n below later) body.start (unread_of t.world) t.world.kept t.arguments
-        described_there = subst (λ (world : World). Describes (run_at n below later) body.start (unread_of world) world.kept t.arguments) (sym same_world)
-            (covers_are_sound (run_at n below later) body.start (body_start body.choice (changes_in nodes number) comes.next) (unread_of s.world) s.world.kept t.arguments here.whole (and_both _ _ body.same).0
-            (subst (λ facts. Describes (run_at n below later) (body_start body.choice (changes_in nodes number) facts) (unread_of s.world) s.world.kept t.arguments) (sym entering.is) described_start))
+        described_there : Describes (run_at library n below later) body.start (unread_of t.world) t.world.kept t.arguments
+        described_there = subst (λ (world : World). Describes (run_at library n below later) body.start (unread_of world) world.kept t.arguments) (sym same_world)
+            (covers_are_sound (run_at library n below later) body.start (body_start body.choice (changes_in nodes number) comes.next) (unread_of s.world) s.world.kept t.arguments here.whole (and_both _ _ body.same).0
+            (subst (λ facts. Describes (run_at library n below later) (body_start body.choice (changes_in nodes number) facts) (unread_of s.world) s.world.kept t.arguments) (sym entering.is) described_start))
 
-        opened_there : AreOpened table n there.stand.iterations (open_loops t) later
+        opened_there : AreOpened nodes table n there.stand.iterations (open_loops t) later
         opened_there =
             let to : open_loops t ≡ record { start = e.next; turns = was.went.turns } ∷ open_loops s = ap open_loops was.gone ∙ ap (λ (turn : Turn). turn.frame.loops ++ loops_in s.frames.callers) was.went.gone in
-            let own : IsOpened table n number (record { start = e.next; turns = was.went.turns }) turn turns = record {
+            let own : IsOpened nodes table n number (record { start = e.next; turns = was.went.turns }) turn turns = record {
               facts = here.facts;
               start = body.start;
               choice = body.choice;
@@ -263,11 +265,13 @@ module _ (laws : Laws) (library : Library) (entry : ℕ) (nodes : List Node) (ar
               started = body.started;
               chosen = body.chosen;
               more = first_one.is;
-              falls = each_length (HasFallen begun) here.facts.position.falls (map begun_of turns) here.described.state.position.fallen ∙ length-map turns begun_of;
-              ahead = λ k. here.described.state.position.ahead;
-              fallen = λ k. here.described.state.position.fallen;
+              carried = record {
+                ahead = λ k. here.described.state.position.ahead;
+                falls = λ k. fell_before (around_of s.world.kept) (unread_of s.world) here.facts.position.falls (map begun_of turns) here.described.state.position.fallen;
+                rests = rests_of (around_of s.world.kept) (unread_of s.world) here.facts.position.falls (map begun_of turns) here.described.state.position.fallen;
+              };
             } in
-            subst (λ ls. AreOpened table n ls (open_loops t) later) (sym into.1) (subst (λ ls. AreOpened table n (number ∷ here.node.stand.iterations) ls later) (sym to) (own, here.opened))
+            subst (λ ls. AreOpened nodes table n ls (open_loops t) later) (sym into.1) (subst (λ ls. AreOpened nodes table n (number ∷ here.node.stand.iterations) ls later) (sym to) (own, here.opened))
 
         started_at : facts_at table goes.target ≡ Some body.start
         started_at = ap (facts_at table) into.0 ∙ body.started
@@ -275,10 +279,10 @@ module _ (laws : Laws) (library : Library) (entry : ℕ) (nodes : List Node) (ar
         ends_ahead : number < end_of nodes number
         ends_ahead = let all = subst (AllByRecursion (λ b. goes.target ≤ end_of nodes b)) into.1 (closed.ahead goes.target there at) in omega (arith, all.0, into.0)
 
-        few : first_one.more < value_of n (turns_at table number)
+        few : first_one.more < value_of n (turns_at nodes table number)
         few = omega (arith, first_one.few, turns_known nodes table n number here.facts body.start here.known body.started body.most body.turns_are)
 
-        entering_it : moves.Enters (turning nodes table n) (shown number here.node.stand.iterations turns s.world) (shown goes.target there.stand.iterations later t.world)
+        entering_it : moves.Enters (turning nodes table n) (shown nodes table number here.node.stand.iterations turns s.world) (shown nodes table goes.target there.stand.iterations later t.world)
         entering_it = record {
           is_loop = ends_ahead;
           node = into.0;

@@ -16,7 +16,7 @@ use Rattle.teco_verifier.specs.expansion.Ends.{end_of}
 use Rattle.teco_law_expansion.specs.Ends.{AreClosed, LeftHaveEnded}
 use Rattle.teco_law_expansion.specs.Iterations.{AreOpen, IterationsAreOpen}
 use Rattle.teco_law_expansion.specs.Leading.{LeadsBy, place_at, WaysLead}
-use Rattle.teco_model.specs.Macros.{Library, IsLoaded}
+use Rattle.teco_model.specs.Macros.{Library, IsLoaded, is_macro}
 use Rattle.teco_law_expansion.specs.Linked.{AreLinked}
 use Rattle.teco_verifier.specs.expansion.Node.{Stand, Node, over, stand_of_node, stands, numbered, stand_at}
 use Rattle.teco_verifier.specs.expansion.Position.{Position, position_of}
@@ -25,7 +25,7 @@ use Rattle.teco_poly.proofs.Lawful.{values_compare}
 use Rattle.teco_poly.specs.Polynomial.{value}
 use Rattle.teco_law_facts.proofs.Covering.{and_both, covers_are_sound}
 use Rattle.teco_verifier.specs.facts.Covers.{covers}
-use Rattle.teco_law_facts.specs.Describes.{Run, run_behind, IsWhole, Describes}
+use Rattle.teco_law_facts.specs.Describes.{Run, run_behind, IsWhole, Describes, Begun}
 use Rattle.teco_verifier.specs.facts.Facts.{Facts}
 use Rattle.teco_verifier.specs.facts.Flows.{Edges}
 use Rattle.teco_model.specs.Paging.{unread_of}
@@ -155,8 +155,8 @@ run_behind_way : (read : Option Element) (way between : ℕ) (world : World) (ru
 run_behind_way None way between world run h = refl
 run_behind_way (Some e) way between world run h = run_kind e.kind way between world run h
 
-run_dropped : (left n : ℕ) (below : List Pair) (turns : List OpenTurn) → run_behind left (run_at n below turns) ≡ run_at n below (drop left turns)
-run_dropped left n below turns = ap (λ (begun : List ℕ). record { n = n; turns = begun; below = below }) (begun_dropped left turns)
+run_dropped : (library : Library) (left n : ℕ) (below : List Pair) (turns : List OpenTurn) → run_behind left (run_at library n below turns) ≡ run_at library n below (drop left turns)
+run_dropped library left n below turns = ap (λ (begun : List Begun). record { n = n; library = is_macro library; turns = begun; below = below }) (begun_dropped left turns)
 
 -- the iterations that are open stay while an element goes on
 same_loops : (read : Option Element) (s last : State) → IsLast read s last → open_loops last ≡ open_loops s
@@ -170,7 +170,7 @@ pub record Laws : Type 0 where
   pub lead : WaysLead
 
 module _ (laws : Laws) (library : Library) (entry : ℕ) (nodes : List Node) (are : AreLinked library entry nodes) (closed : AreClosed nodes) (table : Table) (n : ℕ) (below : List Pair) (passes : check_nodes nodes table ≡ Ok tt) where
-  module _ (number : ℕ) (turns : List OpenTurn) (s last t : State) (here : IsDescribed library nodes table n below number turns s) (again : IsLast here.node.element s last) (goes : GoesTo (stands nodes entry) number here.node last t) (comes : Comes nodes here.node here.facts goes.way (run_at n below turns) s t) (loaded : IsLoaded library t.world.kept) (whole : IsWhole t.world.kept) where
+  module _ (number : ℕ) (turns : List OpenTurn) (s last t : State) (here : IsDescribed library nodes table n below number turns s) (again : IsLast here.node.element s last) (goes : GoesTo (stands nodes entry) number here.node last t) (comes : Comes nodes here.node here.facts goes.way (run_at library n below turns) s t) (loaded : IsLoaded library t.world.kept) (whole : IsWhole t.world.kept) where
     module _ (there : Node) (at : numbered nodes goes.target ≡ Some there) (stand : there.stand ≡ stand_at number here.node.stand (position_of t)) where
       pub stands_there : there.stand.position ≡ position_of t
       stands_there = ap (λ (stand : Stand). stand.position) stand
@@ -183,7 +183,7 @@ module _ (laws : Laws) (library : Library) (entry : ℕ) (nodes : List Node) (ar
           (subst (λ (p : Position). AreOpen nodes entry goes.target (p.running ∷ p.callers) there.stand.iterations) stands_there (laws.open_at library entry nodes goes.target there are at))
 
       many_here : (length here.node.stand.iterations ≡ length (open_loops s)) × (length here.node.stand.iterations ≡ length turns)
-      many_here = opened_length table n here.node.stand.iterations (open_loops s) turns here.opened
+      many_here = opened_length nodes table n here.node.stand.iterations (open_loops s) turns here.opened
 
       between_is : goes.way ≡ 0 → left_by nodes here.node ≡ length here.node.stand.iterations - length there.stand.iterations
       between_is z =
@@ -208,16 +208,16 @@ module _ (laws : Laws) (library : Library) (entry : ℕ) (nodes : List Node) (ar
         abbrev later : List OpenTurn
         later = drop left turns
 
-        described_there : Describes (run_at n below later) comes.next (unread_of t.world) t.world.kept t.arguments
+        described_there : Describes (run_at library n below later) comes.next (unread_of t.world) t.world.kept t.arguments
         described_there = subst (λ run. Describes run comes.next (unread_of t.world) t.world.kept t.arguments)
-            (run_behind_way here.node.element goes.way (left_by nodes here.node) s.world (run_at n below turns) plain ∙ run_dropped left n below turns)
+            (run_behind_way here.node.element goes.way (left_by nodes here.node) s.world (run_at library n below turns) plain ∙ run_dropped library left n below turns)
             comes.described
 
         covered : Covered nodes table goes.target comes.next
         covered = way_covered nodes table number here.node here.facts comes.next comes.edges goes.way goes.target passes here.at here.known comes.leads goes.taken plain comes.on_way (not_behind nodes table goes.target (number_within nodes goes.target there at).1)
 
-        described_again : Describes (run_at n below later) covered.facts (unread_of t.world) t.world.kept t.arguments
-        described_again = covers_are_sound (run_at n below later) covered.facts comes.next (unread_of t.world) t.world.kept t.arguments whole covered.covered described_there
+        described_again : Describes (run_at library n below later) covered.facts (unread_of t.world) t.world.kept t.arguments
+        described_again = covers_are_sound (run_at library n below later) covered.facts comes.next (unread_of t.world) t.world.kept t.arguments whole covered.covered described_there
 
         held_there : held_at nodes table n goes.target ≡ value covered.facts.held n
         held_there = held_known nodes table n goes.target covered.facts covered.known
@@ -239,7 +239,7 @@ module _ (laws : Laws) (library : Library) (entry : ℕ) (nodes : List Node) (ar
         falls = subst (AllByRecursion (λ b. FallFollows (if number == suc b then Some (pos 0) else None) (if goes.target == suc b then Some (pos 0) else None) (held_of s.world) (held_of t.world))) (sym is_ahead.1)
             (no_falls (λ b. if number == suc b then Some (pos 0) else None) goes.target (held_of s.world) (held_of t.world) number (drop left here.node.stand.iterations) is_ahead.0 (descend_dropped left number here.node.stand.iterations (closed.descend number here.node here.at)))
 
-        going : Goes (turning nodes table n) (shown number here.node.stand.iterations turns s.world) (shown goes.target there.stand.iterations later t.world)
+        going : Goes (turning nodes table n) (shown nodes table number here.node.stand.iterations turns s.world) (shown nodes table goes.target there.stand.iterations later t.world)
         going = record {
           later = is_ahead.0;
           inside = omega (arith, number_within nodes goes.target there at);
@@ -251,10 +251,10 @@ module _ (laws : Laws) (library : Library) (entry : ℕ) (nodes : List Node) (ar
           falls = subst (λ ls. AllByRecursion (λ b. FallFollows (if number == suc b then Some (pos 0) else None) (if goes.target == suc b then Some (pos 0) else None) (held_of s.world) (held_of t.world)) ls) (sym (iterations_are nodes goes.target there at)) falls;
         }
 
-        opened_there : AreOpened table n there.stand.iterations (open_loops t) later
-        opened_there = subst (λ ls. AreOpened table n ls (open_loops t) later) (sym is_ahead.1)
-            (subst (λ ls. AreOpened table n (drop left here.node.stand.iterations) ls later) (sym loops_there)
-            (opened_dropped table n left here.node.stand.iterations (open_loops s) turns here.opened))
+        opened_there : AreOpened nodes table n there.stand.iterations (open_loops t) later
+        opened_there = subst (λ ls. AreOpened nodes table n ls (open_loops t) later) (sym is_ahead.1)
+            (subst (λ ls. AreOpened nodes table n (drop left here.node.stand.iterations) ls later) (sym loops_there)
+            (opened_dropped nodes table n left here.node.stand.iterations (open_loops s) turns here.opened))
 
         pub goes_on : MovesOn library nodes table n below number here.node turns s goes.target t
         goes_on = record {

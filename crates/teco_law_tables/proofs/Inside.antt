@@ -3,6 +3,8 @@ use Rattle.std.proofs.Common.{◌≡◌, ℕ, ◌≤◌, ◌<◌, refl, sym, ap,
 use Rattle.std.specs.Prelude.{IsTrue}
 use Rattle.std.specs.List.{AllByRecursion}
 use Rattle.std.specs.Option.{option_map_or}
+use Rattle.teco_law_tables.specs.Following.{falling_in, OpenTurn, loops_in, AreMore, IsOpened, AreOpened, IsDescribed}
+use Rattle.teco_verifier.specs.declared.falls.Rank.{Rank}
 use Rattle.teco_model.specs.declared.flow.Loop.{Loop}
 use Rattle.teco_model.specs.declared.kind.Flow.{Flow}
 use Rattle.teco_model.specs.declared.kind.Flow.TheVariants as flow
@@ -32,7 +34,6 @@ use Rattle.teco_law_facts.specs.SoundSteps.{IsInside, LeadsAhead, FlowStands, Ki
 use Rattle.teco_verifier.specs.facts.Transfer.{search_allowed, without_answer}
 use Rattle.teco_verifier.specs.table.Behind.{is_inside, placed, edges_at}
 use Rattle.teco_verifier.specs.table.Closed.{is_counted, is_known_in, check_nodes}
-use Rattle.teco_law_tables.specs.Following.{OpenTurn, loops_in, AreMore, IsOpened, AreOpened, IsDescribed}
 use Rattle.teco_verifier.specs.table.Table.{Table}
 use Rattle.teco_verifier.specs.table.Written.{changes_in}
 use Rattle.teco_law_tables.proofs.Coming.{HasLoop}
@@ -47,19 +48,19 @@ has_loop : (frame : Frame) (loops : List Loop) → frame.loops ≡ loops → Has
 has_loop frame [] e h = absurd h
 has_loop frame (loop ∷ outer) e h = record { loop = loop; outer = outer; is = e }
 
-record Head (table : Table) (n : ℕ) (begins : List ℕ) (loop : Loop) : Type 0 where
+record Head (nodes : List Node) (table : Table) (n : ℕ) (begins : List ℕ) (loop : Loop) : Type 0 where
   begin : ℕ
   outer : List ℕ
   turn : OpenTurn
   turns : List OpenTurn
   is : begins ≡ begin ∷ outer
-  own : IsOpened table n begin loop turn turns
+  own : IsOpened nodes table n begin loop turn turns
 
-head : (table : Table) (n : ℕ) (begins : List ℕ) (loop : Loop) (loops : List Loop) (turns : List OpenTurn) → AreOpened table n begins (loop ∷ loops) turns → Head table n begins loop
-head table n [] loop loops [] h = absurd h
-head table n [] loop loops (t ∷ turns) h = absurd h
-head table n (b ∷ begins) loop loops [] h = absurd h
-head table n (b ∷ begins) loop loops (t ∷ turns) h = record { begin = b; outer = begins; turn = t; turns = turns; is = refl; own = h.0 }
+head : (nodes : List Node) (table : Table) (n : ℕ) (begins : List ℕ) (loop : Loop) (loops : List Loop) (turns : List OpenTurn) → AreOpened nodes table n begins (loop ∷ loops) turns → Head nodes table n begins loop
+head nodes table n [] loop loops [] h = absurd h
+head nodes table n [] loop loops (t ∷ turns) h = absurd h
+head nodes table n (b ∷ begins) loop loops [] h = absurd h
+head nodes table n (b ∷ begins) loop loops (t ∷ turns) h = record { begin = b; outer = begins; turn = t; turns = turns; is = refl; own = h.0 }
 
 record NotEmpty (is : List Iteration) : Type 0 where
   one : Iteration
@@ -82,18 +83,18 @@ iterations_covered facts edge c =
     let s = and_both _ _ r.0 in
     (and_both _ _ s.0).1
 
-counted_where : (left : Option ℕ) (counted : Bool) (turn : OpenTurn) (turns : ℕ) → left ≡ Some turns → AreMore left counted turn → counted ≡ true
-counted_where None counted turn turns e h = absurd (cc)
-counted_where (Some left) counted turn turns e h = h.0
+counted_where : (falling : Option Rank) (left : Option ℕ) (counted : Bool) (turn : OpenTurn) (turns : ℕ) → left ≡ Some turns → AreMore falling left counted turn → counted ≡ true
+counted_where falling None counted turn turns e h = absurd (cc)
+counted_where falling (Some left) counted turn turns e h = h.0
 
 module _ (library : Library) (entry : ℕ) (nodes : List Node) (table : Table) (n : ℕ) (below : List Pair) (are : AreLinked library entry nodes) (closed : AreClosed nodes) (passes : check_nodes nodes table ≡ Ok tt) (number : ℕ) (turns : List OpenTurn) (s : State) (here : IsDescribed library nodes table n below number turns s) where
   loop_there : HasStart here.node.stand.position.running.starts → HasLoop s.frames.running
   loop_there h = has_loop s.frames.running s.frames.running.loops refl (subst HasStart (ap (λ (p : Position). p.running.starts) here.position) h)
 
   module _ (has : HasLoop s.frames.running) where
-    top : Head table n here.node.stand.iterations has.loop
-    top = head table n here.node.stand.iterations has.loop (has.outer ++ loops_in s.frames.callers) turns
-        (subst (λ (ls : List Loop). AreOpened table n here.node.stand.iterations (ls ++ loops_in s.frames.callers) turns) has.is here.opened)
+    top : Head nodes table n here.node.stand.iterations has.loop
+    top = head nodes table n here.node.stand.iterations has.loop (has.outer ++ loops_in s.frames.callers) turns
+        (subst (λ (ls : List Loop). AreOpened nodes table n here.node.stand.iterations (ls ++ loops_in s.frames.callers) turns) has.is here.opened)
 
     before : top.begin < number
     before = (subst (Descend number) top.is (closed.descend number here.node here.at)).0
@@ -131,7 +132,7 @@ module _ (library : Library) (entry : ℕ) (nodes : List Node) (table : Table) (
       iteration = here_some.one;
       others = here_some.others;
       iterations = here_some.are;
-      counted = λ left e. sym (ap is_counted here_some.are) ∙ (sym (counted_by top.own.start.iterations here.facts.iterations same_there) ∙ counted_where has.loop.turns (is_counted top.own.start.iterations) top.turn left e top.own.more);
+      counted = λ left e. sym (ap is_counted here_some.are) ∙ (sym (counted_by top.own.start.iterations here.facts.iterations same_there) ∙ counted_where (falling_in nodes table top.begin) has.loop.turns (is_counted top.own.start.iterations) top.turn left e top.own.more);
     }
 
   module _ (e : Element) (reads : here.node.element ≡ Some e) (edges : Edges) (leads : edges_at nodes here.node here.facts ≡ Ok edges) where

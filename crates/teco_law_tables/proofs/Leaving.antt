@@ -1,7 +1,6 @@
 -- The open iterations behind a step that begins no turn: some are left, the others stay.
 use Rattle.std.proofs.Common.{◌≡◌, ℕ, ℤ, zero, suc, ◌-◌, inl, inr, refl, sym, ap, ◌∙◌, arith, List, [], ◌∷◌, ◌++◌, drop, length, false, Option, Some, None, Result, Ok, Err, length-append, length-drop}
 use Rattle.teco_base.specs.declared.code.Code.{Code}
-use Rattle.teco_model.specs.declared.arguments.Taken.{Taken}
 use Rattle.teco_model.specs.declared.flow.Loop.{Loop}
 use Rattle.teco_model.specs.declared.kind.Kind.{Kind}
 use Rattle.teco_model.specs.declared.kind.Kind.TheVariants as kind
@@ -11,14 +10,17 @@ use Rattle.teco_model.specs.declared.kind.Flow.{Flow}
 use Rattle.teco_model.specs.declared.kind.Flow.TheVariants as flow
 use Rattle.teco_model.specs.declared.kind.Page.{Page}
 use Rattle.teco_model.specs.declared.kind.Page.TheVariants as page
-use Rattle.teco_model.specs.Arguments.{Arguments}
+use Rattle.teco_model.specs.Arguments.{Arguments, arguments_of, levels_after_taking}
 use Rattle.teco_model.specs.Element.{Element}
 use Rattle.teco_model.specs.Flow.{Turn}
-use Rattle.teco_model.specs.Going.{After, outcome_behind, taking}
-use Rattle.teco_model.specs.Outside.{world_outcome, pages_outcome, pages_behind, pages_done, pages_outcome_of, append_outcome, opened_outcome, exit_outcome, page_outcome, file_outcome}
-use Rattle.teco_model.specs.Paging.{Progress, page_turned, page_written}
+use Rattle.std.specs.Prelude.{⊤}
+use Rattle.teco_model.specs.Checked.{◌>>=◌}
+use Rattle.teco_model.specs.Filing.{open_input, open_output, close_output, copy_all}
+use Rattle.teco_model.specs.Going.{After, Course, Behind, Again, Along, Into, Quit, NoFile, Refused, Reply, on_editor, settled, settle}
+use Rattle.teco_model.specs.Outside.{going_on, while_left, in_pages, pages_reply, append_reply, page_reply, opened, filed}
+use Rattle.teco_model.specs.Paging.{Progress, append, yank, pages, one_page_of, page_turned, page_written}
 use Rattle.teco_model.specs.State.{World, Frame, State, Next}
-use Rattle.teco_model.specs.Step.{outcome_of}
+use Rattle.teco_model.specs.Step.{reply_of}
 use Rattle.teco_law_expansion.specs.Turns.{Jumps, Went}
 use Rattle.teco_law_expansion.specs.Was.{ElementWas, StepWas}
 use Rattle.teco_verifier.specs.table.Behind.{turns_by_flow, turns_by_kind, begins_turn}
@@ -29,57 +31,71 @@ same : (s t : State) → Next s ≡ Next t → open_loops t ≡ open_loops s
 same s t h = let e : s ≡ t = cc in ap open_loops (sym e)
 
 -- ---- elements that only go on
-behind : (e : Element) (s t : State) (r : Result After Code) → outcome_behind e s r ≡ Next t → open_loops t ≡ open_loops s
-behind e s t (Err c) h = absurd (cc)
-behind e s t (Ok done) h = same _ t h
+-- the running text and those that wait go on
+abbrev IsStraight : Course → Type 0
+IsStraight (Along frame) = ⊥
+IsStraight (Into text) = ⊥
+IsStraight course = ⊤
 
-world_behind : (e : Element) (s t : State) (r : Result World Code) → world_outcome e s r ≡ Next t → open_loops t ≡ open_loops s
-world_behind e s t (Err c) h = absurd (cc)
-world_behind e s t (Ok world) h = same _ t h
+abbrev GoesStraight : Result Reply Code → Type 0
+GoesStraight (Ok reply) = IsStraight reply.course
+GoesStraight (Err c) = ⊤
 
-left_behind : (e : Element) (s t : State) (world : World) (n : ℕ) → pages_behind e s world n ≡ Next t → open_loops t ≡ open_loops s
-left_behind e s t world zero h = same _ t h
-left_behind e s t world (suc n) h = same _ t h
+settled_behind : (e : Element) (s t : State) (reply : Reply) (course : Course) → IsStraight course → settled e s.frames reply course ≡ Next t → open_loops t ≡ open_loops s
+settled_behind e s t reply Behind i h = same _ t h
+settled_behind e s t reply Again i h = same _ t h
+settled_behind e s t reply (Along frame) i h = absurd i
+settled_behind e s t reply (Into text) i h = absurd i
+settled_behind e s t reply Quit i h = absurd (cc)
+settled_behind e s t reply NoFile i h = absurd (cc)
+settled_behind e s t reply (Refused c) i h = absurd (cc)
 
-done_behind : (e : Element) (s t : State) (r : Result Progress Code) → pages_outcome e s r ≡ Next t → open_loops t ≡ open_loops s
-done_behind e s t (Err c) h = absurd (cc)
-done_behind e s t (Ok done) h = left_behind e s t done.world done.left h
+settle_behind : (e : Element) (s t : State) (r : Result Reply Code) → GoesStraight r → settle e s r ≡ Next t → open_loops t ≡ open_loops s
+settle_behind e s t (Err c) i h = absurd (cc)
+settle_behind e s t (Ok reply) i h = settled_behind e s t reply reply.course i h
 
-pages_gone : (one_page : World → Result World Code) (e : Element) (s t : State) (left : Option ℕ) → pages_outcome_of one_page e s left ≡ Next t → open_loops t ≡ open_loops s
-pages_gone one_page e s t None h = done_behind e (taking s) t (pages_done one_page s) h
-pages_gone one_page e s t (Some n) h = done_behind e s t _ h
+then : {X : Type 0} (r : Result X Code) (f : X → Result Reply Code) → ((x : X) → GoesStraight (f x)) → GoesStraight (r >>= f)
+then (Ok x) f k = k x
+then (Err c) f k = tt
 
-value_behind : (e : Element) (s t : State) (taken : Taken) (value : Option ℤ) → taken.value ≡ value → append_outcome e s (Ok taken) ≡ Next t → open_loops t ≡ open_loops s
-value_behind e s t taken None v h =
-    world_behind e s t _ (sym (ap (λ value. append_outcome e s (Ok (record taken { value = value }))) v) ∙ h)
-value_behind e s t taken (Some n) v h = same _ t (sym (ap (λ value. append_outcome e s (Ok (record taken { value = value }))) v) ∙ h)
+on_editor_goes : (left : Option ℕ) (world : World) (r : Result After Code) → GoesStraight (on_editor left world r)
+on_editor_goes left world r = then r _ (λ done. tt)
 
-append_behind : (e : Element) (s t : State) (r : Result Taken Code) → append_outcome e s r ≡ Next t → open_loops t ≡ open_loops s
-append_behind e s t (Err c) h = absurd (cc)
-append_behind e s t (Ok taken) h = value_behind e s t taken taken.value refl h
+world_goes : (left : Option ℕ) (arguments : Arguments) (r : Result World Code) → GoesStraight (going_on left arguments r)
+world_goes left arguments r = then r _ (λ world. tt)
 
-page_behind : (p : Page) (e : Element) (s t : State) → page_outcome p e s ≡ Next t → open_loops t ≡ open_loops s
-page_behind page.Yank e s t h = world_behind e (taking s) t _ h
-page_behind page.Append e s t h = append_behind e (taking s) t _ h
-page_behind page.Next e s t h = pages_gone page_turned e s t s.left h
-page_behind page.Write e s t h = pages_gone page_written e s t s.left h
+left_goes : (n : ℕ) (arguments : Arguments) (world : World) → IsStraight (while_left n arguments world).course
+left_goes zero arguments world = tt
+left_goes (suc n) arguments world = tt
 
-opened_behind : (e : Element) (s t : State) (r : Result (Option World) Code) → opened_outcome e s r ≡ Next t → open_loops t ≡ open_loops s
-opened_behind e s t (Err c) h = absurd (cc)
-opened_behind e s t (Ok None) h = absurd (cc)
-opened_behind e s t (Ok (Some world)) h = same _ t h
+done_goes : (arguments : Arguments) (r : Result Progress Code) → GoesStraight (in_pages arguments r)
+done_goes arguments r = then r _ (λ done. left_goes done.left arguments done.world)
 
-never_behind : (s t : State) (r : Result Taken Code) → exit_outcome s r ≡ Next t → open_loops t ≡ open_loops s
-never_behind s t (Err c) h = absurd (cc)
-never_behind s t (Ok taken) h = absurd (cc)
+pages_go : (one_page : World → Result World Code) (left : Option ℕ) (arguments : Arguments) (world : World) → GoesStraight (pages_reply one_page left arguments world)
+pages_go one_page None arguments world = then (arguments_of arguments.level) (λ taken. in_pages (levels_after_taking arguments) (pages one_page taken world)) (λ taken. done_goes (levels_after_taking arguments) (pages one_page taken world))
+pages_go one_page (Some n) arguments world = done_goes arguments (one_page_of one_page n world)
 
-file_behind : (f : File) (e : Element) (s t : State) → file_outcome f e s ≡ Next t → open_loops t ≡ open_loops s
-file_behind file.Read e s t h = opened_behind e (taking s) t _ h
-file_behind file.Write e s t h = world_behind e (taking s) t _ h
-file_behind file.Close e s t h = world_behind e (taking s) t _ h
-file_behind file.Abandon e s t h = world_behind e (taking s) t _ h
-file_behind file.Copy e s t h = world_behind e (taking s) t _ h
-file_behind file.Exit e s t h = never_behind s t _ h
+append_goes : (value : Option ℤ) (left : Option ℕ) (arguments : Arguments) (world : World) → GoesStraight (append_reply value left arguments world)
+append_goes None left arguments world = world_goes left arguments (append world)
+append_goes (Some n) left arguments world = tt
+
+page_goes : (p : Page) (left : Option ℕ) (arguments : Arguments) (world : World) → GoesStraight (page_reply p left arguments world)
+page_goes page.Yank left arguments world = then (arguments_of arguments.level) (λ taken. going_on left (levels_after_taking arguments) (yank world)) (λ taken. world_goes left (levels_after_taking arguments) (yank world))
+page_goes page.Append left arguments world = then (arguments_of arguments.level) (λ taken. append_reply taken.value left (levels_after_taking arguments) world) (λ taken. append_goes taken.value left (levels_after_taking arguments) world)
+page_goes page.Next left arguments world = pages_go page_turned left arguments world
+page_goes page.Write left arguments world = pages_go page_written left arguments world
+
+opened_goes : (left : Option ℕ) (arguments : Arguments) (world : World) (found : Option World) → IsStraight (opened left arguments world found).course
+opened_goes left arguments world None = tt
+opened_goes left arguments world (Some new) = tt
+
+filed_goes : (f : File) (name : List ℕ) (left : Option ℕ) (arguments : Arguments) (world : World) → GoesStraight (filed f name left arguments world)
+filed_goes file.Read name left arguments world = then (open_input name world) _ (opened_goes left arguments world)
+filed_goes file.Write name left arguments world = world_goes left arguments (open_output name world)
+filed_goes file.Close name left arguments world = world_goes left arguments (close_output world)
+filed_goes file.Abandon name left arguments world = tt
+filed_goes file.Copy name left arguments world = world_goes left arguments (copy_all world)
+filed_goes file.Exit name left arguments world = tt
 
 -- ---- flow
 drop_some : {X : Type 0} (left : ℕ) (xs ys : List X) → drop left xs ++ ys ≡ drop (length (xs ++ ys) - length (drop left xs ++ ys)) (xs ++ ys)
@@ -128,7 +144,7 @@ module _ (e : Element) (frame : Frame) (turn : Turn) (rest : List Loop) (between
 -- ---- any element
 module _ (e : Element) (s t : State) (between : ℕ) where
   pub kind_loops : (k : Kind) (way : ℕ) → (way ≡ 0 → between ≡ length (open_loops s) - length (open_loops t)) → ElementWas k way e s t → turns_by_kind k way ≡ false → open_loops t ≡ drop (left_by_kind k way between) (open_loops s)
-  unfolding outcome_of
+  unfolding reply_of
   kind_loops (kind.Call c) zero b w x = ap open_loops w
   kind_loops (kind.Call c) (suc way) b w x = absurd w
   kind_loops (kind.Flow f) way b w x =
@@ -140,13 +156,13 @@ module _ (e : Element) (s t : State) (between : ℕ) where
       ap (λ frames. loops_in (frames.running ∷ frames.callers)) w.frames_are
       ∙ leaves e s.frames.running w.turn (loops_in s.frames.callers) between w.loop w.outer w.inside (jumps e s.frames.running w.turn (loops_in s.frames.callers) between 1 _ w.jumps ∙ ap (drop 1) w.inside)
   kind_loops (kind.Search c) (suc (suc way)) b w x = absurd w
-  kind_loops (kind.Argument a) zero b w x = behind e s t _ w
-  kind_loops (kind.Value v) zero b w x = behind e s t _ w
-  kind_loops (kind.Query q) zero b w x = behind e s t _ w
-  kind_loops (kind.Stack c) zero b w x = behind e s t _ w
-  kind_loops (kind.Command c) zero b w x = behind e s t _ w
-  kind_loops (kind.Page p) zero b w x = page_behind p e s t w
-  kind_loops (kind.File f) zero b w x = file_behind f e s t w
+  kind_loops (kind.Argument a) zero b w x = settle_behind e s t _ (on_editor_goes s.left s.world _) w
+  kind_loops (kind.Value v) zero b w x = settle_behind e s t _ (on_editor_goes s.left s.world _) w
+  kind_loops (kind.Query q) zero b w x = settle_behind e s t _ (on_editor_goes s.left s.world _) w
+  kind_loops (kind.Stack c) zero b w x = settle_behind e s t _ (on_editor_goes s.left s.world _) w
+  kind_loops (kind.Command c) zero b w x = settle_behind e s t _ (on_editor_goes s.left s.world _) w
+  kind_loops (kind.Page p) zero b w x = settle_behind e s t _ (page_goes p s.left s.arguments s.world) w
+  kind_loops (kind.File f) zero b w x = settle_behind e s t _ (then (arguments_of s.arguments.level) (λ taken. filed f e.text s.left (levels_after_taking s.arguments) s.world) (λ taken. filed_goes f e.text s.left (levels_after_taking s.arguments) s.world)) w
   kind_loops k (suc way) b w x = absurd w
 
 pub step_loops : (read : Option Element) (way : ℕ) (s t : State) (between : ℕ) → (way ≡ 0 → between ≡ length (open_loops s) - length (open_loops t)) → StepWas read way s t → begins_turn read way ≡ false → open_loops t ≡ drop (left_along read way between) (open_loops s)

@@ -16,6 +16,7 @@ mod Walking
 mod Underway
 mod Ending
 mod Worked
+mod SecondWorked
 mod Coming
 mod Fitting
 mod Leading

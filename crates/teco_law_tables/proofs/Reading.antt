@@ -1,6 +1,8 @@
 -- What a check that passed says at a node.
 use Rattle.std.proofs.Common.{◌≡◌, ℕ, zero, suc, ◌+◌, refl, sym, ap, ◌∙◌, subst, arith, List, [], ◌∷◌, Bool, true, false, is_none, not, ◌||◌, if◌then◌else◌, Option, Some, None, Result, Ok, Err, slice_get}
 use Rattle.std.specs.Prelude.{IsTrue}
+use Rattle.teco_law_tables.specs.Following.{falling_in}
+use Rattle.teco_verifier.specs.facts.Facts.{Entry, Facts}
 use Rattle.teco_model.specs.declared.kind.Flow.TheVariants as flow
 use Rattle.teco_model.specs.declared.kind.Kind.TheVariants as kind
 use Rattle.teco_model.specs.Element.{Element}
@@ -8,10 +10,8 @@ use Rattle.teco_verifier.specs.expansion.Ends.{end_of}
 use Rattle.teco_verifier.specs.expansion.Node.{Node, numbered}
 use Rattle.teco_poly.specs.Polynomial.{Polynomial}
 use Rattle.teco_law_facts.proofs.Covering.{and_both}
-use Rattle.teco_model.specs.Macros.{ArgumentRange}
 use Rattle.teco_verifier.specs.declared.refusal.Refusal.{Refusal}
 use Rattle.teco_verifier.specs.facts.Bodies.{Choice, body_start, stands}
-use Rattle.teco_verifier.specs.facts.Facts.{Facts}
 use Rattle.teco_verifier.specs.facts.Flows.{Edges, turns}
 use Rattle.teco_verifier.specs.table.Behind.{edges_at}
 use Rattle.teco_verifier.specs.table.Closed.{say_same, is_entry, is_counted, body_stands, is_entered, enters_by, enters_at, closed_behind, begins_by_kind, begins_iteration, closed_where, closed_at, check_from, check_nodes, check}
@@ -41,13 +41,13 @@ module _ (nodes : List Node) (table : Table) where
   passes_entry true r h = (refl, h)
   passes_entry false r h = absurd (cc)
 
-  pub entry_checked : (argument : Option ArgumentRange) → check argument nodes table ≡ Ok tt → is_entry argument (facts_at table 1) ≡ true
+  pub entry_checked : (entry : Entry) → check entry nodes table ≡ Ok tt → is_entry entry (facts_at table 1) ≡ true
   unfolding check
-  entry_checked argument h = (passes_entry (is_entry argument (facts_at table 1)) (check_nodes nodes table) h).0
+  entry_checked entry h = (passes_entry (is_entry entry (facts_at table 1)) (check_nodes nodes table) h).0
 
-  pub nodes_checked : (argument : Option ArgumentRange) → check argument nodes table ≡ Ok tt → check_nodes nodes table ≡ Ok tt
+  pub nodes_checked : (entry : Entry) → check entry nodes table ≡ Ok tt → check_nodes nodes table ≡ Ok tt
   unfolding check
-  nodes_checked argument h = (passes_entry (is_entry argument (facts_at table 1)) (check_nodes nodes table) h).1
+  nodes_checked entry h = (passes_entry (is_entry entry (facts_at table 1)) (check_nodes nodes table) h).1
 
   pub node_checked : (k : ℕ) (node : Node) → check_nodes nodes table ≡ Ok tt → numbered nodes k ≡ Some node → closed_at nodes table k node ≡ true
   unfolding check_nodes
@@ -67,13 +67,13 @@ module _ (nodes : List Node) (table : Table) where
     pub leads : edges_at nodes node facts ≡ Ok edges
     pub on : edges.on ≡ Some entering
     pub chosen : choice_at table begin ≡ Some choice
-    pub turns_are : turns facts ≡ Ok most
+    pub turns_are : turns (falling_in nodes table begin) facts ≡ Ok most
     pub same : IsTrue (say_same start (body_start choice (changes_in nodes begin) entering))
     pub stands_there : IsTrue (stands choice (changes_in nodes begin) (is_counted entering.iterations) most entering (facts_at table (end_of nodes begin)))
 
   module _ (begin : ℕ) (node : Node) (start : Facts) (there : facts_at table (suc begin) ≡ Some start) where
     stand_of_body : (facts : Facts) (edges : Edges) (entering : Facts) → facts_at table begin ≡ Some facts → edges_at nodes node facts ≡ Ok edges → edges.on ≡ Some entering →
-        (c : Option Choice) → choice_at table begin ≡ c → (r : Result Polynomial Refusal) → turns facts ≡ r → body_stands (changes_in nodes begin) (facts_at table (end_of nodes begin)) entering (Some start) c r ≡ true → Body begin node start
+        (c : Option Choice) → choice_at table begin ≡ c → (r : Result Polynomial Refusal) → turns (falling_in nodes table begin) facts ≡ r → body_stands (changes_in nodes begin) (facts_at table (end_of nodes begin)) entering (Some start) c r ≡ true → Body begin node start
     stand_of_body facts edges entering known leads on None chosen r t h = absurd (cc)
     stand_of_body facts edges entering known leads on (Some choice) chosen (Err why) t h = absurd (cc)
     stand_of_body facts edges entering known leads on (Some choice) chosen (Ok most) t h =
@@ -85,7 +85,7 @@ module _ (nodes : List Node) (table : Table) where
     on_body facts edges known leads None on h = let z : false ≡ true = ap is_none (sym there) ∙ h in absurd (cc)
     on_body facts edges known leads (Some entering) on h =
         stand_of_body facts edges entering known leads on _ refl _ refl
-        (ap (λ (o : Option Facts). body_stands (changes_in nodes begin) (facts_at table (end_of nodes begin)) entering o (choice_at table begin) (turns facts)) (sym there) ∙ h)
+        (ap (λ (o : Option Facts). body_stands (changes_in nodes begin) (facts_at table (end_of nodes begin)) entering o (choice_at table begin) (turns (falling_in nodes table begin) facts)) (sym there) ∙ h)
 
     module _ (e : Element) (reads : node.element ≡ Some e) (is : e.kind ≡ kind.Flow flow.Iterate) where
       behind_body : (facts : Facts) → facts_at table begin ≡ Some facts → (r : Result Edges Refusal) → edges_at nodes node facts ≡ r → closed_behind nodes table begin node facts r ≡ true → Body begin node start

@@ -1,7 +1,8 @@
 -- A step of > back to the start of its body begins a further turn.
-use Rattle.std.proofs.Common.{◌≡◌, ℕ, zero, suc, ◌+◌, ◌-◌, ◌≤◌, ◌<◌, refl, sym, ap, ◌∙◌, subst, arith, List, [], ◌∷◌, ◌++◌, map, drop, length, Bool, true, false, Option, Some, None, Ok, is_some}
-use Rattle.std.proofs.lemmas.List.{length-map}
+use Rattle.std.proofs.Common.{◌≡◌, ℕ, zero, suc, ◌+◌, ◌-◌, ◌≤◌, ◌<◌, refl, sym, ap, ◌∙◌, subst, arith, List, [], ◌∷◌, ◌++◌, map, drop, Bool, false, Option, Some, None, Ok, is_some}
 use Rattle.std.specs.Prelude.{IsTrue}
+use Rattle.teco_verifier.specs.facts.Ranks.{rank_of, rank_at}
+use Rattle.teco_verifier.specs.declared.falls.Rank.{Rank}
 use Rattle.teco_law_turns.specs.Moves as moves
 use Rattle.teco_law_turns.specs.Moves.{Move, Back}
 use Rattle.teco_model.specs.declared.flow.Loop.{Loop}
@@ -15,7 +16,7 @@ use Rattle.teco_model.specs.State.{World, State}
 use Rattle.teco_law_expansion.specs.Ends.{Descend, IsBegin, AreClosed}
 use Rattle.teco_verifier.specs.expansion.Ends.{end_of}
 use Rattle.teco_law_expansion.specs.Leading.{LeadsBy, LeadsByKind, IsBack, place_at}
-use Rattle.teco_model.specs.Macros.{Library, IsLoaded}
+use Rattle.teco_model.specs.Macros.{Library, IsLoaded, is_macro}
 use Rattle.teco_law_expansion.specs.Linked.{AreLinked}
 use Rattle.teco_verifier.specs.expansion.Node.{Node, stands, numbered, stand_at}
 use Rattle.teco_verifier.specs.expansion.Position.{position_of}
@@ -26,12 +27,12 @@ use Rattle.teco_poly.specs.Polynomial.{Polynomial, value}
 use Rattle.teco_law_facts.proofs.Bodies.{returns_are_sound, turns_fall}
 use Rattle.teco_law_facts.proofs.Covering.{and_both, covers_are_sound}
 use Rattle.teco_verifier.specs.facts.Bodies.{Changes, Choice, body_start, returns, stands as choice_stands}
-use Rattle.teco_law_facts.specs.Describes.{AreEach, HasFallen, run_behind, run_in_turn, IsWhole, Describes, fore_of}
+use Rattle.teco_law_facts.specs.Describes.{Begun, begun_at, run_behind, run_in_turn, IsWhole, Describes}
 use Rattle.teco_verifier.specs.facts.Facts.{Facts}
-use Rattle.teco_law_facts.specs.Laws.{entered, IsCarried, BeginsAgain}
+use Rattle.teco_law_facts.specs.Laws.{entered, amount_of, IsCarried, BeginsAgain}
 use Rattle.teco_model.specs.Paging.{unread_of}
 use Rattle.teco_verifier.specs.table.Closed.{is_counted, check_nodes}
-use Rattle.teco_law_tables.specs.Following.{OpenTurn, begun_of, run_at, loops_in, open_loops, AreMore, IsOpened, AreOpened, IsDescribed, held_of, loops_of, shown}
+use Rattle.teco_law_tables.specs.Following.{OpenTurn, begun_of, run_at, falling_in, loops_in, open_loops, AreMore, IsOpened, AreOpened, IsDescribed, held_of, loops_of, shown}
 use Rattle.teco_law_tables.specs.Moving.{IsLast, Comes, MovesOn}
 use Rattle.teco_verifier.specs.table.Table.{Table, facts_at, choice_at}
 use Rattle.teco_law_tables.specs.Turning.{is_reached, held_at, turning}
@@ -47,31 +48,31 @@ same_some : {X : Type 0} (o : Option X) (x y : X) → o ≡ Some x → o ≡ Som
 same_some o x y h g = let e : Some x ≡ Some y = sym h ∙ g in cc
 
 -- the innermost open iteration, and the others
-record Innermost (table : Table) (n begin : ℕ) (begins : List ℕ) (loop : Loop) (loops : List Loop) (turns : List OpenTurn) : Type 0 where
+record Innermost (nodes : List Node) (table : Table) (n begin : ℕ) (begins : List ℕ) (loop : Loop) (loops : List Loop) (turns : List OpenTurn) : Type 0 where
   turn : OpenTurn
   outer : List OpenTurn
   turns_are : turns ≡ turn ∷ outer
-  own : IsOpened table n begin loop turn outer
-  rest : AreOpened table n begins loops outer
+  own : IsOpened nodes table n begin loop turn outer
+  rest : AreOpened nodes table n begins loops outer
 
-innermost : (table : Table) (n begin : ℕ) (begins : List ℕ) (loop : Loop) (loops : List Loop) (turns : List OpenTurn) → AreOpened table n (begin ∷ begins) (loop ∷ loops) turns → Innermost table n begin begins loop loops turns
-innermost table n begin begins loop loops [] h = absurd h
-innermost table n begin begins loop loops (turn ∷ outer) h = record { turn = turn; outer = outer; turns_are = refl; own = h.0; rest = h.1 }
+innermost : (nodes : List Node) (table : Table) (n begin : ℕ) (begins : List ℕ) (loop : Loop) (loops : List Loop) (turns : List OpenTurn) → AreOpened nodes table n (begin ∷ begins) (loop ∷ loops) turns → Innermost nodes table n begin begins loop loops turns
+innermost nodes table n begin begins loop loops [] h = absurd h
+innermost nodes table n begin begins loop loops (turn ∷ outer) h = record { turn = turn; outer = outer; turns_are = refl; own = h.0; rest = h.1 }
 
 -- one turn fewer comes after this one
-record Fewer (counted : Bool) (turn : OpenTurn) (ahead : ℕ) (left : Option ℕ) : Type 0 where
+record Fewer (falling : Option Rank) (counted : Bool) (turn : OpenTurn) (begun : Begun) (left : Option ℕ) : Type 0 where
   some : turn.more ≡ suc (turn.more - 1)
-  is : AreMore left counted (record { begun = ahead; more = turn.more - 1 })
+  is : AreMore falling left counted (record { begun = begun; more = turn.more - 1 })
 
-fewer : (counted : Bool) (turn : OpenTurn) (ahead : ℕ) (now next : Option ℕ) → AreMore now counted turn → went.CountsDown now next → (counted ≡ false → ahead + 1 ≤ turn.begun) → Fewer counted turn ahead next
-fewer counted turn ahead None next are counts falls =
+fewer : (falling : Option Rank) (counted : Bool) (turn : OpenTurn) (begun : Begun) (now next : Option ℕ) → AreMore falling now counted turn → went.CountsDown now next → (counted ≡ false → amount_of falling begun + 1 ≤ amount_of falling turn.begun) → Fewer falling counted turn begun next
+fewer falling counted turn begun None next are counts falls =
     let less = falls are.0 in record {
       some = omega (arith, are.1, less);
-      is = subst (λ left. AreMore left counted (record { begun = ahead; more = turn.more - 1 })) (sym counts) (are.0, omega (arith, are.1, less));
+      is = subst (λ left. AreMore falling left counted (record { begun = begun; more = turn.more - 1 })) (sym counts) (are.0, omega (arith, are.1, less));
     }
-fewer counted turn ahead (Some left) next are counts falls = record {
+fewer falling counted turn begun (Some left) next are counts falls = record {
   some = omega (arith, are.1, counts.2);
-  is = subst (λ left. AreMore left counted (record { begun = ahead; more = turn.more - 1 })) (sym counts.1) (are.0, omega (arith, are.1, counts.2));
+  is = subst (λ left. AreMore falling left counted (record { begun = begun; more = turn.more - 1 })) (sym counts.1) (are.0, omega (arith, are.1, counts.2));
 }
 
 returns_by : (choice : Choice) (changes : Changes) (most : Polynomial) (entering end : Facts) (counted : Bool) (facts : Facts) → entering ≡ entered counted facts → IsTrue (choice_stands choice changes (is_counted entering.iterations) most entering (Some end)) → IsTrue (returns choice changes counted most (entered counted facts) end)
@@ -79,7 +80,7 @@ returns_by choice changes most entering end counted facts e h =
     (and_both _ _ (subst (λ (entering : Facts). IsTrue (choice_stands choice changes (is_counted entering.iterations) most entering (Some end))) e h)).1
 
 module _ (laws : Laws) (library : Library) (entry : ℕ) (nodes : List Node) (are : AreLinked library entry nodes) (closed : AreClosed nodes) (table : Table) (n : ℕ) (below : List Pair) (passes : check_nodes nodes table ≡ Ok tt) where
-  module _ (number : ℕ) (turns : List OpenTurn) (s last t : State) (here : IsDescribed library nodes table n below number turns s) (again : IsLast here.node.element s last) (goes : GoesTo (stands nodes entry) number here.node last t) (comes : Comes nodes here.node here.facts goes.way (run_at n below turns) s t) (loaded : IsLoaded library t.world.kept) (whole : IsWhole t.world.kept) where
+  module _ (number : ℕ) (turns : List OpenTurn) (s last t : State) (here : IsDescribed library nodes table n below number turns s) (again : IsLast here.node.element s last) (goes : GoesTo (stands nodes entry) number here.node last t) (comes : Comes nodes here.node here.facts goes.way (run_at library n below turns) s t) (loaded : IsLoaded library t.world.kept) (whole : IsWhole t.world.kept) where
     module _ (there : Node) (at : numbered nodes goes.target ≡ Some there) (stand : there.stand ≡ stand_at number here.node.stand (position_of t)) where
       module _ (e : Element) (reads : here.node.element ≡ Some e) (is : e.kind ≡ kind.Flow flow.EndTurn) (first : goes.way ≡ 0) where
         was : Turns flow.EndTurn zero e s t
@@ -94,13 +95,16 @@ module _ (laws : Laws) (library : Library) (entry : ℕ) (nodes : List Node) (ar
         same_world : t.world ≡ s.world
         same_world = world_same flow.EndTurn zero e s t was
 
-        abbrev ahead : ℕ
-        ahead = fore_of s.world.kept + unread_of s.world
+        abbrev begun : Begun
+        begun = begun_at (unread_of s.world) s.world.kept
 
-        opened : Innermost table n back.begin back.outer was.went.loop (was.went.outer ++ loops_in s.frames.callers) turns
-        opened = innermost table n back.begin back.outer was.went.loop (was.went.outer ++ loops_in s.frames.callers) turns
-            (subst (λ ls. AreOpened table n (back.begin ∷ back.outer) (ls ++ loops_in s.frames.callers) turns) was.went.inside
-            (subst (λ begins. AreOpened table n begins (open_loops s) turns) back.innermost here.opened))
+        abbrev falling : Option Rank
+        falling = falling_in nodes table back.begin
+
+        opened : Innermost nodes table n back.begin back.outer was.went.loop (was.went.outer ++ loops_in s.frames.callers) turns
+        opened = innermost nodes table n back.begin back.outer was.went.loop (was.went.outer ++ loops_in s.frames.callers) turns
+            (subst (λ ls. AreOpened nodes table n (back.begin ∷ back.outer) (ls ++ loops_in s.frames.callers) turns) was.went.inside
+            (subst (λ begins. AreOpened nodes table n begins (open_loops s) turns) back.innermost here.opened))
 
         ends_here : end_of nodes back.begin ≡ number
         ends_here = closed.only number here.node back.begin here.at (ending here.node e back.begin back.outer reads is back.innermost)
@@ -133,16 +137,21 @@ module _ (laws : Laws) (library : Library) (entry : ℕ) (nodes : List Node) (ar
         begun_are : map begun_of turns ≡ opened.turn.begun ∷ map begun_of opened.outer
         begun_are = ap (λ turns. map begun_of turns) opened.turns_are
 
-        falls : is_counted opened.own.start.iterations ≡ false → ahead + 1 ≤ opened.turn.begun
-        falls none = turns_fall (run_at n below turns) here.facts (unread_of s.world) s.world.kept s.arguments body.choice (changes_in nodes back.begin) body.most (entered counted body.facts) opened.turn.begun (map begun_of opened.outer)
-            (subst (λ b. IsTrue (returns body.choice (changes_in nodes back.begin) b body.most (entered counted body.facts) here.facts)) (sym counted_is ∙ none) returning)
-            here.described begun_are
+        falling_is : falling ≡ rank_of here.facts.position
+        falling_is = ap rank_at known_here
 
-        less : Fewer (is_counted opened.own.start.iterations) opened.turn ahead was.went.turns
-        less = fewer (is_counted opened.own.start.iterations) opened.turn ahead was.went.loop.turns was.went.turns opened.own.more was.went.counts falls
+        falls : is_counted opened.own.start.iterations ≡ false → amount_of falling begun + 1 ≤ amount_of falling opened.turn.begun
+        falls none = subst (λ falling. amount_of falling begun + 1 ≤ amount_of falling opened.turn.begun) (sym falling_is)
+            (turns_fall (run_at library n below turns) here.facts (unread_of s.world) s.world.kept s.arguments body.choice (changes_in nodes back.begin) body.most (entered counted body.facts) opened.turn.begun (map begun_of opened.outer)
+            here.whole.inside
+            (subst (λ b. IsTrue (returns body.choice (changes_in nodes back.begin) b body.most (entered counted body.facts) here.facts)) (sym counted_is ∙ none) returning)
+            here.described begun_are)
+
+        less : Fewer falling (is_counted opened.own.start.iterations) opened.turn begun was.went.turns
+        less = fewer falling (is_counted opened.own.start.iterations) opened.turn begun was.went.loop.turns was.went.turns opened.own.more was.went.counts falls
 
         abbrev turn : OpenTurn
-        turn = record { begun = ahead; more = opened.turn.more - 1 }
+        turn = record { begun = begun; more = opened.turn.more - 1 }
 
         abbrev later : List OpenTurn
         later = turn ∷ opened.outer
@@ -154,7 +163,7 @@ module _ (laws : Laws) (library : Library) (entry : ℕ) (nodes : List Node) (ar
         started_at = ap (facts_at table) target_is ∙ opened.own.started
 
         -- the move
-        returning_it : moves.Returns (turning nodes table n) (shown number here.node.stand.iterations turns s.world) (shown goes.target there.stand.iterations later t.world)
+        returning_it : moves.Returns (turning nodes table n) (shown nodes table number here.node.stand.iterations turns s.world) (shown nodes table goes.target there.stand.iterations later t.world)
         returning_it = record {
           begin = back.begin;
           more = Some opened.turn.more;
@@ -176,45 +185,38 @@ module _ (laws : Laws) (library : Library) (entry : ℕ) (nodes : List Node) (ar
         same_choice : opened.own.choice ≡ body.choice
         same_choice = same_some (choice_at table back.begin) opened.own.choice body.choice opened.own.chosen body.chosen
 
-        falls_many : length body.facts.position.falls ≡ length opened.outer
-        falls_many = sym (ap (λ (facts : Facts). length facts.position.falls) same_facts) ∙ opened.own.falls
-
-        carried : body.choice.kept ≡ true → IsCarried (run_at n below turns) body.facts opened.turn.begun (map begun_of opened.outer)
-        carried k =
-            let kept : opened.own.choice.kept ≡ true = ap (λ (choice : Choice). choice.kept) same_choice ∙ k in
-            record {
-              ahead = subst (λ (facts : Facts). opened.turn.begun ≤ value facts.position.ahead n) same_facts (opened.own.ahead kept);
-              falls = subst (λ (facts : Facts). AreEach (HasFallen opened.turn.begun) facts.position.falls (map begun_of opened.outer)) same_facts (opened.own.fallen kept);
-            }
+        carried : IsCarried n body.facts body.choice.kept opened.turn.begun (map begun_of opened.outer)
+        carried = subst (λ (choice : Choice). IsCarried n body.facts choice.kept opened.turn.begun (map begun_of opened.outer)) same_choice
+            (subst (λ (facts : Facts). IsCarried n facts opened.own.choice.kept opened.turn.begun (map begun_of opened.outer)) same_facts opened.own.carried)
 
         held_start : held_at nodes table n goes.target ≡ value body.choice.held n
         held_start = ap (held_at nodes table n) target_is ∙ (held_known nodes table n (suc back.begin) opened.own.start opened.own.started ∙ held_same opened.own.start (body_start body.choice (changes_in nodes back.begin) body.entering) n body.same)
 
         module _ (few : held_of t.world ≤ held_at nodes table n goes.target) where
-          next_turn : BeginsAgain (run_at n below turns) body.facts (body_start body.choice (changes_in nodes back.begin) (entered counted body.facts)) (unread_of s.world) s.world.kept body.choice.kept (map begun_of opened.outer)
-          next_turn = returns_are_sound (run_at n below turns) body.facts here.facts (unread_of s.world) s.world.kept s.arguments body.choice (changes_in nodes back.begin) counted body.most opened.turn.begun (map begun_of opened.outer)
-              here.whole returning here.described begun_are (falls_many ∙ sym (length-map opened.outer begun_of))
+          next_turn : BeginsAgain (run_at library n below turns) body.facts (body_start body.choice (changes_in nodes back.begin) (entered counted body.facts)) (unread_of s.world) s.world.kept body.choice.kept (map begun_of opened.outer)
+          next_turn = returns_are_sound (run_at library n below turns) body.facts here.facts (unread_of s.world) s.world.kept s.arguments body.choice (changes_in nodes back.begin) counted body.most opened.turn.begun (map begun_of opened.outer)
+              here.whole returning here.described begun_are
               (let w : held_of t.world ≡ held_of s.world = ap held_of same_world in omega (arith, few, w, held_start)) carried
 
-          run_is : run_in_turn (unread_of s.world) s.world.kept (run_behind 1 (run_at n below turns)) ≡ run_at n below later
-          run_is = ap (λ (begun : List ℕ). record { n = n; turns = ahead ∷ drop 1 begun; below = below }) begun_are
+          run_is : run_in_turn (unread_of s.world) s.world.kept (run_behind 1 (run_at library n below turns)) ≡ run_at library n below later
+          run_is = ap (λ (all : List Begun). record { n = n; library = is_macro library; turns = begun ∷ drop 1 all; below = below }) begun_are
 
-          described_start : Describes (run_at n below later) opened.own.start (unread_of s.world) s.world.kept model.no_arguments
-          described_start = covers_are_sound (run_at n below later) opened.own.start (body_start body.choice (changes_in nodes back.begin) body.entering) (unread_of s.world) s.world.kept model.no_arguments here.whole (and_both _ _ body.same).0
-              (subst (λ facts. Describes (run_at n below later) (body_start body.choice (changes_in nodes back.begin) facts) (unread_of s.world) s.world.kept model.no_arguments) (sym entering.is)
+          described_start : Describes (run_at library n below later) opened.own.start (unread_of s.world) s.world.kept model.no_arguments
+          described_start = covers_are_sound (run_at library n below later) opened.own.start (body_start body.choice (changes_in nodes back.begin) body.entering) (unread_of s.world) s.world.kept model.no_arguments here.whole (and_both _ _ body.same).0
+              (subst (λ facts. Describes (run_at library n below later) (body_start body.choice (changes_in nodes back.begin) facts) (unread_of s.world) s.world.kept model.no_arguments) (sym entering.is)
               (subst (λ run. Describes run (body_start body.choice (changes_in nodes back.begin) (entered counted body.facts)) (unread_of s.world) s.world.kept model.no_arguments) run_is next_turn.described))
 
           arguments_are : t.arguments ≡ model.no_arguments
           arguments_are = ap (λ (t : State). t.arguments) was.gone ∙ ap (λ (turn : Turn). turn.arguments) was.went.gone
 
-          described_there : Describes (run_at n below later) opened.own.start (unread_of t.world) t.world.kept t.arguments
-          described_there = subst (λ arguments. Describes (run_at n below later) opened.own.start (unread_of t.world) t.world.kept arguments) (sym arguments_are)
-              (subst (λ (world : World). Describes (run_at n below later) opened.own.start (unread_of world) world.kept model.no_arguments) (sym same_world) described_start)
+          described_there : Describes (run_at library n below later) opened.own.start (unread_of t.world) t.world.kept t.arguments
+          described_there = subst (λ arguments. Describes (run_at library n below later) opened.own.start (unread_of t.world) t.world.kept arguments) (sym arguments_are)
+              (subst (λ (world : World). Describes (run_at library n below later) opened.own.start (unread_of world) world.kept model.no_arguments) (sym same_world) described_start)
 
-          opened_there : AreOpened table n there.stand.iterations (open_loops t) later
+          opened_there : AreOpened nodes table n there.stand.iterations (open_loops t) later
           opened_there =
               let to : open_loops t ≡ record { start = was.went.loop.start; turns = was.went.turns } ∷ (was.went.outer ++ loops_in s.frames.callers) = ap open_loops was.gone ∙ ap (λ (turn : Turn). turn.frame.loops ++ loops_in s.frames.callers) was.went.gone in
-              let own : IsOpened table n back.begin (record { start = was.went.loop.start; turns = was.went.turns }) turn opened.outer = record {
+              let own : IsOpened nodes table n back.begin (record { start = was.went.loop.start; turns = was.went.turns }) turn opened.outer = record {
                 facts = body.facts;
                 start = opened.own.start;
                 choice = body.choice;
@@ -222,11 +224,9 @@ module _ (laws : Laws) (library : Library) (entry : ℕ) (nodes : List Node) (ar
                 started = opened.own.started;
                 chosen = body.chosen;
                 more = less.is;
-                falls = falls_many;
-                ahead = λ k. (next_turn.carried k).ahead;
-                fallen = λ k. (next_turn.carried k).falls;
+                carried = next_turn.carried;
               } in
-              subst (λ ls. AreOpened table n ls (open_loops t) later) (sym (back.same ∙ back.innermost)) (subst (λ ls. AreOpened table n (back.begin ∷ back.outer) ls later) (sym to) (own, opened.rest))
+              subst (λ ls. AreOpened nodes table n ls (open_loops t) later) (sym (back.same ∙ back.innermost)) (subst (λ ls. AreOpened nodes table n (back.begin ∷ back.outer) ls later) (sym to) (own, opened.rest))
 
           described_again : IsDescribed library nodes table n below goes.target later t
           described_again = record {

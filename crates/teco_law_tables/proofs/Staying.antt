@@ -1,5 +1,5 @@
 -- Files stay as open as they are, through each step whose element is no command of files.
-use Rattle.std.proofs.Common.{◌≡◌, ℕ, ℤ, pos, zero, suc, List, [], ◌∷◌, Bool, true, false, is_some, Option, Some, None, Result, Ok, Err, refl, sym, ap, ◌∙◌, subst}
+use Rattle.std.proofs.Common.{◌≡◌, ℕ, ℤ, pos, zero, suc, List, [], ◌∷◌, false, is_some, Option, Some, None, Result, Ok, Err, refl, sym, ap, ◌∙◌, subst}
 use Rattle.std.specs.Option.{option_map, ok_or}
 use Rattle.std.specs.Prelude.{unwrap_or}
 use Rattle.teco_base.specs.declared.code.Code.{Code}
@@ -12,20 +12,20 @@ use Rattle.teco_model.specs.declared.kind.Page.{Page}
 use Rattle.teco_model.specs.declared.kind.Page.TheVariants as page
 use Rattle.teco_model.specs.declared.kind.Search.{Search}
 use Rattle.teco_model.specs.declared.kind.Search.TheVariants as search_kind
-use Rattle.teco_model.specs.Arguments.{no_arguments, arguments_of}
+use Rattle.teco_model.specs.Arguments.{Arguments, arguments_of, levels_after_taking}
 use Rattle.teco_model.specs.Checked.{◌>>=◌}
 use Rattle.teco_model.specs.Element.{Element, element_at}
 use Rattle.teco_model.specs.Files.{Input, Output, Files, with_written}
-use Rattle.teco_model.specs.Flow.{Turn, turn_of, jump}
-use Rattle.teco_model.specs.Going.{After, outcome_behind, taking, with_nothing_left}
-use Rattle.teco_model.specs.Outside.{world_outcome, pages_outcome, pages_behind, pages_done, pages_outcome_of, append_outcome, character_outcome, page_outcome}
+use Rattle.teco_model.specs.Flow.{Turn, turn_of}
+use Rattle.teco_model.specs.Going.{After, Course, Behind, Again, Along, Into, Quit, NoFile, Refused, Reply, on_editor, settled, settle}
+use Rattle.teco_model.specs.Outside.{going_on, while_left, in_pages, pages_reply, append_reply, page_reply}
 use Rattle.teco_model.specs.Pages.{behind_first_page, first_page}
-use Rattle.teco_model.specs.Paging.{files_behind_page, world_after_writing, page_taken, page_added, world_with_next_page, nothing_lost, yank, append, appended, page_turned, page_written, page_count, needed_output, one_page_of, pages_of, range_written, Progress, Here, MetHere, WantedYet, look_here, Looked, Met, Turned, Through, unread, page_looked_for, looked_on, looked_through, look_for, match_count, world_seeking}
+use Rattle.teco_model.specs.Paging.{files_behind_page, world_after_writing, page_taken, page_added, world_with_next_page, nothing_lost, yank, append, appended, page_turned, page_written, page_count, needed_output, one_page_of, pages, pages_of, range_written, Progress, Here, MetHere, WantedYet, look_here, Looked, Met, Turned, Through, unread, page_looked_for, looked_on, looked_through, look_first, look_for, match_count, world_seeking}
 use Rattle.teco_model.specs.Places.{text_between}
-use Rattle.teco_model.specs.Search.{Finding, Found, Missed}
-use Rattle.teco_model.specs.Searching.{has_colon, leaving_outcome, missed_outcome, miss_outcome, search_outcome, finding, looking, looked_outcome, looked_outcome_of, outcome_of_search}
+use Rattle.teco_model.specs.Search.{Finding, Found, Missed, search}
+use Rattle.teco_model.specs.Searching.{Miss, Answers, Leaves, Unended, Fails, miss_of, missed, found, found_in_buffer, looked, looking, found_in_pages, search_reply}
 use Rattle.teco_model.specs.State.{World, Frame, State, Outcome, Next}
-use Rattle.teco_model.specs.Step.{flow_outcome, outcome_of, end_outcome, end_of_text, outcome_at, step}
+use Rattle.teco_model.specs.Step.{flow_reply, reply_of, end_outcome, end_of_text, outcome_at, step}
 use Rattle.teco_law_tables.specs.Staying.{is_of_files, changes_files, AreAsOpen, FilesStayOpen}
 
 -- ---- what is read and written
@@ -106,10 +106,8 @@ module _ (one_page : World → Result World Code) (world : World) (h : AllOpen w
   pages_of_open None value = after world.files world_done (page_count (unwrap_or value (pos 1))) _ (λ n. one_page_open n)
   pages_of_open (Some m) None = after world.files world_done (page_count (pos 1)) _ (λ n. one_page_open n)
 
-pages_done_open : (one_page : World → Result World Code) (s : State) → AllOpen s.world.files itself (one_page s.world) → AllOpen s.world.files world_done (pages_done one_page s)
-pages_done_open one_page s h =
-    after s.world.files world_done (arguments_of s.arguments.level) _ (λ taken.
-    after s.world.files world_done (needed_output s.world) _ (λ output. pages_of_open one_page s.world h taken.first taken.value))
+pages_open : (one_page : World → Result World Code) (taken : Taken) (world : World) → AllOpen world.files itself (one_page world) → AllOpen world.files world_done (pages one_page taken world)
+pages_open one_page taken world h = after world.files world_done (needed_output world) _ (λ output. pages_of_open one_page world h taken.first taken.value)
 
 -- ---- searches in pages
 page_looked_open : (bytes : List ℕ) (n : ℕ) (world : World) → AllOpen world.files world_looked (page_looked_for bytes n world)
@@ -123,12 +121,13 @@ looked_on_open (WantedYet n) world = after world.files world_looked (needed_outp
 look_for_open : (x : Search) (e : Element) (n : ℕ) (world : World) → AllOpen world.files world_looked (look_for x e n world)
 look_for_open x e n world = after world.files world_looked (look_here x e n world.kept) _ (λ here. looked_on_open here world)
 
-looking_open : (x : Search) (e : Element) (s : State) → AllOpen s.world.files world_looked (looking x e s)
-looking_open x e s =
-    after s.world.files world_looked (arguments_of s.arguments.level) _ (λ taken.
-    after s.world.files world_looked (match_count taken.first taken.value) _ (λ n. look_for_open x e n (world_seeking e.text s.world)))
+look_first_open : (x : Search) (e : Element) (taken : Taken) (world : World) → AllOpen world.files world_looked (look_first x e taken world)
+look_first_open x e taken world = after world.files world_looked (match_count taken.first taken.value) _ (λ n. look_for_open x e n (world_seeking e.text world))
 
--- ---- outcomes
+-- ---- replies and outcomes
+abbrev world_replied : Reply → World
+world_replied reply = reply.world
+
 abbrev Opens : Files → Outcome → Type 0
 Opens old (Next t) = AreAsOpen old t.world.files
 Opens old outcome = Unit {0}
@@ -137,98 +136,103 @@ module _ (s : State) where
   abbrev OpenBy : Outcome → Type 0
   OpenBy outcome = Opens s.world.files outcome
 
-  behind_opens : (e : Element) (r : Result After Code) → OpenBy (outcome_behind e s r)
-  behind_opens e (Ok done) = same s.world.files
-  behind_opens e (Err c) = tt
+  abbrev Replied : Result Reply Code → Type 0
+  Replied r = AllOpen s.world.files world_replied r
 
-  world_opens : (u : State) (e : Element) (r : Result World Code) → AllOpen s.world.files itself r → OpenBy (world_outcome e u r)
-  world_opens u e (Ok world) h = h
-  world_opens u e (Err c) h = tt
+  behind_opens : (r : Result After Code) → Replied (on_editor s.left s.world r)
+  behind_opens (Ok done) = same s.world.files
+  behind_opens (Err c) = tt
 
-  left_opens : (u : State) (e : Element) (world : World) (left : ℕ) → AreAsOpen s.world.files world.files → OpenBy (pages_behind e u world left)
-  left_opens u e world zero h = h
-  left_opens u e world (suc n) h = h
+  world_opens : (arguments : Arguments) (r : Result World Code) → AllOpen s.world.files itself r → Replied (going_on s.left arguments r)
+  world_opens arguments (Ok world) h = h
+  world_opens arguments (Err c) h = tt
 
-  pages_open : (u : State) (e : Element) (r : Result Progress Code) → AllOpen s.world.files world_done r → OpenBy (pages_outcome e u r)
-  pages_open u e (Err c) h = tt
-  pages_open u e (Ok done) h = left_opens u e done.world done.left h
+  left_opens : (left : ℕ) (arguments : Arguments) (world : World) → AreAsOpen s.world.files world.files → AreAsOpen s.world.files (while_left left arguments world).world.files
+  left_opens zero arguments world h = h
+  left_opens (suc n) arguments world h = h
 
-  pages_of_opens : (one_page : World → Result World Code) (e : Element) (left : Option ℕ) → AllOpen s.world.files itself (one_page s.world) → OpenBy (pages_outcome_of one_page e s left)
-  pages_of_opens one_page e None h = pages_open (taking s) e (pages_done one_page s) (pages_done_open one_page s h)
-  pages_of_opens one_page e (Some n) h = pages_open s e (one_page_of one_page n s.world) (one_page_open one_page s.world h n)
+  pages_answer : (arguments : Arguments) (r : Result Progress Code) → AllOpen s.world.files world_done r → Replied (in_pages arguments r)
+  pages_answer arguments (Err c) h = tt
+  pages_answer arguments (Ok done) h = left_opens done.left arguments done.world h
 
-  append_opens : (e : Element) (r : Result Taken Code) → OpenBy (append_outcome e (taking s) r)
-  append_opens e (Err c) = tt
-  append_opens e (Ok taken) = among taken.value
-    where
-      among :
-          (value : Option ℤ)
-          → OpenBy (elim value [
-            | None ↦ world_outcome e (taking s) (append s.world)
-            | Some n ↦ character_outcome e (taking s) n
-          ])
-      among None = world_opens (taking s) e (append s.world) (append_open s.world)
-      among (Some n) = same s.world.files
+  pages_of_opens : (one_page : World → Result World Code) (left : Option ℕ) → AllOpen s.world.files itself (one_page s.world) → Replied (pages_reply one_page left s.arguments s.world)
+  pages_of_opens one_page None h = after s.world.files world_replied (arguments_of s.arguments.level) _ (λ taken. pages_answer (levels_after_taking s.arguments) (pages one_page taken s.world) (pages_open one_page taken s.world h))
+  pages_of_opens one_page (Some n) h = pages_answer s.arguments (one_page_of one_page n s.world) (one_page_open one_page s.world h n)
 
-  page_opens : (p : Page) (e : Element) → OpenBy (page_outcome p e s)
-  page_opens page.Yank e =
-      world_opens (taking s) e (arguments_of s.arguments.level >>= (λ taken. yank s.world))
-      (after s.world.files itself (arguments_of s.arguments.level) _ (λ taken. yank_open s.world))
-  page_opens page.Append e = append_opens e (arguments_of s.arguments.level)
-  page_opens page.Next e = pages_of_opens page_turned e s.left (turned_open s.world)
-  page_opens page.Write e = pages_of_opens page_written e s.left (written_open s.world)
+  append_opens : (value : Option ℤ) (arguments : Arguments) → Replied (append_reply value s.left arguments s.world)
+  append_opens None arguments = world_opens arguments (append s.world) (append_open s.world)
+  append_opens (Some n) arguments = same s.world.files
+
+  page_opens : (p : Page) → Replied (page_reply p s.left s.arguments s.world)
+  page_opens page.Yank = after s.world.files world_replied (arguments_of s.arguments.level) _ (λ taken. world_opens (levels_after_taking s.arguments) (yank s.world) (yank_open s.world))
+  page_opens page.Append = after s.world.files world_replied (arguments_of s.arguments.level) _ (λ taken. append_opens taken.value (levels_after_taking s.arguments))
+  page_opens page.Next = pages_of_opens page_turned s.left (turned_open s.world)
+  page_opens page.Write = pages_of_opens page_written s.left (written_open s.world)
 
   -- searches
-  leaving_opens : (stays missed : World) (u : State) (r : Result Turn Code) → AreAsOpen s.world.files missed.files → OpenBy (leaving_outcome stays missed u r)
-  leaving_opens stays missed u (Err c) h = tt
-  leaving_opens stays missed u (Ok turn) h = h
+  missed_opens : (miss : Miss) (left : Option ℕ) (arguments : Arguments) (before now : World) → AreAsOpen s.world.files before.files → AreAsOpen s.world.files now.files → AreAsOpen s.world.files (missed miss left arguments before now).world.files
+  missed_opens Answers left arguments before now k h = h
+  missed_opens (Leaves turn) left arguments before now k h = h
+  missed_opens Unended left arguments before now k h = k
+  missed_opens Fails left arguments before now k h = h
 
-  missed_opens : (e : Element) (stays missed : World) (u : State) (loops : List Loop) → AreAsOpen s.world.files missed.files → OpenBy (missed_outcome e stays missed u loops)
-  missed_opens e stays missed u [] h = tt
-  missed_opens e stays missed u (loop ∷ outer) h = leaving_opens stays missed u (jump code.Utc e no_arguments u.frames.running) h
+  module _ (x : Search) (e : Element) (miss : Miss) where
+    found_opens : (arguments : Arguments) (finding : Finding) → AreAsOpen s.world.files (found e miss s.left arguments s.world finding).world.files
+    found_opens arguments (Found kept) = same s.world.files
+    found_opens arguments (Missed kept) = missed_opens miss s.left arguments _ _ (same s.world.files) (same s.world.files)
 
-  miss_opens : (colon : Bool) (e : Element) (stays missed : World) (u : State) → AreAsOpen s.world.files missed.files → OpenBy (miss_outcome colon e stays missed u)
-  miss_opens true e stays missed u h = h
-  miss_opens false e stays missed u h = missed_opens e stays missed u u.frames.running.loops h
+    in_buffer_opens : Replied (found_in_buffer x e miss s.left s.arguments s.world)
+    in_buffer_opens = after s.world.files world_replied (arguments_of s.arguments.level) _ (λ taken.
+        after s.world.files world_replied (search x e taken s.world.kept) (λ finding. Ok (found e miss s.left (levels_after_taking s.arguments) s.world finding)) (found_opens (levels_after_taking s.arguments)))
 
-  searched_opens : (colon : Bool) (e : Element) (r : Result Finding Code) → OpenBy (search_outcome colon e (taking s) r)
-  searched_opens colon e (Err c) = tt
-  searched_opens colon e (Ok (Found kept)) = same s.world.files
-  searched_opens colon e (Ok (Missed kept)) = miss_opens colon e _ _ (taking s) (same s.world.files)
+    looked_opens : (arguments : Arguments) (look : Looked) → AreAsOpen s.world.files (world_looked look).files → AreAsOpen s.world.files (looked miss arguments look).world.files
+    looked_opens arguments (Met world) h = h
+    looked_opens arguments (Turned n world) h = h
+    looked_opens arguments (Through world) h = missed_opens miss None arguments world (looked_through world) h (written s.world.files _ world h)
 
-  looked_opens : (colon : Bool) (u : State) (e : Element) (r : Result Looked Code) → AllOpen s.world.files world_looked r → OpenBy (looked_outcome colon e u r)
-  looked_opens colon u e (Err c) h = tt
-  looked_opens colon u e (Ok (Met world)) h = h
-  looked_opens colon u e (Ok (Turned n world)) h = h
-  looked_opens colon u e (Ok (Through world)) h = miss_opens colon e world (looked_through world) (with_nothing_left u) (written s.world.files _ world h)
+    looking_opens : (arguments : Arguments) (r : Result Looked Code) → AllOpen s.world.files world_looked r → Replied (looking miss arguments r)
+    looking_opens arguments r h = onto s.world.files world_looked world_replied r (λ look. Ok (looked miss arguments look)) h (looked_opens arguments)
 
-  looked_of_opens : (x : Search) (e : Element) (left : Option ℕ) → OpenBy (looked_outcome_of x e s left)
-  looked_of_opens x e None = looked_opens (has_colon e s.frames.running) (taking s) e (looking x e s) (looking_open x e s)
-  looked_of_opens x e (Some n) = looked_opens (has_colon e s.frames.running) s e (look_for x e n s.world) (look_for_open x e n s.world)
+    in_pages_opens : (left : Option ℕ) → Replied (found_in_pages x e miss left s.arguments s.world)
+    in_pages_opens None = after s.world.files world_replied (arguments_of s.arguments.level) _ (λ taken. looking_opens (levels_after_taking s.arguments) (look_first x e taken s.world) (look_first_open x e taken s.world))
+    in_pages_opens (Some n) = looking_opens s.arguments (look_for x e n s.world) (look_for_open x e n s.world)
 
-  search_opens : (x : Search) (e : Element) → OpenBy (outcome_of_search x e s)
-  search_opens search_kind.Find e = searched_opens (has_colon e s.frames.running) e (finding search_kind.Find e s)
-  search_opens search_kind.Replace e = searched_opens (has_colon e s.frames.running) e (finding search_kind.Replace e s)
-  search_opens search_kind.FindInPages e = looked_of_opens search_kind.FindInPages e s.left
-  search_opens search_kind.ReplaceInPages e = looked_of_opens search_kind.ReplaceInPages e s.left
+  search_opens : (x : Search) (e : Element) (miss : Miss) → Replied (search_reply x e miss s.left s.arguments s.world)
+  search_opens search_kind.Find e miss = in_buffer_opens search_kind.Find e miss
+  search_opens search_kind.Replace e miss = in_buffer_opens search_kind.Replace e miss
+  search_opens search_kind.FindInPages e miss = in_pages_opens search_kind.FindInPages e miss s.left
+  search_opens search_kind.ReplaceInPages e miss = in_pages_opens search_kind.ReplaceInPages e miss s.left
 
   -- all elements
-  flow_opens : (r : Result Turn Code) → OpenBy (flow_outcome s r)
+  flow_opens : (r : Result Turn Code) → Replied (flow_reply s.left s.world r)
   flow_opens (Err c) = tt
   flow_opens (Ok turn) = same s.world.files
 
-  element_opens : (k : Kind) (e : Element) → is_of_files k ≡ false → OpenBy (outcome_of k e s)
-  unfolding outcome_of
-  element_opens (kind.Argument a) e h = behind_opens e _
-  element_opens (kind.Value v) e h = behind_opens e _
-  element_opens (kind.Query q) e h = behind_opens e _
-  element_opens (kind.Stack k) e h = behind_opens e _
-  element_opens (kind.Command c) e h = behind_opens e _
-  element_opens (kind.Call c) e h = same s.world.files
-  element_opens (kind.Flow f) e h = flow_opens (turn_of f e s.arguments s.frames.running)
-  element_opens (kind.Page p) e h = page_opens p e
-  element_opens (kind.Search x) e h = search_opens x e
-  element_opens (kind.File f) e h = absurd (cc)
+  reply_opens : (k : Kind) (e : Element) → is_of_files k ≡ false → Replied (reply_of k e s)
+  unfolding reply_of
+  reply_opens (kind.Argument a) e h = behind_opens _
+  reply_opens (kind.Value v) e h = behind_opens _
+  reply_opens (kind.Query q) e h = behind_opens _
+  reply_opens (kind.Stack k) e h = behind_opens _
+  reply_opens (kind.Command c) e h = behind_opens _
+  reply_opens (kind.Call c) e h = same s.world.files
+  reply_opens (kind.Flow f) e h = flow_opens (turn_of f e s.arguments s.frames.running)
+  reply_opens (kind.Page p) e h = page_opens p
+  reply_opens (kind.Search x) e h = search_opens x e (miss_of e s.frames.running)
+  reply_opens (kind.File f) e h = absurd (cc)
+
+  settled_opens : (e : Element) (reply : Reply) (course : Course) → AreAsOpen s.world.files reply.world.files → OpenBy (settled e s.frames reply course)
+  settled_opens e reply Behind h = h
+  settled_opens e reply Again h = h
+  settled_opens e reply (Along frame) h = h
+  settled_opens e reply (Into text) h = h
+  settled_opens e reply Quit h = tt
+  settled_opens e reply NoFile h = tt
+  settled_opens e reply (Refused c) h = tt
+
+  settle_opens : (e : Element) (r : Result Reply Code) → Replied r → OpenBy (settle e s r)
+  settle_opens e (Ok reply) h = settled_opens e reply reply.course h
+  settle_opens e (Err c) h = tt
 
   return_opens : (callers : List Frame) → OpenBy (end_outcome callers s)
   return_opens [] = tt
@@ -240,7 +244,7 @@ module _ (s : State) where
 
   outcome_opens : (read : Option Element) → changes_files read ≡ false → OpenBy (outcome_at s (Ok read))
   outcome_opens None h = end_opens s.frames.running.loops
-  outcome_opens (Some e) h = element_opens e.kind e h
+  outcome_opens (Some e) h = settle_opens e (reply_of e.kind e s) (reply_opens e.kind e h)
 
   step_is : (read : Option Element) → element_at s.frames.running.text s.frames.running.place ≡ Ok read → step s ≡ outcome_at s (Ok read)
   unfolding step

@@ -21,7 +21,7 @@ use Rattle.teco_law_tables.proofs.Going.{Laws, Target, AtNode, AtEnd, target_is,
 use Rattle.teco_law_tables.proofs.Returned.{begins_further}
 
 module _ (laws : Laws) (library : Library) (entry : ℕ) (nodes : List Node) (are : AreLinked library entry nodes) (closed : AreClosed nodes) (table : Table) (n : ℕ) (below : List Pair) (passes : check_nodes nodes table ≡ Ok tt) where
-  module _ (number : ℕ) (turns : List OpenTurn) (s last t : State) (here : IsDescribed library nodes table n below number turns s) (again : IsLast here.node.element s last) (goes : GoesTo (stands nodes entry) number here.node last t) (comes : Comes nodes here.node here.facts goes.way (run_at n below turns) s t) (loaded : IsLoaded library t.world.kept) (whole : IsWhole t.world.kept) where
+  module _ (number : ℕ) (turns : List OpenTurn) (s last t : State) (here : IsDescribed library nodes table n below number turns s) (again : IsLast here.node.element s last) (goes : GoesTo (stands nodes entry) number here.node last t) (comes : Comes nodes here.node here.facts goes.way (run_at library n below turns) s t) (loaded : IsLoaded library t.world.kept) (whole : IsWhole t.world.kept) where
     turns_there : (there : Node) → numbered nodes goes.target ≡ Some there → there.stand ≡ stand_at number here.node.stand (position_of t) → Begins here.node.element goes.way → MovesOn library nodes table n below number here.node turns s goes.target t
     turns_there there at stand (First e reads is first) = begins_first laws library entry nodes are closed table n below passes number turns s last t here again goes comes loaded whole there at stand e reads is first
     turns_there there at stand (Further e reads is first) = begins_further laws library entry nodes are closed table n below passes number turns s last t here again goes comes loaded whole there at stand e reads is first

@@ -1,5 +1,5 @@
 -- A run that comes to its end does nothing else.
-use Rattle.std.proofs.Common.{◌≡◌, ℕ, zero, suc, ◌+◌, ◌-◌, ◌<◌, ◌⊎◌, inl, inr, refl, sym, ap, ◌∙◌, subst, arith, Bool, true, false, Option, Some, None, Result, Ok, Err}
+use Rattle.std.proofs.Common.{◌≡◌, ℕ, zero, suc, ◌+◌, ◌-◌, ◌<◌, ◌⊎◌, inl, inr, refl, sym, ap, ◌∙◌, arith, Bool, true, false, Option, Some, None, Result, Ok, Err}
 use Rattle.std.proofs.lemmas.Bool.{cases_order}
 use Rattle.teco_base.specs.declared.code.Code.{Code}
 use Rattle.teco_model.specs.declared.kind.Kind.{Kind}
@@ -11,11 +11,12 @@ use Rattle.teco_model.specs.declared.kind.Search.TheVariants as search
 use Rattle.teco_model.specs.declared.stop.HostFault.TheVariants as host_fault
 use Rattle.teco_model.specs.declared.stop.Stop.TheVariants as stop
 use Rattle.teco_model.specs.Element.{Element, element_at}
-use Rattle.teco_model.specs.Faults.{PageBreaks, SearchBreaks, Breaks, MayBreak, BreaksAt, BreaksFrom, world_left}
+use Rattle.teco_model.specs.Faults.{PageBreaks, SearchBreaks, Breaks, BreaksAt, BreaksFrom}
+use Rattle.teco_model.specs.Going.{Course, Behind, Again, Along, Into, Quit, NoFile, Refused, Reply, settled, settle, world_left}
 use Rattle.teco_model.specs.Memory.{grows}
 use Rattle.teco_model.specs.Run.{run, go_on, Reaches}
-use Rattle.teco_model.specs.State.{World, State, Outcome, Next, End, Exit, Fail}
-use Rattle.teco_model.specs.Step.{step}
+use Rattle.teco_model.specs.State.{World, Frames, State, Outcome, Next, End, Exit, Fail}
+use Rattle.teco_model.specs.Step.{reply_of, outcome_at, step}
 use Rattle.teco_law_tables.specs.Ending.{EndsWithin}
 use Rattle.teco_law_tables.specs.Staying.{is_of_files, changes_files, ReadsNoFileCommand}
 use Rattle.teco_law_tables.specs.Sure.{RunsAreSure}
@@ -90,19 +91,37 @@ kind_opens (kind.Page p) grows before after new none h = page_reads p grows befo
 kind_opens (kind.Search q) grows before after new none h = search_reads q before after new h
 kind_opens k grows before after new none h = h
 
-read_opens : (t : State) (r : Result (Option Element) Code) (o : Outcome) (new : World) → ((read : Option Element) → r ≡ Ok read → changes_files read ≡ false) → BreaksAt t r o host_fault.NoFile new → ⊥
-read_opens t (Err c) o new none h = h
-read_opens t (Ok None) o new none h = h
-read_opens t (Ok (Some e)) o new none h = kind_opens e.kind (grows e.kind t.arguments.level t.left) t.world (world_left o) new (none (Some e) refl) h.1
+read_opens : (t : State) (r : Result (Option Element) Code) (new : World) → ((read : Option Element) → r ≡ Ok read → changes_files read ≡ false) → BreaksAt t r host_fault.NoFile new → ⊥
+read_opens t (Err c) new none h = h
+read_opens t (Ok None) new none h = h
+read_opens t (Ok (Some e)) new none h = kind_opens e.kind (grows e.kind t.arguments.level t.left) t.world (world_left t.world (reply_of e.kind e t)) new (none (Some e) refl) h.1
 
 none_opens : (t : State) (new : World) → ReadsNoFileCommand t → BreaksFrom t host_fault.NoFile new → ⊥
-none_opens t new none h = read_opens t (element_at t.frames.running.text t.frames.running.place) (step t) new none h
+none_opens t new none h = read_opens t (element_at t.frames.running.text t.frames.running.place) new none h
 
--- nothing fails at the end
-end_breaks : (t : State) (r : Result (Option Element) Code) (o : Outcome) (w new : World) → o ≡ End w → BreaksAt t r o host_fault.NoFile new → ⊥
-end_breaks t (Err c) o w new e h = h
-end_breaks t (Ok None) o w new e h = h
-end_breaks t (Ok (Some x)) o w new e h = subst (MayBreak host_fault.NoFile x.kind) e h.0
+-- no element is the end
+settled_goes : (e : Element) (frames : Frames) (reply : Reply) (course : Course) (w : World) → settled e frames reply course ≡ End w → ⊥
+settled_goes e frames reply Behind w h = cc
+settled_goes e frames reply Again w h = cc
+settled_goes e frames reply (Along frame) w h = cc
+settled_goes e frames reply (Into text) w h = cc
+settled_goes e frames reply Quit w h = cc
+settled_goes e frames reply NoFile w h = cc
+settled_goes e frames reply (Refused c) w h = cc
+
+settle_goes : (e : Element) (t : State) (r : Result Reply Code) (w : World) → settle e t r ≡ End w → ⊥
+settle_goes e t (Err c) w h = cc
+settle_goes e t (Ok reply) w h = settled_goes e t.frames reply reply.course w h
+
+-- so nothing fails at the end
+read_breaks : (t : State) (r : Result (Option Element) Code) (w new : World) → outcome_at t r ≡ End w → BreaksAt t r host_fault.NoFile new → ⊥
+read_breaks t (Err c) w new e h = h
+read_breaks t (Ok None) w new e h = h
+read_breaks t (Ok (Some x)) w new e h = settle_goes x t (reply_of x.kind x t) w e
+
+end_breaks : (t : State) (w new : World) → step t ≡ End w → BreaksFrom t host_fault.NoFile new → ⊥
+unfolding step
+end_breaks t w new e h = read_breaks t (element_at t.frames.running.text t.frames.running.place) w new e h
 
 pub runs_are_sure : RunsAreSure
 runs_are_sure s most limit (stop.Ended n) new ends small stops =
@@ -127,4 +146,4 @@ runs_are_sure s most limit (stop.HostFault host_fault.NoFile) new ends small bro
   where
     by : (broken.steps < ends.steps) ⊎ (step broken.last ≡ End ends.new) → ⊥
     by (inl before) = none_opens broken.last new (ends.none broken.steps broken.last before broken.reached) broken.breaks
-    by (inr end) = end_breaks broken.last (element_at broken.last.frames.running.text broken.last.frames.running.place) (step broken.last) ends.new new end broken.breaks
+    by (inr end) = end_breaks broken.last ends.new new end broken.breaks

@@ -6,6 +6,7 @@ pub mod Moving
 pub mod Staying
 pub mod Ending
 pub mod Rows
+pub mod SecondRows
 pub mod Verified
 pub mod Sure
 pub mod Bounded

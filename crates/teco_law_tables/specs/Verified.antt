@@ -1,6 +1,6 @@
 -- A macro whose table is closed runs to its end without a code, within the printed number of commands, from each state
 -- with the needed files open in which the printed size may be held, and with each argument in the range that is declared.
-use Rattle.std.specs.Prelude.{◌≡◌, ℕ, ◌<◌, ◌≤◌, List, Option, Some, Ok}
+use Rattle.std.specs.Prelude.{ℕ, ◌<◌, ◌≤◌, List, Option}
 use Rattle.teco_base.specs.declared.TheConstants.{LIMIT, REGISTERS}
 use Rattle.teco_model.specs.State.{World, start}
 use Rattle.teco_law_expansion.specs.Given.{call_given}
@@ -13,10 +13,11 @@ use Rattle.teco_law_facts.specs.Laws.{IsEntry}
 use Rattle.teco_model.specs.Paging.{unread_of}
 use Rattle.teco_law_facts.specs.SoundSteps.{AreOpen}
 use Rattle.teco_law_facts.specs.Wholeness.{IsWholeWorld}
-use Rattle.teco_verifier.specs.table.Closed.{check}
 use Rattle.teco_law_tables.specs.Ending.{EndsWithin}
-use Rattle.teco_verifier.specs.table.Printed.{commands, size, needs_in, IsPrinted}
+use Rattle.teco_verifier.specs.table.Printed.{needs_in, IsPrinted}
 use Rattle.teco_verifier.specs.table.Table.{Table}
+use Rattle.teco_verifier.specs.declared.rules.Rules.{Rules}
+use Rattle.teco_verifier.specs.facts.Facts.{entry_of}
 
 -- where a run begins
 pub record IsReady (library : Library) (entry : ℕ) (most : Polynomial) (n : ℕ) (world : World) : Type 0 where
@@ -29,8 +30,8 @@ pub record IsReady (library : Library) (entry : ℕ) (most : Polynomial) (n : �
 
 abbrev pub RunsAreVerified : Type 0
 RunsAreVerified =
-    (library : Library) (entry : ℕ) (argument : Option ArgumentRange) (given : Option ℕ) (nodes : List Node)
-    (table : Table) (steps most : Polynomial) (n : ℕ) (world : World)
-    → AreLinked library entry nodes → IsPrinted argument nodes table steps most → IsAsked argument given
-    → IsReady library entry most n world → AreOpen (needs_in nodes table) world.files
+    (library : Library) (entry : ℕ) (rules : Rules) (argument : Option ArgumentRange) (given : Option ℕ)
+    (nodes : List Node) (table : Table) (steps most : Polynomial) (n : ℕ) (world : World)
+    → AreLinked library entry nodes → IsPrinted (entry_of rules library argument) nodes table steps most
+    → IsAsked argument given → IsReady library entry most n world → AreOpen (needs_in nodes table) world.files
     → EndsWithin (start (call_given entry given) world) (value steps n)

@@ -49,7 +49,7 @@ abbrev inside : ℕ → List OpenLoop
 inside n = record { begin = 2; more = Some n } ∷ outside
 
 abbrev at_node : ℕ → ℕ → List OpenLoop → State
-at_node i ahead opened = record { node = i; held = 2; ahead = ahead; opened = opened }
+at_node i ahead opened = record { node = i; held = 2; ahead = ahead; apart = 0; opened = opened }
 
 enters_outer : Enters rising rising_start (at_node 1 2 outside)
 enters_outer = record {

@@ -43,7 +43,7 @@ abbrev inside : ℕ → List OpenLoop
 inside n = record { begin = 1; more = None } ∷ outside n
 
 abbrev at_node : ℕ → ℕ → ℕ → List OpenLoop → State
-at_node i held ahead opened = record { node = i; held = held; ahead = ahead; opened = opened }
+at_node i held ahead opened = record { node = i; held = held; ahead = ahead; apart = 0; opened = opened }
 
 enters_outer : Enters grown grown_start (at_node 1 0 0 (outside 1))
 enters_outer = record {

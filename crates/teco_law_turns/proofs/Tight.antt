@@ -25,7 +25,7 @@ abbrev open_with : ℕ → List OpenLoop
 open_with n = record { begin = 0; more = Some n } ∷ []
 
 abbrev at_node : ℕ → List OpenLoop → State
-at_node i opened = record { node = i; held = 2; ahead = 1; opened = opened }
+at_node i opened = record { node = i; held = 2; ahead = 1; apart = 0; opened = opened }
 
 still : (i j : ℕ) (o p : List OpenLoop) → BeginsTurn (at_node i o) (at_node j p)
 still i j o p = record { held = omega arith; ahead = omega arith; within = omega arith }

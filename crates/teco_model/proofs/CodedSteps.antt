@@ -1,5 +1,5 @@
 -- The codes of commands and flow elements, of pages, files and searches, and so of steps.
-use Rattle.std.proofs.Common.{◌≡◌, ℕ, zero, suc, ℤ, pos, negsuc, List, [], ◌∷◌, Bool, true, false, Option, Some, None, Result, Ok, Err, refl, subst}
+use Rattle.std.proofs.Common.{ℕ, zero, suc, ℤ, pos, negsuc, List, [], ◌∷◌, Bool, true, false, Option, Some, None, Result, Ok, Err, subst}
 use Rattle.std.specs.Prelude.{unwrap_or}
 use Rattle.teco_base.specs.declared.code.Code.{Code}
 use Rattle.teco_base.specs.declared.code.Code.TheVariants as code
@@ -7,7 +7,9 @@ use Rattle.teco_base.specs.Arithmetic.{byte_of}
 use Rattle.teco_base.specs.NumberText.{decimal}
 use Rattle.teco_base.specs.declared.bytes.TheConstants.{TAB}
 use Rattle.teco_model.proofs.Coded.{Coded, after, some, either, element_at, level_with, level_with_operator, level_after_comma, level_with_pair, with_level, levels_after_close, arguments_of, pattern_coded}
-use Rattle.teco_model.specs.Arguments.{Arguments}
+use Rattle.teco_model.specs.Arguments as model_arguments
+use Rattle.teco_model.specs.Arguments.{Arguments, levels_after_taking}
+use Rattle.teco_model.specs.Checked.{◌>>=◌}
 use Rattle.teco_model.specs.Deletion as deletion
 use Rattle.teco_model.specs.Element.{Element}
 use Rattle.teco_model.specs.Files.{Output}
@@ -15,7 +17,7 @@ use Rattle.teco_model.specs.Filing as filing
 use Rattle.teco_model.specs.Flow as flow
 use Rattle.teco_model.specs.Flow.{Turn}
 use Rattle.teco_model.specs.Going as going
-use Rattle.teco_model.specs.Going.{After}
+use Rattle.teco_model.specs.Going.{After, Course, Behind, Again, Along, Into, Quit, NoFile, Refused, Reply, with_taken, code_by, code_of}
 use Rattle.teco_model.specs.Insertion as insertion
 use Rattle.teco_model.specs.Motion as motion
 use Rattle.teco_model.specs.Outside as outside
@@ -24,7 +26,7 @@ use Rattle.teco_model.specs.Places as places
 use Rattle.teco_model.specs.Query as query
 use Rattle.teco_model.specs.Search as search_text
 use Rattle.teco_model.specs.Searching as searching
-use Rattle.teco_model.specs.State.{Kept, World, Frame, State, Outcome, Next, End, Exit, Fail, Absent}
+use Rattle.teco_model.specs.State.{Kept, World, Frame, Frames, State, Outcome, Next, End, Exit, Fail, Absent}
 use Rattle.teco_model.specs.Step as model
 use Rattle.teco_model.specs.laws.StepCodes.{IsOfStep, StepsTellTheirCodes}
 use Rattle.teco_model.specs.Storage as storage
@@ -263,9 +265,6 @@ finding_of : (x : Search) (e : Element) (span : Option Span) (kept : Kept) → C
 finding_of x e None kept = tt
 finding_of x e (Some span) kept = after _ _ (kept_after x e span kept) (λ found. tt)
 
-finding : (x : Search) (e : Element) (s : State) → Coded (searching.finding x e s)
-finding x e s = search (after, arguments_of, count_of, pattern_coded, finding_of)
-
 -- pages
 fitting : (text : List ℕ) → Coded (paging.fitting text)
 fitting text = search either
@@ -308,8 +307,8 @@ module _ (page : World → Result World Code) (coded : (world : World) → Coded
   pages_of (Some m) None world = one_page 1 world
   pages_of None value world = after _ _ (page_count (unwrap_or value (pos 1))) (λ n. one_page n world)
 
-  pages_done : (s : State) → Coded (outside.pages_done page s)
-  pages_done s = after _ _ (arguments_of s.arguments.level) (λ taken. after _ _ (needed_output s.world) (λ output. pages_of taken.first taken.value s.world))
+  pages_coded : (taken : Taken) (world : World) → Coded (paging.pages page taken world)
+  pages_coded taken world = after _ _ (needed_output world) (λ output. pages_of taken.first taken.value world)
 
 -- searches of pages
 here_of : (x : Search) (e : Element) (kept : Kept) (sought : Sought) → Coded (paging.here_of x e kept sought)
@@ -331,8 +330,8 @@ match_count : (first value : Option ℤ) → Coded (paging.match_count first val
 match_count None value = page_count _
 match_count (Some m) value = tt
 
-looking : (x : Search) (e : Element) (s : State) → Coded (searching.looking x e s)
-looking x e s = after _ _ (arguments_of s.arguments.level) (λ taken. after _ _ (match_count taken.first taken.value) (λ n. look_for x e n _))
+look_first : (x : Search) (e : Element) (taken : Taken) (world : World) → Coded (paging.look_first x e taken world)
+look_first x e taken world = after _ _ (match_count taken.first taken.value) (λ n. look_for x e n _)
 
 -- files
 name_apart : (other : Option (List ℕ)) (name : List ℕ) → Coded (filing.name_apart_from other name)
@@ -343,6 +342,116 @@ name_apart (Some other) (c ∷ name) = search either
 no_output : (output : Option Output) → Coded (filing.no_output output)
 no_output None = tt
 no_output (Some output) = tt
+
+-- a reply has no code, or one that a step may be
+abbrev Allowed : Option Code → Type 0
+Allowed None = Unit {0}
+Allowed (Some c) = IsOfStep c
+
+-- What is answered of what may be a code has no other.
+answered : {X : Type 0} (r : Result X Code) (f : X → Result Reply Code) → Coded r → ((x : X) → Allowed (code_of (f x))) → Allowed (code_of (r >>= f))
+answered (Ok x) f h k = k x
+answered (Err c) f h k = h
+
+taken_first : (arguments : Arguments) (f : Taken → Arguments → Result Reply Code) → ((taken : Taken) → Allowed (code_of (f taken (levels_after_taking arguments)))) → Allowed (code_of (with_taken arguments f))
+taken_first arguments f k = answered (model_arguments.arguments_of arguments.level) (λ taken. f taken (levels_after_taking arguments)) (arguments_of arguments.level) k
+
+on_editor : (left : Option ℕ) (world : World) (r : Result After Code) → Coded r → Allowed (code_of (going.on_editor left world r))
+on_editor left world r h = answered r _ h (λ done. tt)
+
+going_on : (left : Option ℕ) (arguments : Arguments) (r : Result World Code) → Coded r → Allowed (code_of (outside.going_on left arguments r))
+going_on left arguments r h = answered r _ h (λ world. tt)
+
+while_left : (left : ℕ) (arguments : Arguments) (world : World) → Allowed (code_by (outside.while_left left arguments world).course)
+while_left zero arguments world = tt
+while_left (suc n) arguments world = tt
+
+in_pages : (arguments : Arguments) (r : Result paging.Progress Code) → Coded r → Allowed (code_of (outside.in_pages arguments r))
+in_pages arguments r h = answered r _ h (λ progress. while_left progress.left arguments progress.world)
+
+pages_reply : (page : World → Result World Code) → ((world : World) → Coded (page world)) → (left : Option ℕ) (arguments : Arguments) (world : World) → Allowed (code_of (outside.pages_reply page left arguments world))
+pages_reply page coded None arguments world =
+    taken_first arguments (λ taken rest. outside.in_pages rest (paging.pages page taken world)) (λ taken. in_pages (levels_after_taking arguments) _ (pages_coded page coded taken world))
+pages_reply page coded (Some n) arguments world = in_pages arguments _ (one_page page coded n world)
+
+append_reply : (value : Option ℤ) (left : Option ℕ) (arguments : Arguments) (world : World) → Allowed (code_of (outside.append_reply value left arguments world))
+append_reply None left arguments world = going_on left arguments _ (append world)
+append_reply (Some n) left arguments world = tt
+
+page_reply : (p : Page) (left : Option ℕ) (arguments : Arguments) (world : World) → Allowed (code_of (outside.page_reply p left arguments world))
+page_reply page_kind.Yank left arguments world =
+    taken_first arguments (λ taken rest. outside.going_on left rest (paging.yank world)) (λ taken. going_on left _ _ (yank world))
+page_reply page_kind.Append left arguments world =
+    taken_first arguments (λ taken rest. outside.append_reply taken.value left rest world) (λ taken. append_reply taken.value left _ world)
+page_reply page_kind.Next left arguments world = pages_reply _ page_turned left arguments world
+page_reply page_kind.Write left arguments world = pages_reply paging.page_written (λ world. tt) left arguments world
+
+opened : (left : Option ℕ) (arguments : Arguments) (world : World) (found : Option World) → Allowed (code_by (outside.opened left arguments world found).course)
+opened left arguments world None = tt
+opened left arguments world (Some new) = tt
+
+filed : (f : File) (name : List ℕ) (left : Option ℕ) (arguments : Arguments) (world : World) → Allowed (code_of (outside.filed f name left arguments world))
+filed file_kind.Read name left arguments world =
+    answered (filing.open_input name world) _ (after _ _ (name_apart _ name) (λ apart. tt)) (opened left arguments world)
+filed file_kind.Write name left arguments world =
+    going_on left arguments _ (after _ _ (no_output world.files.output) (λ alone. after _ _ (name_apart _ name) (λ apart. tt)))
+filed file_kind.Close name left arguments world = going_on left arguments _ (after _ _ (needed_output world) (λ output. tt))
+filed file_kind.Abandon name left arguments world = tt
+filed file_kind.Copy name left arguments world = going_on left arguments _ (after _ _ (needed_output world) (λ output. tt))
+filed file_kind.Exit name left arguments world = tt
+
+missed : (miss : searching.Miss) (left : Option ℕ) (arguments : Arguments) (before next : World) → Allowed (code_by (searching.missed miss left arguments before next).course)
+missed searching.Answers left arguments before next = tt
+missed (searching.Leaves turn) left arguments before next = tt
+missed searching.Unended left arguments before next = tt
+missed searching.Fails left arguments before next = tt
+
+module _ (x : Search) (e : Element) (miss : searching.Miss) where
+  found : (left : Option ℕ) (arguments : Arguments) (world : World) (finding : search_text.Finding) → Allowed (code_by (searching.found e miss left arguments world finding).course)
+  found left arguments world (search_text.Found kept) = tt
+  found left arguments world (search_text.Missed kept) = missed miss left arguments _ _
+
+  search_coded : (taken : Taken) (kept : Kept) → Coded (search_text.search x e taken kept)
+  search_coded taken kept = search (after, count_of, pattern_coded, finding_of)
+
+  found_in_buffer : (left : Option ℕ) (arguments : Arguments) (world : World) → Allowed (code_of (searching.found_in_buffer x e miss left arguments world))
+  found_in_buffer left arguments world =
+      taken_first arguments (λ taken rest. search_text.search x e taken world.kept >>= (λ finding. Ok (searching.found e miss left rest world finding))) (λ taken.
+      answered (search_text.search x e taken world.kept) (λ finding. Ok (searching.found e miss left (levels_after_taking arguments) world finding)) (search_coded taken world.kept) (found left (levels_after_taking arguments) world))
+
+  looked : (arguments : Arguments) (look : paging.Looked) → Allowed (code_by (searching.looked miss arguments look).course)
+  looked arguments (paging.Met world) = tt
+  looked arguments (paging.Turned n world) = tt
+  looked arguments (paging.Through world) = missed miss None arguments _ _
+
+  looking : (arguments : Arguments) (r : Result paging.Looked Code) → Coded r → Allowed (code_of (searching.looking miss arguments r))
+  looking arguments r h = answered r (λ look. Ok (searching.looked miss arguments look)) h (looked arguments)
+
+  found_in_pages : (left : Option ℕ) (arguments : Arguments) (world : World) → Allowed (code_of (searching.found_in_pages x e miss left arguments world))
+  found_in_pages None arguments world =
+      taken_first arguments (λ taken rest. searching.looking miss rest (paging.look_first x e taken world)) (λ taken.
+      looking (levels_after_taking arguments) _ (look_first x e taken world))
+  found_in_pages (Some n) arguments world = looking arguments _ (look_for x e n world)
+
+search_reply : (x : Search) (e : Element) (miss : searching.Miss) (left : Option ℕ) (arguments : Arguments) (world : World) → Allowed (code_of (searching.search_reply x e miss left arguments world))
+search_reply search_kind.Find e miss left arguments world = found_in_buffer search_kind.Find e miss left arguments world
+search_reply search_kind.Replace e miss left arguments world = found_in_buffer search_kind.Replace e miss left arguments world
+search_reply search_kind.FindInPages e miss left arguments world = found_in_pages search_kind.FindInPages e miss left arguments world
+search_reply search_kind.ReplaceInPages e miss left arguments world = found_in_pages search_kind.ReplaceInPages e miss left arguments world
+
+reply_of : (k : Kind) (e : Element) (s : State) → Allowed (code_of (model.reply_of k e s))
+unfolding model.reply_of
+reply_of (kind.Argument a) e s = on_editor s.left s.world _ (after_argument a e s.world.kept s.arguments)
+reply_of (kind.Value v) e s = on_editor s.left s.world _ (after_value v s.world.kept s.arguments)
+reply_of (kind.Query q) e s = on_editor s.left s.world _ (after_query q e.colons _ s.world.kept s.arguments)
+reply_of (kind.Stack k) e s = on_editor s.left s.world _ (after_stack k s.world.kept s.arguments)
+reply_of (kind.Call c) e s = tt
+reply_of (kind.Flow f) e s = answered _ _ (turn_of f e s.arguments s.frames.running) (λ turn. tt)
+reply_of (kind.Command c) e s = on_editor s.left s.world _ (after_command c e s.world.kept s.arguments)
+reply_of (kind.Page p) e s = page_reply p s.left s.arguments s.world
+reply_of (kind.Search x) e s = search_reply x e _ s.left s.arguments s.world
+reply_of (kind.File f) e s =
+    taken_first s.arguments (λ taken rest. outside.filed f e.text s.left rest s.world) (λ taken. filed f e.text s.left _ s.world)
 
 -- if an outcome is a code, it is one that a step may be
 abbrev Tells : Outcome → Type 0
@@ -357,106 +466,18 @@ code_in [] c h = h
 code_in (caller ∷ callers) code.Utc h = tt
 code_in (caller ∷ callers) c h = h
 
-world_outcome : (e : Element) (s : State) (r : Result World Code) → Coded r → Tells (outside.world_outcome e s r)
-world_outcome e s (Err c) h = code_in s.frames.callers c h
-world_outcome e s (Ok world) h = tt
+settled : (e : Element) (frames : Frames) (reply : Reply) (course : Course) → Allowed (code_by course) → Tells (going.settled e frames reply course)
+settled e frames reply Behind h = tt
+settled e frames reply Again h = tt
+settled e frames reply (Along frame) h = tt
+settled e frames reply (Into text) h = tt
+settled e frames reply Quit h = tt
+settled e frames reply NoFile h = tt
+settled e frames reply (Refused c) h = code_in frames.callers c h
 
-outcome_behind : (e : Element) (s : State) (r : Result After Code) → Coded r → Tells (going.outcome_behind e s r)
-outcome_behind e s (Err c) h = code_in s.frames.callers c h
-outcome_behind e s (Ok done) h = tt
-
-flow_outcome : (s : State) (r : Result Turn Code) → Coded r → Tells (model.flow_outcome s r)
-flow_outcome s (Err c) h = code_in s.frames.callers c h
-flow_outcome s (Ok turn) h = tt
-
-pages_behind : (e : Element) (s : State) (world : World) (left : ℕ) → Tells (outside.pages_behind e s world left)
-pages_behind e s world zero = tt
-pages_behind e s world (suc n) = tt
-
-pages_outcome : (e : Element) (s : State) (r : Result paging.Progress Code) → Coded r → Tells (outside.pages_outcome e s r)
-pages_outcome e s (Err c) h = code_in s.frames.callers c h
-pages_outcome e s (Ok done) h = pages_behind e s done.world done.left
-
-pages_outcome_of : (page : World → Result World Code) → ((world : World) → Coded (page world)) → (e : Element) (s : State) (left : Option ℕ) → Tells (outside.pages_outcome_of page e s left)
-pages_outcome_of page coded e s None = pages_outcome e (going.taking s) _ (pages_done page coded s)
-pages_outcome_of page coded e s (Some n) = pages_outcome e s _ (one_page page coded n s.world)
-
-append_by : (e : Element) (s : State) (taken : Taken) (value : Option ℤ) → taken.value ≡ value → Tells (outside.append_outcome e s (Ok taken))
-append_by e s taken None is = rw is (world_outcome e s _ (append s.world))
-append_by e s taken (Some n) is = rw is tt
-
-append_outcome : (e : Element) (s : State) (r : Result Taken Code) → Coded r → Tells (outside.append_outcome e s r)
-append_outcome e s (Err c) h = code_in s.frames.callers c h
-append_outcome e s (Ok taken) h = append_by e s taken taken.value refl
-
-page_outcome : (p : Page) (e : Element) (s : State) → Tells (outside.page_outcome p e s)
-page_outcome page_kind.Yank e s = world_outcome e (going.taking s) _ (after _ _ (arguments_of s.arguments.level) (λ taken. yank s.world))
-page_outcome page_kind.Append e s = append_outcome e (going.taking s) _ (arguments_of s.arguments.level)
-page_outcome page_kind.Next e s = pages_outcome_of _ page_turned e s s.left
-page_outcome page_kind.Write e s = pages_outcome_of paging.page_written (λ world. tt) e s s.left
-
-opened_outcome : (e : Element) (s : State) (r : Result (Option World) Code) → Coded r → Tells (outside.opened_outcome e s r)
-opened_outcome e s (Err c) h = code_in s.frames.callers c h
-opened_outcome e s (Ok None) h = tt
-opened_outcome e s (Ok (Some world)) h = tt
-
-exit_outcome : (s : State) (r : Result Taken Code) → Coded r → Tells (outside.exit_outcome s r)
-exit_outcome s (Err c) h = code_in s.frames.callers c h
-exit_outcome s (Ok taken) h = tt
-
-file_outcome : (f : File) (e : Element) (s : State) → Tells (outside.file_outcome f e s)
-file_outcome file_kind.Read e s = opened_outcome e (going.taking s) _ (after _ _ (arguments_of s.arguments.level) (λ taken. after _ _ (name_apart _ e.text) (λ apart. tt)))
-file_outcome file_kind.Write e s = world_outcome e (going.taking s) _ (after _ _ (arguments_of s.arguments.level) (λ taken. after _ _ (no_output s.world.files.output) (λ alone. after _ _ (name_apart _ e.text) (λ apart. tt))))
-file_outcome file_kind.Close e s = world_outcome e (going.taking s) _ (after _ _ (arguments_of s.arguments.level) (λ taken. after _ _ (needed_output s.world) (λ output. tt)))
-file_outcome file_kind.Abandon e s = world_outcome e (going.taking s) _ (after _ _ (arguments_of s.arguments.level) (λ taken. tt))
-file_outcome file_kind.Copy e s = world_outcome e (going.taking s) _ (after _ _ (arguments_of s.arguments.level) (λ taken. after _ _ (needed_output s.world) (λ output. tt)))
-file_outcome file_kind.Exit e s = exit_outcome s _ (arguments_of s.arguments.level)
-
-leaving_outcome : (stays missed : World) (s : State) (r : Result Turn Code) → Coded r → Tells (searching.leaving_outcome stays missed s r)
-leaving_outcome stays missed s (Err c) h = code_in s.frames.callers c h
-leaving_outcome stays missed s (Ok turn) h = tt
-
-missed_outcome : (e : Element) (stays missed : World) (s : State) (loops : List Loop) → Tells (searching.missed_outcome e stays missed s loops)
-missed_outcome e stays missed s [] = tt
-missed_outcome e stays missed s (loop ∷ outer) = leaving_outcome stays missed s _ (jump code.Utc e _ s.frames.running tt)
-
-miss_outcome : (colon : Bool) (e : Element) (stays missed : World) (s : State) → Tells (searching.miss_outcome colon e stays missed s)
-miss_outcome true e stays missed s = tt
-miss_outcome false e stays missed s = missed_outcome e stays missed s s.frames.running.loops
-
-search_outcome : (colon : Bool) (e : Element) (s : State) (r : Result search_text.Finding Code) → Coded r → Tells (searching.search_outcome colon e s r)
-search_outcome colon e s (Err c) h = code_in s.frames.callers c h
-search_outcome colon e s (Ok (search_text.Found kept)) h = tt
-search_outcome colon e s (Ok (search_text.Missed kept)) h = miss_outcome colon e _ _ s
-
-looked_outcome : (colon : Bool) (e : Element) (s : State) (r : Result paging.Looked Code) → Coded r → Tells (searching.looked_outcome colon e s r)
-looked_outcome colon e s (Err c) h = code_in s.frames.callers c h
-looked_outcome colon e s (Ok (paging.Met world)) h = tt
-looked_outcome colon e s (Ok (paging.Turned n world)) h = tt
-looked_outcome colon e s (Ok (paging.Through world)) h = miss_outcome colon e _ _ _
-
-looked_outcome_of : (x : Search) (e : Element) (s : State) (left : Option ℕ) → Tells (searching.looked_outcome_of x e s left)
-looked_outcome_of x e s None = looked_outcome (searching.has_colon e s.frames.running) e (going.taking s) _ (looking x e s)
-looked_outcome_of x e s (Some n) = looked_outcome (searching.has_colon e s.frames.running) e s _ (look_for x e n s.world)
-
-outcome_of_search : (x : Search) (e : Element) (s : State) → Tells (searching.outcome_of_search x e s)
-outcome_of_search search_kind.Find e s = search_outcome (searching.has_colon e s.frames.running) e (going.taking s) _ (finding search_kind.Find e s)
-outcome_of_search search_kind.Replace e s = search_outcome (searching.has_colon e s.frames.running) e (going.taking s) _ (finding search_kind.Replace e s)
-outcome_of_search search_kind.FindInPages e s = looked_outcome_of search_kind.FindInPages e s s.left
-outcome_of_search search_kind.ReplaceInPages e s = looked_outcome_of search_kind.ReplaceInPages e s s.left
-
-outcome_of : (k : Kind) (e : Element) (s : State) → Tells (model.outcome_of k e s)
-unfolding model.outcome_of
-outcome_of (kind.Argument a) e s = outcome_behind e s _ (after_argument a e s.world.kept s.arguments)
-outcome_of (kind.Value v) e s = outcome_behind e s _ (after_value v s.world.kept s.arguments)
-outcome_of (kind.Query q) e s = outcome_behind e s _ (after_query q e.colons _ s.world.kept s.arguments)
-outcome_of (kind.Stack k) e s = outcome_behind e s _ (after_stack k s.world.kept s.arguments)
-outcome_of (kind.Call c) e s = tt
-outcome_of (kind.Flow f) e s = flow_outcome s _ (turn_of f e s.arguments s.frames.running)
-outcome_of (kind.Command c) e s = outcome_behind e s _ (after_command c e s.world.kept s.arguments)
-outcome_of (kind.Page p) e s = page_outcome p e s
-outcome_of (kind.Search x) e s = outcome_of_search x e s
-outcome_of (kind.File f) e s = file_outcome f e s
+settle : (e : Element) (s : State) (r : Result Reply Code) → Allowed (code_of r) → Tells (going.settle e s r)
+settle e s (Err c) h = code_in s.frames.callers c h
+settle e s (Ok reply) h = settled e s.frames reply reply.course h
 
 end_outcome : (callers : List Frame) (s : State) → Tells (model.end_outcome callers s)
 end_outcome [] s = tt
@@ -469,7 +490,7 @@ end_of_text (loop ∷ outer) s = code_in s.frames.callers code.Utc tt
 outcome_at : (s : State) (read : Result (Option Element) Code) → Coded read → Tells (model.outcome_at s read)
 outcome_at s (Err c) h = code_in s.frames.callers c h
 outcome_at s (Ok None) h = end_of_text s.frames.running.loops s
-outcome_at s (Ok (Some e)) h = outcome_of e.kind e s
+outcome_at s (Ok (Some e)) h = settle e s _ (reply_of e.kind e s)
 
 step_tells : (s : State) → Tells (model.step s)
 unfolding model.step

@@ -7,12 +7,12 @@ use Rattle.teco_model.specs.Pattern.{part_at, parts_within, parts}
 use Rattle.teco_model.specs.Element.{blank_len, element_from, element_at}
 use Rattle.teco_model.specs.Registers.{empty_pairs}
 use Rattle.teco_model.specs.Letters.{letters}
-use Rattle.teco_model.specs.Step.{outcome_of, step}
+use Rattle.teco_model.specs.Step.{reply_of, step}
 use Rattle.teco_model.specs.Run.{run}
 use Rattle.teco_model.specs.rows.Sessions.{WorkedRows}
 
 pub worked_rows : WorkedRows
-unfolding digits int_wrap empty_pairs blank_len element_from element_at letters reading_at first_readings readings here part_at parts_within parts outcome_of step run
+unfolding digits int_wrap empty_pairs blank_len element_from element_at letters reading_at first_readings readings here part_at parts_within parts reply_of step run
 worked_rows = record {
   left_to_right = refl;
   wraps = refl;

@@ -6,3 +6,8 @@ infixl 10 ◌>>=◌
 abbrev pub ◌>>=◌ : {X Y : Type 0} → Result X Code → (X → Result Y Code) → Result Y Code
 (Ok x) >>= f = f x
 (Err c) >>= f = Err c
+
+-- what is made of an answer; a code stays
+infixl 10 ◌>>-◌
+abbrev pub ◌>>-◌ : {X Y : Type 0} → Result X Code → (X → Y) → Result Y Code
+r >>- made = r >>= (λ x. Ok (made x))

@@ -17,18 +17,11 @@ use Rattle.teco_model.specs.declared.stop.HostFault.TheVariants.{NoFile, In, Out
 use Rattle.teco_model.specs.Element.{Element, element_at}
 use Rattle.teco_model.specs.Files.{with_written}
 use Rattle.teco_model.specs.Filing.{abandon_output}
+use Rattle.teco_model.specs.Going.{code_of, world_left}
 use Rattle.teco_model.specs.Memory.{grows, is_late_in_search, is_late_in_page}
 use Rattle.teco_model.specs.Paging.{world_after_writing}
-use Rattle.teco_model.specs.State.{World, State, Outcome, Next, End, Exit, Fail, Absent}
-use Rattle.teco_model.specs.Step.{step}
-
--- what stays after an outcome
-abbrev pub world_left : Outcome → World
-world_left (Next s) = s.world
-world_left (End world) = world
-world_left (Exit world) = world
-world_left (Fail c world) = world
-world_left (Absent world) = world
+use Rattle.teco_model.specs.State.{World, State}
+use Rattle.teco_model.specs.Step.{reply_of}
 
 -- of what a step writes to the output, a part from its front was written, and nothing else done
 pub record WritesPart (before after new : World) : Type 0 where
@@ -132,22 +125,20 @@ is_late_for In (kind.Search s) c = is_told_by_page c
 is_late_for Out (kind.Search s) c = is_srh c
 is_late_for fault k c = false
 
--- may a fault of the host come in the place of an element's outcome?
-abbrev pub MayBreak : HostFault → Kind → Outcome → Type 0
-MayBreak fault k (Next s) = ⊤
-MayBreak fault k (End world) = ⊥
-MayBreak fault k (Exit world) = ⊤
-MayBreak fault k (Fail c world) = IsTrue (is_late_for fault k c)
-MayBreak fault k (Absent world) = ⊤
+-- may a fault of the host come in the place of what an element answers, by the code that it is refused with?
+abbrev pub MayBreak : HostFault → Kind → Option Code → Type 0
+MayBreak fault k None = ⊤
+MayBreak fault k (Some c) = IsTrue (is_late_for fault k c)
 
 -- what stays where the host failed in the step from a state
-abbrev pub BreaksAt : State → Result (Option Element) Code → Outcome → HostFault → World → Type 0
-BreaksAt s (Err c) outcome fault new = ⊥
-BreaksAt s (Ok None) outcome fault new = ⊥
-BreaksAt s (Ok (Some e)) outcome fault new =
-    MayBreak fault e.kind outcome
-    × Breaks e.kind (grows e.kind s.arguments.level s.left) fault s.world (world_left outcome) new
+abbrev pub BreaksAt : State → Result (Option Element) Code → HostFault → World → Type 0
+BreaksAt s (Err c) fault new = ⊥
+BreaksAt s (Ok None) fault new = ⊥
+BreaksAt s (Ok (Some e)) fault new =
+    let reply = reply_of e.kind e s in
+    MayBreak fault e.kind (code_of reply)
+    × Breaks e.kind (grows e.kind s.arguments.level s.left) fault s.world (world_left s.world reply) new
 
 abbrev pub BreaksFrom : State → HostFault → World → Type 0
 BreaksFrom s fault new =
-    BreaksAt s (element_at s.frames.running.text s.frames.running.place) (step s) fault new
+    BreaksAt s (element_at s.frames.running.text s.frames.running.place) fault new

@@ -25,9 +25,9 @@ pub mod Storage
 pub mod Conversion
 pub mod Query
 pub mod Condition
+pub mod Going
 pub mod Flow
 pub mod Search
-pub mod Going
 pub mod Searching
 pub mod Outside
 pub mod Step

@@ -1,93 +1,65 @@
--- What the commands of pages and files come to in a run. They take their arguments; P and PW do so in their first step, and go on
--- with each page.
-use Rattle.std.specs.Prelude.{ℕ, zero, suc, ℤ, Option, Some, None, Result, Ok, Err}
+-- What the commands of pages and files answer. P and PW take their arguments in their first step, and go on with each page.
+use Rattle.std.specs.Prelude.{ℕ, zero, suc, ℤ, List, Option, Some, None, Result, Ok}
 use Rattle.teco_base.specs.declared.code.Code.{Code}
-use Rattle.teco_model.specs.declared.arguments.Taken.{Taken}
 use Rattle.teco_model.specs.declared.kind.File.{File}
 use Rattle.teco_model.specs.declared.kind.File.TheVariants as file
 use Rattle.teco_model.specs.declared.kind.Page.{Page}
 use Rattle.teco_model.specs.declared.kind.Page.TheVariants as page
-use Rattle.teco_model.specs.Arguments.{arguments_of, levels_after_answer}
+use Rattle.teco_model.specs.Arguments.{Arguments, levels_after_answer}
 use Rattle.teco_model.specs.Character.{character}
-use Rattle.teco_model.specs.Checked.{◌>>=◌}
-use Rattle.teco_model.specs.Element.{Element}
+use Rattle.teco_model.specs.Checked.{◌>>-◌}
 use Rattle.teco_model.specs.Filing.{open_input, open_output, close_output, abandon_output, copy_all, exit}
-use Rattle.teco_model.specs.Going.{failure, frames_at, taking, behind, again, with_nothing_left}
+use Rattle.teco_model.specs.Going.{Reply, Behind, Again, Quit, NoFile, replying, with_taken}
 use Rattle.teco_model.specs.Paging.{Progress, yank, append, pages, one_page_of, page_turned, page_written}
-use Rattle.teco_model.specs.State.{World, State, Outcome, Next, Exit, Absent}
+use Rattle.teco_model.specs.State.{World}
 
--- the outcome behind a command that answers nothing
-abbrev pub world_outcome : Element → State → Result World Code → Outcome
-world_outcome e s (Err c) = failure c s
-world_outcome e s (Ok world) = Next (behind e world s)
+-- a command that changes only what stays goes on behind itself
+abbrev pub going_on : Option ℕ → Arguments → Result World Code → Result Reply Code
+going_on left arguments done = done >>- replying Behind left arguments
 
 -- P and PW stay at their element while pages are left
-abbrev pub pages_behind : Element → State → World → ℕ → Outcome
-pages_behind e s world zero = Next (with_nothing_left (behind e world s))
-pages_behind e s world (suc n) = Next (again (suc n) world s)
+abbrev pub while_left : ℕ → Arguments → World → Reply
+while_left zero arguments world = replying Behind None arguments world
+while_left (suc n) arguments world = replying Again (Some (suc n)) arguments world
 
-abbrev pub pages_outcome : Element → State → Result Progress Code → Outcome
-pages_outcome e s (Err c) = failure c s
-pages_outcome e s (Ok done) = pages_behind e s done.world done.left
+abbrev pub in_pages : Arguments → Result Progress Code → Result Reply Code
+in_pages arguments done = done >>- (λ progress. while_left progress.left arguments progress.world)
 
-abbrev pub pages_done : (World → Result World Code) → State → Result Progress Code
-pages_done one_page s = do
-  taken ← arguments_of s.arguments.level
-  pages one_page taken s.world
-
-abbrev pub pages_outcome_of : (World → Result World Code) → Element → State → Option ℕ → Outcome
-pages_outcome_of one_page e s None = pages_outcome e (taking s) (pages_done one_page s)
-pages_outcome_of one_page e s (Some n) = pages_outcome e s (one_page_of one_page n s.world)
+abbrev pub pages_reply : (World → Result World Code) → Option ℕ → Arguments → World → Result Reply Code
+pages_reply one_page None arguments world =
+    with_taken arguments (λ taken rest. in_pages rest (pages one_page taken world))
+pages_reply one_page (Some n) arguments world = in_pages arguments (one_page_of one_page n world)
 
 -- nA answers the code of a character, and A alone appends a page.
-abbrev pub character_outcome : Element → State → ℤ → Outcome
-character_outcome e s n = Next (record s {
-  arguments = levels_after_answer (Some (character n s.world.kept)) s.arguments;
-  frames = frames_at e.next s.frames;
-})
+abbrev pub append_reply : Option ℤ → Option ℕ → Arguments → World → Result Reply Code
+append_reply None left arguments world = going_on left arguments (append world)
+append_reply (Some n) left arguments world =
+    Ok (replying Behind left (levels_after_answer (Some (character n world.kept)) arguments) world)
 
-abbrev pub append_outcome : Element → State → Result Taken Code → Outcome
-append_outcome e s (Err c) = failure c s
-append_outcome e s (Ok taken) = elim taken.value [
-  | None ↦ world_outcome e s (append s.world)
-  | Some n ↦ character_outcome e s n
-]
-
--- what a command of pages comes to
-abbrev pub page_outcome : Page → Element → State → Outcome
-page_outcome page.Yank e s = world_outcome e (taking s) (do
-  taken ← arguments_of s.arguments.level
-  yank s.world)
-page_outcome page.Append e s = append_outcome e (taking s) (arguments_of s.arguments.level)
-page_outcome page.Next e s = pages_outcome_of page_turned e s s.left
-page_outcome page.Write e s = pages_outcome_of page_written e s s.left
+-- what a command of pages answers
+abbrev pub page_reply : Page → Option ℕ → Arguments → World → Result Reply Code
+page_reply page.Yank left arguments world =
+    with_taken arguments (λ taken rest. going_on left rest (yank world))
+page_reply page.Append left arguments world =
+    with_taken arguments (λ taken rest. append_reply taken.value left rest world)
+page_reply page.Next left arguments world = pages_reply page_turned left arguments world
+page_reply page.Write left arguments world = pages_reply page_written left arguments world
 
 -- Where no file has the name the host is to refuse it.
-abbrev pub opened_outcome : Element → State → Result (Option World) Code → Outcome
-opened_outcome e s (Err c) = failure c s
-opened_outcome e s (Ok None) = Absent s.world
-opened_outcome e s (Ok (Some world)) = Next (behind e world s)
+abbrev pub opened : Option ℕ → Arguments → World → Option World → Reply
+opened left arguments world None = replying NoFile left arguments world
+opened left arguments world (Some new) = replying Behind left arguments new
 
--- the end of the session
-abbrev pub exit_outcome : State → Result Taken Code → Outcome
-exit_outcome s (Err c) = failure c s
-exit_outcome s (Ok taken) = Exit (exit s.world)
+-- what a command of files answers, whose arguments are taken
+abbrev pub filed : File → List ℕ → Option ℕ → Arguments → World → Result Reply Code
+filed file.Read name left arguments world = open_input name world >>- opened left arguments world
+filed file.Write name left arguments world = going_on left arguments (open_output name world)
+filed file.Close name left arguments world = going_on left arguments (close_output world)
+filed file.Abandon name left arguments world =
+    Ok (replying Behind left arguments (abandon_output world))
+filed file.Copy name left arguments world = going_on left arguments (copy_all world)
+filed file.Exit name left arguments world = Ok (replying Quit left arguments (exit world))
 
--- what a command of files comes to
-abbrev pub file_outcome : File → Element → State → Outcome
-file_outcome file.Read e s = opened_outcome e (taking s) (do
-  taken ← arguments_of s.arguments.level
-  open_input e.text s.world)
-file_outcome file.Write e s = world_outcome e (taking s) (do
-  taken ← arguments_of s.arguments.level
-  open_output e.text s.world)
-file_outcome file.Close e s = world_outcome e (taking s) (do
-  taken ← arguments_of s.arguments.level
-  close_output s.world)
-file_outcome file.Abandon e s = world_outcome e (taking s) (do
-  taken ← arguments_of s.arguments.level
-  Ok (abandon_output s.world))
-file_outcome file.Copy e s = world_outcome e (taking s) (do
-  taken ← arguments_of s.arguments.level
-  copy_all s.world)
-file_outcome file.Exit e s = exit_outcome s (arguments_of s.arguments.level)
+abbrev pub file_reply : File → List ℕ → Option ℕ → Arguments → World → Result Reply Code
+file_reply f name left arguments world =
+    with_taken arguments (λ taken rest. filed f name left rest world)

@@ -12,10 +12,10 @@ pub mod Frames
 pub mod Holdings
 pub mod Courses
 pub mod Executions
-pub mod Outside
+pub mod Replies
+pub mod Misses
 pub mod Pending
 pub mod Ways
-pub mod Seeks
 pub mod Steps
 pub mod Stopped
 pub mod Unread

@@ -20,11 +20,7 @@ TellsIfUnread old new (Err (stop.Error c)) =
     (c ≡ code.Ful) × (LIMIT < length (first_page (unread old.files)).text) × (new ≡ old)
 TellsIfUnread old new (Err stop.Memory) = new ≡ old
 TellsIfUnread old new (Err (stop.HostFault host_fault.In)) = new ≡ old
-TellsIfUnread old new (Err (stop.HostFault host_fault.NoFile)) = ⊥
-TellsIfUnread old new (Err (stop.HostFault host_fault.Out)) = ⊥
-TellsIfUnread old new (Err (stop.Ended n)) = ⊥
-TellsIfUnread old new (Err (stop.Exit n)) = ⊥
-TellsIfUnread old new (Err stop.Limit) = ⊥
+TellsIfUnread old new told = ⊥
 
 -- The host's count of failures rises, from f to g, where the host failed, and in no other case.
 abbrev pub UnreadCounts : Result Bool Stop → ℕ → ℕ → Type 0

@@ -1,14 +1,30 @@
 //! How a run goes on behind an element.
+ghost use Rattle.std.specs.Prelude.{◌≡◌};
+ghost use Rattle.teco_run.specs.Replies.{course_by};
+
 use crate::way::Way;
 use teco_base::Reg;
+use teco_filing::Halt;
 
 /// How a run goes on behind an element.
 #[derive(Clone, Copy)]
 pub enum Course {
-    /// In the running text.
-    Go(Way),
+    /// Behind the element.
+    Behind,
+    /// At the element again, which has more to do.
+    Again,
+    /// In the running text, a way.
+    Along(Way),
     /// In the text of a register, and then behind the element.
-    Call(Reg),
+    Into(Reg),
     /// The session ends.
-    Exit,
+    Quit,
+}
+
+/// The course behind what is done, or why it is not.
+pub fn then(done: Result<(), Halt>, course: Course) -> Result<Course, Halt>
+    ensures { result ≡ course_by course done }
+{
+    done?;
+    Ok(course)
 }

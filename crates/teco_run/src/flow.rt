@@ -114,7 +114,11 @@ fn end_turn(element: &Element<'_>, frames: &Frames<'_>) -> Result<Way, Code>
 
 // `;` leaves the iteration, or goes on.
 #[inline(always)]
-fn leave(element: &Element<'_>, frames: &Frames<'_>, arguments: &mut Args) -> Result<Way, Stuck>
+fn leave_iteration(
+    element: &Element<'_>,
+    frames: &Frames<'_>,
+    arguments: &mut Args,
+) -> Result<Way, Stuck>
     requires { IsRead element.now frames.now }
     ensures way { Turns frames.now.running arguments.new
         (model.leaving (seen element.now) frames.now.running.loops arguments.old frames.now.running) result }
@@ -189,7 +193,7 @@ fn go_to(element: &Element<'_>, frames: &Frames<'_>, arguments: &mut Args) -> Re
 
 /// The way that the text goes behind a flow element.
 #[inline(always)]
-pub fn turn(
+pub fn steer(
     flow: Flow,
     element: &Element<'_>,
     frames: &Frames<'_>,
@@ -212,7 +216,7 @@ pub fn turn(
             arguments.drop_all();
             Ok(way)
         }
-        Flow::Leave => leave(element, frames, arguments),
+        Flow::Leave => leave_iteration(element, frames, arguments),
         Flow::Test(test) => decide(test, element, frames, arguments),
         Flow::GoAhead(Goal::EndTurn) => Ok(to_turn_end(element, frames)?),
         Flow::Otherwise | Flow::GoAhead(Goal::EndTest | Goal::Otherwise) => {

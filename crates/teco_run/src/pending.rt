@@ -1,10 +1,14 @@
 //! What is pending between two elements.
 ghost use Rattle.std.specs.Prelude.{◌≡◌, ◌≤◌, Some, None, IfSome};
 ghost use Rattle.teco_model.specs.Arguments.{no_arguments};
+ghost use Rattle.teco_run.specs.Replies.{Leaves, Takes};
 
+use crate::course::Course;
 use std::alloc::Global;
 use std::marker::Model;
+use teco_editor::Stuck;
 use teco_expr::Args;
+use teco_model::Taken;
 
 /// What is pending between two elements: arguments, and what an element of several steps still has
 /// to do.
@@ -37,6 +41,13 @@ impl Pending {
         }
     }
 
+    /// Takes the arguments.
+    pub fn take(&mut self) -> Result<Taken, Stuck>
+        ensures { Takes self.old self.new result }
+    {
+        Ok(self.arguments.take()?)
+    }
+
     /// What is left to do at an element of several steps.
     pub fn left(&self) -> Option<u32>
         ensures value { result ≡ self.now.left }
@@ -45,15 +56,19 @@ impl Pending {
         self.left
     }
 
-    /// Keeps how much is left to do at an element of several steps.
-    pub fn set_left(&mut self, n: u32)
-        requires { 1 ≤ n }
-        ensures { self.new ≡ record self.old { left = Some n } }
+    /// The element goes on with what is left to do, or behind itself where that is nothing.
+    pub fn leave(&mut self, n: u32) -> Course
+        ensures { Leaves self.old self.new n result }
     {
+        if n == 0 {
+            self.left = None;
+            return Course::Behind;
+        }
         self.left = Some(n);
+        Course::Again
     }
 
-    /// Nothing is left to do at it.
+    /// Nothing is left to do.
     pub fn clear_left(&mut self)
         ensures { self.new ≡ record self.old { left = None } }
     {

@@ -5,12 +5,11 @@ ghost use Rattle.teco_model.specs.Element.{seen};
 ghost use Rattle.teco_model.specs.Memory.{command_grows, query_grows};
 ghost use Rattle.teco_model.specs.Step as model;
 ghost use Rattle.teco_run.specs.Performs.{Performs};
-ghost use Rattle.teco_editor.specs.Does.{DoesIfMemory};
 
 use teco_editor::{Editor, Stuck};
 use teco_expr::Args;
+use teco_model::Element;
 use teco_model::kind::{Command, Query};
-use teco_model::{Element, Taken};
 use teco_text::TextStore;
 
 // May it take a value that stands? `:Q` takes none.
@@ -51,46 +50,8 @@ pub fn ask<T: TextStore>(
     Ok(())
 }
 
-// Executes a command with the arguments that it took.
-#[inline(never)]
-fn command_done<T: TextStore>(
-    editor: &mut Editor<T>,
-    command: Command,
-    element: &Element<'_>,
-    taken: Taken,
-) -> Result<Option<i32>, Stuck>
-    ensures { DoesIfMemory (command_grows command) editor.old editor.new
-        (model.execution command (seen element.now) taken editor.old) result }
-{
-    match command {
-        Command::Motion(motion) => Ok(editor.motion(motion, element, taken)?),
-        Command::Deletion(unit) => Ok(editor.deletion(unit, taken)?),
-        Command::Insertion(insertion) => editor.insertion(insertion, element, taken),
-        Command::Typing(typing) => editor.typing(typing, element, taken),
-        Command::Storage(storage) => editor.storage(storage, element, taken),
-    }
-}
-
-// What a command comes to. Inlined where it works on a register, as counting does.
-#[inline(always)]
-fn done<T: TextStore>(
-    editor: &mut Editor<T>,
-    command: Command,
-    element: &Element<'_>,
-    taken: Taken,
-) -> Result<Option<i32>, Stuck>
-    ensures { DoesIfMemory (command_grows command) editor.old editor.new
-        (model.execution command (seen element.now) taken editor.old) result }
-{
-    match command {
-        Command::Storage(storage) => editor.storage(storage, element, taken),
-        _ => command_done(editor, command, element, taken),
-    }
-}
-
 /// Takes the arguments, executes the command, and gives what it answers.
-#[inline(always)]
-pub fn execute<T: TextStore>(
+pub fn perform<T: TextStore>(
     editor: &mut Editor<T>,
     command: Command,
     element: &Element<'_>,
@@ -100,7 +61,14 @@ pub fn execute<T: TextStore>(
         (model.after_command command (seen element.now) editor.old arguments.old) result }
 {
     let taken = arguments.take()?;
-    if let Some(answer) = done(editor, command, element, taken)? {
+    let answer = match command {
+        Command::Motion(motion) => editor.motion(motion, element, taken)?,
+        Command::Deletion(unit) => editor.deletion(unit, taken)?,
+        Command::Insertion(insertion) => editor.insertion(insertion, element, taken)?,
+        Command::Typing(typing) => editor.typing(typing, element, taken)?,
+        Command::Storage(storage) => editor.storage(storage, element, taken)?,
+    };
+    if let Some(answer) = answer {
         arguments.value(answer)?;
     }
     Ok(())

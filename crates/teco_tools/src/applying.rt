@@ -20,7 +20,7 @@ use teco_verdicts::{
     AnswerFault, Claim, Console, Grouped, Known, Outcome, Request, Sourced, accepted, read_claim,
     read_library, refuse_claim, refuse_macro,
 };
-use teco_verify::{Refusal, Verified, account_of};
+use teco_verify::{Refusal, Verified, account_by};
 
 /// A macro of a library, and how it is run on files.
 #[derive(Clone, Copy)]
@@ -162,7 +162,7 @@ pub fn refuse_task<O: Write + Drop, E: Write + Drop>(
 ) -> Result<Outcome, AnswerFault> {
     match claim {
         None => {
-            let account = account_of(console.alloc, &sourced.library, entry)?;
+            let account = account_by(console.alloc, &sourced.library, entry, sourced.rules)?;
             refuse_macro(console, &sourced.source, &account, refusal)
         }
         Some(claim) => refuse_claim(console, sourced, entry, claim, refusal),
@@ -184,7 +184,13 @@ pub fn apply_macro<R: Files + Input, H: Host + Reporting, O: Write + Drop, E: Wr
     };
     check_settings(&sourced.library, task.settings)?;
     let entry = task.entry;
-    match accepted(console.alloc, &sourced.library, entry, claim.as_ref()) {
+    match accepted(
+        console.alloc,
+        &sourced.library,
+        entry,
+        sourced.rules,
+        claim.as_ref(),
+    ) {
         Ok(verified) => edit_by(console, task, names, &verified, host),
         Err(refusal) => Ok(refuse_task(console, &sourced, entry, claim.as_ref(), refusal)?),
     }

@@ -254,7 +254,13 @@ where
     };
     check_settings(&sourced.library, task.settings)?;
     let entry = task.entry;
-    match accepted(console.alloc, &sourced.library, entry, claim.as_ref()) {
+    match accepted(
+        console.alloc,
+        &sourced.library,
+        entry,
+        sourced.rules,
+        claim.as_ref(),
+    ) {
         Ok(verified) => {
             let job = Job {
                 task,

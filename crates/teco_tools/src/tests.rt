@@ -11,6 +11,7 @@ use teco_apply::Pages;
 use teco_base::Reg;
 use teco_pages::FileHost;
 use teco_verdicts::{Console, Escape, Outcome, Request};
+use teco_verify::Rules;
 
 /// Writers over memory, in place of standard output and standard error.
 fn kept(rt: &HostRuntime) -> Console<Vec<u8>, Vec<u8>> {
@@ -23,6 +24,7 @@ fn library_file<'a>(rt: &HostRuntime, name: &'a str, text: &[u8]) -> Result<Requ
     Ok(Request {
         library: name,
         escape: Escape::Mark(b'$'),
+        rules: Rules::First,
     })
 }
 

@@ -16,7 +16,8 @@ use std::rt::Files;
 use teco_base::Reg;
 use teco_base::bytes::LF;
 use teco_source::Shown;
-use teco_verify::{Refusal, verify};
+use teco_verifier::Rules;
+use teco_verify::{Refusal, verify_by};
 
 // The first line of a text, and what comes behind its end.
 fn split_line(text: &[u8]) -> (&[u8], &[u8]) {
@@ -82,6 +83,47 @@ fn tell_difference<O: Write + Drop, E: Write + Drop>(
     }
 }
 
+// How many lines of a certificate stand before those of its needs, at most.
+const HEAD_LINES: usize = 4;
+
+// The edition of the rules that a certificate says it is of.
+fn edition_of(text: &[u8]) -> Rules {
+    let mut rest = text;
+    for _ in 0..HEAD_LINES {
+        let (line, behind) = split_line(rest);
+        if line == b"rules 2".as_slice() {
+            return Rules::Second;
+        }
+        rest = behind;
+    }
+    Rules::First
+}
+
+// The edition of the rules that a certificate says it is of, if it is another than this.
+fn other_edition(text: &[u8], rules: Rules) -> Option<Rules> {
+    match (edition_of(text), rules) {
+        (Rules::First, Rules::Second) => Some(Rules::First),
+        (Rules::Second, Rules::First) => Some(Rules::Second),
+        _ => None,
+    }
+}
+
+// Says that a certificate is of the other edition of the rules, and with which option it is checked.
+fn tell_edition<O: Write + Drop, E: Write + Drop>(
+    console: &mut Console<O, E>,
+    name: &str,
+    edition: Rules,
+) {
+    let name = Shown(name.as_bytes());
+    let (edition, option) = match edition {
+        Rules::First => ("first", 1),
+        Rules::Second => ("second", 2),
+    };
+    console.say(format_args!(
+        "{name}: refused X18: the certificate is of the {edition} edition of the rules, which --rules {option} checks"
+    ));
+}
+
 // Says why a certificate is refused: the macro is, or a line is another.
 fn tell_why<O: Write + Drop, E: Write + Drop>(
     console: &mut Console<O, E>,
@@ -89,7 +131,7 @@ fn tell_why<O: Write + Drop, E: Write + Drop>(
     entry: Reg,
     claim: &Claim<'_>,
 ) -> Result<(), AnswerFault> {
-    match verify(console.alloc, &sourced.library, entry) {
+    match verify_by(console.alloc, &sourced.library, entry, sourced.rules) {
         Ok(verified) => {
             let wanted = verified.certificate(console.alloc)?;
             tell_difference(console, claim.name, &claim.bytes, &wanted);
@@ -117,7 +159,10 @@ pub fn refuse_claim<O: Write + Drop, E: Write + Drop>(
         return Err(AnswerFault::Memory);
     };
     console.answer(format_args!("{verdict}\n"))?;
-    tell_why(console, sourced, entry, claim)?;
+    match other_edition(&claim.bytes, sourced.rules) {
+        Some(edition) => tell_edition(console, claim.name, edition),
+        None => tell_why(console, sourced, entry, claim)?,
+    }
     Ok(Outcome::Refused)
 }
 
@@ -131,7 +176,7 @@ fn check_claim<O: Write + Drop, E: Write + Drop>(
     ensures { IfOk result (λ outcome. outcome ≡ Done
         → IsCertificate sourced.now.library entry claim.now.bytes.items) }
 {
-    match claim.accept(console.alloc, &sourced.library, entry) {
+    match claim.accept(console.alloc, &sourced.library, entry, sourced.rules) {
         Ok(verified) => {
             verified.is_certified();
             console.answer("accepted\n")?;

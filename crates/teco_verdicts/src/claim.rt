@@ -11,7 +11,8 @@ use std::io::Input;
 use std::rt::Files;
 use teco_base::Reg;
 use teco_library::Library;
-use teco_verify::{Refusal, Verified, check_certificate, verify};
+use teco_verifier::Rules;
+use teco_verify::{Refusal, Verified, check_certificate_by, verify_by};
 
 /// What a file says to be the certificate of a macro.
 #[derive(Drop)]
@@ -34,12 +35,13 @@ impl<'a> Claim<'a> {
         Ok(Claim { name, bytes })
     }
 
-    /// The macro that it is the certificate of, if that is the entry.
+    /// The macro that it is the certificate of by these rules, if that is the entry.
     pub fn accept<'l>(
         &self,
         alloc: Global,
         library: &'l Library,
         entry: Reg,
+        rules: Rules,
     ) -> Result<Verified<'l>, Refusal>
         ensures library { IfOk result (λ verified. verified.library ≡ library.now.texts) }
         ensures declared { IfOk result (λ verified. TakesDeclared library.now verified.fields) }
@@ -47,7 +49,7 @@ impl<'a> Claim<'a> {
         ensures text { IfOk result (λ verified. certificate_text verified.fields
             ≡ self.now.bytes.items) }
     {
-        let verified = check_certificate(alloc, library, &self.bytes)?;
+        let verified = check_certificate_by(alloc, library, &self.bytes, rules)?;
         if verified.entry().index() == entry.index() {
             Ok(verified)
         } else {
@@ -73,6 +75,7 @@ pub fn accepted<'l>(
     alloc: Global,
     library: &'l Library,
     entry: Reg,
+    rules: Rules,
     claim: Option<&Claim<'_>>,
 ) -> Result<Verified<'l>, Refusal>
     ensures library { IfOk result (λ verified. verified.library ≡ library.now.texts) }
@@ -82,7 +85,7 @@ pub fn accepted<'l>(
         (λ verified. certificate_text verified.fields ≡ claim.now.bytes.items)) }
 {
     match claim {
-        None => verify(alloc, library, entry),
-        Some(claim) => claim.accept(alloc, library, entry),
+        None => verify_by(alloc, library, entry, rules),
+        Some(claim) => claim.accept(alloc, library, entry, rules),
     }
 }

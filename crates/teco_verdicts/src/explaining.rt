@@ -14,7 +14,7 @@ use std::rt::Files;
 use teco_base::Reg;
 use teco_library::Library;
 use teco_source::{Position, Shown, Source};
-use teco_verify::{Account, account_of};
+use teco_verify::{Account, account_by};
 
 // The text of an element: the call that the macro is begun by, an element of a text, or nothing at
 // the end of one.
@@ -113,7 +113,7 @@ pub fn explain_macro<R: Files + Input, O: Write + Drop, E: Write + Drop>(
     let Some(sourced) = read_library(rt, console, request)? else {
         return Ok(Outcome::Refused);
     };
-    let account = account_of(console.alloc, &sourced.library, entry)?;
+    let account = account_by(console.alloc, &sourced.library, entry, sourced.rules)?;
     console.answer("number\tplace\telement\tknown before it\n")?;
     let last = account.stop().unwrap_or(account.len());
     for before in 0..last {

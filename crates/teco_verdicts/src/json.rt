@@ -15,7 +15,8 @@ use teco_explain::{Explained, number_of};
 use teco_library::Library;
 use teco_poly::Poly;
 use teco_source::{Position, Source};
-use teco_verify::{Refusal, Verified, verify};
+use teco_verifier::Rules;
+use teco_verify::{Refusal, Verified, verify_by};
 
 /// How many coefficients a polynomial has at most.
 const COEFFICIENTS: usize = 9;
@@ -162,8 +163,9 @@ fn answer_verdict<O: Write + Drop, E: Write + Drop>(
     source: &Source,
     library: &Library,
     entry: Reg,
+    rules: Rules,
 ) -> Result<Outcome, AnswerFault> {
-    match verify(console.alloc, library, entry) {
+    match verify_by(console.alloc, library, entry, rules) {
         Ok(verified) => answer_accepted(console, &verified),
         Err(refusal) => answer_refused(console, source, Some(entry), &refusal),
     }
@@ -178,7 +180,7 @@ pub fn verify_macro_as_json<R: Files + Input, O: Write + Drop, E: Write + Drop>(
 ) -> Result<Outcome, AnswerFault> {
     let source = read_source(rt, console.alloc, request.library, request.escape)?;
     match library_of(console.alloc, &source) {
-        Ok(library) => answer_verdict(console, &source, &library, entry),
+        Ok(library) => answer_verdict(console, &source, &library, entry, request.rules),
         Err(refusal) => answer_refused(console, &source, None, &refusal),
     }
 }
@@ -198,7 +200,13 @@ pub fn verify_library_as_json<R: Files + Input, O: Write + Drop, E: Write + Drop
     let macros = macros_of(console.alloc, &library)?;
     let mut outcome = Outcome::Done;
     for entry in &macros {
-        outcome = outcome.worse(answer_verdict(console, &source, &library, *entry)?);
+        outcome = outcome.worse(answer_verdict(
+            console,
+            &source,
+            &library,
+            *entry,
+            request.rules,
+        )?);
     }
     Ok(outcome)
 }

@@ -17,6 +17,7 @@ use teco_explain::Explained;
 use teco_library::{Library, LibraryFault};
 use teco_source::Source;
 use teco_verifier::Refusal as Why;
+use teco_verifier::Rules;
 use teco_verify::Refusal;
 
 /// Reads the source of a library: a file, or standard input where the name is `-`.
@@ -48,11 +49,12 @@ pub fn library_of(alloc: Global, source: &Source) -> Result<Library, Refusal>
     }
 }
 
-/// A library, with the source that says it.
+/// A library, with the source that says it, and the edition of the rules for its macros.
 #[derive(Drop)]
 pub struct Sourced {
     pub source: Source,
     pub library: Library,
+    pub rules: Rules,
 }
 
 /// Reads a library. Where the file is none, the refusal is printed, and there is none.
@@ -63,7 +65,11 @@ pub fn read_library<R: Files + Input, O: Write + Drop, E: Write + Drop>(
 ) -> Result<Option<Sourced>, AnswerFault> {
     let source = read_source(rt, console.alloc, request.library, request.escape)?;
     match library_of(console.alloc, &source) {
-        Ok(library) => Ok(Some(Sourced { source, library })),
+        Ok(library) => Ok(Some(Sourced {
+            source,
+            library,
+            rules: request.rules,
+        })),
         Err(refusal) => {
             refuse(console, &source, refusal)?;
             Ok(None)

@@ -4,7 +4,7 @@ use std::fs;
 use std::process::Abort;
 use std::test::Fail;
 use teco_base::Reg;
-use teco_verifier::Refusal as Why;
+use teco_verifier::{Refusal as Why, Rules};
 
 /// Writers over memory, in place of standard output and standard error.
 fn kept(rt: &HostRuntime) -> Console<Vec<u8>, Vec<u8>> {
@@ -17,6 +17,7 @@ fn library_file<'a>(rt: &HostRuntime, name: &'a str, text: &[u8]) -> Result<Requ
     Ok(Request {
         library: name,
         escape: Escape::Mark(b'$'),
+        rules: Rules::First,
     })
 }
 
@@ -128,5 +129,33 @@ fn verdicts_are_json(rt: HostRuntime) -> Result<(), Fail> {
     assert_eq!(rt; outcome, Outcome::Refused);
     assert!(rt; rows.ends_with(text_of(&rt, &console.out)?.as_str()));
     fs::remove_file(&rt, "somleut_tools_json")?;
+    Ok(())
+}
+
+// A macro that the second edition alone accepts, and its certificate, which the first one refuses.
+#[test]
+fn certificates_are_of_an_edition(rt: HostRuntime) -> Result<(), Fail> {
+    let request = library_file(&rt, "somleut_tools_rules", b"@^UA/J<I> $L.-Z;>/")?;
+    let second = Request {
+        rules: Rules::Second,
+        ..request
+    };
+    let entry = register(&rt, b'A');
+    let mut console = kept(&rt);
+    assert_eq!(rt; verify_macro(&rt, &mut console, request, entry)?, Outcome::Refused);
+    let mut console = kept(&rt);
+    assert_eq!(rt; verify_macro(&rt, &mut console, second, entry)?, Outcome::Done);
+    let written = text_of(&rt, &console.out)?;
+    assert!(rt; written.as_str().starts_with("TECO-CERT 1\nentry A\nrules 2\n"), "{written}");
+    fs::write(&rt, "somleut_tools_rules_cert", console.out.as_slice())?;
+    let name = "somleut_tools_rules_cert";
+    let mut console = kept(&rt);
+    assert_eq!(rt; check_macro(&rt, &mut console, second, entry, name)?, Outcome::Done);
+    let mut console = kept(&rt);
+    let outcome = check_macro(&rt, &mut console, request, entry, name)?;
+    fs::remove_file(&rt, "somleut_tools_rules")?;
+    fs::remove_file(&rt, "somleut_tools_rules_cert")?;
+    assert_eq!(rt; outcome, Outcome::Refused);
+    assert_eq!(rt; text_of(&rt, &console.out)?.as_str(), "refused X18\n");
     Ok(())
 }

@@ -18,7 +18,8 @@ use std::rt::Files;
 use teco_base::Reg;
 use teco_library::Library;
 use teco_source::Source;
-use teco_verify::{Account, Refusal, Verified, account_of, verify};
+use teco_verifier::Rules;
+use teco_verify::{Account, Refusal, Verified, account_by, verify_by};
 
 /// Says why a macro of a source is refused, behind its line.
 pub fn refuse<O: Write + Drop, E: Write + Drop>(
@@ -77,11 +78,12 @@ fn verify_entry<O: Write + Drop, E: Write + Drop>(
     source: &Source,
     library: &Library,
     entry: Reg,
+    rules: Rules,
 ) -> Result<Outcome, AnswerFault>
     ensures { IfOk result (λ outcome. outcome ≡ Done
         → Prints library.now entry (O.contents console.old.out) (O.contents console.new.out)) }
 {
-    let account = account_of(console.alloc, library, entry)?;
+    let account = account_by(console.alloc, library, entry, rules)?;
     match account.verdict() {
         Ok(verified) => {
             verified.is_certified();
@@ -96,12 +98,13 @@ fn verify_source<O: Write + Drop, E: Write + Drop>(
     console: &mut Console<O, E>,
     source: &Source,
     entry: Reg,
+    rules: Rules,
 ) -> Result<Outcome, AnswerFault>
     ensures { IfOk result (λ outcome. outcome ≡ Done
         → PrintsOf source.now entry (O.contents console.old.out) (O.contents console.new.out)) }
 {
     match library_of(console.alloc, source) {
-        Ok(library) => verify_entry(console, source, &library, entry),
+        Ok(library) => verify_entry(console, source, &library, entry, rules),
         Err(refusal) => refuse(console, source, refusal),
     }
 }
@@ -114,7 +117,7 @@ pub fn verify_macro<R: Files + Input, O: Write + Drop, E: Write + Drop>(
     entry: Reg,
 ) -> Result<Outcome, AnswerFault> {
     let source = read_source(rt, console.alloc, request.library, request.escape)?;
-    verify_source(console, &source, entry)
+    verify_source(console, &source, entry, request.rules)
 }
 
 // Prints what comes of one macro of several.
@@ -124,7 +127,7 @@ fn verify_one<O: Write + Drop, E: Write + Drop>(
     entry: Reg,
 ) -> Result<Outcome, AnswerFault> {
     let name = char::from(entry.name());
-    match verify(console.alloc, &sourced.library, entry) {
+    match verify_by(console.alloc, &sourced.library, entry, sourced.rules) {
         Ok(verified) => {
             console.answer(format_args!("{name}: accepted\n"))?;
             let premise = Premise::of(&verified.size(), &verified.commands());

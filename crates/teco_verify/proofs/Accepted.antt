@@ -12,14 +12,15 @@ use Rattle.teco_check.specs.declared.derivation.NotDerived.TheVariants as fault
 use Rattle.teco_check.specs.Kept.{AreKept}
 use Rattle.teco_verifier.specs.table.Loops.{begins, loops_from, loops_of}
 use Rattle.teco_verifier.specs.expansion.Expansion.{expansion}
-use Rattle.teco_model.specs.Macros.{Library, ArgumentRange}
+use Rattle.teco_model.specs.Macros.{Library}
+use Rattle.teco_verifier.specs.declared.rules.Rules.{Rules}
 use Rattle.teco_verifier.specs.expansion.Node.{Node}
 use Rattle.teco_verifier.specs.expansion.Refusal as expanding
-use Rattle.teco_facts.specs.Numbers.{AreSmall, IsSmallFall}
+use Rattle.teco_facts.specs.Numbers.{AreSmall, IsSmallFalls}
 use Rattle.teco_facts.specs.declared.few.TheConstants.{DEPTH}
 use Rattle.teco_poly.specs.Polynomial.{Polynomial}
 use Rattle.teco_verifier.specs.declared.refusal.Refusal.{Refusal}
-use Rattle.teco_verifier.specs.facts.Facts.{Facts}
+use Rattle.teco_verifier.specs.facts.Facts.{Facts, Entry, entry_of}
 use Rattle.teco_law_tables.specs.straight_text.Accepted.{BeginsNoIteration, Prints, RowIsOutside, IsAccepted}
 use Rattle.teco_verifier.specs.table.Closed.{check}
 use Rattle.teco_verifier.specs.table.Choices.{Chosen}
@@ -54,7 +55,7 @@ none_begins (node ∷ nodes) a = rw a.0 (none_begins nodes a.1)
 -- what is known outside of iterations is kept
 kept : (facts : Facts) → facts.position.falls ≡ [] → facts.iterations ≡ [] → AreKept facts
 kept facts falls iterations = record {
-  small = subst AreSmall (sym falls) (All-nil IsSmallFall);
+  small = subst AreSmall (sym falls) (All-nil IsSmallFalls);
   room = record { falls = subst (λ fs. length fs < DEPTH) (sym falls) (omega arith); iterations = subst (λ is. length is < DEPTH) (sym iterations) (omega arith) };
 }
 
@@ -77,51 +78,51 @@ table_of (Ok table) = table
 table_of (Err why) = []
 
 -- the same of these nodes
-record AcceptsNodes (nodes : List Node) (table : Table) (steps most : Polynomial) : Type 0 where
-  derived : derive None nodes [] ≡ Ok table
-  closed : check None nodes table ≡ Ok tt
-  prints : Prints nodes table steps most
+record AcceptsNodes (known : Entry) (nodes : List Node) (table : Table) (steps most : Polynomial) : Type 0 where
+  derived : derive known nodes [] ≡ Ok table
+  closed : check known nodes table ≡ Ok tt
+  prints : Prints known nodes table steps most
   outside : AllByRecursion RowIsOutside table
 
-module _ (library : Library) (entry : ℕ) (steps most : Polynomial) (accepted : IsAccepted library entry steps most) where
-  pub is_well_formed : entry < REGISTERS → IsWellFormed (plain_fields entry steps most)
+module _ (edition : Rules) (library : Library) (entry : ℕ) (steps most : Polynomial) (accepted : IsAccepted edition library entry steps most) where
+  pub is_well_formed : entry < REGISTERS → IsWellFormed (plain_fields edition entry steps most)
   is_well_formed h = record {
     parts = record { entry = h; argument = tt; commands = accepted.prints.steps_fit; size = accepted.prints.most_fits; loops = tt };
+    distances = tt;
     order = record { numbers = λ k d h. absurd (omega (arith, h)); registers = tt };
   }
 
   module _ (nodes : List Node) (expanded : expansion library entry ≡ Ok nodes) where
-    these : AcceptsNodes nodes accepted.table steps most
+    these : AcceptsNodes (entry_of edition library None) nodes accepted.table steps most
     unfolding nodes_of
-    these = subst (λ ns. AcceptsNodes ns accepted.table steps most) (ap nodes_of (sym accepted.expanded ∙ expanded)) (record { derived = accepted.derived; closed = accepted.closed; prints = accepted.prints; outside = accepted.outside })
+    these = subst (λ ns. AcceptsNodes (entry_of edition library None) ns accepted.table steps most) (ap nodes_of (sym accepted.expanded ∙ expanded)) (record { derived = accepted.derived; closed = accepted.closed; prints = accepted.prints; outside = accepted.outside })
 
     pub begins_none : list_any begins nodes ≡ false
     begins_none = none_begins nodes these.prints.has_no_lines
 
-    module _ (chosen : List Chosen) (nothing : chosen ≡ []) (argument : Option ArgumentRange) (takes_none : argument ≡ None) where
-      derived : derive argument nodes chosen ≡ Ok accepted.table
-      derived = subst (λ a. derive a nodes chosen ≡ Ok accepted.table) (sym takes_none) (subst (λ c. derive None nodes c ≡ Ok accepted.table) (sym nothing) these.derived)
+    module _ (chosen : List Chosen) (nothing : chosen ≡ []) (known : Entry) (is_plain : known ≡ entry_of edition library None) where
+      derived : derive known nodes chosen ≡ Ok accepted.table
+      derived = subst (λ k. derive k nodes chosen ≡ Ok accepted.table) (sym is_plain) (subst (λ c. derive (entry_of edition library None) nodes c ≡ Ok accepted.table) (sym nothing) these.derived)
 
-      pub is_kept : (node : ℕ) → ((table : Table) → derive argument nodes chosen ≡ Ok table → AreLarge (facts_at table node)) → ⊥
+      pub is_kept : (node : ℕ) → ((table : Table) → derive known nodes chosen ≡ Ok table → AreLarge (facts_at table node)) → ⊥
       is_kept node l = none_large accepted.table node these.outside (l accepted.table derived)
 
-      pub only_memory : (why : NotDerived) → Derives (derive argument nodes chosen) (Err why) → why ≡ fault.Memory
+      pub only_memory : (why : NotDerived) → Derives (derive known nodes chosen) (Err why) → why ≡ fault.Memory
       only_memory (fault.Refused refusal node) d =
           let no : Ok accepted.table ≡ Err refusal = sym derived ∙ d in absurd cc
       only_memory (fault.Large node) d = absurd (is_kept node d)
       only_memory fault.Memory d = refl
 
-      module _ (table : Table) (is : derive argument nodes chosen ≡ Ok table) where
-        here : AcceptsNodes nodes table steps most
+      module _ (table : Table) (is : derive known nodes chosen ≡ Ok table) where
+        here : AcceptsNodes (entry_of edition library None) nodes table steps most
         unfolding table_of
-        here = subst (λ t. AcceptsNodes nodes t steps most) (ap table_of (sym derived ∙ is)) these
+        here = subst (λ t. AcceptsNodes (entry_of edition library None) nodes t steps most) (ap table_of (sym derived ∙ is)) these
 
-        pub is_certified : (fields : Fields) → AreFieldsOf argument nodes table entry fields → fields ≡ plain_fields entry steps most
+        pub is_certified : (fields : Fields) → AreFieldsOf known nodes table entry fields → fields ≡ plain_fields edition entry steps most
         is_certified fields f =
-            let argument_is : fields.argument ≡ None = f.argument_is ∙ takes_none in
-            let counted : commands None nodes table ≡ Ok fields.commands = subst (λ a. commands a nodes table ≡ Ok fields.commands) takes_none f.commands_are in
-            let first : fields.commands ≡ steps = let e : Ok fields.commands ≡ Ok steps = sym counted ∙ here.prints.commands_are in cc in
-            let second : fields.size ≡ most = let e : Ok fields.size ≡ Ok most = sym f.size_is ∙ here.prints.size_is in cc in
-            let needs = f.needs_are ∙ here.prints.needs_nothing in
-            let loops = f.loops_are ∙ no_lines nodes table here.prints.has_no_lines in
-            rw (← f.entry_is, ← argument_is, ← first, ← second, ← needs, ← loops) refl
+            let g : AreFieldsOf (entry_of edition library None) nodes table entry fields = subst (λ k. AreFieldsOf k nodes table entry fields) is_plain f in
+            let first : fields.commands ≡ steps = let e : Ok fields.commands ≡ Ok steps = sym g.commands_are ∙ here.prints.commands_are in cc in
+            let second : fields.size ≡ most = let e : Ok fields.size ≡ Ok most = sym g.size_is ∙ here.prints.size_is in cc in
+            let needs = g.needs_are ∙ here.prints.needs_nothing in
+            let loops = g.loops_are ∙ no_lines nodes table here.prints.has_no_lines in
+            rw (← g.entry_is, ← g.argument_is, ← g.rules_are, ← first, ← second, ← needs, ← loops) refl

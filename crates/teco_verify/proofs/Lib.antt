@@ -4,3 +4,4 @@ mod Refused
 mod Telling
 mod Nodes
 mod Judged
+mod Lengths

@@ -1,4 +1,5 @@
 -- What is found of a macro.
+pub mod Given
 pub mod Certified
 pub mod Straight
 pub mod Accepting

@@ -3,19 +3,20 @@ ghost use Rattle.std.specs.Prelude.{◌≡◌, ◌<◌, ◌≤◌, List, length,
 ghost use Rattle.std.specs.Option.{option_map_or};
 ghost use Rattle.std.specs.Result.{result_ok};
 ghost use Rattle.teco_verifier.specs.expansion.Expansion.{expansion};
-ghost use Rattle.teco_verifier.specs.expansion.Node.{Node, place_of};
+ghost use Rattle.teco_verifier.specs.expansion.Node.{Node, numbered, place_of};
 ghost use Rattle.teco_model.specs.Element as elements;
 ghost use Rattle.teco_verifier.specs.table.Loops.{begins};
 ghost use Rattle.teco_verifier.specs.facts.Facts.{Facts};
-ghost use Rattle.teco_verifier.specs.facts.Flows as rules;
+ghost use Rattle.teco_verifier.specs.declared.rules.Rules.TheVariants.{First};
 ghost use Rattle.teco_verifier.specs.table.Table.{facts_at, choice_at};
 ghost use Rattle.teco_expansion.specs.Refused.{refusal_seen};
 ghost use Rattle.teco_verify.specs.Certified.{TakesDeclared};
 ghost use Rattle.teco_verify.specs.Refusing.{refusal_of, register_of, IsJudged, PrintedIsFound, RefusedIsDerived, RefusedIsExpansions, RefusedIsOverflow, RefusedIsUnclosed};
 ghost use Rattle.teco_verify.specs.Straight.{StraightIsVerified};
 ghost use Rattle.teco_verify.specs.Accepting.{AcceptedIsFound};
-ghost use Rattle.teco_verify.specs.Telling.{AcceptedIsTold, IsVerdict, expanded, node_in};
+ghost use Rattle.teco_verify.specs.Telling.{AcceptedIsTold, IsVerdict, expanded, node_in, turns_told};
 
+use crate::asked::Asked;
 use crate::known::Known;
 use crate::refusal::{Refusal, register_at};
 use crate::verdict::{found_of, texts_are_within};
@@ -24,13 +25,14 @@ use crate::watching::watch;
 use std::alloc::{AllocError, Global};
 use std::marker::Model;
 use teco_base::Reg;
-use teco_check::{Table, begins_iteration};
+use teco_check::{Table, begins_iteration, end_of, rank_at};
 use teco_expansion::{ExpandFault, Nodes, Refusal as Unexpanded, expand};
-use teco_facts::{Choice, turns};
+use teco_facts::{Choice, Entry, turns};
 use teco_law_tables::straight::straight_texts_are_accepted;
 use teco_library::Library;
-use teco_model::{ArgumentRange, Element};
+use teco_model::Element;
 use teco_poly::Poly;
+use teco_verifier::Rules;
 
 /// What the verifier knows of a macro: the elements that it comes to, numbered from 1, what is
 /// known before each, and the verdict.
@@ -159,16 +161,20 @@ impl<'l> Account<'l> {
 
     /// The most turns of the < of a number, if there is a most.
     pub fn turns(&self, number: usize) -> Option<Poly>
-        ensures { (node : Node) (facts : Facts) → node_in self.now.nodes number ≡ Some node
+        ensures { (those : List Node) (node : Node) (facts : Facts)
+            → self.now.nodes ≡ Some those → numbered those number ≡ Some node
             → facts_at self.now.table number ≡ Some facts
-            → result ≡ (if begins node then result_ok (rules.turns facts) else None) }
+            → result ≡ (if begins node then result_ok (turns_told those self.now.table number facts)
+            else None) }
     {
         if !begins_iteration(&self.element(number)) {
             return None;
         }
+        let nodes = self.nodes_with(number)?;
+        let end = self.table.facts(end_of(nodes, number));
         match self.table.facts(number) {
             None => None,
-            Some(facts) => turns(facts).ok(),
+            Some(facts) => turns(rank_at(end), facts).ok(),
         }
     }
 }
@@ -189,7 +195,7 @@ fn unexpanded<'l>(alloc: Global, refused: Unexpanded) -> Account<'l>
 // The table that was derived, or what was known as the choices were searched.
 fn table_of(
     alloc: Global,
-    argument: Option<ArgumentRange>,
+    given: &Entry,
     nodes: &Nodes<'_>,
     derived: Option<Table>,
 ) -> Result<Table, AllocError>
@@ -197,35 +203,41 @@ fn table_of(
 {
     match derived {
         Some(table) => Ok(table),
-        None => watch(alloc, argument, nodes),
+        None => watch(alloc, given, nodes),
     }
 }
 
 // What is known of a macro.
-fn accounted<'l>(alloc: Global, library: &'l Library, entry: Reg) -> Result<Account<'l>, AllocError>
+fn accounted<'l>(alloc: Global, asked: &Asked<'l>) -> Result<Account<'l>, AllocError>
     ensures nodes { IfOk result (λ told. told.nodes
-        ≡ expanded (expansion library.now.texts entry)) }
+        ≡ expanded (expansion asked.now.library.now.texts asked.now.entry)) }
     ensures library { IfOk result (λ told. IfOk told.verdict
-        (λ verified. verified.library ≡ library.now.texts)) }
+        (λ verified. verified.library ≡ asked.now.library.now.texts)) }
     ensures argument { IfOk result (λ told. IfOk told.verdict
-        (λ verified. TakesDeclared library.now verified.fields)) }
+        (λ verified. TakesDeclared asked.now.library.now verified.fields)) }
     ensures entry { IfOk result (λ told. IfOk told.verdict
-        (λ verified. verified.fields.entry ≡ entry)) }
-    ensures known { IfOk result (AcceptedIsTold library.now entry) }
-    ensures accepted { IfOk result (λ told. AcceptedIsFound library.now entry told.verdict) }
-    ensures unexpanded { IfOk result (λ told. RefusedIsExpansions library.now entry told.verdict) }
-    ensures judged { IfOk result (λ told. IsJudged library.now entry told.verdict) }
+        (λ verified. verified.fields.entry ≡ asked.now.entry)) }
+    ensures rules { IfOk result (λ told. IfOk told.verdict
+        (λ verified. verified.fields.rules ≡ asked.now.rules)) }
+    ensures known { IfOk result (AcceptedIsTold asked.now.rules asked.now.library.now
+        asked.now.entry) }
+    ensures accepted { IfOk result (λ told.
+        AcceptedIsFound asked.now.rules asked.now.library.now asked.now.entry told.verdict) }
+    ensures unexpanded { IfOk result (λ told.
+        RefusedIsExpansions asked.now.library.now asked.now.entry told.verdict) }
+    ensures judged { IfOk result (λ told.
+        IsJudged asked.now.rules asked.now.library.now asked.now.entry told.verdict) }
 {
-    let nodes = match expand(alloc, library, entry) {
+    let nodes = match expand(alloc, asked.library, asked.entry) {
         Ok(nodes) => nodes,
         Err(ExpandFault::Refused(refused)) => return Ok(unexpanded(alloc, refused)),
         Err(ExpandFault::Memory) => return Err(AllocError),
     };
-    let found = found_of(alloc, library, entry, &nodes);
+    let found = found_of(alloc, asked, &nodes);
     if let Err(Refusal::Memory) = &found.verdict {
         return Err(AllocError);
     }
-    let table = table_of(alloc, library.argument(entry), &nodes, found.table)?;
+    let table = table_of(alloc, &asked.given(), &nodes, found.table)?;
     Ok(Account {
         nodes: Some(nodes),
         table,
@@ -234,8 +246,47 @@ fn accounted<'l>(alloc: Global, library: &'l Library, entry: Reg) -> Result<Acco
     })
 }
 
-/// Tells what the verifier knows of a macro: the verdict of `verify`, and from what it comes. It
+/// Tells what the verifier knows of a macro: the verdict of `verify_by`, and from what it comes. It
 /// takes up to twice as long.
+pub fn account_by<'l>(
+    alloc: Global,
+    library: &'l Library,
+    entry: Reg,
+    rules: Rules,
+) -> Result<Account<'l>, AllocError>
+    ensures nodes { IfOk result (λ told. told.nodes
+        ≡ expanded (expansion library.now.texts entry)) }
+    ensures library { IfOk result (λ told. IfOk told.verdict
+        (λ verified. verified.library ≡ library.now.texts)) }
+    ensures argument { IfOk result (λ told. IfOk told.verdict
+        (λ verified. TakesDeclared library.now verified.fields)) }
+    ensures entry { IfOk result (λ told. IfOk told.verdict
+        (λ verified. verified.fields.entry ≡ entry)) }
+    ensures rules { IfOk result (λ told. IfOk told.verdict
+        (λ verified. verified.fields.rules ≡ rules)) }
+    ensures known { IfOk result (AcceptedIsTold rules library.now entry) }
+    ensures straight { IfOk result (λ told.
+        StraightIsVerified rules library.now entry told.verdict) }
+    ensures unexpanded { IfOk result (λ told. RefusedIsExpansions library.now entry told.verdict) }
+    ensures underived { IfOk result (λ told.
+        RefusedIsDerived rules library.now entry told.verdict) }
+    ensures unclosed { IfOk result (λ told.
+        RefusedIsUnclosed rules library.now entry told.verdict) }
+    ensures overflow { IfOk result (λ told.
+        RefusedIsOverflow rules library.now entry told.verdict) }
+    ensures printed { IfOk result (λ told. PrintedIsFound rules library.now entry told.verdict) }
+{
+    straight_texts_are_accepted();
+    texts_are_within(library);
+    let asked = Asked {
+        library,
+        entry,
+        rules,
+    };
+    accounted(alloc, &asked)
+}
+
+/// Tells what the verifier knows of a macro by the first edition of the rules.
 pub fn account_of<'l>(
     alloc: Global,
     library: &'l Library,
@@ -249,15 +300,19 @@ pub fn account_of<'l>(
         (λ verified. TakesDeclared library.now verified.fields)) }
     ensures entry { IfOk result (λ told. IfOk told.verdict
         (λ verified. verified.fields.entry ≡ entry)) }
-    ensures known { IfOk result (AcceptedIsTold library.now entry) }
-    ensures straight { IfOk result (λ told. StraightIsVerified library.now entry told.verdict) }
+    ensures rules { IfOk result (λ told. IfOk told.verdict
+        (λ verified. verified.fields.rules ≡ First)) }
+    ensures known { IfOk result (AcceptedIsTold First library.now entry) }
+    ensures straight { IfOk result (λ told.
+        StraightIsVerified First library.now entry told.verdict) }
     ensures unexpanded { IfOk result (λ told. RefusedIsExpansions library.now entry told.verdict) }
-    ensures underived { IfOk result (λ told. RefusedIsDerived library.now entry told.verdict) }
-    ensures unclosed { IfOk result (λ told. RefusedIsUnclosed library.now entry told.verdict) }
-    ensures overflow { IfOk result (λ told. RefusedIsOverflow library.now entry told.verdict) }
-    ensures printed { IfOk result (λ told. PrintedIsFound library.now entry told.verdict) }
+    ensures underived { IfOk result (λ told.
+        RefusedIsDerived First library.now entry told.verdict) }
+    ensures unclosed { IfOk result (λ told.
+        RefusedIsUnclosed First library.now entry told.verdict) }
+    ensures overflow { IfOk result (λ told.
+        RefusedIsOverflow First library.now entry told.verdict) }
+    ensures printed { IfOk result (λ told. PrintedIsFound First library.now entry told.verdict) }
 {
-    straight_texts_are_accepted();
-    texts_are_within(library);
-    accounted(alloc, library, entry)
+    account_by(alloc, library, entry, Rules::First)
 }

@@ -2,19 +2,18 @@
 ghost use Rattle.std.specs.Prelude.{◌≡◌, IfOk, Ok};
 ghost use Rattle.std.specs.Result.{IfErr};
 ghost use Rattle.teco_verifier.specs.expansion.Expansion.{expansion};
-ghost use Rattle.teco_library.specs.Library.{argument_of};
 ghost use Rattle.teco_verify.specs.Certifying.{flaw_by, Certifies, IsFlawIn};
 ghost use Rattle.teco_verify.specs.Certified.{TakesDeclared};
+ghost use Rattle.teco_verify.specs.Given.{given_by};
 ghost use Rattle.teco_verify.specs.Telling.{Tells};
 ghost use Rattle.teco_verify.specs.declared.certifying.Flaw.TheVariants as flaw;
 
+use crate::asked::Asked;
 use crate::verified::Verified;
 use std::alloc::{AllocError, Global};
-use teco_base::Reg;
 use teco_certificate::Certificate;
 use teco_check::{Bad, Overflow, Table, check, commands, loops_of, needs_in, size};
 use teco_expansion::Nodes;
-use teco_library::Library;
 
 /// Why a table certifies nothing.
 #[derive(Clone, Copy)]
@@ -60,32 +59,35 @@ impl From<Overflow> for Flaw {
 #[tactic(auto, using(crate::proofs::Nodes::begins))]
 pub fn certified<'l>(
     alloc: Global,
-    library: &'l Library,
-    entry: Reg,
+    asked: &Asked<'l>,
     nodes: &Nodes<'_>,
     table: &Table,
 ) -> Result<Verified<'l>, Flaw>
-    requires { expansion library.now.texts entry ≡ Ok nodes.now }
-    ensures library { IfOk result (λ verified. verified.library ≡ library.now.texts) }
-    ensures argument { IfOk result (λ verified. TakesDeclared library.now verified.fields) }
-    ensures entry { IfOk result (λ verified. verified.fields.entry ≡ entry) }
-    ensures value { Certifies (argument_of library.now entry) nodes.now table.now entry result }
-    ensures told { IfOk result (λ verified. Tells (argument_of library.now entry)
-        nodes.now verified.fields table.now) }
+    requires { expansion asked.now.library.now.texts asked.now.entry ≡ Ok nodes.now }
+    ensures library { IfOk result (λ verified. verified.library ≡ asked.now.library.now.texts) }
+    ensures argument { IfOk result (λ verified. TakesDeclared asked.now.library.now
+        verified.fields) }
+    ensures entry { IfOk result (λ verified. verified.fields.entry ≡ asked.now.entry) }
+    ensures rules { IfOk result (λ verified. verified.fields.rules ≡ asked.now.rules) }
+    ensures value { Certifies (given_by asked.now.rules asked.now.library.now asked.now.entry)
+        nodes.now table.now asked.now.entry result }
+    ensures told { IfOk result (λ verified. Tells (given_by asked.now.rules asked.now.library.now
+        asked.now.entry) nodes.now verified.fields table.now) }
     ensures numbered { IfErr result (IsFlawIn nodes.now) }
 {
-    let argument = library.argument(entry);
-    check(alloc, argument, nodes, table)?;
+    let given = asked.given();
+    check(alloc, &given, nodes, table)?;
     let certificate = Certificate {
-        entry,
-        argument,
+        entry: asked.entry,
+        argument: given.argument,
+        rules: given.rules,
         needs: needs_in(nodes, table),
-        commands: commands(argument, nodes, table)?,
-        size: size(nodes, table)?,
+        commands: commands(&given, nodes, table)?,
+        size: size(&given, nodes, table)?,
         loops: loops_of(alloc, nodes, table)?,
     };
     Ok(Verified {
-        library,
+        library: asked.library,
         certificate,
     })
 }

@@ -1,6 +1,7 @@
 //! What is known before an element.
 ghost use Rattle.std.specs.Prelude.{◌≡◌, length, option_map, slice_get};
-ghost use Rattle.std.specs.Option.{option_flatten};
+ghost use Rattle.std.specs.Option.{option_and_then};
+ghost use Rattle.teco_verifier.specs.declared.falls.Falls.{Falls};
 ghost use Rattle.teco_verifier.specs.facts.Facts as rules;
 ghost use Rattle.teco_verifier.specs.facts.Values as values;
 
@@ -106,7 +107,8 @@ impl<'a> Known<'a> {
     /// How much less is ahead at the least since the turn of an open iteration began, from 0 for
     /// the innermost, if that is known.
     pub fn fall(&self, at: usize) -> Option<i64>
-        ensures { result ≡ option_flatten (slice_get self.now.position.falls at) }
+        ensures { result ≡ option_and_then (λ (f : Falls). f.fall)
+            (slice_get self.now.position.falls at) }
     {
         self.facts.fall(at)
     }

@@ -2,6 +2,7 @@
 #![tactic(auto)]
 
 mod account;
+mod asked;
 mod attempt;
 mod certifying;
 mod known;
@@ -16,13 +17,14 @@ mod verdict;
 mod verified;
 mod watching;
 
-pub use account::{Account, account_of};
+pub use account::{Account, account_by, account_of};
 pub use known::Known;
 pub use refusal::Refusal;
 pub use teco_facts::Choice;
 pub use teco_library::Library;
 pub use teco_model::Needs;
-pub use verdict::{check_certificate, verify};
+pub use teco_verifier::Rules;
+pub use verdict::{check_certificate, check_certificate_by, verify, verify_by};
 pub use verified::Verified;
 
 #[cfg(test)]

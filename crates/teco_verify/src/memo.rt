@@ -83,6 +83,7 @@ impl Body {
         let choice = Choice {
             held: entering.held(),
             kept: true,
+            margins: entering.margins(),
             texts,
         };
         let changes = Changes {
@@ -107,6 +108,7 @@ impl Body {
         Choice {
             held: choice.held,
             kept: choice.kept,
+            margins: choice.margins,
             texts,
         }
     }

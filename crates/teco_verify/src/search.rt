@@ -12,14 +12,19 @@ use crate::unfit::Unfit;
 use std::alloc::{AllocError, Global};
 use teco_check::{are_kept, begins_iteration, begins_turn, edges_from, take_along};
 use teco_expansion::Nodes;
-use teco_facts::{Edges, Facts, turns};
-use teco_model::{ArgumentRange, Element};
+use teco_facts::{Edges, Entry, Facts, turns};
+use teco_model::Element;
 use teco_poly::Poly;
-use teco_verifier::{LoopLine, Refusal};
+use teco_verifier::{LoopLine, Refusal, Rules};
 
-// How often the body of the innermost of six iterations may be passed: three times for each of
-// them.
-pub const PASSES: u64 = 729;
+/// How often the body of the innermost of six iterations may be passed: as often for each of them as
+/// its choice is tried.
+pub fn passes(rules: Rules) -> u64 {
+    match rules {
+        Rules::First => 729,
+        Rules::Second => 4096,
+    }
+}
 
 // A pass over the nodes, in their order, with what is tried for the iterations that are open.
 #[derive(Drop)]
@@ -35,14 +40,10 @@ pub struct Search {
 
 impl Search {
     /// None of so many nodes is passed.
-    pub fn new(
-        alloc: Global,
-        argument: Option<ArgumentRange>,
-        nodes: usize,
-    ) -> Result<Search, AllocError> {
+    pub fn new(alloc: Global, entry: &Entry, nodes: usize) -> Result<Search, AllocError> {
         Ok(Search {
             alloc,
-            carried: Some(Facts::entry(alloc, argument)?),
+            carried: Some(Facts::entry(alloc, entry)?),
             pending: Pending::new(alloc, nodes)?,
             memo: Memo::new(alloc, nodes)?,
             attempts: Vec::new(alloc),
@@ -184,7 +185,7 @@ impl Search {
     {
         let read = nodes.element(number);
         let turns = if begins_iteration(&read) {
-            Some(turns(&facts))
+            Some(turns(None, &facts))
         } else {
             None
         };
@@ -246,20 +247,16 @@ fn joined(alloc: Global, known: Option<Facts>, more: Facts, number: usize) -> Re
     }
 }
 
-/// Finds a choice for each iteration whose body is reached, by the numbers of their `<`; the entry
-/// takes the declared argument, if there is one.
+/// Finds a choice for each iteration whose body is reached, by the numbers of their `<`.
 ///
-/// The body of each iteration is passed at most three times for each pass of the one round it.
-pub fn choose(
-    alloc: Global,
-    argument: Option<ArgumentRange>,
-    nodes: &Nodes<'_>,
-) -> Result<Vec<LoopLine>, Unfit>
+/// The body of each iteration is passed at most three times, by the second edition four, for each
+/// pass of the one round it.
+pub fn choose(alloc: Global, entry: &Entry, nodes: &Nodes<'_>) -> Result<Vec<LoopLine>, Unfit>
     ensures { IfErr result (IsIn nodes.now) }
 {
-    let mut search = Search::new(alloc, argument, nodes.len())?;
+    let mut search = Search::new(alloc, entry, nodes.len())?;
     let mut number = 1;
-    for _ in 0..PASSES.saturating_mul(nodes.len() as u64) {
+    for _ in 0..passes(entry.rules).saturating_mul(nodes.len() as u64) {
         if number > nodes.len() {
             return Ok(search.found);
         }

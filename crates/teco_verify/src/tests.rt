@@ -1,6 +1,8 @@
 // Libraries, with the certificate of their macro A or the reason and the place of its refusal, and
 // certificates that are checked. A call that is refused memory is made once more, so that the rows
 // also hold where one allocation fails.
+mod editions;
+
 use super::*;
 use std::alloc::Global;
 use std::process::Abort;

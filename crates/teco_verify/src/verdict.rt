@@ -6,15 +6,17 @@ ghost use Rattle.teco_base.specs.declared.TheConstants.{LIMIT};
 ghost use Rattle.teco_certificate.specs.Text.{certificate_text};
 ghost use Rattle.teco_verifier.specs.table.Loops.{begins};
 ghost use Rattle.teco_verifier.specs.expansion.Expansion.{expansion};
-ghost use Rattle.teco_library.specs.Library.{argument_of};
+ghost use Rattle.teco_verifier.specs.declared.rules.Rules.TheVariants.{First};
 ghost use Rattle.teco_verify.specs.Accepting.{AcceptedIsChecked, AcceptedIsFound, ChoosesNothing, TextsAreWithin};
 ghost use Rattle.teco_verify.specs.Certified.{TakesDeclared};
+ghost use Rattle.teco_verify.specs.Given.{given_by};
 ghost use Rattle.teco_verify.specs.Refusing.{refusal_of_unfit, IsJudged, IsOfCertificate, PrintedIsFound, RefusedIsDerived, RefusedIsExpansions, RefusedIsOverflow, RefusedIsUnclosed};
 ghost use Rattle.teco_verify.specs.Straight.{StraightIsChecked, StraightIsVerified};
 ghost use Rattle.teco_verify.specs.Telling.{Tells};
 ghost use Rattle.teco_verify.specs.Unfit.{IsIn};
 ghost use Rattle.teco_verify.specs.declared.refusal.Refusal.TheVariants as refusals;
 
+use crate::asked::Asked;
 use crate::certifying::certified;
 use crate::refusal::{Refusal, unfit_flawed, unfit_underived};
 use crate::search::choose;
@@ -26,10 +28,10 @@ use teco_certificate::laws::one_spelling;
 use teco_certificate::{Certificate, CertificateFault};
 use teco_check::{Table, derive, has_iterations};
 use teco_expansion::{Nodes, expand};
+use teco_facts::Entry;
 use teco_law_tables::straight::straight_texts_are_accepted;
 use teco_library::Library;
-use teco_model::ArgumentRange;
-use teco_verifier::LoopLine;
+use teco_verifier::{LoopLine, Rules};
 
 /// The texts of a library have no more than LIMIT characters.
 #[tactic(auto, using(crate::proofs::Accepted::within))]
@@ -69,25 +71,30 @@ impl<'l> Found<'l> {
 /// What is found with these choices.
 pub fn found_with<'l>(
     alloc: Global,
-    library: &'l Library,
-    entry: Reg,
+    asked: &Asked<'l>,
     nodes: &Nodes<'_>,
     chosen: &[LoopLine],
 ) -> Found<'l>
-    requires { expansion library.now.texts entry ≡ Ok nodes.now }
-    ensures library { IfOk result.verdict (λ verified. verified.library ≡ library.now.texts) }
-    ensures argument { IfOk result.verdict (λ verified. TakesDeclared library.now verified.fields) }
-    ensures entry { IfOk result.verdict (λ verified. verified.fields.entry ≡ entry) }
+    requires { expansion asked.now.library.now.texts asked.now.entry ≡ Ok nodes.now }
+    ensures library { IfOk result.verdict (λ verified. verified.library
+        ≡ asked.now.library.now.texts) }
+    ensures argument { IfOk result.verdict (λ verified. TakesDeclared asked.now.library.now
+        verified.fields) }
+    ensures entry { IfOk result.verdict (λ verified. verified.fields.entry ≡ asked.now.entry) }
+    ensures rules { IfOk result.verdict (λ verified. verified.fields.rules ≡ asked.now.rules) }
     ensures told { IfOk result.verdict (λ verified. IsSomeAnd result.table
-        (Tells (argument_of library.now entry) nodes.now verified.fields)) }
-    ensures accepted { chosen.now ≡ [] → AcceptedIsFound library.now entry result.verdict }
-    ensures judged { chosen.now ≡ [] → IsJudged library.now entry result.verdict }
+        (Tells (given_by asked.now.rules asked.now.library.now asked.now.entry) nodes.now
+        verified.fields)) }
+    ensures accepted { chosen.now ≡ [] → AcceptedIsFound asked.now.rules asked.now.library.now
+        asked.now.entry result.verdict }
+    ensures judged { chosen.now ≡ [] → IsJudged asked.now.rules asked.now.library.now
+        asked.now.entry result.verdict }
 {
-    let table = match derive(alloc, library.argument(entry), nodes, chosen) {
+    let table = match derive(alloc, &asked.given(), nodes, chosen) {
         Ok(table) => table,
         Err(why) => return Found::unfit(unfit_underived(why), nodes, None),
     };
-    match certified(alloc, library, entry, nodes, &table) {
+    match certified(alloc, asked, nodes, &table) {
         Ok(verified) => Found {
             verdict: Ok(verified),
             table: Some(table),
@@ -98,49 +105,53 @@ pub fn found_with<'l>(
 }
 
 // What is chosen for the iterations. Where there are none it is nothing.
-fn choices(
-    alloc: Global,
-    argument: Option<ArgumentRange>,
-    nodes: &Nodes<'_>,
-) -> Result<Vec<LoopLine>, Unfit>
+fn choices(alloc: Global, given: &Entry, nodes: &Nodes<'_>) -> Result<Vec<LoopLine>, Unfit>
     ensures none { list_any begins nodes.now ≡ false → ChoosesNothing result }
     ensures numbered { IfErr result (IsIn nodes.now) }
 {
     if has_iterations(nodes) {
-        choose(alloc, argument, nodes)
+        choose(alloc, given, nodes)
     } else {
         Ok(Vec::new(alloc))
     }
 }
 
 /// What is found of the nodes that a macro comes to, with the choices that are found for them.
-pub fn found_of<'l>(alloc: Global, library: &'l Library, entry: Reg, nodes: &Nodes<'_>) -> Found<'l>
-    requires { expansion library.now.texts entry ≡ Ok nodes.now }
-    ensures library { IfOk result.verdict (λ verified. verified.library ≡ library.now.texts) }
-    ensures argument { IfOk result.verdict (λ verified. TakesDeclared library.now verified.fields) }
-    ensures entry { IfOk result.verdict (λ verified. verified.fields.entry ≡ entry) }
+pub fn found_of<'l>(alloc: Global, asked: &Asked<'l>, nodes: &Nodes<'_>) -> Found<'l>
+    requires { expansion asked.now.library.now.texts asked.now.entry ≡ Ok nodes.now }
+    ensures library { IfOk result.verdict (λ verified. verified.library
+        ≡ asked.now.library.now.texts) }
+    ensures argument { IfOk result.verdict (λ verified. TakesDeclared asked.now.library.now
+        verified.fields) }
+    ensures entry { IfOk result.verdict (λ verified. verified.fields.entry ≡ asked.now.entry) }
+    ensures rules { IfOk result.verdict (λ verified. verified.fields.rules ≡ asked.now.rules) }
     ensures told { IfOk result.verdict (λ verified. IsSomeAnd result.table
-        (Tells (argument_of library.now entry) nodes.now verified.fields)) }
-    ensures accepted { AcceptedIsFound library.now entry result.verdict }
-    ensures judged { IsJudged library.now entry result.verdict }
+        (Tells (given_by asked.now.rules asked.now.library.now asked.now.entry) nodes.now
+        verified.fields)) }
+    ensures accepted { AcceptedIsFound asked.now.rules asked.now.library.now asked.now.entry
+        result.verdict }
+    ensures judged { IsJudged asked.now.rules asked.now.library.now asked.now.entry result.verdict }
 {
-    match choices(alloc, library.argument(entry), nodes) {
-        Ok(choices) => found_with(alloc, library, entry, nodes, &choices),
+    match choices(alloc, &asked.given(), nodes) {
+        Ok(choices) => found_with(alloc, asked, nodes, &choices),
         Err(unfit) => Found::unfit(unfit, nodes, None),
     }
 }
 
 // What is found of a macro.
-fn verified<'l>(alloc: Global, library: &'l Library, entry: Reg) -> Result<Verified<'l>, Refusal>
-    ensures library { IfOk result (λ verified. verified.library ≡ library.now.texts) }
-    ensures argument { IfOk result (λ verified. TakesDeclared library.now verified.fields) }
-    ensures entry { IfOk result (λ verified. verified.fields.entry ≡ entry) }
-    ensures accepted { AcceptedIsFound library.now entry result }
-    ensures unexpanded { RefusedIsExpansions library.now entry result }
-    ensures judged { IsJudged library.now entry result }
+fn verified<'l>(alloc: Global, asked: &Asked<'l>) -> Result<Verified<'l>, Refusal>
+    ensures library { IfOk result (λ verified. verified.library ≡ asked.now.library.now.texts) }
+    ensures argument { IfOk result (λ verified. TakesDeclared asked.now.library.now
+        verified.fields) }
+    ensures entry { IfOk result (λ verified. verified.fields.entry ≡ asked.now.entry) }
+    ensures rules { IfOk result (λ verified. verified.fields.rules ≡ asked.now.rules) }
+    ensures accepted { AcceptedIsFound asked.now.rules asked.now.library.now asked.now.entry
+        result }
+    ensures unexpanded { RefusedIsExpansions asked.now.library.now asked.now.entry result }
+    ensures judged { IsJudged asked.now.rules asked.now.library.now asked.now.entry result }
 {
-    let nodes = expand(alloc, library, entry)?;
-    found_of(alloc, library, entry, &nodes).verdict
+    let nodes = expand(alloc, asked.library, asked.entry)?;
+    found_of(alloc, asked, &nodes).verdict
 }
 
 /// Verifies a macro of a library: a bound is found on what a run of it does, with any argument that
@@ -148,21 +159,48 @@ fn verified<'l>(alloc: Global, library: &'l Library, entry: Reg) -> Result<Verif
 /// comment or a plain insertion, is not refused where none is declared.
 ///
 /// It takes time by the elements of the texts that are called, and for each iteration up to three
-/// times those in its body.
+/// times those in its body, by the second edition four.
+pub fn verify_by<'l>(
+    alloc: Global,
+    library: &'l Library,
+    entry: Reg,
+    rules: Rules,
+) -> Result<Verified<'l>, Refusal>
+    ensures library { IfOk result (λ verified. verified.library ≡ library.now.texts) }
+    ensures argument { IfOk result (λ verified. TakesDeclared library.now verified.fields) }
+    ensures entry { IfOk result (λ verified. verified.fields.entry ≡ entry) }
+    ensures rules { IfOk result (λ verified. verified.fields.rules ≡ rules) }
+    ensures straight { StraightIsVerified rules library.now entry result }
+    ensures unexpanded { RefusedIsExpansions library.now entry result }
+    ensures underived { RefusedIsDerived rules library.now entry result }
+    ensures unclosed { RefusedIsUnclosed rules library.now entry result }
+    ensures overflow { RefusedIsOverflow rules library.now entry result }
+    ensures printed { PrintedIsFound rules library.now entry result }
+{
+    straight_texts_are_accepted();
+    texts_are_within(library);
+    let asked = Asked {
+        library,
+        entry,
+        rules,
+    };
+    verified(alloc, &asked)
+}
+
+/// Verifies a macro of a library by the first edition of the rules.
 pub fn verify<'l>(alloc: Global, library: &'l Library, entry: Reg) -> Result<Verified<'l>, Refusal>
     ensures library { IfOk result (λ verified. verified.library ≡ library.now.texts) }
     ensures argument { IfOk result (λ verified. TakesDeclared library.now verified.fields) }
     ensures entry { IfOk result (λ verified. verified.fields.entry ≡ entry) }
-    ensures straight { StraightIsVerified library.now entry result }
+    ensures rules { IfOk result (λ verified. verified.fields.rules ≡ First) }
+    ensures straight { StraightIsVerified First library.now entry result }
     ensures unexpanded { RefusedIsExpansions library.now entry result }
-    ensures underived { RefusedIsDerived library.now entry result }
-    ensures unclosed { RefusedIsUnclosed library.now entry result }
-    ensures overflow { RefusedIsOverflow library.now entry result }
-    ensures printed { PrintedIsFound library.now entry result }
+    ensures underived { RefusedIsDerived First library.now entry result }
+    ensures unclosed { RefusedIsUnclosed First library.now entry result }
+    ensures overflow { RefusedIsOverflow First library.now entry result }
+    ensures printed { PrintedIsFound First library.now entry result }
 {
-    straight_texts_are_accepted();
-    texts_are_within(library);
-    verified(alloc, library, entry)
+    verify_by(alloc, library, entry, Rules::First)
 }
 
 // Any refusal of a certificate, but want of memory, is the same.
@@ -181,10 +219,12 @@ fn certified_by<'l>(
     alloc: Global,
     library: &'l Library,
     bytes: &[u8],
+    rules: Rules,
 ) -> Result<Verified<'l>, Refusal>
     ensures library { IfOk result (λ verified. verified.library ≡ library.now.texts) }
     ensures argument { IfOk result (λ verified. TakesDeclared library.now verified.fields) }
-    ensures accepted { AcceptedIsChecked library.now bytes.now result }
+    ensures rules { IfOk result (λ verified. verified.fields.rules ≡ rules) }
+    ensures accepted { AcceptedIsChecked rules library.now bytes.now result }
 {
     one_spelling();
     let claimed = match Certificate::read(alloc, bytes) {
@@ -193,18 +233,29 @@ fn certified_by<'l>(
         Err(CertificateFault::Memory) => return Err(Refusal::Memory),
     };
     let nodes = expand(alloc, library, claimed.entry)?;
-    found_with(alloc, library, claimed.entry, &nodes, &claimed.loops).verdict
+    let asked = Asked {
+        library,
+        entry: claimed.entry,
+        rules,
+    };
+    found_with(alloc, &asked, &nodes, &claimed.loops).verdict
 }
 
 // What is verified, where the certificate's text is that of what is found.
-fn checked<'l>(alloc: Global, library: &'l Library, bytes: &[u8]) -> Result<Verified<'l>, Refusal>
+fn checked<'l>(
+    alloc: Global,
+    library: &'l Library,
+    bytes: &[u8],
+    rules: Rules,
+) -> Result<Verified<'l>, Refusal>
     ensures library { IfOk result (λ verified. verified.library ≡ library.now.texts) }
     ensures argument { IfOk result (λ verified. TakesDeclared library.now verified.fields) }
+    ensures rules { IfOk result (λ verified. verified.fields.rules ≡ rules) }
     ensures text { IfOk result (λ verified. certificate_text verified.fields ≡ bytes.now) }
-    ensures accepted { AcceptedIsChecked library.now bytes.now result }
+    ensures accepted { AcceptedIsChecked rules library.now bytes.now result }
     ensures refused { IfErr result IsOfCertificate }
 {
-    let verified = match certified_by(alloc, library, bytes) {
+    let verified = match certified_by(alloc, library, bytes, rules) {
         Ok(verified) => verified,
         Err(refusal) => return Err(refused(refusal)),
     };
@@ -216,9 +267,29 @@ fn checked<'l>(alloc: Global, library: &'l Library, bytes: &[u8]) -> Result<Veri
     }
 }
 
-/// Checks a certificate for a library: its choices make a table that is closed for the argument
-/// that the library declares, and it is the text of that table's certificate. That of straight text
-/// is not refused.
+/// Checks a certificate of an edition of the rules for a library: its choices make a table that is
+/// closed for the argument that the library declares, and it is the text of that table's
+/// certificate. That of straight text is not refused.
+pub fn check_certificate_by<'l>(
+    alloc: Global,
+    library: &'l Library,
+    bytes: &[u8],
+    rules: Rules,
+) -> Result<Verified<'l>, Refusal>
+    requires { length bytes.now ≤ LIMIT }
+    ensures library { IfOk result (λ verified. verified.library ≡ library.now.texts) }
+    ensures argument { IfOk result (λ verified. TakesDeclared library.now verified.fields) }
+    ensures rules { IfOk result (λ verified. verified.fields.rules ≡ rules) }
+    ensures text { IfOk result (λ verified. certificate_text verified.fields ≡ bytes.now) }
+    ensures straight { StraightIsChecked rules library.now bytes.now result }
+    ensures refused { IfErr result IsOfCertificate }
+{
+    straight_texts_are_accepted();
+    texts_are_within(library);
+    checked(alloc, library, bytes, rules)
+}
+
+/// Checks a certificate of the first edition of the rules for a library.
 pub fn check_certificate<'l>(
     alloc: Global,
     library: &'l Library,
@@ -227,11 +298,10 @@ pub fn check_certificate<'l>(
     requires { length bytes.now ≤ LIMIT }
     ensures library { IfOk result (λ verified. verified.library ≡ library.now.texts) }
     ensures argument { IfOk result (λ verified. TakesDeclared library.now verified.fields) }
+    ensures rules { IfOk result (λ verified. verified.fields.rules ≡ First) }
     ensures text { IfOk result (λ verified. certificate_text verified.fields ≡ bytes.now) }
-    ensures straight { StraightIsChecked library.now bytes.now result }
+    ensures straight { StraightIsChecked First library.now bytes.now result }
     ensures refused { IfErr result IsOfCertificate }
 {
-    straight_texts_are_accepted();
-    texts_are_within(library);
-    checked(alloc, library, bytes)
+    check_certificate_by(alloc, library, bytes, Rules::First)
 }

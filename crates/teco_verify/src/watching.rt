@@ -1,14 +1,13 @@
 //! What is known at the nodes, as far as the pass that finds the choices comes.
 ghost use Rattle.std.specs.Prelude.{◌<◌, ◌≤◌, length, IfOk};
 
-use crate::search::{PASSES, Search};
+use crate::search::{Search, passes};
 use crate::unfit::Unfit;
 use std::alloc::{AllocError, Global};
 use teco_check::{Row, Table, are_kept, choice_for};
 use teco_expansion::Nodes;
-use teco_facts::Facts;
-use teco_model::ArgumentRange;
-use teco_verifier::LoopLine;
+use teco_facts::{Entry, Facts};
+use teco_verifier::{LoopLine, Rules};
 
 // What was known at each node that was passed, in the order of their numbers.
 #[derive(Drop)]
@@ -77,9 +76,9 @@ impl Search {
     }
 
     // Passes the nodes up to the end or the first refusal, and keeps what is known.
-    fn follow(&mut self, nodes: &Nodes<'_>, trail: &mut Trail) -> Result<(), Unfit> {
+    fn follow(&mut self, nodes: &Nodes<'_>, rules: Rules, trail: &mut Trail) -> Result<(), Unfit> {
         let mut number = 1;
-        for _ in 0..PASSES.saturating_mul(nodes.len() as u64) {
+        for _ in 0..passes(rules).saturating_mul(nodes.len() as u64) {
             if number > nodes.len() {
                 return Ok(());
             }
@@ -99,16 +98,12 @@ impl Search {
 }
 
 // Follows the pass to its end, or to the refusal that ends it.
-fn followed(
-    alloc: Global,
-    argument: Option<ArgumentRange>,
-    nodes: &Nodes<'_>,
-) -> Result<Table, Unfit> {
-    let mut search = Search::new(alloc, argument, nodes.len())?;
+fn followed(alloc: Global, entry: &Entry, nodes: &Nodes<'_>) -> Result<Table, Unfit> {
+    let mut search = Search::new(alloc, entry, nodes.len())?;
     let mut trail = Trail {
         known: Vec::new(alloc),
     };
-    if let Err(Unfit::Memory) = search.follow(nodes, &mut trail) {
+    if let Err(Unfit::Memory) = search.follow(nodes, entry.rules, &mut trail) {
         return Err(Unfit::Memory);
     }
     let chosen = search.into_chosen()?;
@@ -116,14 +111,9 @@ fn followed(
 }
 
 /// What is known at each node as the choices are searched, up to the last node that is passed: in
-/// the last try, where a body is tried again; and what is chosen so far. The entry takes the
-/// declared argument, if there is one.
-pub fn watch(
-    alloc: Global,
-    argument: Option<ArgumentRange>,
-    nodes: &Nodes<'_>,
-) -> Result<Table, AllocError> {
-    match followed(alloc, argument, nodes) {
+/// the last try, where a body is tried again; and what is chosen so far.
+pub fn watch(alloc: Global, entry: &Entry, nodes: &Nodes<'_>) -> Result<Table, AllocError> {
+    match followed(alloc, entry, nodes) {
         Ok(table) => Ok(table),
         Err(_) => Err(AllocError),
     }

@@ -3,7 +3,7 @@
 use super::*;
 use std::process::Abort;
 use std::test::*;
-use teco_base::{LIMIT, Reg};
+use teco_base::{LIMIT, REGISTERS, Reg};
 use teco_expansion::{ExpandFault, expand};
 use teco_library::Library;
 
@@ -14,6 +14,13 @@ const OWN: &[u8] =
 
 // Six iterations in each other, none of which needs a second try.
 const PLAIN: &[u8] = b"@^UA/2<2<2<2<2<2<5UB>>>>>>/";
+
+// An entry of the first edition.
+const FIRST: Entry = Entry {
+    rules: Rules::First,
+    lengths: [None; REGISTERS],
+    argument: None,
+};
 
 // The library of a file.
 fn library_of(rt: &impl Abort, alloc: Global, file: &[u8]) -> Library {
@@ -38,9 +45,9 @@ fn nodes_of<'l>(rt: &impl Abort, alloc: Global, library: &'l Library) -> Nodes<'
 
 // How many nodes are passed, and how many choices are found.
 fn counted(alloc: Global, nodes: &Nodes<'_>) -> Result<(u64, usize), Unfit> {
-    let mut search = Search::new(alloc, None, nodes.len())?;
+    let mut search = Search::new(alloc, &FIRST, nodes.len())?;
     let mut number = 1;
-    for passed in 0..PASSES.saturating_mul(nodes.len() as u64) {
+    for passed in 0..passes(Rules::First).saturating_mul(nodes.len() as u64) {
         if number > nodes.len() {
             return Ok((passed, search.found.len()));
         }

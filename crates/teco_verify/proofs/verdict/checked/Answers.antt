@@ -7,7 +7,7 @@ use Rattle.teco_verify.proofs.verdict.checked.Goals as goal
 
 pub returns-in-Err-clause-accepted : goal.returns-in-Err-clause-accepted
 returns-in-Err-clause-accepted c = λ entry steps most below takes_none accepted spelled.
-    still_refused (plain_fields entry steps most) c.in-Err.refusal c.refused.result c.refused.ensures.memory (c.in-Err.ensures.accepted entry steps most below takes_none accepted spelled)
+    still_refused (plain_fields c.args.rules entry steps most) c.in-Err.refusal c.refused.result c.refused.ensures.memory (c.in-Err.ensures.accepted entry steps most below takes_none accepted spelled)
 
 pub returns-clause-accepted : goal.returns-clause-accepted
 returns-clause-accepted c = λ entry steps most below takes_none accepted spelled.

@@ -1,0 +1,37 @@
+-- Tables worked by hand, by the second edition of the rules.
+use Rattle.std.proofs.Common.{refl}
+use Rattle.std.specs.Fmt.{digits}
+use Rattle.std.specs.Int.{int_wrap}
+use Rattle.teco_model.specs.Ahead.{reading_at, first_readings, readings}
+use Rattle.teco_model.specs.Element.{blank_len, element_from, element_at}
+use Rattle.teco_model.specs.Letters.{letters}
+use Rattle.teco_model.specs.Pattern.{part_at, parts_within, parts}
+use Rattle.teco_verifier.specs.expansion.Ways.{read_at, flow_ways, ways_at}
+use Rattle.teco_verifier.specs.expansion.Expansion.{next_visit, walk, way_numbers, node_at, nodes_at, expansion}
+use Rattle.teco_verifier.specs.facts.Facts.{texts_at_entry}
+use Rattle.teco_verifier.specs.facts.Transfer.{transfer}
+use Rattle.teco_verifier.specs.table.Closed.{check_nodes, check}
+use Rattle.teco_verifier.specs.table.Deriving.{derive}
+use Rattle.teco_verifier.specs.table.Printed.{commands, size, needs_in}
+use Rattle.teco_law_tables.specs.SecondRows.{WorkedSecondTables}
+use Rattle.teco_verifier.specs.table.Written.{written_in, written, ends_in}
+
+pub worked_second_tables : WorkedSecondTables
+unfolding digits int_wrap blank_len element_from element_at letters reading_at first_readings readings part_at parts_within parts read_at flow_ways ways_at next_visit walk way_numbers node_at nodes_at expansion transfer check_nodes check derive commands size needs_in written_in written ends_in texts_at_entry
+worked_second_tables = record {
+  lines = refl;
+  untested = refl;
+  deleted = refl;
+  saved = refl;
+  not_saved = refl;
+  pages = refl;
+  pages_alone = refl;
+  trimmed = refl;
+  proved = refl;
+  not_proved = refl;
+  near = refl;
+  not_near = refl;
+  added = refl;
+  pages_once = refl;
+  text_put = refl;
+}
