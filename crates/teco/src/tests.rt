@@ -68,8 +68,14 @@ fn rules_are_named(rt: HostRuntime) -> Result<(), Fail> {
         (&["teco", "verify", "LIB", "A"], Some(1)),
         (&["teco", "verify", "--rules", "1", "LIB"], Some(1)),
         (&["teco", "verify", "--rules", "2", "LIB", "A"], Some(2)),
-        (&["teco", "check", "--rules", "2", "LIB", "A", "CERT"], Some(2)),
-        (&["teco", "apply", "--rules", "2", "LIB", "A", "IN", "OUT"], Some(2)),
+        (
+            &["teco", "check", "--rules", "2", "LIB", "A", "CERT"],
+            Some(2),
+        ),
+        (
+            &["teco", "apply", "--rules", "2", "LIB", "A", "IN", "OUT"],
+            Some(2),
+        ),
         (&["teco", "explain", "--rules", "2", "LIB", "A"], Some(2)),
         (&["teco", "verify", "--rules", "3", "LIB", "A"], None),
         (&["teco", "trace", "--rules", "two", "LIB", "A", "IN"], None),

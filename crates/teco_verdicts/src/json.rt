@@ -200,13 +200,7 @@ pub fn verify_library_as_json<R: Files + Input, O: Write + Drop, E: Write + Drop
     let macros = macros_of(console.alloc, &library)?;
     let mut outcome = Outcome::Done;
     for entry in &macros {
-        outcome = outcome.worse(answer_verdict(
-            console,
-            &source,
-            &library,
-            *entry,
-            request.rules,
-        )?);
+        outcome = outcome.worse(answer_verdict(console, &source, &library, *entry, request.rules)?);
     }
     Ok(outcome)
 }

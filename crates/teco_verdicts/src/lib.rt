@@ -32,8 +32,8 @@ pub use naming::{element_at, letters};
 pub use outcome::Outcome;
 pub use premise::{Grouped, Known, Premise};
 pub use request::Request;
-pub use teco_verifier::Rules;
 pub use showing::{explain, show, show_source};
+pub use teco_verifier::Rules;
 pub use verdict::Verdict;
 pub use verifying::{refuse_macro, verify_library, verify_macro};
 

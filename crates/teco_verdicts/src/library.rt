@@ -16,8 +16,7 @@ use teco_base::{LIMIT, Reg};
 use teco_explain::Explained;
 use teco_library::{Library, LibraryFault};
 use teco_source::Source;
-use teco_verifier::Refusal as Why;
-use teco_verifier::Rules;
+use teco_verifier::{Refusal as Why, Rules};
 use teco_verify::Refusal;
 
 /// Reads the source of a library: a file, or standard input where the name is `-`.

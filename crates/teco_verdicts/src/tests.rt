@@ -142,15 +142,29 @@ fn certificates_are_of_an_edition(rt: HostRuntime) -> Result<(), Fail> {
     };
     let entry = register(&rt, b'A');
     let mut console = kept(&rt);
-    assert_eq!(rt; verify_macro(&rt, &mut console, request, entry)?, Outcome::Refused);
+    assert_eq!(rt;
+        verify_macro(&rt, &mut console, request, entry)?,
+        Outcome::Refused
+    );
     let mut console = kept(&rt);
-    assert_eq!(rt; verify_macro(&rt, &mut console, second, entry)?, Outcome::Done);
+    assert_eq!(rt;
+        verify_macro(&rt, &mut console, second, entry)?,
+        Outcome::Done
+    );
     let written = text_of(&rt, &console.out)?;
-    assert!(rt; written.as_str().starts_with("TECO-CERT 1\nentry A\nrules 2\n"), "{written}");
+    assert!(rt;
+        written
+            .as_str()
+            .starts_with("TECO-CERT 1\nentry A\nrules 2\n"),
+        "{written}"
+    );
     fs::write(&rt, "somleut_tools_rules_cert", console.out.as_slice())?;
     let name = "somleut_tools_rules_cert";
     let mut console = kept(&rt);
-    assert_eq!(rt; check_macro(&rt, &mut console, second, entry, name)?, Outcome::Done);
+    assert_eq!(rt;
+        check_macro(&rt, &mut console, second, entry, name)?,
+        Outcome::Done
+    );
     let mut console = kept(&rt);
     let outcome = check_macro(&rt, &mut console, request, entry, name)?;
     fs::remove_file(&rt, "somleut_tools_rules")?;
