@@ -1,7 +1,0 @@
-use Rattle.std.proofs.Common.{◌≡◌, suc, drop, None}
-use Rattle.teco_verifier.specs.table.Printed.{commands, count_from}
-use Rattle.teco_check.proofs.printed.commands.Given as goal
-
--- the nodes before this one are counted
-abbrev pub invariant-loop-at : goal.invariant-loop-at
-invariant-loop-at l = commands l.fn.argument l.nodes l.table ≡ count_from l.table (suc l.at) (drop l.at l.nodes) l.total
