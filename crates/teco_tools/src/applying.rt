@@ -18,7 +18,7 @@ use teco_source::Shown;
 use teco_text::GapText;
 use teco_verdicts::{
     AnswerFault, Claim, Console, Grouped, Known, Outcome, Request, Sourced, accepted, read_claim,
-    read_library, refuse_claim, refuse_macro,
+    read_library, refuse_claim, refuse_macro, tell_second_edition,
 };
 use teco_verify::{Refusal, Verified, account_by};
 
@@ -163,7 +163,9 @@ pub fn refuse_task<O: Write + Drop, E: Write + Drop>(
     match claim {
         None => {
             let account = account_by(console.alloc, &sourced.library, entry, sourced.rules)?;
-            refuse_macro(console, &sourced.source, &account, refusal)
+            let outcome = refuse_macro(console, &sourced.source, &account, refusal)?;
+            tell_second_edition(console, &sourced.library, entry, sourced.rules);
+            Ok(outcome)
         }
         Some(claim) => refuse_claim(console, sourced, entry, claim, refusal),
     }

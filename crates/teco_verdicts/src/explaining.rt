@@ -7,7 +7,7 @@ use crate::naming::element_at;
 use crate::outcome::Outcome;
 use crate::request::Request;
 use crate::verdict::Verdict;
-use crate::verifying::{refuse, tell_premise};
+use crate::verifying::{refuse, tell_premise, tell_second_edition};
 use std::alloc::Global;
 use std::io::{Input, Write};
 use std::rt::Files;
@@ -120,5 +120,9 @@ pub fn explain_macro<R: Files + Input, O: Write + Drop, E: Write + Drop>(
         let number = before.saturating_add(1);
         list_element(console, &sourced.library, &account, number)?;
     }
-    conclude(console, &sourced.source, &account)
+    let outcome = conclude(console, &sourced.source, &account)?;
+    if let Outcome::Refused = outcome {
+        tell_second_edition(console, &sourced.library, entry, sourced.rules);
+    }
+    Ok(outcome)
 }

@@ -72,6 +72,21 @@ pub fn refuse_macro<O: Write + Drop, E: Write + Drop>(
     Ok(outcome)
 }
 
+/// Says where the second edition of the rules accepts a macro that the first refuses.
+pub fn tell_second_edition<O: Write + Drop, E: Write + Drop>(
+    console: &mut Console<O, E>,
+    library: &Library,
+    entry: Reg,
+    rules: Rules,
+) {
+    if let Rules::Second = rules {
+        return;
+    }
+    if verify_by(console.alloc, library, entry, Rules::Second).is_ok() {
+        console.say("  the second edition of the rules accepts it: add --rules 2");
+    }
+}
+
 // Prints the certificate of a macro of a library, or why it is refused.
 fn verify_entry<O: Write + Drop, E: Write + Drop>(
     console: &mut Console<O, E>,
@@ -89,7 +104,11 @@ fn verify_entry<O: Write + Drop, E: Write + Drop>(
             verified.is_certified();
             certify(console, verified)
         }
-        Err(refusal) => refuse_macro(console, source, &account, refusal),
+        Err(refusal) => {
+            let outcome = refuse_macro(console, source, &account, refusal)?;
+            tell_second_edition(console, library, entry, rules);
+            Ok(outcome)
+        }
     }
 }
 
@@ -142,6 +161,7 @@ fn verify_one<O: Write + Drop, E: Write + Drop>(
             if let Some(told) = explained(&sourced.source, &refusal) {
                 console.say(told);
             }
+            tell_second_edition(console, &sourced.library, entry, sourced.rules);
             Ok(Outcome::Refused)
         }
     }

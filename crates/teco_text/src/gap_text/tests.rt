@@ -1,7 +1,5 @@
 // Rows of calls on either store, with what each answers and leaves. A call that is refused memory
 // is made once more, so that the rows also hold where one allocation fails.
-mod alike;
-
 use crate::{GapText, TextFault, TextStore, VecText};
 use std::alloc::Global;
 use std::process::Abort;
@@ -33,6 +31,33 @@ fn answer<T: TextStore>(store: &mut T, call: Call) -> &'static str {
     }
 }
 
+// Whether the store has this text and pointer, character by character.
+fn is_at<T: TextStore>(store: &T, text: &[u8], dot: usize) -> bool {
+    store.len() == text.len()
+        && store.dot() == dot
+        && store.at(text.len()).is_none()
+        && text
+            .iter()
+            .enumerate()
+            .all(|(i, byte)| store.at(i) == Some(*byte))
+}
+
+// Whether the two pieces that the store shows are this text.
+fn is_shown<T: TextStore>(store: &T, text: &[u8]) -> bool {
+    let (front, back) = store.slices();
+    front.len() <= text.len() && front == &text[..front.len()] && back == &text[front.len()..]
+}
+
+// Whether the store copies this text; a copy that is refused memory is made once more.
+fn is_copied<T: TextStore>(store: &T, text: &[u8], out: &mut Vec<u8>) -> bool {
+    out.clear();
+    let mut copied = store.copy_range(0, text.len(), out);
+    if copied.is_err() && out.is_empty() {
+        copied = store.copy_range(0, text.len(), out);
+    }
+    copied.is_ok() && out.as_slice() == text
+}
+
 // The store has this text, by each method that shows it, and this pointer.
 fn expect_state<T: TextStore>(
     rt: &impl Abort,
@@ -41,24 +66,8 @@ fn expect_state<T: TextStore>(
     dot: usize,
     out: &mut Vec<u8>,
 ) {
-    assert_eq!(rt; store.len(), text.len());
-    assert_eq!(rt; store.dot(), dot);
-    for (i, byte) in text.iter().enumerate() {
-        assert_eq!(rt; store.at(i), Some(*byte));
-    }
-    assert_eq!(rt; store.at(text.len()), None);
-    let (front, back) = store.slices();
-    assert!(rt; front.len() <= text.len());
-    assert_eq!(rt; front, &text[..front.len()]);
-    assert_eq!(rt; back, &text[front.len()..]);
-    out.clear();
-    let mut copied = store.copy_range(0, text.len(), out);
-    if let Err(TextFault::Memory) = copied {
-        assert_eq!(rt; out.len(), 0);
-        copied = store.copy_range(0, text.len(), out);
-    }
-    assert!(rt; copied.is_ok());
-    assert_eq!(rt; out.as_slice(), text);
+    let holds = is_at(store, text, dot) && is_shown(store, text) && is_copied(store, text, out);
+    assert!(rt; holds);
 }
 
 fn expect_rows<T: TextStore>(
