@@ -1,12 +1,12 @@
 // Commands of pages and files on an editor over files in memory. Expected bytes are worked by hand
 // from the rules.
-use crate::{
-    Halt, abandon_output, append, close_output, copy_all, exit, has_unread, look_through,
-    open_input, open_output, turn_page, write_page, write_range, yank,
-};
 use std::process::Abort;
 use std::test::Fail;
 use teco_editor::Editor;
+use teco_filing::{
+    Halt, abandon_output, append, close_output, copy_all, exit, has_unread, look_through,
+    open_input, open_output, turn_page, write_page, write_range, yank,
+};
 use teco_model::HostFault;
 use teco_pages::{MemHost, Pages};
 use teco_text::{TextStore, VecText};

@@ -7,13 +7,13 @@ mod sites;
 ghost use Rattle.std.specs.Prelude.{IsTrue};
 ghost use Rattle.teco_regs.specs.Texts.{IsTextWithinLimit};
 
-use super::*;
 use std::alloc::AllocError;
 use std::process::Abort;
 use std::test::Fail;
 use teco_base::{Code, LIMIT, Reg};
 use teco_model::HostFault;
 use teco_pages::MemHost;
+use teco_run::{Machine, Stop};
 use teco_text::VecText;
 
 type Row = (

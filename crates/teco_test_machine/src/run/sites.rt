@@ -1,6 +1,7 @@
 // Where runs stop, and runs that are done one step at a time.
 use super::*;
 use std::alloc::Global;
+use teco_run::{Execution, Progress, Site, Stopped};
 
 // Runs a command string to its stop, on a new machine.
 fn run_to_stop(alloc: Global, command: &[u8], limit: u64) -> (Machine<VecText>, Stopped) {
