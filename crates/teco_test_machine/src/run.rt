@@ -7,23 +7,13 @@ mod sites;
 ghost use Rattle.std.specs.Prelude.{IsTrue};
 ghost use Rattle.teco_regs.specs.Texts.{IsTextWithinLimit};
 
-use std::alloc::AllocError;
+use std::alloc::{AllocError, Global};
 use std::process::Abort;
-use std::test::Fail;
 use teco_base::{Code, LIMIT, Reg};
 use teco_model::HostFault;
 use teco_pages::MemHost;
 use teco_run::{Machine, Stop};
 use teco_text::VecText;
-
-type Row = (
-    &'static [u8],
-    u64,
-    Result<u64, Code>,
-    &'static [u8],
-    &'static [u8],
-    usize,
-);
 
 // Runs a command string, which is no longer than one may be.
 fn run(machine: &mut Machine<VecText>, host: &mut MemHost, command: &[u8], limit: u64) -> Stop {
@@ -47,78 +37,110 @@ fn answer(stop: Stop) -> Result<u64, Code> {
     }
 }
 
-fn expect_text(rt: &impl Abort, machine: &Machine<VecText>, text: &[u8]) {
+fn is_text(machine: &Machine<VecText>, text: &[u8]) -> bool {
     let (front, back) = machine.text();
-    assert!(rt; front.len() <= text.len());
-    assert_eq!(rt; front, &text[..front.len()]);
-    assert_eq!(rt; back, &text[front.len()..]);
+    text.strip_prefix(front)
+        .is_some_and(|behind| behind == back)
+}
+
+// Runs a command string of at most so many steps on a new machine. It comes to this, types this,
+// and leaves this text and this pointer.
+fn expect(
+    rt: &(impl Abort + AllocGlobal),
+    command: &[u8],
+    limit: u64,
+    want: Result<u64, Code>,
+    typed: &[u8],
+    left: (&[u8], usize),
+) {
+    let mut machine = Machine::new(rt.alloc(), VecText::new(rt.alloc()));
+    let mut host = MemHost::new(rt.alloc());
+    let mut got = answer(run(&mut machine, &mut host, command, limit));
+    if got == Err(Code::Mem) {
+        machine = Machine::new(rt.alloc(), VecText::new(rt.alloc()));
+        got = answer(run(&mut machine, &mut host, command, limit));
+    }
+    assert!(rt; got == want && is_text(&machine, left.0) && machine.dot() == left.1);
+    assert!(rt; machine.take_typed().as_slice() == typed);
+    assert!(rt; machine.take_typed().is_empty());
 }
 
 #[test]
-fn rows_of_commands(rt: HostRuntime) -> Result<(), Fail> {
-    let rows: [Row; 11] = [
-        (
-            b"Iabc\x1bJ1D2+3*4=HT\x1b\x1b",
-            100,
-            Ok(14),
-            b"20\r\nbc",
-            b"bc",
-            0,
-        ),
-        (
-            b"\tab\x1b33I\x1b0,1T(((((((((1)))))))))=\x1b\x1b",
-            100,
-            Ok(29),
-            b"\t1\r\n",
-            b"\tab!",
-            4,
-        ),
-        (
-            b"@^A/a\x1bb/33^T255:===\x1b\x1b",
-            100,
-            Ok(7),
-            b"a\x1bb!FF",
-            b"",
-            0,
-        ),
-        (b"Iab\x1b-3D\x1b\x1b", 100, Err(Code::Dtb), b"", b"ab", 2),
-        (b"@^UA/+1/2MA=Q0-1\x1b\x1b", 100, Ok(12), b"3\r\n", b"", 0),
-        (b"@^UA/MA/MA\x1b\x1b", 50, Err(Code::Lim), b"", b"", 0),
-        (
-            b"Iabcabc\x1bJ<FSb\x1bXX\x1b;>HT\x1b\x1b",
-            100,
-            Ok(15),
-            b"aXXcaXXc",
-            b"aXXcaXXc",
-            0,
-        ),
-        (
-            b"Iab\x1bSb\x1bSa\x1b\x1b",
-            100,
-            Err(Code::Srh),
-            b"",
-            b"ab",
-            0,
-        ),
-        (b"<1=\x1b\x1b", 10, Err(Code::Utc), b"1\r\n", b"", 0),
-        (b"1=2=\x1b\x1b", 5, Err(Code::Lim), b"1\r\n2\r\n", b"", 0),
-        (b"1=2=\x1b\x1b", 6, Ok(6), b"1\r\n2\r\n", b"", 0),
-    ];
-    for (command, limit, want, typed, text, dot) in rows {
-        let mut machine = Machine::new(rt.alloc(), VecText::new(rt.alloc()));
-        let mut host = MemHost::new(rt.alloc());
-        let mut got = answer(run(&mut machine, &mut host, command, limit));
-        if got == Err(Code::Mem) {
-            machine = Machine::new(rt.alloc(), VecText::new(rt.alloc()));
-            got = answer(run(&mut machine, &mut host, command, limit));
-        }
-        assert_eq!(rt; got, want);
-        assert_eq!(rt; machine.take_typed().as_slice(), typed);
-        assert_eq!(rt; machine.take_typed().len(), 0);
-        assert_eq!(rt; machine.dot(), dot);
-        expect_text(&rt, &machine, text);
-    }
-    Ok(())
+fn rows_of_commands(rt: HostRuntime) {
+    expect(
+        &rt,
+        b"Iabc\x1bJ1D2+3*4=HT\x1b\x1b",
+        100,
+        Ok(14),
+        b"20\r\nbc",
+        (b"bc", 0),
+    );
+    expect(
+        &rt,
+        b"\tab\x1b33I\x1b0,1T(((((((((1)))))))))=\x1b\x1b",
+        100,
+        Ok(29),
+        b"\t1\r\n",
+        (b"\tab!", 4),
+    );
+    expect(
+        &rt,
+        b"@^A/a\x1bb/33^T255:===\x1b\x1b",
+        100,
+        Ok(7),
+        b"a\x1bb!FF",
+        (b"", 0),
+    );
+    expect(
+        &rt,
+        b"Iab\x1b-3D\x1b\x1b",
+        100,
+        Err(Code::Dtb),
+        b"",
+        (b"ab", 2),
+    );
+    expect(
+        &rt,
+        b"@^UA/+1/2MA=Q0-1\x1b\x1b",
+        100,
+        Ok(12),
+        b"3\r\n",
+        (b"", 0),
+    );
+    expect(
+        &rt,
+        b"@^UA/MA/MA\x1b\x1b",
+        50,
+        Err(Code::Lim),
+        b"",
+        (b"", 0),
+    );
+    expect(
+        &rt,
+        b"Iabcabc\x1bJ<FSb\x1bXX\x1b;>HT\x1b\x1b",
+        100,
+        Ok(15),
+        b"aXXcaXXc",
+        (b"aXXcaXXc", 0),
+    );
+    expect(
+        &rt,
+        b"Iab\x1bSb\x1bSa\x1b\x1b",
+        100,
+        Err(Code::Srh),
+        b"",
+        (b"ab", 0),
+    );
+    expect(&rt, b"<1=\x1b\x1b", 10, Err(Code::Utc), b"1\r\n", (b"", 0));
+    expect(
+        &rt,
+        b"1=2=\x1b\x1b",
+        5,
+        Err(Code::Lim),
+        b"1\r\n2\r\n",
+        (b"", 0),
+    );
+    expect(&rt, b"1=2=\x1b\x1b", 6, Ok(6), b"1\r\n2\r\n", (b"", 0));
 }
 
 // The register of a name, or else the first.
@@ -172,40 +194,44 @@ fn registers_are_shown_and_loaded(rt: HostRuntime) {
 
 // Runs a command string on a new machine that may type so many bytes, and whose texts may take as
 // many.
-fn run_capped(rt: &HostRuntime, cap: usize, command: &[u8]) -> (Machine<VecText>, Stop) {
-    let mut machine = Machine::new(rt.alloc(), VecText::new(rt.alloc()));
-    let mut host = MemHost::new(rt.alloc());
+fn run_capped(alloc: Global, cap: usize, command: &[u8]) -> (Machine<VecText>, Stop) {
+    let mut machine = Machine::new(alloc, VecText::new(alloc));
+    let mut host = MemHost::new(alloc);
     machine.set_cap(cap);
     let stop = run(&mut machine, &mut host, command, 100_000);
     (machine, stop)
 }
 
+// Under a cap a command string may type these bytes, and comes to this where no allocation fails.
+fn expect_capped(
+    rt: &(impl Abort + AllocGlobal),
+    cap: usize,
+    command: &[u8],
+    typed: &[u8],
+    want: Result<u64, Code>,
+) {
+    let (mut machine, stop) = run_capped(rt.alloc(), cap, command);
+    let got = answer(stop);
+    let bytes = machine.take_typed();
+    let is_refused = got == Err(Code::Mem);
+    assert!(rt;
+        (got == want && bytes.len() == typed.len()) || is_refused,
+        "{command:?}"
+    );
+    assert!(rt; typed.starts_with(&bytes), "{command:?}");
+}
+
 #[test]
 fn caps_are_refused_growths(rt: HostRuntime) {
-    // a cap, a command string, the bytes that it may type, and what it comes to where no allocation
-    // fails
-    let rows: [(usize, &[u8], &[u8], Result<u64, Code>); 7] = [
-        (10, b"<1=>", b"1\r\n1\r\n1\r\n", Err(Code::Mem)),
-        (3, b"1=", b"1\r\n", Ok(2)),
-        (2, b"1=", b"", Err(Code::Mem)),
-        (3, b"Iabcd\x1bHT", b"", Err(Code::Mem)),
-        (3, b"@^UA/abcd/:GA", b"", Err(Code::Mem)),
-        (5, b"@I/ab/<Sx\x1b>", b"", Err(Code::Mem)),
-        (100_000, b"@^UA/MA/MA", b"", Err(Code::Mem)),
-    ];
-    for (cap, command, typed, want) in rows {
-        let (mut machine, stop) = run_capped(&rt, cap, command);
-        let got = answer(stop);
-        assert!(rt; got == want || got == Err(Code::Mem), "{command:?}");
-        let bytes = machine.take_typed();
-        assert!(rt; typed.starts_with(&bytes), "{command:?}");
-        assert!(rt;
-            bytes.len() == typed.len() || got == Err(Code::Mem),
-            "{command:?}"
-        );
-    }
+    expect_capped(&rt, 10, b"<1=>", b"1\r\n1\r\n1\r\n", Err(Code::Mem));
+    expect_capped(&rt, 3, b"1=", b"1\r\n", Ok(2));
+    expect_capped(&rt, 2, b"1=", b"", Err(Code::Mem));
+    expect_capped(&rt, 3, b"Iabcd\x1bHT", b"", Err(Code::Mem));
+    expect_capped(&rt, 3, b"@^UA/abcd/:GA", b"", Err(Code::Mem));
+    expect_capped(&rt, 5, b"@I/ab/<Sx\x1b>", b"", Err(Code::Mem));
+    expect_capped(&rt, 100_000, b"@^UA/MA/MA", b"", Err(Code::Mem));
     // as deep as the cap lets, and the next string runs
-    let (mut machine, stop) = run_capped(&rt, 1_000_000, b"@^UA/%B-1000\"LMA'/MA");
+    let (mut machine, stop) = run_capped(rt.alloc(), 1_000_000, b"@^UA/%B-1000\"LMA'/MA");
     if let Stop::Memory = stop {
         machine.set_cap(1_000_000);
     } else {
