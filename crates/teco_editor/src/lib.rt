@@ -21,6 +21,3 @@ pub use editor::Editor;
 pub use query::Reply;
 pub use searching::{Finding, look, search};
 pub use stuck::Stuck;
-
-#[cfg(test)]
-mod tests;

@@ -165,6 +165,3 @@ pub fn look<T: TextStore>(
         Sought::Wanted(more) => Ok(Some(more)),
     }
 }
-
-#[cfg(test)]
-mod tests;

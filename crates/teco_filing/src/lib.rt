@@ -8,6 +8,3 @@ mod pages;
 pub use files::{abandon_output, close_output, copy_all, exit, open_input, open_output};
 pub use halt::Halt;
 pub use pages::{append, has_unread, look_through, turn_page, write_page, write_range, yank};
-
-#[cfg(test)]
-mod tests;

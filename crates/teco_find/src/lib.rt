@@ -19,6 +19,3 @@ mod rests;
 pub use fault::FindFault;
 pub use last_pattern::LastPattern;
 pub use pattern::{Pattern, last_part, minimum};
-
-#[cfg(test)]
-mod tests;

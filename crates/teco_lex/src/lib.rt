@@ -17,6 +17,3 @@ pub use reader::element;
 pub use readings::Readings;
 pub use skips::{bracket, route_of, skip};
 pub use teco_model::{Element, Skip};
-
-#[cfg(test)]
-mod tests;

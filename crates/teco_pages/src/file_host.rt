@@ -303,6 +303,3 @@ fn close<R: Files>(
         None => Err(Reason::NotOpen),
     }
 }
-
-#[cfg(test)]
-mod tests;

@@ -322,6 +322,3 @@ fn ending(ff: bool) -> &'static [u8]
 {
     if ff { &[FF] } else { &[] }
 }
-
-#[cfg(test)]
-mod tests;

@@ -25,6 +25,3 @@ pub use execution::{Execution, Progress};
 pub use machine::Machine;
 pub use site::{Site, Stopped};
 pub use teco_model::{HostFault, Stop};
-
-#[cfg(test)]
-mod tests;

@@ -1,6 +1,7 @@
 // Where runs stop, and runs that are done one step at a time.
 use super::*;
-use std::alloc::Global;
+use std::test::Fail;
+use teco_run::{Execution, Progress, Site, Stopped};
 
 // Runs a command string to its stop, on a new machine.
 fn run_to_stop(alloc: Global, command: &[u8], limit: u64) -> (Machine<VecText>, Stopped) {
@@ -40,45 +41,61 @@ fn in_text(name: u8, place: usize) -> Site {
     }
 }
 
+// A command string under a limit does so many steps, and comes to this, there.
+fn expect_site(
+    rt: &(impl Abort + AllocGlobal),
+    command: &[u8],
+    steps: (u64, u64),
+    want: Result<u64, Code>,
+    site: Site,
+) {
+    let (_, stopped) = run_surely(rt.alloc(), command, steps.0);
+    let is_right = answer(stopped.stop) == want && stopped.steps == steps.1;
+    assert!(rt; is_right && stopped.site == site, "{command:?}");
+}
+
 #[test]
 fn runs_stop_at_sites(rt: HostRuntime) {
-    // a command string, a limit, the steps that are done, what comes of it, and where
-    let rows: [(&[u8], u64, u64, Result<u64, Code>, Site); 16] = [
-        (b"", 9, 0, Ok(0), in_command(0)),
-        (b"1=2=", 0, 0, Err(Code::Lim), in_command(0)),
-        (b"1=2=", 3, 3, Err(Code::Lim), in_command(3)),
-        (b"1=  2=", 2, 2, Err(Code::Lim), in_command(4)),
-        (b" 1= \r\n", 9, 2, Ok(2), in_command(6)),
-        (b"1=\x1b\x1b", 9, 4, Ok(4), in_command(4)),
-        (b"1= EX", 9, 2, Ok(3), in_command(3)),
-        (b"Iab\x1b  -3D", 9, 3, Err(Code::Dtb), in_command(8)),
-        (b"1= ^Y 2 ,", 9, 4, Err(Code::Arg), in_command(8)),
-        (b"<1= ", 9, 3, Err(Code::Utc), in_command(4)),
-        (b"1= ERno\x1b", 9, 2, Err(Code::Fnf), in_command(3)),
-        (b"@^UA/9C/MA", 9, 3, Err(Code::Pop), in_text(b'A', 1)),
-        (b"@^UA/ <1=/ MA", 9, 5, Err(Code::Utm), in_text(b'A', 4)),
-        (
-            b"@^UA/1=  2=/ MA 3=",
-            4,
-            4,
-            Err(Code::Lim),
-            in_text(b'A', 4),
-        ),
-        (b"@^UA/1=/MA -D", 9, 6, Err(Code::Dtb), in_command(12)),
-        (
-            b"@^UB/\r\n9C/@^UA/1= MB/MA",
-            9,
-            7,
-            Err(Code::Pop),
-            in_text(b'B', 3),
-        ),
-    ];
-    for (command, limit, steps, want, site) in rows {
-        let (_, stopped) = run_surely(rt.alloc(), command, limit);
-        assert_eq!(rt; answer(stopped.stop), want, "{command:?}");
-        assert_eq!(rt; stopped.steps, steps, "{command:?}");
-        assert_eq!(rt; stopped.site, site, "{command:?}");
-    }
+    expect_site(&rt, b"", (9, 0), Ok(0), in_command(0));
+    expect_site(&rt, b"1=2=", (0, 0), Err(Code::Lim), in_command(0));
+    expect_site(&rt, b"1=2=", (3, 3), Err(Code::Lim), in_command(3));
+    expect_site(&rt, b"1=  2=", (2, 2), Err(Code::Lim), in_command(4));
+    expect_site(&rt, b" 1= \r\n", (9, 2), Ok(2), in_command(6));
+    expect_site(&rt, b"1=\x1b\x1b", (9, 4), Ok(4), in_command(4));
+    expect_site(&rt, b"1= EX", (9, 2), Ok(3), in_command(3));
+    expect_site(&rt, b"Iab\x1b  -3D", (9, 3), Err(Code::Dtb), in_command(8));
+    expect_site(&rt, b"1= ^Y 2 ,", (9, 4), Err(Code::Arg), in_command(8));
+    expect_site(&rt, b"<1= ", (9, 3), Err(Code::Utc), in_command(4));
+    expect_site(&rt, b"1= ERno\x1b", (9, 2), Err(Code::Fnf), in_command(3));
+    expect_site(&rt, b"@^UA/9C/MA", (9, 3), Err(Code::Pop), in_text(b'A', 1));
+    expect_site(
+        &rt,
+        b"@^UA/ <1=/ MA",
+        (9, 5),
+        Err(Code::Utm),
+        in_text(b'A', 4),
+    );
+    expect_site(
+        &rt,
+        b"@^UA/1=  2=/ MA 3=",
+        (4, 4),
+        Err(Code::Lim),
+        in_text(b'A', 4),
+    );
+    expect_site(
+        &rt,
+        b"@^UA/1=/MA -D",
+        (9, 6),
+        Err(Code::Dtb),
+        in_command(12),
+    );
+    expect_site(
+        &rt,
+        b"@^UB/\r\n9C/@^UA/1= MB/MA",
+        (9, 7),
+        Err(Code::Pop),
+        in_text(b'B', 3),
+    );
 }
 
 #[test]
@@ -144,14 +161,10 @@ fn expect_steps(
     if let Progress::Memory = progress {
         return Ok(true);
     }
-    assert_eq!(rt; steps, stopped.steps, "{command:?}");
-    assert!(rt; agrees(stopped.stop, progress), "{command:?}");
-    assert_eq!(rt; execution.site(), stopped.site, "{command:?}");
-    assert_eq!(rt; stepped.dot(), machine.dot(), "{command:?}");
-    assert_eq!(rt;
-        stepped.take_typed().as_slice(),
-        machine.take_typed().as_slice()
-    );
+    let is_there = steps == stopped.steps && execution.site() == stopped.site;
+    assert!(rt; is_there && agrees(stopped.stop, progress), "{command:?}");
+    let is_same = stepped.take_typed().as_slice() == machine.take_typed().as_slice();
+    assert!(rt; is_same && stepped.dot() == machine.dot(), "{command:?}");
     Ok(false)
 }
 

@@ -2,24 +2,15 @@
 // rows also hold where one allocation fails.
 ghost use Rattle.std.specs.Prelude.{◌≤◌};
 
-use super::*;
-use crate::{Editor, Stuck};
 use std::alloc::Global;
 use std::process::Abort;
 use teco_base::Code;
+use teco_editor::{Editor, Finding, Stuck, look, search};
 use teco_find::LastPattern;
+use teco_lex::element;
 use teco_model::kind::Search;
 use teco_model::{Element, Kind, Taken};
 use teco_text::{TextStore, VecText};
-
-// A buffer and its pointer; a search with its colons, its texts and its count; what it comes to,
-// and the buffer then.
-type Row = (
-    (&'static [u8], usize),
-    (Search, u8, &'static [u8], &'static [u8], Option<i32>),
-    Result<Finding, Code>,
-    (&'static [u8], usize),
-);
 
 // An editor with a text and its pointer.
 fn editor(rt: &impl Abort, alloc: Global, text: &[u8], dot: usize) -> Editor<VecText> {
@@ -44,21 +35,25 @@ fn search_twice(
     }
 }
 
-fn expect_row(rt: &impl Abort, alloc: Global, last: &mut LastPattern, row: &Row) {
-    let ((text, dot), (kind, colons, sought, second, count), want, (left, place)) = *row;
-    let mut editor = editor(rt, alloc, text, dot);
-    let element = Element {
-        kind: Kind::Search(kind),
-        colons,
-        at: false,
-        text: sought,
-        second,
-        place: 0,
-        next: 1,
+// A search, with its count, on a buffer with a pointer comes to this, and leaves the buffer so.
+fn expect(
+    rt: &(impl Abort + AllocGlobal),
+    last: &mut LastPattern,
+    buffer: (&[u8], usize),
+    search: (&[u8], Option<i32>),
+    want: Result<Finding, Code>,
+    left: (&[u8], usize),
+) {
+    let mut editor = editor(rt, rt.alloc(), buffer.0, buffer.1);
+    let Ok(Some(element)) = element(search.0, 0) else {
+        panic!(rt; "no element")
+    };
+    let Kind::Search(kind) = element.kind else {
+        panic!(rt; "no search")
     };
     let taken = Taken {
         first: None,
-        value: count,
+        value: search.1,
     };
     let answer = search_twice(&mut editor, last, kind, &element, taken);
     let got = match answer {
@@ -66,75 +61,86 @@ fn expect_row(rt: &impl Abort, alloc: Global, last: &mut LastPattern, row: &Row)
         Err(Stuck::Code(code)) => Err(code),
         Err(Stuck::Memory) => Err(Code::Mem),
     };
-    assert_eq!(rt; got, want);
-    assert_eq!(rt; editor.dot(), place);
-    assert_eq!(rt; editor.text().0, left);
+    assert!(rt; got == want);
+    assert!(rt; editor.dot() == left.1 && editor.text().0 == left.0);
 }
 
 #[test]
 fn texts_are_found_or_missed(rt: HostRuntime) {
-    let find = Search::Find;
-    let rows: [Row; 9] = [
-        (
-            (b"abab", 4),
-            (find, 0, b"ab", b"", Some(-2)),
-            Ok(Finding::Found),
-            (b"abab", 2),
-        ),
-        (
-            (b"abab", 0),
-            (find, 0, b"AB", b"", Some(2)),
-            Ok(Finding::Found),
-            (b"abab", 4),
-        ),
-        (
-            (b"abab", 0),
-            (find, 2, b"b", b"", None),
-            Ok(Finding::Missed),
-            (b"abab", 0),
-        ),
-        (
-            (b"abab", 1),
-            (find, 2, b"b", b"", None),
-            Ok(Finding::Found),
-            (b"abab", 2),
-        ),
-        (
-            (b"abab", 1),
-            (find, 0, b"abab", b"", None),
-            Ok(Finding::Missed),
-            (b"abab", 1),
-        ),
-        (
-            (b"abab", 1),
-            (find, 0, b"", b"", None),
-            Ok(Finding::Missed),
-            (b"abab", 1),
-        ),
-        (
-            (b"abab", 1),
-            (find, 0, b"a", b"", Some(0)),
-            Err(Code::Arg),
-            (b"abab", 1),
-        ),
-        (
-            (b"abab", 1),
-            (find, 0, b"\x0e", b"", None),
-            Err(Code::Ice),
-            (b"abab", 1),
-        ),
-        (
-            (b"abcab", 2),
-            (Search::Replace, 0, b"ab", b"XYZ", None),
-            Ok(Finding::Found),
-            (b"abcXYZ", 6),
-        ),
-    ];
     // one of them all, so that each finds what the others left
     let mut last = LastPattern::new(rt.alloc());
-    for row in rows.iter() {
-        expect_row(&rt, rt.alloc(), &mut last, row);
-    }
+    expect(
+        &rt,
+        &mut last,
+        (b"abab", 4),
+        (b"Sab\x1b", Some(-2)),
+        Ok(Finding::Found),
+        (b"abab", 2),
+    );
+    expect(
+        &rt,
+        &mut last,
+        (b"abab", 0),
+        (b"SAB\x1b", Some(2)),
+        Ok(Finding::Found),
+        (b"abab", 4),
+    );
+    expect(
+        &rt,
+        &mut last,
+        (b"abab", 0),
+        (b"::Sb\x1b", None),
+        Ok(Finding::Missed),
+        (b"abab", 0),
+    );
+    expect(
+        &rt,
+        &mut last,
+        (b"abab", 1),
+        (b"::Sb\x1b", None),
+        Ok(Finding::Found),
+        (b"abab", 2),
+    );
+    expect(
+        &rt,
+        &mut last,
+        (b"abab", 1),
+        (b"Sabab\x1b", None),
+        Ok(Finding::Missed),
+        (b"abab", 1),
+    );
+    expect(
+        &rt,
+        &mut last,
+        (b"abab", 1),
+        (b"S\x1b", None),
+        Ok(Finding::Missed),
+        (b"abab", 1),
+    );
+    expect(
+        &rt,
+        &mut last,
+        (b"abab", 1),
+        (b"Sa\x1b", Some(0)),
+        Err(Code::Arg),
+        (b"abab", 1),
+    );
+    expect(
+        &rt,
+        &mut last,
+        (b"abab", 1),
+        (b"S\x0e\x1b", None),
+        Err(Code::Ice),
+        (b"abab", 1),
+    );
+    expect(
+        &rt,
+        &mut last,
+        (b"abcab", 2),
+        (b"FSab\x1bXYZ\x1b", None),
+        Ok(Finding::Found),
+        (b"abcXYZ", 6),
+    );
 }
 
 fn look_twice(

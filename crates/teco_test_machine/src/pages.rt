@@ -2,11 +2,11 @@
 // once more, so that each test also holds where one allocation fails.
 ghost use Rattle.std.specs.Prelude.{◌<◌};
 
-use super::*;
-use crate::mem_host::MemHost;
-use crate::test_host::{HostCall, TestHost};
+use std::alloc::Global;
 use std::process::Abort;
 use std::test::Fail;
+use teco_base::bytes::FF;
+use teco_pages::{Fault, HostCall, MemHost, Pages, TestHost};
 
 const PIECES: [usize; 3] = [1, 2, 4096];
 

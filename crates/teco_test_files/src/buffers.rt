@@ -1,6 +1,11 @@
 // What is read ahead of an input, and what is kept of small writes.
-use super::faulty::Faulty;
-use super::*;
+use crate::faulty::{Faulty, LIMITS};
+use crate::scratch::{
+    begin_in, begin_out, host, is_file, long_text, names, reads, remove, scratch, write_pieces,
+};
+use std::fs;
+use std::test::Fail;
+use teco_pages::{FileHost, Host, Purpose};
 
 // A host of files that move few bytes at a call, and fail once when they moved so many.
 fn faulty(rt: &HostRuntime, piece: usize, whole: usize) -> FileHost<Faulty> {
@@ -8,6 +13,7 @@ fn faulty(rt: &HostRuntime, piece: usize, whole: usize) -> FileHost<Faulty> {
         rt: *rt,
         piece,
         whole,
+        limits: LIMITS,
     };
     FileHost::new(rt.alloc(), files)
 }

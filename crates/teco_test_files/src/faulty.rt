@@ -1,9 +1,13 @@
-// Files of the system that move few bytes at a call, and of which each fails once.
+// Files of the system that move few bytes at a call, and of which each fails once; another file may
+// stand in for the limits that the system sets.
 use std::alloc::Allocator;
 use std::fs::{File, Files, Metadata, OpenFile, OpenOptions, Permissions};
 use std::io::{self, Read, Seek, SeekFrom, Write};
 use std::path::PathBuf;
 use std::time::{Clock, Duration};
+
+/// Where a process reads its limits.
+pub const LIMITS: &str = "/proc/self/limits";
 
 /// The runtime of such files.
 #[derive(Clone, Copy, Drop)]
@@ -13,6 +17,8 @@ pub struct Faulty {
     pub piece: usize,
     // how many bytes a file moves before it fails
     pub whole: usize,
+    // the file that stands in for the limits
+    pub limits: &'static str,
 }
 
 /// A file that fails once.
@@ -95,6 +101,7 @@ impl Files for Faulty {
     type Dir = <HostRuntime as Files>::Dir;
 
     fn open_file(&self, how: &OpenOptions, path: &str) -> io::Result<FaultyFile> {
+        let path = if path == LIMITS { self.limits } else { path };
         Ok(FaultyFile {
             file: self.rt.open_file(how, path)?,
             piece: self.piece,

@@ -1,0 +1,242 @@
+// Command strings on new machines: what they answer, type and leave. A machine answers `Memory`
+// only where memory is refused; such a run is made once more, so that the rows also hold where one
+// allocation fails.
+mod counting;
+mod sites;
+
+ghost use Rattle.std.specs.Prelude.{IsTrue};
+ghost use Rattle.teco_regs.specs.Texts.{IsTextWithinLimit};
+
+use std::alloc::{AllocError, Global};
+use std::process::Abort;
+use teco_base::{Code, LIMIT, Reg};
+use teco_model::HostFault;
+use teco_pages::MemHost;
+use teco_run::{Machine, Stop};
+use teco_text::VecText;
+
+// Runs a command string, which is no longer than one may be.
+fn run(machine: &mut Machine<VecText>, host: &mut MemHost, command: &[u8], limit: u64) -> Stop {
+    if command.len() > LIMIT {
+        return Stop::Limit;
+    }
+    machine.run(command, limit, host)
+}
+
+// The steps of a run that came to its end, or the code that is typed.
+fn answer(stop: Stop) -> Result<u64, Code> {
+    match stop {
+        Stop::Ended { steps } => Ok(steps),
+        Stop::Exit { steps } => Ok(steps),
+        Stop::Error(code) => Err(code),
+        Stop::HostFault(HostFault::NoFile) => Err(Code::Fnf),
+        Stop::HostFault(HostFault::In) => Err(Code::Inp),
+        Stop::HostFault(HostFault::Out) => Err(Code::Out),
+        Stop::Limit => Err(Code::Lim),
+        Stop::Memory => Err(Code::Mem),
+    }
+}
+
+fn is_text(machine: &Machine<VecText>, text: &[u8]) -> bool {
+    let (front, back) = machine.text();
+    text.strip_prefix(front)
+        .is_some_and(|behind| behind == back)
+}
+
+// Runs a command string of at most so many steps on a new machine. It comes to this, types this,
+// and leaves this text and this pointer.
+fn expect(
+    rt: &(impl Abort + AllocGlobal),
+    command: &[u8],
+    limit: u64,
+    want: Result<u64, Code>,
+    typed: &[u8],
+    left: (&[u8], usize),
+) {
+    let mut machine = Machine::new(rt.alloc(), VecText::new(rt.alloc()));
+    let mut host = MemHost::new(rt.alloc());
+    let mut got = answer(run(&mut machine, &mut host, command, limit));
+    if got == Err(Code::Mem) {
+        machine = Machine::new(rt.alloc(), VecText::new(rt.alloc()));
+        got = answer(run(&mut machine, &mut host, command, limit));
+    }
+    assert!(rt; got == want && is_text(&machine, left.0) && machine.dot() == left.1);
+    assert!(rt; machine.take_typed().as_slice() == typed);
+    assert!(rt; machine.take_typed().is_empty());
+}
+
+#[test]
+fn rows_of_commands(rt: HostRuntime) {
+    expect(
+        &rt,
+        b"Iabc\x1bJ1D2+3*4=HT\x1b\x1b",
+        100,
+        Ok(14),
+        b"20\r\nbc",
+        (b"bc", 0),
+    );
+    expect(
+        &rt,
+        b"\tab\x1b33I\x1b0,1T(((((((((1)))))))))=\x1b\x1b",
+        100,
+        Ok(29),
+        b"\t1\r\n",
+        (b"\tab!", 4),
+    );
+    expect(
+        &rt,
+        b"@^A/a\x1bb/33^T255:===\x1b\x1b",
+        100,
+        Ok(7),
+        b"a\x1bb!FF",
+        (b"", 0),
+    );
+    expect(
+        &rt,
+        b"Iab\x1b-3D\x1b\x1b",
+        100,
+        Err(Code::Dtb),
+        b"",
+        (b"ab", 2),
+    );
+    expect(
+        &rt,
+        b"@^UA/+1/2MA=Q0-1\x1b\x1b",
+        100,
+        Ok(12),
+        b"3\r\n",
+        (b"", 0),
+    );
+    expect(
+        &rt,
+        b"@^UA/MA/MA\x1b\x1b",
+        50,
+        Err(Code::Lim),
+        b"",
+        (b"", 0),
+    );
+    expect(
+        &rt,
+        b"Iabcabc\x1bJ<FSb\x1bXX\x1b;>HT\x1b\x1b",
+        100,
+        Ok(15),
+        b"aXXcaXXc",
+        (b"aXXcaXXc", 0),
+    );
+    expect(
+        &rt,
+        b"Iab\x1bSb\x1bSa\x1b\x1b",
+        100,
+        Err(Code::Srh),
+        b"",
+        (b"ab", 0),
+    );
+    expect(&rt, b"<1=\x1b\x1b", 10, Err(Code::Utc), b"1\r\n", (b"", 0));
+    expect(
+        &rt,
+        b"1=2=\x1b\x1b",
+        5,
+        Err(Code::Lim),
+        b"1\r\n2\r\n",
+        (b"", 0),
+    );
+    expect(&rt, b"1=2=\x1b\x1b", 6, Ok(6), b"1\r\n2\r\n", (b"", 0));
+}
+
+// The register of a name, or else the first.
+fn register(name: u8) -> Reg {
+    Reg::of(name).unwrap_or_default()
+}
+
+fn is_short(text: &Option<&[u8]>) -> bool
+    ensures { IsTrue result → IsTextWithinLimit text.now }
+{
+    match text {
+        Some(text) => text.len() <= LIMIT,
+        None => true,
+    }
+}
+
+fn load(machine: &mut Machine<VecText>, texts: [Option<&[u8]>; 36]) -> Result<(), AllocError> {
+    if texts.iter().all(is_short) {
+        machine.load(texts)?;
+    }
+    Ok(())
+}
+
+#[test]
+fn registers_are_shown_and_loaded(rt: HostRuntime) {
+    let mut machine = Machine::new(rt.alloc(), VecText::new(rt.alloc()));
+    let mut host = MemHost::new(rt.alloc());
+    let command = b"Iab\x1b5U9^UBcde\x1b[B\x1b\x1b";
+    if let Stop::Memory = run(&mut machine, &mut host, command, 100) {
+        machine = Machine::new(rt.alloc(), VecText::new(rt.alloc()));
+        run(&mut machine, &mut host, command, 100);
+    }
+    assert_eq!(rt; machine.regs().number(register(b'9')), 5);
+    assert_eq!(rt; machine.regs().text(register(b'B')), b"cde".as_slice());
+    assert_eq!(rt; machine.held(), 8);
+    let mut texts: [Option<&[u8]>; 36] = [None; 36];
+    texts[0] = Some(b"%9=");
+    texts[35] = Some(b"ninth");
+    if load(&mut machine, texts).is_err() {
+        assert_eq!(rt; machine.held(), 8);
+        assert!(rt; load(&mut machine, texts).is_ok());
+    }
+    assert_eq!(rt; machine.held(), 16);
+    assert_eq!(rt; machine.regs().text(register(b'B')), b"cde".as_slice());
+    assert_eq!(rt; machine.regs().text(register(b'9')), b"ninth".as_slice());
+    if let Stop::Memory = run(&mut machine, &mut host, b"MA", 100) {
+        run(&mut machine, &mut host, b"MA", 100);
+    }
+    assert_eq!(rt; machine.take_typed().as_slice(), b"6\r\n".as_slice());
+}
+
+// Runs a command string on a new machine that may type so many bytes, and whose texts may take as
+// many.
+fn run_capped(alloc: Global, cap: usize, command: &[u8]) -> (Machine<VecText>, Stop) {
+    let mut machine = Machine::new(alloc, VecText::new(alloc));
+    let mut host = MemHost::new(alloc);
+    machine.set_cap(cap);
+    let stop = run(&mut machine, &mut host, command, 100_000);
+    (machine, stop)
+}
+
+// Under a cap a command string may type these bytes, and comes to this where no allocation fails.
+fn expect_capped(
+    rt: &(impl Abort + AllocGlobal),
+    cap: usize,
+    command: &[u8],
+    typed: &[u8],
+    want: Result<u64, Code>,
+) {
+    let (mut machine, stop) = run_capped(rt.alloc(), cap, command);
+    let got = answer(stop);
+    let bytes = machine.take_typed();
+    let is_refused = got == Err(Code::Mem);
+    assert!(rt;
+        (got == want && bytes.len() == typed.len()) || is_refused,
+        "{command:?}"
+    );
+    assert!(rt; typed.starts_with(&bytes), "{command:?}");
+}
+
+#[test]
+fn caps_are_refused_growths(rt: HostRuntime) {
+    expect_capped(&rt, 10, b"<1=>", b"1\r\n1\r\n1\r\n", Err(Code::Mem));
+    expect_capped(&rt, 3, b"1=", b"1\r\n", Ok(2));
+    expect_capped(&rt, 2, b"1=", b"", Err(Code::Mem));
+    expect_capped(&rt, 3, b"Iabcd\x1bHT", b"", Err(Code::Mem));
+    expect_capped(&rt, 3, b"@^UA/abcd/:GA", b"", Err(Code::Mem));
+    expect_capped(&rt, 5, b"@I/ab/<Sx\x1b>", b"", Err(Code::Mem));
+    expect_capped(&rt, 100_000, b"@^UA/MA/MA", b"", Err(Code::Mem));
+    // as deep as the cap lets, and the next string runs
+    let (mut machine, stop) = run_capped(rt.alloc(), 1_000_000, b"@^UA/%B-1000\"LMA'/MA");
+    if let Stop::Memory = stop {
+        machine.set_cap(1_000_000);
+    } else {
+        assert_eq!(rt; machine.regs().number(register(b'B')), 1000);
+    }
+    let mut host = MemHost::new(rt.alloc());
+    assert!(rt; answer(run(&mut machine, &mut host, b"1U0", 10)) != Err(Code::Lim));
+}
