@@ -3,12 +3,12 @@
 ghost use Rattle.std.specs.Prelude.{◌≤◌};
 ghost use Rattle.teco_base.specs.declared.TheConstants.{LIMIT};
 
-use crate::{Done, SessionFault, session_max};
 use std::alloc::Global;
 use std::process::Abort;
 use teco_base::LIMIT;
 use teco_pages::{Host, MemHost};
 use teco_run::Machine;
+use teco_session::{Done, SessionFault, session_max};
 use teco_text::{GapText, TextStore, VecText};
 
 /// The steps of each string where a row names no others.

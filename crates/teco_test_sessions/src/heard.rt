@@ -1,11 +1,11 @@
 // Sessions that are heard, and that the first code ends. One in which an allocation may have failed
 // runs once more.
-use crate::{Conduct, Done, Limits, Listener, SessionFault, session_heard};
 use std::alloc::Global;
 use std::test::Fail;
 use teco_base::{Code, LIMIT};
 use teco_pages::{Host, MemHost};
 use teco_run::{Machine, Site, Stopped};
+use teco_session::{Conduct, Done, Limits, Listener, SessionFault, session_heard};
 use teco_text::{TextStore, VecText};
 
 // What was heard: how many strings stopped, the length of the last, its steps and its site; and the
