@@ -1,7 +1,7 @@
-// Sessions that are heard, and that the first code ends. One in which an allocation may have failed
-// runs once more.
+//! Sessions that are heard, and that the first code ends. One in which an allocation may have
+//! failed runs once more.
 use std::alloc::Global;
-use std::test::Fail;
+use std::process::Abort;
 use teco_base::{Code, LIMIT};
 use teco_pages::{Host, MemHost};
 use teco_run::{Machine, Site, Stopped};
@@ -10,7 +10,7 @@ use teco_text::{TextStore, VecText};
 
 // What was heard: how many strings stopped, the length of the last, its steps and its site; and the
 // code of a rest.
-#[derive(Clone, Copy, Debug, PartialEq)]
+#[derive(Clone, Copy, PartialEq)]
 struct Notes {
     strings: usize,
     length: usize,
@@ -74,8 +74,10 @@ fn hear(
     (done, written, notes)
 }
 
-// What was heard of so many strings, of which the last stopped in itself.
-fn heard(strings: usize, length: usize, steps: u64, place: usize, rest: Option<Code>) -> Notes {
+// What was heard of so many strings, of this length, steps and place in the last, which stopped in
+// itself.
+fn heard(notes: [usize; 4], rest: Option<Code>) -> Notes {
+    let [strings, length, steps, place] = notes;
     let site = Site {
         register: None,
         place,
@@ -83,101 +85,132 @@ fn heard(strings: usize, length: usize, steps: u64, place: usize, rest: Option<C
     Notes {
         strings,
         length,
-        steps,
-        site: Some(site),
+        steps: steps as u64,
+        site: if strings == 0 { None } else { Some(site) },
         rest,
     }
 }
 
-#[test]
-fn sessions_are_heard(rt: HostRuntime) -> Result<(), Fail> {
-    // an input, whether the first code ends it, what is written, whether that has a code, whether a
-    // string ends it, and what is heard
-    let rows: [(&[u8], bool, &[u8], bool, bool, Notes); 10] = [
-        (
-            b"1=\x1b\x1b9C\x1b\x1b 2=\x1b\x1b",
-            false,
-            b"1\r\n?POP\r\n2\r\n",
-            true,
-            false,
-            heard(3, 5, 4, 5, None),
-        ),
-        (
-            b"1=\x1b\x1b9C\x1b\x1b 2=\x1b\x1b",
-            true,
-            b"1\r\n?POP\r\n",
-            true,
-            false,
-            heard(2, 4, 1, 1, None),
-        ),
-        (
-            b"1=\x1b\x1b2=\x1b\x1b",
-            true,
-            b"1\r\n2\r\n",
-            false,
-            false,
-            heard(2, 4, 4, 4, None),
-        ),
-        (
-            b"1=\x1b\x1b2=",
-            true,
-            b"1\r\n?UTC\r\n",
-            true,
-            false,
-            heard(1, 4, 4, 4, Some(Code::Utc)),
-        ),
-        (
-            b"9C\x1b\x1b2=",
-            true,
-            b"?POP\r\n",
-            true,
-            false,
-            heard(1, 4, 1, 1, None),
-        ),
-        (
-            b"9C\x1b\x1b2=",
-            false,
-            b"?POP\r\n?UTC\r\n",
-            true,
-            false,
-            heard(1, 4, 1, 1, Some(Code::Utc)),
-        ),
-        (
-            b"1=\x1b\x1b\r\n",
-            true,
-            b"1\r\n",
-            false,
-            false,
-            heard(1, 4, 4, 4, None),
-        ),
-        (
-            b" EX\x1b\x1b9C\x1b\x1b",
-            true,
-            b"",
-            false,
-            true,
-            heard(1, 5, 0, 1, None),
-        ),
-        (
-            b"9C\x1b\x1bEX\x1b\x1b",
-            false,
-            b"?POP\r\n",
-            true,
-            true,
-            heard(2, 4, 0, 0, None),
-        ),
-        (b"", true, b"", false, false, NOTHING),
-    ];
-    for (input, until_code, written, coded, exit, notes) in rows {
-        let mut ran = hear(rt.alloc(), input, until_code);
-        if ran.1.as_slice() != written {
-            ran = hear(rt.alloc(), input, until_code);
+// An input, whether the first code ends it, what is written, whether that has a code, whether a
+// string ends it, and what is heard.
+type Heard = (
+    &'static str,
+    bool,
+    &'static str,
+    bool,
+    bool,
+    [usize; 4],
+    Option<Code>,
+);
+
+const HEARD: [Heard; 10] = [
+    (
+        "1=\x1b\x1b9C\x1b\x1b 2=\x1b\x1b",
+        false,
+        "1\r\n?POP\r\n2\r\n",
+        true,
+        false,
+        [3, 5, 4, 5],
+        None,
+    ),
+    (
+        "1=\x1b\x1b9C\x1b\x1b 2=\x1b\x1b",
+        true,
+        "1\r\n?POP\r\n",
+        true,
+        false,
+        [2, 4, 1, 1],
+        None,
+    ),
+    (
+        "1=\x1b\x1b2=\x1b\x1b",
+        true,
+        "1\r\n2\r\n",
+        false,
+        false,
+        [2, 4, 4, 4],
+        None,
+    ),
+    (
+        "1=\x1b\x1b2=",
+        true,
+        "1\r\n?UTC\r\n",
+        true,
+        false,
+        [1, 4, 4, 4],
+        Some(Code::Utc),
+    ),
+    (
+        "9C\x1b\x1b2=",
+        true,
+        "?POP\r\n",
+        true,
+        false,
+        [1, 4, 1, 1],
+        None,
+    ),
+    (
+        "9C\x1b\x1b2=",
+        false,
+        "?POP\r\n?UTC\r\n",
+        true,
+        false,
+        [1, 4, 1, 1],
+        Some(Code::Utc),
+    ),
+    (
+        "1=\x1b\x1b\r\n",
+        true,
+        "1\r\n",
+        false,
+        false,
+        [1, 4, 4, 4],
+        None,
+    ),
+    (
+        " EX\x1b\x1b9C\x1b\x1b",
+        true,
+        "",
+        false,
+        true,
+        [1, 5, 0, 1],
+        None,
+    ),
+    (
+        "9C\x1b\x1bEX\x1b\x1b",
+        false,
+        "?POP\r\n",
+        true,
+        true,
+        [2, 4, 0, 0],
+        None,
+    ),
+    ("", true, "", false, false, [0, 0, 0, 0], None),
+];
+
+// Is a session heard as the row says?
+fn is_heard(alloc: Global, row: Heard) -> bool {
+    let (input, until_code, typed, coded, exit, notes, rest) = row;
+    let (done, written, found) = hear(alloc, input.as_bytes(), until_code);
+    match done {
+        Ok(done) => {
+            written.as_slice() == typed.as_bytes()
+                && done.coded == coded
+                && done.exit == exit
+                && found == heard(notes, rest)
         }
-        assert_eq!(rt; ran.1.as_slice(), written);
-        let done = ran.0?;
-        assert_eq!(rt; done.coded, coded, "{input:?}");
-        assert_eq!(rt; done.exit, exit, "{input:?}");
-        assert_eq!(rt; ran.2, notes, "{input:?}");
+        Err(_) => false,
     }
-    Ok(())
+}
+
+fn expect_heard(rt: &impl Abort, is_good: bool, number: usize) {
+    assert!(rt; is_good, "row {number}");
+}
+
+#[test]
+fn sessions_are_heard(rt: HostRuntime) {
+    for (number, row) in HEARD.iter().enumerate() {
+        let is_good = is_heard(rt.alloc(), *row) || is_heard(rt.alloc(), *row);
+        expect_heard(&rt, is_good, number);
+    }
 }
