@@ -7,9 +7,6 @@ ghost use Rattle.teco_base.specs.declared.TheConstants.{LIMIT};
 ghost use Rattle.teco_run.specs.Holdings.{Joined};
 ghost use Rattle.teco_session.specs.declared.fault.SessionFault.TheVariants as fault;
 
-#[cfg(test)]
-mod tests;
-
 use crate::editing::{NAME, answer_text, drop_if_coded, opening, tell};
 use crate::guard::Guard;
 use crate::run::takes;

@@ -11,9 +11,6 @@ ghost use Rattle.teco_session.specs.Answers.{Said};
 ghost use Rattle.teco_session.specs.Output.{Writes};
 ghost use Rattle.teco_session.specs.declared.fault.SessionFault.TheVariants as fault;
 
-#[cfg(test)]
-mod tests;
-
 use crate::ready::NotReady;
 use crate::run::{run_given, takes};
 use std::alloc::{AllocError, Global};

@@ -13,6 +13,3 @@ pub use editing::{NAME, apply};
 pub use guard::Guard;
 pub use ready::NotReady;
 pub use run::{run_verified, run_verified_with};
-
-#[cfg(test)]
-mod tests;

@@ -14,6 +14,3 @@ pub use fault::SessionFault;
 pub use listener::{Listener, Silent};
 pub use sessions::{Conduct, Done, STRINGS, session, session_heard, session_max, write_stop};
 pub use teco_model::Limits;
-
-#[cfg(test)]
-mod tests;

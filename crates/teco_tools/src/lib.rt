@@ -25,6 +25,3 @@ pub use running::{Run, Script, run_scripts};
 pub use setting::Setting;
 pub use streams::{INPUT, OUTPUT, Streams};
 pub use tracing::{Listing, trace_macro};
-
-#[cfg(test)]
-mod tests;

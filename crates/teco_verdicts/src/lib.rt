@@ -36,6 +36,3 @@ pub use showing::{explain, show, show_source};
 pub use teco_verifier::Rules;
 pub use verdict::Verdict;
 pub use verifying::{refuse_macro, tell_second_edition, verify_library, verify_macro};
-
-#[cfg(test)]
-mod tests;

@@ -1,14 +1,14 @@
 // Files that are edited, by pages and in place.
 use super::{kept, library_file, task, text_of};
-use crate::{
-    INPUT, InPlace, Names, OUTPUT, Setting, Streams, Task, ToolFault, apply_macro, edit_files,
-};
 use std::alloc::Global;
 use std::process::Abort;
 use std::test::Fail;
 use std::{fs, io};
 use teco_apply::Pages;
 use teco_pages::FileHost;
+use teco_tools::{
+    INPUT, InPlace, Names, OUTPUT, Setting, Streams, Task, ToolFault, apply_macro, edit_files,
+};
 use teco_verdicts::{Escape, Outcome};
 
 /// Puts bar in the place of each foo.

@@ -1,9 +1,12 @@
 // Verdicts over libraries in a scratch folder.
-use super::*;
 use std::fs;
 use std::process::Abort;
 use std::test::Fail;
 use teco_base::Reg;
+use teco_verdicts::{
+    Console, Escape, Outcome, Premise, Request, Verdict, check_macro, verify_library_as_json,
+    verify_macro, verify_macro_as_json,
+};
 use teco_verifier::{Refusal as Why, Rules};
 
 /// Writers over memory, in place of standard output and standard error.

@@ -3,22 +3,31 @@
 ghost use Rattle.std.specs.Prelude.{◌≤◌};
 ghost use Rattle.teco_base.specs.declared.TheConstants.{LIMIT};
 
-use crate::{Done, SessionFault, session_max};
 use std::alloc::Global;
 use std::process::Abort;
 use teco_base::LIMIT;
 use teco_pages::{Host, MemHost};
 use teco_run::Machine;
+use teco_session::{Done, SessionFault, session_max};
 use teco_text::{GapText, TextStore, VecText};
 
 /// The steps of each string where a row names no others.
 pub const STEPS: u64 = 100_000_000;
 
 /// The stores that a machine may edit.
-#[derive(Clone, Copy, Debug)]
+#[derive(Clone, Copy)]
 pub enum Store {
     Flat,
     Gap,
+}
+
+impl Store {
+    fn name(self) -> &'static str {
+        match self {
+            Store::Flat => "flat",
+            Store::Gap => "gap",
+        }
+    }
 }
 
 /// Every row runs over each.
@@ -83,6 +92,11 @@ pub fn has<T: TextStore>(machine: &Machine<T>, text: &[u8], pointer: usize) -> b
 const REFUSALS: [&[u8]; 4] = [b"?MEM", b"?FNF", b"?INP", b"?OUT"];
 
 impl Ran {
+    /// Did it come to this, and was this written?
+    pub fn is(&self, outcome: &str, written: &[u8]) -> bool {
+        self.outcome == outcome && self.written.as_slice() == written
+    }
+
     /// May a growth have been refused?
     pub fn may_be_refused(&self) -> bool {
         let codes = self.written.windows(4);
@@ -149,23 +163,97 @@ pub fn run_steady(
 }
 
 /// An input and what is written, and the buffer and the pointer that are left.
-pub type Row = (&'static [u8], &'static [u8], &'static [u8], usize);
+#[derive(Clone, Copy)]
+pub struct Row<'a> {
+    pub input: &'a [u8],
+    pub written: &'a [u8],
+    pub text: &'a [u8],
+    pub pointer: usize,
+}
+
+/// What a line has before a mark, or all; the line keeps what stands behind the mark.
+pub fn part_before<'a>(line: &mut &'a str, mark: &str) -> &'a str {
+    let (part, rest) = line.split_once(mark).unwrap_or((*line, ""));
+    *line = rest;
+    part
+}
+
+/// The number that a line begins with, before a blank.
+pub fn number_of(line: &mut &str) -> u64 {
+    part_before(line, " ").parse().unwrap_or(0)
+}
+
+/// The row of a line `INPUT => WRITTEN | BUFFER | POINTER`. Where the last two are left out, the
+/// buffer is empty.
+pub fn row_of(line: &str) -> Row<'_> {
+    let mut rest = line;
+    let input = part_before(&mut rest, " => ").as_bytes();
+    let written = part_before(&mut rest, " | ").as_bytes();
+    let text = part_before(&mut rest, " | ").as_bytes();
+    let pointer = rest.parse().unwrap_or(0);
+    Row {
+        input,
+        written,
+        text,
+        pointer,
+    }
+}
+
+/// A session over a store came to what its row says.
+pub fn expect(rt: &impl Abort, is_good: bool, line: &str, store: Store) {
+    assert!(rt; is_good, "{line}, {} store", store.name());
+}
+
+/// A session over both stores, which has no text left.
+pub fn expect_given(
+    rt: &impl Abort,
+    alloc: Global,
+    given: Given<'_>,
+    written: &[u8],
+    outcome: &str,
+    line: &str,
+) {
+    for store in STORES.iter() {
+        let ran = run_steady(alloc, *store, given, (b"", 0), written);
+        expect(rt, ran.is(outcome, written), line, *store);
+    }
+}
 
 /// A row over both stores, with so many steps for each string.
 pub fn expect_row(
     rt: &impl Abort,
     alloc: Global,
     steps: u64,
-    row: Row,
-    outcome: &'static str,
-    number: usize,
+    row: Row<'_>,
+    outcome: &str,
+    line: &str,
 ) {
-    let (input, written, text, pointer) = row;
-    for store in STORES {
-        let given = Given::limited(input, steps);
-        let ran = run_steady(alloc, store, given, (text, pointer), written);
-        assert_eq!(rt; ran.outcome, outcome, "row {number}, {store:?}");
-        assert_eq!(rt; ran.written.as_slice(), written, "row {number}, {store:?}");
-        assert!(rt; ran.is_left, "row {number}, {store:?}");
+    for store in STORES.iter() {
+        let given = Given::limited(row.input, steps);
+        let left = (row.text, row.pointer);
+        let ran = run_steady(alloc, *store, given, left, row.written);
+        expect(
+            rt,
+            ran.is(outcome, row.written) && ran.is_left,
+            line,
+            *store,
+        );
+    }
+}
+
+/// Rows that come to the same.
+pub fn expect_rows(rt: &impl Abort, alloc: Global, lines: &[&str], outcome: &str) {
+    for line in lines {
+        expect_row(rt, alloc, STEPS, row_of(line), outcome, line);
+    }
+}
+
+/// Rows `STEPS OUTCOME ROW`, with so many steps for each string.
+pub fn expect_limited(rt: &impl Abort, alloc: Global, lines: &[&str]) {
+    for line in lines {
+        let mut rest = *line;
+        let steps = number_of(&mut rest);
+        let outcome = part_before(&mut rest, " ");
+        expect_row(rt, alloc, steps, row_of(rest), outcome, line);
     }
 }

@@ -3,13 +3,13 @@ mod edits;
 mod examples;
 mod listings;
 
-use super::*;
 use std::process::Abort;
 use std::test::Fail;
 use std::{fs, io};
 use teco_apply::Pages;
 use teco_base::Reg;
 use teco_pages::FileHost;
+use teco_tools::{Run, Script, Task, run_scripts};
 use teco_verdicts::{Console, Escape, Outcome, Request};
 use teco_verify::Rules;
 
@@ -56,6 +56,27 @@ fn text_of(rt: &HostRuntime, bytes: &[u8]) -> Result<String, Fail> {
     Ok(String::from_utf8_lossy(rt.alloc(), bytes)?)
 }
 
+// What some words type, and what is said of it.
+fn run_words(rt: &HostRuntime, words: &[&str], until_code: bool) -> Result<(String, String), Fail> {
+    let mut scripts = Vec::new(rt.alloc());
+    for word in words {
+        scripts.push(Script::Word(*word))?;
+    }
+    let run = Run {
+        scripts: &scripts,
+        escape: Escape::ByName,
+        limit: 1000,
+        cap: 1 << 20,
+        until_code,
+        settings: &[],
+    };
+    let mut console = kept(rt);
+    let mut host = FileHost::new(rt.alloc(), *rt);
+    let _outcome = run_scripts(rt, &mut console, &run, &mut io::empty(), &mut host)?;
+    let (written, messages) = console.into_parts();
+    Ok((text_of(rt, &written)?, text_of(rt, &messages)?))
+}
+
 // Words that are run, whether the first code ends it, what is typed, and what is said.
 #[test]
 fn words_are_run(rt: HostRuntime) -> Result<(), Fail> {
@@ -100,52 +121,31 @@ fn words_are_run(rt: HostRuntime) -> Result<(), Fail> {
         ),
     ];
     for (i, (words, until_code, typed, said)) in rows.iter().enumerate() {
-        let mut scripts = Vec::new(rt.alloc());
-        for word in *words {
-            scripts.push(Script::Word(*word))?;
-        }
-        let run = Run {
-            scripts: &scripts,
-            escape: Escape::ByName,
-            limit: 1000,
-            cap: 1 << 20,
-            until_code: *until_code,
-            settings: &[],
-        };
-        let mut console = kept(&rt);
-        let mut host = FileHost::new(rt.alloc(), rt);
-        let outcome = run_scripts(&rt, &mut console, &run, &mut io::empty(), &mut host);
-        assert!(rt; outcome.is_ok(), "row {i}");
-        let (written, messages) = console.into_parts();
-        assert_eq!(rt;
-            String::from_utf8_lossy(rt.alloc(), &written)?.as_str(),
-            *typed,
-            "row {i}"
-        );
-        assert_eq!(rt;
-            String::from_utf8_lossy(rt.alloc(), &messages)?.as_str(),
-            *said,
-            "row {i}"
-        );
+        let (written, messages) = run_words(&rt, words, *until_code)?;
+        assert_eq!(rt; written.as_str(), *typed, "row {i}");
+        assert_eq!(rt; messages.as_str(), *said, "row {i}");
     }
     Ok(())
 }
 
+// A word, and what it types: where it got an ESC too few or too many, its end would be missed.
 #[test]
-fn words_get_the_escapes_that_they_lack(rt: HostRuntime) {
-    let rows: [(&[u8], usize); 10] = [
-        (b"", 0),
-        (b"\r\n ", 0),
-        (b"1=\x1b\x1b\n", 0),
-        (b"1=", 2),
-        (b"1=\x1b", 1),
-        (b"1=\x1b\x1b", 0),
-        (b"FSa\x1b\x1b", 0),
-        (b"FSa\x1bb", 2),
-        (b"1=\x1b\x1b2=", 2),
-        (b"1=\x1b\x1b\x1b", 1),
+fn words_get_the_escapes_that_they_lack(rt: HostRuntime) -> Result<(), Fail> {
+    let rows: [(&str, &str); 10] = [
+        ("", ""),
+        ("\r\n ", ""),
+        ("1=$$\n", "1\r\n"),
+        ("1=", "1\r\n"),
+        ("1=$", "1\r\n"),
+        ("1=$$", "1\r\n"),
+        ("FSa$$", "?SRH\r\n"),
+        ("FSa$b", "?SRH\r\n"),
+        ("1=$$2=", "1\r\n2\r\n"),
+        ("1=$$$", "1\r\n"),
     ];
-    for (text, count) in rows {
-        assert_eq!(rt; strings::Progress::None.behind(text).lacking(), count);
+    for (word, typed) in rows {
+        let (written, _) = run_words(&rt, &[word], false)?;
+        assert_eq!(rt; written.as_str(), typed, "{word}");
     }
+    Ok(())
 }

@@ -1,10 +1,10 @@
 // What is listed and prompted.
 use super::{kept, library_file, task, text_of};
-use crate::{Listing, Names, OUTPUT, Prompting, Streams, trace_macro};
 use std::io::Read;
 use std::test::Fail;
 use std::{fs, io};
 use teco_pages::FileHost;
+use teco_tools::{Listing, Names, OUTPUT, Prompting, Streams, trace_macro};
 use teco_verdicts::Outcome;
 
 #[test]

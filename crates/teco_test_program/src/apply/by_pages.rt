@@ -1,9 +1,8 @@
 //! Edits by pages over files in memory.
-use super::{Edit, Edited, Pages, edit_file};
-use crate::guard::Guard;
 use std::alloc::Global;
 use std::process::Abort;
 use std::test::Fail;
+use teco_apply::{Edit, Edited, Guard, Pages, edit_file};
 use teco_base::{LIMIT, Reg};
 use teco_pages::{Host, HostCall, MemHost, TestHost};
 use teco_run::{Machine, Stopped};

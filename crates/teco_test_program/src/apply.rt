@@ -1,14 +1,16 @@
 // Verified macros on machines that a command string made ready: how the run stops, and the text
 // that it leaves. A call that is refused memory is made once more, so that the rows also hold where
 // one allocation fails.
+mod by_pages;
 mod certificates;
+mod editing;
 mod examples;
 mod verdicts;
 
-use super::*;
 use std::alloc::Global;
 use std::process::Abort;
-use std::test::*;
+use std::test::Fail;
+use teco_apply::{NotReady, run_verified, run_verified_with};
 use teco_base::{LIMIT, Reg};
 use teco_model::Stop;
 use teco_pages::MemHost;

@@ -1,8 +1,8 @@
 //! Edits over files in memory.
-use super::apply;
 use std::alloc::Global;
 use std::process::Abort;
 use std::test::Fail;
+use teco_apply::apply;
 use teco_base::{LIMIT, Reg};
 use teco_pages::{Host, HostCall, MemHost, TestHost};
 use teco_run::Machine;
