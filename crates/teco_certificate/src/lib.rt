@@ -10,6 +10,3 @@ mod reading;
 
 pub use certificate::Certificate;
 pub use fault::CertificateFault;
-
-#[cfg(test)]
-mod tests;

@@ -26,6 +26,3 @@ pub use iterations::{changes_in, end_of};
 pub use loops::{has_iterations, line_of, loops_of, register_at};
 pub use printed::{Overflow, commands, needs_in, size};
 pub use table::{Row, Table, are_kept};
-
-#[cfg(test)]
-mod tests;

@@ -24,6 +24,3 @@ mod ways;
 pub use gather::expand;
 pub use nodes::Nodes;
 pub use refusal::{ExpandFault, Reason, Refusal};
-
-#[cfg(test)]
-mod tests;

@@ -19,6 +19,3 @@ pub use note::Note;
 pub use outline::Outline;
 pub use places::text_begin_in;
 pub use refusals::{note_of_refusal, number_of, refusal_numbered};
-
-#[cfg(test)]
-mod tests;

@@ -55,6 +55,3 @@ pub use printed::{is_in_pages, needs_of, steps};
 pub use range::Range;
 pub use saved::Saved;
 pub use shift::Shift;
-
-#[cfg(test)]
-mod tests;

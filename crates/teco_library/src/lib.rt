@@ -9,6 +9,3 @@ mod reading;
 
 pub use fault::LibraryFault;
 pub use library::Library;
-
-#[cfg(test)]
-mod tests;

@@ -26,8 +26,3 @@ pub use teco_model::Needs;
 pub use teco_verifier::Rules;
 pub use verdict::{check_certificate, check_certificate_by, verify, verify_by};
 pub use verified::Verified;
-
-#[cfg(test)]
-mod account_tests;
-#[cfg(test)]
-mod tests;

@@ -267,6 +267,3 @@ pub fn choose(alloc: Global, entry: &Entry, nodes: &Nodes<'_>) -> Result<Vec<Loo
     }
     Err(Unfit::at(Refusal::Bound, number))
 }
-
-#[cfg(test)]
-mod tests;

@@ -1,16 +1,15 @@
 // Small macros: a table is derived from a choice for their iteration, checked, and printed. A call
 // that is refused memory is made once more, so that the rows also hold where one allocation fails.
-use super::*;
+use crate::subjects::{entry_of, expect, library_of, nodes_of};
 use std::alloc::{AllocError, Global};
 use std::process::Abort;
 use std::test::*;
-use teco_base::{LIMIT, REGISTERS, Reg};
-use teco_expansion::{ExpandFault, Nodes, expand};
+use teco_check::{Bad, NotDerived, Table, check, commands, derive, loops_of, needs_in, size};
+use teco_expansion::Nodes;
 use teco_facts::Entry;
-use teco_library::Library;
 use teco_model::ArgumentRange;
 use teco_poly::Poly;
-use teco_verifier::{Distances, LoopLine, Rules};
+use teco_verifier::{Distances, LoopLine};
 
 // A library, the number of its `<` and what is held there at the start of a turn, or 0, commands
 // and size.
@@ -35,36 +34,6 @@ const ROWS: [Row; 5] = [
     ),
     (b"@^UA/HXB2<GB>/", 5, b"2*N", b"10", b"3*N"),
 ];
-
-// An entry of the first edition.
-fn entry_of(argument: Option<ArgumentRange>) -> Entry {
-    Entry {
-        rules: Rules::First,
-        lengths: [None; REGISTERS],
-        argument,
-    }
-}
-
-// The library of a file.
-fn library_of(rt: &impl Abort, alloc: Global, file: &[u8]) -> Library {
-    assert!(rt; file.len() <= LIMIT);
-    match Library::read(alloc, file) {
-        Ok(library) => library,
-        Err(_) => Library::read(alloc, file).expect(rt, "a library"),
-    }
-}
-
-// The nodes of its macro A.
-fn nodes_of<'l>(rt: &impl Abort, alloc: Global, library: &'l Library) -> Nodes<'l> {
-    let answer = match expand(alloc, library, Reg::default()) {
-        Err(ExpandFault::Memory) => expand(alloc, library, Reg::default()),
-        answer => answer,
-    };
-    match answer {
-        Ok(nodes) => nodes,
-        Err(_) => panic!(rt; "it is expanded"),
-    }
-}
 
 // One choice, or none.
 fn choices(rt: &impl Abort, alloc: Global, number: usize, held: &[u8]) -> Vec<LoopLine> {
@@ -110,38 +79,59 @@ fn checked(alloc: Global, entry: &Entry, nodes: &Nodes<'_>, table: &Table) -> Re
     }
 }
 
+// Whether these polynomials are printed of a table, and no need.
+fn prints(entry: &Entry, nodes: &Nodes<'_>, table: &Table, wanted: [&[u8]; 2]) -> bool {
+    let needs = needs_in(nodes, table);
+    commands(entry, nodes, table).ok() == Poly::read(wanted[0])
+        && size(entry, nodes, table).ok() == Poly::read(wanted[1])
+        && !needs.input
+        && !needs.output
+}
+
+// How many loop lines a table has.
+fn lines_in(alloc: Global, nodes: &Nodes<'_>, table: &Table) -> Option<usize> {
+    match loops_of(alloc, nodes, table) {
+        Ok(lines) => Some(lines.len()),
+        Err(_) => loops_of(alloc, nodes, table).ok().map(|lines| lines.len()),
+    }
+}
+
 #[test]
 fn prints_what_is_closed(rt: HostRuntime) {
-    for (file, number, held, commands_text, size_text) in ROWS {
+    let entry = entry_of(None);
+    for (row, (file, number, held, commands, size)) in ROWS.iter().enumerate() {
         let library = library_of(&rt, rt.alloc(), file);
         let nodes = nodes_of(&rt, rt.alloc(), &library);
-        let lines = choices(&rt, rt.alloc(), number, held);
-        let table = table_of(&rt, rt.alloc(), &entry_of(None), &nodes, &lines);
-        assert!(rt; table.len() == nodes.len());
-        assert!(rt; checked(rt.alloc(), &entry_of(None), &nodes, &table).is_ok());
-        assert!(rt; commands(&entry_of(None), &nodes, &table).ok() == Poly::read(commands_text));
-        assert!(rt; size(&entry_of(None), &nodes, &table).ok() == Poly::read(size_text));
-        let needs = needs_in(&nodes, &table);
-        assert!(rt; !needs.input && !needs.output);
-        if let Ok(printed) = loops_of(rt.alloc(), &nodes, &table) {
-            assert!(rt; printed.len() == lines.len());
-        }
+        let lines = choices(&rt, rt.alloc(), *number, held);
+        let table = table_of(&rt, rt.alloc(), &entry, &nodes, &lines);
+        expect(&rt, table.len() == nodes.len(), row);
+        expect(
+            &rt,
+            checked(rt.alloc(), &entry, &nodes, &table).is_ok(),
+            row,
+        );
+        expect(&rt, prints(&entry, &nodes, &table, [commands, size]), row);
+        let count = lines_in(rt.alloc(), &nodes, &table);
+        expect(&rt, count == Some(lines.len()), row);
     }
 }
 
 #[test]
 fn refuses_too_small_a_choice(rt: HostRuntime) {
-    for (file, number, held) in [
-        (ROWS[2].0, 3, b"N"),
-        (ROWS[3].0, 3, b"N"),
-        (ROWS[4].0, 5, b"N"),
-    ] {
-        let library = library_of(&rt, rt.alloc(), file);
-        let nodes = nodes_of(&rt, rt.alloc(), &library);
-        let lines = choices(&rt, rt.alloc(), number, held);
-        let table = table_of(&rt, rt.alloc(), &entry_of(None), &nodes, &lines);
-        let wanted = Bad::Edge { node: number };
-        assert!(rt; checked(rt.alloc(), &entry_of(None), &nodes, &table) == Err(wanted));
+    let entry = entry_of(None);
+    for (row, (file, number, _, _, _)) in ROWS.iter().enumerate() {
+        if *number > 0 {
+            let library = library_of(&rt, rt.alloc(), file);
+            let nodes = nodes_of(&rt, rt.alloc(), &library);
+            let lines = choices(&rt, rt.alloc(), *number, b"N");
+            let table = table_of(&rt, rt.alloc(), &entry, &nodes, &lines);
+            let wanted = Bad::Edge { node: *number };
+            expect(
+                &rt,
+                checked(rt.alloc(), &entry, &nodes, &table) == Err(wanted),
+                row,
+            );
+        }
     }
 }
 
@@ -150,15 +140,19 @@ fn counts_the_digits_of_an_argument(rt: HostRuntime) {
     let library = library_of(&rt, rt.alloc(), b"@^UA/<Ia\x1b>/");
     let nodes = nodes_of(&rt, rt.alloc(), &library);
     let lines = choices(&rt, rt.alloc(), 2, b"9 + N");
-    let argument = ArgumentRange::between(1, 10);
-    let entry = entry_of(argument);
+    let entry = entry_of(ArgumentRange::between(1, 10));
     let table = table_of(&rt, rt.alloc(), &entry, &nodes, &lines);
-    assert!(rt; checked(rt.alloc(), &entry, &nodes, &table).is_ok());
-    assert!(rt; commands(&entry, &nodes, &table).ok() == Poly::read(b"24"));
-    assert!(rt; size(&entry_of(None), &nodes, &table).ok() == Poly::read(b"10 + N"));
-    let other = entry_of(ArgumentRange::between(1, 11));
-    assert!(rt; checked(rt.alloc(), &other, &nodes, &table) == Err(Bad::Edge { node: 1 }));
-    assert!(rt; checked(rt.alloc(), &entry_of(None), &nodes, &table) == Err(Bad::Edge { node: 1 }));
+    expect(&rt, checked(rt.alloc(), &entry, &nodes, &table).is_ok(), 0);
+    expect(&rt, prints(&entry, &nodes, &table, [b"24", b"10 + N"]), 0);
+    let wanted = Bad::Edge { node: 1 };
+    for (row, other) in [ArgumentRange::between(1, 11), None].iter().enumerate() {
+        let entry = entry_of(*other);
+        expect(
+            &rt,
+            checked(rt.alloc(), &entry, &nodes, &table) == Err(wanted),
+            row,
+        );
+    }
 }
 
 // A text of A that pushes one pair, and then goes to the begin so often.
@@ -194,8 +188,9 @@ fn packs_what_was_pushed(rt: HostRuntime) {
     let library = library_of(&rt, rt.alloc(), &file);
     let nodes = nodes_of(&rt, rt.alloc(), &library);
     let table = table_of(&rt, rt.alloc(), &entry_of(None), &nodes, &[]);
-    assert!(rt; checked(rt.alloc(), &entry_of(None), &nodes, &table).is_ok());
-    assert!(rt; lie_together(&table, 3, 127));
-    assert!(rt; !lie_together(&table, 127, 128));
-    assert!(rt; lie_together(&table, 128, 140));
+    let checked = checked(rt.alloc(), &entry_of(None), &nodes, &table);
+    expect(&rt, checked.is_ok(), 0);
+    expect(&rt, lie_together(&table, 3, 127), 1);
+    expect(&rt, !lie_together(&table, 127, 128), 2);
+    expect(&rt, lie_together(&table, 128, 140), 3);
 }

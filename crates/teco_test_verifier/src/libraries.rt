@@ -1,10 +1,10 @@
-// Library files, with the texts that they give or the place where they are none. A call that is
-// refused memory is made once more, so that the rows also hold where one allocation fails.
-use super::*;
+// Library files, with the texts that they give or the place where they are none.
+use crate::subjects::{expect, library_of, read};
 use std::alloc::{AllocError, Global};
 use std::process::Abort;
 use std::test::*;
-use teco_base::{LIMIT, Reg};
+use teco_base::Reg;
+use teco_library::{Library, LibraryFault};
 
 /// The names of all registers, in the order of their places.
 const NAMES: [u8; 36] = *b"ABCDEFGHIJKLMNOPQRSTUVWXYZ0123456789";
@@ -136,15 +136,7 @@ const BAD_HEADERS: [&[u8]; 33] = [
     b"!TECO-LIB 2\tA\t1\t10!",
 ];
 
-fn read(rt: &impl Abort, alloc: Global, file: &[u8]) -> Result<Library, LibraryFault> {
-    assert!(rt; file.len() <= LIMIT, "a file that is too long");
-    match Library::read(alloc, file) {
-        // one growth may be refused
-        Err(LibraryFault::Memory) => Library::read(alloc, file),
-        answer => answer,
-    }
-}
-
+// The text that is wanted for a name.
 fn given(name: u8, texts: &[Given]) -> Option<&'static [u8]> {
     texts
         .iter()
@@ -152,86 +144,74 @@ fn given(name: u8, texts: &[Given]) -> Option<&'static [u8]> {
         .map(|(_, text)| *text)
 }
 
-fn check_texts(rt: &impl Abort, library: &Library, wanted: &[Given], row: usize) {
-    let texts = library.texts();
-    for (place, name) in NAMES.iter().enumerate() {
-        let reg = Reg::of(*name).expect(rt, "a register");
-        let text = given(*name, wanted);
-        assert!(rt; library.text(reg) == text, "row {row}, place {place}");
-        assert!(rt;
-            library.contains(reg) == text.is_some(),
-            "row {row}, place {place}"
-        );
-        assert!(rt;
-            texts.get(place).copied() == Some(text),
-            "row {row}, place {place}"
-        );
-    }
+// Whether a library has a text, or none, for the name of a place.
+fn has_text(library: &Library, place: usize, name: u8, text: Option<&[u8]>) -> bool {
+    let Some(reg) = Reg::of(name) else {
+        return false;
+    };
+    library.text(reg) == text
+        && library.contains(reg) == text.is_some()
+        && library.texts().get(place).copied() == Some(text)
 }
 
 #[test]
 fn libraries_give_their_texts(rt: HostRuntime) {
     for (row, (file, wanted)) in LIBRARIES.iter().enumerate() {
-        let Ok(library) = read(&rt, rt.alloc(), file) else {
-            panic!(rt; "row {row}: no library");
-        };
-        check_texts(&rt, &library, wanted, row);
+        let library = library_of(&rt, rt.alloc(), file);
+        for (place, name) in NAMES.iter().enumerate() {
+            let text = given(*name, wanted);
+            expect(&rt, has_text(&library, place, *name, text), row);
+        }
+    }
+}
+
+// Whether a file is no library, from a place on.
+fn is_none(rt: &impl Abort, alloc: Global, file: &[u8], at: usize) -> bool {
+    match read(rt, alloc, file) {
+        Err(LibraryFault::NotALibrary { place }) => place == at,
+        _ => false,
     }
 }
 
 #[test]
 fn first_element_that_is_not_allowed_is_told(rt: HostRuntime) {
-    for (row, (file, wanted)) in NO_LIBRARIES.iter().enumerate() {
-        match read(&rt, rt.alloc(), file) {
-            Err(LibraryFault::NotALibrary { place }) => {
-                assert!(rt; place == *wanted, "row {row}: {place}");
-            }
-            _ => panic!(rt; "row {row}: a library"),
-        }
-    }
-}
-
-// What a library declares, by register.
-fn check_arguments(rt: &impl Abort, library: &Library, wanted: Option<(u8, u32, u32)>, row: usize) {
-    for name in NAMES {
-        let reg = Reg::of(name).expect(rt, "a register");
-        let range = library.argument(reg);
-        let range = range.map(|range| (name, range.low(), range.high()));
-        let own = wanted.filter(|declared| declared.0 == name);
-        assert!(rt; range == own, "row {row}, register {name}");
-    }
-}
-
-#[test]
-fn headers_declare_arguments(rt: HostRuntime) {
-    for (row, (file, wanted)) in HEADERS.iter().enumerate() {
-        let Ok(library) = read(&rt, rt.alloc(), file) else {
-            panic!(rt; "row {row}: no library");
-        };
-        check_arguments(&rt, &library, Some(*wanted), row);
-    }
-}
-
-#[test]
-fn other_comments_declare_nothing(rt: HostRuntime) {
-    for (row, (file, _)) in LIBRARIES.iter().enumerate() {
-        let Ok(library) = read(&rt, rt.alloc(), file) else {
-            panic!(rt; "row {row}: no library");
-        };
-        if !file.starts_with(b"!TECO-LIB 2 ") {
-            check_arguments(&rt, &library, None, row);
-        }
+    for (row, (file, place)) in NO_LIBRARIES.iter().enumerate() {
+        expect(&rt, is_none(&rt, rt.alloc(), file, *place), row);
     }
 }
 
 #[test]
 fn other_headers_are_no_libraries(rt: HostRuntime) {
     for (row, file) in BAD_HEADERS.iter().enumerate() {
-        match read(&rt, rt.alloc(), file) {
-            Err(LibraryFault::NotALibrary { place }) => {
-                assert!(rt; place == 0, "row {row}: {place}");
-            }
-            _ => panic!(rt; "row {row}: a library"),
+        expect(&rt, is_none(&rt, rt.alloc(), file, 0), row);
+    }
+}
+
+// What a library declares for a name.
+fn declared(library: &Library, name: u8) -> Option<(u8, u32, u32)> {
+    let range = library.argument(Reg::of(name)?)?;
+    Some((name, range.low(), range.high()))
+}
+
+// Whether a library declares this argument, and no other.
+fn declares(library: &Library, wanted: Option<(u8, u32, u32)>) -> bool {
+    NAMES.iter().all(|name| declared(library, *name) == wanted.filter(|wanted| wanted.0 == *name))
+}
+
+#[test]
+fn headers_declare_arguments(rt: HostRuntime) {
+    for (row, (file, wanted)) in HEADERS.iter().enumerate() {
+        let library = library_of(&rt, rt.alloc(), file);
+        expect(&rt, declares(&library, Some(*wanted)), row);
+    }
+}
+
+#[test]
+fn other_comments_declare_nothing(rt: HostRuntime) {
+    for (row, (file, _)) in LIBRARIES.iter().enumerate() {
+        if !file.starts_with(b"!TECO-LIB 2 ") {
+            let library = library_of(&rt, rt.alloc(), file);
+            expect(&rt, declares(&library, None), row);
         }
     }
 }

@@ -1,10 +1,11 @@
 // Certificates as the verifier's rules print them, and texts that differ from one. A call that is
 // refused memory is made once more, so that the rows also hold where one allocation fails.
-use super::*;
+use crate::subjects::expect;
 use std::alloc::Global;
 use std::process::Abort;
 use std::test::*;
 use teco_base::Reg;
+use teco_certificate::{Certificate, CertificateFault};
 use teco_model::Needs;
 use teco_poly::Poly;
 use teco_verifier::{Distances, LongerText, LoopLine, Rules};
@@ -21,19 +22,24 @@ end
 
 // What else may be the certificate of some macro.
 const CERTIFICATES: [&str; 12] = [
-    "TECO-CERT 1\nentry A\nneeds -\ncommands 8 + 4*N\nsize 1 + 3*N\nloop 3 held 3*N kept texts -\nend\n",
-    "TECO-CERT 1\nentry A\nneeds -\ncommands 6 + 3*N\nsize 1 + N\nloop 2 held N kept texts -\nend\n",
+    "TECO-CERT 1\nentry A\nneeds -\ncommands 8 + 4*N\nsize 1 + 3*N\n\
+     loop 3 held 3*N kept texts -\nend\n",
+    "TECO-CERT 1\nentry A\nneeds -\ncommands 6 + 3*N\nsize 1 + N\nloop 2 held N kept texts -\n\
+     end\n",
     "TECO-CERT 1\nentry 0\nneeds IO\ncommands 2\nsize N\nend\n",
     "TECO-CERT 1\nentry 9\nneeds I\ncommands 0\nsize 0\nend\n",
     "TECO-CERT 1\nentry Z\nneeds O\ncommands 7 + 5*N + N^2\nsize 18446744073709551615*N^8\nend\n",
-    "TECO-CERT 1\nentry B\nneeds -\ncommands 9\nsize 4*N\nloop 5 held N lost texts A=0,B=3*N,Z=N,0=1 + N,9=N^2\nend\n",
-    "TECO-CERT 1\nentry B\nneeds -\ncommands 9\nsize 4*N\nloop 0 held 0 lost texts 9=7\nloop 9 held N kept texts -\n\
+    "TECO-CERT 1\nentry B\nneeds -\ncommands 9\nsize 4*N\n\
+     loop 5 held N lost texts A=0,B=3*N,Z=N,0=1 + N,9=N^2\nend\n",
+    "TECO-CERT 1\nentry B\nneeds -\ncommands 9\nsize 4*N\nloop 0 held 0 lost texts 9=7\n\
+     loop 9 held N kept texts -\n\
      loop 10 held 1 + N kept texts A=N,B=N\nloop 18446744073709551615 held N lost texts -\nend\n",
     "TECO-CERT 2\nentry 0\nargument 0 2147483647\nneeds -\ncommands 4\nsize N\nend\n",
     "TECO-CERT 2\nentry Z\nargument 7 7\nneeds IO\ncommands 4\nsize N\nend\n",
     "TECO-CERT 1\nentry A\nrules 2\nneeds -\ncommands 3\nsize N\nend\n",
     "TECO-CERT 2\nentry Z\nargument 7 7\nrules 2\nneeds IO\ncommands 4\nsize N\nend\n",
-    "TECO-CERT 1\nentry B\nrules 2\nneeds -\ncommands 9\nsize 4*N\nloop 1 held 0 lost back 0 fore 4294967295 texts 9=7\n\
+    "TECO-CERT 1\nentry B\nrules 2\nneeds -\ncommands 9\nsize 4*N\n\
+     loop 1 held 0 lost back 0 fore 4294967295 texts 9=7\n\
      loop 9 held N kept back 10 fore 3 texts -\nend\n",
 ];
 
@@ -102,8 +108,8 @@ entry A
 needs -
 commands 8
 size 1 + 2*N
-loop 3 held 2*N lost texts A=0,B=0,C=0,D=0,E=0,F=0,G=0,H=0,I=0,J=0,K=0,L=0,M=0,N=0,O=0,P=0,Q=0,R=0,S=0,T=0,\
-U=0,V=0,W=0,X=0,Y=0,Z=0,0=0,1=0,2=0,3=0,4=0,5=0,6=0,7=0,8=0,9=0
+loop 3 held 2*N lost texts A=0,B=0,C=0,D=0,E=0,F=0,G=0,H=0,I=0,J=0,K=0,L=0,M=0,N=0,\
+O=0,P=0,Q=0,R=0,S=0,T=0,U=0,V=0,W=0,X=0,Y=0,Z=0,0=0,1=0,2=0,3=0,4=0,5=0,6=0,7=0,8=0,9=0
 end
 ";
 
@@ -157,8 +163,7 @@ const OTHERS: [(&str, &str); 42] = [
 ];
 
 // Lines in the place of that of the iteration.
-const LINES: [&str; 8] = [
-    "",
+const LINES: [&str; 7] = [
     "loop 3 held 2*N kept texts -\nloop 3 held 2*N kept texts -\n",
     "loop 4 held N kept texts -\nloop 3 held 2*N kept texts -\n",
     "loop 3 held 2*N kept texts -\r\n",
@@ -213,43 +218,63 @@ fn is_refused(alloc: Global, text: &[u8]) -> bool {
     matches!(read(alloc, text), Err(CertificateFault::NotACertificate))
 }
 
-#[test]
-fn reads_the_fields(rt: HostRuntime) {
-    let certificate = read(rt.alloc(), MARK.as_bytes()).expect(&rt, "a certificate");
-    assert!(rt; certificate.entry.name() == b'A');
-    assert!(rt;
-        certificate.needs
-            == Needs {
-                input: false,
-                output: false
-            }
-    );
-    assert!(rt; Poly::read(b"8 + 4*N") == Some(certificate.commands));
-    assert!(rt; Poly::read(b"1 + 2*N") == Some(certificate.size));
-    assert!(rt; certificate.argument.is_none());
-    assert!(rt; certificate.loops.len() == 1);
-    let line = &certificate.loops[0];
-    assert!(rt; line.number == 3 && line.kept && line.longer.is_empty());
-    assert!(rt; Poly::read(b"2*N") == Some(line.held));
+// Asserts that a text is refused with something in the place of a part.
+fn refuse_other(rt: &impl Abort, alloc: Global, whole: &str, part: &str, other: &str, row: usize) {
+    let Some((before, after)) = whole.split_once(part) else {
+        panic!(rt; "no part");
+    };
+    let text = with_other(rt, alloc, before, other, after);
+    expect(rt, is_refused(alloc, text.as_bytes()), row);
+}
+
+// Whether there is one iteration, of which nothing is lost and no text may be longer.
+fn has_loop(certificate: &Certificate, number: usize, held: &[u8]) -> bool {
+    let Some(line) = certificate.loops.first() else {
+        return false;
+    };
+    certificate.loops.len() == 1
+        && line.number == number
+        && line.kept
+        && line.longer.is_empty()
+        && Poly::read(held) == Some(line.held)
 }
 
 #[test]
-fn prints_the_fields(rt: HostRuntime) {
-    let mut longer = Vec::new(rt.alloc());
-    for (name, text) in [(b'B', Poly::number(0)), (b'0', Poly::variable())] {
-        let register = Reg::of(name).expect(&rt, "a register");
-        push(&rt, &mut longer, LongerText { register, text });
-    }
-    let mut loops = Vec::new(rt.alloc());
+fn reads_the_fields(rt: HostRuntime) {
+    let certificate = read(rt.alloc(), MARK.as_bytes()).expect(&rt, "a certificate");
+    let needs = certificate.needs;
+    expect(&rt, certificate.entry.name() == b'A', 0);
+    expect(&rt, !needs.input && !needs.output, 1);
+    expect(&rt, Poly::read(b"8 + 4*N") == Some(certificate.commands), 2);
+    expect(&rt, Poly::read(b"1 + 2*N") == Some(certificate.size), 3);
+    expect(&rt, certificate.argument.is_none(), 4);
+    expect(&rt, has_loop(&certificate, 3, b"2*N"), 5);
+}
+
+// The texts of two registers, as a line of an iteration has them.
+fn two_texts(rt: &impl Abort, alloc: Global) -> Vec<LongerText> {
+    let mut longer = Vec::new(alloc);
+    let register = Reg::of(b'B').expect(rt, "a register");
+    let text = Poly::number(0);
+    push(rt, &mut longer, LongerText { register, text });
+    let register = Reg::of(b'0').expect(rt, "a register");
+    let text = Poly::variable();
+    push(rt, &mut longer, LongerText { register, text });
+    longer
+}
+
+// A certificate with one iteration.
+fn with_loop(rt: &impl Abort, alloc: Global) -> Certificate {
+    let mut loops = Vec::new(alloc);
     let line = LoopLine {
         number: 5,
         held: Poly::variable(),
         kept: false,
         distances: Distances { back: 0, fore: 0 },
-        longer,
+        longer: two_texts(rt, alloc),
     };
-    push(&rt, &mut loops, line);
-    let certificate = Certificate {
+    push(rt, &mut loops, line);
+    Certificate {
         entry: Reg::default(),
         argument: None,
         rules: Rules::First,
@@ -260,92 +285,115 @@ fn prints_the_fields(rt: HostRuntime) {
         commands: Poly::number(7),
         size: Poly::variable(),
         loops,
-    };
+    }
+}
+
+#[test]
+fn prints_the_fields(rt: HostRuntime) {
+    let certificate = with_loop(&rt, rt.alloc());
     let text = printed(&rt, rt.alloc(), &certificate);
     let want =
-        "TECO-CERT 1\nentry A\nneeds IO\ncommands 7\nsize N\nloop 5 held N lost texts B=0,0=N\nend\n";
-    assert!(rt; text.as_slice() == want.as_bytes());
+        b"TECO-CERT 1\nentry A\nneeds IO\ncommands 7\nsize N\nloop 5 held N lost texts B=0,0=N\n\
+         end\n";
+    expect(&rt, text.as_slice() == want.as_slice(), 0);
 }
 
 #[test]
 fn reads_what_it_prints(rt: HostRuntime) {
-    assert!(rt; is_read(&rt, rt.alloc(), MARK.as_bytes()));
-    for text in CERTIFICATES {
-        assert!(rt; is_read(&rt, rt.alloc(), text.as_bytes()), "{text}");
+    expect(&rt, is_read(&rt, rt.alloc(), MARK.as_bytes()), 99);
+    for (row, text) in CERTIFICATES.iter().enumerate() {
+        expect(&rt, is_read(&rt, rt.alloc(), text.as_bytes()), row);
     }
 }
 
 #[test]
 fn refuses_other_spellings(rt: HostRuntime) {
-    for (part, other) in OTHERS {
-        let (before, after) = MARK.split_once(part).expect(&rt, "a part");
-        let text = with_other(&rt, rt.alloc(), before, other, after);
-        assert!(rt; is_refused(rt.alloc(), text.as_bytes()), "{text}");
+    for (row, (part, other)) in OTHERS.iter().enumerate() {
+        refuse_other(&rt, rt.alloc(), MARK, part, other, row);
     }
 }
 
 #[test]
 fn reads_an_argument(rt: HostRuntime) {
     let certificate = read(rt.alloc(), REPEAT.as_bytes()).expect(&rt, "a certificate");
-    let argument = certificate.argument.expect(&rt, "an argument");
-    assert!(rt; argument.low() == 1 && argument.high() == 10);
-    assert!(rt; is_read(&rt, rt.alloc(), REPEAT.as_bytes()));
+    let range = certificate
+        .argument
+        .map(|range| (range.low(), range.high()));
+    expect(&rt, range == Some((1, 10)), 0);
+    expect(&rt, is_read(&rt, rt.alloc(), REPEAT.as_bytes()), 1);
 }
 
 #[test]
 fn refuses_other_arguments(rt: HostRuntime) {
-    for (part, other) in OTHER_ARGUMENTS {
-        let (before, after) = REPEAT.split_once(part).expect(&rt, "a part");
-        let text = with_other(&rt, rt.alloc(), before, other, after);
-        assert!(rt; is_refused(rt.alloc(), text.as_bytes()), "{text}");
+    for (row, (part, other)) in OTHER_ARGUMENTS.iter().enumerate() {
+        refuse_other(&rt, rt.alloc(), REPEAT, part, other, row);
     }
 }
 
 #[test]
 fn refuses_other_rules(rt: HostRuntime) {
-    assert!(rt; is_read(&rt, rt.alloc(), SECOND.as_bytes()));
-    for (part, other) in OTHER_RULES {
-        let (before, after) = SECOND.split_once(part).expect(&rt, "a part");
-        let text = with_other(&rt, rt.alloc(), before, other, after);
-        assert!(rt; is_refused(rt.alloc(), text.as_bytes()), "{text}");
+    expect(&rt, is_read(&rt, rt.alloc(), SECOND.as_bytes()), 99);
+    for (row, (part, other)) in OTHER_RULES.iter().enumerate() {
+        refuse_other(&rt, rt.alloc(), SECOND, part, other, row);
     }
 }
 
 #[test]
 fn reads_at_most_one_text_of_a_register(rt: HostRuntime) {
-    assert!(rt; is_read(&rt, rt.alloc(), ALL_TEXTS.as_bytes()));
-    let (before, after) = ALL_TEXTS.split_once("9=0").expect(&rt, "the last text");
-    for more in MORE_TEXTS {
-        let text = with_other(&rt, rt.alloc(), before, more, after);
-        assert!(rt; is_refused(rt.alloc(), text.as_bytes()), "{text}");
+    expect(&rt, is_read(&rt, rt.alloc(), ALL_TEXTS.as_bytes()), 99);
+    for (row, more) in MORE_TEXTS.iter().enumerate() {
+        refuse_other(&rt, rt.alloc(), ALL_TEXTS, "9=0", more, row);
     }
 }
+
+// The line of the iteration.
+const LINE: &str = "loop 3 held 2*N kept texts -\n";
 
 #[test]
 fn refuses_other_lines(rt: HostRuntime) {
-    let (before, after) = MARK
-        .split_once("loop 3 held 2*N kept texts -\n")
-        .expect(&rt, "a line");
-    for lines in LINES {
-        let text = with_other(&rt, rt.alloc(), before, lines, after);
-        // one that has no iteration is that of another macro
-        let wanted = lines.is_empty();
-        assert!(rt;
-            is_read(&rt, rt.alloc(), text.as_bytes()) == wanted,
-            "{text}"
-        );
+    for (row, lines) in LINES.iter().enumerate() {
+        refuse_other(&rt, rt.alloc(), MARK, LINE, lines, row);
     }
 }
 
+// One that has no iteration is that of another macro.
 #[test]
-fn refuses_parts_and_more(rt: HostRuntime) {
+fn reads_no_lines(rt: HostRuntime) {
+    let (before, after) = MARK.split_once(LINE).expect(&rt, "a line");
+    let text = with_other(&rt, rt.alloc(), before, "", after);
+    expect(&rt, is_read(&rt, rt.alloc(), text.as_bytes()), 0);
+}
+
+#[test]
+fn refuses_parts(rt: HostRuntime) {
     for end in 0..MARK.len() {
-        assert!(rt; is_refused(rt.alloc(), &MARK.as_bytes()[..end]), "{end}");
+        expect(&rt, is_refused(rt.alloc(), &MARK.as_bytes()[..end]), end);
     }
-    for more in ["\n", " ", "end\n", "\0"] {
+}
+
+// What stands behind the text.
+const BEHIND: [&str; 4] = ["\n", " ", "end\n", "\0"];
+
+#[test]
+fn refuses_more(rt: HostRuntime) {
+    for (row, more) in BEHIND.iter().enumerate() {
         let text = with_other(&rt, rt.alloc(), MARK, more, "");
-        assert!(rt; is_refused(rt.alloc(), text.as_bytes()));
+        expect(&rt, is_refused(rt.alloc(), text.as_bytes()), row);
     }
+}
+
+// Whether a text is of a certificate, or refused, with each byte at a place.
+fn is_judged(rt: &impl Abort, alloc: Global, text: &mut [u8], place: usize) -> bool {
+    let mut judged = true;
+    if place < text.len() {
+        let was = text[place];
+        for byte in 0..=u8::MAX {
+            text[place] = byte;
+            judged = judged && (is_read(rt, alloc, text) || is_refused(alloc, text));
+        }
+        text[place] = was;
+    }
+    judged
 }
 
 #[test]
@@ -354,12 +402,7 @@ fn other_bytes_are_other_certificates_or_none(rt: HostRuntime) {
     for byte in MARK.as_bytes() {
         push(&rt, &mut text, *byte);
     }
-    for place in 0..text.len() {
-        let was = text[place];
-        for byte in 0..=u8::MAX {
-            text[place] = byte;
-            assert!(rt; is_read(&rt, rt.alloc(), &text) || is_refused(rt.alloc(), &text));
-        }
-        text[place] = was;
+    for place in 0..MARK.len() {
+        expect(&rt, is_judged(&rt, rt.alloc(), &mut text, place), place);
     }
 }

@@ -1,14 +1,12 @@
 // Libraries, with the certificate of their macro A or the reason and the place of its refusal, and
 // certificates that are checked. A call that is refused memory is made once more, so that the rows
 // also hold where one allocation fails.
-mod editions;
-
-use super::*;
+use crate::subjects::{expect, library_of, name_of};
 use std::alloc::Global;
 use std::process::Abort;
 use std::test::*;
 use teco_base::{LIMIT, Reg};
-use teco_verifier::Refusal as Why;
+use teco_verify::{Library, Refusal, Verified, check_certificate, verify};
 
 // Marks are put behind each occurrence of a word.
 const MARK: &[u8] = b"@^UA/J<Sfoo\x1b;I!\x1b>/";
@@ -44,7 +42,8 @@ const ACCEPTED: [(&[u8], &str); 12] = [
     (ASKED, ASKED_CERTIFICATE),
     (
         b"!TECO-LIB 2 B 1 10!@^UA/10<Ia\x1b>/",
-        "TECO-CERT 1\nentry A\nneeds -\ncommands 24\nsize 10 + N\nloop 3 held 9 + N kept texts -\nend\n",
+        "TECO-CERT 1\nentry A\nneeds -\ncommands 24\nsize 10 + N\n\
+         loop 3 held 9 + N kept texts -\nend\n",
     ),
     (
         b"@^UA/!a! Iab\x1b\x1bIc\x1b/",
@@ -52,7 +51,8 @@ const ACCEPTED: [(&[u8], &str); 12] = [
     ),
     (
         b"@^UA/10<Ia\x1b>/",
-        "TECO-CERT 1\nentry A\nneeds -\ncommands 24\nsize 10 + N\nloop 3 held 9 + N kept texts -\nend\n",
+        "TECO-CERT 1\nentry A\nneeds -\ncommands 24\nsize 10 + N\n\
+         loop 3 held 9 + N kept texts -\nend\n",
     ),
     (
         b"@^UA/.-Z\"LC'/",
@@ -64,7 +64,8 @@ const ACCEPTED: [(&[u8], &str); 12] = [
     ),
     (
         FILL,
-        "TECO-CERT 1\nentry A\nneeds -\ncommands 6 + 3*N\nsize 1 + N\nloop 2 held N kept texts -\nend\n",
+        "TECO-CERT 1\nentry A\nneeds -\ncommands 6 + 3*N\nsize 1 + N\n\
+         loop 2 held N kept texts -\nend\n",
     ),
     (
         b"@^UA/3<.=>/",
@@ -115,37 +116,44 @@ const REFUSED: [(&[u8], &str, u8, usize); 18] = [
 const CHECKED: [(&[u8], &str, bool); 11] = [
     (
         ASKED,
-        "TECO-CERT 1\nentry A\nneeds -\ncommands 24\nsize 10 + N\nloop 2 held 9 + N kept texts -\nend\n",
+        "TECO-CERT 1\nentry A\nneeds -\ncommands 24\nsize 10 + N\n\
+         loop 2 held 9 + N kept texts -\nend\n",
         false,
     ),
     (
         ASKED,
-        "TECO-CERT 2\nentry A\nargument 1 9\nneeds -\ncommands 24\nsize 10 + N\nloop 2 held 9 + N kept texts -\nend\n",
+        "TECO-CERT 2\nentry A\nargument 1 9\nneeds -\ncommands 24\nsize 10 + N\n\
+         loop 2 held 9 + N kept texts -\nend\n",
         false,
     ),
     (
         MARK,
-        "TECO-CERT 1\nentry A\nneeds -\ncommands 7 + 4*N\nsize 1 + 2*N\nloop 3 held 2*N kept texts -\nend\n",
+        "TECO-CERT 1\nentry A\nneeds -\ncommands 7 + 4*N\nsize 1 + 2*N\n\
+         loop 3 held 2*N kept texts -\nend\n",
         false,
     ),
     (
         MARK,
-        "TECO-CERT 1\nentry A\nneeds -\ncommands 8 + 4*N\nsize 1 + 2*N\nloop 3 held N kept texts -\nend\n",
+        "TECO-CERT 1\nentry A\nneeds -\ncommands 8 + 4*N\nsize 1 + 2*N\n\
+         loop 3 held N kept texts -\nend\n",
         false,
     ),
     (
         MARK,
-        "TECO-CERT 1\nentry A\nneeds -\ncommands 8 + 4*N\nsize 1 + 2*N\nloop 3 held 2*N kept texts -\nend",
+        "TECO-CERT 1\nentry A\nneeds -\ncommands 8 + 4*N\nsize 1 + 2*N\n\
+         loop 3 held 2*N kept texts -\nend",
         false,
     ),
     (
         MARK,
-        "TECO-CERT 1\nentry A\nneeds -\ncommands 8 + 4*N\nsize 1 + 3*N\nloop 3 held 3*N kept texts -\nend\n",
+        "TECO-CERT 1\nentry A\nneeds -\ncommands 8 + 4*N\nsize 1 + 3*N\n\
+         loop 3 held 3*N kept texts -\nend\n",
         true,
     ),
     (
         MARK,
-        "TECO-CERT 1\nentry A\nneeds -\ncommands 8 + 4*N\nsize 1 + 2*N\nloop 3 held 3*N kept texts -\nend\n",
+        "TECO-CERT 1\nentry A\nneeds -\ncommands 8 + 4*N\nsize 1 + 2*N\n\
+         loop 3 held 3*N kept texts -\nend\n",
         false,
     ),
     (
@@ -155,7 +163,8 @@ const CHECKED: [(&[u8], &str, bool); 11] = [
     ),
     (
         MARK,
-        "TECO-CERT 2\nentry A\nargument 1 10\nneeds -\ncommands 8 + 4*N\nsize 1 + 2*N\nloop 3 held 2*N kept texts -\nend\n",
+        "TECO-CERT 2\nentry A\nargument 1 10\nneeds -\ncommands 8 + 4*N\nsize 1 + 2*N\n\
+         loop 3 held 2*N kept texts -\nend\n",
         false,
     ),
     (
@@ -165,43 +174,11 @@ const CHECKED: [(&[u8], &str, bool); 11] = [
     ),
     (
         FILL,
-        "TECO-CERT 1\nentry A\nneeds -\ncommands 6 + 3*N\nsize 1 + N\nloop 2 held 0 kept texts -\nend\n",
+        "TECO-CERT 1\nentry A\nneeds -\ncommands 6 + 3*N\nsize 1 + N\n\
+         loop 2 held 0 kept texts -\nend\n",
         false,
     ),
 ];
-
-// A reason as it is printed.
-fn name_of(why: Why) -> &'static str {
-    match why {
-        Why::Library => "X1",
-        Why::Fault => "X2",
-        Why::Partner => "X3",
-        Why::Argument => "X4",
-        Why::Pending => "X5",
-        Why::Place => "X6",
-        Why::Deletion => "X7",
-        Why::Divisor => "X8",
-        Why::Fall => "X9",
-        Why::Bound => "X10",
-        Why::Missing => "X11",
-        Why::Recursion => "X12",
-        Why::Written => "X13",
-        Why::Pop => "X14",
-        Why::Unverified => "X15",
-        Why::Size => "X16",
-        Why::Overflow => "X17",
-        Why::Certificate => "X18",
-    }
-}
-
-// The library of a file.
-fn library_of(rt: &impl Abort, alloc: Global, file: &[u8]) -> Library {
-    assert!(rt; file.len() <= LIMIT);
-    match Library::read(alloc, file) {
-        Ok(library) => library,
-        Err(_) => Library::read(alloc, file).expect(rt, "a library"),
-    }
-}
 
 // What the verifier says of its macro A.
 fn verdict<'l>(alloc: Global, library: &'l Library) -> Result<Verified<'l>, Refusal> {
@@ -236,71 +213,70 @@ fn has_text(alloc: Global, verified: &Verified<'_>, text: &str) -> bool {
     }
 }
 
+// Whether the answer is that the macro has this certificate.
+pub fn is_certified(alloc: Global, answer: Result<Verified<'_>, Refusal>, text: &str) -> bool {
+    match answer {
+        Ok(verified) => has_text(alloc, &verified, text),
+        Err(_) => false,
+    }
+}
+
+// Why, in which text, and where it is refused.
+pub fn refusal_of(answer: &Result<Verified<'_>, Refusal>) -> Option<(&'static str, u8, usize)> {
+    match answer {
+        Err(
+            Refusal::No {
+                why,
+                register: Some(register),
+                place,
+            },
+        ) => Some((name_of(*why), register.name(), *place)),
+        _ => None,
+    }
+}
+
+// Whether a certificate is accepted; none where it is refused as something else.
+pub fn is_accepted(answer: &Result<Verified<'_>, Refusal>) -> Option<bool> {
+    match answer {
+        Ok(_) => Some(true),
+        Err(Refusal::No { why, .. }) if name_of(*why) == "X18" => Some(false),
+        _ => None,
+    }
+}
+
 #[test]
 fn accepts_with_its_certificate(rt: HostRuntime) {
-    for (file, text) in ACCEPTED {
+    for (row, (file, text)) in ACCEPTED.iter().enumerate() {
         let library = library_of(&rt, rt.alloc(), file);
-        match verdict(rt.alloc(), &library) {
-            Ok(verified) => assert!(rt; has_text(rt.alloc(), &verified, text), "{text}"),
-            Err(_) => panic!(rt; "{text}"),
-        }
+        let answer = verdict(rt.alloc(), &library);
+        expect(&rt, is_certified(rt.alloc(), answer, text), row);
     }
 }
 
 #[test]
 fn refuses_at_its_place(rt: HostRuntime) {
-    for (file, name, text, at) in REFUSED {
+    for (row, (file, name, text, at)) in REFUSED.iter().enumerate() {
         let library = library_of(&rt, rt.alloc(), file);
-        match verdict(rt.alloc(), &library) {
-            Err(
-                Refusal::No {
-                    why,
-                    register: Some(register),
-                    place,
-                },
-            ) => {
-                assert!(rt;
-                    name_of(why) == name && register.name() == text && place == at,
-                    "{at}"
-                )
-            }
-            _ => panic!(rt; "{at}"),
-        }
+        let answer = verdict(rt.alloc(), &library);
+        expect(&rt, refusal_of(&answer) == Some((*name, *text, *at)), row);
     }
 }
 
 #[test]
 fn accepts_what_it_certifies(rt: HostRuntime) {
-    for (file, text) in ACCEPTED {
+    for (row, (file, text)) in ACCEPTED.iter().enumerate() {
         let library = library_of(&rt, rt.alloc(), file);
-        match checked(&rt, rt.alloc(), &library, text.as_bytes()) {
-            Ok(verified) => assert!(rt; has_text(rt.alloc(), &verified, text), "{text}"),
-            Err(_) => panic!(rt; "{text}"),
-        }
+        let answer = checked(&rt, rt.alloc(), &library, text.as_bytes());
+        expect(&rt, is_certified(rt.alloc(), answer, text), row);
     }
-}
-
-// Those that accept straight text alone would refuse this.
-#[test]
-fn straight_text_alone(rt: HostRuntime) {
-    let library = library_of(&rt, rt.alloc(), MARK);
-    assert!(rt; verdict(rt.alloc(), &library).is_ok());
-    assert!(rt; checked(&rt, rt.alloc(), &library, MARK_CERTIFICATE.as_bytes()).is_ok());
 }
 
 #[test]
 fn checks_other_certificates(rt: HostRuntime) {
-    for (file, text, accepted) in CHECKED {
+    for (row, (file, text, accepted)) in CHECKED.iter().enumerate() {
         let library = library_of(&rt, rt.alloc(), file);
-        let is_accepted = match checked(&rt, rt.alloc(), &library, text.as_bytes()) {
-            Ok(_) => true,
-            Err(Refusal::No { why, .. }) => {
-                assert!(rt; name_of(why) == "X18");
-                false
-            }
-            Err(Refusal::Memory) => panic!(rt; "memory"),
-        };
-        assert!(rt; is_accepted == accepted, "{text}");
+        let answer = checked(&rt, rt.alloc(), &library, text.as_bytes());
+        expect(&rt, is_accepted(&answer) == Some(*accepted), row);
     }
 }
 
@@ -310,12 +286,13 @@ fn tells_what_it_found(rt: HostRuntime) {
     let Ok(verified) = verdict(rt.alloc(), &library) else {
         panic!(rt; "accepted");
     };
-    assert!(rt; verified.entry().name() == b'A');
-    assert!(rt; verified.text(verified.entry()).map(|text| text.len()) == Some(12));
-    assert!(rt; verified.argument().is_none());
-    assert!(rt; verified.commands().at(18) == Some(80));
-    assert!(rt; verified.size().at(18) == Some(37));
+    let entry = verified.entry();
+    let length = verified.text(entry).map(|text| text.len());
     let needs = verified.needs();
-    assert!(rt; !needs.input && !needs.output);
-    assert!(rt; verified.library().contains(Reg::default()));
+    expect(&rt, entry.name() == b'A' && length == Some(12), 0);
+    expect(&rt, verified.argument().is_none(), 1);
+    expect(&rt, verified.commands().at(18) == Some(80), 2);
+    expect(&rt, verified.size().at(18) == Some(37), 3);
+    expect(&rt, !needs.input && !needs.output, 4);
+    expect(&rt, verified.library().contains(entry), 5);
 }
