@@ -1,6 +1,6 @@
 //! Verified macros on machines that a command string made ready: how the run stops, and the text
-//! that it leaves. A call that is refused memory is made once more, so that the rows also hold where
-//! one allocation fails.
+//! that it leaves. A call that is refused memory is made once more, so that the rows also hold
+//! where one allocation fails.
 mod by_pages;
 mod certificates;
 mod editing;
@@ -157,8 +157,8 @@ fn run_with(
 /// A text is put in as often as an argument says.
 const REPEAT: &[u8] = b"!TECO-LIB 2 A 1 10!@^UA/<Ia\x1b>/";
 
-// Does its run with an argument end, after so many steps and with this text? It does not where memory
-// was refused.
+// Does its run with an argument end, after so many steps and with this text? It does not where
+// memory was refused.
 fn repeats(alloc: Global, verified: &Verified<'_>, n: i32, steps: u64, text: &str) -> bool {
     let mut machine = Machine::new(alloc, VecText::new(alloc));
     let mut host = MemHost::new(alloc);

@@ -1,5 +1,6 @@
-//! What the tests share: assertions, registers, macros of library files, and consoles over memory. A
-//! call that is refused memory is made once more, so that rows also hold where one allocation fails.
+//! What the tests share: assertions, registers, macros of library files, and consoles over memory.
+//! A call that is refused memory is made once more, so that rows also hold where one allocation
+//! fails.
 use std::alloc::Global;
 use std::fs;
 use std::process::Abort;

@@ -223,8 +223,8 @@ fn is_refused(
 fn a_guard_is_asked_and_hears(rt: HostRuntime) -> Result<(), Fail> {
     let row = (MARKS, TWO, Pages::Each, 0);
     let (_, _, watch, _) = edited(&rt, rt.alloc(), row, None, NONE)?;
-    // what opens the files, two runs, what turns to the second page, and what closes the output; the
-    // page and the 12 characters of the macro are held, and all has been read
+    // what opens the files, two runs, what turns to the second page, and what closes the output;
+    // the page and the 12 characters of the macro are held, and all has been read
     let is_so = watch.heard == 5 && watch.held == 15 && watch.read_ahead == 0;
     expect(&rt, is_so, "what is heard");
     expect(
