@@ -1,23 +1,24 @@
-// Verified macros on machines that a command string made ready: how the run stops, and the text
-// that it leaves. A call that is refused memory is made once more, so that the rows also hold where
-// one allocation fails.
+//! Verified macros on machines that a command string made ready: how the run stops, and the text
+//! that it leaves. A call that is refused memory is made once more, so that the rows also hold
+//! where one allocation fails.
 mod by_pages;
 mod certificates;
 mod editing;
 mod examples;
 mod verdicts;
 
+use super::trial::{expect, expect_row, library_of, verdict, verified_of};
 use std::alloc::Global;
 use std::process::Abort;
 use std::test::Fail;
 use teco_apply::{NotReady, run_verified, run_verified_with};
-use teco_base::{LIMIT, Reg};
+use teco_base::LIMIT;
 use teco_model::Stop;
 use teco_pages::MemHost;
 use teco_run::Machine;
 use teco_text::VecText;
 use teco_verifier::Refusal as Why;
-use teco_verify::{Library, Refusal, Verified, check_certificate, verify};
+use teco_verify::{Library, Refusal, Verified, check_certificate};
 
 // A library, a command string before its macro A, the steps of that macro, and the text that it
 // leaves.
@@ -53,31 +54,6 @@ fn prepare(rt: &impl Abort, machine: &mut Machine<VecText>, host: &mut MemHost, 
         stop => stop,
     };
     assert!(rt; matches!(stop, Stop::Ended { .. }));
-}
-
-// The library of a file.
-fn library_of(rt: &impl Abort, alloc: Global, file: &[u8]) -> Library {
-    assert!(rt; file.len() <= LIMIT);
-    match Library::read(alloc, file) {
-        Ok(library) => library,
-        Err(_) => Library::read(alloc, file).expect(rt, "a library"),
-    }
-}
-
-// What the verifier says of its macro A.
-fn verdict<'l>(alloc: Global, library: &'l Library) -> Result<Verified<'l>, Refusal> {
-    match verify(alloc, library, Reg::default()) {
-        Err(Refusal::Memory) => verify(alloc, library, Reg::default()),
-        answer => answer,
-    }
-}
-
-// Its verified macro A.
-fn verified_of<'l>(rt: &impl Abort, alloc: Global, library: &'l Library) -> Verified<'l> {
-    match verdict(alloc, library) {
-        Ok(verified) => verified,
-        Err(_) => panic!(rt; "accepted"),
-    }
 }
 
 // What the checker says of a certificate.
@@ -133,24 +109,25 @@ fn run(
     }
 }
 
-// Whether the run of a row ends, as the row says; not where memory was refused.
-fn ends_as(rt: &impl Abort, alloc: Global, row: Row) -> bool {
-    let (file, command, steps, text) = row;
+// Is the text of a machine this, whatever stands before the pointer?
+fn has_text(machine: &Machine<VecText>, text: &[u8]) -> bool {
+    let (front, back) = machine.text();
+    text.starts_with(front)
+        && text.ends_with(back)
+        && front.len().checked_add(back.len()) == Some(text.len())
+}
+
+// Does the run of a row end, as the row says? It does not where memory was refused.
+fn ends_as(rt: &impl Abort, alloc: Global, row: &Row) -> bool {
+    let (file, command, steps, text) = *row;
     let library = library_of(rt, alloc, file);
     let verified = verified_of(rt, alloc, &library);
     let mut machine = Machine::new(alloc, VecText::new(alloc));
     let mut host = MemHost::new(alloc);
     prepare(rt, &mut machine, &mut host, command);
     match run(&mut machine, &verified, &mut host) {
-        Ok(Stop::Ended { steps: taken }) => {
-            assert!(rt; taken == steps);
-            let (front, back) = machine.text();
-            assert!(rt; front.len() <= text.len());
-            assert!(rt; front == &text[..front.len()] && back == &text[front.len()..]);
-            true
-        }
-        Ok(Stop::Memory) => false,
-        _ => panic!(rt; "it ends"),
+        Ok(Stop::Ended { steps: taken }) => taken == steps && has_text(&machine, text),
+        _ => false,
     }
 }
 
@@ -158,9 +135,9 @@ fn ends_as(rt: &impl Abort, alloc: Global, row: Row) -> bool {
 // memory is refused once at most.
 #[test]
 fn always_out_of_memory(rt: HostRuntime) {
-    for row in RUNS {
-        let once = ends_as(&rt, rt.alloc(), row);
-        assert!(rt; once || ends_as(&rt, rt.alloc(), row));
+    for (number, row) in RUNS.iter().enumerate() {
+        let is_so = ends_as(&rt, rt.alloc(), row) || ends_as(&rt, rt.alloc(), row);
+        expect_row(&rt, is_so, number);
     }
 }
 
@@ -180,109 +157,101 @@ fn run_with(
 /// A text is put in as often as an argument says.
 const REPEAT: &[u8] = b"!TECO-LIB 2 A 1 10!@^UA/<Ia\x1b>/";
 
-// Whether its run with an argument ends, after so many steps and with this text; not where memory
-// was refused.
-fn repeats(
-    rt: &impl Abort,
-    alloc: Global,
-    verified: &Verified<'_>,
-    n: i32,
-    steps: u64,
-    text: &str,
-) -> bool {
+// Does its run with an argument end, after so many steps and with this text? It does not where
+// memory was refused.
+fn repeats(alloc: Global, verified: &Verified<'_>, n: i32, steps: u64, text: &str) -> bool {
     let mut machine = Machine::new(alloc, VecText::new(alloc));
     let mut host = MemHost::new(alloc);
     match run_with(&mut machine, verified, n, &mut host) {
         Ok(Stop::Ended { steps: taken }) => {
-            let (front, back) = machine.text();
-            assert!(rt; taken == steps, "{n}: {taken}");
-            assert!(rt; front == text.as_bytes() && back.is_empty(), "{n}");
-            true
+            taken == steps && has_text(&machine, text.as_bytes()) && machine.dot() == text.len()
         }
-        Ok(Stop::Memory) => false,
-        _ => panic!(rt; "it ends"),
+        _ => false,
     }
 }
+
+/// An argument, the steps that its run takes, and the text that it leaves.
+const REPEATED: [(i32, u64, &str); 3] = [(1, 6, "a"), (3, 10, "aaa"), (10, 24, "aaaaaaaaaa")];
 
 #[test]
 fn never_ready(rt: HostRuntime) {
     let library = library_of(&rt, rt.alloc(), REPEAT);
     let verified = verified_of(&rt, rt.alloc(), &library);
-    for (n, steps, text) in [(1, 6, "a"), (3, 10, "aaa"), (10, 24, "aaaaaaaaaa")] {
-        let once = repeats(&rt, rt.alloc(), &verified, n, steps, text);
-        assert!(rt;
-            once || repeats(&rt, rt.alloc(), &verified, n, steps, text),
-            "{n}"
-        );
+    for (n, steps, text) in REPEATED.iter() {
+        let is_so = repeats(rt.alloc(), &verified, *n, *steps, text)
+            || repeats(rt.alloc(), &verified, *n, *steps, text);
+        expect(&rt, is_so, text);
     }
+}
+
+// How the run of the macro A of a library stops on an empty machine: with an argument, where one is
+// given.
+fn stop_of(
+    rt: &impl Abort,
+    alloc: Global,
+    file: &[u8],
+    given: Option<i32>,
+) -> Result<Stop, NotReady> {
+    let library = library_of(rt, alloc, file);
+    let verified = verified_of(rt, alloc, &library);
+    let mut machine = Machine::new(alloc, VecText::new(alloc));
+    let mut host = MemHost::new(alloc);
+    match given {
+        Some(n) => run_with(&mut machine, &verified, n, &mut host),
+        None => run(&mut machine, &verified, &mut host),
+    }
+}
+
+// The argument is refused.
+fn expect_argument_refused(rt: &impl Abort, alloc: Global, file: &[u8], given: Option<i32>) {
+    let answer = stop_of(rt, alloc, file, given);
+    expect(
+        rt,
+        matches!(answer, Err(NotReady::Argument)),
+        "the argument",
+    );
 }
 
 #[test]
 fn other_arguments_are_refused(rt: HostRuntime) {
-    let library = library_of(&rt, rt.alloc(), REPEAT);
-    let verified = verified_of(&rt, rt.alloc(), &library);
-    let mut machine = Machine::new(rt.alloc(), VecText::new(rt.alloc()));
-    let mut host = MemHost::new(rt.alloc());
-    for n in [i32::MIN, -3, 0, 11, i32::MAX] {
-        let answer = run_with(&mut machine, &verified, n, &mut host);
-        assert!(rt; matches!(answer, Err(NotReady::Argument)), "{n}");
-    }
-    let answer = run(&mut machine, &verified, &mut host);
-    assert!(rt; matches!(answer, Err(NotReady::Argument)));
+    expect_argument_refused(&rt, rt.alloc(), REPEAT, Some(i32::MIN));
+    expect_argument_refused(&rt, rt.alloc(), REPEAT, Some(-3));
+    expect_argument_refused(&rt, rt.alloc(), REPEAT, Some(0));
+    expect_argument_refused(&rt, rt.alloc(), REPEAT, Some(11));
+    expect_argument_refused(&rt, rt.alloc(), REPEAT, Some(i32::MAX));
+    expect_argument_refused(&rt, rt.alloc(), REPEAT, None);
 }
+
+/// Libraries whose macro A asks for no argument.
+const UNASKED: [&[u8]; 2] = [b"@^UA/3<Ia\x1b>/", b"!TECO-LIB 2 B 1 10!@^UA/3<Ia\x1b>/"];
 
 #[test]
 fn unasked_arguments_are_refused(rt: HostRuntime) {
-    let files: [&[u8]; 2] = [b"@^UA/3<Ia\x1b>/", b"!TECO-LIB 2 B 1 10!@^UA/3<Ia\x1b>/"];
-    for file in files {
-        let library = library_of(&rt, rt.alloc(), file);
-        let verified = verified_of(&rt, rt.alloc(), &library);
-        let mut machine = Machine::new(rt.alloc(), VecText::new(rt.alloc()));
-        let mut host = MemHost::new(rt.alloc());
-        let answer = run_with(&mut machine, &verified, 3, &mut host);
-        assert!(rt; matches!(answer, Err(NotReady::Argument)));
-        let answer = run(&mut machine, &verified, &mut host);
-        assert!(rt; matches!(answer, Ok(_)));
+    for file in UNASKED.iter() {
+        expect_argument_refused(&rt, rt.alloc(), file, Some(3));
+        let answer = stop_of(&rt, rt.alloc(), file, None);
+        expect(&rt, answer.is_ok(), "it runs without");
     }
 }
 
-#[test]
-fn files_are_asked_for_first(rt: HostRuntime) {
-    let rows: [(&[u8], bool); 2] = [
-        (b"!TECO-LIB 2 A 1 10!@^UA/<A>/", true),
-        (b"!TECO-LIB 2 A 1 10!@^UA/<P>/", false),
-    ];
-    for (file, input) in rows {
-        let library = library_of(&rt, rt.alloc(), file);
-        let verified = verified_of(&rt, rt.alloc(), &library);
-        let mut machine = Machine::new(rt.alloc(), VecText::new(rt.alloc()));
-        let mut host = MemHost::new(rt.alloc());
-        let answer = run_with(&mut machine, &verified, 0, &mut host);
-        if input {
-            assert!(rt; matches!(answer, Err(NotReady::NoInput)));
-        } else {
-            assert!(rt; matches!(answer, Err(NotReady::NoOutput)));
-        }
-    }
-}
+/// A library, an argument, and whether its macro asks for an input first, or for an output.
+const ASKING: [(&[u8], Option<i32>, bool); 5] = [
+    (b"!TECO-LIB 2 A 1 10!@^UA/<A>/", Some(0), true),
+    (b"!TECO-LIB 2 A 1 10!@^UA/<P>/", Some(0), false),
+    (b"@^UA/A/", None, true),
+    (b"@^UA/<Nfoo\x1b;I!\x1b>/", None, false),
+    (b"@^UA/AP/", None, true),
+];
 
+// Files are asked for, and before an argument.
 #[test]
 fn asks_for_files(rt: HostRuntime) {
-    let rows: [(&[u8], bool); 3] = [
-        (b"@^UA/A/", true),
-        (b"@^UA/<Nfoo\x1b;I!\x1b>/", false),
-        (b"@^UA/AP/", true),
-    ];
-    for (file, input) in rows {
-        let library = library_of(&rt, rt.alloc(), file);
-        let verified = verified_of(&rt, rt.alloc(), &library);
-        let mut machine = Machine::new(rt.alloc(), VecText::new(rt.alloc()));
-        let mut host = MemHost::new(rt.alloc());
-        let answer = run(&mut machine, &verified, &mut host);
-        if input {
-            assert!(rt; matches!(answer, Err(NotReady::NoInput)));
-        } else {
-            assert!(rt; matches!(answer, Err(NotReady::NoOutput)));
-        }
+    for (number, (file, given, input)) in ASKING.iter().enumerate() {
+        let is_so = match stop_of(&rt, rt.alloc(), file, *given) {
+            Err(NotReady::NoInput) => *input,
+            Err(NotReady::NoOutput) => !*input,
+            _ => false,
+        };
+        expect_row(&rt, is_so, number);
     }
 }

@@ -6,4 +6,6 @@ mod apply;
 #[cfg(test)]
 mod tools;
 #[cfg(test)]
+mod trial;
+#[cfg(test)]
 mod verdicts;

@@ -1,14 +1,13 @@
 //! Edits by pages over files in memory.
+use crate::trial::{expect, expect_row, library_of, verified_of};
 use std::alloc::Global;
 use std::process::Abort;
 use std::test::Fail;
 use teco_apply::{Edit, Edited, Guard, Pages, edit_file};
-use teco_base::{LIMIT, Reg};
 use teco_pages::{Host, HostCall, MemHost, TestHost};
 use teco_run::{Machine, Stopped};
 use teco_session::{Listener, SessionFault};
 use teco_text::{TextStore, VecText};
-use teco_verify::{Library, Verified, verify};
 
 /// Puts a mark behind each `foo`.
 const MARKS: &[u8] = b"@^UA/J<Sfoo\x1b;I!\x1b>/";
@@ -57,17 +56,6 @@ const NOTHING_SEEN: Watch = Watch {
     read_ahead: 0,
 };
 
-// The macro in A of a library file.
-fn macro_of<'l>(rt: &impl Abort, alloc: Global, library: &'l Library) -> Verified<'l> {
-    let Some(entry) = Reg::of(b'A') else {
-        panic!(rt; "a register");
-    };
-    let Ok(verified) = verify(alloc, library, entry) else {
-        panic!(rt; "refused");
-    };
-    verified
-}
-
 /// A library, the file `in`, which pages are edited, and the run that the guard refuses.
 type Row = (&'static [u8], &'static [u8], Pages, u64);
 
@@ -86,11 +74,8 @@ fn edited(
     failing: Failing,
 ) -> Result<(Edited, Vec<u8>, Watch, TestHost), SessionFault> {
     let (file, input, pages, refuses) = row;
-    assert!(rt; file.len() <= LIMIT);
-    let Ok(library) = Library::read(alloc, file) else {
-        panic!(rt; "no library");
-    };
-    let verified = macro_of(rt, alloc, &library);
+    let library = library_of(rt, alloc, file);
+    let verified = verified_of(rt, alloc, &library);
     let mut mem = MemHost::new(alloc);
     mem.put(b"in", input)?;
     let (piece, call, nth) = failing;
@@ -120,7 +105,9 @@ fn edited(
 }
 
 /// What is edited, on how many pages the macro came to its end, and what the file `out` has then.
-const EDITED: [(Row, u64, &[u8]); 12] = [
+type Paged = (Row, u64, &'static [u8]);
+
+const EDITED: [Paged; 12] = [
     ((MARKS, b"xfoo\x0cfoo", Pages::First, 0), 1, b"xfoo!\x0cfoo"),
     ((MARKS, b"xfoo\x0cfoo", Pages::Each, 0), 2, b"xfoo!\x0cfoo!"),
     (
@@ -147,88 +134,149 @@ const EDITED: [(Row, u64, &[u8]); 12] = [
     ((STAYS, b"", Pages::First, 0), 1, b""),
 ];
 
+// Is it edited as the row says, by a host that moves so many bytes?
+fn is_paged(
+    rt: &impl Abort,
+    alloc: Global,
+    paged: &Paged,
+    piece: usize,
+) -> Result<bool, SessionFault> {
+    let (row, pages, out) = *paged;
+    let (done, _, watch, host) = edited(rt, alloc, row, None, (piece, HostCall::Read, 0))?;
+    Ok(
+        !done.coded
+            && !done.refused
+            && done.pages == pages
+            && watch.asked == pages
+            && host.mem().file(b"out") == Some(out),
+    )
+}
+
 #[test]
 fn pages_are_edited(rt: HostRuntime) -> Result<(), Fail> {
-    for (number, (row, pages, out)) in EDITED.iter().enumerate() {
-        for piece in [1, 4096] {
-            let failing = (piece, HostCall::Read, 0);
-            let (done, _, watch, host) = edited(&rt, rt.alloc(), *row, None, failing)?;
-            assert!(rt; !done.coded && !done.refused, "row {number}");
-            assert_eq!(rt; done.pages, *pages, "row {number}");
-            assert_eq!(rt; watch.asked, *pages, "row {number}");
-            assert_eq!(rt; host.mem().file(b"out"), Some(*out), "row {number}");
-        }
+    for (number, paged) in EDITED.iter().enumerate() {
+        expect_row(&rt, is_paged(&rt, rt.alloc(), paged, 1)?, number);
+        expect_row(&rt, is_paged(&rt, rt.alloc(), paged, 4096)?, number);
     }
     Ok(())
+}
+
+/// Files that an edit of the whole leaves as they are.
+const WHOLES: [&[u8]; 10] = [
+    b"",
+    b"a",
+    b"\x0c",
+    b"a\x0c",
+    b"\x0ca",
+    b"a\x0cb",
+    b"a\x0c\x0cb",
+    b"\x0c\x0c",
+    b"a\x0cb\x0c",
+    b"\x0ca\x0c\x0c\x0cb\n\x0c",
+];
+
+// Does a file stay as it is?
+fn stays(rt: &impl Abort, alloc: Global, input: &'static [u8]) -> Result<bool, SessionFault> {
+    let row = (STAYS, input, Pages::Whole, 0);
+    let (done, writer, _, host) = edited(rt, alloc, row, None, NONE)?;
+    Ok(
+        host.mem().file(b"out") == Some(input)
+            && writer.is_empty()
+            && done.pages == 1
+            && done.steps == 3,
+    )
 }
 
 #[test]
 fn a_whole_stays(rt: HostRuntime) -> Result<(), Fail> {
-    let inputs: [&[u8]; 10] = [
-        b"",
-        b"a",
-        b"\x0c",
-        b"a\x0c",
-        b"\x0ca",
-        b"a\x0cb",
-        b"a\x0c\x0cb",
-        b"\x0c\x0c",
-        b"a\x0cb\x0c",
-        b"\x0ca\x0c\x0c\x0cb\n\x0c",
-    ];
-    for input in inputs {
-        let row = (STAYS, input, Pages::Whole, 0);
-        let (done, writer, _, host) = edited(&rt, rt.alloc(), row, None, NONE)?;
-        assert_eq!(rt; host.mem().file(b"out"), Some(input));
-        assert!(rt; writer.is_empty());
-        assert_eq!(rt; done.pages, 1);
-        assert_eq!(rt; done.steps, 3);
+    for (number, input) in WHOLES.iter().enumerate() {
+        expect_row(&rt, stays(&rt, rt.alloc(), input)?, number);
     }
     Ok(())
+}
+
+/// Two pages, each with a word to be marked.
+const TWO: &[u8] = b"xfoo\x0cfoo";
+
+// Is a run refused, of so many, with this much held and read ahead, behind so many pages?
+fn is_refused(
+    rt: &impl Abort,
+    alloc: Global,
+    refuses: u64,
+    seen: (u128, usize),
+    pages: u64,
+) -> Result<bool, SessionFault> {
+    let row = (MARKS, TWO, Pages::Each, refuses);
+    let (done, writer, watch, host) = edited(rt, alloc, row, None, NONE)?;
+    Ok(
+        done.refused
+            && !done.coded
+            && done.pages == pages
+            && watch.asked == refuses
+            && (watch.held, watch.read_ahead) == seen
+            && host.mem().file(b"out").is_none()
+            && writer.is_empty(),
+    )
 }
 
 #[test]
 fn a_guard_is_asked_and_hears(rt: HostRuntime) -> Result<(), Fail> {
-    let row = (MARKS, b"xfoo\x0cfoo".as_slice(), Pages::Each, 0);
+    let row = (MARKS, TWO, Pages::Each, 0);
     let (_, _, watch, _) = edited(&rt, rt.alloc(), row, None, NONE)?;
-    // what opens the files, two runs, what turns to the second page, and what closes the output
-    assert_eq!(rt; watch.heard, 5);
-    // the page and the 12 characters of the macro; all has been read
-    assert_eq!(rt; watch.held, 15);
-    assert_eq!(rt; watch.read_ahead, 0);
-    // the refused run, and how many pages are edited then
-    for (refuses, held, read_ahead) in [(1, 16, 3), (2, 15, 0)] {
-        let row = (MARKS, b"xfoo\x0cfoo".as_slice(), Pages::Each, refuses);
-        let (done, writer, watch, host) = edited(&rt, rt.alloc(), row, None, NONE)?;
-        assert!(rt; done.refused && !done.coded);
-        assert_eq!(rt; done.pages, refuses - 1);
-        assert_eq!(rt; watch.asked, refuses);
-        assert_eq!(rt; watch.held, held);
-        assert_eq!(rt; watch.read_ahead, read_ahead);
-        assert!(rt; host.mem().file(b"out").is_none() && writer.is_empty());
-    }
+    // what opens the files, two runs, what turns to the second page, and what closes the output;
+    // the page and the 12 characters of the macro are held, and all has been read
+    let is_so = watch.heard == 5 && watch.held == 15 && watch.read_ahead == 0;
+    expect(&rt, is_so, "what is heard");
+    expect(
+        &rt,
+        is_refused(&rt, rt.alloc(), 1, (16, 3), 0)?,
+        "the first run",
+    );
+    expect(
+        &rt,
+        is_refused(&rt, rt.alloc(), 2, (15, 0), 1)?,
+        "the second run",
+    );
     Ok(())
+}
+
+/// Which call fails, what is written, and the pages and the steps that were done before.
+type Dropped = (Failing, Pages, &'static [u8], u64, u64);
+
+const DROPPED: [Dropped; 6] = [
+    ((4096, HostCall::OpenIn, 1), Pages::Each, b"?FNF\r\n", 0, 0),
+    ((1, HostCall::Read, 6), Pages::Each, b"?INP\r\n", 1, 3),
+    ((4096, HostCall::Write, 1), Pages::Each, b"?OUT\r\n", 1, 3),
+    (
+        (4096, HostCall::CloseOut, 1),
+        Pages::Each,
+        b"?OUT\r\n",
+        2,
+        6,
+    ),
+    ((1, HostCall::Read, 6), Pages::Whole, b"?INP\r\n", 0, 0),
+    ((4096, HostCall::Write, 1), Pages::Whole, b"?OUT\r\n", 1, 3),
+];
+
+// Is the output dropped as the row says?
+fn is_dropped(rt: &impl Abort, alloc: Global, dropped: &Dropped) -> Result<bool, SessionFault> {
+    let (failing, pages, written, count, steps) = *dropped;
+    let row = (STAYS, TWO, pages, 0);
+    let (done, writer, _, host) = edited(rt, alloc, row, None, failing)?;
+    Ok(
+        done.coded
+            && !done.refused
+            && writer.as_slice() == written
+            && done.pages == count
+            && done.steps == steps
+            && host.mem().file(b"out").is_none(),
+    )
 }
 
 #[test]
 fn a_code_drops_the_output(rt: HostRuntime) -> Result<(), Fail> {
-    // which call fails, what is written, and the pages that were edited before
-    let rows: [(Failing, Pages, &[u8], u64); 6] = [
-        ((4096, HostCall::OpenIn, 1), Pages::Each, b"?FNF\r\n", 0),
-        ((1, HostCall::Read, 6), Pages::Each, b"?INP\r\n", 1),
-        ((4096, HostCall::Write, 1), Pages::Each, b"?OUT\r\n", 1),
-        ((4096, HostCall::CloseOut, 1), Pages::Each, b"?OUT\r\n", 2),
-        ((1, HostCall::Read, 6), Pages::Whole, b"?INP\r\n", 0),
-        ((4096, HostCall::Write, 1), Pages::Whole, b"?OUT\r\n", 1),
-    ];
-    for (failing, pages, written, count) in rows {
-        let row = (STAYS, b"xfoo\x0cfoo".as_slice(), pages, 0);
-        let (done, writer, _, host) = edited(&rt, rt.alloc(), row, None, failing)?;
-        assert!(rt; done.coded && !done.refused);
-        assert_eq!(rt; writer.as_slice(), written);
-        assert_eq!(rt; done.pages, count);
-        assert_eq!(rt; done.steps, 3 * count);
-        assert!(rt; host.mem().file(b"out").is_none());
+    for (number, dropped) in DROPPED.iter().enumerate() {
+        expect_row(&rt, is_dropped(&rt, rt.alloc(), dropped)?, number);
     }
     Ok(())
 }
@@ -238,9 +286,17 @@ fn each_page_has_the_argument(rt: HostRuntime) -> Result<(), Fail> {
     let repeat = b"!TECO-LIB 2 A 1 10!@^UA/<Ia\x1b>/".as_slice();
     let row = (repeat, b"x\x0cy".as_slice(), Pages::Each, 0);
     let (done, _, _, host) = edited(&rt, rt.alloc(), row, Some(2), NONE)?;
-    assert!(rt; !done.coded);
-    assert_eq!(rt; host.mem().file(b"out"), Some(b"aax\x0caay".as_slice()));
+    let out = host.mem().file(b"out");
+    expect(
+        &rt,
+        !done.coded && out == Some(b"aax\x0caay".as_slice()),
+        "each page",
+    );
     let refused = edited(&rt, rt.alloc(), row, Some(11), NONE);
-    assert!(rt; matches!(refused, Err(SessionFault::Argument)));
+    expect(
+        &rt,
+        matches!(refused, Err(SessionFault::Argument)),
+        "the argument",
+    );
     Ok(())
 }

@@ -24,9 +24,11 @@ const TWICE: &[u8] = b"@^UA/HXB2<GB>/";
 /// Goes to the beginning, three times.
 const JUMPS: &[u8] = b"@^UA/3<J>/";
 
-/// Choices that the verifier does not make: what is said from the commands on, and whether it is
-/// accepted.
-const CHOICES: [(&[u8], &[u8], bool); 16] = [
+/// A library, what is said from the commands on, and whether it is accepted.
+type Choice = (&'static [u8], &'static [u8], bool);
+
+/// Choices that the verifier does not make.
+const CHOICES: [Choice; 16] = [
     (
         MARK,
         b"commands 8 + 4*N\nsize 1 + 2*N + N^8\nloop 3 held 2*N + N^8 kept texts -\n",
@@ -152,72 +154,107 @@ fn is_refused_with_others(
     Ok(true)
 }
 
+// Is a text refused that has another byte at a place, and one that ends there?
+fn is_refused_at(
+    rt: &impl Abort,
+    alloc: Global,
+    library: &Library,
+    text: &[u8],
+    place: usize,
+) -> Result<bool, AllocError>
+    requires { place < length text.now }
+{
+    let is_so = is_refused_with_others(rt, alloc, library, text, place)?;
+    Ok(is_so && is_refused(rt, alloc, library, &text[..place]))
+}
+
 #[test]
 fn another_byte_is_refused(rt: HostRuntime) -> Result<(), Fail> {
     let alloc = rt.alloc();
     let library = library_of(&rt, alloc, MARK);
     let certificate = joined(alloc, &LINES)?;
     let text = certificate.as_slice();
-    assert!(rt; is_accepted(&rt, alloc, &library, text));
+    expect(
+        &rt,
+        is_accepted(&rt, alloc, &library, text),
+        "the text itself",
+    );
     for place in 0..text.len() {
-        assert!(rt;
-            is_refused_with_others(&rt, alloc, &library, text, place)?,
-            "{place}"
-        );
-        assert!(rt; is_refused(&rt, alloc, &library, &text[..place]), "{place}");
+        let is_so = is_refused_at(&rt, alloc, &library, text, place)?;
+        expect_row(&rt, is_so, place);
     }
     let longer = joined(alloc, &[text, b"\n"])?;
-    assert!(rt; is_refused(&rt, alloc, &library, longer.as_slice()));
+    expect(
+        &rt,
+        is_refused(&rt, alloc, &library, longer.as_slice()),
+        "a longer text",
+    );
     Ok(())
+}
+
+// The certificate with a line twice.
+fn doubled(alloc: Global, line: usize) -> Result<Vec<u8>, AllocError>
+    requires { line < 7 }
+{
+    let front = joined(alloc, &LINES[..=line])?;
+    let back = joined(alloc, &LINES[line..])?;
+    joined(alloc, &[front.as_slice(), back.as_slice()])
+}
+
+// The certificate with a line and the next one in each other's places.
+fn swapped(alloc: Global, line: usize) -> Result<Vec<u8>, AllocError>
+    requires { line < 6 }
+{
+    let mut lines = LINES;
+    lines.swap(line, line + 1);
+    joined(alloc, &lines)
 }
 
 #[test]
 fn other_lines_are_refused(rt: HostRuntime) -> Result<(), Fail> {
     let alloc = rt.alloc();
     let library = library_of(&rt, alloc, MARK);
-    for i in 0..LINES.len() {
-        let front = joined(alloc, &LINES[..=i])?;
-        let back = joined(alloc, &LINES[i..])?;
-        let doubled = joined(alloc, &[front.as_slice(), back.as_slice()])?;
-        assert!(rt; is_refused(&rt, alloc, &library, doubled.as_slice()), "{i}");
-        if i > 0 {
-            let mut lines = LINES;
-            lines.swap(i - 1, i);
-            let swapped = joined(alloc, &lines)?;
-            assert!(rt; is_refused(&rt, alloc, &library, swapped.as_slice()), "{i}");
-        }
+    for line in 0..7 {
+        let text = doubled(alloc, line)?;
+        expect_row(&rt, is_refused(&rt, alloc, &library, text.as_slice()), line);
+    }
+    for line in 0..6 {
+        let text = swapped(alloc, line)?;
+        expect_row(&rt, is_refused(&rt, alloc, &library, text.as_slice()), line);
     }
     Ok(())
 }
 
 // What is held would pass 64 bits with one character: the promise is for no text but the empty one.
 #[test]
-fn a_size_that_no_text_has(rt: HostRuntime) -> Result<(), Fail> {
+fn a_size_that_no_text_has(rt: HostRuntime) {
     let alloc = rt.alloc();
     let library = library_of(&rt, alloc, MARK);
     let text =
         b"TECO-CERT 1\nentry A\nneeds -\ncommands 8 + 4*N\nsize 1 + 18446744073709551615*N\nloop 3 held 18446744073709551615*N kept texts -\nend\n";
-    match checked(&rt, alloc, &library, text) {
-        Ok(verified) => {
-            assert_eq!(rt; verified.size().at(0), Some(1));
-            assert_eq!(rt; verified.size().at(1), None);
-        }
-        Err(_) => panic!(rt; "accepted"),
-    }
-    Ok(())
+    let is_so = match checked(&rt, alloc, &library, text) {
+        Ok(verified) => verified.size().at(0) == Some(1) && verified.size().at(1).is_none(),
+        Err(_) => false,
+    };
+    expect(&rt, is_so, "a size");
+}
+
+// Is a choice judged as it says?
+fn is_judged(rt: &impl Abort, alloc: Global, choice: &Choice) -> Result<bool, AllocError> {
+    let (file, said, accepted) = *choice;
+    let library = library_of(rt, alloc, file);
+    let text = joined(alloc, &[b"TECO-CERT 1\nentry A\nneeds -\n", said, b"end\n"])?;
+    Ok(if accepted {
+        is_accepted(rt, alloc, &library, text.as_slice())
+    } else {
+        is_refused(rt, alloc, &library, text.as_slice())
+    })
 }
 
 #[test]
 fn other_choices_have_their_own_numbers(rt: HostRuntime) -> Result<(), Fail> {
-    let alloc = rt.alloc();
-    for (i, (file, said, accepted)) in CHOICES.iter().enumerate() {
-        let library = library_of(&rt, alloc, file);
-        let text = joined(alloc, &[b"TECO-CERT 1\nentry A\nneeds -\n", said, b"end\n"])?;
-        if *accepted {
-            assert!(rt; is_accepted(&rt, alloc, &library, text.as_slice()), "{i}");
-        } else {
-            assert!(rt; is_refused(&rt, alloc, &library, text.as_slice()), "{i}");
-        }
+    for (number, choice) in CHOICES.iter().enumerate() {
+        expect_row(&rt, is_judged(&rt, rt.alloc(), choice)?, number);
     }
     Ok(())
 }

@@ -1,31 +1,20 @@
 //! Edits over files in memory.
+use crate::trial::{expect, expect_row, library_of, verified_of};
 use std::alloc::Global;
 use std::process::Abort;
 use std::test::Fail;
 use teco_apply::apply;
-use teco_base::{LIMIT, Reg};
 use teco_pages::{Host, HostCall, MemHost, TestHost};
 use teco_run::Machine;
 use teco_session::SessionFault;
 use teco_text::{TextStore, VecText};
-use teco_verify::{Library, Verified, verify};
+use teco_verify::Verified;
 
 /// Puts a mark behind each `foo` of the first page.
 const MARKS: &[u8] = b"@^UA/J<Sfoo\x1b;I!\x1b>/";
 
 /// What it edits: two pages.
 const INPUT: &[u8] = b"xfoo\x0cfoo";
-
-// The macro in A of a library file.
-fn macro_of<'l>(rt: &impl Abort, alloc: Global, library: &'l Library) -> Verified<'l> {
-    let Some(entry) = Reg::of(b'A') else {
-        panic!(rt; "a register");
-    };
-    let Ok(verified) = verify(alloc, library, entry) else {
-        panic!(rt; "refused");
-    };
-    verified
-}
 
 // Edits the file `in` into the file `out`, and tells whether a code was written.
 fn is_coded<H: Host>(
@@ -80,19 +69,11 @@ const ROWS: [Row; 9] = [
     ),
 ];
 
-// Edits what is edited, over a host that fails as the row says.
-fn expect_edit(
-    rt: &impl Abort,
-    alloc: Global,
-    row: Row,
-    number: usize,
-) -> Result<(), SessionFault> {
-    let (file, piece, call, nth, written, out) = row;
-    assert!(rt; file.len() <= LIMIT);
-    let Ok(library) = Library::read(alloc, file) else {
-        panic!(rt; "no library");
-    };
-    let verified = macro_of(rt, alloc, &library);
+// Is what is edited as the row says, over a host that fails as it says?
+fn is_as_told(rt: &impl Abort, alloc: Global, row: &Row) -> Result<bool, SessionFault> {
+    let (file, piece, call, nth, written, out) = *row;
+    let library = library_of(rt, alloc, file);
+    let verified = verified_of(rt, alloc, &library);
     let mut mem = MemHost::new(alloc);
     mem.put(b"in", INPUT)?;
     assert!(rt; piece > 0);
@@ -108,17 +89,18 @@ fn expect_edit(
         &mut host,
         &mut writer,
     )?;
-    assert_eq!(rt; coded, out.is_none(), "row {number}");
-    assert_eq!(rt; writer.as_slice(), written, "row {number}");
-    assert_eq!(rt; host.mem().file(b"out"), out, "row {number}");
-    assert!(rt; !machine.has_output(), "row {number}");
-    Ok(())
+    Ok(
+        coded == out.is_none()
+            && writer.as_slice() == written
+            && host.mem().file(b"out") == out
+            && !machine.has_output(),
+    )
 }
 
 #[test]
 fn files_are_edited(rt: HostRuntime) -> Result<(), Fail> {
-    for (i, row) in ROWS.iter().enumerate() {
-        expect_edit(&rt, rt.alloc(), *row, i)?;
+    for (number, row) in ROWS.iter().enumerate() {
+        expect_row(&rt, is_as_told(&rt, rt.alloc(), row)?, number);
     }
     Ok(())
 }
@@ -126,27 +108,27 @@ fn files_are_edited(rt: HostRuntime) -> Result<(), Fail> {
 #[test]
 fn an_edit_fails_in_writing(rt: HostRuntime) -> Result<(), Fail> {
     let alloc = rt.alloc();
-    let Ok(library) = Library::read(alloc, MARKS) else {
-        panic!(rt; "no library");
-    };
-    let verified = macro_of(&rt, alloc, &library);
+    let library = library_of(&rt, alloc, MARKS);
+    let verified = verified_of(&rt, alloc, &library);
     let mut mem = MemHost::new(alloc);
     mem.put(b"in", INPUT)?;
     let mut host = TestHost::new(mem, 1, HostCall::Write, 2);
     let mut machine = Machine::new(alloc, VecText::new(alloc));
     let mut writer = Vec::new(alloc);
-    assert!(rt;
-        is_coded(
-            &rt,
-            alloc,
-            &verified,
-            None,
-            &mut machine,
-            &mut host,
-            &mut writer
-        )?
+    let coded = is_coded(
+        &rt,
+        alloc,
+        &verified,
+        None,
+        &mut machine,
+        &mut host,
+        &mut writer,
+    )?;
+    expect(
+        &rt,
+        coded && is_edited(&machine, b"xfoo!"),
+        "the page is edited",
     );
-    assert!(rt; is_edited(&machine, b"xfoo!"));
     Ok(())
 }
 
@@ -170,24 +152,16 @@ const GIVEN: [Given; 10] = [
     (b"!TECO-LIB 2 B 1 10!@^UA/Ia\x1b/", Some(1), None),
 ];
 
-// Edits what is edited with an argument, or does nothing.
-fn expect_given(
-    rt: &impl Abort,
-    alloc: Global,
-    row: Given,
-    number: usize,
-) -> Result<(), SessionFault> {
-    let (file, given, out) = row;
-    assert!(rt; file.len() <= LIMIT);
-    let Ok(library) = Library::read(alloc, file) else {
-        panic!(rt; "no library");
-    };
-    let verified = macro_of(rt, alloc, &library);
+// Is what is edited with an argument as the row says? Where the argument is not taken, nothing is.
+fn is_given(rt: &impl Abort, alloc: Global, row: &Given) -> Result<bool, SessionFault> {
+    let (file, given, out) = *row;
+    let library = library_of(rt, alloc, file);
+    let verified = verified_of(rt, alloc, &library);
     let mut host = MemHost::new(alloc);
     host.put(b"in", INPUT)?;
     let mut machine = Machine::new(alloc, VecText::new(alloc));
     let mut writer = Vec::new(alloc);
-    match is_coded(
+    let answer = is_coded(
         rt,
         alloc,
         &verified,
@@ -195,22 +169,19 @@ fn expect_given(
         &mut machine,
         &mut host,
         &mut writer,
-    ) {
-        Ok(coded) => assert!(rt; out.is_some() && !coded, "row {number}"),
-        Err(SessionFault::Argument) => {
-            assert!(rt; out.is_none() && is_edited(&machine, b""), "row {number}");
-        }
+    );
+    let is_so = match answer {
+        Ok(coded) => out.is_some() && !coded,
+        Err(SessionFault::Argument) => out.is_none() && is_edited(&machine, b""),
         Err(other) => return Err(other),
-    }
-    assert_eq!(rt; host.file(b"out"), out, "row {number}");
-    assert!(rt; writer.is_empty(), "row {number}");
-    Ok(())
+    };
+    Ok(is_so && host.file(b"out") == out && writer.is_empty())
 }
 
 #[test]
 fn arguments_are_judged_first(rt: HostRuntime) -> Result<(), Fail> {
-    for (i, row) in GIVEN.iter().enumerate() {
-        expect_given(&rt, rt.alloc(), *row, i)?;
+    for (number, row) in GIVEN.iter().enumerate() {
+        expect_row(&rt, is_given(&rt, rt.alloc(), row)?, number);
     }
     Ok(())
 }

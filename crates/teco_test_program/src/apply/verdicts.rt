@@ -131,53 +131,86 @@ fn keeps_its_word(
     Ok(is_within(verified, n, steps))
 }
 
+// Is the macro A of a library accepted, with this certificate, which is accepted?
+fn is_certified(
+    rt: &impl Abort,
+    alloc: Global,
+    file: &[u8],
+    text: &str,
+) -> Result<bool, AllocError> {
+    let library = library_of(rt, alloc, file);
+    let verified = verified_of(rt, alloc, &library);
+    let certificate = verified.certificate(alloc)?;
+    Ok(
+        certificate.as_slice() == text.as_bytes()
+            && is_accepted(rt, alloc, &library, text.as_bytes()),
+    )
+}
+
 #[test]
 fn accepts_as_much_as_there_may_be(rt: HostRuntime) -> Result<(), Fail> {
     let alloc = rt.alloc();
-    for (file, text) in ACCEPTED {
-        let library = library_of(&rt, alloc, file);
-        let verified = verified_of(&rt, alloc, &library);
-        assert_eq!(rt; verified.certificate(alloc)?.as_slice(), text.as_bytes());
-        assert!(rt;
-            is_accepted(&rt, alloc, &library, text.as_bytes()),
-            "{text}"
-        );
+    for (file, text) in ACCEPTED.iter() {
+        expect(&rt, is_certified(&rt, alloc, file, text)?, text);
     }
-    let library = library_of(&rt, alloc, motions(alloc, MOTIONS)?.as_slice());
-    let verified = verified_of(&rt, alloc, &library);
+    let most = motions(alloc, MOTIONS)?;
     let text = "TECO-CERT 1\nentry A\nneeds -\ncommands 4096\nsize N\nend\n";
-    assert_eq!(rt; verified.certificate(alloc)?.as_slice(), text.as_bytes());
+    expect(&rt, is_certified(&rt, alloc, most.as_slice(), text)?, text);
     Ok(())
 }
 
 #[test]
 fn refuses_what_goes_past_it(rt: HostRuntime) -> Result<(), Fail> {
     let alloc = rt.alloc();
-    for (i, (file, name, register, place)) in REFUSED.iter().enumerate() {
+    for (number, (file, name, register, place)) in REFUSED.iter().enumerate() {
         let library = library_of(&rt, alloc, file);
-        assert!(rt;
+        expect_row(
+            &rt,
             is_refused_at(alloc, &library, name, *register, *place),
-            "{i}"
+            number,
         );
     }
-    let library = library_of(&rt, alloc, motions(alloc, MOTIONS + 1)?.as_slice());
-    assert!(rt; is_refused_at(alloc, &library, "X16", b'A', MOTIONS + 1));
+    let more = motions(alloc, MOTIONS + 1)?;
+    let library = library_of(&rt, alloc, more.as_slice());
+    expect(
+        &rt,
+        is_refused_at(alloc, &library, "X16", b'A', MOTIONS + 1),
+        "one more",
+    );
     Ok(())
 }
 
-#[test]
-fn two_bytes_have_a_verdict(rt: HostRuntime) -> Result<(), Fail> {
-    let alloc = rt.alloc();
-    // the first from a blank on, past all letters
-    for number in 0x2000..0x6000_u16 {
-        let [a, b] = number.to_be_bytes();
-        if let Ok(library) = Library::read(alloc, &[b'^', b'U', b'A', a, b, ESC]) {
-            match verdict(alloc, &library) {
-                Ok(verified) => assert!(rt; keeps_its_word(&rt, alloc, &verified)?, "{number}"),
-                Err(Refusal::No { register, .. }) => assert!(rt; register.is_some(), "{number}"),
-                Err(Refusal::Memory) => panic!(rt; "memory"),
-            }
-        }
+// Does the macro that is two bytes keep its word, or is it refused at a register? A file that is no
+// library has none.
+fn has_verdict(rt: &impl Abort, alloc: Global, bytes: [u8; 2]) -> Result<bool, AllocError> {
+    let [a, b] = bytes;
+    let Ok(library) = Library::read(alloc, &[b'^', b'U', b'A', a, b, ESC]) else {
+        return Ok(true);
+    };
+    match verdict(alloc, &library) {
+        Ok(verified) => keeps_its_word(rt, alloc, &verified),
+        Err(Refusal::No { register, .. }) => Ok(register.is_some()),
+        Err(Refusal::Memory) => Ok(false),
+    }
+}
+
+// Macros of two bytes have verdicts, from one number of them to before another.
+fn expect_verdicts(rt: &impl Abort, alloc: Global, from: u16, to: u16) -> Result<(), AllocError> {
+    for number in from..to {
+        let is_so = has_verdict(rt, alloc, number.to_be_bytes())?;
+        expect_row(rt, is_so, usize::from(number));
     }
     Ok(())
+}
+
+// The first byte is one from a blank to a question mark.
+#[test]
+fn two_bytes_up_to_a_question_mark(rt: HostRuntime) -> Result<(), Fail> {
+    Ok(expect_verdicts(&rt, rt.alloc(), 0x2000, 0x4000)?)
+}
+
+// The first byte is a letter, or one beside the letters.
+#[test]
+fn two_bytes_from_an_at_sign_on(rt: HostRuntime) -> Result<(), Fail> {
+    Ok(expect_verdicts(&rt, rt.alloc(), 0x4000, 0x6000)?)
 }

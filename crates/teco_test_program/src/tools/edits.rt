@@ -1,5 +1,6 @@
-// Files that are edited, by pages and in place.
-use super::{kept, library_file, task, text_of};
+//! Files that are edited, by pages and in place.
+use super::task;
+use crate::trial::{expect, expect_text, kept, library_file};
 use std::alloc::Global;
 use std::process::Abort;
 use std::test::Fail;
@@ -9,7 +10,7 @@ use teco_pages::FileHost;
 use teco_tools::{
     INPUT, InPlace, Names, OUTPUT, Setting, Streams, Task, ToolFault, apply_macro, edit_files,
 };
-use teco_verdicts::{Escape, Outcome};
+use teco_verdicts::{Escape, Outcome, Request};
 
 /// Puts bar in the place of each foo.
 const REPLACES: &[u8] = b"@^UA/J<FSfoo$bar$;>/";
@@ -63,35 +64,58 @@ const ROWS: [Row; 5] = [
     ),
 ];
 
-#[test]
-fn pages_are_edited(rt: HostRuntime) -> Result<(), Fail> {
-    let request = library_file(&rt, "somleut_tools_pages", REPLACES)?;
-    fs::write(&rt, "somleut_tools_in", THREE)?;
+// The edit of a row makes what it says.
+fn expect_pages(
+    abort: &impl Abort,
+    rt: &HostRuntime,
+    request: Request<'static>,
+    row: &Row,
+) -> Result<(), Fail> {
+    let (pages, is_strict, tells_counts, made, wanted, said) = *row;
+    let task = Task {
+        pages,
+        is_strict,
+        tells_counts,
+        ..task(abort, request)
+    };
     let names = Names {
         source: b"somleut_tools_in",
         target: b"somleut_tools_out",
     };
-    for (i, (pages, is_strict, tells_counts, made, wanted, said)) in ROWS.iter().enumerate() {
-        let task = Task {
-            pages: *pages,
-            is_strict: *is_strict,
-            tells_counts: *tells_counts,
-            ..task(&rt, request)
-        };
-        let mut console = kept(&rt);
-        let mut host = FileHost::new(rt.alloc(), rt);
-        let outcome = apply_macro(&rt, &mut console, &task, names, &mut host)?;
-        assert_eq!(rt; outcome, *wanted, "row {i}");
-        let (typed, messages) = console.into_parts();
-        assert!(rt; typed.is_empty(), "row {i}");
-        assert_eq!(rt; text_of(&rt, &messages)?.as_str(), *said, "row {i}");
-        let found = fs::read(&rt, "somleut_tools_out")?;
-        assert_eq!(rt; found.as_slice(), *made, "row {i}");
-        fs::remove_file(&rt, "somleut_tools_out")?;
-    }
-    fs::remove_file(&rt, "somleut_tools_pages")?;
-    fs::remove_file(&rt, "somleut_tools_in")?;
+    let mut console = kept(rt);
+    let mut host = FileHost::new(rt.alloc(), *rt);
+    let outcome = apply_macro(rt, &mut console, &task, names, &mut host)?;
+    let (typed, messages) = console.into_parts();
+    expect_text(abort, &messages, said);
+    expect_file(abort, rt, "somleut_tools_out", made)?;
+    expect(abort, outcome == wanted && typed.is_empty(), "an outcome");
+    fs::remove_file(rt, "somleut_tools_out")?;
     Ok(())
+}
+
+// A file has these bytes.
+fn expect_file(abort: &impl Abort, rt: &HostRuntime, name: &str, bytes: &[u8]) -> Result<(), Fail> {
+    let found = fs::read(rt, name)?;
+    expect(abort, found.as_slice() == bytes, name);
+    Ok(())
+}
+
+// Files of these names go.
+fn remove(rt: &HostRuntime, names: &[&str]) -> Result<(), Fail> {
+    for name in names {
+        fs::remove_file(rt, name)?;
+    }
+    Ok(())
+}
+
+#[test]
+fn pages_are_edited(rt: HostRuntime) -> Result<(), Fail> {
+    let request = library_file(&rt, "somleut_tools_pages", REPLACES)?;
+    fs::write(&rt, "somleut_tools_in", THREE)?;
+    for row in ROWS.iter() {
+        expect_pages(&rt, &rt, request, row)?;
+    }
+    remove(&rt, &["somleut_tools_pages", "somleut_tools_in"])
 }
 
 /// Inserts so many characters that the promise holds for no text.
@@ -113,60 +137,62 @@ fn a_strict_edit_is_refused_outside_the_promise(rt: HostRuntime) -> Result<(), F
     let mut console = kept(&rt);
     let mut host = FileHost::new(rt.alloc(), rt);
     let outcome = apply_macro(&rt, &mut console, &task, names, &mut host)?;
-    assert_eq!(rt; outcome, Outcome::Refused);
     let (_, messages) = console.into_parts();
-    assert_eq!(rt;
-        text_of(&rt, &messages)?.as_str(),
-        "teco: somleut_tools_given: N = 21 is outside the promise, which holds for no text\n"
+    expect_text(
+        &rt,
+        &messages,
+        "teco: somleut_tools_given: N = 21 is outside the promise, which holds for no text\n",
     );
-    assert_eq!(rt;
-        fs::read(&rt, "somleut_tools_kept")?.as_slice(),
-        b"old".as_slice()
-    );
-    for name in [
+    expect(&rt, outcome == Outcome::Refused, "an outcome");
+    expect_file(&rt, &rt, "somleut_tools_kept", b"old")?;
+    let names = [
         "somleut_tools_strict",
         "somleut_tools_given",
         "somleut_tools_kept",
-    ] {
-        fs::remove_file(&rt, name)?;
-    }
+    ];
+    remove(&rt, &names)
+}
+
+const STREAMS: Names<'static> = Names {
+    source: INPUT,
+    target: OUTPUT,
+};
+
+// The edit of these pages of a stream makes this.
+fn expect_stream(
+    abort: &impl Abort,
+    rt: &HostRuntime,
+    request: Request<'static>,
+    pages: Pages,
+    made: &[u8],
+) -> Result<(), Fail> {
+    let task = Task {
+        pages,
+        ..task(abort, request)
+    };
+    let files = FileHost::new(rt.alloc(), *rt);
+    let mut host = Streams::new(rt.alloc(), files, THREE, Vec::new(rt.alloc()));
+    let outcome = apply_macro(rt, &mut kept(rt), &task, STREAMS, &mut host)?;
+    let (_, written) = host.into_parts();
+    let is_made = outcome == Outcome::Done && written.as_slice() == made;
+    expect(abort, is_made, "a stream");
     Ok(())
 }
 
 #[test]
 fn streams_are_edited(rt: HostRuntime) -> Result<(), Fail> {
     let request = library_file(&rt, "somleut_tools_stream", REPLACES)?;
-    let names = Names {
-        source: INPUT,
-        target: OUTPUT,
-    };
-    for (pages, made) in [
-        (Pages::First, b"a bar\x0cfoo\x0c\x0cfoo"),
-        (Pages::Each, b"a bar\x0cbar\x0c\x0cbar"),
-    ] {
-        let task = Task {
-            pages,
-            ..task(&rt, request)
-        };
-        let mut console = kept(&rt);
-        let files = FileHost::new(rt.alloc(), rt);
-        let mut host = Streams::new(rt.alloc(), files, THREE, Vec::new(rt.alloc()));
-        let outcome = apply_macro(&rt, &mut console, &task, names, &mut host)?;
-        let (_, messages) = console.into_parts();
-        assert_eq!(rt; outcome, Outcome::Done, "{}", text_of(&rt, &messages)?);
-        let (_, written) = host.into_parts();
-        assert_eq!(rt; written.as_slice(), made.as_slice());
-    }
+    expect_stream(&rt, &rt, request, Pages::First, b"a bar\x0cfoo\x0c\x0cfoo")?;
+    expect_stream(&rt, &rt, request, Pages::Each, b"a bar\x0cbar\x0c\x0cbar")?;
     let task = Task {
         is_strict: true,
         ..task(&rt, request)
     };
     let files = FileHost::new(rt.alloc(), rt);
     let mut host = Streams::new(rt.alloc(), files, THREE, io::sink());
-    let outcome = apply_macro(&rt, &mut kept(&rt), &task, names, &mut host);
-    assert!(rt; matches!(outcome, Err(ToolFault::Unsized)));
-    fs::remove_file(&rt, "somleut_tools_stream")?;
-    Ok(())
+    let outcome = apply_macro(&rt, &mut kept(&rt), &task, STREAMS, &mut host);
+    expect(&rt, matches!(outcome, Err(ToolFault::Unsized)), "no length");
+    remove(&rt, &["somleut_tools_stream"])
 }
 
 /// Gets the text of register B in front.
@@ -194,20 +220,16 @@ fn registers_are_set(rt: HostRuntime) -> Result<(), Fail> {
     };
     let mut host = FileHost::new(rt.alloc(), rt);
     let outcome = apply_macro(&rt, &mut kept(&rt), &good, names, &mut host)?;
-    assert_eq!(rt; outcome, Outcome::Done);
-    assert_eq!(rt;
-        fs::read(&rt, "somleut_tools_plain")?.as_slice(),
-        b"some text".as_slice()
-    );
+    expect(&rt, outcome == Outcome::Done, "an outcome");
+    expect_file(&rt, &rt, "somleut_tools_plain", b"some text")?;
     let bad = Task {
         settings: &taken,
         ..task(&rt, request)
     };
     let outcome = apply_macro(&rt, &mut kept(&rt), &bad, names, &mut host);
-    assert!(rt; matches!(outcome, Err(ToolFault::Taken { register: 'A' })));
-    fs::remove_file(&rt, "somleut_tools_set")?;
-    fs::remove_file(&rt, "somleut_tools_plain")?;
-    Ok(())
+    let is_taken = matches!(outcome, Err(ToolFault::Taken { register: 'A' }));
+    expect(&rt, is_taken, "a register of the library");
+    remove(&rt, &["somleut_tools_set", "somleut_tools_plain"])
 }
 
 // Whether it is only said what would change, whether files are kept, the last line, and what stands
@@ -244,50 +266,56 @@ const IN_PLACE: [InPlaceRow; 3] = [
     ),
 ];
 
+// The files that are edited in place.
+const FILES: [&str; 3] = [
+    "somleut_tools_one",
+    "somleut_tools_none",
+    "somleut_tools_two",
+];
+
+// The edit of a row leaves and says what it says.
+fn expect_in_place(
+    abort: &impl Abort,
+    rt: &HostRuntime,
+    request: Request<'static>,
+    row: &InPlaceRow,
+) -> Result<(), Fail> {
+    let (is_dry, suffix, said, left, is_kept) = *row;
+    let given = InPlace {
+        files: &FILES,
+        is_dry,
+        suffix,
+    };
+    let mut console = kept(rt);
+    let outcome = edit_files(rt, &mut console, &task(abort, request), &given);
+    expect(abort, matches!(outcome, Ok(Outcome::Coded)), said);
+    let (written, messages) = console.into_parts();
+    expect_text(abort, &written, "?FNF\r\n");
+    expect(abort, messages.ends_with(said.as_bytes()), said);
+    expect_file(abort, rt, "somleut_tools_one", left)?;
+    expect(
+        abort,
+        fs::exists(rt, "somleut_tools_one.old")? == is_kept,
+        said,
+    );
+    Ok(())
+}
+
 #[test]
 fn files_are_edited_in_place(rt: HostRuntime) -> Result<(), Fail> {
     let request = library_file(&rt, "somleut_tools_edit", REPLACES)?;
     fs::write(&rt, "somleut_tools_one", b"a foo")?;
     fs::write(&rt, "somleut_tools_two", b"nothing")?;
-    let files = [
-        "somleut_tools_one",
-        "somleut_tools_none",
-        "somleut_tools_two",
-    ];
-    for (i, (is_dry, suffix, said, left, is_kept)) in IN_PLACE.iter().enumerate() {
-        let given = InPlace {
-            files: &files,
-            is_dry: *is_dry,
-            suffix: *suffix,
-        };
-        let mut console = kept(&rt);
-        let outcome = edit_files(&rt, &mut console, &task(&rt, request), &given);
-        assert!(rt; matches!(outcome, Ok(Outcome::Coded)), "row {i}");
-        let (written, messages) = console.into_parts();
-        assert_eq!(rt; written.as_slice(), b"?FNF\r\n".as_slice(), "row {i}");
-        let messages = text_of(&rt, &messages)?;
-        assert!(rt; messages.as_str().ends_with(said), "row {i}: {messages}");
-        let found = fs::read(&rt, "somleut_tools_one")?;
-        assert_eq!(rt; found.as_slice(), *left, "row {i}");
-        assert_eq!(rt;
-            fs::exists(&rt, "somleut_tools_one.old")?,
-            *is_kept,
-            "row {i}"
-        );
+    for row in IN_PLACE.iter() {
+        expect_in_place(&rt, &rt, request, row)?;
     }
-    for (name, left) in [
-        ("somleut_tools_one.old", b"a foo".as_slice()),
-        ("somleut_tools_two", b"nothing".as_slice()),
-    ] {
-        assert_eq!(rt; fs::read(&rt, name)?.as_slice(), left);
-    }
-    for name in [
+    expect_file(&rt, &rt, "somleut_tools_one.old", b"a foo")?;
+    expect_file(&rt, &rt, "somleut_tools_two", b"nothing")?;
+    let names = [
         "somleut_tools_edit",
         "somleut_tools_one",
         "somleut_tools_one.old",
         "somleut_tools_two",
-    ] {
-        fs::remove_file(&rt, name)?;
-    }
-    Ok(())
+    ];
+    remove(&rt, &names)
 }

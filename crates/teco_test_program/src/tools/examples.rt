@@ -1,17 +1,18 @@
-// The macros of the examples: what each file says, what its certificate is, and what it does.
+//! The macros of the examples: what each file says, what its certificate is, and what it does.
 mod rows;
 
+use crate::trial::{expect, library_of, verified_of};
 use std::alloc::Global;
 use std::process::Abort;
 use std::test::Fail;
 use teco_apply::apply;
-use teco_base::{LIMIT, Reg};
+use teco_base::LIMIT;
 use teco_library::Library;
 use teco_pages::MemHost;
 use teco_run::Machine;
 use teco_source::{Form, Source};
 use teco_text::GapText;
-use teco_verify::{Verified, check_certificate, verify};
+use teco_verify::{Verified, check_certificate};
 
 /// A macro of the examples.
 #[derive(Clone, Copy)]
@@ -27,22 +28,14 @@ pub struct Example {
 }
 
 // The library of an example.
-fn library_of(rt: &impl Abort, alloc: Global, example: &Example) -> Result<Library, Fail> {
+fn library_in(rt: &impl Abort, alloc: Global, example: &Example) -> Result<Library, Fail> {
     let bytes = example.library.to_vec(alloc)?;
     let source = Source::new(alloc, example.name, bytes, Form::Readable)?;
-    let text = source.text();
-    assert!(rt; text.len() <= LIMIT);
-    Ok(Library::read(alloc, text)?)
+    Ok(library_of(rt, alloc, source.text()))
 }
 
-// Edits the text of an example by its macro.
-fn expect_edit(
-    rt: &impl Abort,
-    alloc: Global,
-    example: &Example,
-    verified: &Verified<'_>,
-) -> Result<(), Fail> {
-    let name = example.name;
+// Does the macro of an example make of its text what it says?
+fn makes(alloc: Global, example: &Example, verified: &Verified<'_>) -> Result<bool, Fail> {
     let mut host = MemHost::new(alloc);
     host.put(b"in", example.input)?;
     let mut machine = Machine::new(alloc, GapText::new(alloc));
@@ -57,35 +50,31 @@ fn expect_edit(
         &mut host,
         &mut typed,
     )?;
-    assert!(rt; !done.coded, "{name}");
-    assert_eq!(rt; typed.as_slice(), example.typed, "{name}");
-    assert_eq!(rt; host.file(b"out"), Some(example.output), "{name}");
-    Ok(())
+    Ok(
+        !done.coded
+            && typed.as_slice() == example.typed
+            && host.file(b"out") == Some(example.output),
+    )
 }
 
-// An example is accepted with its certificate, which is accepted, and does what it says.
-fn expect_example(rt: &impl Abort, alloc: Global, example: &Example) -> Result<(), Fail> {
-    let name = example.name;
-    let library = library_of(rt, alloc, example)?;
-    let Some(entry) = Reg::of(b'A') else {
-        panic!(rt; "a register");
-    };
-    let Ok(verified) = verify(alloc, &library, entry) else {
-        panic!(rt; "{name} is refused");
-    };
+// Is an example accepted with its certificate, which is accepted, and does it what it says?
+fn is_as_told(rt: &impl Abort, alloc: Global, example: &Example) -> Result<bool, Fail> {
+    let library = library_in(rt, alloc, example)?;
+    let verified = verified_of(rt, alloc, &library);
     let certificate = verified.certificate(alloc)?;
-    assert_eq!(rt; certificate.as_slice(), example.certificate, "{name}");
-    assert!(rt; example.certificate.len() <= LIMIT);
-    let Ok(checked) = check_certificate(alloc, &library, example.certificate) else {
-        panic!(rt; "the certificate of {name} is refused");
-    };
-    expect_edit(rt, alloc, example, &checked)
+    if certificate.as_slice() != example.certificate || example.certificate.len() > LIMIT {
+        return Ok(false);
+    }
+    match check_certificate(alloc, &library, example.certificate) {
+        Ok(checked) => makes(alloc, example, &checked),
+        Err(_) => Ok(false),
+    }
 }
 
 // Each of some examples is as it says.
 fn expect_examples(rt: &impl Abort, alloc: Global, examples: &[Example]) -> Result<(), Fail> {
     for example in examples {
-        expect_example(rt, alloc, example)?;
+        expect(rt, is_as_told(rt, alloc, example)?, example.name);
     }
     Ok(())
 }
