@@ -3,8 +3,6 @@
 
 mod arguments;
 mod fault;
-#[cfg(test)]
-mod tests;
 mod words;
 
 use crate::arguments::Arguments;
