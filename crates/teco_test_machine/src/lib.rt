@@ -1,5 +1,4 @@
-//! Tests of the lower crates of the machine: elements, scanned texts, searches, pages, the editor,
-//! the commands of files, and runs.
+//! Tests of the editor, of the commands of files, and of runs.
 #![tactic(auto)]
 
 #[cfg(test)]
@@ -7,12 +6,4 @@ mod editor;
 #[cfg(test)]
 mod filing;
 #[cfg(test)]
-mod find;
-#[cfg(test)]
-mod lex;
-#[cfg(test)]
-mod pages;
-#[cfg(test)]
 mod run;
-#[cfg(test)]
-mod scan;

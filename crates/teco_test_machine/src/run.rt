@@ -99,6 +99,10 @@ fn rows_of_commands(rt: HostRuntime) {
         b"",
         (b"ab", 2),
     );
+}
+
+#[test]
+fn rows_of_macros_and_searches(rt: HostRuntime) {
     expect(
         &rt,
         b"@^UA/+1/2MA=Q0-1\x1b\x1b",
@@ -131,6 +135,10 @@ fn rows_of_commands(rt: HostRuntime) {
         b"",
         (b"ab", 0),
     );
+}
+
+#[test]
+fn rows_that_end_early(rt: HostRuntime) {
     expect(&rt, b"<1=\x1b\x1b", 10, Err(Code::Utc), b"1\r\n", (b"", 0));
     expect(
         &rt,

@@ -67,7 +67,7 @@ fn expect(
 
 #[test]
 fn texts_are_found_or_missed(rt: HostRuntime) {
-    // one of them all, so that each finds what the others left
+    // the same for all, so that each finds what the others left
     let mut last = LastPattern::new(rt.alloc());
     expect(
         &rt,
@@ -101,6 +101,11 @@ fn texts_are_found_or_missed(rt: HostRuntime) {
         Ok(Finding::Found),
         (b"abab", 2),
     );
+}
+
+#[test]
+fn texts_are_missed_or_refused(rt: HostRuntime) {
+    let mut last = LastPattern::new(rt.alloc());
     expect(
         &rt,
         &mut last,
@@ -133,6 +138,11 @@ fn texts_are_found_or_missed(rt: HostRuntime) {
         Err(Code::Ice),
         (b"abab", 1),
     );
+}
+
+#[test]
+fn a_match_is_replaced(rt: HostRuntime) {
+    let mut last = LastPattern::new(rt.alloc());
     expect(
         &rt,
         &mut last,

@@ -67,6 +67,10 @@ fn runs_stop_at_sites(rt: HostRuntime) {
     expect_site(&rt, b"1= ^Y 2 ,", (9, 4), Err(Code::Arg), in_command(8));
     expect_site(&rt, b"<1= ", (9, 3), Err(Code::Utc), in_command(4));
     expect_site(&rt, b"1= ERno\x1b", (9, 2), Err(Code::Fnf), in_command(3));
+}
+
+#[test]
+fn runs_stop_in_texts_of_registers(rt: HostRuntime) {
     expect_site(&rt, b"@^UA/9C/MA", (9, 3), Err(Code::Pop), in_text(b'A', 1));
     expect_site(
         &rt,

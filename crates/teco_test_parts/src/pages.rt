@@ -1,22 +1,10 @@
 // Pages of inputs, copies, and what a failing call leaves. A call that is refused memory is made
 // once more, so that each test also holds where one allocation fails.
-ghost use Rattle.std.specs.Prelude.{◌<◌};
-
 use std::alloc::Global;
 use std::process::Abort;
 use std::test::Fail;
 use teco_base::bytes::FF;
 use teco_pages::{Fault, HostCall, MemHost, Pages, TestHost};
-
-const PIECES: [usize; 3] = [1, 2, 4096];
-
-const CALLS: [(HostCall, Fault); 5] = [
-    (HostCall::OpenIn, Fault::NoFile),
-    (HostCall::Read, Fault::In),
-    (HostCall::OpenOut, Fault::Out),
-    (HostCall::Write, Fault::Out),
-    (HostCall::CloseOut, Fault::Out),
-];
 
 // Files `in`, with these bytes, and `out`.
 fn files(alloc: Global, bytes: &[u8]) -> Result<MemHost, Fail> {
@@ -45,35 +33,57 @@ fn turn(pages: &mut Pages, host: &mut TestHost) -> Result<(), Fault> {
     }
 }
 
+fn is_page(pages: &Pages, want: (&[u8], bool)) -> bool {
+    match pages.page() {
+        Some((text, ff)) => text == want.0 && ff == want.1,
+        None => false,
+    }
+}
+
+// This page is ready, or with no text and no form feed the end.
+fn expect_page(rt: &impl Abort, pages: &Pages, text: &[u8], ff: bool) {
+    assert!(rt; is_page(pages, (text, ff)));
+}
+
+// The page that is ready is taken, and its memory is used again.
+fn expect_taken(rt: &impl Abort, pages: &mut Pages, want: (&[u8], bool)) {
+    let Some((text, ff)) = pages.take_page() else {
+        panic!(rt; "no page")
+    };
+    assert!(rt; text.as_slice() == want.0 && ff == want.1 && pages.page().is_none());
+    pages.take_over(text);
+}
+
+// An input has these pages, and then none, in pieces of this size.
+fn expect_in_pieces(
+    rt: &impl Abort,
+    host: &mut TestHost,
+    mut pages: Pages,
+    want: &[(&[u8], bool)],
+) -> Result<(), Fail> {
+    open(&mut pages, host)?;
+    for page in want {
+        turn(&mut pages, host)?;
+        expect_page(rt, &pages, page.0, page.1);
+        expect_taken(rt, &mut pages, *page);
+    }
+    // the end stays the end
+    for _ in 0..2 {
+        turn(&mut pages, host)?;
+        expect_page(rt, &pages, b"", false);
+    }
+    Ok(())
+}
+
 fn expect_pages(
     rt: &impl Abort,
     alloc: Global,
     bytes: &[u8],
     want: &[(&[u8], bool)],
 ) -> Result<(), Fail> {
-    for piece in PIECES {
+    for piece in [1, 2, 4096] {
         let mut host = TestHost::new(files(alloc, bytes)?, piece, HostCall::Read, 0);
-        let mut pages = Pages::new(alloc);
-        open(&mut pages, &mut host)?;
-        for page in want {
-            turn(&mut pages, &mut host)?;
-            assert_eq!(rt; pages.page(), Some(*page), "in pieces of {piece}");
-            let Some((text, ff)) = pages.take_page() else {
-                panic!(rt; "no page")
-            };
-            assert_eq!(rt; (text.as_slice(), ff), *page);
-            assert!(rt; pages.page().is_none());
-            pages.take_over(text);
-        }
-        // the end stays the end
-        for _ in 0..2 {
-            turn(&mut pages, &mut host)?;
-            assert_eq!(rt;
-                pages.page(),
-                Some((b"".as_slice(), false)),
-                "in pieces of {piece}"
-            );
-        }
+        expect_in_pieces(rt, &mut host, Pages::new(alloc), want)?;
     }
     Ok(())
 }
@@ -141,26 +151,34 @@ fn copy(pages: &mut Pages, host: &mut TestHost) -> Result<(), Fault> {
     Ok(())
 }
 
+// What a file has.
+fn is_file(host: &TestHost, name: &[u8], want: &[u8]) -> bool {
+    host.mem().file(name).is_some_and(|bytes| bytes == want)
+}
+
+// The output goes, and the file that has its name is as it was.
+fn expect_dropped(rt: &impl Abort, pages: &mut Pages, host: &mut TestHost) {
+    if pages.output_name().is_some() {
+        assert!(rt; pages.drop_out(host).is_ok());
+    }
+    assert!(rt; pages.output_name().is_none() && is_file(host, b"out", b"old"));
+}
+
 // Copies until it is done; answers what the first try was refused with.
 fn first_fault(rt: &impl Abort, alloc: Global, bytes: &[u8], mut host: TestHost) -> Option<Fault> {
     let mut pages = Pages::new(alloc);
     let mut first = None;
     for _ in 0..3 {
         let Err(fault) = copy(&mut pages, &mut host) else {
-            assert_eq!(rt; host.mem().file(b"out"), Some(bytes));
-            assert!(rt; pages.output_name().is_none() && pages.input_name().is_none());
+            let is_closed = pages.output_name().is_none() && pages.input_name().is_none();
+            assert!(rt; is_closed && is_file(&host, b"out", bytes));
             return first;
         };
         first = first.or(Some(fault));
-        // the file that has the output's name is as it was
-        assert_eq!(rt; host.mem().file(b"out"), Some(b"old".as_slice()));
-        if pages.output_name().is_some() {
-            assert!(rt; pages.drop_out(&mut host).is_ok());
-        }
-        assert!(rt; pages.output_name().is_none());
+        assert!(rt; is_file(&host, b"out", b"old"));
+        expect_dropped(rt, &mut pages, &mut host);
     }
-    assert!(rt; false, "a call failed twice");
-    None
+    panic!(rt; "a call failed twice")
 }
 
 // A copy of an input that is not empty makes a call of each kind.
@@ -174,22 +192,42 @@ fn is_right(got: Option<Fault>, want: Fault, nth: u64) -> bool {
     }
 }
 
-fn expect_copies(rt: &impl Abort, alloc: Global, bytes: &[u8], piece: usize) -> Result<(), Fail>
-    requires { 0 < piece }
-{
-    for (call, want) in CALLS {
-        for nth in 0..12 {
-            let host = TestHost::new(files(alloc, bytes)?, piece, call, nth);
-            let mut got = first_fault(rt, alloc, bytes, host);
-            if !is_right(got, want, nth) {
-                // memory may have been refused
-                let host = TestHost::new(files(alloc, bytes)?, piece, call, nth);
-                got = first_fault(rt, alloc, bytes, host);
-            }
-            assert!(rt;
-                is_right(got, want, nth),
-                "{got:?} for {want:?} {nth} in pieces of {piece}"
-            );
+// A copy with one call that fails, the nth of its kind, in pieces of this size.
+fn expect_copy(
+    rt: &impl Abort,
+    alloc: Global,
+    bytes: &[u8],
+    piece: usize,
+    call: (HostCall, u64),
+    want: Fault,
+) -> Result<(), Fail> {
+    assert!(rt; piece > 0);
+    let host = TestHost::new(files(alloc, bytes)?, piece, call.0, call.1);
+    let mut got = first_fault(rt, alloc, bytes, host);
+    if !is_right(got, want, call.1) {
+        // memory may have been refused
+        let host = TestHost::new(files(alloc, bytes)?, piece, call.0, call.1);
+        got = first_fault(rt, alloc, bytes, host);
+    }
+    assert!(rt; is_right(got, want, call.1), "{got:?}");
+    Ok(())
+}
+
+fn expect_copies(rt: &impl Abort, alloc: Global, bytes: &[u8]) -> Result<(), Fail> {
+    for piece in [1, 2, 4096] {
+        for n in 0..12 {
+            expect_copy(
+                rt,
+                alloc,
+                bytes,
+                piece,
+                (HostCall::OpenIn, n),
+                Fault::NoFile,
+            )?;
+            expect_copy(rt, alloc, bytes, piece, (HostCall::Read, n), Fault::In)?;
+            expect_copy(rt, alloc, bytes, piece, (HostCall::OpenOut, n), Fault::Out)?;
+            expect_copy(rt, alloc, bytes, piece, (HostCall::Write, n), Fault::Out)?;
+            expect_copy(rt, alloc, bytes, piece, (HostCall::CloseOut, n), Fault::Out)?;
         }
     }
     Ok(())
@@ -197,12 +235,9 @@ fn expect_copies(rt: &impl Abort, alloc: Global, bytes: &[u8], piece: usize) -> 
 
 #[test]
 fn copies_with_a_call_that_fails(rt: HostRuntime) -> Result<(), Fail> {
-    for piece in PIECES {
-        expect_copies(&rt, rt.alloc(), b"ab\x0ccd\x0cef", piece)?;
-        expect_copies(&rt, rt.alloc(), b"ab\x0ccd\x0c", piece)?;
-        expect_copies(&rt, rt.alloc(), b"abcd", piece)?;
-    }
-    Ok(())
+    expect_copies(&rt, rt.alloc(), b"ab\x0ccd\x0cef")?;
+    expect_copies(&rt, rt.alloc(), b"ab\x0ccd\x0c")?;
+    expect_copies(&rt, rt.alloc(), b"abcd")
 }
 
 #[test]
@@ -212,52 +247,67 @@ fn a_page_is_read_on_after_a_fault(rt: HostRuntime) -> Result<(), Fail> {
         let mut host = TestHost::new(files(alloc, b"ab\x0ccd")?, 1, HostCall::Read, nth);
         let mut pages = Pages::new(alloc);
         open(&mut pages, &mut host)?;
-        assert!(rt; pages.next_page(&mut host).is_err());
-        assert!(rt; pages.page().is_none());
+        assert!(rt; pages.next_page(&mut host).is_err() && pages.page().is_none());
         // memory may be refused once, too
         if pages.next_page(&mut host).is_err() {
             pages.next_page(&mut host)?;
         }
-        assert_eq!(rt; pages.page(), Some((b"ab".as_slice(), true)));
+        expect_page(&rt, &pages, b"ab", true);
+    }
+    Ok(())
+}
+
+fn is_input(pages: &Pages, name: &[u8]) -> bool {
+    pages.input_name().is_some_and(|open| open == name)
+}
+
+fn is_nothing_read(pages: &Pages) -> bool {
+    pages.page().is_none() && pages.input_name().is_none() && pages.read_ahead() == 0
+}
+
+#[test]
+fn what_is_open(rt: HostRuntime) -> Result<(), Fail> {
+    let mut host = TestHost::new(files(rt.alloc(), b"ab\x0ccd")?, 4096, HostCall::Read, 0);
+    let mut pages = Pages::new(rt.alloc());
+    assert!(rt; is_nothing_read(&pages));
+    // without an input the next page is empty
+    assert!(rt; pages.next_page(&mut host).is_ok());
+    expect_page(&rt, &pages, b"", false);
+    open(&mut pages, &mut host)?;
+    assert!(rt; pages.page().is_none());
+    turn(&mut pages, &mut host)?;
+    // a name that has no file leaves what is open
+    assert!(rt; pages.open_in(b"no", &mut host).is_err() && is_input(&pages, b"in"));
+    expect_page(&rt, &pages, b"ab", true);
+    // all five bytes were given at once
+    assert!(rt; pages.read_ahead() == 5);
+    pages.accept_page();
+    assert!(rt; pages.read_ahead() == 2);
+    pages.close_in();
+    assert!(rt; is_nothing_read(&pages));
+    Ok(())
+}
+
+// An output is open.
+fn open_out(pages: &mut Pages, host: &mut TestHost) -> Result<(), Fault> {
+    if pages.open_out(b"out", host).is_err() {
+        pages.open_out(b"out", host)?;
     }
     Ok(())
 }
 
 #[test]
-fn what_is_open(rt: HostRuntime) -> Result<(), Fail> {
-    let mut host = files(rt.alloc(), b"ab\x0ccd")?;
+fn an_output_is_open_until_it_is_dropped(rt: HostRuntime) -> Result<(), Fail> {
+    let mut host = TestHost::new(files(rt.alloc(), b"")?, 4096, HostCall::Read, 0);
     let mut pages = Pages::new(rt.alloc());
-    assert!(rt; pages.page().is_none() && pages.input_name().is_none());
-    assert_eq!(rt; pages.read_ahead(), 0);
-    // without an input the next page is empty
-    assert!(rt; pages.next_page(&mut host).is_ok());
-    assert_eq!(rt; pages.page(), Some((b"".as_slice(), false)));
-    if pages.open_in(b"in", &mut host).is_err() {
-        pages.open_in(b"in", &mut host)?;
-    }
-    assert!(rt; pages.page().is_none());
-    if pages.next_page(&mut host).is_err() {
-        pages.next_page(&mut host)?;
-    }
-    // a name that has no file leaves what is open
-    assert!(rt; pages.open_in(b"no", &mut host).is_err());
-    assert_eq!(rt; pages.input_name(), Some(b"in".as_slice()));
-    assert_eq!(rt; pages.page(), Some((b"ab".as_slice(), true)));
-    // all five bytes were given at once
-    assert_eq!(rt; pages.read_ahead(), 5);
-    pages.accept_page();
-    assert_eq!(rt; pages.read_ahead(), 2);
-    pages.close_in();
-    assert_eq!(rt; pages.read_ahead(), 0);
-    assert!(rt; pages.page().is_none() && pages.input_name().is_none());
-    if pages.open_out(b"out", &mut host).is_err() {
-        pages.open_out(b"out", &mut host)?;
-    }
-    assert_eq!(rt; pages.output_name(), Some(b"out".as_slice()));
-    pages.drop_out(&mut host)?;
-    assert!(rt; pages.output_name().is_none());
-    assert_eq!(rt; host.file(b"out"), Some(b"old".as_slice()));
-    assert!(rt; host.file(b"no").is_none());
+    open_out(&mut pages, &mut host)?;
+    assert!(rt;
+        pages
+            .output_name()
+            .is_some_and(|name| name == b"out".as_slice())
+    );
+    expect_dropped(&rt, &mut pages, &mut host);
+    assert!(rt; host.mem().file(b"no").is_none());
     Ok(())
 }
 
@@ -265,14 +315,11 @@ fn what_is_open(rt: HostRuntime) -> Result<(), Fail> {
 fn an_output_is_dropped_where_dropping_fails(rt: HostRuntime) -> Result<(), Fail> {
     let mut host = TestHost::new(files(rt.alloc(), b"")?, 1, HostCall::DropOut, 1);
     let mut pages = Pages::new(rt.alloc());
-    if pages.open_out(b"out", &mut host).is_err() {
-        pages.open_out(b"out", &mut host)?;
-    }
+    open_out(&mut pages, &mut host)?;
     if pages.write_page(b"a", b"b", true, &mut host).is_err() {
         pages.write_page(b"a", b"b", true, &mut host)?;
     }
     assert!(rt; pages.drop_out(&mut host).is_err());
-    assert!(rt; pages.output_name().is_none());
-    assert_eq!(rt; host.mem().file(b"out"), Some(b"old".as_slice()));
+    expect_dropped(&rt, &mut pages, &mut host);
     Ok(())
 }
