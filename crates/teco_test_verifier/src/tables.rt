@@ -96,41 +96,45 @@ fn lines_in(alloc: Global, nodes: &Nodes<'_>, table: &Table) -> Option<usize> {
     }
 }
 
+// Whether the table of a row is closed, and what is wanted is printed of it.
+fn is_closed(rt: &impl Abort, alloc: Global, row: &Row) -> bool {
+    let (file, number, held, commands, size) = *row;
+    let entry = entry_of(None);
+    let library = library_of(rt, alloc, file);
+    let nodes = nodes_of(rt, alloc, &library);
+    let lines = choices(rt, alloc, number, held);
+    let table = table_of(rt, alloc, &entry, &nodes, &lines);
+    table.len() == nodes.len()
+        && checked(alloc, &entry, &nodes, &table).is_ok()
+        && prints(&entry, &nodes, &table, [commands, size])
+        && lines_in(alloc, &nodes, &table) == Some(lines.len())
+}
+
 #[test]
 fn prints_what_is_closed(rt: HostRuntime) {
+    for (place, row) in ROWS.iter().enumerate() {
+        expect(&rt, is_closed(&rt, rt.alloc(), row), place);
+    }
+}
+
+// Where the table of a row is not closed if no more than N is held.
+fn open_at(rt: &impl Abort, alloc: Global, row: &Row) -> Option<usize> {
     let entry = entry_of(None);
-    for (row, (file, number, held, commands, size)) in ROWS.iter().enumerate() {
-        let library = library_of(&rt, rt.alloc(), file);
-        let nodes = nodes_of(&rt, rt.alloc(), &library);
-        let lines = choices(&rt, rt.alloc(), *number, held);
-        let table = table_of(&rt, rt.alloc(), &entry, &nodes, &lines);
-        expect(&rt, table.len() == nodes.len(), row);
-        expect(
-            &rt,
-            checked(rt.alloc(), &entry, &nodes, &table).is_ok(),
-            row,
-        );
-        expect(&rt, prints(&entry, &nodes, &table, [commands, size]), row);
-        let count = lines_in(rt.alloc(), &nodes, &table);
-        expect(&rt, count == Some(lines.len()), row);
+    let library = library_of(rt, alloc, row.0);
+    let nodes = nodes_of(rt, alloc, &library);
+    let lines = choices(rt, alloc, row.1, b"N");
+    let table = table_of(rt, alloc, &entry, &nodes, &lines);
+    match checked(alloc, &entry, &nodes, &table) {
+        Err(Bad::Edge { node }) => Some(node),
+        _ => None,
     }
 }
 
 #[test]
 fn refuses_too_small_a_choice(rt: HostRuntime) {
-    let entry = entry_of(None);
-    for (row, (file, number, _, _, _)) in ROWS.iter().enumerate() {
-        if *number > 0 {
-            let library = library_of(&rt, rt.alloc(), file);
-            let nodes = nodes_of(&rt, rt.alloc(), &library);
-            let lines = choices(&rt, rt.alloc(), *number, b"N");
-            let table = table_of(&rt, rt.alloc(), &entry, &nodes, &lines);
-            let wanted = Bad::Edge { node: *number };
-            expect(
-                &rt,
-                checked(rt.alloc(), &entry, &nodes, &table) == Err(wanted),
-                row,
-            );
+    for (place, row) in ROWS.iter().enumerate() {
+        if row.1 > 0 {
+            expect(&rt, open_at(&rt, rt.alloc(), row) == Some(row.1), place);
         }
     }
 }
