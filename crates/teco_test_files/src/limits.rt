@@ -30,7 +30,8 @@ fn expect(rt: &HostRuntime, abort: &impl Abort, limits: &[u8], most: usize) -> R
     let is_whole = write_pieces(&mut host, &text, 4096).is_ok();
     assert!(abort; is_whole == (most == ALL) && is_whole != is_past_limit(&host));
     host.close_out()?;
-    assert!(abort; most <= ALL && is_file(rt, path, &text[..most])?);
+    assert!(abort; most <= text.len());
+    assert!(abort; is_file(rt, path, &text[..most])?);
     Ok(())
 }
 
