@@ -382,17 +382,22 @@ fn refuses_more(rt: HostRuntime) {
     }
 }
 
+// Writes a byte at a place.
+fn put(text: &mut [u8], place: usize, byte: u8) {
+    if place < text.len() {
+        text[place] = byte;
+    }
+}
+
 // Whether a text is of a certificate, or refused, with each byte at a place.
 fn is_judged(rt: &impl Abort, alloc: Global, text: &mut [u8], place: usize) -> bool {
+    let was = text.get(place).copied().unwrap_or(0);
     let mut judged = true;
-    if place < text.len() {
-        let was = text[place];
-        for byte in 0..=u8::MAX {
-            text[place] = byte;
-            judged = judged && (is_read(rt, alloc, text) || is_refused(alloc, text));
-        }
-        text[place] = was;
+    for byte in 0..=u8::MAX {
+        put(text, place, byte);
+        judged = judged && (is_read(rt, alloc, text) || is_refused(alloc, text));
     }
+    put(text, place, was);
     judged
 }
 
