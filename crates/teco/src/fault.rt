@@ -1,9 +1,9 @@
 //! What keeps the program from obeying its words.
-use crate::words::WordsFault;
 use std::alloc::{AllocError, AllocFailed};
 use std::io;
 use teco_tools::ToolFault;
 use teco_verdicts::AnswerFault;
+use teco_words::WordsFault;
 use thiserror::Error;
 
 /// Why the program ends with its status of failure.

@@ -1,13 +1,9 @@
 //! The program: sessions on standard input, and verified macros.
 #![tactic(auto)]
 
-mod arguments;
 mod fault;
-mod words;
 
-use crate::arguments::Arguments;
 use crate::fault::ProgramFault;
-use crate::words::WordsFault;
 use clap::ArgMatches;
 use std::io;
 use std::io::{Input, IsTerminal, Write};
@@ -22,6 +18,7 @@ use teco_verdicts::{
     Console, Outcome, Request, check_macro, explain, explain_macro, show, show_source,
     verify_library, verify_library_as_json, verify_macro, verify_macro_as_json,
 };
+use teco_words::{Arguments, WordsFault};
 
 /// The words are no command, or a file of macros, a certificate, standard input, standard output or
 /// memory failed.
@@ -33,14 +30,14 @@ fn run<O: Write + Drop, E: Write + Drop>(
     console: &mut Console<O, E>,
     given: &ArgMatches<'_>,
 ) -> Result<Outcome, ProgramFault> {
-    let escape = words::escape_of(given)?;
-    let scripts = words::scripts(rt.alloc(), given)?;
-    let settings = words::settings(rt.alloc(), given, escape)?;
+    let escape = teco_words::escape_of(given)?;
+    let scripts = teco_words::scripts(rt.alloc(), given)?;
+    let settings = teco_words::settings(rt.alloc(), given, escape)?;
     let run = Run {
         scripts: &scripts,
         escape,
-        limit: u64::from(words::limit(given)),
-        cap: words::cap(given),
+        limit: u64::from(teco_words::limit(given)),
+        cap: teco_words::cap(given),
         until_code: given.get_flag("stop"),
         settings: &settings,
     };
@@ -54,9 +51,9 @@ fn run<O: Write + Drop, E: Write + Drop>(
 // The library that is named, how it writes ESC, and by which rules it is verified.
 fn request<'a>(given: &ArgMatches<'a>) -> Result<Request<'a>, WordsFault> {
     Ok(Request {
-        library: words::word(given, "LIB"),
-        escape: words::escape_of(given)?,
-        rules: words::rules_of(given)?,
+        library: teco_words::word(given, "LIB"),
+        escape: teco_words::escape_of(given)?,
+        rules: teco_words::rules_of(given)?,
     })
 }
 
@@ -66,13 +63,13 @@ fn show_file<O: Write + Drop, E: Write + Drop>(
     console: &mut Console<O, E>,
     given: &ArgMatches<'_>,
 ) -> Result<Outcome, ProgramFault> {
-    let escape = words::escape_of(given)?;
-    let name = words::word(given, "FILE");
+    let escape = teco_words::escape_of(given)?;
+    let name = teco_words::word(given, "FILE");
     if given.get_flag("source") {
-        let form = words::form_of_source(escape);
+        let form = teco_words::form_of_source(escape);
         return Ok(show_source(rt, console, name, form)?);
     }
-    let mark = words::mark_of(escape);
+    let mark = teco_words::mark_of(escape);
     Ok(show(rt, console, name, mark)?)
 }
 
@@ -84,14 +81,14 @@ fn verify<O: Write + Drop, E: Write + Drop>(
 ) -> Result<Outcome, ProgramFault> {
     let request = request(given)?;
     let is_json = given.get_flag("json");
-    if !words::names_register(given) {
+    if !teco_words::names_register(given) {
         return Ok(if is_json {
             verify_library_as_json(rt, console, request)?
         } else {
             verify_library(rt, console, request)?
         });
     }
-    let entry = words::entry(given)?;
+    let entry = teco_words::entry(given)?;
     Ok(if is_json {
         verify_macro_as_json(rt, console, request, entry)?
     } else {
@@ -106,8 +103,8 @@ fn check<O: Write + Drop, E: Write + Drop>(
     given: &ArgMatches<'_>,
 ) -> Result<Outcome, ProgramFault> {
     let request = request(given)?;
-    let entry = words::entry(given)?;
-    let certificate = words::word(given, "CERT");
+    let entry = teco_words::entry(given)?;
+    let certificate = teco_words::word(given, "CERT");
     Ok(check_macro(rt, console, request, entry, certificate)?)
 }
 
@@ -118,12 +115,12 @@ fn task<'a, 's>(
 ) -> Result<Task<'a, 's>, ProgramFault> {
     Ok(Task {
         library: request(given)?,
-        entry: words::entry(given)?,
+        entry: teco_words::entry(given)?,
         certificate: given.get_str("cert"),
-        argument: words::given(given)?,
-        pages: words::pages(given)?,
+        argument: teco_words::given(given)?,
+        pages: teco_words::pages(given)?,
         settings,
-        cap: words::cap(given),
+        cap: teco_words::cap(given),
         is_strict: given.get_flag("strict"),
         tells_counts: given.get_flag("stats"),
     })
@@ -136,12 +133,12 @@ fn apply<'a, O: Write + Drop, E: Write + Drop>(
     given: &ArgMatches<'a>,
     arguments: &'a Arguments,
 ) -> Result<Outcome, ProgramFault> {
-    let settings = words::settings(rt.alloc(), given, words::escape_of(given)?)?;
+    let settings = teco_words::settings(rt.alloc(), given, teco_words::escape_of(given)?)?;
     let task = task(given, &settings)?;
-    words::check_streams(given, task.is_strict)?;
+    teco_words::check_streams(given, task.is_strict)?;
     let names = Names {
-        source: words::source_name(given, arguments)?,
-        target: words::target_name(given, arguments)?,
+        source: teco_words::source_name(given, arguments)?,
+        target: teco_words::target_name(given, arguments)?,
     };
     let mut files = FileHost::new(rt.alloc(), *rt);
     files.set_closing(Closing::ReplacesOther);
@@ -163,7 +160,7 @@ fn edit<O: Write + Drop, E: Write + Drop>(
     if given.get_flag("quiet") {
         console.voice.hush();
     }
-    let settings = words::settings(rt.alloc(), given, words::escape_of(given)?)?;
+    let settings = teco_words::settings(rt.alloc(), given, teco_words::escape_of(given)?)?;
     let task = task(given, &settings)?;
     let edit = InPlace {
         files: given.get_strs("FILE").unwrap_or(&[]),
@@ -180,25 +177,25 @@ fn trace<'a, O: Write + Drop, E: Write + Drop>(
     given: &ArgMatches<'a>,
     arguments: &'a Arguments,
 ) -> Result<Outcome, ProgramFault> {
-    let settings = words::settings(rt.alloc(), given, words::escape_of(given)?)?;
+    let settings = teco_words::settings(rt.alloc(), given, teco_words::escape_of(given)?)?;
     let task = Task {
         library: request(given)?,
-        entry: words::entry(given)?,
+        entry: teco_words::entry(given)?,
         certificate: None,
-        argument: words::given(given)?,
+        argument: teco_words::given(given)?,
         pages: Pages::First,
         settings: &settings,
-        cap: words::cap(given),
+        cap: teco_words::cap(given),
         is_strict: false,
         tells_counts: false,
     };
-    words::check_streams(given, false)?;
+    teco_words::check_streams(given, false)?;
     let listing = Listing {
         names: Names {
-            source: words::source_name(given, arguments)?,
+            source: teco_words::source_name(given, arguments)?,
             target: OUTPUT,
         },
-        most: u64::from(words::limit(given)),
+        most: u64::from(teco_words::limit(given)),
     };
     let mut files = FileHost::new(rt.alloc(), *rt);
     files.set_closing(Closing::Compares);
@@ -212,11 +209,11 @@ fn explain_what<O: Write + Drop, E: Write + Drop>(
     console: &mut Console<O, E>,
     given: &ArgMatches<'_>,
 ) -> Result<Outcome, ProgramFault> {
-    if words::names_register(given) {
-        let entry = words::entry(given)?;
+    if teco_words::names_register(given) {
+        let entry = teco_words::entry(given)?;
         return Ok(explain_macro(rt, console, request(given)?, entry)?);
     }
-    match explain(console, words::word(given, "LIB"))? {
+    match explain(console, teco_words::word(given, "LIB"))? {
         Some(outcome) => Ok(outcome),
         None => Err(WordsFault::Unknown.into()),
     }
@@ -245,7 +242,7 @@ fn obey<'a, O: Write + Drop, E: Write + Drop>(
 // Reads the words, and does what they say.
 fn read_and_obey(rt: &HostRuntime) -> Result<ExitCode, ProgramFault> {
     let arguments = Arguments::read(rt)?;
-    let command = words::command(rt.alloc())?;
+    let command = teco_words::command(rt.alloc())?;
     let matches = match command.try_get_matches_from(arguments.texts()) {
         Ok(matches) => matches,
         Err(error) => {
