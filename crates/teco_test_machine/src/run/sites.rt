@@ -1,4 +1,7 @@
 // Where runs stop, and runs that are done one step at a time.
+ghost use Rattle.std.specs.Prelude.{◌≤◌, length};
+ghost use Rattle.teco_base.specs.declared.TheConstants.{LIMIT};
+
 use super::*;
 use std::test::Fail;
 use teco_run::{Execution, Progress, Site, Stopped};
@@ -146,29 +149,73 @@ fn agrees(stop: Stop, progress: Progress) -> bool {
     }
 }
 
-// Does steps of a command string on a new machine, and compares them with a run of that limit; says
-// whether memory was refused.
+// What a run leaves.
+#[derive(Drop)]
+struct Left {
+    steps: u64,
+    site: Site,
+    typed: Vec<u8>,
+    dot: usize,
+}
+
+impl Left {
+    fn is_same(&self, other: &Left) -> bool {
+        self.steps == other.steps
+            && self.site == other.site
+            && self.typed.as_slice() == other.typed.as_slice()
+            && self.dot == other.dot
+    }
+}
+
+// Runs a command string on a new machine: what it leaves, and what it answers.
+fn left_by_run(alloc: Global, command: &[u8], limit: u64) -> (Left, Stop) {
+    let (mut machine, stopped) = run_surely(alloc, command, limit);
+    let left = Left {
+        steps: stopped.steps,
+        site: stopped.site,
+        typed: machine.take_typed(),
+        dot: machine.dot(),
+    };
+    (left, stopped.stop)
+}
+
+// Does steps of a command string on a new machine: what they leave, and what the last came to.
+fn left_by_steps(alloc: Global, command: &[u8], limit: u64) -> Result<(Left, Progress), AllocError>
+    requires { length command.now ≤ LIMIT }
+{
+    let mut machine = Machine::new(alloc, VecText::new(alloc));
+    let mut host = MemHost::new(alloc);
+    let mut execution = machine.begin(command)?;
+    let (steps, progress) = step_on(&mut machine, &mut execution, limit, &mut host);
+    let left = Left {
+        steps,
+        site: execution.site(),
+        typed: machine.take_typed(),
+        dot: machine.dot(),
+    };
+    Ok((left, progress))
+}
+
+// Does steps of a command string, and compares them with a run of that limit; says whether memory
+// was refused.
 fn expect_steps(
     rt: &impl Abort,
     alloc: Global,
     command: &[u8],
     limit: u64,
 ) -> Result<bool, AllocError> {
-    let (mut machine, stopped) = run_surely(alloc, command, limit);
-    let mut stepped = Machine::new(alloc, VecText::new(alloc));
-    let mut host = MemHost::new(alloc);
     if command.len() > LIMIT {
         return Ok(false);
     }
-    let mut execution = stepped.begin(command)?;
-    let (steps, progress) = step_on(&mut stepped, &mut execution, limit, &mut host);
+    let (ran, stop) = left_by_run(alloc, command, limit);
+    let (stepped, progress) = left_by_steps(alloc, command, limit)?;
     if let Progress::Memory = progress {
         return Ok(true);
     }
-    let is_there = steps == stopped.steps && execution.site() == stopped.site;
-    assert!(rt; is_there && agrees(stopped.stop, progress), "{command:?}");
-    let is_same = stepped.take_typed().as_slice() == machine.take_typed().as_slice();
-    assert!(rt; is_same && stepped.dot() == machine.dot(), "{command:?}");
+    assert!(rt;
+        stepped.is_same(&ran) && agrees(stop, progress),
+        "{command:?}"
+    );
     Ok(false)
 }
 
