@@ -1,4 +1,4 @@
-//! Tests of `teco_apply`, `teco_verdicts` and `teco_tools`, by modules of these names.
+//! Tests of `teco_apply`, `teco_verdicts`, `teco_tools` and `teco_words`, by modules of these names.
 #![tactic(auto)]
 
 #[cfg(test)]
@@ -9,3 +9,5 @@ mod tools;
 mod trial;
 #[cfg(test)]
 mod verdicts;
+#[cfg(test)]
+mod words;

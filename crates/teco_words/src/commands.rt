@@ -14,22 +14,57 @@ const DEFAULT_STEPS: &str = "1000";
 
 /// The commands of the program and their options.
 pub fn command<'a>(alloc: Global) -> Result<Command<'a>, AllocError> {
-    Command::new(alloc, "teco")
+    let command = Command::new(alloc, "teco")
         .about("TECO, the Text Editor and Corrector")
         .version("0.1.0")
-        .subcommand_required(true)
-        .subcommand(run(alloc)?)?
-        .subcommand(verify(alloc)?)?
-        .subcommand(check(alloc)?)?
-        .subcommand(apply(alloc)?)?
-        .subcommand(edit(alloc)?)?
-        .subcommand(trace(alloc)?)?
-        .subcommand(show(alloc)?)?
-        .subcommand(explain(alloc)?)
+        .subcommand_required(true);
+    Draft(Ok(command))
+        .subcommand(run(alloc))
+        .subcommand(verify(alloc))
+        .subcommand(check(alloc))
+        .subcommand(apply(alloc))
+        .subcommand(edit(alloc))
+        .subcommand(trace(alloc))
+        .subcommand(show(alloc))
+        .subcommand(explain(alloc))
+        .0
+}
+
+// A command to which arguments are added, or a refused growth. Where each addition returned on a
+// refusal, proofs would go through all that is dropped there.
+#[derive(Drop)]
+struct Draft<'a>(Result<Command<'a>, AllocError>);
+
+impl<'a> Draft<'a> {
+    // A command with no arguments yet.
+    fn new(alloc: Global, name: &'a str, about: &'a str, examples: &'a str) -> Draft<'a> {
+        Draft(Ok(Command::new(alloc, name).about(about).after_help(examples)))
+    }
+
+    // The command that an argument is added to.
+    fn arg(self, arg: Arg<'a>) -> Draft<'a> {
+        match self.0 {
+            Ok(command) => Draft(command.arg(arg)),
+            Err(refused) => Draft(Err(refused)),
+        }
+    }
+
+    // The command that another is added to.
+    fn subcommand(self, other: Draft<'a>) -> Draft<'a> {
+        match self.0 {
+            Ok(command) => Draft(with_subcommand(command, other)),
+            Err(refused) => Draft(Err(refused)),
+        }
+    }
+}
+
+// A command that has another.
+fn with_subcommand<'a>(command: Command<'a>, other: Draft<'a>) -> Result<Command<'a>, AllocError> {
+    command.subcommand(other.0?)
 }
 
 // A session.
-fn run<'a>(alloc: Global) -> Result<Command<'a>, AllocError> {
+fn run<'a>(alloc: Global) -> Draft<'a> {
     let limit = Arg::new(alloc, "limit")
         .long("limit")
         .value_name("N")
@@ -51,22 +86,23 @@ fn run<'a>(alloc: Global) -> Result<Command<'a>, AllocError> {
         .num_args(0..)
         .action(ArgAction::Append)
         .help("Files of command strings; standard input where neither a file nor a text is given");
-    Command::new(alloc, "run")
-        .about("Runs command strings on standard input, in files or in words")
-        .after_help(
-            "Examples:\n  teco run -e 'ERin$EWout$YJ<FSfoo$bar$;>EC'\n  teco run edit.tes\n  printf 'Iabc\\033HT\\033\\033' | teco run",
-        )
-        .arg(limit)?
-        .arg(memory(alloc))?
-        .arg(stop)?
-        .arg(setting(alloc))?
-        .arg(escape(alloc))?
-        .arg(text)?
-        .arg(files)
+    Draft::new(
+        alloc,
+        "run",
+        "Runs command strings on standard input, in files or in words",
+        "Examples:\n  teco run -e 'ERin$EWout$YJ<FSfoo$bar$;>EC'\n  teco run edit.tes\n  printf 'Iabc\\033HT\\033\\033' | teco run",
+    )
+    .arg(limit)
+    .arg(memory(alloc))
+    .arg(stop)
+    .arg(setting(alloc))
+    .arg(escape(alloc))
+    .arg(text)
+    .arg(files)
 }
 
 // Verifying a macro, or all of a library.
-fn verify<'a>(alloc: Global) -> Result<Command<'a>, AllocError> {
+fn verify<'a>(alloc: Global) -> Draft<'a> {
     let register = Arg::new(alloc, "REGISTER").help(
         "The register of the macro; each macro of LIB where it is left out",
     );
@@ -74,45 +110,50 @@ fn verify<'a>(alloc: Global) -> Result<Command<'a>, AllocError> {
         .long("json")
         .action(ArgAction::SetTrue)
         .help("Print each verdict as an object of JSON in a line");
-    Command::new(alloc, "verify")
-        .about("Prints the certificate of a macro, or a verdict on each macro of a library")
-        .after_help("Examples:\n  teco verify trim.tes A\n  teco verify --json lib.tes")
-        .arg(json)?
-        .arg(file(alloc, "LIB", "A file of macros, or - for standard input"))?
-        .arg(register)?
-        .arg(rules(alloc))?
-        .arg(escape(alloc))
+    Draft::new(
+        alloc,
+        "verify",
+        "Prints the certificate of a macro, or a verdict on each macro of a library",
+        "Examples:\n  teco verify trim.tes A\n  teco verify --json lib.tes",
+    )
+    .arg(json)
+    .arg(file(alloc, "LIB", "A file of macros, or - for standard input"))
+    .arg(register)
+    .arg(rules(alloc))
+    .arg(escape(alloc))
 }
 
 // Checking a certificate.
-fn check<'a>(alloc: Global) -> Result<Command<'a>, AllocError> {
-    Command::new(alloc, "check")
-        .about("Checks a certificate")
-        .after_help(
-            "Example:\n  teco verify trim.tes A > trim.cert\n  teco check trim.tes A trim.cert",
-        )
-        .arg(file(alloc, "LIB", "A file of macros, or - for standard input"))?
-        .arg(register(alloc))?
-        .arg(file(alloc, "CERT", "A certificate"))?
-        .arg(rules(alloc))?
-        .arg(escape(alloc))
+fn check<'a>(alloc: Global) -> Draft<'a> {
+    Draft::new(
+        alloc,
+        "check",
+        "Checks a certificate",
+        "Example:\n  teco verify trim.tes A > trim.cert\n  teco check trim.tes A trim.cert",
+    )
+    .arg(file(alloc, "LIB", "A file of macros, or - for standard input"))
+    .arg(register(alloc))
+    .arg(file(alloc, "CERT", "A certificate"))
+    .arg(rules(alloc))
+    .arg(escape(alloc))
 }
 
 // Editing a file.
-fn apply<'a>(alloc: Global) -> Result<Command<'a>, AllocError> {
-    let command = Command::new(alloc, "apply")
-        .about("Edits a file by a verified macro")
-        .after_help(
-            "Examples:\n  teco apply trim.tes A in.txt out.txt\n  teco apply --pages each --strict trim.tes A in.txt out.txt\n  printf 'a  \\n' | teco apply trim.tes A - -",
-        );
-    edit_options(alloc, command)?
-        .arg(file(alloc, "LIB", "A file of macros, or - for standard input"))?
-        .arg(register(alloc))?
+fn apply<'a>(alloc: Global) -> Draft<'a> {
+    let draft = Draft::new(
+        alloc,
+        "apply",
+        "Edits a file by a verified macro",
+        "Examples:\n  teco apply trim.tes A in.txt out.txt\n  teco apply --pages each --strict trim.tes A in.txt out.txt\n  printf 'a  \\n' | teco apply trim.tes A - -",
+    );
+    edit_options(alloc, draft)
+        .arg(file(alloc, "LIB", "A file of macros, or - for standard input"))
+        .arg(register(alloc))
         .arg(file(
             alloc,
             "IN",
             "The file that is read, or - for standard input",
-        ))?
+        ))
         .arg(file(
             alloc,
             "OUT",
@@ -121,7 +162,7 @@ fn apply<'a>(alloc: Global) -> Result<Command<'a>, AllocError> {
 }
 
 // Editing files in place.
-fn edit<'a>(alloc: Global) -> Result<Command<'a>, AllocError> {
+fn edit<'a>(alloc: Global) -> Draft<'a> {
     let dry = Arg::new(alloc, "dry-run")
         .long("dry-run")
         .action(ArgAction::SetTrue)
@@ -139,22 +180,23 @@ fn edit<'a>(alloc: Global) -> Result<Command<'a>, AllocError> {
         .action(ArgAction::Append)
         .required(true)
         .help("The files that are edited");
-    let command = Command::new(alloc, "edit")
-        .about("Edits files in place by a verified macro; one that fails is left as it was")
-        .after_help(
-            "Examples:\n  teco edit --dry-run trim.tes A *.txt\n  teco edit --backup .old trim.tes A *.txt",
-        );
-    edit_options(alloc, command)?
-        .arg(dry)?
-        .arg(backup)?
-        .arg(quiet)?
-        .arg(file(alloc, "LIB", "A file of macros, or - for standard input"))?
-        .arg(register(alloc))?
+    let draft = Draft::new(
+        alloc,
+        "edit",
+        "Edits files in place by a verified macro; one that fails is left as it was",
+        "Examples:\n  teco edit --dry-run trim.tes A *.txt\n  teco edit --backup .old trim.tes A *.txt",
+    );
+    edit_options(alloc, draft)
+        .arg(dry)
+        .arg(backup)
+        .arg(quiet)
+        .arg(file(alloc, "LIB", "A file of macros, or - for standard input"))
+        .arg(register(alloc))
         .arg(files)
 }
 
 // The options of what edits files.
-fn edit_options<'a>(alloc: Global, command: Command<'a>) -> Result<Command<'a>, AllocError> {
+fn edit_options<'a>(alloc: Global, draft: Draft<'a>) -> Draft<'a> {
     let pages = Arg::new(alloc, "pages")
         .long("pages")
         .value_name("WHICH")
@@ -174,80 +216,87 @@ fn edit_options<'a>(alloc: Global, command: Command<'a>) -> Result<Command<'a>, 
         .long("cert")
         .value_name("CERT")
         .help("Check this certificate in place of a search for one");
-    command
-        .arg(memory(alloc))?
-        .arg(argument(alloc))?
-        .arg(setting(alloc))?
-        .arg(rules(alloc))?
-        .arg(escape(alloc))?
-        .arg(pages)?
-        .arg(strict)?
-        .arg(stats)?
+    draft
+        .arg(memory(alloc))
+        .arg(argument(alloc))
+        .arg(setting(alloc))
+        .arg(rules(alloc))
+        .arg(escape(alloc))
+        .arg(pages)
+        .arg(strict)
+        .arg(stats)
         .arg(certificate)
 }
 
 // Listing the steps of a macro.
-fn trace<'a>(alloc: Global) -> Result<Command<'a>, AllocError> {
+fn trace<'a>(alloc: Global) -> Draft<'a> {
     let limit = Arg::new(alloc, "limit")
         .long("limit")
         .value_name("N")
         .help("Steps that are listed at most")
         .value_parser(value_parser!(u32).range(1..))
         .default_value(DEFAULT_STEPS);
-    Command::new(alloc, "trace")
-        .about("Lists the steps of a macro on a file, and writes no file")
-        .after_help("Example:\n  teco trace --limit 100 trim.tes A in.txt")
-        .arg(limit)?
-        .arg(memory(alloc))?
-        .arg(argument(alloc))?
-        .arg(setting(alloc))?
-        .arg(rules(alloc))?
-        .arg(escape(alloc))?
-        .arg(file(alloc, "LIB", "A file of macros, or - for standard input"))?
-        .arg(register(alloc))?
-        .arg(file(
-            alloc,
-            "IN",
-            "The file that is read, or - for standard input",
-        ))
+    Draft::new(
+        alloc,
+        "trace",
+        "Lists the steps of a macro on a file, and writes no file",
+        "Example:\n  teco trace --limit 100 trim.tes A in.txt",
+    )
+    .arg(limit)
+    .arg(memory(alloc))
+    .arg(argument(alloc))
+    .arg(setting(alloc))
+    .arg(rules(alloc))
+    .arg(escape(alloc))
+    .arg(file(alloc, "LIB", "A file of macros, or - for standard input"))
+    .arg(register(alloc))
+    .arg(file(
+        alloc,
+        "IN",
+        "The file that is read, or - for standard input",
+    ))
 }
 
 // Showing a text.
-fn show<'a>(alloc: Global) -> Result<Command<'a>, AllocError> {
+fn show<'a>(alloc: Global) -> Draft<'a> {
     let source = Arg::new(alloc, "source")
         .long("source")
         .action(ArgAction::SetTrue)
         .help(
             "Print a source that reads as the same bytes: readable, or with the character of --esc",
         );
-    Command::new(alloc, "show")
-        .about("Prints a file of TECO text as its elements, safe for a terminal")
-        .after_help("Examples:\n  teco show trim.tec\n  teco show --source trim.tec > trim.tes")
-        .arg(source)?
-        .arg(escape(alloc))?
-        .arg(file(
-            alloc,
-            "FILE",
-            "A file of TECO text, or - for standard input",
-        ))
+    Draft::new(
+        alloc,
+        "show",
+        "Prints a file of TECO text as its elements, safe for a terminal",
+        "Examples:\n  teco show trim.tec\n  teco show --source trim.tec > trim.tes",
+    )
+    .arg(source)
+    .arg(escape(alloc))
+    .arg(file(
+        alloc,
+        "FILE",
+        "A file of TECO text, or - for standard input",
+    ))
 }
 
 // Explaining a code, a refusal or a macro.
-fn explain<'a>(alloc: Global) -> Result<Command<'a>, AllocError> {
+fn explain<'a>(alloc: Global) -> Draft<'a> {
     let word = Arg::new(alloc, "LIB")
         .value_name("WORD|LIB")
         .help("A code, as POP, a refusal, as X7, or a file of macros")
         .required(true);
     let register = Arg::new(alloc, "REGISTER").help("The register of the macro in the file LIB");
-    Command::new(alloc, "explain")
-        .about(
-            "Says what a code or a refusal means and how to mend what causes it, or what is known at each element of a macro",
-        )
-        .after_help("Examples:\n  teco explain X9\n  teco explain trim.tes A")
-        .arg(rules(alloc))?
-        .arg(escape(alloc))?
-        .arg(word)?
-        .arg(register)
+    Draft::new(
+        alloc,
+        "explain",
+        "Says what a code or a refusal means and how to mend what causes it, or what is known at each element of a macro",
+        "Examples:\n  teco explain X9\n  teco explain trim.tes A",
+    )
+    .arg(rules(alloc))
+    .arg(escape(alloc))
+    .arg(word)
+    .arg(register)
 }
 
 // The bytes that may be typed, and that calls may take.
