@@ -13,7 +13,7 @@ _teco() {
     check) options="--rules --esc --help" ;;
     apply) options="--memory --arg --set --pages --strict --stats --cert --rules --esc --help" ;;
     edit) options="--memory --arg --set --pages --strict --stats --cert --rules --esc --dry-run --backup --quiet --help" ;;
-    trace) options="--limit --memory --arg --set --esc --help" ;;
+    trace) options="--limit --memory --arg --set --rules --esc --help" ;;
     show) options="--source --esc --help" ;;
     explain)
       mapfile -t COMPREPLY < <(compgen -W "X1 X2 X3 X4 X5 X6 X7 X8 X9 X10 X11 X12 X13 X14 X15 X16 X17 X18
