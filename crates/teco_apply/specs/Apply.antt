@@ -80,8 +80,8 @@ abbrev pub MacroStops : Bool → Call → World → Stop → World → Type 0
 MacroStops true call old stop new = Runs call stop old new ⊎ WantsMemory old stop new
 MacroStops false call old stop new = Runs call stop old new ⊎ IsNotRun call.found.fields.needs old stop new
 
--- What a run types is written, and its code line; or with a fault a part of that. Says whether there is a code line. The host's
--- count of failures goes from f to g: it rises where the host stops the run, and nowhere else.
+-- What a run types is written, and its code line; or with a fault a part of that. Says whether there is a code
+-- line. The host's count of failures goes from f to g: it rises where the host stops the run, and nowhere else.
 pub record RunWrites (Ran : Stop → World → Type 0) (new : World) (f g : ℕ) (sink sunk : Option (List ℕ))
     (result : Result Bool SessionFault) : Type 0 where
   pub stop : Stop
@@ -100,13 +100,15 @@ abbrev pub AnswersText : List ℕ → Course
 AnswersText text old new f g sink sunk result = RunWrites (TextStops text old) new f g sink sunk result
 
 abbrev pub AnswersMacro : Bool → Call → Course
-AnswersMacro opened call old new f g sink sunk result = RunWrites (MacroStops opened call old) new f g sink sunk result
+AnswersMacro opened call old new f g sink sunk result =
+    RunWrites (MacroStops opened call old) new f g sink sunk result
 
 -- ---- one after another
 -- one run, and another behind it where it is no code and all is written
 pub data Then (First Next : Course) (old new : World) (f g : ℕ) (sink sunk : Option (List ℕ))
     (result : Result Bool SessionFault) : Type 0 where
-  stops : result ≢ Ok false → First old new f g sink sunk result → Then First Next old new f g sink sunk result
+  stops : result ≢ Ok false → First old new f g sink sunk result
+      → Then First Next old new f g sink sunk result
   goes_on :
       (mid : World) (count : ℕ) (written : Option (List ℕ)) →
       First old mid f count sink written (Ok false) → Next mid new count g written sunk result →
@@ -132,7 +134,8 @@ DropsIfCoded (Ok false) old new f g = (new ≡ old) × (g ≡ f)
 DropsIfCoded (Err cannot) old new f g = (new ≡ old) × (g ≡ f)
 
 -- The edit of one file into another. Where no name has an ESC, both are open when the macro is to be run.
-pub record Applies (call : Call) (source target : List ℕ) (old new : World) (f g : ℕ) (sink sunk : Option (List ℕ))
+pub record Applies (call : Call) (source target : List ℕ) (old new : World) (f g : ℕ)
+    (sink sunk : Option (List ℕ))
     (result : Result Done SessionFault) : Type 0 where
   pub edited : World
   pub count : ℕ
@@ -141,17 +144,21 @@ pub record Applies (call : Call) (source target : List ℕ) (old new : World) (f
   pub drops : DropsIfCoded line edited new count g
   pub said : Said line false result
 
--- What comes of it. With an argument that the macro does not take, or without memory for the first command string, nothing is
--- done.
-abbrev pub Applied : Call → List ℕ → List ℕ → World → World → ℕ → ℕ → Option (List ℕ) → Option (List ℕ) → Result Done SessionFault → Type 0
-Applied call source target old new f g sink sunk (Ok done) = Applies call source target old new f g sink sunk (Ok done)
-Applied call source target old new f g sink sunk (Err fault.Write) = Applies call source target old new f g sink sunk (Err fault.Write)
+-- What comes of it. With an argument that the macro does not take, or without memory for the first command string,
+-- nothing is done.
+abbrev pub Applied : Call → List ℕ → List ℕ → World → World → ℕ → ℕ → Option (List ℕ)
+    → Option (List ℕ) → Result Done SessionFault → Type 0
+Applied call source target old new f g sink sunk (Ok done) =
+    Applies call source target old new f g sink sunk (Ok done)
+Applied call source target old new f g sink sunk (Err fault.Write) =
+    Applies call source target old new f g sink sunk (Err fault.Write)
 Applied call source target old new f g sink sunk (Err fault.Memory) = (new ≡ old) × Keeps sink sunk
 Applied call source target old new f g sink sunk (Err fault.Argument) = (new ≡ old) × Keeps sink sunk
 Applied call source target old new f g sink sunk (Err fault.Read) = ⊥
 
 -- ---- counts, for every host
--- The host's count of failures rises only in runs of which one is a code, or whose bytes cannot be written; no other fault comes.
+-- The host's count of failures rises only in runs of which one is a code, or whose bytes cannot be written; no
+-- other fault comes.
 abbrev pub LineCounts : Result Bool SessionFault → ℕ → ℕ → Type 0
 LineCounts (Ok true) f g = f ≤ g
 LineCounts (Ok false) f g = g ≡ f
@@ -166,8 +173,8 @@ DropCounts (Ok true) f g = f ≤ g
 DropCounts (Ok false) f g = g ≡ f
 DropCounts (Err cannot) f g = g ≡ f
 
--- Failures are counted over the whole edit: with an argument that is not taken, or without memory for the first command string, no call of the
--- host is made.
+-- Failures are counted over the whole edit: with an argument that is not taken, or without memory for the first
+-- command string, no call of the host is made.
 abbrev pub EditCounts : Result Done SessionFault → ℕ → ℕ → Type 0
 EditCounts (Ok done) f g = LineCounts (Ok done.coded) f g
 EditCounts (Err fault.Write) f g = f ≤ g

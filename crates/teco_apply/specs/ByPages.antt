@@ -22,7 +22,8 @@ use Rattle.teco_session.specs.declared.fault.SessionFault.{SessionFault}
 use Rattle.teco_session.specs.declared.fault.SessionFault.TheVariants as fault
 
 -- ---- command strings
--- what turns to the next page; what reads it behind the page before, with the form feed between them; what goes to the start
+-- what turns to the next page; what reads it behind the page before, with the form feed between them; what goes to
+-- the start
 abbrev pub turning : List ℕ
 turning = codes "P"
 
@@ -65,16 +66,21 @@ EndsWith done (Err cannot) result = result ≡ Err cannot
 
 -- ---- the macro
 -- it came to an end, in so many steps
-pub record RunsOn (call : Call) (old new : World) (f g : ℕ) (sink sunk : Option (List ℕ)) (steps : ℕ) : Type 0 where
+pub record RunsOn (call : Call) (old new : World) (f g : ℕ) (sink sunk : Option (List ℕ))
+    (steps : ℕ) : Type 0 where
   pub answers : AnswersMacro false call old new f g sink sunk (Ok false)
   pub counted : steps ≡ steps_of answers.stop
 
 -- The macro is run, if the guard admits that; else its library stays loaded.
-abbrev pub RunsAdmitted : Call → World → World → ℕ → ℕ → Option (List ℕ) → Option (List ℕ) → Result Ran SessionFault → Type 0
+abbrev pub RunsAdmitted : Call → World → World → ℕ → ℕ → Option (List ℕ) → Option (List ℕ)
+    → Result Ran SessionFault → Type 0
 RunsAdmitted call old new f g sink sunk (Ok (ran.On steps)) = RunsOn call old new f g sink sunk steps
-RunsAdmitted call old new f g sink sunk (Ok ran.Coded) = AnswersMacro false call old new f g sink sunk (Ok true)
-RunsAdmitted call old new f g sink sunk (Ok ran.Refused) = (new ≡ loaded call.found.library old) × (g ≡ f) × (sunk ≡ sink)
-RunsAdmitted call old new f g sink sunk (Err cannot) = AnswersMacro false call old new f g sink sunk (Err cannot)
+RunsAdmitted call old new f g sink sunk (Ok ran.Coded) =
+    AnswersMacro false call old new f g sink sunk (Ok true)
+RunsAdmitted call old new f g sink sunk (Ok ran.Refused) =
+    (new ≡ loaded call.found.library old) × (g ≡ f) × (sunk ≡ sink)
+RunsAdmitted call old new f g sink sunk (Err cannot) =
+    AnswersMacro false call old new f g sink sunk (Err cannot)
 
 -- what the macro came to where it is run, by whether a code was written
 abbrev pub RanBy : Result Bool SessionFault → Stop → Result Ran SessionFault → Type 0
@@ -112,7 +118,8 @@ pub record Closing (done : Tally) (old new : World) (f g : ℕ) (sink sunk : Opt
 -- ---- page after page
 -- whether bytes are unread can't be told: why is written
 abbrev pub Untold : Course
-Untold old new f g sink sunk line = RunWrites (λ why after. TellsIfUnread old after (Err why)) new f g sink sunk line
+Untold old new f g sink sunk line =
+    RunWrites (λ why after. TellsIfUnread old after (Err why)) new f g sink sunk line
 
 -- bytes are unread, and a command string is run
 pub record RunsForMore (text : List ℕ) (old new : World) (f g : ℕ) (sink sunk : Option (List ℕ))
@@ -121,7 +128,8 @@ pub record RunsForMore (text : List ℕ) (old new : World) (f g : ℕ) (sink sun
   pub answers : AnswersText text old new f g sink sunk line
 
 abbrev pub Turning : List ℕ → Course
-Turning text old new f g sink sunk line = RunsForMore text old new f g sink sunk line ⊎ Untold old new f g sink sunk line
+Turning text old new f g sink sunk line = RunsForMore text old new f g sink sunk line
+    ⊎ Untold old new f g sink sunk line
 
 -- what came of one that is run, by whether a code was written
 abbrev pub TurnedBy : Result Bool SessionFault → Result Turned SessionFault → Type 0
@@ -130,9 +138,11 @@ TurnedBy (Ok true) result = result ≡ Ok turned.Coded
 TurnedBy (Err cannot) result = result ≡ Err cannot
 
 -- A command string is run, if bytes are unread; else nothing is done.
-abbrev pub Turns : List ℕ → World → World → ℕ → ℕ → Option (List ℕ) → Option (List ℕ) → Result Turned SessionFault → Type 0
+abbrev pub Turns : List ℕ → World → World → ℕ → ℕ → Option (List ℕ) → Option (List ℕ)
+    → Result Turned SessionFault → Type 0
 Turns text old new f g sink sunk (Ok turned.On) = Turning text old new f g sink sunk (Ok false)
-Turns text old new f g sink sunk (Ok turned.Through) = (unread old.files ≡ []) × (new ≡ old) × (g ≡ f) × (sunk ≡ sink)
+Turns text old new f g sink sunk (Ok turned.Through) =
+    (unread old.files ≡ []) × (new ≡ old) × (g ≡ f) × (sunk ≡ sink)
 Turns text old new f g sink sunk (Ok turned.Coded) = Turning text old new f g sink sunk (Ok true)
 Turns text old new f g sink sunk (Err cannot) = Turning text old new f g sink sunk (Err cannot)
 
@@ -155,7 +165,8 @@ pub data PagesTurned (call : Call) (old : World) (f : ℕ) (sink : Option (List 
 -- Behind the macro on a page no bytes are unread, and the output is closed; or turning to the next page is the end.
 pub data BehindPage (done : Tally) (old new : World) (f g : ℕ) (sink sunk : Option (List ℕ))
     (result : Result Edited SessionFault) : Type 0 where
-  closes : unread old.files ≡ [] → Closing done old new f g sink sunk result → BehindPage done old new f g sink sunk result
+  closes : unread old.files ≡ [] → Closing done old new f g sink sunk result
+      → BehindPage done old new f g sink sunk result
   stops :
       (line : Result Bool SessionFault) →
       line ≢ Ok false → Turning turning old new f g sink sunk line → EndsWith done line result →
@@ -177,7 +188,8 @@ pub data EachPage (call : Call) (old new : World) (f g : ℕ) (sink sunk : Optio
 
 -- ---- all pages as one
 -- so many pages were read behind the first
-pub data PagesGathered (old : World) (f : ℕ) (sink : Option (List ℕ)) : ℕ → World → ℕ → Option (List ℕ) → Type 0 where
+pub data PagesGathered (old : World) (f : ℕ) (sink : Option (List ℕ)) : ℕ → World → ℕ
+    → Option (List ℕ) → Type 0 where
   none : PagesGathered old f sink 0 old f sink
   one_more :
       (pages : ℕ) (mid new : World) (k g : ℕ) (written sunk : Option (List ℕ)) →
@@ -186,7 +198,8 @@ pub data PagesGathered (old : World) (f : ℕ) (sink : Option (List ℕ)) : ℕ 
       PagesGathered old f sink (pages + 1) new g sunk
 
 -- All pages are read, as long as bytes are unread.
-pub data Gathers (old new : World) (f g : ℕ) (sink sunk : Option (List ℕ)) (line : Result Bool SessionFault) : Type 0 where
+pub data Gathers (old new : World) (f g : ℕ) (sink sunk : Option (List ℕ))
+    (line : Result Bool SessionFault) : Type 0 where
   through :
       (pages : ℕ) →
       PagesGathered old f sink pages new g sunk → unread new.files ≡ [] → line ≡ Ok false →
@@ -255,11 +268,13 @@ pub record EditsFile (pages : Pages) (call : Call) (source target : List ℕ) (o
   pub opens : OpensBoth source target old
   pub drops : DropsIfCoded (is_dropped result) edited new count g
 
--- What comes of it. With an argument that the macro does not take, or without memory for the first command string, nothing is
--- done.
+-- What comes of it. With an argument that the macro does not take, or without memory for the first command string,
+-- nothing is done.
 abbrev pub FileEdited : Pages → Call → List ℕ → List ℕ → EditCourse
-FileEdited pages call source target old new f g sink sunk (Ok edited) = EditsFile pages call source target old new f g sink sunk (Ok edited)
-FileEdited pages call source target old new f g sink sunk (Err fault.Write) = EditsFile pages call source target old new f g sink sunk (Err fault.Write)
+FileEdited pages call source target old new f g sink sunk (Ok edited) =
+    EditsFile pages call source target old new f g sink sunk (Ok edited)
+FileEdited pages call source target old new f g sink sunk (Err fault.Write) =
+    EditsFile pages call source target old new f g sink sunk (Err fault.Write)
 FileEdited pages call source target old new f g sink sunk (Err fault.Memory) = (new ≡ old) × Keeps sink sunk
 FileEdited pages call source target old new f g sink sunk (Err fault.Argument) = (new ≡ old) × Keeps sink sunk
 FileEdited pages call source target old new f g sink sunk (Err fault.Read) = ⊥

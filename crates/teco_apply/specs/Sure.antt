@@ -53,8 +53,8 @@ pub record IsReady (fields : Fields) (world : World) : Type 0 where
   pub fits : value fields.size (n_of world) ≤ LIMIT
   pub counts : value fields.commands (n_of world) ≤ MOST
 
--- The macro is called as the command machine does it, with an argument that it takes; and where it is ready, it is sure to end
--- within the printed number of commands.
+-- The macro is called as the command machine does it, with an argument that it takes; and where it is ready, it is
+-- sure to end within the printed number of commands.
 pub record Calls (fields : Fields) (given : Option ℤ) (answer : Stop) (old new : World) : Type 0 where
   pub taken : IsTaken fields.argument given
   pub stops : Stops (start (call_text fields.entry given) old) MOST answer new
@@ -76,8 +76,8 @@ pub record HasFiles (needs : Needs) (held : Held) : Type 0 where
   pub input : IsThere needs.input held.input
   pub output : IsThere needs.output held.output
 
--- Whether the macro is run: not where a file is missing that it needs, the input first, nor with an argument that it does not
--- take.
+-- Whether the macro is run: not where a file is missing that it needs, the input first, nor with an argument that
+-- it does not take.
 abbrev pub Answers : {X : Type 0} → Call → Held → Result X NotReady → Type 0
 Answers call held (Ok x) = HasFiles call.found.fields.needs held × TakesArgument call
 Answers call held (Err NoInput) = IsMissing call.found.fields.needs.input held.input

@@ -141,8 +141,11 @@ fn run_guarded<T: TextStore, H: Host, G: Guard<H>>(
 ) -> Option<Stopped>
     requires { IsTaken verified.now.fields.argument given }
     ensures stops { MatchOption result
-        ((machine.new ≡ record machine.old { kept = kept_loaded verified.now.library machine.old.kept }) × (host.new ≡ host.old))
-        (λ stopped. Joined (λ old new. MacroStops false (record { found = verified.now; given = given }) old stopped.stop new)
+        ((machine.new
+        ≡ record machine.old { kept = kept_loaded verified.now.library machine.old.kept })
+        × (host.new ≡ host.old))
+        (λ stopped. Joined (λ old new.
+        MacroStops false (record { found = verified.now; given = given }) old stopped.stop new)
         machine.old machine.new (H.files host.old) (H.files host.new)) }
     ensures counted { MatchOption result (host.new ≡ host.old)
         (λ stopped. StopCounts stopped.stop (H.failures host.old) (H.failures host.new)) }

@@ -11,8 +11,8 @@ use Rattle.teco_poly.specs.Reading.{IsPoly}
 use Rattle.teco_model.specs.Macros.{IsArgumentRange}
 use Rattle.teco_verifier.specs.table.Choices.{LongerText, Chosen}
 
--- Each part is one that has a text: registers, numbers of 64 bits, ranges of arguments, and polynomials that a `Poly` may
--- be.
+-- Each part is one that has a text: registers, numbers of 64 bits, ranges of arguments, and polynomials that a
+-- `Poly` may be.
 pub record IsLongerText (longer : LongerText) : Type 0 where
   pub register : longer.register < REGISTERS
   pub text : IsPoly longer.text

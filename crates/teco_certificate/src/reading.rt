@@ -282,7 +282,8 @@ fn others_at<'a>(longer: &mut Vec<LongerText>, text: &'a [u8]) -> Result<&'a [u8
 fn texts_at(alloc: Global, text: &[u8]) -> Result<(Vec<LongerText>, &[u8]), AllocError>
     ensures text { (ls : List LongerTextOf) (rest : List ℕ)
         → AllByRecursion IsLongerText ls → TextsRise ls
-        → text.now ≡ longer_texts ls ++ LF ∷ rest → IfOk result (λ r. (r.0.items ≡ ls) × (r.1.now ≡ LF ∷ rest)) }
+        → text.now ≡ longer_texts ls ++ LF ∷ rest
+        → IfOk result (λ r. (r.0.items ≡ ls) × (r.1.now ≡ LF ∷ rest)) }
     ensures rise { IfOk result (λ r. TextsRise r.0.items) }
     ensures few { IfOk result (λ r. length r.0.items ≤ REGISTERS) }
     ensures within { IfOk result (λ r. length r.1.now ≤ length text.now) }

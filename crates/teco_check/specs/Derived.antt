@@ -82,12 +82,13 @@ abbrev pub DerivesFrom : List Node → List Chosen → ℕ → Slots → Slots �
 DerivesFrom nodes chosen number old new result =
     DerivesRow number (derived_from nodes chosen number old) (slice_set old (number - 1) (Ok None)) new result
 
--- the answer is the definition's table, or its refusal; or the definition's table, if there is one, has facts at a node that no
--- table may have; where memory was refused nothing is said
+-- the answer is the definition's table, or its refusal; or the definition's table, if there is one, has facts at a
+-- node that no table may have; where memory was refused nothing is said
 abbrev pub Derives : Result Table Refusal → Result Table NotDerived → Type 0
 Derives defined (Ok table) = defined ≡ Ok table
 Derives defined (Err (fault.Refused why node)) = defined ≡ Err why
-Derives defined (Err (fault.Large node)) = (table : Table) → defined ≡ Ok table → AreLarge (facts_at table node)
+Derives defined (Err (fault.Large node)) = (table : Table) → defined ≡ Ok table
+    → AreLarge (facts_at table node)
 Derives defined (Err fault.Memory) = Unit {0}
 
 -- the table of so many nodes from the first on

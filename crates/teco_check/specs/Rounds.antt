@@ -9,4 +9,5 @@ use Rattle.teco_check.specs.declared.printed.Rounds.{Rounds}
 -- it is that of the node of its number, if that is one
 pub record AreRounds (nodes : List Node) (table : Table) (rounds : Rounds) : Type 0 where
   pub last : rounds.number ≤ length nodes
-  pub are : 0 < rounds.number → rounds.product ≡ turns_round nodes table (node_at nodes rounds.number).stand.iterations
+  pub are : 0 < rounds.number → rounds.product
+      ≡ turns_round nodes table (node_at nodes rounds.number).stand.iterations

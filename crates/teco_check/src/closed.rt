@@ -53,7 +53,8 @@ fn arrives_on(
     edges: &Edges,
 ) -> bool
     ensures { let element = option_map elements.seen read.now in
-        result ≡ (behind.begins_turn element way || rules.arrives nodes.now table.now element target (behind.along element way edges.now)) }
+        result ≡ (behind.begins_turn element way || rules.arrives nodes.now table.now element target
+        (behind.along element way edges.now)) }
 {
     begins_turn(read, way) || arrives(nodes, table, read, target, along(read, way, edges))
 }

@@ -121,7 +121,10 @@ fn arrive_behind(
     requires one { 0 < number }
     requires last { number ≤ length nodes.now }
     ensures { let node = node_at nodes.now number in
-        OnOk result (arrived.new ≡ arrived_all (rules.arrivals_behind (writing.changes_in nodes.now number) choice.now node.element 0 node.ways edges.now) arrived.old) }
+        OnOk result (arrived.new ≡ arrived_all
+        (rules.arrivals_behind (writing.changes_in nodes.now number) choice.now node.element 0
+        node.ways edges.now)
+        arrived.old) }
 {
     let read = element(nodes, number);
     for at in 0..ways(nodes, number) {
@@ -216,8 +219,9 @@ fn begun(alloc: Global, entry: &Entry, count: usize) -> Result<Arrived, AllocErr
     Ok(arrived)
 }
 
-/// The table that is derived with these choices, for what the entry is verified with. It takes time by the nodes and registers, and where ways meet by the pairs that
-/// were pushed since the entry.
+/// The table that is derived with these choices, for what the entry is verified with. It takes
+/// time by the nodes and registers, and where ways meet by the pairs that were pushed since the
+/// entry.
 pub fn derive(
     alloc: Global,
     entry: &Entry,

@@ -19,8 +19,8 @@ DoesIfMemory grows old new defined (Ok answer) = defined ≡ Ok (record { kept =
 DoesIfMemory grows old new defined (Err (stuck.Code c)) = (defined ≡ Err c) × (new ≡ old)
 DoesIfMemory grows old new defined (Err stuck.Memory) = IsTrue grows × IsOk defined × (new ≡ old)
 
--- What a replacement did: the match gave way to the new text, and the search text is the last one. A buffer that would be too
--- long is FUL; that, and want of memory, leave all as it was.
+-- What a replacement did: the match gave way to the new text, and the search text is the last one. A buffer that
+-- would be too long is FUL; that, and want of memory, leave all as it was.
 abbrev pub Replaces : Kept → Kept → Span → List ℕ → List ℕ → Result (Unit {0}) Stuck → Type 0
 Replaces old new found by text (Ok done) =
     replacement found by (record old { search_text = search_text_of text old }) ≡ Ok new

@@ -5,8 +5,8 @@ use Rattle.teco_pages.specs.PageCalls.{WritesFront}
 use Rattle.teco_pages.specs.declared.fault.Fault.{Fault}
 use Rattle.teco_pages.specs.declared.fault.Fault.TheVariants.{NoFile, In, Out, Full, Memory}
 
--- The bytes were written; or with a fault, which is counted, some from their front; or memory was refused, before the host was
--- called.
+-- The bytes were written; or with a fault, which is counted, some from their front; or memory was refused, before
+-- the host was called.
 abbrev pub GoesOut : List ℕ → Result (Unit {0}) Fault → Telling → Telling → ℕ → ℕ → Type 0
 GoesOut bytes (Ok done) old new f g = Becomes (after_writing bytes) old new × (g ≡ f)
 GoesOut bytes (Err NoFile) old new f g = ⊥

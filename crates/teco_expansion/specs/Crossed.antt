@@ -18,8 +18,8 @@ abbrev pub ends_from : Option ℕ → ℕ → Bool
 ends_from None to = false
 ends_from (Some end) to = nat_le to end
 
--- By what a jump crosses, with so many iterations open before it: the innermost that is open where it begins ends before the
--- place, or of those that are open behind it not as many were open where it began.
+-- By what a jump crosses, with so many iterations open before it: the innermost that is open where it begins ends
+-- before the place, or of those that are open behind it not as many were open where it began.
 abbrev pub crosses : Crossing → ℕ → ℕ → Bool
 crosses c starts to =
     (ends_before c.end to && nat_lt 0 starts) || (nat_lt 0 c.depth && not (ends_from c.outer to))

@@ -27,7 +27,8 @@ has_place number all p = list_any (λ (other : Stand). same_place p other.positi
 abbrev pub way_number : ℕ → Walk → ℕ → ℕ → Visit → Position → Result ℕ Refusal
 way_number entry w first number v target =
     ok_or (number_behind first (all_stands w entry) (stand_at number v.stand target))
-    (refusal_of_way first (all_stands w entry) w.refusal (refusal_at entry v Unpaired) (stand_at number v.stand target))
+    (refusal_of_way first (all_stands w entry) w.refusal (refusal_at entry v Unpaired)
+    (stand_at number v.stand target))
 
 -- these are the stands of a walk, the end behind them
 abbrev pub AreStandsOf : Texts → walk.Walk → List code.Stand → Type 0

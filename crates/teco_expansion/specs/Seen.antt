@@ -48,7 +48,9 @@ abbrev pub node_seen : Texts → Node → model.Node
 node_seen texts n = record {
   stand = stand_seen texts n.stand;
   register = n.register;
-  element = read_of (element.element_at (text_of texts n.stand.position.running.register) n.stand.position.running.place);
+  element =
+      read_of (element.element_at (text_of texts n.stand.position.running.register)
+      n.stand.position.running.place);
   ways = listed n.ways;
   names_macro = n.names_macro;
 }

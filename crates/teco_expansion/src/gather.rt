@@ -106,7 +106,8 @@ fn nodes_of(
     requires stands { AreStandsOf texts.now walk.now stands.now }
     requires room { All HasRoom walk.now.visits.items }
     ensures { Makes (λ nodes. map (node_seen texts.now) nodes.items) result
-        (model.nodes_at (library_of texts.now) texts.now.entry (walk_seen texts.now walk.now) 1 (map (visit_seen texts.now) walk.now.visits.items)) }
+        (model.nodes_at (library_of texts.now) texts.now.entry (walk_seen texts.now walk.now)
+        1 (map (visit_seen texts.now) walk.now.visits.items)) }
 {
     let mut nodes = Vec::new(alloc);
     for at in 0..walk.visits.len() {

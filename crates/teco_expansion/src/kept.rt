@@ -18,7 +18,8 @@ pub struct Kept {
 pub fn keep_steps(kept: &mut Vec<Kept>, register: usize, steps: &[Step]) -> Result<(), AllocError>
     ensures { OnOk result ((library : Library) (text : List ℕ)
         → macro library register ≡ Some text →
-        All (IsStepOf text) steps.now → All (IsKeptOf library) kept.old.items → All (IsKeptOf library) kept.new.items) }
+        All (IsStepOf text) steps.now → All (IsKeptOf library) kept.old.items
+        → All (IsKeptOf library) kept.new.items) }
 {
     for step in steps {
         kept.push(Kept {

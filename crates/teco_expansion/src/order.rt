@@ -61,7 +61,8 @@ fn position_in_text(
 ) -> Position
     requires { length (listed position.now.callers) < ROOM }
     ensures { position_seen texts.now result
-        ≡ order.position_in_text (macro (library_of texts.now) register) (seen element.now) (position_seen texts.now position.now) }
+        ≡ order.position_in_text (macro (library_of texts.now) register) (seen element.now)
+        (position_seen texts.now position.now) }
 {
     if texts.contains(register) {
         called(register, texts, element, position)
@@ -73,7 +74,8 @@ fn position_in_text(
 // A return is followed by what stands behind the call.
 fn position_behind_call(position: &Position) -> Position
     ensures { (texts : Texts) → position_seen texts result
-        ≡ order.position_behind_call (map (spot_seen texts) (listed position.now.callers)) (position_seen texts position.now) }
+        ≡ order.position_behind_call (map (spot_seen texts) (listed position.now.callers))
+        (position_seen texts position.now) }
 {
     match position.callers.get(0) {
         None => *position,
@@ -95,7 +97,8 @@ fn stand_behind_element(
     requires calls { length (listed from.now.position.callers) < ROOM }
     requires iterations { length (listed from.now.iterations) < ROOM }
     ensures { stand_seen texts.now result
-        ≡ order.stand_behind_kind (library_of texts.now) number element.now.kind (seen element.now) (stand_seen texts.now from.now) }
+        ≡ order.stand_behind_kind (library_of texts.now) number element.now.kind (seen element.now)
+        (stand_seen texts.now from.now) }
 {
     match element.kind {
         Kind::Call(call) => {
@@ -119,7 +122,8 @@ pub fn stand_behind(
     requires calls { length (listed from.now.position.callers) < ROOM }
     requires iterations { length (listed from.now.iterations) < ROOM }
     ensures { stand_seen texts.now result
-        ≡ order.stand_behind (library_of texts.now) number (option_map seen read.now) (stand_seen texts.now from.now) }
+        ≡ order.stand_behind (library_of texts.now) number (option_map seen read.now)
+        (stand_seen texts.now from.now) }
 {
     match read {
         None => stand_with(position_behind_call(&from.position), from),

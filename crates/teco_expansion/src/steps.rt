@@ -52,7 +52,8 @@ fn visit_behind(
 ) -> Visit
     requires { HasRoom visit.now }
     ensures { visit_seen texts.now result
-        ≡ model.visit_behind (library_of texts.now) number (option_map seen read.now) (visit_seen texts.now visit.now) }
+        ≡ model.visit_behind (library_of texts.now) number (option_map seen read.now)
+        (visit_seen texts.now visit.now) }
 {
     Visit {
         stand: stand_behind(texts, number, read, &visit.stand),

@@ -230,7 +230,8 @@ impl<'a> Texts<'a> {
     /// What its jump past a pair crosses, if that is kept.
     pub fn crossing(&self, register: Option<usize>, place: usize) -> Option<Crossing>
         ensures { IfSome result (λ crossed. (e : element.Element) (pairs : Pairs) (leaves : ℕ) →
-            reading_at (text_of self.now register) place ≡ Some (Whole e) → route_of e.kind ≡ Route.Past pairs leaves
+            reading_at (text_of self.now register) place ≡ Some (Whole e)
+            → route_of e.kind ≡ Route.Past pairs leaves
             → crossed ≡ crossing (text_of self.now register) pairs e.next) }
     {
         Some(self.step(register, place)?.crossing)

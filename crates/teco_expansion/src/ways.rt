@@ -78,7 +78,8 @@ fn way_or_jump(
     requires { element_at (text_of texts.now position.now.running.register)
         position.now.running.place ≡ Ok (Some (seen element.now)) }
     ensures { Gives (ways_seen texts.now) result
-        (model.way_or_jump (position_seen texts.now first) (seen element.now) (position_seen texts.now position.now)) }
+        (model.way_or_jump
+        (position_seen texts.now first) (seen element.now) (position_seen texts.now position.now)) }
 {
     let jump = jumped(texts, element, position)?;
     Ok(Ways::Two(first, jump))
@@ -87,7 +88,8 @@ fn way_or_jump(
 // `>` goes back to the start of its iteration, or on.
 fn end_ways(texts: &Texts<'_>, element: &Element<'_>, position: &Position) -> Result<Ways, Reason>
     ensures { Gives (ways_seen texts.now) result
-        (model.end_ways (listed position.now.running.starts) (seen element.now) (position_seen texts.now position.now)) }
+        (model.end_ways (listed position.now.running.starts) (seen element.now)
+        (position_seen texts.now position.now)) }
 {
     let starts = position.running.starts;
     match starts.get(0) {
@@ -104,7 +106,8 @@ fn leave_ways(texts: &Texts<'_>, element: &Element<'_>, position: &Position) -> 
     requires { element_at (text_of texts.now position.now.running.register)
         position.now.running.place ≡ Ok (Some (seen element.now)) }
     ensures { Gives (ways_seen texts.now) result
-        (model.leave_ways (listed position.now.running.starts) (seen element.now) (position_seen texts.now position.now)) }
+        (model.leave_ways (listed position.now.running.starts) (seen element.now)
+        (position_seen texts.now position.now)) }
 {
     if position.running.starts.len() == 0 {
         return Err(Reason::Unpaired);
@@ -122,7 +125,8 @@ fn ahead_ways(
     requires { element_at (text_of texts.now position.now.running.register)
         position.now.running.place ≡ Ok (Some (seen element.now)) }
     ensures { Gives (ways_seen texts.now) result
-        (model.ahead_ways goal (listed position.now.running.starts) (seen element.now) (position_seen texts.now position.now)) }
+        (model.ahead_ways goal (listed position.now.running.starts) (seen element.now)
+        (position_seen texts.now position.now)) }
 {
     if matches!(goal, Goal::EndTurn) && position.running.starts.len() == 0 {
         return Err(Reason::Unpaired);
@@ -187,7 +191,8 @@ pub fn called(
 ) -> Position
     requires { length (listed position.now.callers) < ROOM }
     ensures { position_seen texts.now result
-        ≡ model.called (text_of texts.now (Some register)) (seen element.now) (position_seen texts.now position.now) }
+        ≡ model.called (text_of texts.now (Some register)) (seen element.now)
+        (position_seen texts.now position.now) }
 {
     let waiting = past(texts, element, position).running;
     Position {
@@ -205,7 +210,8 @@ fn call_ways(
 ) -> Result<Ways, Reason>
     requires { length (listed position.now.callers) < ROOM }
     ensures { Gives (ways_seen texts.now) result
-        (model.call_ways (macro (library_of texts.now) register) (seen element.now) (position_seen texts.now position.now)) }
+        (model.call_ways (macro (library_of texts.now) register) (seen element.now)
+        (position_seen texts.now position.now)) }
 {
     if !texts.contains(register) {
         return Err(Reason::NoMacro);
@@ -240,7 +246,8 @@ fn element_ways(
     requires room { length (listed position.now.running.starts) < ROOM }
     requires calls { length (listed position.now.callers) < ROOM }
     ensures { Gives (ways_seen texts.now) result
-        (model.element_ways (library_of texts.now) element.now.kind (seen element.now) (position_seen texts.now position.now)) }
+        (model.element_ways (library_of texts.now) element.now.kind (seen element.now)
+        (position_seen texts.now position.now)) }
 {
     match element.kind {
         Kind::Call(call) => call_ways(call.register.index(), texts, element, position),
@@ -262,7 +269,8 @@ pub fn ways_at(
     requires room { length (listed position.now.running.starts) < ROOM }
     requires calls { length (listed position.now.callers) < ROOM }
     ensures { Gives (ways_seen texts.now) result
-        (model.ways_at (library_of texts.now) (option_map seen read.now) (position_seen texts.now position.now)) }
+        (model.ways_at (library_of texts.now) (option_map seen read.now)
+        (position_seen texts.now position.now)) }
 {
     match read {
         None => return_ways(position),

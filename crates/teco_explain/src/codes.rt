@@ -65,7 +65,8 @@ fn of_arguments(code: Code) -> Note {
     match code {
         Code::Arg => Note {
             summary: "an argument is missing, or is not allowed here",
-            meaning: "The command needs a number and has none, has one that it doesn't take, or the numbers before it are not well formed.",
+            meaning: "The command needs a number and has none, has one that it doesn't take, or \
+                the numbers before it are not well formed.",
             example: "=$$",
             remedy: "Write the number before the command, as in 5=, or take away one that the command doesn't use.",
         },
@@ -147,11 +148,13 @@ fn of_reading(code: Code) -> Note {
             summary: "the search text can't be read",
             meaning: "A control in it is unknown or cut off.",
             example: "S^N$$",
-            remedy: "Write ^Q before a character that is meant as it stands; the manual lists the controls of search texts.",
+            remedy: "Write ^Q before a character that is meant as it stands; the manual lists the \
+                controls of search texts.",
         },
         Code::Utc => Note {
             summary: "the command string ends too early",
-            meaning: "A command is cut off, an iteration or a conditional isn't closed, or the two ESC at the end are missing.",
+            meaning: "A command is cut off, an iteration or a conditional isn't closed, or the \
+                two ESC at the end are missing.",
             example: "<$$",
             remedy: "End each text with ESC, each < with >, each \" with ', and the command string with two ESC.",
         },
@@ -256,7 +259,8 @@ fn of_limits(code: Code) -> Note {
         },
         Code::Out => Note {
             summary: "the output can't be written",
-            meaning: "The folder is missing or may not be written, the name is that of something else than a regular file, or the disk is full.",
+            meaning: "The folder is missing or may not be written, the name is that of something \
+                else than a regular file, or the disk is full.",
             example: "",
             remedy: "Check the name and the folder. A file that was there before is as it was.",
         },

@@ -21,17 +21,20 @@ pub fn hint(why: Refusal, text: &[u8], place: usize) -> Option<&'static str> {
 fn of_fall(body: Body) -> Option<&'static str> {
     if body.turns_pages {
         return Some(
-            "P is not known to move on. Edit with --pages each, which runs the macro on every page, or go through the pages with N or FN.",
+            "P is not known to move on. Edit with --pages each, which runs the macro on every \
+                page, or go through the pages with N or FN.",
         );
     }
     if body.searches && body.goes_back {
         return Some(
-            "The search moves on, but 0L or R goes back before what it found. Write 0K or 0T without the 0L, as in Sfoo$;0KK, or give a count, as in JZ<..>.",
+            "The search moves on, but 0L or R goes back before what it found. Write 0K or 0T \
+                without the 0L, as in Sfoo$;0KK, or give a count, as in JZ<..>.",
         );
     }
     if body.moves_lines {
         return Some(
-            "L and K are not known to move on, since they may stay at the end. Give a count that is surely enough and test first, as in JZ<.-Z;..L>.",
+            "L and K are not known to move on, since they may stay at the end. Give a count that \
+                is surely enough and test first, as in JZ<.-Z;..L>.",
         );
     }
     None
@@ -41,7 +44,8 @@ fn of_fall(body: Body) -> Option<&'static str> {
 fn of_bound(body: Body) -> Option<&'static str> {
     if body.copies && body.gets {
         return Some(
-            "X and G of one register in one iteration can double the text in each turn. Move text a character at a time, or insert a text of a fixed length.",
+            "X and G of one register in one iteration can double the text in each turn. Move text \
+                a character at a time, or insert a text of a fixed length.",
         );
     }
     None
@@ -51,12 +55,14 @@ fn of_bound(body: Body) -> Option<&'static str> {
 fn of_place(around: &Around) -> Option<&'static str> {
     if around.has_saved_range {
         return Some(
-            "A place that a register keeps counts for QQJ alone, and not in a range. Go there with QQJ and delete a line or a character a turn, behind .-Z; as the test.",
+            "A place that a register keeps counts for QQJ alone, and not in a range. Go there \
+                with QQJ and delete a line or a character a turn, behind .-Z; as the test.",
         );
     }
     match (around.before, around.here) {
         (Some(before), Some(here)) if before.role == Role::Saved && here.role == Role::Jump => Some(
-            "A place that .UQ kept counts only if every way here comes by that .UQ and nothing was deleted or replaced since. Else write QQ:J$, which goes there if it can.",
+            "A place that .UQ kept counts only if every way here comes by that .UQ and nothing \
+                was deleted or replaced since. Else write QQ:J$, which goes there if it can.",
         ),
         _ => None,
     }
@@ -66,12 +72,14 @@ fn of_place(around: &Around) -> Option<&'static str> {
 fn of_deletion(around: &Around) -> Option<&'static str> {
     if around.tests_character {
         return Some(
-            "A test of a character says nothing about the room. Test the room too: .-Z; or .-Z\"L..' before D, and .\"G..' before -D.",
+            "A test of a character says nothing about the room. Test the room too: .-Z; or \
+                .-Z\"L..' before D, and .\"G..' before -D.",
         );
     }
     match around.before {
         Some(before) if before.role == Role::LastLength => Some(
-            "What a search found is deleted by a number, as in -3D for a text of three characters, or replaced by FSfoo$$.",
+            "What a search found is deleted by a number, as in -3D for a text of three \
+                characters, or replaced by FSfoo$$.",
         ),
         _ => None,
     }
@@ -100,7 +108,8 @@ fn of_unverified(around: &Around) -> Option<&'static str> {
 fn of_search(search: Sign, is_inside: bool) -> Option<&'static str> {
     if search.has_register {
         Some(
-            "^EQ in a search text isn't verified. Compare with a register's text a character at a time: nQQ is its nth character.",
+            "^EQ in a search text isn't verified. Compare with a register's text a character at a \
+                time: nQQ is its nth character.",
         )
     } else if search.is_empty {
         Some("A search with an empty text isn't verified: write the text once more.")

@@ -84,9 +84,12 @@ fn of_reading(refusal: Refusal) -> Note {
     match refusal {
         Refusal::Library => Note {
             summary: "this is no macro library",
-            meaning: "A library holds comments and ^U commands alone, each for another register: @^UA~..~ gives A its text. Something else stands here, a text isn't closed, or a register is given a text twice.",
+            meaning: "A library holds comments and ^U commands alone, each for another register: \
+                @^UA~..~ gives A its text. Something else stands here, a text isn't closed, or a \
+                register is given a text twice.",
             example: "5C",
-            remedy: "Put the macro into a register, close each text by the character that opened it, and write ESC as the byte 27 or name the file .tes and write $.",
+            remedy: "Put the macro into a register, close each text by the character that opened \
+                it, and write ESC as the byte 27 or name the file .tes and write $.",
         },
         Refusal::Fault => Note {
             summary: "this is no command, or a search text that can't be read",
@@ -96,7 +99,9 @@ fn of_reading(refusal: Refusal) -> Note {
         },
         Refusal::Partner => Note {
             summary: "the partner of a bracket or a jump is missing",
-            meaning: "A <, a \" or a | isn't closed, a ; or a > stands outside an iteration, a tag isn't there, or an iteration and a conditional overlap. Each pair must stand in one text, one inside the other.",
+            meaning: "A <, a \" or a | isn't closed, a ; or a > stands outside an iteration, a \
+                tag isn't there, or an iteration and a conditional overlap. Each pair must stand \
+                in one text, one inside the other.",
             example: "@^UA~2<J~",
             remedy: "Close what is open, innermost first.",
         },
@@ -111,7 +116,8 @@ fn of_arguments(refusal: Refusal) -> Note {
             summary: "an argument may be missing, or one that isn't allowed",
             meaning: "On some text a run would stop here with ARG, NAC, NCA or IIA.",
             example: "@^UA~=~",
-            remedy: "Give the command its number, or drop what is left over with ESC. A count that may be 0 or negative isn't allowed for a search.",
+            remedy: "Give the command its number, or drop what is left over with ESC. A count \
+                that may be 0 or negative isn't allowed for a search.",
         },
         Refusal::Pending => Note {
             summary: "a number is pending where two ways meet",
@@ -134,15 +140,19 @@ fn of_places(refusal: Refusal) -> Note {
     match refusal {
         Refusal::Place => Note {
             summary: "a place may be outside the buffer",
-            meaning: "On some text a run would stop here with POP. What is known of the room before and behind the pointer comes from J, from tests of . and Z, from insertions and from what searches found.",
+            meaning: "On some text a run would stop here with POP. What is known of the room \
+                before and behind the pointer comes from J, from tests of . and Z, from \
+                insertions and from what searches found.",
             example: "@^UA~5C~",
-            remedy: "Test before you move, as in .-Z;C or .\"GR', write :C, or go back to a place that .UQ kept with QQJ.",
+            remedy: "Test before you move, as in .-Z;C or .\"GR', write :C, or go back to a place \
+                that .UQ kept with QQJ.",
         },
         Refusal::Deletion => Note {
             summary: "a deletion may reach beyond the text",
             meaning: "On some text a run would stop here with DTB.",
             example: "@^UA~5D~",
-            remedy: "Test before you delete, as in .-Z\"LD' or .\"G-D', delete what a search found by its length, or delete lines with K.",
+            remedy: "Test before you delete, as in .-Z\"LD' or .\"G-D', delete what a search \
+                found by its length, or delete lines with K.",
         },
         _ => NONE,
     }
@@ -153,9 +163,12 @@ fn of_bounds(refusal: Refusal) -> Note {
     match refusal {
         Refusal::Fall => Note {
             summary: "nothing is known to shrink from turn to turn",
-            meaning: "An iteration without a count must come nearer to the end of the text in each turn: by a search, by C or D behind the test .-Z; and not by L or K, which may stay where they are.",
+            meaning: "An iteration without a count must come nearer to the end of the text in \
+                each turn: by a search, by C or D behind the test .-Z; and not by L or K, which \
+                may stay where they are.",
             example: "@^UA~<Ix$>~",
-            remedy: "Give the iteration a count that is surely enough, as in Z<..>, or move by what a search found and don't go back before it.",
+            remedy: "Give the iteration a count that is surely enough, as in Z<..>, or move by \
+                what a search found and don't go back before it.",
         },
         Refusal::Bound => Note {
             summary: "no bound was found in three tries",
@@ -190,7 +203,8 @@ fn of_calls(refusal: Refusal) -> Note {
         },
         Refusal::Size => Note {
             summary: "the macro is too large",
-            meaning: "With all that it calls it has over 4,096 elements, or more than 6 iterations or calls are open at once.",
+            meaning: "With all that it calls it has over 4,096 elements, or more than 6 \
+                iterations or calls are open at once.",
             example: "@^UA~1<1<1<1<1<1<1<>>>>>>>~",
             remedy: "Split it into macros that are verified and run one after another.",
         },
@@ -222,13 +236,16 @@ fn of_others(refusal: Refusal) -> Note {
     match refusal {
         Refusal::Unverified => Note {
             summary: "this command isn't verified",
-            meaning: "Not verified are the E commands, Y, ^Y, backward searches, searches with an empty text or with ^EQ, and outside an iteration searches that nothing asks about.",
+            meaning: "Not verified are the E commands, Y, ^Y, backward searches, searches with an \
+                empty text or with ^EQ, and outside an iteration searches that nothing asks about.",
             example: "@^UA~Y~",
-            remedy: "Leave files to apply, which opens and closes them; search forward; write :S.., or put ; behind a search in an iteration.",
+            remedy: "Leave files to apply, which opens and closes them; search forward; write \
+                :S.., or put ; behind a search in an iteration.",
         },
         Refusal::Certificate => Note {
             summary: "this is not the certificate of the macro",
-            meaning: "A certificate holds for one macro of one library, and each byte of it counts, line ends included.",
+            meaning: "A certificate holds for one macro of one library, and each byte of it \
+                counts, line ends included.",
             example: "",
             remedy: "Make it anew: teco verify LIB q > CERT.",
         },

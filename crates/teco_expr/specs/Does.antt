@@ -6,7 +6,8 @@ use Rattle.teco_model.specs.Arguments.{Arguments, levels_after_open, arguments_o
 use Rattle.teco_expr.specs.declared.args.ArgFault.{ArgFault}
 use Rattle.teco_expr.specs.declared.args.ArgFault.TheVariants as fault
 
--- The call left what the definition says, or answers the definition's code and left all as it was; it never wants memory.
+-- The call left what the definition says, or answers the definition's code and left all as it was; it never wants
+-- memory.
 abbrev pub Does : Arguments → Arguments → Result Arguments Code → Result (Unit {0}) ArgFault → Type 0
 Does old new defined (Ok done) = defined ≡ Ok new
 Does old new defined (Err (fault.Code c)) = (defined ≡ Err c) × (new ≡ old)

@@ -9,6 +9,7 @@ each_met met (x ∷ xs) [] = []
 
 -- items that are replaced where others say so
 abbrev pub replaced_where : {X : Type 0} → X → List Bool → List X → List X
-replaced_where other (replaced ∷ others) (x ∷ xs) = (if replaced then other else x) ∷ replaced_where other others xs
+replaced_where other (replaced ∷ others) (x ∷ xs) =
+    (if replaced then other else x) ∷ replaced_where other others xs
 replaced_where other [] xs = xs
 replaced_where other (replaced ∷ others) [] = []

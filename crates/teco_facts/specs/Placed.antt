@@ -4,4 +4,10 @@ use Rattle.teco_verifier.specs.facts.Transfer as rules
 use Rattle.teco_facts.specs.declared.edges.Placed.{Placed}
 
 abbrev pub seen : Placed → rules.Placed
-seen x = record { element = elements.seen x.element; library = x.library; inside = x.inside; colon = x.colon; leaves = x.leaves }
+seen x = record {
+  element = elements.seen x.element;
+  library = x.library;
+  inside = x.inside;
+  colon = x.colon;
+  leaves = x.leaves;
+}

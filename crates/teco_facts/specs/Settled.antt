@@ -14,7 +14,8 @@ settled_by (Some settling) level = settled_level settling.margins settling.ends 
 abbrev pub settled_since : Option Settling → List KnownLevel → List KnownLevel
 settled_since settling levels = map (settled_by settling) levels
 
--- The levels outside the innermost, each as it was when a parenthesis opened behind it: those outside it had settled by then.
+-- The levels outside the innermost, each as it was when a parenthesis opened behind it: those outside it had
+-- settled by then.
 abbrev pub levels_of : List Opened → List KnownLevel
 levels_of [] = []
 levels_of (opened ∷ outer) = opened.level ∷ settled_since opened.below (levels_of outer)
@@ -32,4 +33,5 @@ SettlesAgain earlier margins ends both =
 -- What settles them by one and then by another does to each what both do.
 abbrev pub SettlesBoth : Option Settling → Option Settling → Option Settling → Type 0
 SettlesBoth earlier later both =
-    (levels : List KnownLevel) → settled_since later (settled_since earlier levels) ≡ settled_since both levels
+    (levels : List KnownLevel) → settled_since later (settled_since earlier levels)
+    ≡ settled_since both levels

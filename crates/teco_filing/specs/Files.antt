@@ -13,8 +13,8 @@ use Rattle.teco_pages.specs.declared.fault.Fault.{Fault}
 use Rattle.teco_filing.specs.declared.halt.Halt.{Halt}
 use Rattle.teco_filing.specs.declared.halt.Halt.TheVariants.{Code, Memory, Host}
 
--- The input was opened as the definition says; or it is the definition's code, or memory was wanted, or the host failed, and all is
--- as it was.
+-- The input was opened as the definition says; or it is the definition's code, or memory was wanted, or the host
+-- failed, and all is as it was.
 abbrev pub OpensInput : World → World → Result (Option World) base.Code → Result (Unit {0}) Halt → Type 0
 OpensInput old new defined (Ok done) = defined ≡ Ok (Some new)
 OpensInput old new defined (Err (Code c)) = (defined ≡ Err c) × (new ≡ old)
@@ -32,7 +32,8 @@ OpensOutput old new defined (Err (Host host_fault.NoFile)) = ⊥
 OpensOutput old new defined (Err (Host host_fault.In)) = ⊥
 OpensOutput old new defined (Err (Host host_fault.Out)) = IsOk defined × (new ≡ old)
 
--- The output was let go as the definition says; or it is the definition's code; or the host failed, and no output is open.
+-- The output was let go as the definition says; or it is the definition's code; or the host failed, and no output
+-- is open.
 abbrev pub LetsGo : World → World → Result World base.Code → Result (Unit {0}) Halt → Type 0
 LetsGo old new defined (Ok done) = defined ≡ Ok new
 LetsGo old new defined (Err (Code c)) = (defined ≡ Err c) × (new ≡ old)
@@ -68,5 +69,6 @@ WritesAll (Err fault) kept held files left = left.named ≡ files.named
 -- and the output has taken its name; or with a fault it is gone
 abbrev pub ClosesAll : Result (Unit {0}) Fault → Kept → Held → HostFiles → HostFiles → Type 0
 ClosesAll (Ok done) kept held files left =
-    left ≡ record (after_closing (after_writing (bytes_of_all kept held files) files)) { unread = left.unread }
+    left ≡ record (after_closing (after_writing (bytes_of_all kept held files) files))
+    { unread = left.unread }
 ClosesAll (Err fault) kept held files left = left ≡ record files { unread = left.unread; output = None }

@@ -19,7 +19,8 @@ use Rattle.teco_filing.specs.declared.halt.Halt.TheVariants.{Code, Memory, Host}
 abbrev pub world : Kept → Held → HostFiles → World
 world kept held files = record { kept = kept; files = files_of held files }
 
--- R is so of what stayed and of what stays, where the host had the output open that the editor had open; and so it has again.
+-- R is so of what stayed and of what stays, where the host had the output open that the editor had open; and so it
+-- has again.
 abbrev pub Together : (World → World → Type 0) → Kept → Held → Kept → Held → Telling → Telling → Type 0
 Together R kept held kept' held' = Told (λ files left.
     IsSameOutput held files → R (world kept held files) (world kept' held' left) × IsSameOutput held' left)
@@ -34,8 +35,8 @@ pub record StopsWriting (old new : World) (defined : Result World base.Code) : T
   pub done : defined ≡ Ok after
   pub part : WritesPart old after new
 
--- What stays became the definition's; or it is the definition's code, or memory is wanted, or the host failed, each in its place, and
--- all is as it was but for a part of what is written.
+-- What stays became the definition's; or it is the definition's code, or memory is wanted, or the host failed, each
+-- in its place, and all is as it was but for a part of what is written.
 abbrev pub Turns : World → World → Result World base.Code → Result (Unit {0}) Halt → Type 0
 Turns old new defined (Ok done) = defined ≡ Ok new
 Turns old new defined (Err (Code c)) = (defined ≡ Err c) × (new ≡ old)

@@ -1,5 +1,5 @@
--- States that are the same but for the text of the command string: in both that only waits at its end, or calls the same
--- macro before its end.
+-- States that are the same but for the text of the command string: in both that only waits at its end, or calls the
+-- same macro before its end.
 use Rattle.std.specs.Prelude.{◌≡◌, ℕ, List, [], ◌∷◌, Option, Some, None, option_map, Ok}
 use Rattle.teco_model.specs.declared.kind.Call.{Call}
 use Rattle.teco_model.specs.declared.kind.Kind.{Kind}

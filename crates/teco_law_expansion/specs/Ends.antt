@@ -31,13 +31,16 @@ pub record AreClosed (nodes : List Node) : Type 0 where
       → AllByRecursion (λ begin. k ≤ end_of nodes begin) node.stand.iterations
   -- what ends an iteration is its end
   pub only :
-      (k : ℕ) (node : Node) (begin : ℕ) → numbered nodes k ≡ Some node → ends begin node ≡ true → end_of nodes begin ≡ k
+      (k : ℕ) (node : Node) (begin : ℕ) → numbered nodes k ≡ Some node → ends begin node ≡ true
+      → end_of nodes begin ≡ k
   -- what ends ahead is an iteration, and ends at a node
   pub begins :
-      (number : ℕ) → number < end_of nodes number → IsBegin nodes number × (end_of nodes number ≤ length nodes)
+      (number : ℕ) → number < end_of nodes number
+      → IsBegin nodes number × (end_of nodes number ≤ length nodes)
 
 abbrev pub IterationsEnd : Type 0
-IterationsEnd = (library : Library) (entry : ℕ) (nodes : List Node) → AreLinked library entry nodes → AreClosed nodes
+IterationsEnd = (library : Library) (entry : ℕ) (nodes : List Node) → AreLinked library entry nodes
+    → AreClosed nodes
 
 -- Where fewer iterations are open at a later number than at a node, those that were left ended before it.
 abbrev pub LeftHaveEnded : Type 0

@@ -31,4 +31,5 @@ pub record BeginsPending (entry n : ℕ) (world : World) : Type 0 where
   pub alike : AreAlike behind (start_pending entry n world)
 
 abbrev pub NumbersArePending : Type 0
-NumbersArePending = (entry n : ℕ) (world : World) → entry < REGISTERS → n < 2 ^ 31 → BeginsPending entry n world
+NumbersArePending = (entry n : ℕ) (world : World) → entry < REGISTERS → n < 2 ^ 31
+    → BeginsPending entry n world

@@ -74,7 +74,8 @@ place_at number stand = record { number = number; iterations = stand.iterations 
 
 abbrev pub WaysLead : Type 0
 WaysLead =
-    (library : Library) (entry : ℕ) (nodes : List Node) (number : ℕ) (node : Node) (way target : ℕ) (stand : Stand)
+    (library : Library) (entry : ℕ) (nodes : List Node) (number : ℕ) (node : Node) (way target : ℕ)
+    (stand : Stand)
     → AreLinked library entry nodes → numbered nodes number ≡ Some node
     → slice_get node.ways way ≡ Some target → numbered (stands nodes entry) target ≡ Some stand
     → LeadsBy node.element way (place_at number node.stand) (place_at target stand)

@@ -55,7 +55,8 @@ pub record WorkedExpansions : Type 0 where
       ∷ (11, 4 ∷ 8 ∷ []) ∷ (12, 9 ∷ []) ∷ [])
   pub marks_inside :
       told register_and_iterations mark_foo
-      ≡ Ok ((0, []) ∷ (0, []) ∷ (0, []) ∷ (0, 3 ∷ []) ∷ (0, 3 ∷ []) ∷ (0, 3 ∷ []) ∷ (0, 3 ∷ []) ∷ (0, []) ∷ [])
+      ≡ Ok ((0, []) ∷ (0, []) ∷ (0, []) ∷ (0, 3 ∷ []) ∷ (0, 3 ∷ []) ∷ (0, 3 ∷ []) ∷ (0, 3 ∷ [])
+      ∷ (0, []) ∷ [])
   pub counted :
       told place_and_ways (only (codes "3<.=>"))
       ≡ Ok ((0, 2 ∷ []) ∷ (0, 3 ∷ []) ∷ (1, 4 ∷ 7 ∷ []) ∷ (2, 5 ∷ []) ∷ (3, 6 ∷ []) ∷ (4, 4 ∷ 7 ∷ [])
@@ -85,13 +86,15 @@ pub record WorkedExpansions : Type 0 where
       ∷ (7, 8 ∷ []) ∷ [])
   pub past_branches :
       told place_and_ways (only (codes "0\"EF|F'| ='"))
-      ≡ Ok ((0, 2 ∷ []) ∷ (0, 3 ∷ []) ∷ (1, 4 ∷ 7 ∷ []) ∷ (3, 7 ∷ []) ∷ (5, 9 ∷ []) ∷ (7, 9 ∷ []) ∷ (9, 8 ∷ [])
+      ≡ Ok ((0, 2 ∷ []) ∷ (0, 3 ∷ []) ∷ (1, 4 ∷ 7 ∷ []) ∷ (3, 7 ∷ []) ∷ (5, 9 ∷ []) ∷ (7, 9 ∷ [])
+      ∷ (9, 8 ∷ [])
       ∷ (10, 9 ∷ []) ∷ (11, 10 ∷ []) ∷ [])
   -- a search without a colon leaves its iteration where it misses
   pub search_alone :
       told place_and_ways (only (then (codes "<Sa") (codes ">")))
       ≡ Ok ((0, 2 ∷ []) ∷ (0, 3 ∷ 5 ∷ []) ∷ (1, 4 ∷ 5 ∷ []) ∷ (4, 3 ∷ 5 ∷ []) ∷ (5, 6 ∷ []) ∷ [])
-  pub names : told (λ node. node.names_macro) (pair (codes "5UAQC") []) ≡ Ok (true ∷ false ∷ true ∷ false ∷ false ∷ [])
+  pub names : told (λ node. node.names_macro) (pair (codes "5UAQC") [])
+      ≡ Ok (true ∷ false ∷ true ∷ false ∷ false ∷ [])
   -- faults
   pub fault : Refuses (only (codes "1=?")) Fault 0 2
   pub fault_behind_blanks : Refuses (only (codes "1= ?")) Fault 0 3

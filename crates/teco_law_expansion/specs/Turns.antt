@@ -39,7 +39,8 @@ pub record Enters (e : Element) (a : Arguments) (frame : Frame) (turn : Turn) : 
   pub took : Took a value
   pub counts : Counts value turns
   pub gone :
-      turn ≡ turn_to (levels_after_taking a) e.next (record { start = e.next; turns = turns } ∷ frame.loops) frame
+      turn ≡ turn_to (levels_after_taking a) e.next
+      (record { start = e.next; turns = turns } ∷ frame.loops) frame
 
 -- or past it, where there is no first turn.
 pub record PassesBy (e : Element) (a : Arguments) (frame : Frame) (turn : Turn) : Type 0 where

@@ -64,19 +64,23 @@ levels_searching ReplaceInPages s = levels_looking s.left s.arguments
 -- what stays where a search finds, and where it misses
 abbrev pub Finds : Search → Element → State → World → Type 0
 Finds Find e s world = (kept : Kept) × (finding Find e s ≡ Ok (Found kept)) × (world ≡ with_kept kept s.world)
-Finds Replace e s world = (kept : Kept) × (finding Replace e s ≡ Ok (Found kept)) × (world ≡ with_kept kept s.world)
+Finds Replace e s world = (kept : Kept) × (finding Replace e s ≡ Ok (Found kept))
+    × (world ≡ with_kept kept s.world)
 Finds FindInPages e s world = looking_on FindInPages e s s.left ≡ Ok (Met world)
 Finds ReplaceInPages e s world = looking_on ReplaceInPages e s s.left ≡ Ok (Met world)
 
 abbrev pub Misses : Search → Element → State → World → Type 0
 Misses Find e s world =
-    (kept : Kept) × (finding Find e s ≡ Ok (Missed kept)) × (world ≡ with_kept (kept_by_miss e.colons kept) s.world)
+    (kept : Kept) × (finding Find e s ≡ Ok (Missed kept))
+    × (world ≡ with_kept (kept_by_miss e.colons kept) s.world)
 Misses Replace e s world =
-    (kept : Kept) × (finding Replace e s ≡ Ok (Missed kept)) × (world ≡ with_kept (kept_by_miss e.colons kept) s.world)
+    (kept : Kept) × (finding Replace e s ≡ Ok (Missed kept))
+    × (world ≡ with_kept (kept_by_miss e.colons kept) s.world)
 Misses FindInPages e s world =
     (last : World) × (looking_on FindInPages e s s.left ≡ Ok (Through last)) × (world ≡ looked_through last)
 Misses ReplaceInPages e s world =
-    (last : World) × (looking_on ReplaceInPages e s s.left ≡ Ok (Through last)) × (world ≡ looked_through last)
+    (last : World) × (looking_on ReplaceInPages e s s.left ≡ Ok (Through last))
+    × (world ≡ looked_through last)
 
 -- with a colon it answers
 abbrev pub answer_where : Bool → ℤ → Option ℤ
@@ -84,7 +88,8 @@ answer_where true n = Some n
 answer_where false n = None
 
 -- A search goes on behind itself, and may answer.
-pub record Answers (answer : Option ℤ) (world : World) (levels : Arguments) (e : Element) (s t : State) : Type 0 where
+pub record Answers (answer : Option ℤ) (world : World) (levels : Arguments) (e : Element)
+    (s t : State) : Type 0 where
   pub world_is : t.world ≡ world
   pub arguments_are : t.arguments ≡ levels_after_answer answer levels
   pub frames_are : t.frames ≡ frames_at e.next s.frames
@@ -93,7 +98,9 @@ pub record Answers (answer : Option ℤ) (world : World) (levels : Arguments) (e
 pub record GoesOnFound (x : Search) (e : Element) (s t : State) : Type 0 where
   pub world : World
   pub finds : Finds x e s world
-  pub answers : Answers (answer_where (has_colon e s.frames.running) (negsuc 0)) world (levels_searching x s) e s t
+  pub answers :
+      Answers (answer_where (has_colon e s.frames.running) (negsuc 0)) world (levels_searching x s)
+      e s t
 
 -- and where it misses with a colon, with 0
 pub record GoesOnMissed (x : Search) (e : Element) (s t : State) : Type 0 where

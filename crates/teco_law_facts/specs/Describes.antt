@@ -136,7 +136,8 @@ pub record IsAt
 
 -- an answer tells which outcome's position it is
 pub record IsAnswer
-    (run : Run) (answer : Answer) (around : Surroundings) (unread : ℕ) (pairs : List Pair) (v : ℤ) : Type 0 where
+    (run : Run) (answer : Answer) (around : Surroundings) (unread : ℕ) (pairs : List Pair) (v : ℤ) :
+    Type 0 where
   pub either : (v ≡ negsuc 0) ⊎ (v ≡ pos 0)
   pub found : v ≡ negsuc 0 → IsAt run answer.found around unread pairs
   pub failed : v ≡ pos 0 → IsAt run answer.failed around unread pairs
@@ -171,7 +172,8 @@ pub record Holds (run : Run) (facts : Facts) (unread : ℕ) (kept : Kept) : Type
   pub pushed : ArePushed run.n run.below facts.pushes kept.registers.stack
 
 -- They describe the pending arguments, too.
-pub record Describes (run : Run) (facts : Facts) (unread : ℕ) (kept : Kept) (arguments : Arguments) : Type 0 where
+pub record Describes (run : Run) (facts : Facts) (unread : ℕ) (kept : Kept)
+    (arguments : Arguments) : Type 0 where
   pub state : Holds run facts unread kept
   pub pending : ArePending (around_of kept) facts.arguments arguments
   pub answers :

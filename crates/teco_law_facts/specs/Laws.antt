@@ -93,7 +93,8 @@ abbrev pub EntryIsSound : Type 0
 EntryIsSound =
     (n unread : ℕ) (kept : Kept) (entry : Entry) (library : ℕ → Bool) (given : Option ℕ)
     → IsWhole kept → IsEntry n unread kept → HaveLengths entry.lengths kept → IsAsked entry.argument given
-    → Describes (record { n = n; library = library; turns = []; below = kept.registers.stack }) (facts_given entry)
+    → Describes (record { n = n; library = library; turns = []; below = kept.registers.stack })
+    (facts_given entry)
     unread kept (arguments_given given)
 
 -- what enters a body from what is known before its <
@@ -107,7 +108,8 @@ BodyStartsAreSound =
     (choice : Choice) (changes : Changes) (counted : Bool)
     → IsWhole kept → IsTrue (begins choice (entered counted facts))
     → Describes (run_in_turn unread kept run) (entered counted facts) unread kept arguments
-    → Describes (run_in_turn unread kept run) (body_start choice changes (entered counted facts)) unread kept arguments
+    → Describes (run_in_turn unread kept run) (body_start choice changes (entered counted facts))
+    unread kept arguments
 
 -- an iteration outside has fallen, and what is unread against what was held in it
 abbrev pub FellBefore : ℕ → Falls → Begun → Type 0
@@ -129,7 +131,8 @@ pub record IsCarried (n : ℕ) (facts : Facts) (kept_iteration : Bool) (begun : 
 -- Where a choice returns, the facts at the start of the body describe the state behind its >, if no more is held than
 -- the choice has; and what is carried to this turn is carried to the next.
 pub record BeginsAgain
-    (run : Run) (facts start : Facts) (unread : ℕ) (kept : Kept) (kept_iteration : Bool) (outer : List Begun) :
+    (run : Run) (facts start : Facts) (unread : ℕ) (kept : Kept) (kept_iteration : Bool)
+    (outer : List Begun) :
     Type 0 where
   pub described : Describes (run_in_turn unread kept (run_behind 1 run)) start unread kept no_arguments
   pub carried : IsCarried run.n facts kept_iteration (begun_at unread kept) outer
@@ -137,7 +140,8 @@ pub record BeginsAgain
 abbrev pub ReturnsAreSound : Type 0
 ReturnsAreSound =
     (run : Run) (facts end : Facts) (unread : ℕ) (kept : Kept) (arguments : Arguments)
-    (choice : Choice) (changes : Changes) (counted : Bool) (turns : Polynomial) (begun : Begun) (outer : List Begun)
+    (choice : Choice) (changes : Changes) (counted : Bool) (turns : Polynomial) (begun : Begun)
+    (outer : List Begun)
     → IsWhole kept → IsTrue (returns choice changes counted turns (entered counted facts) end)
     → Describes run end unread kept arguments → run.turns ≡ begun ∷ outer
     → length kept.text + unread ≤ value choice.held run.n
@@ -153,7 +157,8 @@ amount_of falling begun = begun.ahead
 abbrev pub TurnsFall : Type 0
 TurnsFall =
     (run : Run) (end : Facts) (unread : ℕ) (kept : Kept) (arguments : Arguments)
-    (choice : Choice) (changes : Changes) (turns : Polynomial) (entering : Facts) (begun : Begun) (outer : List Begun)
+    (choice : Choice) (changes : Changes) (turns : Polynomial) (entering : Facts) (begun : Begun)
+    (outer : List Begun)
     → kept.pointer ≤ length kept.text → IsTrue (returns choice changes false turns entering end)
     → Describes run end unread kept arguments → run.turns ≡ begun ∷ outer
     → amount_of (rank_of end.position) (begun_at unread kept) + 1 ≤ amount_of (rank_of end.position) begun

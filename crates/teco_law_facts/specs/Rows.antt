@@ -119,7 +119,12 @@ pub record FactRows : Type 0 where
   -- a conditional tells that there is a character, and C goes past it
   pub told :
       shown (from_entry 5 (codes ".-Z\"LC'"))
-      ≡ Ok (record { distances = record { back = 1; fore = 0 }; falls = []; held = codes "N"; ahead = codes "N" })
+      ≡ Ok (record {
+        distances = record { back = 1; fore = 0 };
+        falls = [];
+        held = codes "N";
+        ahead = codes "N";
+      })
   -- before a search loop all may be ahead, and there may be a turn for each character and one more
   pub turned : (from_entry 1 search_loop >>= turns None >>= λ most. Ok (text most)) ≡ Ok (codes "1 + N")
   -- a found search fell by what it found, and the insertion grew

@@ -46,7 +46,8 @@ abbrev pub Succeeds : {Y : Type 0} → (Y → Type 0) → Result Y Code → Type
 Succeeds P (Ok y) = P y
 Succeeds P (Err c) = ⊥
 
-abbrev pub Leads : {X Y : Type 0} → (X → Type 0) → (X → Y → Type 0) → Result X Refusal → Result Y Code → Type 0
+abbrev pub Leads : {X Y : Type 0} → (X → Type 0) → (X → Y → Type 0) → Result X Refusal
+    → Result Y Code → Type 0
 Leads Fit P (Ok x) y = Fit x → Succeeds (P x) y
 Leads Fit P (Err why) y = ⊤
 

@@ -45,12 +45,14 @@ TestsAreSound =
     (run : Run) (facts : Facts) (unread : ℕ) (kept : Kept) (arguments : Arguments) (x : Placed) (t : Test)
     → IsWhole kept → Describes run facts unread kept arguments → x.element.kind ≡ kind.Flow (flow.Test t)
     → Tells
-    (λ edges v. IsReached run (if holds t v then edges.on else edges.away) unread kept (levels_after_taking arguments))
+    (λ edges v. IsReached run (if holds t v then edges.on else edges.away) unread kept
+    (levels_after_taking arguments))
     (transfer x facts) (number_needed arguments)
 
 -- ; and :; go on, or leave their iteration with no arguments.
 abbrev pub LeavingOr : Run → ℕ → Kept → Arguments → Bool → Edges → Type 0
-LeavingOr run unread kept arguments true edges = IsReached (run_behind 1 run) edges.away unread kept no_arguments
+LeavingOr run unread kept arguments true edges =
+    IsReached (run_behind 1 run) edges.away unread kept no_arguments
 LeavingOr run unread kept arguments false edges =
     IsReached run edges.on unread kept (levels_after_taking arguments)
 
@@ -89,7 +91,8 @@ TurnsAreSound =
     (run : Run) (facts : Facts) (unread : ℕ) (kept : Kept) (arguments : Arguments) (falling : Option Rank)
     → IsWhole kept → Describes run facts unread kept arguments
     → Tells
-    (λ most (taken : Taken). AreTurns (value most run.n) (amount_of falling (begun_at unread kept)) taken.value)
+    (λ most (taken : Taken). AreTurns (value most run.n) (amount_of falling (begun_at unread kept))
+    taken.value)
     (turns falling facts) (arguments_of arguments.level)
 
 -- > goes back, where another turn begins, or on behind its iteration if that is counted; no arguments are left.
@@ -99,7 +102,8 @@ pub record EndsTurn (run : Run) (unread : ℕ) (kept : Kept) (counted : Bool) (e
 
 abbrev pub TurnEndsAreSound : Type 0
 TurnEndsAreSound =
-    (run : Run) (facts : Facts) (unread : ℕ) (kept : Kept) (arguments : Arguments) (x : Placed) (i : Iteration)
+    (run : Run) (facts : Facts) (unread : ℕ) (kept : Kept) (arguments : Arguments) (x : Placed)
+    (i : Iteration)
     (outer : List Iteration)
     → IsWhole kept → Describes run facts unread kept arguments → x.element.kind ≡ kind.Flow flow.EndTurn
     → facts.iterations ≡ i ∷ outer

@@ -22,7 +22,8 @@ use Rattle.teco_verifier.specs.facts.Transfer.{Placed, transfer}
 
 -- The facts describe what a world comes to, no more is unread, and what is held grew by no more than they say.
 pub record ComesTo
-    (run : Run) (held : Polynomial) (old : World) (next : Facts) (arguments : Arguments) (new : World) : Type 0 where
+    (run : Run) (held : Polynomial) (old : World) (next : Facts) (arguments : Arguments)
+    (new : World) : Type 0 where
   pub described : Describes run next (unread_of new) new.kept arguments
   pub less : unread_of new ≤ unread_of old
   pub grown :
@@ -47,7 +48,8 @@ AppendsAreSound =
     (run : Run) (facts : Facts) (world : World) (arguments : Arguments) (x : Placed)
     → IsWhole world.kept → Describes run facts (unread_of world) world.kept arguments
     → x.element.kind ≡ kind.Page page.Append
-    → Leads (FitsOn run) (Appends run facts.held world arguments) (transfer x facts) (arguments_of arguments.level)
+    → Leads (FitsOn run) (Appends run facts.held world arguments) (transfer x facts)
+    (arguments_of arguments.level)
 
 -- The first page of nP, and m,nP; and each page that follows.
 pub record TurnsPages

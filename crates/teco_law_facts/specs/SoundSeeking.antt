@@ -42,7 +42,8 @@ facts_seeking facts = record (facts_taken facts) {
 
 -- The element sought so far: that is known, its text is the last search text, and an output is open.
 pub record IsSeeking
-    (run : Run) (known : Facts) (old : World) (pending : Arguments) (text : List ℕ) (now : World) : Type 0 where
+    (run : Run) (known : Facts) (old : World) (pending : Arguments) (text : List ℕ) (now : World) :
+    Type 0 where
   pub comes : ComesTo run known.held old known (levels_after_taking pending) now
   pub sought : now.kept.search_text ≡ text
   pub output : (output : Output) × (now.files.output ≡ Some output)
@@ -63,7 +64,8 @@ MissComes false run held old pending edges new = ComesAway (run_behind 1 run) he
 -- A step that turns a page seeks on, with less unread; one that finds, or finds no page, goes along an edge.
 abbrev pub LooksOn : Run → Facts → World → Arguments → Placed → Edges → World → Looked → Type 0
 LooksOn run known old pending x edges now (Met new) =
-    Comes run known.held old (levels_after_answer (answer_where x.colon (negsuc 0)) (levels_after_taking pending)) edges
+    Comes run known.held old
+    (levels_after_answer (answer_where x.colon (negsuc 0)) (levels_after_taking pending)) edges
     new
     × (unread_of new ≤ unread_of now)
 LooksOn run known old pending x edges now (Turned n new) =
@@ -74,7 +76,8 @@ LooksOn run known old pending x edges now (Through last) =
 
 -- the first step of N and FN, and each that follows
 pub record Seeks
-    (run : Run) (known : Facts) (world : World) (pending : Arguments) (x : Placed) (s : Search) (edges : Edges)
+    (run : Run) (known : Facts) (world : World) (pending : Arguments) (x : Placed) (s : Search)
+    (edges : Edges)
     (taken : Taken) : Type 0 where
   pub begins :
       Succeeds (LooksOn run known world pending x edges world) (look_first s x.element taken world)
@@ -85,7 +88,8 @@ pub record Seeks
 
 abbrev pub PageSearchesAreSound : Type 0
 PageSearchesAreSound =
-    (run : Run) (facts : Facts) (world : World) (pending : Arguments) (x : Placed) (s : Search) (output : Output)
+    (run : Run) (facts : Facts) (world : World) (pending : Arguments) (x : Placed) (s : Search)
+    (output : Output)
     → IsWhole world.kept → Describes run facts (unread_of world) world.kept pending
     → x.element.kind ≡ kind.Search s → IsInPages s → world.files.output ≡ Some output
     → Leads (FitsOn run) (Seeks run (facts_seeking facts) world pending x s) (transfer x facts)

@@ -121,7 +121,8 @@ pub record LeavesFor
 
 -- An element of flow turns, along an edge that its value says.
 abbrev pub Reached : Run → Polynomial → State → Option Facts → Turn → Type 0
-Reached run held s edge turn = MatchOption edge ⊥ (λ next. ComesTo run held s.world next turn.arguments s.world)
+Reached run held s edge turn =
+    MatchOption edge ⊥ (λ next. ComesTo run held s.world next turn.arguments s.world)
 
 -- one edge and run, or the other
 abbrev pub ReachedIf : Bool → Run → Run → Polynomial → State → Option Facts → Option Facts → Turn → Type 0
@@ -145,7 +146,8 @@ FlowGoes flow.Iterate run held x edges s turn =
     × ReachedIf (enters taken.value) (run_begun s run) run held s edges.on edges.away turn
 FlowGoes flow.EndTurn run held x edges s turn =
     (loop : Loop) × (outer : List Loop) × (s.frames.running.loops ≡ loop ∷ outer)
-    × ReachedIf (is_last loop.turns) (run_behind 1 run) (run_begun s (run_behind 1 run)) held s edges.on edges.away turn
+    × ReachedIf (is_last loop.turns) (run_behind 1 run) (run_begun s (run_behind 1 run)) held s
+    edges.on edges.away turn
 FlowGoes flow.Leave run held x edges s turn =
     (v : ℤ) × (number_needed s.arguments ≡ Ok v)
     × ReachedIf (leaves x.element.colons v) (run_behind 1 run) run held s edges.away edges.on turn
@@ -174,7 +176,8 @@ pub record Begins
 -- While work is left at P, PW, N and FN, so many steps come at the most.
 abbrev pub PageUnderway : Page → Run → Polynomial → Placed → Edges → State → ℕ → State → Type 0
 PageUnderway p run held x edges old rest s =
-    IsTurnOrWrite p × (s.left ≡ Some rest) × Comes run held old.world (levels_after_taking old.arguments) edges s.world
+    IsTurnOrWrite p × (s.left ≡ Some rest)
+    × Comes run held old.world (levels_after_taking old.arguments) edges s.world
     × ((taken : Taken) × (arguments_of old.arguments.level ≡ Ok taken) × (taken.first ≡ None))
 
 abbrev pub SearchUnderway : Search → Run → Facts → Placed → State → ℕ → State → Type 0
@@ -258,7 +261,8 @@ ElementsAreSound =
 
 -- The end of a called text goes back, and what is known stays true.
 pub record ReturnsTo
-    (run : Run) (facts : Facts) (s : State) (caller : Frame) (callers : List Frame) (new : State) : Type 0 where
+    (run : Run) (facts : Facts) (s : State) (caller : Frame) (callers : List Frame) (new : State) :
+    Type 0 where
   pub comes : Comes run facts.held s.world new.arguments (transfer_return facts) new.world
   pub gone : new ≡ record s { frames = record { running = caller; callers = callers } }
 

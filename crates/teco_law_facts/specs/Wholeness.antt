@@ -39,6 +39,7 @@ IsWholeOutcome (Absent world) = IsWholeWorld world
 -- A run begins whole where its command string is of bytes; each step keeps what is whole, and so does a run.
 pub record WholeIsKept : Type 0 where
   pub starts :
-      (command : List ℕ) (world : World) → AreBytes command → IsWholeWorld world → IsWholeState (start command world)
+      (command : List ℕ) (world : World) → AreBytes command → IsWholeWorld world
+      → IsWholeState (start command world)
   pub steps : (s : State) → IsWholeState s → IsWholeOutcome (step s)
   pub runs : (n : ℕ) (s t : State) → IsWholeState s → Reaches n s t → IsWholeState t

@@ -1,5 +1,5 @@
--- What a run of a macro with a closed table comes to on its way: each element that begins is described by what the table
--- knows there, and each iteration that is entered takes at most the turns that the table tells.
+-- What a run of a macro with a closed table comes to on its way: each element that begins is described by what the
+-- table knows there, and each iteration that is entered takes at most the turns that the table tells.
 use Rattle.std.specs.Prelude.{◌≡◌, ℕ, zero, suc, ◌+◌, ◌≤◌, ◌==◌, ◌&&◌, if◌then◌else◌, List, length, Bool, true, false, Option, Some, None, Result, Ok, Err}
 use Rattle.teco_base.specs.declared.code.Code.{Code}
 use Rattle.teco_model.specs.declared.kind.Flow.TheVariants as flow
@@ -28,7 +28,8 @@ use Rattle.teco_verifier.specs.facts.Facts.{entry_of}
 -- ---- each element that begins
 -- A run stands at a node, and what the table knows there describes it; or it stands behind the call of the macro.
 pub data IsKnown
-    (library : Library) (entry : ℕ) (nodes : List Node) (table : Table) (n : ℕ) (below : List Pair) (s : State) :
+    (library : Library) (entry : ℕ) (nodes : List Node) (table : Table) (n : ℕ) (below : List Pair)
+    (s : State) :
     Type 0 where
   AtNode :
       (number : ℕ) (turns : List OpenTurn) → IsDescribed library nodes table n below number turns s
@@ -84,10 +85,11 @@ pub record Enters (s t : State) : Type 0 where
   pub goes : step s ≡ Next t
   pub opens : depth_of t ≡ suc (depth_of s)
 
--- The step is that of a <, where the table tells how many turns its iteration takes at most. Until it is left it takes no
--- more: the first begins with that step, and the others later.
+-- The step is that of a <, where the table tells how many turns its iteration takes at most. Until it is left it
+-- takes no more: the first begins with that step, and the others later.
 pub record TakesFewTurns
-    (library : Library) (nodes : List Node) (table : Table) (n : ℕ) (below : List Pair) (s t : State) : Type 0 where
+    (library : Library) (nodes : List Node) (table : Table) (n : ℕ) (below : List Pair)
+    (s t : State) : Type 0 where
   pub number : ℕ
   pub turns : List OpenTurn
   pub begin : IsBegin nodes number

@@ -28,7 +28,8 @@ use Rattle.teco_verifier.specs.facts.Facts.{entry_of}
 -- it turns, without a code, and none of them a command of files; the last goes along a way, to a state that the facts
 -- on it describe, and leaves open the files that the nodes need.
 pub record Passes
-    (library : Library) (entry : ℕ) (nodes : List Node) (table : Table) (n : ℕ) (below : List Pair) (number : ℕ)
+    (library : Library) (entry : ℕ) (nodes : List Node) (table : Table) (n : ℕ) (below : List Pair)
+    (number : ℕ)
     (turns : List OpenTurn) (s : State) (here : IsDescribed library nodes table n below number turns s) :
     Type 0 where
   pub before : ℕ
@@ -51,7 +52,8 @@ pub record Passes
 abbrev pub ElementsPass : Library → ℕ → List Node → Table → ℕ → List Pair → State → Type 0
 ElementsPass library entry nodes table n below first =
     (number : ℕ) (turns : List OpenTurn) (steps : ℕ) (s : State) → Reaches steps first s
-    → (here : IsDescribed library nodes table n below number turns s) → AreOpen (needs_in nodes table) s.world.files
+    → (here : IsDescribed library nodes table n below number turns s)
+    → AreOpen (needs_in nodes table) s.world.files
     → (step s ≡ End s.world) ⊎ Passes library entry nodes table n below number turns s here
 
 -- the run comes to its end, after no more than so many steps, none of them a command of files
@@ -72,7 +74,8 @@ RunsEndInTime =
     (library : Library) (entry : ℕ) (rules : Rules) (argument : Option ArgumentRange) (given : Option ℕ)
     (nodes : List Node) (table : Table) (n : ℕ) (world : World)
     → AreLinked library entry nodes → check (entry_of rules library argument) nodes table ≡ Ok tt
-    → IsAsked argument given → IsLoaded library world.kept → IsWhole world.kept → IsEntry n (unread_of world) world.kept
+    → IsAsked argument given → IsLoaded library world.kept → IsWhole world.kept
+    → IsEntry n (unread_of world) world.kept
     → AreOpen (needs_in nodes table) world.files
     → ElementsPass library entry nodes table n world.kept.registers.stack (start_given entry given world)
     → EndsWithin (start_given entry given world) (steps_in (turning nodes table n) + pages_in nodes table n)

@@ -1,4 +1,5 @@
--- What is true of a run where an element begins: it stands at a node that the table has as reached, and is described there.
+-- What is true of a run where an element begins: it stands at a node that the table has as reached, and is
+-- described there.
 use Rattle.std.specs.Prelude.{◌≡◌, ℕ, suc, ◌+◌, ◌≤◌, ⊤, List, [], ◌∷◌, ◌++◌, map, length, Bool, true, false, Option, Some, None, ◌||◌, if◌then◌else◌}
 use Rattle.teco_law_turns.specs.Moves.{OpenLoop, State as Shown}
 use Rattle.teco_model.specs.declared.flow.Loop.{Loop}
@@ -52,7 +53,8 @@ falling_in nodes table begin = rank_at (facts_at table (end_of nodes begin))
 
 -- An open iteration was entered, and what is known at its < is carried to the turn.
 pub record IsOpened
-    (nodes : List Node) (table : Table) (n begin : ℕ) (loop : Loop) (turn : OpenTurn) (outer : List OpenTurn) :
+    (nodes : List Node) (table : Table) (n begin : ℕ) (loop : Loop) (turn : OpenTurn)
+    (outer : List OpenTurn) :
     Type 0 where
   pub facts : Facts
   pub start : Facts
@@ -105,7 +107,8 @@ abbrev pub held_of : World → ℕ
 held_of world = length world.kept.text + unread_of world
 
 abbrev pub loops_of : List ℕ → List OpenTurn → List OpenLoop
-loops_of (begin ∷ begins) (turn ∷ turns) = record { begin = begin; more = Some turn.more } ∷ loops_of begins turns
+loops_of (begin ∷ begins) (turn ∷ turns) =
+    record { begin = begin; more = Some turn.more } ∷ loops_of begins turns
 loops_of [] turns = []
 loops_of (begin ∷ begins) [] = []
 

@@ -18,7 +18,8 @@ abbrev pub CommandsAreSteps : Type 0
 CommandsAreSteps =
     (entry : Entry) (nodes : List Node) (table : Table) (printed : Polynomial) (n : ℕ)
     → commands entry nodes table ≡ Ok printed
-    → steps_before entry.argument + steps_in (turning nodes table n) + pages_in nodes table n ≡ value printed n
+    → steps_before entry.argument + steps_in (turning nodes table n) + pages_in nodes table n
+    ≡ value printed n
 
 -- A closed table is closed as a table of numbers.
 abbrev pub TablesAreClosed : Type 0

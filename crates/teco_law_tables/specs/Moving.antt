@@ -64,12 +64,14 @@ pub record Comes
   pub leads : edges_at nodes node facts ≡ Ok edges
   pub on_way : along node.element way edges ≡ Some next
   pub described :
-      Describes (run_along node.element way (left_by nodes node) s.world run) next (unread_of t.world) t.world.kept
+      Describes (run_along node.element way (left_by nodes node) s.world run) next
+      (unread_of t.world) t.world.kept
       t.arguments
   pub less : unread_of t.world ≤ unread_of s.world
   pub grown : held_of t.world + value facts.held run.n ≤ held_of s.world + value next.held run.n
 
--- The last step of an element goes along a way. P, PW, N and FN may have taken others before, and stood where they began.
+-- The last step of an element goes along a way. P, PW, N and FN may have taken others before, and stood where they
+-- began.
 abbrev pub IsLong : Option Element → Type 0
 IsLong None = ⊥
 IsLong (Some e) = is_long e.kind ≡ true
@@ -80,7 +82,8 @@ pub data IsLast (read : Option Element) (s last : State) : Type 0 where
 
 -- A run came to a node by a move, and is described there if no more is held than the table has there.
 pub record MovesOn
-    (library : Library) (nodes : List Node) (table : Table) (n : ℕ) (below : List Pair) (number : ℕ) (node : Node)
+    (library : Library) (nodes : List Node) (table : Table) (n : ℕ) (below : List Pair) (number : ℕ)
+    (node : Node)
     (turns : List OpenTurn) (s : State) (target : ℕ) (t : State) : Type 0 where
   pub there : Node
   pub at : numbered nodes target ≡ Some there
@@ -88,11 +91,13 @@ pub record MovesOn
   pub move :
       Move (turning nodes table n) (shown nodes table number node.stand.iterations turns s.world)
       (shown nodes table target there.stand.iterations later t.world)
-  pub held : held_of t.world ≤ held_at nodes table n target → IsDescribed library nodes table n below target later t
+  pub held : held_of t.world ≤ held_at nodes table n target
+      → IsDescribed library nodes table n below target later t
 
 -- A run may have come to the end instead.
 pub data ComesOn
-    (library : Library) (entry : ℕ) (nodes : List Node) (table : Table) (n : ℕ) (below : List Pair) (number : ℕ)
+    (library : Library) (entry : ℕ) (nodes : List Node) (table : Table) (n : ℕ) (below : List Pair)
+    (number : ℕ)
     (node : Node) (turns : List OpenTurn) (s : State) (target : ℕ) (t : State) : Type 0 where
   Over :
       (over entry).position ≡ position_of t
@@ -103,7 +108,8 @@ pub data ComesOn
 
 abbrev pub StepsMove : Type 0
 StepsMove =
-    (library : Library) (entry : ℕ) (nodes : List Node) (table : Table) (n : ℕ) (below : List Pair) (number : ℕ)
+    (library : Library) (entry : ℕ) (nodes : List Node) (table : Table) (n : ℕ) (below : List Pair)
+    (number : ℕ)
     (turns : List OpenTurn) (s last t : State)
     → AreLinked library entry nodes → check_nodes nodes table ≡ Ok tt
     → (here : IsDescribed library nodes table n below number turns s)

@@ -57,18 +57,21 @@ verdict library chosen = verdict_expanded (entry_of First library None) chosen (
 -- of one that takes an argument
 abbrev pub verdict_between : ℕ → ℕ → Library → List Chosen → Verdict
 verdict_between low high library chosen =
-    verdict_expanded (entry_of First library (Some (record { low = low; high = high }))) chosen (expansion library 0)
+    verdict_expanded (entry_of First library (Some (record { low = low; high = high }))) chosen
+    (expansion library 0)
 
 abbrev pub poly : List ℕ → Polynomial
 poly coefficients = first COEFFICIENTS coefficients
 
 -- an iteration that is kept, with so much held
 abbrev pub kept_with : ℕ → List ℕ → Chosen
-kept_with begin held = record { begin = begin; held = poly held; kept = true; distances = nowhere; longer = [] }
+kept_with begin held =
+    record { begin = begin; held = poly held; kept = true; distances = nowhere; longer = [] }
 
 -- one of which nothing is known but that it holds so much
 abbrev pub lost_with : ℕ → List ℕ → Chosen
-lost_with begin held = record { begin = begin; held = poly held; kept = false; distances = nowhere; longer = [] }
+lost_with begin held =
+    record { begin = begin; held = poly held; kept = false; distances = nowhere; longer = [] }
 
 -- each a becomes bb, and then there is a turn for each character
 abbrev pub replace_and_count : Library
@@ -87,17 +90,22 @@ abbrev pub mark_pages : Library
 mark_pages = only (then (codes "<Nfoo") (then (codes ";I!") (codes ">")))
 
 pub record WorkedTables : Type 0 where
-  pub marks : verdict mark_foo (kept_with 3 (0 ∷ 2 ∷ []) ∷ []) ≡ Printed (codes "8 + 4*N") (codes "1 + 2*N") (codes "-")
+  pub marks : verdict mark_foo (kept_with 3 (0 ∷ 2 ∷ []) ∷ [])
+      ≡ Printed (codes "8 + 4*N") (codes "1 + 2*N") (codes "-")
   pub marks_once :
-      verdict mark_once (kept_with 3 (0 ∷ 2 ∷ []) ∷ []) ≡ Printed (codes "14 + 10*N") (codes "1 + 2*N") (codes "-")
+      verdict mark_once (kept_with 3 (0 ∷ 2 ∷ []) ∷ [])
+      ≡ Printed (codes "14 + 10*N") (codes "1 + 2*N") (codes "-")
   -- one that is not kept may stand as well, and so may one that holds more
   pub lost :
-      verdict mark_foo (lost_with 3 (0 ∷ 2 ∷ []) ∷ []) ≡ Printed (codes "8 + 4*N") (codes "1 + 2*N") (codes "-")
-  pub more : verdict mark_foo (kept_with 3 (5 ∷ 2 ∷ []) ∷ []) ≡ Printed (codes "8 + 4*N") (codes "6 + 2*N") (codes "-")
+      verdict mark_foo (lost_with 3 (0 ∷ 2 ∷ []) ∷ [])
+      ≡ Printed (codes "8 + 4*N") (codes "1 + 2*N") (codes "-")
+  pub more : verdict mark_foo (kept_with 3 (5 ∷ 2 ∷ []) ∷ [])
+      ≡ Printed (codes "8 + 4*N") (codes "6 + 2*N") (codes "-")
   -- with too little held a choice does not stand, and there is none
   pub too_little : verdict mark_foo (kept_with 3 (0 ∷ 1 ∷ []) ∷ []) ≡ NotClosed 3
   pub none_chosen : verdict mark_foo [] ≡ NotClosed 3
-  pub counted : verdict (only (codes "3<.=>")) (kept_with 3 (0 ∷ 1 ∷ []) ∷ []) ≡ Printed (codes "13") (codes "N") (codes "-")
+  pub counted : verdict (only (codes "3<.=>")) (kept_with 3 (0 ∷ 1 ∷ []) ∷ [])
+      ≡ Printed (codes "13") (codes "N") (codes "-")
   -- what falls in no turn has no end
   pub endless : verdict (only (codes "<.=>")) (kept_with 2 (0 ∷ 1 ∷ []) ∷ []) ≡ NotClosed 2
   pub replaced :
@@ -106,7 +114,8 @@ pub record WorkedTables : Type 0 where
   pub copied :
       verdict copy_twice (kept_with 5 (0 ∷ 2 ∷ []) ∷ []) ≡ Printed (codes "10") (codes "3*N") (codes "-")
   pub pages :
-      verdict mark_pages (kept_with 2 (0 ∷ 2 ∷ []) ∷ []) ≡ Printed (codes "7 + 5*N + N^2") (codes "1 + 2*N") (codes "O")
+      verdict mark_pages (kept_with 2 (0 ∷ 2 ∷ []) ∷ [])
+      ≡ Printed (codes "7 + 5*N + N^2") (codes "1 + 2*N") (codes "O")
   pub repeated :
       verdict (only (then (codes "10<Ia") (codes ">"))) (kept_with 3 (9 ∷ 1 ∷ []) ∷ [])
       ≡ Printed (codes "24") (codes "10 + N") (codes "-")

@@ -16,7 +16,13 @@ by_second library chosen = verdict_expanded (entry_of Second library None) chose
 -- an iteration that is kept, with so much held, and a character ahead at the start of its body
 abbrev pub kept_before_character : ℕ → List ℕ → Chosen
 kept_before_character begin held =
-    record { begin = begin; held = poly held; kept = true; distances = record { back = 0; fore = 1 }; longer = [] }
+    record {
+      begin = begin;
+      held = poly held;
+      kept = true;
+      distances = record { back = 0; fore = 1 };
+      longer = [];
+    }
 
 -- each line is indented
 abbrev pub indent_lines : Library
@@ -56,17 +62,21 @@ put_text = Some (then (codes "J<Sx") (codes ";GB>")) ∷ Some (codes "12345") �
 
 pub record WorkedSecondTables : Type 0 where
   pub lines :
-      by_second indent_lines (kept_with 3 (0 ∷ 3 ∷ []) ∷ []) ≡ Printed (codes "11 + 7*N") (codes "2 + 3*N") (codes "-")
+      by_second indent_lines (kept_with 3 (0 ∷ 3 ∷ []) ∷ [])
+      ≡ Printed (codes "11 + 7*N") (codes "2 + 3*N") (codes "-")
   pub untested : by_second indent_endlessly (kept_with 3 (0 ∷ 3 ∷ []) ∷ []) ≡ NotClosed 3
   pub deleted :
-      by_second delete_lines (kept_with 3 (0 ∷ 1 ∷ []) ∷ []) ≡ Printed (codes "10 + 6*N") (codes "N") (codes "-")
+      by_second delete_lines (kept_with 3 (0 ∷ 1 ∷ []) ∷ [])
+      ≡ Printed (codes "10 + 6*N") (codes "N") (codes "-")
   -- a place that is saved bounds a range, and another number does not
   pub saved :
-      by_second delete_blocks (kept_with 3 (0 ∷ 1 ∷ []) ∷ []) ≡ Printed (codes "17 + 13*N") (codes "N") (codes "-")
+      by_second delete_blocks (kept_with 3 (0 ∷ 1 ∷ []) ∷ [])
+      ≡ Printed (codes "17 + 13*N") (codes "N") (codes "-")
   pub not_saved : by_second (only (codes ":QB,ZT")) [] ≡ NotDerived refusal.Place
   -- what is held falls
   pub pages :
-      by_second head_pages (kept_with 3 (0 ∷ 3 ∷ []) ∷ []) ≡ Printed (codes "11 + 7*N") (codes "2 + 3*N") (codes "O")
+      by_second head_pages (kept_with 3 (0 ∷ 3 ∷ []) ∷ [])
+      ≡ Printed (codes "11 + 7*N") (codes "2 + 3*N") (codes "O")
   pub pages_alone : by_second (only (codes "<P>")) (kept_with 2 (0 ∷ 1 ∷ []) ∷ []) ≡ NotClosed 2
   pub trimmed :
       by_second trim (kept_with 3 (2 ∷ 1 ∷ []) ∷ []) ≡ Printed (codes "40 + 12*N") (codes "2 + N") (codes "-")
@@ -83,9 +93,12 @@ pub record WorkedSecondTables : Type 0 where
       by_second spread (kept_with 2 (0 ∷ 3 ∷ []) ∷ kept_with 8 (1 ∷ 3 ∷ []) ∷ []) ≡ NotDerived refusal.Place
   -- a digit stands where \ reads
   pub added :
-      by_second add_numbers (kept_with 5 (0 ∷ 1 ∷ []) ∷ []) ≡ Printed (codes "14 + 8*N") (codes "N") (codes "-")
+      by_second add_numbers (kept_with 5 (0 ∷ 1 ∷ []) ∷ [])
+      ≡ Printed (codes "14 + 8*N") (codes "N") (codes "-")
   -- the pages count once, and a text of the library with its length
   pub pages_once :
-      by_second mark_pages (kept_with 2 (0 ∷ 2 ∷ []) ∷ []) ≡ Printed (codes "7 + 5*N") (codes "1 + 2*N") (codes "O")
+      by_second mark_pages (kept_with 2 (0 ∷ 2 ∷ []) ∷ [])
+      ≡ Printed (codes "7 + 5*N") (codes "1 + 2*N") (codes "O")
   pub text_put :
-      by_second put_text (kept_with 3 (0 ∷ 6 ∷ []) ∷ []) ≡ Printed (codes "8 + 4*N") (codes "5 + 6*N") (codes "-")
+      by_second put_text (kept_with 3 (0 ∷ 6 ∷ []) ∷ [])
+      ≡ Printed (codes "8 + 4*N") (codes "5 + 6*N") (codes "-")

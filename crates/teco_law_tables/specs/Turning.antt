@@ -40,8 +40,8 @@ begins_of node = begins_iteration node.element
 abbrev pub begins_at : List Node → ℕ → Bool
 begins_at nodes k = option_map_or begins_of (numbered nodes k) false
 
--- What is held at most: N before the first node, what is known at a node that is reached, and at the start of a body that
--- is not what is held at its <.
+-- What is held at most: N before the first node, what is known at a node that is reached, and at the start of a
+-- body that is not what is held at its <.
 abbrev pub held_in : ℕ → Facts → ℕ
 held_in n facts = value facts.held n
 

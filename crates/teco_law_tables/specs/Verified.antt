@@ -1,5 +1,6 @@
--- A macro whose table is closed runs to its end without a code, within the printed number of commands, from each state
--- with the needed files open in which the printed size may be held, and with each argument in the range that is declared.
+-- A macro whose table is closed runs to its end without a code, within the printed number of commands, from each
+-- state with the needed files open in which the printed size may be held, and with each argument in the range that
+-- is declared.
 use Rattle.std.specs.Prelude.{ℕ, ◌<◌, ◌≤◌, List, Option}
 use Rattle.teco_base.specs.declared.TheConstants.{LIMIT, REGISTERS}
 use Rattle.teco_model.specs.State.{World, start}

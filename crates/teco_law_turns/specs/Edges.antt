@@ -18,7 +18,8 @@ IsCarried drop before after =
 -- ahead.
 abbrev pub IsAheadBounded : Table → ℕ → ℕ → Option ℤ → Type 0
 IsAheadBounded t i j drop =
-    MatchOption drop ⊥ (λ d. pos (t.ahead_most i) ≤ℤ (pos (t.ahead_most j) +ℤ d)) ⊎ (t.held_most j ≤ t.ahead_most j)
+    MatchOption drop ⊥ (λ d. pos (t.ahead_most i) ≤ℤ (pos (t.ahead_most j) +ℤ d))
+    ⊎ (t.held_most j ≤ t.ahead_most j)
 
 -- an edge from one node to a later one that the table's target covers
 pub record IsEdge (t : Table) (i j : ℕ) (e : Effect) : Type 0 where
@@ -41,5 +42,6 @@ abbrev pub EdgesGo : Type 0
 EdgesGo =
     (t : Table) (s new : State) (e : Effect)
     → s.held ≤ t.held_most s.node → s.ahead ≤ t.ahead_most s.node
-    → IsEdge t s.node new.node e → Does e s new → new.opened ≡ still_open (λ o. t.end o.begin) new.node s.opened
+    → IsEdge t s.node new.node e → Does e s new
+    → new.opened ≡ still_open (λ o. t.end o.begin) new.node s.opened
     → Goes t s new

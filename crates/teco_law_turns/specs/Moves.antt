@@ -38,7 +38,8 @@ pub record Goes (t : Table) (s new : State) : Type 0 where
   pub held : new.held + t.held_most s.node ≤ s.held + t.held_most new.node
   pub ahead : new.ahead ≤ t.ahead_most new.node
   pub falls :
-      AllByRecursion (λ l. FallFollows (t.fall s.node l) (t.fall new.node l) s.ahead new.ahead) (t.loops new.node)
+      AllByRecursion (λ l. FallFollows (t.fall s.node l) (t.fall new.node l) s.ahead new.ahead)
+      (t.loops new.node)
 
 -- where a turn begins, no more is held or ahead than before, and what is ahead is held
 pub record BeginsTurn (s new : State) : Type 0 where

@@ -26,12 +26,14 @@ abbrev pub Repeats : Table → ℕ → ℕ → State → ℕ → Type 0
 Repeats t depth zero s n = n ≡ 0
 Repeats t depth (suc moves) s n =
     (new : State) × (move : Move t s new) × (rest : ℕ)
-    × (depth ≤ length new.opened) × Repeats t depth moves new rest × (n ≡ turns_begun depth t s new move + rest)
+    × (depth ≤ length new.opened) × Repeats t depth moves new rest
+    × (n ≡ turns_begun depth t s new move + rest)
 
 -- In a closed table a loop that a run enters takes, until it is left, at most the turns that the table has: the first,
 -- and those that begin later.
 abbrev pub TurnsAreBounded : Type 0
 TurnsAreBounded =
     (t : Table) (start s new : State) (before moves n : ℕ)
-    → IsClosed t → IsStart t start → Lead t before start s → Enters t s new → Repeats t (length new.opened) moves new n
+    → IsClosed t → IsStart t start → Lead t before start s → Enters t s new
+    → Repeats t (length new.opened) moves new n
     → suc n ≤ t.turns s.node

@@ -20,7 +20,9 @@ abbrev pub header_word : List ℕ
 header_word = codes "TECO-LIB "
 
 abbrev pub header_text : Declared → List ℕ
-header_text declared = header_word ++ (codes "2 " ++ (register_name declared.register ∷ (codes " " ++ range_text declared.range)))
+header_text declared =
+    header_word
+    ++ (codes "2 " ++ (register_name declared.register ∷ (codes " " ++ range_text declared.range)))
 
 pub record IsDeclared (declared : Declared) : Type 0 where
   pub register : declared.register < REGISTERS

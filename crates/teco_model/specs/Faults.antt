@@ -1,6 +1,6 @@
--- What a fault of the host leaves. In opening and reading all is as before the step; in writing the output has got a part of what the
--- step writes, from its front; in closing and dropping no output is open; and in EC and EX both files are closed, and the output is
--- abandoned.
+-- What a fault of the host leaves. In opening and reading all is as before the step; in writing the output has got
+-- a part of what the step writes, from its front; in closing and dropping no output is open; and in EC and EX both
+-- files are closed, and the output is abandoned.
 use Rattle.std.specs.Prelude.{ℕ, ◌≡◌, ⊤, List, ◌++◌, Bool, true, false, IsTrue, Option, Some, None, Result, Ok, Err}
 use Rattle.teco_base.specs.declared.code.Code.{Code}
 use Rattle.teco_base.specs.declared.code.Code.TheVariants as code
@@ -109,8 +109,8 @@ Breaks (kind.Search x) grows fault before after new = SearchBreaks x fault befor
 Breaks (kind.Page p) grows fault before after new = PageBreaks p grows fault before after new
 Breaks (kind.File f) grows fault before after new = FileBreaks f fault before new
 
--- Every code comes whatever the host does, but for those that are only told by reading a page: that it is too long, or that there is
--- none, so that a search fails. The SRH of such a search writes the buffer, too.
+-- Every code comes whatever the host does, but for those that are only told by reading a page: that it is too long,
+-- or that there is none, so that a search fails. The SRH of such a search writes the buffer, too.
 abbrev pub is_told_by_page : Code → Bool
 is_told_by_page code.Nfo = false
 is_told_by_page c = is_late_in_search c

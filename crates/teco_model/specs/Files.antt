@@ -35,7 +35,8 @@ file_named name (file ∷ files) = if bytes_eq file.name name then Some file.byt
 abbrev pub with_file : List ℕ → List ℕ → List File → List File
 with_file name bytes [] = record { name = name; bytes = bytes } ∷ []
 with_file name bytes (file ∷ files) =
-    if bytes_eq file.name name then record { name = name; bytes = bytes } ∷ files else file ∷ with_file name bytes files
+    if bytes_eq file.name name then record { name = name; bytes = bytes } ∷ files
+    else file ∷ with_file name bytes files
 
 -- an output at its beginning
 abbrev pub output_of : List ℕ → Output

@@ -1,4 +1,5 @@
--- What the commands of pages and files answer. P and PW take their arguments in their first step, and go on with each page.
+-- What the commands of pages and files answer. P and PW take their arguments in their first step, and go on with
+-- each page.
 use Rattle.std.specs.Prelude.{ℕ, zero, suc, ℤ, List, Option, Some, None, Result, Ok}
 use Rattle.teco_base.specs.declared.code.Code.{Code}
 use Rattle.teco_model.specs.declared.kind.File.{File}

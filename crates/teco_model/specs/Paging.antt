@@ -31,7 +31,8 @@ unread_of world = length (unread world.files)
 -- the input behind its first page
 abbrev pub files_behind_page : Files → Files
 files_behind_page files = record files {
-  input = option_map (λ (input : Input). record input { unread = behind_first_page input.unread }) files.input;
+  input = option_map (λ (input : Input). record input { unread = behind_first_page input.unread })
+      files.input;
 }
 
 -- bytes go to the output
@@ -152,7 +153,8 @@ abbrev pub sought : Pattern → List ℕ → ℕ → ℕ → Sought
 sought pattern text at zero = Wanted 0
 sought pattern text at (suc zero) = option_map_or Last (first_from pattern text at) (Wanted 1)
 sought pattern text at (suc (suc n)) =
-    option_map_or (λ (span : Span). sought pattern text span.end (suc n)) (first_from pattern text at) (Wanted (suc (suc n)))
+    option_map_or (λ (span : Span). sought pattern text span.end (suc n))
+    (first_from pattern text at) (Wanted (suc (suc n)))
 
 -- What a look at the buffer comes to: what is kept at the last match, or how many more are wanted.
 pub data Here : Type 0 where
@@ -171,8 +173,8 @@ look_here s e n kept = do
   pattern ← pattern_of kept.search_text kept
   here_of s e kept (sought pattern kept.text kept.pointer n)
 
--- What a step of N and FN comes to: it found the last match, or turned a page and wants so many more; or there is no page left,
--- and nothing is done yet but that the search text is kept.
+-- What a step of N and FN comes to: it found the last match, or turned a page and wants so many more; or there is
+-- no page left, and nothing is done yet but that the search text is kept.
 pub data Looked : Type 0 where
   Met : World → Looked
   Turned : ℕ → World → Looked

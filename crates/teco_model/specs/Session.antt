@@ -1,5 +1,5 @@
--- A session: the input is cut into command strings, each is run, and what it typed is written, with a code line for a stop
--- that is not the end.
+-- A session: the input is cut into command strings, each is run, and what it typed is written, with a code line for
+-- a stop that is not the end.
 use Rattle.std.specs.Prelude.{ℕ, ◌+◌, ◌≡◌, ◌≤◌, List, [], ◌∷◌, ◌++◌, codes, length, take, Option, Some, None, Bool, true, false, ◌&&◌, ◌||◌, ◌==◌, nat_le, if◌then◌else◌}
 use Rattle.std.specs.List.{list_all}
 use Rattle.std.specs.Option.{option_map}
@@ -67,16 +67,18 @@ without_typed world = record world { kept = record world.kept { typed = [] } }
 abbrev pub lines_of : Stop → World → List ℕ
 lines_of stop world = world.kept.typed ++ code_line (code_of stop)
 
--- Command strings, joined to one input, are executed one after another, and none ends the session: what stays then, what the
--- host's count of failures is, what is written, and whether a code line is among it. The count rises in the strings that the
--- host stops.
-pub data Executes (limits : Limits) (old : World) (f : ℕ) : ℕ → List ℕ → World → ℕ → List ℕ → Bool → Type 0 where
+-- Command strings, joined to one input, are executed one after another, and none ends the session: what stays then,
+-- what the host's count of failures is, what is written, and whether a code line is among it. The count rises in
+-- the strings that the host stops.
+pub data Executes (limits : Limits) (old : World) (f : ℕ) : ℕ → List ℕ → World → ℕ → List ℕ → Bool
+    → Type 0 where
   none : Executes limits old f 0 [] old f [] false
   one_more :
       (count : ℕ) (input : List ℕ) (mid : World) (k : ℕ) (written : List ℕ) (coded : Bool) →
       (string : List ℕ) (stop : Stop) (new : World) (g : ℕ) →
       Executes limits old f count input mid k written coded →
-      IsCommandString limits string → Stops (start string mid) limits.steps stop new → StopCounts stop k g → is_exit stop ≡ false →
+      IsCommandString limits string → Stops (start string mid) limits.steps stop new
+      → StopCounts stop k g → is_exit stop ≡ false →
       Executes limits old f (count + 1) (input ++ string) (without_typed new) g
       (written ++ lines_of stop new) (coded || is_code (code_of stop))
 
@@ -89,7 +91,8 @@ rest_code limits rest =
 
 -- a session that goes on to the end of its input
 pub record SessionToEnd
-    (limits : Limits) (old : World) (f : ℕ) (input : List ℕ) (new : World) (g : ℕ) (written : List ℕ) (coded : Bool) :
+    (limits : Limits) (old : World) (f : ℕ) (input : List ℕ) (new : World) (g : ℕ)
+    (written : List ℕ) (coded : Bool) :
     Type 0 where
   pub count : ℕ
   pub strings : List ℕ
@@ -104,7 +107,8 @@ pub record SessionToEnd
 
 -- a session that a command string ends: what follows that is not executed
 pub record SessionToExit
-    (limits : Limits) (old : World) (f : ℕ) (input : List ℕ) (new : World) (g : ℕ) (written : List ℕ) (coded : Bool) :
+    (limits : Limits) (old : World) (f : ℕ) (input : List ℕ) (new : World) (g : ℕ)
+    (written : List ℕ) (coded : Bool) :
     Type 0 where
   pub count : ℕ
   pub strings : List ℕ
@@ -121,8 +125,8 @@ pub record SessionToExit
   pub stays : new ≡ without_typed after
   pub all_written : written ≡ lines ++ lines_of (stop.Exit steps) after
 
--- a whole session of an input: what it leaves, what the host's count of failures is then, what it writes, whether a code line is
--- among it, and whether a command string ended it
+-- a whole session of an input: what it leaves, what the host's count of failures is then, what it writes, whether a
+-- code line is among it, and whether a command string ended it
 abbrev pub Session : Limits → World → ℕ → List ℕ → World → ℕ → List ℕ → Bool → Bool → Type 0
 Session limits old f input new g written coded false = SessionToEnd limits old f input new g written coded
 Session limits old f input new g written coded true = SessionToExit limits old f input new g written coded

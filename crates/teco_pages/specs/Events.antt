@@ -26,7 +26,8 @@ pub data Event : Type 0 where
 abbrev pub Happens : Event → HostFiles → HostFiles → Type 0
 Happens (opened_input name) files left =
     (file_named name files.named ≡ Some left.unread) × (left ≡ record files { unread = left.unread })
-Happens (gave bytes) files left = (files.unread ≡ bytes ++ left.unread) × (left ≡ record files { unread = left.unread })
+Happens (gave bytes) files left = (files.unread ≡ bytes ++ left.unread)
+    × (left ≡ record files { unread = left.unread })
 Happens ended files left = (files.unread ≡ []) × (left ≡ files)
 Happens (opened_output name) files left = left ≡ after_opening name files
 Happens (wrote bytes) files left = left ≡ after_writing bytes files
@@ -55,7 +56,8 @@ number_of dropped = (6, [])
 
 abbrev numbered : ℕ × List ℕ → Event
 numbered p =
-    cond (p.0 == 0) (opened_input p.1) (cond (p.0 == 1) (gave p.1) (cond (p.0 == 2) ended (cond (p.0 == 3) (opened_output p.1)
+    cond (p.0 == 0) (opened_input p.1)
+    (cond (p.0 == 1) (gave p.1) (cond (p.0 == 2) ended (cond (p.0 == 3) (opened_output p.1)
     (cond (p.0 == 4) (wrote p.1) (cond (p.0 == 5) closed dropped)))))
 
 pub numbered-number_of : (event : Event) → numbered (number_of event) ≡ event
@@ -68,4 +70,7 @@ numbered-number_of closed = refl
 numbered-number_of dropped = refl
 
 abbrev pub events_code : Coded (List Event)
-events_code = coded_list (code_by (ℕ × List ℕ) (coded× coded_ℕ (coded_list coded_ℕ)) number_of numbered numbered-number_of)
+events_code =
+    coded_list
+    (code_by (ℕ × List ℕ) (coded× coded_ℕ (coded_list coded_ℕ)) number_of numbered
+    numbered-number_of)

@@ -7,8 +7,8 @@ use Rattle.teco_model.specs.Pages.{Page, written_page, has_form_feed}
 use Rattle.teco_model.specs.laws.Whole.{AreBytes}
 use Rattle.teco_pages.specs.HostFiles.{HostFiles}
 
--- The name of the open input, the page of it that is ready, the bytes that were read behind that page, and whether nothing is
--- to be read behind those; the name of the open output.
+-- The name of the open input, the page of it that is ready, the bytes that were read behind that page, and whether
+-- nothing is to be read behind those; the name of the open output.
 pub record Held : Type 0 where
   pub input : Option (List ℕ)
   pub ready : Option Page
@@ -80,9 +80,10 @@ abbrev pub behind_page_in : List ℕ → Option Bool → List ℕ → List ℕ
 behind_page_in text None ahead = text ++ ahead
 behind_page_in text (Some ff) ahead = ahead
 
--- What always holds of a page that is being read or ready: it has no form feed and is not too long; one that no form feed ended
--- is the last; behind the end nothing is held; and where no input is open nothing is.
-pub record IsWhole (input : Option (List ℕ)) (text : List ℕ) (ready : Option Bool) (ahead : List ℕ) (end : Bool) : Type 0 where
+-- What always holds of a page that is being read or ready: it has no form feed and is not too long; one that no
+-- form feed ended is the last; behind the end nothing is held; and where no input is open nothing is.
+pub record IsWhole (input : Option (List ℕ)) (text : List ℕ) (ready : Option Bool) (ahead : List ℕ)
+    (end : Bool) : Type 0 where
   pub plain : has_form_feed text ≡ false
   pub short : length text ≤ LIMIT
   pub last : ready ≡ Some false → end ≡ true

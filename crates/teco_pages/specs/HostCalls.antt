@@ -20,7 +20,8 @@ OpensIn name (Err _) = Stays
 
 -- the first bytes of the buffer were the next of the input; none of a buffer that has room are its end
 abbrev pub ReadsSome : {E : Type 0} → List ℕ → Result ℕ E → Telling → Telling → Type 0
-ReadsSome buffer (Ok n) old new = Reads (take n buffer) old new × (n ≡ 0 → 0 < length buffer → NoneUnread old new)
+ReadsSome buffer (Ok n) old new = Reads (take n buffer) old new
+    × (n ≡ 0 → 0 < length buffer → NoneUnread old new)
 ReadsSome buffer (Err _) old new = Stays old new
 
 -- an output of this name is open

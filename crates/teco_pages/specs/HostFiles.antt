@@ -16,7 +16,8 @@ pub record Fits (R : HostFiles → HostFiles → Type 0) (old new : List Event) 
   pub bytes : AllByRecursion IsOfBytes meanwhile
   pub holds : (files left : HostFiles) → AreOfBytes files → Happened meanwhile files left → R files left
 
--- A relation of files of bytes before and after calls: it holds of those that are told, or of all that fit what is noted.
+-- A relation of files of bytes before and after calls: it holds of those that are told, or of all that fit what is
+-- noted.
 abbrev pub Told : (HostFiles → HostFiles → Type 0) → Telling → Telling → Type 0
 Told R (Tells files) (Tells left) = AreOfBytes files → R files left × AreOfBytes left
 Told R (Tells files) (Notes new) = ⊥

@@ -15,7 +15,8 @@ no_files = record { told = record { named = []; unread = []; output = None }; gi
 
 -- a file of this name has these bytes
 abbrev pub with_put : List ℕ → List ℕ → MemFiles → MemFiles
-with_put name bytes files = record files { told = record files.told { named = with_file name bytes files.told.named } }
+with_put name bytes files =
+    record files { told = record files.told { named = with_file name bytes files.told.named } }
 
 -- an output that is kept as a file which has no name yet
 abbrev pub output_in : Option File → Option Output

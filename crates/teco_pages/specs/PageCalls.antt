@@ -7,8 +7,8 @@ use Rattle.teco_pages.specs.Held.{Held, unread_bytes}
 use Rattle.teco_pages.specs.declared.fault.Fault.{Fault}
 use Rattle.teco_pages.specs.declared.fault.Fault.TheVariants.{NoFile, In, Out, Full, Memory}
 
--- How a call may answer. A fault of the host comes only where its count of failures rose in the call, from f to g, and in no
--- other case does it rise. Of a call that opens an input:
+-- How a call may answer. A fault of the host comes only where its count of failures rose in the call, from f to g,
+-- and in no other case does it rise. Of a call that opens an input:
 abbrev pub OkOrNoFile : {X : Type 0} → Result X Fault → ℕ → ℕ → Type 0
 OkOrNoFile (Ok _) f g = g ≡ f
 OkOrNoFile (Err NoFile) f g = f < g
@@ -67,7 +67,8 @@ IsFirstPage (Err Out) new unread = ⊤
 IsFirstPage (Err Memory) new unread = ⊤
 
 -- The page that is ready is the first one of what is unread, in whatever pieces it was read. Nothing is lost.
-pub record MakesReady (result : Result (Unit {0}) Fault) (old new : Held) (files left : HostFiles) : Type 0 where
+pub record MakesReady (result : Result (Unit {0}) Fault) (old new : Held) (files left : HostFiles) :
+    Type 0 where
   pub page : IsFirstPage result new (unread_bytes old files)
   pub unread : unread_bytes new left ≡ unread_bytes old files
   pub only : OnlyReads files left
@@ -100,4 +101,5 @@ Copies (Err _) unread rest files left = CopiesFront unread rest files left
 
 -- of one who holds the input
 abbrev pub CopiesRest : Result (Unit {0}) Fault → Held → Held → HostFiles → HostFiles → Type 0
-CopiesRest result old new files left = Copies result (unread_bytes old files) (unread_bytes new left) files left
+CopiesRest result old new files left =
+    Copies result (unread_bytes old files) (unread_bytes new left) files left

@@ -19,8 +19,10 @@ Shifts held old held' new = Told (λ files left.
 -- what the giving of bytes to a page does
 abbrev pub Gives : List ℕ → List ℕ → List ℕ → List ℕ → Result Bool Fault → Type 0
 Gives old new into into' (Ok ff) =
-    (ff ≡ has_form_feed old) × (into' ≡ into ++ before_form_feed old) × (new ≡ behind_form_feed old) × (length into' ≤ LIMIT)
-Gives old new into into' (Err Full) = (into' ≡ into) × (new ≡ old) × (LIMIT < length into + length (before_form_feed old))
+    (ff ≡ has_form_feed old) × (into' ≡ into ++ before_form_feed old) × (new ≡ behind_form_feed old)
+    × (length into' ≤ LIMIT)
+Gives old new into into' (Err Full) = (into' ≡ into) × (new ≡ old)
+    × (LIMIT < length into + length (before_form_feed old))
 Gives old new into into' (Err Memory) = (into' ≡ into) × (new ≡ old)
 Gives old new into into' (Err NoFile) = ⊥
 Gives old new into into' (Err In) = ⊥
@@ -39,7 +41,8 @@ TopsUp old x new y f g (Err Out) = ⊥
 -- What reading on to the end of a page did: read is what is read of the page, ahead what is read behind it.
 abbrev pub EndsPage : List ℕ → Telling → List ℕ → List ℕ → Telling → ℕ → ℕ → Result Bool Fault → Type 0
 EndsPage held old read ahead new f g (Ok true) = Shifts held old (read ++ FF ∷ ahead) new × (g ≡ f)
-EndsPage held old read ahead new f g (Ok false) = Shifts held old read new × (ahead ≡ []) × NoneUnread old new × (g ≡ f)
+EndsPage held old read ahead new f g (Ok false) =
+    Shifts held old read new × (ahead ≡ []) × NoneUnread old new × (g ≡ f)
 EndsPage held old read ahead new f g (Err In) = Shifts held old (read ++ ahead) new × (f < g)
 EndsPage held old read ahead new f g (Err Full) =
     Shifts held old (read ++ ahead) new × (g ≡ f) × (LIMIT < length read + length (before_form_feed ahead))

@@ -4,8 +4,8 @@ use Rattle.teco_pages.specs.MemFiles.{MemFiles}
 use Rattle.teco_pages.specs.declared.test_host.HostCall.{HostCall}
 use Rattle.teco_pages.specs.declared.test_host.HostCall.TheVariants.{OpenIn, Read, OpenOut, Write, CloseOut, DropOut}
 
--- The host that has the files; how many bytes a call moves at most; the kind of call that fails, and how many of them there are
--- up to the one that does, or 0 where none will; and how many of its own failures there were.
+-- The host that has the files; how many bytes a call moves at most; the kind of call that fails, and how many of
+-- them there are up to the one that does, or 0 where none will; and how many of its own failures there were.
 pub record TestFiles : Type 0 where
   pub mem : MemFiles
   pub piece : ℕ
@@ -33,9 +33,11 @@ is_due call files = files.left == 1 && same_call files.call call
 
 -- a call of this kind is counted
 abbrev pub after_call : HostCall → TestFiles → TestFiles
-after_call call files = record files { left = if same_call files.call call then files.left - 1 else files.left }
+after_call call files =
+    record files { left = if same_call files.call call then files.left - 1 else files.left }
 
--- A call of this kind fails where it is due, and where that of the host that has the files fails; nowhere else. It is counted.
+-- A call of this kind fails where it is due, and where that of the host that has the files fails; nowhere else. It
+-- is counted.
 pub record Named (call : HostCall) (old new : TestFiles) : Type 0 where
   pub left : new.left ≡ (after_call call old).left
   pub call_stays : new.call ≡ old.call
@@ -43,4 +45,5 @@ pub record Named (call : HostCall) (old new : TestFiles) : Type 0 where
 
 abbrev pub FailsAsNamed : {X E : Type 0} → HostCall → TestFiles → TestFiles → Result X E → Type 0
 FailsAsNamed call old new (Ok _) = (is_due call old ≡ false) × Named call old new
-FailsAsNamed call old new (Err _) = (is_due call old ≡ false → old.mem.failures < new.mem.failures) × Named call old new
+FailsAsNamed call old new (Err _) = (is_due call old ≡ false → old.mem.failures < new.mem.failures)
+    × Named call old new

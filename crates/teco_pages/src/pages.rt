@@ -222,7 +222,8 @@ impl Pages {
     pub fn accept_page(&mut self)
         ensures accepted { self.new ≡ without_page self.old }
         ensures rest { IsSome self.old.ready →
-            (files : HostFiles) → unread_bytes self.new files ≡ behind_first_page (unread_bytes self.old files) }
+            (files : HostFiles) → unread_bytes self.new files
+            ≡ behind_first_page (unread_bytes self.old files) }
     {
         if self.ready.is_some() {
             self.page.clear();
@@ -238,7 +239,8 @@ impl Pages {
         ensures limit { IfSome result (λ taken. length taken.0.items ≤ LIMIT) }
         ensures accepted { self.new ≡ without_page self.old }
         ensures rest { IsSome self.old.ready →
-            (files : HostFiles) → unread_bytes self.new files ≡ behind_first_page (unread_bytes self.old files) }
+            (files : HostFiles) → unread_bytes self.new files
+            ≡ behind_first_page (unread_bytes self.old files) }
     {
         let ff = self.ready.take()?;
         let spare = Vec::new(*self.page.allocator());

@@ -13,7 +13,8 @@ use Rattle.teco_filing.specs.declared.halt.Halt.{Halt}
 use Rattle.teco_model.specs.Run.{StopCounts}
 use Rattle.teco_run.specs.Stopped.{stop_of}
 
--- Whether input is unread is told, or the next page is too long, or memory was wanted, or the host failed; and all is as it was.
+-- Whether input is unread is told, or the next page is too long, or memory was wanted, or the host failed; and all
+-- is as it was.
 abbrev pub TellsIfUnread : World → World → Result Bool Stop → Type 0
 TellsIfUnread old new (Ok some) = (some ≡ is_some_byte (unread old.files)) × (new ≡ old)
 TellsIfUnread old new (Err (stop.Error c)) =

@@ -12,7 +12,8 @@ use Rattle.teco_session.specs.declared.strings.Piece.{Piece}
 use Rattle.teco_session.specs.declared.strings.Piece.TheVariants.{Command, Rest}
 
 -- a command string was run: what it has to write, whether a code line is among it, and whether it ends the session
-pub record Runs (limits : Limits) (string : List ℕ) (old new : World) (f g : ℕ) (lines : List ℕ) (coded exit : Bool)
+pub record Runs (limits : Limits) (string : List ℕ) (old new : World) (f g : ℕ) (lines : List ℕ)
+    (coded exit : Bool)
     : Type 0 where
   pub stop : Stop
   pub after : World
@@ -24,7 +25,8 @@ pub record Runs (limits : Limits) (string : List ℕ) (old new : World) (f g : �
   pub an_exit : exit ≡ is_exit stop
 
 -- a rest was not run
-pub record RunsNot (limits : Limits) (rest : List ℕ) (old new : World) (f g : ℕ) (lines : List ℕ) (coded : Bool)
+pub record RunsNot (limits : Limits) (rest : List ℕ) (old new : World) (f g : ℕ) (lines : List ℕ)
+    (coded : Bool)
     : Type 0 where
   pub stays : new ≡ old
   pub counted : g ≡ f
@@ -34,7 +36,8 @@ pub record RunsNot (limits : Limits) (rest : List ℕ) (old new : World) (f g : 
 -- a piece was run, if it is a command string
 abbrev pub MayRun : Limits → Piece → List ℕ → World → World → ℕ → ℕ → List ℕ → Bool → Bool → Type 0
 MayRun limits Command bytes old new f g lines coded exit = Runs limits bytes old new f g lines coded exit
-MayRun limits Rest bytes old new f g lines coded exit = RunsNot limits bytes old new f g lines coded × (exit ≡ false)
+MayRun limits Rest bytes old new f g lines coded exit =
+    RunsNot limits bytes old new f g lines coded × (exit ≡ false)
 
 -- and what it has to write was written, or with a fault a part of that
 pub record Answers (limits : Limits) (piece : Piece) (bytes : List ℕ) (old new : World) (f g : ℕ)

@@ -10,8 +10,8 @@ use Rattle.teco_session.specs.declared.fault.SessionFault.{SessionFault}
 use Rattle.teco_session.specs.declared.fault.SessionFault.TheVariants.{Read, Write, Memory, Argument}
 use Rattle.teco_session.specs.declared.sessions.Done.{Done}
 
--- Command strings were served, and none was a code. The next was, or what follows the last: the session of this piece was
--- written, and nothing behind it was executed or written. Bytes of one read were not used.
+-- Command strings were served, and none was a code. The next was, or what follows the last: the session of this
+-- piece was written, and nothing behind it was executed or written. Bytes of one read were not used.
 pub record EndsAtCode (limits : Limits) (old new : Setting) : Type 0 where
   pub count : ℕ
   pub last : Setting
@@ -25,7 +25,8 @@ pub record EndsAtCode (limits : Limits) (old new : Setting) : Type 0 where
   pub session : SessionToEnd limits last.world last.failures piece new.world new.failures lines true
   pub appended : Appends last.written new.written lines
 
--- without a code it is the session of the whole input; a code never comes with the end of the session that a string asks for
+-- without a code it is the session of the whole input; a code never comes with the end of the session that a string
+-- asks for
 abbrev pub FinishesAtCode : Limits → Setting → Setting → Bool → Bool → Type 0
 FinishesAtCode limits old new false exit = Finishes limits old new false exit
 FinishesAtCode limits old new true false = EndsAtCode limits old new

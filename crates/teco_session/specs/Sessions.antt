@@ -12,8 +12,8 @@ use Rattle.teco_session.specs.declared.fault.SessionFault.TheVariants.{Read, Wri
 use Rattle.teco_session.specs.declared.sessions.Done.{Done}
 use Rattle.teco_session.specs.declared.sessions.TheConstants.{STRINGS}
 
--- what a session works on: what stays of machine and host together, how many calls of the host have failed, and the bytes that the
--- reader has left and that the writer holds, where their types tell them
+-- what a session works on: what stays of machine and host together, how many calls of the host have failed, and the
+-- bytes that the reader has left and that the writer holds, where their types tell them
 pub record Setting : Type 0 where
   pub world : World
   pub failures : ℕ
@@ -40,8 +40,8 @@ pub record FinishesAtEnd (limits : Limits) (old new : Setting) (coded : Bool) : 
   pub session : SessionToEnd limits old.world old.failures input new.world new.failures lines coded
   pub appended : Appends old.written new.written lines
 
--- The session of the command strings up to the one that ends it was written. Bytes of one read behind that were not used, and
--- nothing more was read.
+-- The session of the command strings up to the one that ends it was written. Bytes of one read behind that were not
+-- used, and nothing more was read.
 pub record FinishesAtExit (limits : Limits) (old new : Setting) (coded : Bool) : Type 0 where
   pub input : List ℕ
   pub unused : List ℕ

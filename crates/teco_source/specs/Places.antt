@@ -9,7 +9,8 @@ pub record Position : Type 0 where
 -- the position behind a byte: LF ends a line
 abbrev pub behind : ℕ → Position → Position
 behind c at =
-    if c == LF then record { line = suc at.line; column = 1 } else record { line = at.line; column = suc at.column }
+    if c == LF then record { line = suc at.line; column = 1 }
+    else record { line = at.line; column = suc at.column }
 
 -- the position behind some bytes
 abbrev pub behind_all : List ℕ → Position → Position

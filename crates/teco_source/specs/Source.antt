@@ -9,8 +9,8 @@ abbrev pub begins_with_dollar : List ℕ → Bool
 begins_with_dollar [] = false
 begins_with_dollar (c ∷ source) = c == DOLLAR
 
--- What a byte says, by the one before it and those behind it. In the marked form the mark says ESC. In the readable form
--- a dollar says ESC, but behind a caret a dollar, and that caret says nothing.
+-- What a byte says, by the one before it and those behind it. In the marked form the mark says ESC. In the readable
+-- form a dollar says ESC, but behind a caret a dollar, and that caret says nothing.
 abbrev pub said_by : the_data → ℕ → ℕ → List ℕ → Option ℕ
 said_by (Marked mark) before c behind = Some (if c == mark then ESC else c)
 said_by Readable before c behind =
@@ -39,7 +39,8 @@ abbrev pub spelled : the_data → List ℕ → List ℕ
 spelled form [] = []
 spelled form (c ∷ text) = spelling form c ++ spelled form text
 
--- No source says a mark, which would say ESC, and no readable one ESC right behind a caret: that dollar would be a dollar.
+-- No source says a mark, which would say ESC, and no readable one ESC right behind a caret: that dollar would be a
+-- dollar.
 abbrev pub can_say : the_data → ℕ → ℕ → Bool
 can_say (Marked mark) before c = not (c == mark) || mark == ESC
 can_say Readable before c = not (c == ESC) || not (before == CARET)
@@ -60,11 +61,13 @@ place_there (Some said) further (suc place) = suc (further place)
 
 abbrev pub place_behind : the_data → ℕ → List ℕ → ℕ → ℕ
 place_behind form before [] place = 0
-place_behind form before (c ∷ source) place = place_there (said_by form before c source) (place_behind form c source) place
+place_behind form before (c ∷ source) place =
+    place_there (said_by form before c source) (place_behind form c source) place
 
 abbrev pub place_in : the_data → List ℕ → ℕ → ℕ
 place_in form source place = place_behind form 0 source place
 
 -- a text that has a source is said by the one that is written for it
 abbrev pub SourcesSay : Type 0
-SourcesSay = (form : the_data) (text : List ℕ) → has_source form text ≡ true → said form (spelled form text) ≡ text
+SourcesSay = (form : the_data) (text : List ℕ) → has_source form text ≡ true
+    → said form (spelled form text) ≡ text

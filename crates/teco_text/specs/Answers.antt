@@ -1,6 +1,6 @@
--- When a call on a text answers what. Each word takes the call's answer first, and has for each answer the fact that holds
--- where it comes. The facts of two answers exclude each other, but for those of `Ok` and `Memory`. So `Off` and `Full` come
--- exactly where their facts hold, and `Memory` nowhere but where its fact holds.
+-- When a call on a text answers what. Each word takes the call's answer first, and has for each answer the fact
+-- that holds where it comes. The facts of two answers exclude each other, but for those of `Ok` and `Memory`. So
+-- `Off` and `Full` come exactly where their facts hold, and `Memory` nowhere but where its fact holds.
 use Rattle.std.specs.Prelude.{ℕ, ◌<◌, ◌≤◌, List, length, Result, Ok, Err}
 use Rattle.teco_base.specs.declared.TheConstants.{LIMIT}
 use Rattle.teco_text.specs.declared.fault.TextFault.{TextFault}

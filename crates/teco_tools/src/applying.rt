@@ -81,7 +81,8 @@ fn tell_unedited<O: Write + Drop, E: Write + Drop>(
         Some(count) => {
             let count = Grouped(count);
             console.say(format_args!(
-                "{name}: {count} bytes behind the first page were copied unedited; --pages each or --pages whole edits them too"
+                "{name}: {count} bytes behind the first page were copied unedited; --pages each \
+                    or --pages whole edits them too"
             ));
         }
         None => {}

@@ -97,7 +97,8 @@ impl<'a, E: Write + Drop> Teller<'a, E> {
             None => {
                 let number = self.number;
                 self.voice.say(format_args!(
-                    "?{name} in command string {number} at byte {place}: {found} (pointer {pointer}, length {length}): {summary}"
+                    "?{name} in command string {number} at byte {place}: {found} (pointer \
+                        {pointer}, length {length}): {summary}"
                 ));
             }
             Some(source) => {
@@ -108,7 +109,8 @@ impl<'a, E: Write + Drop> Teller<'a, E> {
                 let column = position.column;
                 let excerpt = source.excerpt(at);
                 self.voice.say(format_args!(
-                    "{file}:{line}:{column}: ?{name} at {found} (pointer {pointer}, length {length}): {summary}\n{excerpt}"
+                    "{file}:{line}:{column}: ?{name} at {found} (pointer {pointer}, length \
+                        {length}): {summary}\n{excerpt}"
                 ));
             }
         }

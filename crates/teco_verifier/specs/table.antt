@@ -1,4 +1,5 @@
--- Tables of what is known and chosen at each node: when they are closed, how one is derived, and what is printed of them.
+-- Tables of what is known and chosen at each node: when they are closed, how one is derived, and what is printed of
+-- them.
 pub mod Table
 pub mod Choices
 pub mod Behind

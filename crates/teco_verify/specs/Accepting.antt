@@ -24,11 +24,14 @@ ChoosesNothing (Err why) = ⊥
 
 abbrev pub AcceptedIsFound : Rules → LibraryFile → ℕ → Result Finding Refusal → Type 0
 AcceptedIsFound edition library entry result =
-    (steps most : Polynomial) → argument_of library entry ≡ None → IsAccepted edition library.texts entry steps most
+    (steps most : Polynomial) → argument_of library entry ≡ None
+    → IsAccepted edition library.texts entry steps most
     → IsFound (plain_fields edition entry steps most) result
 
 abbrev pub AcceptedIsChecked : Rules → LibraryFile → List ℕ → Result Finding Refusal → Type 0
 AcceptedIsChecked edition library bytes result =
     (entry : ℕ) (steps most : Polynomial)
-    → entry < REGISTERS → argument_of library entry ≡ None → IsAccepted edition library.texts entry steps most → bytes ≡ certificate_text (plain_fields edition entry steps most)
+    → entry < REGISTERS → argument_of library entry ≡ None
+    → IsAccepted edition library.texts entry steps most
+    → bytes ≡ certificate_text (plain_fields edition entry steps most)
     → IsFound (plain_fields edition entry steps most) result

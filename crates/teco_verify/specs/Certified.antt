@@ -16,7 +16,9 @@ pub record IsCertified (library : Library) (fields : Fields) : Type 0 where
   pub nodes : List Node
   pub table : Table
   pub expanded : expansion library fields.entry ≡ Ok nodes
-  pub printed : IsPrinted (entry_of fields.rules library fields.argument) nodes table fields.commands fields.size
+  pub printed :
+      IsPrinted (entry_of fields.rules library fields.argument) nodes table fields.commands
+      fields.size
   pub needs_are : fields.needs ≡ needs_in nodes table
   pub loops_are : fields.loops ≡ loops_of nodes table
 

@@ -14,7 +14,8 @@ use Rattle.teco_verify.specs.declared.certifying.Flaw.{Flaw}
 use Rattle.teco_verify.specs.declared.certifying.Flaw.TheVariants as flaw
 
 -- its argument, edition, numbers, needs and lines
-pub record AreFieldsOf (known : Entry) (nodes : List Node) (table : Table) (entry : ℕ) (fields : Fields) : Type 0 where
+pub record AreFieldsOf (known : Entry) (nodes : List Node) (table : Table) (entry : ℕ)
+    (fields : Fields) : Type 0 where
   pub entry_is : fields.entry ≡ entry
   pub argument_is : fields.argument ≡ known.argument
   pub rules_are : fields.rules ≡ known.rules
@@ -26,7 +27,8 @@ pub record AreFieldsOf (known : Entry) (nodes : List Node) (table : Table) (entr
 -- A printed number of a closed table overflows at the node of this number: the commands, or else the size.
 pub record Overflows (known : Entry) (nodes : List Node) (table : Table) (number : ℕ) : Type 0 where
   pub closed : check known nodes table ≡ Ok tt
-  pub here : (commands known nodes table ≡ Err number) ⊎ (IsOk (commands known nodes table) × (size known nodes table ≡ Err number))
+  pub here : (commands known nodes table ≡ Err number)
+      ⊎ (IsOk (commands known nodes table) × (size known nodes table ≡ Err number))
 
 -- These, or the node at which it is not closed or a number overflows.
 abbrev pub Certifies : Entry → List Node → Table → ℕ → Result Finding Flaw → Type 0

@@ -1,4 +1,5 @@
--- Why a macro is refused, and where: for the reason, and at the place, of the definitions of the expansion and of the rules.
+-- Why a macro is refused, and where: for the reason, and at the place, of the definitions of the expansion and of
+-- the rules.
 use Rattle.std.specs.Prelude.{◌≡◌, ℕ, List, [], nat_lt, false, if◌then◌else◌, Option, Some, None, Result, Ok, Err, ⊤}
 use Rattle.std.specs.List.{list_any}
 use Rattle.teco_base.specs.declared.TheConstants.{REGISTERS}
@@ -67,7 +68,8 @@ IsRefused refused (Err (refusal.No reason register place)) = refusal.No reason r
 -- Where the library has no expansion from the entry, the refusal is that of the expansion.
 abbrev pub RefusedIsExpansions : LibraryFile → ℕ → Result Finding Refusal → Type 0
 RefusedIsExpansions library entry result =
-    (refused : expanding.Refusal) → expansion library.texts entry ≡ Err refused → IsRefused (refusal_of refused) result
+    (refused : expanding.Refusal) → expansion library.texts entry ≡ Err refused
+    → IsRefused (refusal_of refused) result
 
 -- a refusal by the rules, at the node at which they refuse where nothing is chosen
 pub record IsRefusedByRules
@@ -88,7 +90,8 @@ pub record IsPlain (library : LibraryFile) (entry : ℕ) (nodes : List Node) : T
   pub none : list_any begins nodes ≡ false
 
 -- There the rules give a table.
-pub record IsPlainTable (edition : Rules) (library : LibraryFile) (entry : ℕ) (nodes : List Node) (table : Table) : Type 0 where
+pub record IsPlainTable (edition : Rules) (library : LibraryFile) (entry : ℕ) (nodes : List Node)
+    (table : Table) : Type 0 where
   pub plain : IsPlain library entry nodes
   pub derived : derive (given_by edition library entry) nodes [] ≡ Ok table
 
@@ -103,14 +106,16 @@ RefusedIsDerived edition library entry result =
 abbrev pub RefusedIsUnclosed : Rules → LibraryFile → ℕ → Result Finding Refusal → Type 0
 RefusedIsUnclosed edition library entry result =
     (nodes : List Node) (table : Table) (number : ℕ)
-    → IsPlainTable edition library entry nodes table → check (given_by edition library entry) nodes table ≡ Err number
+    → IsPlainTable edition library entry nodes table
+    → check (given_by edition library entry) nodes table ≡ Err number
     → IsRefused (refusal_at why.Bound (node_at nodes number)) result
 
 -- A number that overflows is refused where it does.
 abbrev pub RefusedIsOverflow : Rules → LibraryFile → ℕ → Result Finding Refusal → Type 0
 RefusedIsOverflow edition library entry result =
     (nodes : List Node) (table : Table) (number : ℕ)
-    → IsPlainTable edition library entry nodes table → Overflows (given_by edition library entry) nodes table number
+    → IsPlainTable edition library entry nodes table
+    → Overflows (given_by edition library entry) nodes table number
     → IsRefused (refusal_at why.Overflow (node_at nodes number)) result
 
 -- A closed table whose numbers do not overflow is accepted, with what is printed of it.
@@ -128,11 +133,13 @@ fields_of known nodes table entry steps most = record {
 abbrev pub PrintedIsFound : Rules → LibraryFile → ℕ → Result Finding Refusal → Type 0
 PrintedIsFound edition library entry result =
     (nodes : List Node) (table : Table) (steps most : Polynomial)
-    → IsPlainTable edition library entry nodes table → IsPrinted (given_by edition library entry) nodes table steps most
+    → IsPlainTable edition library entry nodes table
+    → IsPrinted (given_by edition library entry) nodes table steps most
     → IsFound (fields_of (given_by edition library entry) nodes table entry steps most) result
 
 -- these four
-pub record IsJudged (edition : Rules) (library : LibraryFile) (entry : ℕ) (result : Result Finding Refusal) : Type 0 where
+pub record IsJudged (edition : Rules) (library : LibraryFile) (entry : ℕ)
+    (result : Result Finding Refusal) : Type 0 where
   pub derived : RefusedIsDerived edition library entry result
   pub unclosed : RefusedIsUnclosed edition library entry result
   pub overflow : RefusedIsOverflow edition library entry result

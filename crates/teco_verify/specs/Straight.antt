@@ -15,11 +15,20 @@ use Rattle.teco_verify.specs.declared.refusal.Refusal.TheVariants as refusal
 -- no file must be open, and there is no iteration
 abbrev pub plain_fields : Rules → ℕ → Polynomial → Polynomial → Fields
 plain_fields edition entry steps most =
-    record { entry = entry; argument = None; rules = edition; needs = no_needs; commands = steps; size = most; loops = [] }
+    record {
+      entry = entry;
+      argument = None;
+      rules = edition;
+      needs = no_needs;
+      commands = steps;
+      size = most;
+      loops = [];
+    }
 
 -- two commands more than it has elements, and N with what it inserts
 abbrev pub straight_fields : Rules → ℕ → List Element → Fields
-straight_fields edition entry elements = plain_fields edition entry (number (2 + length elements)) (and_more (inserted elements))
+straight_fields edition entry elements =
+    plain_fields edition entry (number (2 + length elements)) (and_more (inserted elements))
 
 -- That is found, or memory was refused.
 abbrev pub IsFound : Fields → Result Finding Refusal → Type 0

@@ -26,8 +26,8 @@ pub record Telling : Type 0 where
   pub verdict : Result Finding Refusal
   pub stop : Option ℕ
 
--- What is known at the nodes is a table that is closed for the argument, and the certificate's numbers, needs and choices
--- are those of that table: so what it says at a node holds wherever a run comes there.
+-- What is known at the nodes is a table that is closed for the argument, and the certificate's numbers, needs and
+-- choices are those of that table: so what it says at a node holds wherever a run comes there.
 pub record Tells (known : Entry) (nodes : List Node) (fields : Fields) (table : Table) : Type 0 where
   pub printed : IsPrinted known nodes table fields.commands fields.size
   pub needs_are : fields.needs ≡ needs_in nodes table
@@ -37,7 +37,8 @@ pub record Tells (known : Entry) (nodes : List Node) (fields : Fields) (table : 
 abbrev pub AcceptedIsTold : Rules → LibraryFile → ℕ → Telling → Type 0
 AcceptedIsTold edition library entry telling =
     (nodes : List Node) → telling.nodes ≡ Some nodes
-    → IfOk telling.verdict (λ (found : Finding). Tells (given_by edition library entry) nodes found.fields telling.table)
+    → IfOk telling.verdict
+    (λ (found : Finding). Tells (given_by edition library entry) nodes found.fields telling.table)
 
 -- what is shown of a verdict
 abbrev pub IsVerdict : Result Finding Refusal → Result (Bor Finding) Refusal → Type 0

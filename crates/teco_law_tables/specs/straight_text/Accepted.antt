@@ -59,8 +59,8 @@ IsOutside (Some facts) = (facts.position.falls ≡ []) × (facts.iterations ≡ 
 abbrev pub RowIsOutside : Row → Type 0
 RowIsOutside row = IsOutside row.facts
 
--- A library is expanded from an entry, its table is derived with nothing chosen and is closed, and so much is printed. No
--- row knows of an iteration.
+-- A library is expanded from an entry, its table is derived with nothing chosen and is closed, and so much is
+-- printed. No row knows of an iteration.
 pub record IsAccepted (rules : Rules) (library : Library) (entry : ℕ) (steps most : Polynomial) : Type 0 where
   pub nodes : List Node
   pub table : Table

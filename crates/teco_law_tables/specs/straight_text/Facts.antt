@@ -28,7 +28,8 @@ facts_behind_insertions known count = record (at_entry known) {
 }
 
 abbrev pub row_behind_insertions : Entry → ℕ → Row
-row_behind_insertions known count = record { facts = Some (facts_behind_insertions known count); choice = None }
+row_behind_insertions known count =
+    record { facts = Some (facts_behind_insertions known count); choice = None }
 
 -- the rows of the elements and of the return, where so much was inserted before them
 abbrev pub rows_in_text : Entry → ℕ → List Element → Table

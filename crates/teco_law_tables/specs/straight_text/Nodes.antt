@@ -1,5 +1,5 @@
--- The nodes of a straight text: the call of the entry, the elements one after another, and the return, each with the one
--- way to the next.
+-- The nodes of a straight text: the call of the entry, the elements one after another, and the return, each with
+-- the one way to the next.
 use Rattle.std.specs.Prelude.{◌≡◌, ℕ, suc, List, [], ◌∷◌, Bool, true, false, Option, Some, None, Ok}
 use Rattle.teco_model.specs.declared.kind.Kind.TheVariants as kind
 use Rattle.teco_model.specs.Element.{Element}
@@ -49,4 +49,5 @@ straight_nodes entry text elements =
 abbrev pub StraightTextsAreExpanded : Type 0
 StraightTextsAreExpanded =
     (library : Library) (entry : ℕ) (text : List ℕ) (elements : List Element)
-    → IsStraight library entry text elements → expansion library entry ≡ Ok (straight_nodes entry text elements)
+    → IsStraight library entry text elements → expansion library entry
+    ≡ Ok (straight_nodes entry text elements)

@@ -23,8 +23,8 @@ pub record AreWholePairs (registers : Registers) : Type 0 where
   pub pairs : AllByRecursion IsWholePair registers.pairs
   pub stack : AllByRecursion IsWholePair registers.stack
 
--- What an editor keeps: the pointer is in the text, numbers fit 32 bits, characters are bytes, and no text is longer than
--- LIMIT.
+-- What an editor keeps: the pointer is in the text, numbers fit 32 bits, characters are bytes, and no text is
+-- longer than LIMIT.
 pub record IsWhole (kept : Kept) : Type 0 where
   pub inside : kept.pointer ≤ length kept.text
   pub within : length kept.text ≤ LIMIT

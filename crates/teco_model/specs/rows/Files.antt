@@ -58,7 +58,8 @@ pub record FileRows : Type 0 where
   -- ERin$EWout$2PEC, EC alone, and PPWEC
   pub copies : (both_open >>= one_page >>= one_page >>= copy_all) ≡ Ok (copied two_pages)
   pub copies_at_once : (both_open >>= copy_all) ≡ Ok (copied two_pages)
-  pub copies_twice : (both_open >>= one_page >>= one_writing >>= copy_all) ≡ Ok (copied (codes "ab" ++ FF ∷ two_pages))
+  pub copies_twice : (both_open >>= one_page >>= one_writing >>= copy_all)
+      ≡ Ok (copied (codes "ab" ++ FF ∷ two_pages))
   -- ERin$YA
   pub joins : (do
     world ← reading >>= yank >>= append

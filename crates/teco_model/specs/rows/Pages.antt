@@ -44,25 +44,34 @@ world_read written search_text = record {
 -- each row's outcome
 pub record PageRows : Type 0 where
   -- pages are copied one by one, in several steps of one element, and all at once
-  pub edits : after_with two_pages 11 (opened (codes "YHTPHTEC")) ≡ End (world_copied_to two_pages [] (codes "abcd"))
+  pub edits : after_with two_pages 11 (opened (codes "YHTPHTEC"))
+      ≡ End (world_copied_to two_pages [] (codes "abcd"))
   pub turns_two : after_with two_pages 8 (opened (codes "2PEC")) ≡ End (world_copied_to two_pages [] [])
   pub copies : after_with two_pages 5 (opened (codes "EC")) ≡ End (world_copied_to two_pages [] [])
   -- a search goes on from page to page
-  pub looks_on : after_with three_pages 13 (opened (then (codes "YNe") (codes ".=HTEC"))) ≡ End (record (world_copied_to three_pages (codes "e") (line (codes "1") ++ codes "ef")) {
-    kept = record (kept_of_store [] 0) { search_text = codes "e"; last_length = 1; typed = line (codes "1") ++ codes "ef" };
-  })
+  pub looks_on : after_with three_pages 13 (opened (then (codes "YNe") (codes ".=HTEC")))
+      ≡ End (record (world_copied_to three_pages (codes "e") (line (codes "1") ++ codes "ef")) {
+        kept = record (kept_of_store [] 0) {
+          search_text = codes "e";
+          last_length = 1;
+          typed = line (codes "1") ++ codes "ef";
+        };
+      })
   -- where it finds nothing all is written
-  pub looks_through : after_with two_pages 4 (opened (then (codes "Nz") [])) ≡ Fail code.Srh (world_read two_pages (codes "z"))
-  pub answers : after_with two_pages 9 (opened (then (codes ":Nz") (codes "=EC"))) ≡ End (world_copied_to two_pages (codes "z") (line (codes "0")))
+  pub looks_through : after_with two_pages 4 (opened (then (codes "Nz") []))
+      ≡ Fail code.Srh (world_read two_pages (codes "z"))
+  pub answers : after_with two_pages 9 (opened (then (codes ":Nz") (codes "=EC")))
+      ≡ End (world_copied_to two_pages (codes "z") (line (codes "0")))
   -- codes
-  pub needs_output : after_with two_pages 2 (then (codes "ERin") (then (codes "Y:Nz") [])) ≡ Fail code.Nfo (record {
-    kept = record (kept_of_store (codes "ab") 0) { form_feed = true };
-    files = record {
-      named = file (codes "in") two_pages ∷ [];
-      input = Some (record { name = codes "in"; unread = codes "cd" });
-      output = None;
-    };
-  })
+  pub needs_output : after_with two_pages 2 (then (codes "ERin") (then (codes "Y:Nz") []))
+      ≡ Fail code.Nfo (record {
+        kept = record (kept_of_store (codes "ab") 0) { form_feed = true };
+        files = record {
+          named = file (codes "in") two_pages ∷ [];
+          input = Some (record { name = codes "in"; unread = codes "cd" });
+          output = None;
+        };
+      })
   pub no_pages : after_with two_pages 3 (opened (codes "0P")) ≡ Fail code.Arg (record {
     kept = kept_of_store [] 0;
     files = record {

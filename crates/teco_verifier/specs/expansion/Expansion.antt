@@ -66,8 +66,8 @@ is_within number next =
     && nat_le (length next.registers) MOST_OPEN
     && nat_le (length next.stand.iterations) MOST_OPEN
 
--- The visit that follows one of a number. What is read there may be refused, then its ways, then pairs that overlap, then
--- what it calls, and then how much there is.
+-- The visit that follows one of a number. What is read there may be refused, then its ways, then pairs that
+-- overlap, then what it calls, and then how much there is.
 unfoldable pub next_visit : Library → ℕ → Visit → Result Visit Reason
 next_visit library number v = do
   read ← read_at v.stand.position
@@ -136,7 +136,8 @@ same_stand a b = same_position a.position b.position && bytes_eq a.iterations b.
 -- two positions are at the same place in the same text, whichever iterations are open there
 abbrev pub same_place : Position → Position → Bool
 same_place p q =
-    p.running.place == q.running.place && bytes_eq p.running.text q.running.text && same_spots p.callers q.callers
+    p.running.place == q.running.place && bytes_eq p.running.text q.running.text && same_spots
+    p.callers q.callers
 
 -- the number of the next behind a number that stands so
 abbrev pub number_behind : ℕ → List Stand → Stand → Option ℕ

@@ -42,8 +42,8 @@ crossed_to to c (Whole e ∷ rest) =
 abbrev pub crossed : List ℕ → ℕ → ℕ → Crossed
 crossed text from to = crossed_to to not_crossed (readings text from)
 
--- On the way from a spot an iteration ends that is open there, or one begins that ends behind the way; one that has no end
--- is none.
+-- On the way from a spot an iteration ends that is open there, or one begins that ends behind the way; one that has
+-- no end is none.
 abbrev pub parts_on : Spot → ℕ → ℕ → Bool
 parts_on spot from to =
     let way = crossed spot.text from to in

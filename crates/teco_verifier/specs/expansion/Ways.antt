@@ -120,7 +120,8 @@ return_ways [] (caller ∷ callers) = one_way (record { running = caller; caller
 abbrev pub element_ways : Library → Kind → Element → Position → Result (List Position) Reason
 element_ways library (kind.Call c) e p = call_ways (macro library c.register) e p
 element_ways library (kind.Flow f) e p = flow_ways f e p
-element_ways library (kind.Search s) e p = search_ways (has_colon e (frame_of p.running.text)) p.running.starts e p
+element_ways library (kind.Search s) e p =
+    search_ways (has_colon e (frame_of p.running.text)) p.running.starts e p
 element_ways library k e p = one_way (past e p)
 
 unfoldable pub ways_at : Library → Option Element → Position → Result (List Position) Reason

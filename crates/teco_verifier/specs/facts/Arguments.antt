@@ -82,7 +82,8 @@ final_value level = value_at_end level.value level.operator
 -- what may become a first value: it is there, and cannot be negative
 abbrev pub first_value : Distances → Option Value → Result Value Refusal
 first_value distances None = Err refusal.Argument
-first_value distances (Some s) = if int_le (pos 0) (interval_of distances s).lo then Ok s else Err refusal.Argument
+first_value distances (Some s) = if int_le (pos 0) (interval_of distances s).lo
+    then Ok s else Err refusal.Argument
 
 -- comma: the value of the finished level becomes its first value, where none is there
 abbrev pub no_first : Option Value → Result (Unit {0}) Refusal

@@ -26,15 +26,16 @@ pub record Choice : Type 0 where
   pub distances : Distances
   pub texts : List Polynomial
 
--- What a body changes, called texts included, whether its elements are reached or not: the numbers of which registers it
--- writes, and whether it ends all that is saved.
+-- What a body changes, called texts included, whether its elements are reached or not: the numbers of which
+-- registers it writes, and whether it ends all that is saved.
 pub record Changes : Type 0 where
   pub written : List Bool
   pub ends : Bool
 
 -- the number of a register that the body writes is unknown
 abbrev pub unknown_where : List Bool → List Interval → List Interval
-unknown_where (written ∷ others) (i ∷ numbers) = (if written then any_number else i) ∷ unknown_where others numbers
+unknown_where (written ∷ others) (i ∷ numbers) =
+    (if written then any_number else i) ∷ unknown_where others numbers
 unknown_where [] numbers = numbers
 unknown_where (written ∷ others) [] = []
 
@@ -76,7 +77,8 @@ may_choose Second distances = true
 abbrev pub begins : Choice → Facts → Bool
 begins choice entering =
     is_at_most entering.held choice.held && each_covers covers_length choice.texts entering.texts
-    && covers_distances choice.distances entering.position.distances && may_choose entering.rules choice.distances
+    && covers_distances choice.distances entering.position.distances && may_choose entering.rules
+    choice.distances
 
 -- without a count something falls in each turn
 abbrev pub counts : Bool → Position → Bool

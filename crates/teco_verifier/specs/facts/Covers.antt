@@ -57,7 +57,8 @@ is_same s t =
 
 abbrev pub covers_number : Distances → Value → Value → Bool
 covers_number distances s t =
-    if is_interval s then covers_interval (record { lo = s.lo; hi = s.hi }) (interval_of distances t) else is_same s t
+    if is_interval s then covers_interval (record { lo = s.lo; hi = s.hi })
+    (interval_of distances t) else is_same s t
 
 abbrev pub covers_value : Distances → Value → Value → Bool
 covers_value distances s t = covers_saved s.saved t.saved && covers_number distances s t

@@ -43,7 +43,10 @@ character_deletion distances n =
 abbrev pub nearer : KnownPlace → KnownPlace → Shift
 nearer from to =
     moving
-    (record { back = min from.distances.back to.distances.back; fore = min from.distances.fore to.distances.fore })
+    (record {
+      back = min from.distances.back to.distances.back;
+      fore = min from.distances.fore to.distances.fore;
+    })
     (By (greater_known from.beyond to.beyond))
 
 abbrev pub range_deletion : Rules → Value → Value → Distances → Result Shift Refusal
@@ -55,7 +58,8 @@ range_deletion rules m n distances = do
 -- nK: the lines from the pointer on, where n is at least 1; a character is taken away where one stood at the pointer
 abbrev pub lines_deletion : Distances → Interval → Shift
 lines_deletion distances n =
-    if int_le (pos 1) n.lo then record (moving (record distances { fore = 0 }) PastLine) { loss = min distances.fore 1 }
+    if int_le (pos 1) n.lo then record (moving (record distances { fore = 0 }) PastLine)
+    { loss = min distances.fore 1 }
     else if int_le n.hi (pos 0) then moving (record distances { back = 0 }) (By (Some (pos 0)))
     else moving nowhere (By (Some (pos 0)))
 

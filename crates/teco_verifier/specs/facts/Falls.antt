@@ -62,7 +62,8 @@ rest_ordered distances falls =
 
 abbrev pub ordered : Distances → Falls → Falls
 ordered distances falls =
-    rest_ordered distances (far_line_ordered (line_ordered distances (far_ordered (fall_ordered distances falls))))
+    rest_ordered distances
+    (far_line_ordered (line_ordered distances (far_ordered (fall_ordered distances falls))))
 
 -- the first edition knows the fall alone
 abbrev pub in_order : Rules → Distances → Falls → Falls
@@ -71,7 +72,15 @@ in_order Second distances falls = ordered distances falls
 
 -- where a turn begins nothing has fallen
 abbrev pub falls_at_turn : Rules → Falls
-falls_at_turn First = record { fall = Some (pos 0); far = None; line = None; far_line = None; held = None; rest = None }
+falls_at_turn First =
+    record {
+      fall = Some (pos 0);
+      far = None;
+      line = None;
+      far_line = None;
+      held = None;
+      rest = None;
+    }
 falls_at_turn Second = record {
   fall = Some (pos 0);
   far = Some (pos 0);

@@ -47,7 +47,11 @@ perhaps_forward forward = moving nowhere (By (if forward then Some (pos 0) else 
 -- Past the end of the line: in the second edition the pointer is farther from the begin where a character stood at it.
 abbrev pub distances_past_line : Rules → Distances → Distances
 distances_past_line rules distances =
-    record { back = if is_second rules then distances.back + min distances.fore 1 else distances.back; fore = 0 }
+    record {
+      back = if is_second rules then distances.back + min distances.fore 1
+          else distances.back;
+      fore = 0;
+    }
 
 -- every number of an interval is one
 abbrev pub is_exactly : ℤ → Interval → Bool

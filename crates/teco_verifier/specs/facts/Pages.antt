@@ -34,7 +34,9 @@ code_asked rules n = if is_second rules && is_offset n then code_value n.lo else
 -- A adds a page behind the buffer, where nothing is known to be; a digit stays where it stands
 abbrev pub append : Option Value → Facts → Result Foreseen Refusal
 append None facts =
-    silent_behind (record (moving facts.position.distances (Refilled 0)) { digit = facts.position.digit }) facts
+    silent_behind
+    (record (moving facts.position.distances (Refilled 0)) { digit = facts.position.digit })
+    facts
 append (Some n) facts = Ok (answering_value (code_asked facts.rules n) facts)
 
 -- nP goes to the begin of another page, where nothing is saved, and m,nP writes a part

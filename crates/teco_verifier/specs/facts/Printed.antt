@@ -36,7 +36,8 @@ is_in_pages s = false
 -- They take one for each page that is ahead, and one more; in the second edition the pages count once in a whole run.
 abbrev pub steps_of_search : Search → Facts → Result Polynomial Refusal
 steps_of_search s facts =
-    if is_in_pages s && not (is_second facts.rules) then sum_of facts.position.ahead (number 1) else Ok (number 1)
+    if is_in_pages s && not (is_second facts.rules)
+    then sum_of facts.position.ahead (number 1) else Ok (number 1)
 
 -- the most steps that an element takes
 abbrev pub steps : Kind → Facts → Result Polynomial Refusal

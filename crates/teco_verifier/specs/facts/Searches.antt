@@ -62,8 +62,8 @@ abbrev pub minimum_of : List ℕ → Result ℕ Refusal
 minimum_of [] = Err refusal.Unverified
 minimum_of (c ∷ text) = known_minimum (minimum (c ∷ text))
 
--- What is found is as long as the minimum, and lies ahead; the pointer goes behind it, or behind what replaces it. A shorter
--- buffer, and another page, end all that is saved.
+-- What is found is as long as the minimum, and lies ahead; the pointer goes behind it, or behind what replaces it.
+-- A shorter buffer, and another page, end all that is saved.
 abbrev pub replacing : ℕ → ℕ → Shift → Shift
 replacing least new shift = record shift { loss = least; growth = number new; ends = true }
 
@@ -72,7 +72,8 @@ shift_found Find least new distances =
     moving (record { back = distances.back + least; fore = 0 }) (By (Some (pos least)))
 shift_found Replace least new distances =
     replacing least new (moving (record { back = distances.back + new; fore = 0 }) (By (Some (pos least))))
-shift_found FindInPages least new distances = ending (moving (record { back = least; fore = 0 }) (Refilled least))
+shift_found FindInPages least new distances =
+    ending (moving (record { back = least; fore = 0 }) (Refilled least))
 shift_found ReplaceInPages least new distances =
     replacing least new (moving (record { back = new; fore = 0 }) (Refilled least))
 

@@ -52,7 +52,8 @@ saved_after ends saved = if ends then none_saved else saved
 -- the falls of every open iteration behind a shift
 abbrev pub falls_behind : Rules → Shift → Falls → Falls
 falls_behind rules shift falls =
-    in_order rules (capped shift.distances) (with_held_fall (held_fall shift) (falls_after rules shift.descent falls))
+    in_order rules (capped shift.distances)
+    (with_held_fall (held_fall shift) (falls_after rules shift.descent falls))
 
 -- the position behind a shift, where so much is held
 abbrev pub position_after : Rules → Shift → Polynomial → Position → Position
@@ -80,7 +81,14 @@ shifted shift facts = do
 -- A shift that takes nothing away and puts nothing in. No digit is known behind it.
 abbrev pub moving : Distances → Descent → Shift
 moving distances descent =
-    record { distances = distances; descent = descent; loss = 0; growth = number 0; ends = false; digit = None }
+    record {
+      distances = distances;
+      descent = descent;
+      loss = 0;
+      growth = number 0;
+      ends = false;
+      digit = None;
+    }
 
 -- a shift that ends all that is saved
 abbrev pub ending : Shift → Shift

@@ -80,7 +80,11 @@ storage (Get r) library colons text taken facts = retrieval colons r facts
 
 -- [q pushes what is known of the pair
 abbrev pub push : ℕ → Facts → Facts
-push r facts = record facts { pushes = record { number = number_of r facts; text = text_of r facts } ∷ facts.pushes }
+push r facts =
+    record facts {
+      pushes = record { number = number_of r facts; text = text_of r facts }
+          ∷ facts.pushes;
+    }
 
 -- ]q pops it, but none from below the entry, or from below the < of an open iteration
 abbrev pub is_above : List Pushed → List Iteration → Bool

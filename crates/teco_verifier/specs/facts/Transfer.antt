@@ -51,7 +51,8 @@ levels_after (Operate operator) text distances arguments =
     with_level arguments (level_with_operator operator arguments.level)
 levels_after Open text distances arguments = Ok (levels_after_open arguments)
 levels_after Close text distances arguments = levels_closed_onto distances arguments.level arguments.outer
-levels_after Comma text distances arguments = with_level arguments (level_after_comma distances arguments.level)
+levels_after Comma text distances arguments =
+    with_level arguments (level_after_comma distances arguments.level)
 
 abbrev pub facts_after_levels : Result KnownArguments Refusal → Facts → Result Facts Refusal
 facts_after_levels changed facts = do
@@ -107,8 +108,8 @@ on changed = do
   facts ← changed
   Ok (goes_on facts)
 
--- A search that counts as having a colon answers; any other is verified in an iteration alone, goes on where it found, and
--- where it failed leaves that.
+-- A search that counts as having a colon answers; any other is verified in an iteration alone, goes on where it
+-- found, and where it failed leaves that.
 abbrev pub search_allowed : Bool → Bool → Result (Unit {0}) Refusal
 search_allowed inside colon = if inside || colon then Ok tt else Err refusal.Unverified
 

@@ -93,13 +93,16 @@ most_share m (negsuc c) = pos m *ℤ negsuc c
 abbrev pub interval_of : Distances → Value → Interval
 interval_of distances s = record {
   lo =
-      least_share distances.fore s.ahead +ℤ least_share distances.back s.behind +ℤ (code_interval s.code).lo +ℤ s.lo;
-  hi = most_share distances.fore s.ahead +ℤ most_share distances.back s.behind +ℤ (code_interval s.code).hi +ℤ s.hi;
+      least_share distances.fore s.ahead +ℤ least_share distances.back s.behind +ℤ
+      (code_interval s.code).lo +ℤ s.lo;
+  hi = most_share distances.fore s.ahead +ℤ most_share distances.back s.behind +ℤ
+      (code_interval s.code).hi +ℤ s.hi;
 }
 
 -- a result that may leave 32 bits is any number
 abbrev pub kept_in_32_bits : Interval → Interval
-kept_in_32_bits i = if int_le (negsuc (2 ^ 31 - 1)) i.lo && int_le i.hi (pos (2 ^ 31 - 1)) then i else any_number
+kept_in_32_bits i = if int_le (negsuc (2 ^ 31 - 1)) i.lo && int_le i.hi (pos (2 ^ 31 - 1))
+    then i else any_number
 
 -- A linear value is a*Z + b*. + k with a and b from -1 to 1, or plus or minus a code, plus k; and k is at most 2^29 in
 -- either direction.
@@ -115,7 +118,8 @@ has_no_distance s = are_equal s.ahead (pos 0) && are_equal s.behind (pos 0)
 abbrev pub is_linear : Value → Bool
 is_linear s =
     is_sign s.ahead && is_sign (s.behind -ℤ s.ahead) && int_le s.hi s.lo
-    && int_le (negsuc (2 ^ 29 - 1)) s.lo && int_le s.hi (pos (2 ^ 29)) && (is_none s.code || has_no_distance s)
+    && int_le (negsuc (2 ^ 29 - 1)) s.lo && int_le s.hi (pos (2 ^ 29)) &&
+    (is_none s.code || has_no_distance s)
 
 -- sums and differences stay linear where they can, and else, as where both have a code, are those of the intervals
 abbrev pub linear_or : Interval → Bool → Value → Value
@@ -136,7 +140,8 @@ sum distances s t =
 
 abbrev pub difference : Distances → Value → Value → Value
 difference distances s t =
-    linear_or (interval_difference (interval_of distances s) (interval_of distances t)) (have_codes s t) (minus s t)
+    linear_or (interval_difference (interval_of distances s) (interval_of distances t))
+    (have_codes s t) (minus s t)
 
 -- a product lies between the corners
 abbrev pub least_product : ℤ → Interval → ℤ

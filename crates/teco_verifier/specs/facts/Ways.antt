@@ -136,7 +136,8 @@ with_character (negsuc n) distances = with_back distances (max distances.back (n
 abbrev pub proved : Numbers → Value → Distances → Distances
 proved n s distances =
     option_map_or
-    (λ (code : CharacterCode). if takes_without n code s then distances else with_character code.offset distances)
+    (λ (code : CharacterCode). if takes_without n code s
+    then distances else with_character code.offset distances)
     s.code distances
 
 -- where a class is that of digits, it tells where one stands
@@ -181,7 +182,8 @@ position_near rules n s position distances = record position {
 abbrev pub position_on : Rules → Numbers → Value → Position → Option Position
 position_on rules n s position =
     if may_take n (interval_of position.distances s)
-    then option_map (λ near. position_near rules n s position (proved n s near)) (raised n s position.distances)
+    then option_map (λ near. position_near rules n s position (proved n s near))
+    (raised n s position.distances)
     else None
 
 -- A search's answer is -1 where it found, and 0 where it failed: the position is that of the outcome that takes the

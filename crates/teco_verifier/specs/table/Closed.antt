@@ -29,8 +29,8 @@ abbrev pub is_entry : Entry → Option Facts → Bool
 is_entry entry None = false
 is_entry entry (Some facts) = say_same facts (facts_given entry)
 
--- An edge that begins no turn is covered where it leads. Behind all nodes nothing is known; the return of the entry alone
--- leads there.
+-- An edge that begins no turn is covered where it leads. Behind all nodes nothing is known; the return of the entry
+-- alone leads there.
 abbrev pub is_return : Option Element → Bool
 is_return None = true
 is_return (Some e) = false
@@ -56,7 +56,8 @@ abbrev pub is_counted : List Iteration → Bool
 is_counted [] = false
 is_counted (i ∷ outer) = i.counted
 
-abbrev pub body_stands : Changes → Option Facts → Facts → Option Facts → Option Choice → Result Polynomial Refusal → Bool
+abbrev pub body_stands : Changes → Option Facts → Facts → Option Facts → Option Choice
+    → Result Polynomial Refusal → Bool
 body_stands changes end entering (Some start) (Some choice) (Ok most) =
     say_same start (body_start choice changes entering)
     && stands choice changes (is_counted entering.iterations) most entering end
@@ -66,7 +67,8 @@ body_stands changes end entering start choice most = false
 abbrev pub is_entered : List Node → Table → ℕ → Facts → Option Facts → Bool
 is_entered nodes table begin facts None = is_none (facts_at table (suc begin))
 is_entered nodes table begin facts (Some entering) =
-    body_stands (changes_in nodes begin) (facts_at table (end_of nodes begin)) entering (facts_at table (suc begin))
+    body_stands (changes_in nodes begin) (facts_at table (end_of nodes begin)) entering
+    (facts_at table (suc begin))
     (choice_at table begin) (turns (rank_at (facts_at table (end_of nodes begin))) facts)
 
 abbrev pub enters : List Node → Table → ℕ → Facts → Edges → Flow → Bool

@@ -89,7 +89,8 @@ pub record Derived : Type 0 where
   pub arrivals : List Arrival
 
 abbrev pub derived_at : List Node → List Chosen → ℕ → Node → Option Facts → Result Derived Refusal
-derived_at nodes chosen number node None = Ok (record { row = record { facts = None; choice = None }; arrivals = [] })
+derived_at nodes chosen number node None =
+    Ok (record { row = record { facts = None; choice = None }; arrivals = [] })
 derived_at nodes chosen number node (Some facts) = do
   edges ← edges_at nodes node facts
   Ok (

@@ -1,5 +1,5 @@
--- The numbers that are printed of a table: the most steps that a run takes, the most that is held, and the files that must
--- be open. A number that overflows does so at a node, in the order of their numbers.
+-- The numbers that are printed of a table: the most steps that a run takes, the most that is held, and the files
+-- that must be open. A number that overflows does so at a node, in the order of their numbers.
 use Rattle.std.specs.Prelude.{◌≡◌, ℕ, suc, List, [], ◌∷◌, Bool, true, false, not, ◌||◌, ◌&&◌, if◌then◌else◌, Option, Some, None, Result, Ok, Err}
 use Rattle.std.specs.Option.{option_map_or, ok_or}
 use Rattle.teco_model.specs.Element.{Element}
@@ -36,7 +36,8 @@ turns_where rank (Some facts) (Some start) = turns rank facts
 
 abbrev pub turns_at : List Node → Table → ℕ → Result Polynomial Refusal
 turns_at nodes table begin =
-    turns_where (rank_at (facts_at table (end_of nodes begin))) (facts_at table begin) (facts_at table (suc begin))
+    turns_where (rank_at (facts_at table (end_of nodes begin))) (facts_at table begin)
+    (facts_at table (suc begin))
 
 abbrev pub product_of : Polynomial → Polynomial → Result Polynomial Refusal
 product_of p q = ok_or (mul p q) refusal.Overflow
@@ -146,7 +147,8 @@ joined_with (p ∷ ps) most = do
 
 abbrev pub sized_with : Entry → Option Facts → Polynomial → Result Polynomial Refusal
 sized_with entry None most = Ok most
-sized_with entry (Some facts) most = joined_with (facts.held ∷ own_texts entry.rules entry.lengths facts.texts) most
+sized_with entry (Some facts) most =
+    joined_with (facts.held ∷ own_texts entry.rules entry.lengths facts.texts) most
 
 abbrev pub size_from : Entry → Table → ℕ → List Node → Polynomial → Result Polynomial ℕ
 size_from entry table k [] most = Ok most
@@ -171,7 +173,8 @@ needs_of (Some e) facts = known_needs (needs e.kind facts)
 abbrev pub needs_from : Table → ℕ → List Node → Needs
 needs_from table k [] = no_needs
 needs_from table k (node ∷ rest) =
-    both_needs (option_map_or (needs_of node.element) (facts_at table k) no_needs) (needs_from table (suc k) rest)
+    both_needs (option_map_or (needs_of node.element) (facts_at table k) no_needs)
+    (needs_from table (suc k) rest)
 
 unfoldable pub needs_in : List Node → Table → Needs
 needs_in nodes table = needs_from table 1 nodes

@@ -5,8 +5,8 @@ use Rattle.teco_verifier.specs.expansion.Node.{numbered}
 use Rattle.teco_verifier.specs.facts.Bodies.{Choice}
 use Rattle.teco_verifier.specs.facts.Facts.{Facts}
 
--- What it says at a node: what is known before its element, where that is reached, and what is chosen for its body, where
--- it is a < whose body is reached.
+-- What it says at a node: what is known before its element, where that is reached, and what is chosen for its body,
+-- where it is a < whose body is reached.
 pub record Row : Type 0 where
   pub facts : Option Facts
   pub choice : Option Choice

@@ -1,5 +1,5 @@
--- What the body of an iteration changes: which registers' numbers it writes, and whether it ends all that is saved; by the
--- elements in it, called texts included, whether they are reached or not.
+-- What the body of an iteration changes: which registers' numbers it writes, and whether it ends all that is saved;
+-- by the elements in it, called texts included, whether they are reached or not.
 use Rattle.std.specs.Prelude.{ℕ, zero, suc, ◌-◌, ◌==◌, List, [], ◌∷◌, take, drop, Bool, true, false, Option, Some, None}
 use Rattle.std.specs.List.{list_any}
 use Rattle.std.specs.Option.{option_map_or}
@@ -65,7 +65,8 @@ body_of nodes begin = take (end_of nodes begin - begin) (drop begin nodes)
 -- for so many registers from one on, whether some node writes its number
 unfoldable pub written_in : List Node → ℕ → ℕ → List Bool
 written_in body zero r = []
-written_in body (suc count) r = list_any (λ (node : Node). sets r node.element) body ∷ written_in body count (suc r)
+written_in body (suc count) r =
+    list_any (λ (node : Node). sets r node.element) body ∷ written_in body count (suc r)
 
 unfoldable pub written : List Node → ℕ → List Bool
 written nodes begin = written_in (body_of nodes begin) REGISTERS 0
