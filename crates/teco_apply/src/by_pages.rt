@@ -2,14 +2,14 @@
 ghost use Rattle.std.specs.Prelude.{◌≡◌, ◌≤◌, ◌<◌, ◌↔◌, Err, length};
 ghost use Rattle.teco_apply.specs.Apply.{LineCounts};
 ghost use Rattle.teco_apply.specs.ByPages.{AllPages, EachPage, EditsPages, EditsText, FileCounts, FileEdited, FromStart, Gathers, Once, PagesCount, is_dropped};
-ghost use Rattle.teco_apply.specs.Sure.{IsTaken};
+ghost use Rattle.teco_apply.specs.Sure.{IsTaken, TakesArgument};
 ghost use Rattle.teco_base.specs.declared.TheConstants.{LIMIT};
 ghost use Rattle.teco_run.specs.Holdings.{Joined};
 ghost use Rattle.teco_session.specs.declared.fault.SessionFault.TheVariants as fault;
 
 use crate::editing::{NAME, answer_text, drop_if_coded, opening, tell};
 use crate::guard::Guard;
-use crate::run::takes;
+use crate::run::{Call, takes};
 use crate::stages::{Ran, Tally, Turned, close, not_begun, run_admitted, turn};
 use std::alloc::Global;
 use std::io::Write;
@@ -64,20 +64,19 @@ pub struct Edited {
 // Runs the macro on what is read, and closes the output.
 fn edit_once<T: TextStore, H: Host, W: Write, G: Guard<H>>(
     machine: &mut Machine<T>,
-    verified: &Verified<'_>,
-    given: Option<i32>,
+    call: &Call<'_>,
     host: &mut H,
     writer: &mut W,
     guard: &mut G,
 ) -> Result<Edited, SessionFault>
-    requires { IsTaken verified.now.fields.argument given }
-    ensures edits { Joined (λ old new. Once (record { found = verified.now; given = given }) old new
+    requires { TakesArgument call.now }
+    ensures edits { Joined (λ old new. Once call.now old new
         (H.failures host.old) (H.failures host.new) (W.contents writer.old) (W.contents writer.new) result)
         machine.old machine.new (H.files host.old) (H.files host.new) }
     ensures counted { PagesCount result (H.failures host.old) (H.failures host.new) }
 {
     let done = Tally::new();
-    match run_admitted(machine, verified, given, host, writer, guard) {
+    match run_admitted(machine, call, host, writer, guard) {
         Ok(Ran::On { steps }) => close(machine, done.after(steps), host, writer, guard),
         Ok(Ran::Coded) => Ok(done.edited(true, false)),
         Ok(Ran::Refused) => Ok(done.edited(false, true)),
@@ -89,22 +88,21 @@ fn edit_once<T: TextStore, H: Host, W: Write, G: Guard<H>>(
 // output.
 fn edit_each<T: TextStore, H: Host, W: Write, G: Guard<H>>(
     machine: &mut Machine<T>,
-    verified: &Verified<'_>,
-    given: Option<i32>,
+    call: &Call<'_>,
     host: &mut H,
     writer: &mut W,
     guard: &mut G,
 ) -> Result<Edited, SessionFault>
-    requires { IsTaken verified.now.fields.argument given }
+    requires { TakesArgument call.now }
     ensures edits { Joined (λ old new. EachPage
-        (record { found = verified.now; given = given }) old new
+        call.now old new
         (H.failures host.old) (H.failures host.new) (W.contents writer.old) (W.contents writer.new) result)
         machine.old machine.new (H.files host.old) (H.files host.new) }
     ensures counted { PagesCount result (H.failures host.old) (H.failures host.new) }
 {
     let mut done = Tally::new();
     for _ in 0..PAGES {
-        match run_admitted(machine, verified, given, host, writer, guard) {
+        match run_admitted(machine, call, host, writer, guard) {
             Ok(Ran::On { steps }) => done = done.after(steps),
             Ok(Ran::Coded) => return Ok(done.edited(true, false)),
             Ok(Ran::Refused) => return Ok(done.edited(false, true)),
@@ -147,21 +145,20 @@ fn gather<T: TextStore, H: Host, W: Write, G: Guard<H>>(
 // Goes to the start of what is read, runs the macro, and closes the output.
 fn edit_from_start<T: TextStore, H: Host, W: Write, G: Guard<H>>(
     machine: &mut Machine<T>,
-    verified: &Verified<'_>,
-    given: Option<i32>,
+    call: &Call<'_>,
     host: &mut H,
     writer: &mut W,
     guard: &mut G,
 ) -> Result<Edited, SessionFault>
-    requires { IsTaken verified.now.fields.argument given }
+    requires { TakesArgument call.now }
     ensures edits { Joined (λ old new. FromStart
-        (record { found = verified.now; given = given }) old new
+        call.now old new
         (H.failures host.old) (H.failures host.new) (W.contents writer.old) (W.contents writer.new) result)
         machine.old machine.new (H.files host.old) (H.files host.new) }
     ensures counted { PagesCount result (H.failures host.old) (H.failures host.new) }
 {
     match answer_text(machine, b"J", host, writer, guard) {
-        Ok(false) => edit_once(machine, verified, given, host, writer, guard),
+        Ok(false) => edit_once(machine, call, host, writer, guard),
         Ok(true) => Ok(Tally::new().edited(true, false)),
         Err(fault) => Err(fault),
     }
@@ -170,21 +167,20 @@ fn edit_from_start<T: TextStore, H: Host, W: Write, G: Guard<H>>(
 // Reads all pages, and runs the macro on them as one.
 fn edit_whole<T: TextStore, H: Host, W: Write, G: Guard<H>>(
     machine: &mut Machine<T>,
-    verified: &Verified<'_>,
-    given: Option<i32>,
+    call: &Call<'_>,
     host: &mut H,
     writer: &mut W,
     guard: &mut G,
 ) -> Result<Edited, SessionFault>
-    requires { IsTaken verified.now.fields.argument given }
+    requires { TakesArgument call.now }
     ensures edits { Joined (λ old new. AllPages
-        (record { found = verified.now; given = given }) old new
+        call.now old new
         (H.failures host.old) (H.failures host.new) (W.contents writer.old) (W.contents writer.new) result)
         machine.old machine.new (H.files host.old) (H.files host.new) }
     ensures counted { PagesCount result (H.failures host.old) (H.failures host.new) }
 {
     match gather(machine, host, writer, guard) {
-        Ok(false) => edit_from_start(machine, verified, given, host, writer, guard),
+        Ok(false) => edit_from_start(machine, call, host, writer, guard),
         Ok(true) => Ok(Tally::new().edited(true, false)),
         Err(fault) => Err(fault),
     }
@@ -193,46 +189,44 @@ fn edit_whole<T: TextStore, H: Host, W: Write, G: Guard<H>>(
 // Edits pages once the first is read.
 fn edit_pages<T: TextStore, H: Host, W: Write, G: Guard<H>>(
     machine: &mut Machine<T>,
-    verified: &Verified<'_>,
-    edit: &Edit<'_>,
+    call: &Call<'_>,
+    pages: Pages,
     host: &mut H,
     writer: &mut W,
     guard: &mut G,
 ) -> Result<Edited, SessionFault>
-    requires { IsTaken verified.now.fields.argument edit.now.given }
-    ensures edits { Joined (λ old new. EditsPages edit.now.pages
-        (record { found = verified.now; given = edit.now.given }) old new
+    requires { TakesArgument call.now }
+    ensures edits { Joined (λ old new. EditsPages pages call.now old new
         (H.failures host.old) (H.failures host.new) (W.contents writer.old) (W.contents writer.new) result)
         machine.old machine.new (H.files host.old) (H.files host.new) }
     ensures counted { PagesCount result (H.failures host.old) (H.failures host.new) }
 {
-    match edit.pages {
-        Pages::First => edit_once(machine, verified, edit.given, host, writer, guard),
-        Pages::Each => edit_each(machine, verified, edit.given, host, writer, guard),
-        Pages::Whole => edit_whole(machine, verified, edit.given, host, writer, guard),
+    match pages {
+        Pages::First => edit_once(machine, call, host, writer, guard),
+        Pages::Each => edit_each(machine, call, host, writer, guard),
+        Pages::Whole => edit_whole(machine, call, host, writer, guard),
     }
 }
 
 // Opens the files, and edits the pages.
 fn edit_opened<T: TextStore, H: Host, W: Write, G: Guard<H>>(
     machine: &mut Machine<T>,
-    verified: &Verified<'_>,
-    edit: &Edit<'_>,
+    call: &Call<'_>,
+    pages: Pages,
     opening: &[u8],
     host: &mut H,
     writer: &mut W,
     guard: &mut G,
 ) -> Result<Edited, SessionFault>
-    requires taken { IsTaken verified.now.fields.argument edit.now.given }
+    requires taken { TakesArgument call.now }
     requires opening { length opening.now ≤ LIMIT }
-    ensures edits { Joined (λ old new. EditsText edit.now.pages
-        (record { found = verified.now; given = edit.now.given }) opening.now old new
+    ensures edits { Joined (λ old new. EditsText pages call.now opening.now old new
         (H.failures host.old) (H.failures host.new) (W.contents writer.old) (W.contents writer.new) result)
         machine.old machine.new (H.files host.old) (H.files host.new) }
     ensures counted { PagesCount result (H.failures host.old) (H.failures host.new) }
 {
     match answer_text(machine, opening, host, writer, guard) {
-        Ok(false) => edit_pages(machine, verified, edit, host, writer, guard),
+        Ok(false) => edit_pages(machine, call, pages, host, writer, guard),
         Ok(true) => Ok(Tally::new().edited(true, false)),
         Err(fault) => Err(fault),
     }
@@ -280,10 +274,14 @@ pub fn edit_file<T: TextStore, H: Host, W: Write, G: Guard<H>>(
         return Err(SessionFault::Argument);
     }
     let opening = opening(alloc, edit.source, edit.target)?;
+    let call = Call {
+        verified,
+        given: edit.given,
+    };
     let edited = edit_opened(
         machine,
-        verified,
-        edit,
+        &call,
+        edit.pages,
         opening.as_slice(),
         host,
         writer,

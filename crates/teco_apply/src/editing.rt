@@ -2,7 +2,7 @@
 ghost use Rattle.std.specs.Prelude.{◌≡◌, ◌≤◌, ◌↔◌, ◌++◌, [], Err, IfOk, length, false};
 ghost use Rattle.teco_apply.specs.Apply as edit;
 ghost use Rattle.teco_apply.specs.Apply.{AnswersMacro, AnswersText, Applied, DropCounts, DropsIfCoded, EditCounts, Edits, Finishes, LineCounts, MacroStops, opening};
-ghost use Rattle.teco_apply.specs.Sure.{IsTaken};
+ghost use Rattle.teco_apply.specs.Sure.{IsTaken, TakesArgument};
 ghost use Rattle.teco_base.specs.declared.TheConstants.{LIMIT};
 ghost use Rattle.teco_model.specs.Session.{code_of, code_line, is_code};
 ghost use Rattle.teco_model.specs.Run.{StopCounts};
@@ -12,7 +12,7 @@ ghost use Rattle.teco_session.specs.Output.{Writes};
 ghost use Rattle.teco_session.specs.declared.fault.SessionFault.TheVariants as fault;
 
 use crate::ready::NotReady;
-use crate::run::{run_given, takes};
+use crate::run::{Call, run_given, takes};
 use std::alloc::{AllocError, Global};
 use std::io::Write;
 use teco_base::Code;
@@ -53,19 +53,14 @@ pub fn stop_of(not_ready: NotReady) -> Stop
 }
 
 // Runs a verified macro.
-fn run_macro<T: TextStore, H: Host>(
-    machine: &mut Machine<T>,
-    verified: &Verified<'_>,
-    given: Option<i32>,
-    host: &mut H,
-) -> Stop
-    requires { IsTaken verified.now.fields.argument given }
+fn run_macro<T: TextStore, H: Host>(machine: &mut Machine<T>, call: &Call<'_>, host: &mut H) -> Stop
+    requires { TakesArgument call.now }
     ensures stops { Joined (λ old new. MacroStops false
-        (record { found = verified.now; given = given }) old result new)
+        call.now old result new)
         machine.old machine.new (H.files host.old) (H.files host.new) }
     ensures counted { StopCounts result (H.failures host.old) (H.failures host.new) }
 {
-    match run_given(machine, verified, given, host) {
+    match run_given(machine, call, host) {
         Ok(stop) => stop,
         Err(not_ready) => stop_of(not_ready),
     }
@@ -75,20 +70,19 @@ fn run_macro<T: TextStore, H: Host>(
 // line.
 fn answer_macro<T: TextStore, H: Host, W: Write>(
     machine: &mut Machine<T>,
-    verified: &Verified<'_>,
-    given: Option<i32>,
+    call: &Call<'_>,
     host: &mut H,
     writer: &mut W,
 ) -> Result<bool, SessionFault>
-    requires { IsTaken verified.now.fields.argument given }
+    requires { TakesArgument call.now }
     ensures answers { Joined (λ old new. AnswersMacro false
-        (record { found = verified.now; given = given }) old new
+        call.now old new
         (H.failures host.old) (H.failures host.new)
         (W.contents writer.old) (W.contents writer.new) result)
         machine.old machine.new (H.files host.old) (H.files host.new) }
     ensures counted { LineCounts result (H.failures host.old) (H.failures host.new) }
 {
-    let stop = run_macro(machine, verified, given, host);
+    let stop = run_macro(machine, call, host);
     write_stop(machine, stop, writer)
 }
 
@@ -137,20 +131,19 @@ pub fn answer_text<T: TextStore, H: Host, W: Write, L: Listener<H>>(
 // Says whether there is a code.
 fn finish<T: TextStore, H: Host, W: Write>(
     machine: &mut Machine<T>,
-    verified: &Verified<'_>,
-    given: Option<i32>,
+    call: &Call<'_>,
     host: &mut H,
     writer: &mut W,
 ) -> Result<bool, SessionFault>
-    requires { IsTaken verified.now.fields.argument given }
+    requires { TakesArgument call.now }
     ensures answers { Joined (λ old new. Finishes false
-        (record { found = verified.now; given = given }) old new
+        call.now old new
         (H.failures host.old) (H.failures host.new)
         (W.contents writer.old) (W.contents writer.new) result)
         machine.old machine.new (H.files host.old) (H.files host.new) }
     ensures counted { LineCounts result (H.failures host.old) (H.failures host.new) }
 {
-    match answer_macro(machine, verified, given, host, writer) {
+    match answer_macro(machine, call, host, writer) {
         Ok(false) => answer_text(machine, b"EC", host, writer, &mut Silent),
         stopped => stopped,
     }
@@ -160,23 +153,22 @@ fn finish<T: TextStore, H: Host, W: Write>(
 // whether there is a code.
 fn edit<T: TextStore, H: Host, W: Write>(
     machine: &mut Machine<T>,
-    verified: &Verified<'_>,
-    given: Option<i32>,
+    call: &Call<'_>,
     opening: &[u8],
     host: &mut H,
     writer: &mut W,
 ) -> Result<bool, SessionFault>
-    requires taken { IsTaken verified.now.fields.argument given }
+    requires taken { TakesArgument call.now }
     requires opening { length opening.now ≤ LIMIT }
     ensures answers { Joined (λ old new. Edits false
-        (record { found = verified.now; given = given }) opening.now old new
+        call.now opening.now old new
         (H.failures host.old) (H.failures host.new)
         (W.contents writer.old) (W.contents writer.new) result)
         machine.old machine.new (H.files host.old) (H.files host.new) }
     ensures counted { LineCounts result (H.failures host.old) (H.failures host.new) }
 {
     match answer_text(machine, opening, host, writer, &mut Silent) {
-        Ok(false) => finish(machine, verified, given, host, writer),
+        Ok(false) => finish(machine, call, host, writer),
         stopped => stopped,
     }
 }
@@ -241,7 +233,8 @@ pub fn apply<T: TextStore, H: Host, W: Write>(
         return Err(SessionFault::Argument);
     }
     let opening = opening(alloc, source, target)?;
-    let line = edit(machine, verified, given, opening.as_slice(), host, writer);
+    let call = Call { verified, given };
+    let line = edit(machine, &call, opening.as_slice(), host, writer);
     drop_if_coded(machine, line, host);
     said(line)
 }

@@ -1,12 +1,13 @@
 //! The run of a verified macro.
 ghost use Rattle.std.specs.Prelude.{◌≡◌, ◌↔◌, Some, None, IfOk, OnOk, OnErr, IsTrue};
-ghost use Rattle.teco_apply.specs.Sure.{Answers, Calls, HasFiles, IsTaken, Runs, call_text as text_of_call, kept_loaded};
+ghost use Rattle.teco_apply.specs.Sure.{Answers, Calls, HasFiles, IsTaken, Runs, TakesArgument, call_text as text_of_call, kept_loaded};
 ghost use Rattle.teco_model.specs.Macros.{IsLoaded};
 ghost use Rattle.teco_model.specs.Run.{StopCounts};
 ghost use Rattle.teco_run.specs.Holdings.{Joined};
 
 use crate::ready::NotReady;
 use arrayvec::ArrayVec;
+use std::marker::Model;
 use teco_base::{Reg, decimal};
 use teco_law_expansion::laws::{expansions_are_linked, loading_loads};
 use teco_law_tables::laws::{runs_are_sure, runs_are_verified};
@@ -15,6 +16,21 @@ use teco_pages::Host;
 use teco_run::{Machine, Stopped};
 use teco_text::TextStore;
 use teco_verify::Verified;
+
+/// A verified macro, and the argument that it is given.
+#[derive(Drop)]
+pub struct Call<'a> {
+    pub verified: &'a Verified<'a>,
+    pub given: Option<i32>,
+}
+
+impl<'a> Model for Call<'a> {
+    ghost use Rattle.teco_apply.specs.Sure as model;
+
+    ghost Value = { model.Call };
+
+    ghost view = { λ c. record { found = c.verified.now; given = c.given } };
+}
 
 // How long the text of a call may be: a number's text, and two characters.
 const CALL: usize = 13;
@@ -48,54 +64,49 @@ pub fn call_text(entry: Reg, given: Option<i32>) -> ArrayVec<u8, CALL>
 /// Calls a verified macro where its library is loaded, and the files that it needs are open.
 pub fn call_verified<T: TextStore, H: Host>(
     machine: &mut Machine<T>,
-    verified: &Verified<'_>,
-    given: Option<i32>,
+    call: &Call<'_>,
     host: &mut H,
 ) -> Stopped
-    requires loaded { IsLoaded verified.now.library machine.old.kept }
-    requires files { HasFiles verified.now.fields.needs machine.old.held }
-    requires taken { IsTaken verified.now.fields.argument given }
-    ensures calls { Joined (Calls verified.now.fields given result.stop)
+    requires loaded { IsLoaded call.now.found.library machine.old.kept }
+    requires files { HasFiles call.now.found.fields.needs machine.old.held }
+    requires taken { TakesArgument call.now }
+    ensures calls { Joined (Calls call.now.found.fields call.now.given result.stop)
         machine.old machine.new (H.files host.old) (H.files host.new) }
     ensures counted { StopCounts result.stop (H.failures host.old) (H.failures host.new) }
 {
     machine.is_whole();
-    verified.is_certified();
+    call.verified.is_certified();
     expansions_are_linked();
     runs_are_verified();
     runs_are_sure();
-    let entry = verified.entry();
+    let entry = call.verified.entry();
     entry.index();
-    let call = call_text(entry, given);
-    machine.run_to_stop(call.as_slice(), u64::MAX, host)
+    let text = call_text(entry, call.given);
+    machine.run_to_stop(text.as_slice(), u64::MAX, host)
 }
 
 /// Loads the library of a verified macro, if it may be run with an argument, or with none. A
 /// refusal leaves all as it is.
-pub fn make_ready<T: TextStore>(
-    machine: &mut Machine<T>,
-    verified: &Verified<'_>,
-    given: Option<i32>,
-) -> Result<(), NotReady>
-    ensures answer { Answers (record { found = verified.now; given = given })
+pub fn make_ready<T: TextStore>(machine: &mut Machine<T>, call: &Call<'_>) -> Result<(), NotReady>
+    ensures answer { Answers call.now
         machine.old.held result }
     ensures loaded { OnOk result (machine.new ≡
-        record machine.old { kept = kept_loaded verified.now.library machine.old.kept }) }
-    ensures ready { OnOk result (IsLoaded verified.now.library machine.new.kept) }
+        record machine.old { kept = kept_loaded call.now.found.library machine.old.kept }) }
+    ensures ready { OnOk result (IsLoaded call.now.found.library machine.new.kept) }
     ensures err { OnErr result (machine.new ≡ machine.old) }
 {
-    let needs = verified.needs();
+    let needs = call.verified.needs();
     if needs.input && !machine.has_input() {
         return Err(NotReady::NoInput);
     }
     if needs.output && !machine.has_output() {
         return Err(NotReady::NoOutput);
     }
-    if !takes(verified, given) {
+    if !takes(call.verified, call.given) {
         return Err(NotReady::Argument);
     }
     machine.is_whole();
-    machine.load(verified.library().texts())?;
+    machine.load(call.verified.library().texts())?;
     loading_loads();
     Ok(())
 }
@@ -103,22 +114,21 @@ pub fn make_ready<T: TextStore>(
 /// Runs a verified macro with an argument, or with none.
 pub fn run_given<T: TextStore, H: Host>(
     machine: &mut Machine<T>,
-    verified: &Verified<'_>,
-    given: Option<i32>,
+    call: &Call<'_>,
     host: &mut H,
 ) -> Result<Stop, NotReady>
-    ensures answer { Answers (record { found = verified.now; given = given })
+    ensures answer { Answers call.now
         machine.old.held result }
     ensures runs { IfOk result (λ stop. Joined
-        (Runs (record { found = verified.now; given = given }) stop)
+        (Runs call.now stop)
         machine.old machine.new (H.files host.old) (H.files host.new)) }
     ensures counted { IfOk result (λ stop. StopCounts stop
         (H.failures host.old) (H.failures host.new)) }
     ensures machine { OnErr result (machine.new ≡ machine.old) }
     ensures host { OnErr result (host.new ≡ host.old) }
 {
-    make_ready(machine, verified, given)?;
-    Ok(call_verified(machine, verified, given, host).stop)
+    make_ready(machine, call)?;
+    Ok(call_verified(machine, call, host).stop)
 }
 
 /// Runs a verified macro that takes no argument, over the files of a host: the texts of its library
@@ -143,7 +153,11 @@ pub fn run_verified<T: TextStore, H: Host>(
     ensures machine { OnErr result (machine.new ≡ machine.old) }
     ensures host { OnErr result (host.new ≡ host.old) }
 {
-    run_given(machine, verified, None, host)
+    let call = Call {
+        verified,
+        given: None,
+    };
+    run_given(machine, &call, host)
 }
 
 /// Runs a verified macro that takes an argument, which stands before the call. Any argument will do
@@ -164,5 +178,9 @@ pub fn run_verified_with<T: TextStore, H: Host>(
     ensures machine { OnErr result (machine.new ≡ machine.old) }
     ensures host { OnErr result (host.new ≡ host.old) }
 {
-    run_given(machine, verified, Some(n), host)
+    let call = Call {
+        verified,
+        given: Some(n),
+    };
+    run_given(machine, &call, host)
 }

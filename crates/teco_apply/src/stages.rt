@@ -4,7 +4,7 @@ ghost use Rattle.std.specs.Prelude.{◌≡◌, ◌≤◌, ◌<◌, ◌+◌, ◌^
 ghost use Rattle.teco_apply.specs.Apply.{AnswersText, LineCounts, MacroStops};
 ghost use Rattle.teco_apply.specs.ByPages as edit;
 ghost use Rattle.teco_apply.specs.ByPages.{Closing, EndsWith, PagesCount, RanBy, RanCounts, RunsAdmitted, TurnCounts, TurnedBy, Turns, edited_with, nothing_done, tally_after};
-ghost use Rattle.teco_apply.specs.Sure.{IsTaken, kept_loaded};
+ghost use Rattle.teco_apply.specs.Sure.{TakesArgument, kept_loaded};
 ghost use Rattle.teco_base.specs.declared.TheConstants.{LIMIT};
 ghost use Rattle.teco_model.specs.Run.{StopCounts};
 ghost use Rattle.teco_run.specs.Holdings.{Joined};
@@ -12,14 +12,13 @@ ghost use Rattle.teco_run.specs.Holdings.{Joined};
 use crate::by_pages::Edited;
 use crate::editing::{answer_text, stop_of, tell};
 use crate::guard::Guard;
-use crate::run::{call_text, call_verified, make_ready};
+use crate::run::{Call, call_text, call_verified, make_ready};
 use std::io::Write;
 use teco_model::Stop;
 use teco_pages::Host;
 use teco_run::{Machine, Site, Stopped};
 use teco_session::SessionFault;
 use teco_text::TextStore;
-use teco_verify::Verified;
 
 /// What the macro came to.
 #[derive(Clone, Copy)]
@@ -134,52 +133,50 @@ fn ran_by(line: Result<bool, SessionFault>, stop: Stop) -> Result<Ran, SessionFa
 // then.
 fn run_guarded<T: TextStore, H: Host, G: Guard<H>>(
     machine: &mut Machine<T>,
-    verified: &Verified<'_>,
-    given: Option<i32>,
+    call: &Call<'_>,
     host: &mut H,
     guard: &mut G,
 ) -> Option<Stopped>
-    requires { IsTaken verified.now.fields.argument given }
+    requires { TakesArgument call.now }
     ensures stops { MatchOption result
         ((machine.new
-        ≡ record machine.old { kept = kept_loaded verified.now.library machine.old.kept })
+        ≡ record machine.old { kept = kept_loaded call.now.found.library machine.old.kept })
         × (host.new ≡ host.old))
         (λ stopped. Joined (λ old new.
-        MacroStops false (record { found = verified.now; given = given }) old stopped.stop new)
+        MacroStops false call.now old stopped.stop new)
         machine.old machine.new (H.files host.old) (H.files host.new)) }
     ensures counted { MatchOption result (host.new ≡ host.old)
         (λ stopped. StopCounts stopped.stop (H.failures host.old) (H.failures host.new)) }
 {
-    if let Err(not_ready) = make_ready(machine, verified, given) {
+    if let Err(not_ready) = make_ready(machine, call) {
         return Some(not_begun(stop_of(not_ready)));
     }
     if !guard.admits(machine.held(), machine.read_ahead(), host) {
         return None;
     }
-    Some(call_verified(machine, verified, given, host))
+    Some(call_verified(machine, call, host))
 }
 
 /// Runs the macro, if the guard admits that, and writes what it types and its code line.
 pub fn run_admitted<T: TextStore, H: Host, W: Write, G: Guard<H>>(
     machine: &mut Machine<T>,
-    verified: &Verified<'_>,
-    given: Option<i32>,
+    call: &Call<'_>,
     host: &mut H,
     writer: &mut W,
     guard: &mut G,
 ) -> Result<Ran, SessionFault>
-    requires { IsTaken verified.now.fields.argument given }
+    requires { TakesArgument call.now }
     ensures runs { Joined (λ old new. RunsAdmitted
-        (record { found = verified.now; given = given }) old new
+        call.now old new
         (H.failures host.old) (H.failures host.new) (W.contents writer.old) (W.contents writer.new) result)
         machine.old machine.new (H.files host.old) (H.files host.new) }
     ensures counted { RanCounts result (H.failures host.old) (H.failures host.new) }
 {
-    let Some(stopped) = run_guarded(machine, verified, given, host, guard) else {
+    let Some(stopped) = run_guarded(machine, call, host, guard) else {
         return Ok(Ran::Refused);
     };
-    let call = call_text(verified.entry(), given);
-    let line = tell(machine, call.as_slice(), &stopped, host, writer, guard);
+    let text = call_text(call.verified.entry(), call.given);
+    let line = tell(machine, text.as_slice(), &stopped, host, writer, guard);
     ran_by(line, stopped.stop)
 }
 

@@ -12,7 +12,7 @@ use Rattle.teco_apply.proofs.by_pages.edit_each.Goals as goal
 pub loop-init : goal.loop-init
 loop-init g c = record {
   turned =
-      rw c.new-done.ensures (Joined-stays (λ (old : World) (new : World). PagesTurned (record { found = c.args.verified.now; given = c.args.given }) old (g.H.Host.failures c.args.host.now) (g.W.Write.contents c.args.writer.now) nothing_done new (g.H.Host.failures c.args.host.now) (g.W.Write.contents c.args.writer.now))
+      rw c.new-done.ensures (Joined-stays (λ (old : World) (new : World). PagesTurned c.args.call.now old (g.H.Host.failures c.args.host.now) (g.W.Write.contents c.args.writer.now) nothing_done new (g.H.Host.failures c.args.host.now) (g.W.Write.contents c.args.writer.now))
       c.args.machine.now (g.H.Host.files c.args.host.now) (λ world. PagesTurned.none));
   failures = refl;
   pages = ap (λ (t : Tally). t.pages) c.new-done.ensures;
@@ -22,7 +22,7 @@ loop-init g c = record {
 pub returns-in-Ok-Coded-clause-edits : goal.returns-in-Ok-Coded-clause-edits
 returns-in-Ok-Coded-clause-edits g c =
     let now = c.loop in
-    let call : Call = record { found = c.args.verified.now; given = c.args.given } in
+    let call : Call = c.args.call.now in
     each-ends call now.done c.args.machine.now now.machine c.run_admitted.new.machine
     (g.H.Host.files c.args.host.now) (g.H.Host.files now.host) (g.H.Host.files c.run_admitted.new.host)
     (g.H.Host.failures c.args.host.now) (g.H.Host.failures now.host) (g.H.Host.failures c.run_admitted.new.host)
@@ -35,7 +35,7 @@ returns-in-Ok-Coded-clause-edits g c =
 pub returns-in-Ok-Refused-clause-edits : goal.returns-in-Ok-Refused-clause-edits
 returns-in-Ok-Refused-clause-edits g c =
     let now = c.loop in
-    let call : Call = record { found = c.args.verified.now; given = c.args.given } in
+    let call : Call = c.args.call.now in
     each-ends call now.done c.args.machine.now now.machine c.run_admitted.new.machine
     (g.H.Host.files c.args.host.now) (g.H.Host.files now.host) (g.H.Host.files c.run_admitted.new.host)
     (g.H.Host.failures c.args.host.now) (g.H.Host.failures now.host) (g.H.Host.failures c.run_admitted.new.host)
@@ -48,7 +48,7 @@ returns-in-Ok-Refused-clause-edits g c =
 pub returns-in-Err-clause-edits : goal.returns-in-Err-clause-edits
 returns-in-Err-clause-edits g c =
     let now = c.loop in
-    let call : Call = record { found = c.args.verified.now; given = c.args.given } in
+    let call : Call = c.args.call.now in
     each-ends call now.done c.args.machine.now now.machine c.run_admitted.new.machine
     (g.H.Host.files c.args.host.now) (g.H.Host.files now.host) (g.H.Host.files c.run_admitted.new.host)
     (g.H.Host.failures c.args.host.now) (g.H.Host.failures now.host) (g.H.Host.failures c.run_admitted.new.host)
@@ -62,7 +62,7 @@ returns-in-Err-clause-edits g c =
 pub returns-in-Ok-Through-clause-edits : goal.returns-in-Ok-Through-clause-edits
 returns-in-Ok-Through-clause-edits g c =
     let now = c.loop in
-    let call : Call = record { found = c.args.verified.now; given = c.args.given } in
+    let call : Call = c.args.call.now in
     let closing = rw c.after-done.ensures at c.close.ensures.closes in
     each-ends call now.done c.args.machine.now now.machine c.close.new.machine
     (g.H.Host.files c.args.host.now) (g.H.Host.files now.host) (g.H.Host.files c.close.new.host)
@@ -83,7 +83,7 @@ returns-in-Ok-Through-clause-edits g c =
 pub returns-in-Ok-Coded-turn-clause-edits : goal.returns-in-Ok-Coded-turn-clause-edits
 returns-in-Ok-Coded-turn-clause-edits g c =
     let now = c.loop in
-    let call : Call = record { found = c.args.verified.now; given = c.args.given } in
+    let call : Call = c.args.call.now in
     let told = rw c.after-done.ensures at c.edited-in-Ok-Coded-turn.ensures in
     each-stops call now.done c.args.machine.now now.machine c.run_admitted.new.machine c.turn.new.machine
     (g.H.Host.files c.args.host.now) (g.H.Host.files now.host) (g.H.Host.files c.run_admitted.new.host) (g.H.Host.files c.turn.new.host)
@@ -95,7 +95,7 @@ returns-in-Ok-Coded-turn-clause-edits g c =
 pub returns-in-Err-turn-clause-edits : goal.returns-in-Err-turn-clause-edits
 returns-in-Err-turn-clause-edits g c =
     let now = c.loop in
-    let call : Call = record { found = c.args.verified.now; given = c.args.given } in
+    let call : Call = c.args.call.now in
     each-stops call now.done c.args.machine.now now.machine c.run_admitted.new.machine c.turn.new.machine
     (g.H.Host.files c.args.host.now) (g.H.Host.files now.host) (g.H.Host.files c.run_admitted.new.host) (g.H.Host.files c.turn.new.host)
     (g.H.Host.failures c.args.host.now) (g.H.Host.failures now.host) (g.H.Host.failures c.run_admitted.new.host) (g.H.Host.failures c.turn.new.host)
@@ -106,7 +106,7 @@ returns-in-Err-turn-clause-edits g c =
 pub loop-preserved : goal.loop-preserved
 loop-preserved g c =
     let now = c.loop in
-    let call : Call = record { found = c.args.verified.now; given = c.args.given } in
+    let call : Call = c.args.call.now in
     let ran_on = rw c.in-Ok-On.field-0-is at c.in-Ok-On.ensures.counted in
     let turned_on = rw c.in-Ok-On-turn.field-0-is at c.in-Ok-On-turn.ensures.counted in
     record {
@@ -125,7 +125,7 @@ loop-preserved g c =
 pub returns-clause-edits : goal.returns-clause-edits
 returns-clause-edits g c =
     let now = c.loop in
-    let call : Call = record { found = c.args.verified.now; given = c.args.given } in
+    let call : Call = c.args.call.now in
     let all : now.done.pages ≡ PAGES = omega arith in
     let lines = rw c.not_begun.ensures at c.tell.ensures.lines in
     let told = rw c.not_begun.ensures at c.tell.ensures.told in

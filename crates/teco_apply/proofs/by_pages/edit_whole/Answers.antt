@@ -5,7 +5,7 @@ use Rattle.teco_apply.proofs.by_pages.edit_whole.Goals as goal
 
 pub returns-in-Ok-false-clause-edits : goal.returns-in-Ok-false-clause-edits
 returns-in-Ok-false-clause-edits g c =
-    behind-goes_on (Gathers) (FromStart (record { found = c.args.verified.now; given = c.args.given }))
+    behind-goes_on (Gathers) (FromStart c.args.call.now)
     c.args.machine.now c.gather.new.machine c.edit_from_start.new.machine
     (g.H.Host.files c.args.host.now) (g.H.Host.files c.gather.new.host) (g.H.Host.files c.edit_from_start.new.host)
     (g.H.Host.failures c.args.host.now) (g.H.Host.failures c.gather.new.host) (g.H.Host.failures c.edit_from_start.new.host)
@@ -14,7 +14,7 @@ returns-in-Ok-false-clause-edits g c =
 
 pub returns-in-Ok-true-clause-edits : goal.returns-in-Ok-true-clause-edits
 returns-in-Ok-true-clause-edits g c =
-    behind-stops (Gathers) (FromStart (record { found = c.args.verified.now; given = c.args.given }))
+    behind-stops (Gathers) (FromStart c.args.call.now)
     c.args.machine.now c.gather.new.machine (g.H.Host.files c.args.host.now) (g.H.Host.files c.gather.new.host)
     (g.H.Host.failures c.args.host.now) (g.H.Host.failures c.gather.new.host)
     (g.W.Write.contents c.args.writer.now) (g.W.Write.contents c.gather.new.writer)
@@ -22,7 +22,7 @@ returns-in-Ok-true-clause-edits g c =
 
 pub returns-in-Err-clause-edits : goal.returns-in-Err-clause-edits
 returns-in-Err-clause-edits g c =
-    behind-stops (Gathers) (FromStart (record { found = c.args.verified.now; given = c.args.given }))
+    behind-stops (Gathers) (FromStart c.args.call.now)
     c.args.machine.now c.gather.new.machine (g.H.Host.files c.args.host.now) (g.H.Host.files c.gather.new.host)
     (g.H.Host.failures c.args.host.now) (g.H.Host.failures c.gather.new.host)
     (g.W.Write.contents c.args.writer.now) (g.W.Write.contents c.gather.new.writer)

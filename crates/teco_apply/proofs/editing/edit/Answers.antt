@@ -5,7 +5,7 @@ use Rattle.teco_apply.specs.Apply.{AnswersText, Finishes}
 
 pub returns-in-Ok-false-clause-answers : goal.returns-in-Ok-false-clause-answers
 returns-in-Ok-false-clause-answers g c =
-    goes_on (AnswersText c.args.opening.now) (Finishes false (record { found = c.args.verified.now; given = c.args.given }))
+    goes_on (AnswersText c.args.opening.now) (Finishes false c.args.call.now)
     c.args.machine.now c.answer_text.new.machine c.finish.new.machine
     (g.H.Host.files c.args.host.now) (g.H.Host.files c.answer_text.new.host) (g.H.Host.files c.finish.new.host)
     (g.H.Host.failures c.args.host.now) (g.H.Host.failures c.answer_text.new.host) (g.H.Host.failures c.finish.new.host)

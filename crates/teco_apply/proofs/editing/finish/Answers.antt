@@ -5,7 +5,7 @@ use Rattle.teco_apply.specs.Apply.{AnswersMacro, AnswersText, closing}
 
 pub returns-in-Ok-false-clause-answers : goal.returns-in-Ok-false-clause-answers
 returns-in-Ok-false-clause-answers g c =
-    goes_on (AnswersMacro false (record { found = c.args.verified.now; given = c.args.given })) (AnswersText closing)
+    goes_on (AnswersMacro false c.args.call.now) (AnswersText closing)
     c.args.machine.now c.answer_macro.new.machine c.answer_text.new.machine
     (g.H.Host.files c.args.host.now) (g.H.Host.files c.answer_macro.new.host) (g.H.Host.files c.answer_text.new.host)
     (g.H.Host.failures c.args.host.now) (g.H.Host.failures c.answer_macro.new.host) (g.H.Host.failures c.answer_text.new.host)

@@ -1,7 +1,8 @@
-use Rattle.std.proofs.Common.{◌<◌, subst, ap, ◌∙◌}
+use Rattle.std.proofs.Common.{◌≡◌, ◌<◌, subst, sym, ap, ◌∙◌}
 use Rattle.teco_apply.proofs.Sure.{calls}
-use Rattle.teco_apply.specs.Sure.{MOST, call_text}
+use Rattle.teco_apply.specs.Sure.{Call, Calls, HasFiles, MOST, TakesArgument, call_text}
 use Rattle.teco_base.specs.declared.TheConstants.{REGISTERS}
+use Rattle.teco_model.specs.Macros.{IsLoaded}
 use Rattle.teco_model.specs.Run.{Stops}
 use Rattle.teco_model.specs.State.{start}
 use Rattle.teco_run.specs.Holdings.{Joined}
@@ -9,18 +10,24 @@ use Rattle.teco_apply.proofs.run.call_verified.Goals as goal
 
 pub returns-clause-calls : goal.returns-clause-calls
 returns-clause-calls g c =
-    let found = c.args.verified.now in
-    let text = c.as_slice.ensures.value ∙ c.call_text-call.ensures ∙ ap (λ entry. call_text entry c.args.given) c.entry-entry.ensures in
-    calls (record {
+    let call : Call = record { found = c.call.inside.verified.now; given = c.call.inside.given } in
+    let same : call ≡ c.args.call.now = c.call.view_is in
+    let old = c.args.machine.now in
+    let new = c.run_to_stop.new.self in
+    let before = g.H.Host.files c.args.host.now in
+    let behind = g.H.Host.files c.run_to_stop.new.host in
+    let text = c.as_slice.ensures.value ∙ c.call_text-text.ensures ∙ ap (λ entry. call_text entry call.given) c.entry-entry.ensures in
+    subst (λ (k : Call). Joined (Calls k.found.fields k.given c.run_to_stop.result.stop) old new before behind) same
+    (calls (record {
       linked = c.expansions_are_linked.ensures;
       verified = c.runs_are_verified.ensures;
       sure = c.runs_are_sure.ensures;
-    }) (record { found = found; given = c.args.given }) c.run_to_stop.result.stop c.args.machine.now c.run_to_stop.new.self (g.H.Host.files c.args.host.now) (g.H.Host.files c.run_to_stop.new.host) (record {
+    }) call c.run_to_stop.result.stop old new before behind (record {
       certified = c.is_certified.ensures;
-      loaded = c.requires.loaded;
+      loaded = subst (λ (k : Call). IsLoaded k.found.library old.kept) (sym same) c.requires.loaded;
       whole = c.is_whole.ensures.kept;
       bytes = c.is_whole.ensures.held;
       named = subst (λ r. r < REGISTERS) (c.index.ensures.value ∙ c.entry-entry.ensures) c.index.ensures.within;
-      files = c.requires.files;
-      taken = c.requires.taken;
-    }) (subst (λ call. Joined (λ old new. Stops (start call old) MOST c.run_to_stop.result.stop new) c.args.machine.now c.run_to_stop.new.self (g.H.Host.files c.args.host.now) (g.H.Host.files c.run_to_stop.new.host)) text c.run_to_stop.ensures.stops)
+      files = subst (λ (k : Call). HasFiles k.found.fields.needs old.held) (sym same) c.requires.files;
+      taken = subst TakesArgument (sym same) c.requires.taken;
+    }) (subst (λ text. Joined (λ old new. Stops (start text old) MOST c.run_to_stop.result.stop new) old new before behind) text c.run_to_stop.ensures.stops))

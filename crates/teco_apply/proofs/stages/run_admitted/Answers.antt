@@ -4,7 +4,7 @@ use Rattle.teco_apply.proofs.stages.run_admitted.Goals as goal
 
 pub returns-clause-runs : goal.returns-clause-runs
 returns-clause-runs g c =
-    Joined-runs (record { found = c.args.verified.now; given = c.args.given })
+    Joined-runs c.args.call.now
     c.args.machine.now c.run_guarded.new.machine c.tell-line.new.machine
     (g.H.Host.files c.args.host.now) (g.H.Host.files c.run_guarded.new.host)
     (g.H.Host.failures c.args.host.now) (g.H.Host.failures c.run_guarded.new.host)
@@ -14,5 +14,5 @@ returns-clause-runs g c =
 
 pub returns-in_default-clause-runs : goal.returns-in_default-clause-runs
 returns-in_default-clause-runs g c =
-    let call : Call = record { found = c.args.verified.now; given = c.args.given } in
+    let call : Call = c.args.call.now in
     rw (c.in_default.ensures.counted) (Joined-refused call c.args.machine.now c.run_guarded.new.machine (g.H.Host.files c.args.host.now) (g.H.Host.failures c.args.host.now) (g.W.Write.contents c.args.writer.now) (c.in_default.ensures.stops).0)
