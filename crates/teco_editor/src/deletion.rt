@@ -42,6 +42,7 @@ impl<T: TextStore> Editor<T> {
     }
 
     /// `D` deletes characters, `K` lines, and both a range.
+    #[inline(never)]
     pub fn deletion(&mut self, unit: Unit, taken: Taken) -> Result<Option<i32>, Code>
         ensures { Does self.old self.new (model.deletion unit taken self.old) result }
     {

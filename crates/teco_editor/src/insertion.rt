@@ -36,6 +36,7 @@ impl<T: TextStore> Editor<T> {
     }
 
     /// `I` inserts its text, or the byte that its argument is; TAB inserts itself and its text.
+    #[inline(never)]
     pub fn insertion(
         &mut self,
         insertion: Insertion,

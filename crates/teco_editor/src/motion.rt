@@ -50,6 +50,7 @@ impl<T: TextStore> Editor<T> {
     }
 
     // Moves the pointer to the line place of a number.
+    #[inline(never)]
     fn go_lines(&mut self, n: i32)
         ensures { model.line_motion n self.old ≡ no_answer self.new }
     {
@@ -59,6 +60,7 @@ impl<T: TextStore> Editor<T> {
 
     /// `C`, `R`, `J` and `L` move the pointer; with a colon the first three answer whether it was
     /// moved.
+    #[inline(always)]
     pub fn motion(
         &mut self,
         motion: Motion,

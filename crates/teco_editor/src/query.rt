@@ -57,6 +57,7 @@ impl<T: TextStore> Editor<T> {
 
     /// Without a value `Q` gives a register's number, or with a colon the length of its text, `^X`
     /// the search mode, and `\\` the number at the pointer, which goes past it.
+    #[inline(always)]
     pub fn query(&self, query: Query, colons: u8) -> Reply
         ensures value { (model.query query colons self.now).value ≡ result.value }
         ensures kept { (model.query query colons self.now).kept
@@ -85,6 +86,7 @@ impl<T: TextStore> Editor<T> {
 
     /// With a value `nQ` answers a character of a register's text, `n^X` sets the search mode, and
     /// `n\\` inserts the number in decimal.
+    #[inline(never)]
     pub fn query_with(&mut self, query: Query, n: i32) -> Result<Option<i32>, Stuck>
         ensures { DoesIfMemory (query_grows query (Some n)) self.old self.new
             (model.query_with query n self.old) result }

@@ -25,6 +25,7 @@ impl<T: TextStore> Editor<T> {
     }
 
     // Stores a text in a register, or with a colon appends it.
+    #[inline(never)]
     fn store_text(&mut self, colons: u8, reg: Reg, text: &[u8]) -> Result<Option<i32>, Stuck>
         ensures { DoesIfMemory true self.old self.new
             (model.text_storage colons reg text.now self.old) result }
@@ -38,6 +39,7 @@ impl<T: TextStore> Editor<T> {
     }
 
     // Copies lines or a range of the buffer into a register.
+    #[inline(never)]
     fn copy(&mut self, colons: u8, reg: Reg, taken: Taken) -> Result<Option<i32>, Stuck>
         ensures { DoesIfMemory true self.old self.new
             (model.copy colons reg taken self.old) result }
@@ -53,6 +55,7 @@ impl<T: TextStore> Editor<T> {
     }
 
     // Inserts the text of a register, or with a colon types it.
+    #[inline(never)]
     fn get(&mut self, colons: u8, reg: Reg) -> Result<Option<i32>, Stuck>
         ensures { DoesIfMemory true self.old self.new (model.retrieval colons reg self.old) result }
     {
@@ -69,6 +72,7 @@ impl<T: TextStore> Editor<T> {
 
     /// `[` puts the number and text of a register on the push-down list; `]` takes the newest of
     /// them off into a register.
+    #[inline(never)]
     pub fn stack(&mut self, stack: Stack) -> Result<(), Stuck>
         ensures { KeepsIfMemory (stack_grows stack) self.old self.new
             (model.stack stack self.old) result }
@@ -82,6 +86,7 @@ impl<T: TextStore> Editor<T> {
 
     /// `U` and `%` set and add to the number of a register, `X` and `^U` set the text, and `G`
     /// inserts or types it.
+    #[inline(always)]
     pub fn storage(
         &mut self,
         storage: Storage,

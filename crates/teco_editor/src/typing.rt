@@ -97,6 +97,7 @@ impl<T: TextStore> Editor<T> {
 
     /// `T` types a part of the buffer, `V` the lines round the pointer, `^A` its text, `^T` a byte,
     /// and `=` a number.
+    #[inline(never)]
     pub fn typing(
         &mut self,
         typing: Typing,

@@ -65,6 +65,7 @@ fn minus(n: usize) -> i32
 }
 
 /// Gives a value that the machine has.
+#[inline(always)]
 pub fn give_value<T: TextStore>(
     editor: &Editor<T>,
     value: Value,

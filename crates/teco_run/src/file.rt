@@ -45,6 +45,7 @@ fn use_name<T: TextStore, H: Host>(
 }
 
 /// A command of files, with the name that it has. It drops its arguments.
+#[inline(never)]
 pub fn use_file<T: TextStore, H: Host>(
     desk: &mut Desk<T>,
     file: File,

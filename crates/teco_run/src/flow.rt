@@ -89,9 +89,9 @@ fn iterate(element: &Element<'_>, frames: &Frames<'_>, n: Option<i32>) -> Result
     }
 }
 
-// `>` goes back to the start of the iteration while turns are left, and else on.
+/// `>` goes back to the start of the iteration while turns are left, and else on.
 #[inline(always)]
-fn end_turn(element: &Element<'_>, frames: &Frames<'_>) -> Result<Way, Code>
+pub fn end_turn(element: &Element<'_>, frames: &Frames<'_>) -> Result<Way, Code>
     requires { IsRead element.now frames.now }
     ensures way { Goes frames.now.running no_arguments
         (model.turn_end (seen element.now) frames.now.running.loops frames.now.running) result }

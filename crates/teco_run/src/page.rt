@@ -176,6 +176,7 @@ fn write_pages<T: TextStore, H: Host>(
 }
 
 /// A command of pages. `P` and `PW` stay at their element while pages are left.
+#[inline(never)]
 pub fn turn_pages<T: TextStore, H: Host>(
     desk: &mut Desk<T>,
     page: Page,

@@ -20,6 +20,7 @@ fn takes(query: &Query, colons: u8) -> bool
 }
 
 /// Takes the value that stands, or gives one.
+#[inline(always)]
 pub fn ask<T: TextStore>(
     editor: &mut Editor<T>,
     query: Query,
@@ -51,6 +52,7 @@ pub fn ask<T: TextStore>(
 }
 
 /// Takes the arguments, executes the command, and gives what it answers.
+#[inline(always)]
 pub fn perform<T: TextStore>(
     editor: &mut Editor<T>,
     command: Command,
