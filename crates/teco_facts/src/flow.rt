@@ -1,5 +1,5 @@
 //! Iterations, conditionals and tags.
-ghost use Rattle.std.specs.Prelude.{◌≡◌, ◌<◌, drop, length, IfOk, IsTrue, Some};
+ghost use Rattle.std.specs.Prelude.{◌≡◌, ◌<◌, drop, length, IsTrue};
 ghost use Rattle.teco_verifier.specs.facts.Facts as rules;
 ghost use Rattle.teco_verifier.specs.facts.Flows as flows;
 ghost use Rattle.teco_facts.specs.Does.{Gives};
@@ -13,7 +13,6 @@ use crate::falls::falls_at_turn;
 use crate::few::DEPTH;
 use crate::ways::both_ways;
 use crate::{Answer, Facts, Fault, Iteration, Number, Numbers, needed_value, positive, sum_of};
-use std::alloc::AllocError;
 use std::marker::Model;
 use teco_poly::Poly;
 use teco_verifier::{Rank, Refusal};
@@ -171,12 +170,20 @@ pub fn turns(rank: Option<Rank>, facts: &Facts) -> Result<Poly, Refusal>
     turns_of(rank, taken.value, facts)
 }
 
-// The edges behind the begin of an iteration with a count, if there is memory.
-fn counted(count: Number, facts: Facts) -> Result<Edges, AllocError>
+/// < enters its body where there may be a turn, and skips it where there may be none.
+pub fn iterate(facts: Facts) -> Result<Edges, Fault>
     requires falls { length facts.position.falls < DEPTH }
     requires iterations { length facts.iterations < DEPTH }
-    ensures { IfOk result (λ edges. edges ≡ flows.iteration (Some count) facts) }
+    ensures { Gives (flows.iterate facts) result }
 {
+    let taken = facts.level().taken()?;
+    let facts = facts.taking();
+    facts.known.arguments.none_pending()?;
+    let _most = turns_of(None, taken.value, &facts)?;
+    let facts = facts.without_arguments();
+    let Some(count) = taken.value else {
+        return Ok(Edges::on(facts.entering(false)));
+    };
     let range = count.range(facts.margins());
     let away = if Numbers::NotPositive.may_take(range) {
         Some(facts.copied()?)
@@ -189,23 +196,6 @@ fn counted(count: Number, facts: Facts) -> Result<Edges, AllocError>
         None
     };
     Ok(Edges { on, away })
-}
-
-/// < enters its body where there may be a turn, and skips it where there may be none.
-pub fn iterate(facts: Facts) -> Result<Edges, Fault>
-    requires falls { length facts.position.falls < DEPTH }
-    requires iterations { length facts.iterations < DEPTH }
-    ensures { Gives (flows.iterate facts) result }
-{
-    let taken = facts.level().taken()?;
-    let facts = facts.taking();
-    facts.known.arguments.none_pending()?;
-    let _most = turns_of(None, taken.value, &facts)?;
-    let facts = facts.without_arguments();
-    match taken.value {
-        None => Ok(Edges::on(facts.entering(false))),
-        Some(count) => Ok(counted(count, facts)?),
-    }
 }
 
 /// The end of a turn goes back, and where turns are counted on, too.

@@ -55,14 +55,6 @@ fn goes_forward(motion: Motion, n: Range) -> bool
     }
 }
 
-// Anywhere, with a colon.
-fn perhaps_forward(forward: bool) -> Shift
-    ensures { result ≡ motions.perhaps_forward forward }
-{
-    let fall = if forward { Some(0) } else { None };
-    Shift::moving(0, 0, Descent::By(fall))
-}
-
 // Whether every number of a range is one.
 fn is_exactly(n: i64, range: Range) -> bool
     ensures { result ≡ motions.is_exactly n range }
@@ -133,8 +125,12 @@ fn motion_to(
         let shift = Shift::moving(place.back, place.fore, Descent::By(place.beyond));
         Foreseen::behind(&shift.marking(digit), facts)
     } else {
-        let forward = goes_forward(motion, count);
-        let facts = facts.shifted(&perhaps_forward(forward))?;
+        let fall = if goes_forward(motion, count) {
+            Some(0)
+        } else {
+            None
+        };
+        let facts = facts.shifted(&Shift::moving(0, 0, Descent::By(fall)))?;
         Ok(Foreseen::giving(Number::within(success()), facts))
     }
 }
