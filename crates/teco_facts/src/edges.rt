@@ -12,9 +12,10 @@ ghost use Rattle.teco_facts.specs.Numbers.{AreSmall};
 ghost use Rattle.teco_facts.specs.Placed.{seen};
 
 use crate::level::run_value;
+use crate::ways::both_ways;
 use crate::{
     Answer, Edges, Facts, Fault, Foreseen, Number, Numbers, Position, Range, Taken, deletion, flow,
-    motion, pages, query, search, stack, storage, typing,
+    motion, needed_value, pages, query, search, stack, storage, typing,
 };
 use teco_base::LIMIT;
 use teco_model::Element;
@@ -151,7 +152,8 @@ fn search_edges(kind: Search, placed: &Placed<'_>, facts: Facts) -> Result<Edges
     Ok(search_outcomes(placed.colon, found, failed, before)?)
 }
 
-// The edges behind an element of flow, if there is memory.
+// The edges behind an element of flow, if there is memory: a conditional goes on where its test holds,
+// and O goes to its tag, and leaves as many iterations as lie between.
 fn flow_edges(
     kind: Flow,
     colons: u8,
@@ -166,10 +168,19 @@ fn flow_edges(
         Flow::Iterate => flow::iterate(facts),
         Flow::EndTurn => flow::turn_end(facts),
         Flow::Leave => flow::leave(colons, answer, facts),
-        Flow::Test(test) => flow::conditional(Numbers::holding(test), answer, facts),
+        Flow::Test(test) => {
+            let n = needed_value(facts.level().taken()?.value)?;
+            let (on, away) = both_ways(Numbers::holding(test), answer, n, facts.taking())?;
+            Ok(Edges { on, away })
+        }
         Flow::Otherwise | Flow::GoAhead(_) => Ok(Edges::away(facts)),
         Flow::EndTest | Flow::Comment => Ok(Edges::on(facts)),
-        Flow::GoTo => flow::go_to(leaves, facts).map_err(Fault::Refused),
+        Flow::GoTo => {
+            if facts.level().taken()?.value.is_some() {
+                return Err(Fault::Refused(Refusal::Argument));
+            }
+            Ok(Edges::away(facts.leaving(leaves)))
+        }
     }
 }
 
@@ -200,8 +211,7 @@ pub fn transfer_from(placed: &Placed<'_>, mut facts: Facts) -> Result<Edges, Fau
         Kind::Argument(kind) => Ok(Edges::on(facts_after_argument(kind, element.text, facts)?)),
         Kind::Value(kind) => Ok(Edges::on(facts_after_value(kind, facts)?)),
         Kind::Query(kind) => {
-            let taken = query::value_for(&kind, element.colons, facts.level());
-            Ok(Edges::on(query::facts_after_query(kind, element.colons, taken, facts)?))
+            Ok(Edges::on(query::facts_after_query(kind, element.colons, facts)?))
         }
         Kind::Stack(Stack::Push(register)) => Ok(Edges::on(stack::push(register, facts)?)),
         Kind::Stack(Stack::Pop(register)) => {

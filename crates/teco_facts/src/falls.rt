@@ -1,5 +1,5 @@
 //! How much less there is since the turns of open iterations began, the innermost first.
-ghost use Rattle.std.specs.Prelude.{◌≡◌, ◌≤◌, ◌^◌, ◌↔◌, [], length, map, pos, IfSome, IsTrue, Some};
+ghost use Rattle.std.specs.Prelude.{◌≡◌, ◌≤◌, ◌^◌, ◌↔◌, [], map, pos, IfSome, IsTrue, Some};
 ghost use Rattle.teco_verifier.specs.facts.Bodies as bodies;
 ghost use Rattle.teco_verifier.specs.facts.Falls as rules;
 ghost use Rattle.teco_verifier.specs.facts.Ways as ways;

@@ -238,23 +238,3 @@ pub fn leave(colons: u8, answer: &Option<Answer>, facts: Facts) -> Result<Edges,
     };
     Ok(Edges { on, away })
 }
-
-/// A conditional goes on where its test holds.
-pub fn conditional(numbers: Numbers, answer: &Option<Answer>, facts: Facts) -> Result<Edges, Fault>
-    ensures { Gives (flows.conditional (seen numbers) answer.now facts) result }
-{
-    let n = needed_value(facts.level().taken()?.value)?;
-    let (on, away) = both_ways(numbers, answer, n, facts.taking())?;
-    Ok(Edges { on, away })
-}
-
-/// O goes to its tag, and leaves as many iterations as lie between.
-pub fn go_to(leaves: usize, facts: Facts) -> Result<Edges, Refusal>
-    ensures { result ≡ flows.go_to leaves facts }
-{
-    let taken = facts.level().taken()?;
-    if taken.value.is_some() {
-        return Err(Refusal::Argument);
-    }
-    Ok(Edges::away(facts.leaving(leaves)))
-}

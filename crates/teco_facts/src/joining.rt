@@ -1,6 +1,5 @@
 //! Where ways meet: what is known on both.
-ghost use Rattle.std.specs.Prelude.{◌≡◌, ◌++◌, length, IfOk};
-ghost use Rattle.teco_base.specs.declared.TheConstants.{REGISTERS};
+ghost use Rattle.std.specs.Prelude.{◌≡◌, ◌++◌, IfOk};
 ghost use Rattle.teco_verifier.specs.facts.Joins as joins;
 ghost use Rattle.teco_facts.specs.Does.{Gives};
 

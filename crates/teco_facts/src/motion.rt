@@ -1,8 +1,8 @@
 //! C, R, J and L.
-ghost use Rattle.std.specs.Prelude.{◌≡◌, IfSome};
+ghost use Rattle.std.specs.Prelude.{◌≡◌};
 ghost use Rattle.teco_verifier.specs.facts.Motions as motions;
 ghost use Rattle.teco_verifier.specs.facts.Shifts as shifts;
-ghost use Rattle.teco_facts.specs.Numbers.{IsNear, IsPlace, AreSmall};
+ghost use Rattle.teco_facts.specs.Numbers.{IsPlace, AreSmall};
 
 use crate::{
     Descent, Facts, Foreseen, KnownPlace, Margins, Number, Range, Shift, Taken, minus, plus,

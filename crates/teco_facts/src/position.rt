@@ -147,8 +147,12 @@ impl Position {
         let ahead = join_of(&self.ahead, &other.ahead)?;
         let mut saved = self.saved;
         meet_each(&mut saved, &other.saved);
+        let margins = Margins {
+            back: self.margins.back.min(other.margins.back),
+            fore: self.margins.fore.min(other.margins.fore),
+        };
         Ok(Position {
-            margins: self.margins.nearer(other.margins),
+            margins,
             falls: self.falls.met(&other.falls),
             ahead,
             saved,

@@ -53,8 +53,8 @@ fn facts_at_query(query: Query, facts: Facts) -> Result<Facts, Refusal>
     facts.shifted(&shift)
 }
 
-/// The value that is taken, if one stands and is taken.
-pub fn value_for(query: &Query, colons: u8, level: Level) -> Option<Number>
+// The value that is taken, if one stands and is taken.
+fn value_for(query: &Query, colons: u8, level: Level) -> Option<Number>
     ensures { result ≡ queries.value_for query.now colons level }
 {
     let gives = matches!(query, Query::Number(_)) && colons != 0;
@@ -62,16 +62,12 @@ pub fn value_for(query: &Query, colons: u8, level: Level) -> Option<Number>
 }
 
 /// A query gives a value, or takes one.
-pub fn facts_after_query(
-    query: Query,
-    colons: u8,
-    taken: Option<Number>,
-    facts: Facts,
-) -> Result<Facts, Refusal>
+pub fn facts_after_query(query: Query, colons: u8, facts: Facts) -> Result<Facts, Refusal>
     requires { AreSmall facts.position.falls }
-    ensures { result ≡ queries.facts_after_query query colons taken facts }
+    ensures { result ≡ queries.facts_after_query query colons (queries.value_for query colons
+        facts.arguments.level) facts }
 {
-    match taken {
+    match value_for(&query, colons, facts.level()) {
         None => {
             let given = facts.queried(&query, colons);
             let known = facts_at_query(query, facts)?;

@@ -1,7 +1,6 @@
 //! What elements that move the pointer, or edit the buffer, do to what is known of the position.
-ghost use Rattle.std.specs.Prelude.{◌≡◌, ◌≤◌, ◌^◌, pos, Option, Some, IfSome};
+ghost use Rattle.std.specs.Prelude.{◌≡◌, ◌≤◌, ◌^◌, IfSome};
 ghost use Rattle.teco_verifier.specs.facts.Deletions as deletions;
-ghost use Rattle.teco_verifier.specs.facts.Falls as falls;
 ghost use Rattle.teco_verifier.specs.facts.Shifts as shifts;
 ghost use Rattle.teco_verifier.specs.facts.Insertions as insertions;
 ghost use Rattle.teco_base.specs.declared.TheConstants.{LIMIT};
