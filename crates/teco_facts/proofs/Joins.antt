@@ -1,13 +1,10 @@
--- Lists that are joined one after another, and joins by their parts.
+-- Lists that are joined one after another.
 use Rattle.std.proofs.Common.{◌≡◌, refl, sym, ap, ◌∙◌, ℕ, zero, suc, ◌<◌, List, [], ◌∷◌, length, take, drop, set, get_or, drop-cons, Result, Ok, Err, arith}
 use Rattle.std.proofs.lemmas.List.{drop-set-lt, length-set}
-use Rattle.teco_poly.specs.Polynomial.{Polynomial}
-use Rattle.teco_verifier.specs.declared.values.Interval.{Interval}
 use Rattle.teco_verifier.specs.declared.refusal.Refusal.{Refusal}
 use Rattle.teco_verifier.specs.facts.Attempt.{◌>>=◌}
-use Rattle.teco_verifier.specs.facts.Facts.{Position, Pushed, Facts, join_of, without_arguments}
-use Rattle.teco_verifier.specs.facts.Joins.{hulls, joined_lengths, joined_pushes, joined_position, none_pending, joined}
-use Rattle.teco_facts.specs.Joined.{with_pushes_joined, with_rest_joined}
+use Rattle.teco_verifier.specs.facts.Facts.{join_of}
+use Rattle.teco_verifier.specs.facts.Joins.{joined_lengths}
 
 -- of two lists the first ones are joined
 pub record AreJoined {A : Type 0} (join : List A → List A → Result (List A) Refusal) (xs ys zs : List A) (count : ℕ) : Type 0 where
@@ -74,23 +71,3 @@ module _ {A : Type 0} (one : A → A → Result A Refusal) (all : List A → Lis
 
   pub joined_refused : (xs ys zs : List A) (i : ℕ) (x y : A) (why : Refusal) → i < length xs → i < length ys → x ≡ get_or xs i x → y ≡ get_or ys i y → one x y ≡ Err why → AreJoined all xs ys zs i → all xs ys ≡ Err why
   joined_refused xs ys zs i x y why h k d e f j = refused_at xs ys (take i zs) i x y why h k d e f j.front
-
--- a join by its steps
-by_parts : (one two : Result (Unit {0}) Refusal) (pushes : Result (List Pushed) Refusal) (position : Result Position Refusal) (held : Result Polynomial Refusal) (texts : Result (List Polynomial) Refusal) (numbers : List Interval) (facts : Facts)
-    → (one >>= (λ a. two >>= (λ b. pushes >>= (λ p. position >>= (λ q. held >>= (λ h. texts >>= (λ t. Ok (record (without_arguments facts) { position = q; held = h; numbers = numbers; texts = t; pushes = p }))))))))
-    ≡ (one >>= (λ a. two >>= (λ b. (pushes >>= (λ p. Ok (record facts { pushes = p }))) >>= (λ f. (position >>= (λ q. held >>= (λ h. texts >>= (λ t. Ok (record f { position = q; held = h; numbers = numbers; texts = t }))))) >>= (λ g. Ok (without_arguments g))))))
-by_parts (Err w) two pushes position held texts numbers facts = refl
-by_parts (Ok a) (Err w) pushes position held texts numbers facts = refl
-by_parts (Ok a) (Ok b) (Err w) position held texts numbers facts = refl
-by_parts (Ok a) (Ok b) (Ok p) (Err w) held texts numbers facts = refl
-by_parts (Ok a) (Ok b) (Ok p) (Ok q) (Err w) texts numbers facts = refl
-by_parts (Ok a) (Ok b) (Ok p) (Ok q) (Ok h) (Err w) numbers facts = refl
-by_parts (Ok a) (Ok b) (Ok p) (Ok q) (Ok h) (Ok t) numbers facts = refl
-
--- where the rest is refused
-pub rest_refused : (facts others more : Facts) (why : Refusal) → none_pending facts.arguments ≡ Ok tt → none_pending others.arguments ≡ Ok tt → with_pushes_joined facts others ≡ Ok more → with_rest_joined more others ≡ Err why → joined facts others ≡ Err why
-rest_refused facts others more why d e f g =
-    let pairs = ok_of (joined_pushes facts.pushes others.pushes) _ more f in
-    let is : more ≡ record facts { pushes = pairs.0 } = cc in
-    let refused : with_rest_joined (record facts { pushes = pairs.0 }) others ≡ Err why = rw is at g in
-    by_parts (none_pending facts.arguments) (none_pending others.arguments) (joined_pushes facts.pushes others.pushes) (joined_position facts.position others.position) (join_of facts.held others.held) (joined_lengths facts.texts others.texts) (hulls facts.numbers others.numbers) facts ∙ rw (d, e, pairs.1, refused) refl

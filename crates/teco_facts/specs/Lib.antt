@@ -10,7 +10,4 @@ pub mod Seen
 pub mod Searched
 pub mod Placed
 pub mod Room
-pub mod Chosen
-pub mod Joined
 pub mod Settled
-pub mod Pages

@@ -7,11 +7,8 @@ ghost use Rattle.teco_verifier.specs.facts.Covers as covers;
 ghost use Rattle.teco_verifier.specs.facts.Joins as joins;
 ghost use Rattle.teco_facts.specs.Does.{Closes};
 
-use crate::fault::Fault;
-use crate::level::Level;
-use crate::margins::Margins;
-use crate::number::Number;
 use crate::settling::{Opened, Settling, both, covers_levels, settled, settled_again};
+use crate::{Fault, Level, Margins, Number};
 use std::alloc::{AllocError, Global};
 use std::marker::Model;
 use teco_model::ArgumentRange;
@@ -130,32 +127,20 @@ impl Arguments {
         self.settling = Some(settled_again(self.settling, margins, ends));
     }
 
-    /// Whether each level outside the innermost covers that of an edge, of as many.
-    pub fn covers_outer(&self, edge: &Arguments, margins: Margins) -> bool
-        ensures { result ≡ covers.each_covers (covers.covers_level margins) self.now.outer
-            edge.now.outer }
+    /// Whether each level covers that of an edge, of as many.
+    pub fn covers(&self, edge: &Arguments, margins: Margins) -> bool
+        ensures { result ≡ covers.covers_arguments margins self.now edge.now }
     {
-        covers_levels(
-            self.outer.chain(),
-            self.settling,
-            edge.outer.chain(),
-            edge.settling,
-            margins,
-        )
-    }
-
-    // Whether no parenthesis is open.
-    fn is_alone(&self) -> bool
-        ensures { result ≡ joins.is_empty self.now.outer }
-    {
-        self.outer.chain().parts().is_none()
+        let (one, other) = (self.outer.chain(), edge.outer.chain());
+        self.level.covers(edge.level, margins)
+            && covers_levels(one, self.settling, other, edge.settling, margins)
     }
 
     /// Whether nothing is pending.
     pub fn none_pending(&self) -> Result<(), Refusal>
         ensures { result ≡ joins.none_pending self.now }
     {
-        if self.level.is_empty() && self.is_alone() {
+        if self.level.is_empty() && self.outer.chain().parts().is_none() {
             Ok(())
         } else {
             Err(Refusal::Pending)

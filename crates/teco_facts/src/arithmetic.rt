@@ -7,8 +7,7 @@ ghost use Rattle.teco_verifier.specs.facts.Deletions as rules;
 ghost use Rattle.teco_verifier.specs.facts.Values as values;
 ghost use Rattle.teco_facts.specs.Numbers.{IsNear, IsSmall, IsNumber, HasRoomForCode, IsShare};
 
-use crate::margins::Margins;
-use crate::range::Range;
+use crate::{Margins, Range};
 use teco_base::{LIMIT, arithmetic};
 use teco_verifier::{CharacterCode, Value};
 

@@ -4,16 +4,10 @@ ghost use Rattle.teco_base.specs.declared.TheConstants.{REGISTERS};
 ghost use Rattle.teco_verifier.specs.facts.Bodies as bodies;
 ghost use Rattle.teco_verifier.specs.facts.Ranks as ranks;
 ghost use Rattle.teco_verifier.specs.facts.Shifts as shifts;
-ghost use Rattle.teco_facts.specs.Chosen as chosen;
 
-use crate::covering::covers_pushes;
-use crate::each::{each_covers, replace_where};
-use crate::facts::Facts;
+use crate::covering::covers_pairs;
 use crate::falls::falls_at_start;
-use crate::margins::Margins;
-use crate::position::{Position, sum_of};
-use crate::range::Range;
-use crate::saved::Saved;
+use crate::{Facts, Margins, Position, Range, each_covers, replace_where, sum_of};
 use std::marker::Model;
 use teco_base::REGISTERS;
 use teco_poly::Poly;
@@ -31,6 +25,8 @@ pub struct Choice {
 }
 
 impl Model for Choice {
+    ghost use Rattle.std.specs.Prelude.{◌≡◌, length};
+    ghost use Rattle.teco_base.specs.declared.TheConstants.{REGISTERS};
     ghost use Rattle.teco_verifier.specs.facts.Bodies as bodies;
 
     ghost Value = { bodies.Choice };
@@ -38,9 +34,6 @@ impl Model for Choice {
     ghost view = { λ c. record { held = c.held; kept = c.kept; distances = c.margins; texts = c.texts } };
 
     ghost inverse = { λ c. record { held = c.held; kept = c.kept; margins = c.distances; texts = c.texts } };
-
-    ghost use Rattle.std.specs.Prelude.{◌≡◌, length};
-    ghost use Rattle.teco_base.specs.declared.TheConstants.{REGISTERS};
 
     ghost invariant = { λ c. length c.texts ≡ REGISTERS };
 }
@@ -69,46 +62,18 @@ impl Model for Changes {
 
 impl Position {
     // Which registers are saved at the start of a body.
-    fn saved_at_start(&self, changes: &Changes) -> Saved
-        ensures { result ≡ shifts.saved_after changes.now.ends (bodies.unsaved_where
+    #[tactic(auto, using(crate::proofs::Meeting::unsaved_are))]
+    fn saved_at_start(&self, changes: &Changes) -> [bool; REGISTERS]
+        ensures value { result ≡ shifts.saved_after changes.now.ends (bodies.unsaved_where
             changes.now.written self.now.saved) }
+        ensures all { length result ≡ REGISTERS }
     {
-        self.saved
-            .unless_written(&changes.written)
-            .after(changes.ends)
-    }
-
-    // The position at the start of a body.
-    fn at_start(&self, rules: Rules, choice: &Choice, changes: &Changes) -> Position
-        ensures { result ≡ bodies.position_at_start rules choice.now changes.now self.now }
-    {
-        Position {
-            margins: choice.margins,
-            falls: falls_at_start(rules, choice.kept, choice.margins, &self.falls),
-            ahead: if choice.kept { self.ahead } else { choice.held },
-            saved: self.saved_at_start(changes),
-            digit: None,
+        if changes.ends {
+            return [false; REGISTERS];
         }
-    }
-
-    // Whether the held fall of the innermost iteration is known to be at least so much.
-    fn has_own_held_fall(&self, least: u32) -> bool
-        ensures { result ≡ ranks.has_own_held_fall least self.now }
-    {
-        match self.falls.as_slice() {
-            [own, ..] => is_known(least, own.held),
-            [] => false,
-        }
-    }
-
-    // Whether the fall of the innermost iteration is known to be at least so much.
-    fn has_own_fall(&self, least: u32) -> bool
-        ensures { result ≡ ranks.has_own_fall least self.now }
-    {
-        match self.falls.as_slice() {
-            [own, ..] => is_known(least, own.fall),
-            [] => false,
-        }
+        let mut saved = self.saved;
+        replace_where(&mut saved, &changes.written, false);
+        saved
     }
 }
 
@@ -123,46 +88,27 @@ fn is_known(least: u32, fall: Option<i64>) -> bool
 }
 
 impl Facts {
-    /// What falls in each turn of the innermost iteration, where this is known at its end.
+    /// What falls in each turn of the innermost iteration, where this is known at its end: what is
+    /// ahead, or else what is held.
     pub fn rank(&self) -> Option<Rank>
         ensures { result ≡ ranks.rank_of self.now.position }
     {
-        rank_of(&self.known.position)
+        match self.known.position.falls.as_slice() {
+            [own, ..] if is_known(1, own.fall) => Some(Rank::Ahead),
+            [own, ..] if is_known(1, own.held) => Some(Rank::Held),
+            _ => None,
+        }
     }
 
     /// Whether the fall of the innermost iteration is known to be at least so much.
     pub fn has_fallen(&self, least: u32) -> bool
         ensures { result ≡ ranks.has_own_fall least self.now.position }
     {
-        self.known.position.has_own_fall(least)
+        match self.known.position.falls.as_slice() {
+            [own, ..] => is_known(least, own.fall),
+            [] => false,
+        }
     }
-}
-
-// What falls in each turn: what is ahead, where it is known to fall, or else what is held.
-fn rank_of(position: &Position) -> Option<Rank>
-    ensures { result ≡ ranks.rank_of position.now }
-{
-    if position.has_own_fall(1) {
-        Some(Rank::Ahead)
-    } else if position.has_own_held_fall(1) {
-        Some(Rank::Held)
-    } else {
-        None
-    }
-}
-
-// Whether without a count something falls in each turn.
-fn counts(counted: bool, position: &Position) -> bool
-    ensures { result ≡ bodies.counts counted position.now }
-{
-    counted || rank_of(position).is_some()
-}
-
-// Whether a kept iteration lets no more be ahead from turn to turn.
-fn keeps(kept: bool, position: &Position) -> bool
-    ensures { result ≡ bodies.keeps kept position.now }
-{
-    !kept || position.has_own_fall(0)
 }
 
 /// What is held at the start of the last of some turns, if it grows by so much in each.
@@ -180,48 +126,32 @@ pub fn growth_of(start: &Poly, end: &Poly) -> Result<Poly, Refusal>
     end.sub(start).ok_or(Refusal::Bound)
 }
 
-// What is held at the start of the last turn, from what is at its <, and at the end of a turn.
-fn held_at_last(
-    choice: &Choice,
-    turns: &Poly,
-    entering: &Facts,
-    end: &Facts,
-) -> Result<Poly, Refusal>
-    ensures { result ≡ chosen.held_at_last choice.now turns.now entering.now end.now }
-{
-    let growth = growth_of(&choice.held, &end.known.held)?;
-    held_last(&entering.known.held, turns, &growth)
-}
-
 // Whether no more is held at the start of the last turn than was chosen.
 fn has_room(choice: &Choice, turns: &Poly, entering: &Facts, end: &Facts) -> bool
     ensures { result ≡ bodies.has_room choice.now turns.now entering.now end.now }
 {
-    match held_at_last(choice, turns, entering, end) {
+    let Ok(growth) = growth_of(&choice.held, &end.known.held) else {
+        return false;
+    };
+    match held_last(&entering.known.held, turns, &growth) {
         Ok(held) => held.le(&choice.held),
         Err(_) => false,
     }
 }
 
-// Whether these distances may be chosen: the first edition chooses none.
-fn may_choose(rules: Rules, margins: Margins) -> bool
-    ensures { result ≡ bodies.may_choose rules margins }
-{
-    match rules {
-        Rules::First => margins.covers(Margins::nowhere()),
-        Rules::Second => true,
-    }
-}
-
 impl Choice {
-    /// Whether the choice is enough to begin with: it holds what the < does.
+    /// Whether the choice is enough to begin with: it holds what the < does. The first edition
+    /// chooses no distances.
     pub fn begins(&self, entering: &Facts) -> bool
         ensures { result ≡ bodies.begins self.now entering.now }
     {
         entering.known.held.le(&self.held)
             && each_covers(&self.texts, &entering.known.texts)
             && self.margins.covers(entering.margins())
-            && may_choose(entering.rules(), self.margins)
+            && match entering.known.rules {
+                Rules::First => self.margins.covers(Margins::nowhere()),
+                Rules::Second => true,
+            }
     }
 }
 
@@ -240,8 +170,15 @@ fn unknown_where(written: &[bool; REGISTERS], numbers: &[Range; REGISTERS]) -> [
 pub fn body_start(choice: &Choice, changes: &Changes, mut entering: Facts) -> Facts
     ensures { result ≡ bodies.body_start choice.now changes.now entering }
 {
-    let rules = entering.rules();
-    entering.known.position = entering.known.position.at_start(rules, choice, changes);
+    let (rules, here) = (entering.known.rules, &entering.known.position);
+    let position = Position {
+        margins: choice.margins,
+        falls: falls_at_start(rules, choice.kept, choice.margins, &here.falls),
+        ahead: if choice.kept { here.ahead } else { choice.held },
+        saved: here.saved_at_start(changes),
+        digit: None,
+    };
+    entering.known.position = position;
     entering.known.held = choice.held;
     entering.known.numbers = unknown_where(&changes.written, &entering.known.numbers);
     entering.known.texts = choice.texts;
@@ -257,32 +194,15 @@ fn begins_again(choice: &Choice, changes: &Changes, entering: &Facts, end: &Fact
     let saved = entering.known.position.saved_at_start(changes);
     each_covers(&numbers, &end.known.numbers)
         && each_covers(&choice.texts, &end.known.texts)
-        && covers_pushes(entering, end)
-        && saved.covers(end.known.position.saved)
+        && covers_pairs(entering.known.pushes.chain(), end.known.pushes.chain())
+        && each_covers(&saved, &end.known.position.saved)
         && choice.margins.covers(end.margins())
 }
 
 impl Choice {
-    // Whether the next turn may begin where one ends.
-    fn returns(
-        &self,
-        changes: &Changes,
-        counted: bool,
-        turns: &Poly,
-        entering: &Facts,
-        end: &Facts,
-    ) -> bool
-        ensures { result ≡ bodies.returns self.now changes.now counted turns.now entering.now
-            end.now }
-    {
-        counts(counted, &end.known.position)
-            && keeps(self.kept, &end.known.position)
-            && has_room(self, turns, entering, end)
-            && begins_again(self, changes, entering, end)
-    }
-
     /// Whether the choice stands: it begins and, if the > is reached, the next turn may begin
-    /// there.
+    /// there. Without a count something falls in each turn, and a kept iteration lets no more be
+    /// ahead from turn to turn.
     pub fn stands(
         &self,
         changes: &Changes,
@@ -297,7 +217,11 @@ impl Choice {
         match end {
             None => self.begins(entering),
             Some(end) => {
-                self.begins(entering) && self.returns(changes, counted, turns, entering, end)
+                self.begins(entering)
+                    && (counted || end.rank().is_some())
+                    && (!self.kept || end.has_fallen(0))
+                    && has_room(self, turns, entering, end)
+                    && begins_again(self, changes, entering, end)
             }
         }
     }

@@ -1,17 +1,12 @@
 //! When what is known at the end of an edge is covered by what is known at its target.
 ghost use Rattle.std.specs.Prelude.{◌≡◌, ◌&&◌};
 ghost use Rattle.teco_verifier.specs.facts.Covers as covers;
-ghost use Rattle.teco_verifier.specs.facts.Falls as falls;
 ghost use Rattle.teco_verifier.specs.facts.Values as values;
 
-use crate::arguments::Arguments;
-use crate::each::{Covers, each_covers};
-use crate::facts::{Answer, Facts, Iteration, Pushed};
-use crate::level::Level;
-use crate::margins::Margins;
-use crate::number::Number;
-use crate::position::{Position, is_same_mark};
-use crate::range::Range;
+use crate::{
+    Answer, Covers, Facts, Iteration, Level, Margins, Number, Position, Pushed, Range, each_covers,
+    has_no_distance,
+};
 use teco_model::Operator;
 use teco_poly::Poly;
 use teco_stack::Chain;
@@ -22,13 +17,6 @@ fn are_equal(one: i64, two: i64) -> bool
     ensures { result ≡ values.are_equal one two }
 {
     one <= two && two <= one
-}
-
-// Whether no distance counts in a number.
-fn is_interval(n: Value) -> bool
-    ensures { result ≡ covers.is_interval n }
-{
-    are_equal(n.ahead, 0) && are_equal(n.behind, 0) && n.code.is_none()
 }
 
 // Whether each distance counts as often in both numbers.
@@ -51,16 +39,11 @@ fn has_same_code(one: Option<CharacterCode>, edge: Option<CharacterCode>) -> boo
 {
     match (one, edge) {
         (None, None) => true,
-        (Some(one), Some(edge)) => is_same_code(one, edge),
+        (Some(one), Some(edge)) => {
+            are_equal(one.offset, edge.offset) && one.negated == edge.negated
+        }
         _ => false,
     }
-}
-
-// Whether two codes are of the same character, or minus them.
-fn is_same_code(one: CharacterCode, edge: CharacterCode) -> bool
-    ensures { result ≡ covers.is_same_code one edge }
-{
-    are_equal(one.offset, edge.offset) && one.negated == edge.negated
 }
 
 // Whether two numbers have the same parts.
@@ -70,23 +53,20 @@ fn is_same(one: Value, edge: Value) -> bool
     counts_as_often(one, edge) && has_same_code(one.code, edge.code) && has_same_ends(one, edge)
 }
 
-// Whether a linear number is the same, or a range has all that the other number may be.
+// Whether a linear number is the same, or a range has all that the other number may be; and what is
+// saved is saved on the edge.
 #[tactic(auto, using(crate::proofs::Wholes::wholes))]
-fn covers_number(margins: Margins, one: Number, edge: Number) -> bool
-    ensures { result ≡ covers.covers_number margins one edge }
-{
-    if is_interval(one.value) {
-        one.ends().covers(&edge.range(margins))
-    } else {
-        is_same(one.value, edge.value)
-    }
-}
-
-// Whether a number covers another, and what is saved is saved on the edge.
 fn covers_value(margins: Margins, one: Number, edge: Number) -> bool
     ensures { result ≡ covers.covers_value margins one edge }
 {
-    one.value.saved.covers(&edge.value.saved) && covers_number(margins, one, edge)
+    let n = one.value;
+    if !n.saved.covers(&edge.value.saved) {
+        false
+    } else if has_no_distance(n) && n.code.is_none() {
+        one.ends().covers(&edge.range(margins))
+    } else {
+        is_same(n, edge.value)
+    }
 }
 
 // Whether numbers that may be absent are both there and covered, or both absent.
@@ -168,17 +148,6 @@ impl Covers for Falls {
     }
 }
 
-// Whether a digit stands where it stands on the edge, if it is known to stand.
-fn covers_mark(one: Option<DigitMark>, edge: Option<DigitMark>) -> bool
-    ensures { result ≡ covers.covers_mark one edge }
-{
-    match (one, edge) {
-        (None, _) => true,
-        (Some(one), Some(edge)) => is_same_mark(one, edge),
-        (Some(_), None) => false,
-    }
-}
-
 // An iteration has a count at both, or at neither, and as many pushes.
 impl Covers for Iteration {
     ghost covers = { covers.is_same_iteration };
@@ -206,19 +175,18 @@ impl Covers for bool {
     }
 }
 
-// Whether a pushed pair covers another.
-fn covers_pushed(one: &Pushed, edge: &Pushed) -> bool
-    ensures { result ≡ covers.covers_pushed one.now edge.now }
-{
-    one.number.covers(&edge.number) && edge.text.le(&one.text)
+impl Covers for Pushed {
+    ghost covers = { covers.covers_pushed };
+
+    fn covers(&self, edge: &Pushed) -> bool {
+        self.number.covers(&edge.number) && edge.text.le(&self.text)
+    }
 }
 
-// Whether each pair is covered, of as many.
-fn covers_pairs(one: &Chain<Pushed>, edge: &Chain<Pushed>) -> bool
+/// Whether each pushed pair is covered, of as many.
+pub fn covers_pairs(mut one: &Chain<Pushed>, mut edge: &Chain<Pushed>) -> bool
     ensures { result ≡ covers.each_covers covers.covers_pushed one.now edge.now }
 {
-    let mut one = one;
-    let mut edge = edge;
     loop {
         let Some((pair, one_below)) = one.parts() else {
             return edge.parts().is_none();
@@ -226,36 +194,12 @@ fn covers_pairs(one: &Chain<Pushed>, edge: &Chain<Pushed>) -> bool
         let Some((arriving, edge_below)) = edge.parts() else {
             return false;
         };
-        if !covers_pushed(pair, arriving) {
+        if !pair.covers(arriving) {
             return false;
         }
         one = one_below;
         edge = edge_below;
     }
-}
-
-/// Whether each pushed pair is covered, of as many.
-pub fn covers_pushes(one: &Facts, edge: &Facts) -> bool
-    ensures { result ≡ covers.each_covers covers.covers_pushed one.now.pushes edge.now.pushes }
-{
-    covers_pairs(one.known.pushes.chain(), edge.known.pushes.chain())
-}
-
-// Whether two editions are the same.
-fn is_same_edition(one: Rules, other: Rules) -> bool
-    ensures { result ≡ covers.is_same_truth (falls.is_second one) (falls.is_second other) }
-{
-    matches!(
-        (one, other),
-        (Rules::First, Rules::First) | (Rules::Second, Rules::Second)
-    )
-}
-
-// Whether the arguments are covered: each level, of as many.
-fn covers_arguments(one: &Arguments, edge: &Arguments, margins: Margins) -> bool
-    ensures { result ≡ covers.covers_arguments margins one.now edge.now }
-{
-    one.level.covers(edge.level, margins) && one.covers_outer(edge, margins)
 }
 
 impl Position {
@@ -266,8 +210,13 @@ impl Position {
         self.margins.covers(edge.margins)
             && each_covers(self.falls.as_slice(), edge.falls.as_slice())
             && edge.ahead.le(&self.ahead)
-            && self.saved.covers(edge.saved)
-            && covers_mark(self.digit, edge.digit)
+            && each_covers(&self.saved, &edge.saved)
+            && matches!(
+                (self.digit, edge.digit),
+                (None, _)
+                    | (Some(DigitMark::Before), Some(DigitMark::Before))
+                    | (Some(DigitMark::At), Some(DigitMark::At))
+            )
     }
 }
 
@@ -277,18 +226,10 @@ fn covers_answer(one: &Option<Answer>, edge: &Option<Answer>) -> bool
 {
     match (one, edge) {
         (None, _) => true,
-        (Some(one), Some(edge)) => one.covers(edge),
+        (Some(one), Some(edge)) => {
+            one.found.covers(&edge.found) && one.failed.covers(&edge.failed)
+        }
         (Some(_), None) => false,
-    }
-}
-
-impl Answer {
-    // Whether both outcomes are covered.
-    fn covers(&self, edge: &Answer) -> bool
-        ensures { result ≡ (covers.covers_position self.now.found edge.now.found &&
-            covers.covers_position self.now.failed edge.now.failed) }
-    {
-        self.found.covers(&edge.found) && self.failed.covers(&edge.failed)
     }
 }
 
@@ -309,14 +250,18 @@ impl Facts {
     pub fn covers(&self, edge: &Facts) -> bool
         ensures { result ≡ covers.covers self.now edge.now }
     {
-        is_same_edition(self.rules(), edge.rules())
-            && covers_arguments(&self.known.arguments, &edge.known.arguments, edge.margins())
-            && covers_answer(&self.known.answer, &edge.known.answer)
-            && self.known.position.covers(&edge.known.position)
+        let (known, arriving) = (&self.known, &edge.known);
+        let editions = (known.rules, arriving.rules);
+        matches!(
+            editions,
+            (Rules::First, Rules::First) | (Rules::Second, Rules::Second)
+        ) && known.arguments.covers(&arriving.arguments, edge.margins())
+            && covers_answer(&known.answer, &arriving.answer)
+            && known.position.covers(&arriving.position)
             && self.has_iterations_of(edge)
-            && edge.known.held.le(&self.known.held)
-            && each_covers(&self.known.numbers, &edge.known.numbers)
-            && each_covers(&self.known.texts, &edge.known.texts)
-            && covers_pushes(self, edge)
+            && arriving.held.le(&known.held)
+            && each_covers(&known.numbers, &arriving.numbers)
+            && each_covers(&known.texts, &arriving.texts)
+            && covers_pairs(known.pushes.chain(), arriving.pushes.chain())
     }
 }

@@ -1,19 +1,13 @@
 //! D and K. Whatever is deleted, what was saved may lie behind the end of the buffer.
 ghost use Rattle.std.specs.Prelude.{◌≡◌};
-ghost use Rattle.teco_model.specs.declared.kind.Unit.TheVariants.{Characters};
 ghost use Rattle.teco_verifier.specs.facts.Deletions as deletions;
-ghost use Rattle.teco_facts.specs.Numbers.{IsNear, AreSmall};
+ghost use Rattle.teco_facts.specs.Numbers.{AreSmall};
 
-use crate::arithmetic::positive;
-use crate::facts::{Facts, Foreseen};
-use crate::level::Taken;
-use crate::margins::Margins;
-use crate::motion::count_of;
-use crate::number::Number;
-use crate::range::Range;
-use crate::shift::{Descent, KnownPlace, Shift};
+use crate::{
+    Descent, Facts, Foreseen, KnownPlace, Margins, Range, Shift, Taken, count_of, positive,
+};
 use teco_model::kind::Unit;
-use teco_verifier::{Refusal, Rules};
+use teco_verifier::Refusal;
 
 // How many characters a count takes away at the least.
 fn least_count(n: Range) -> u64
@@ -37,15 +31,6 @@ fn character_deletion(margins: Margins, n: Range) -> Result<Shift, Refusal>
     }
 }
 
-// A part between two places that are known to lie in the buffer.
-fn range_deletion(rules: Rules, m: Number, n: Number, margins: Margins) -> Result<Shift, Refusal>
-    ensures { result ≡ deletions.range_deletion rules m n margins }
-{
-    let from = KnownPlace::bound(rules, m, margins)?;
-    let to = KnownPlace::bound(rules, n, margins)?;
-    Ok(from.nearer(to))
-}
-
 // nK: the lines from the pointer on, where n is at least 1; a character is taken away where one
 // stood at the pointer.
 fn lines_deletion(margins: Margins, n: Range) -> Shift
@@ -61,16 +46,18 @@ fn lines_deletion(margins: Margins, n: Range) -> Shift
     }
 }
 
-// A part, or the lines that the argument counts.
+// A part between two places that are known to lie in the buffer, or the lines that the argument
+// counts.
 fn part_deletion(taken: Taken, facts: Facts) -> Result<Foreseen, Refusal>
     requires { AreSmall facts.position.falls }
     ensures { result ≡ deletions.part_deletion taken.first taken.value facts }
 {
-    let margins = facts.margins();
+    let (rules, margins) = (facts.rules(), facts.margins());
     match (taken.first, taken.value) {
         (Some(m), Some(n)) => {
-            let shift = range_deletion(facts.rules(), m, n, margins)?;
-            Foreseen::behind(&shift.ending(), facts)
+            let from = KnownPlace::bound(rules, m, margins)?;
+            let to = KnownPlace::bound(rules, n, margins)?;
+            Foreseen::behind(&from.nearer(to).ending(), facts)
         }
         (_, value) => {
             let shift = lines_deletion(margins, count_of(value, margins));
@@ -79,26 +66,15 @@ fn part_deletion(taken: Taken, facts: Facts) -> Result<Foreseen, Refusal>
     }
 }
 
-// A number of characters, or a part.
-fn deletion_of_characters(taken: Taken, facts: Facts) -> Result<Foreseen, Refusal>
+/// A deletion of a number of characters, or of a part.
+pub fn deletion(unit: Unit, taken: Taken, facts: Facts) -> Result<Foreseen, Refusal>
     requires { AreSmall facts.position.falls }
-    ensures { result ≡ deletions.deletion_of Characters taken.first taken.value facts }
+    ensures { result ≡ deletions.deletion unit taken facts }
 {
-    if taken.first.is_some() && taken.value.is_some() {
+    if matches!(unit, Unit::Lines) || taken.first.is_some() && taken.value.is_some() {
         return part_deletion(taken, facts);
     }
     let margins = facts.margins();
     let shift = character_deletion(margins, count_of(taken.value, margins))?;
     Foreseen::behind(&shift.ending(), facts)
-}
-
-/// A deletion.
-pub fn deletion(unit: Unit, taken: Taken, facts: Facts) -> Result<Foreseen, Refusal>
-    requires { AreSmall facts.position.falls }
-    ensures { result ≡ deletions.deletion unit taken facts }
-{
-    match unit {
-        Unit::Characters => deletion_of_characters(taken, facts),
-        Unit::Lines => part_deletion(taken, facts),
-    }
 }

@@ -1,6 +1,8 @@
 //! What is known before an element.
-ghost use Rattle.std.specs.Prelude.{◌≡◌, ◌∷◌, ◌<◌, IfOk, length};
+ghost use Rattle.std.specs.Prelude.{◌≡◌, IfOk, length, option_map, slice_get};
+ghost use Rattle.std.specs.Option.{option_and_then};
 ghost use Rattle.teco_base.specs.declared.TheConstants.{REGISTERS};
+ghost use Rattle.teco_verifier.specs.declared.falls.Falls.{Falls};
 ghost use Rattle.teco_verifier.specs.facts.Facts as rules;
 ghost use Rattle.teco_verifier.specs.facts.Shifts as shifts;
 ghost use Rattle.teco_verifier.specs.facts.Argument as given;
@@ -8,21 +10,13 @@ ghost use Rattle.teco_verifier.specs.facts.Arguments as arguments;
 ghost use Rattle.teco_facts.specs.Numbers.{AreSmall};
 ghost use Rattle.teco_facts.specs.Room.{innermost};
 
-use crate::arguments::Arguments;
-use crate::entry::Entry;
-use crate::few::Few;
-use crate::level::Level;
-use crate::margins::Margins;
-use crate::number::Number;
-use crate::position::{Position, sum_of};
-use crate::range::Range;
-use crate::shift::Shift;
+use crate::{Arguments, Entry, Few, Level, Margins, Number, Position, Range, Shift, sum_of};
 use std::alloc::{AllocError, Global};
 use std::marker::Model;
 use teco_base::{REGISTERS, Reg};
 use teco_poly::Poly;
 use teco_stack::Stack;
-use teco_verifier::{DigitMark, Refusal, Rules};
+use teco_verifier::{Distances, Interval, Refusal, Rules};
 
 /// The positions where a search found, and where it failed.
 #[derive(Drop)]
@@ -43,13 +37,11 @@ impl Model for Answer {
 fn answer_copied(answer: &Option<Answer>) -> Option<Answer>
     ensures { result ≡ answer.now }
 {
-    match answer {
-        None => None,
-        Some(answer) => Some(Answer {
-            found: answer.found.copied(),
-            failed: answer.failed.copied(),
-        }),
-    }
+    let answer = answer.as_ref()?;
+    Some(Answer {
+        found: answer.found.copied(),
+        failed: answer.failed.copied(),
+    })
 }
 
 /// An open iteration: whether it has a count, and how many pairs were pushed at its <.
@@ -117,13 +109,11 @@ impl Model for Facts {
     ghost view = { λ f. let k = f.known.value in record {
       rules = k.rules;
       arguments = k.arguments;
-      answer =
-          k.answer;
+      answer = k.answer;
       position = k.position;
       iterations = k.iterations;
       held = k.held;
-      numbers =
-          k.numbers;
+      numbers = k.numbers;
       texts = k.texts;
       pushes = k.pushes;
     } };
@@ -185,13 +175,6 @@ impl Facts {
         self.known.rules
     }
 
-    /// Where a digit is known to stand.
-    pub fn digit(&self) -> Option<DigitMark>
-        ensures { result ≡ self.now.position.digit }
-    {
-        self.known.position.digit
-    }
-
     /// The facts where no digit is known.
     pub fn without_digit(mut self) -> Facts
         ensures { result ≡ rules.without_digit self }
@@ -228,7 +211,7 @@ impl Facts {
         self.known.position.ahead
     }
 
-    /// The number of a register.
+    /// The range of a register's number.
     pub fn number_of(&self, register: Reg) -> Range
         ensures { result ≡ rules.number_of register self.now }
     {
@@ -239,7 +222,7 @@ impl Facts {
     pub fn is_saved(&self, register: Reg) -> bool
         ensures { result ≡ rules.is_saved register self.now }
     {
-        self.known.position.saved.has(register)
+        self.known.position.saved[register.index()]
     }
 
     /// The length of a register's text.
@@ -265,6 +248,46 @@ impl Facts {
             [] => None,
             [innermost, ..] => Some(*innermost),
         }
+    }
+
+    /// How much less is ahead at the least since the turn of an open iteration began, from 0 for
+    /// the innermost, if that is known.
+    pub fn fall(&self, at: usize) -> Option<i64>
+        ensures { result ≡ option_and_then (λ (f : Falls). f.fall) (slice_get
+            self.now.position.falls at) }
+    {
+        self.known.position.falls.as_slice().get(at)?.fall
+    }
+
+    /// The least distances of the pointer in plain numbers.
+    pub fn distances(&self) -> Distances
+        ensures { result ≡ self.now.position.distances }
+    {
+        self.margins().told()
+    }
+
+    /// The range of a register's number in plain numbers.
+    pub fn range_of(&self, register: Reg) -> Interval
+        ensures { result ≡ rules.number_of register self.now }
+    {
+        self.number_of(register).told()
+    }
+
+    /// The least distances where the pending search's answer is that it was found; `None` where
+    /// none is pending.
+    pub fn found(&self) -> Option<Distances>
+        ensures { result ≡ option_map (λ (a : rules.Answer). a.found.distances) self.now.answer }
+    {
+        let answer = self.known.answer.as_ref()?;
+        Some(answer.found.margins.told())
+    }
+
+    /// The least distances where that answer is that it failed.
+    pub fn failed(&self) -> Option<Distances>
+        ensures { result ≡ option_map (λ (a : rules.Answer). a.failed.distances) self.now.answer }
+    {
+        let answer = self.known.answer.as_ref()?;
+        Some(answer.failed.margins.told())
     }
 
     /// The facts with no argument pending.
@@ -341,13 +364,6 @@ impl Foreseen {
             facts,
             answer: None,
         }
-    }
-
-    /// With an answer of a range.
-    pub fn answering(range: Range, facts: Facts) -> Foreseen
-        ensures { result ≡ shifts.answering range facts }
-    {
-        Foreseen::giving(Number::within(range), facts)
     }
 
     /// With an answer.

@@ -1,18 +1,13 @@
 //! How much less there is since the turns of open iterations began, the innermost first.
-ghost use Rattle.std.specs.Prelude.{◌≡◌, ◌≤◌, ◌^◌, ◌+ℤ◌, ◌≤ℤ◌, length, map, pos, IfSome, IsTrue, Some, None};
-ghost use Rattle.std.specs.Int.{int_min};
+ghost use Rattle.std.specs.Prelude.{◌≡◌, ◌≤◌, ◌^◌, ◌↔◌, [], map, pos, IfSome, IsTrue, Some};
 ghost use Rattle.teco_verifier.specs.facts.Bodies as bodies;
 ghost use Rattle.teco_verifier.specs.facts.Falls as rules;
-ghost use Rattle.teco_verifier.specs.facts.Joins as joins;
 ghost use Rattle.teco_verifier.specs.facts.Ways as ways;
 ghost use Rattle.teco_facts.specs.Behind.{falls_at, falls_near};
 ghost use Rattle.teco_facts.specs.Descents.{seen, IsNearDescent};
 ghost use Rattle.teco_facts.specs.Numbers.{IsNear, IsSmallFall, IsSmallFalls, AreSmall};
 
-use crate::each::Meets;
-use crate::few::Few;
-use crate::margins::Margins;
-use crate::shift::{Descent, Shift};
+use crate::{Descent, Few, Margins, Meets, Shift};
 use teco_verifier::{Falls, Rules};
 
 const LEAST: i64 = -4_611_686_018_427_387_904;
@@ -22,46 +17,30 @@ const MOST: i64 = 4_611_686_018_427_387_904;
 /// The least falls of each open iteration.
 pub type OpenFalls = Few<Falls>;
 
-/// None is known.
-pub fn none_known() -> Falls
-    ensures { result ≡ record {
-      fall = None;
-      far = None;
-      line = None;
-      far_line = None;
-      held = None;
-      rest = None;
-    } }
-{
-    Falls {
-        fall: None,
-        far: None,
-        line: None,
-        far_line: None,
-        held: None,
-        rest: None,
-    }
-}
-
-/// Where a turn begins nothing has fallen.
+/// Where a turn begins nothing has fallen; the first edition knows the fall alone.
 pub fn falls_at_turn(edition: Rules) -> Falls
     ensures { result ≡ rules.falls_at_turn edition }
 {
     let fall = Some(0);
-    match edition {
-        Rules::First => Falls {
-            fall,
-            ..none_known()
-        },
-        Rules::Second => Falls {
-            fall,
-            far: fall,
-            line: fall,
-            far_line: fall,
-            held: fall,
-            rest: fall,
-        },
+    let other = match edition {
+        Rules::First => None,
+        Rules::Second => fall,
+    };
+    Falls {
+        fall,
+        far: other,
+        line: other,
+        far_line: other,
+        held: other,
+        rest: other,
     }
+}
+
+/// No list of falls yet.
+pub fn no_falls() -> OpenFalls
+    ensures { result ≡ [] }
+{
+    Few::empty(falls_at_turn(Rules::First))
 }
 
 /// The greater of what is known.
@@ -104,25 +83,18 @@ fn grown(by: u64, fall: Option<i64>) -> Option<i64>
     requires { by ≤ 2 ^ 41 }
     ensures { result ≡ rules.grown by fall }
 {
-    match fall {
-        None => None,
-        Some(fall) => Some(greater_by(by as i64, fall)),
+    let (fall, by) = (fall?, by as i64);
+    Some(if fall > MOST - by { MOST } else { fall + by })
+}
+
+// The falls in order by the second edition: each is at least what follows from the others. The first
+// knows the fall alone.
+fn in_order(edition: Rules, margins: Margins, falls: Falls) -> Falls
+    ensures { result ≡ rules.in_order edition margins falls }
+{
+    if matches!(edition, Rules::First) {
+        return falls;
     }
-}
-
-// The sum, where it is at most the most fall.
-fn greater_by(by: i64, fall: i64) -> i64
-    requires low { pos 0 ≤ℤ by }
-    requires high { by ≤ℤ pos (2 ^ 41) }
-    ensures { result ≡ int_min (fall +ℤ by) rules.most_fall }
-{
-    if fall > MOST - by { MOST } else { fall + by }
-}
-
-// The falls in order: each is at least what follows from the others.
-fn ordered(margins: Margins, falls: Falls) -> Falls
-    ensures { result ≡ rules.ordered margins falls }
-{
     let fall = if margins.fore >= 1 {
         greater_known(falls.fall, falls.far)
     } else {
@@ -139,16 +111,6 @@ fn ordered(margins: Margins, falls: Falls) -> Falls
         far_line,
         held: falls.held,
         rest,
-    }
-}
-
-// The falls in order by the second edition; the first knows the fall alone.
-fn in_order(edition: Rules, margins: Margins, falls: Falls) -> Falls
-    ensures { result ≡ rules.in_order edition margins falls }
-{
-    match edition {
-        Rules::First => falls,
-        Rules::Second => ordered(margins, falls),
     }
 }
 
@@ -204,22 +166,18 @@ fn forward(by: u64, falls: Falls) -> Falls
 }
 
 // At the next page no more is ahead than was unread, which never grows.
-fn fall_at_page(edition: Rules, fall: Option<i64>) -> Option<i64>
-    ensures { result ≡ rules.fall_at_page edition fall }
-{
-    match edition {
-        Rules::First => fall,
-        Rules::Second => greater_known(fall, Some(0)),
-    }
-}
-
 fn falls_at_page(edition: Rules, falls: Falls) -> Falls
     ensures value { result ≡ rules.falls_at_page edition falls }
     ensures held { IsSmallFalls falls → IsSmallFall result.held }
 {
+    let fall = match edition {
+        Rules::First => falls.fall,
+        Rules::Second => greater_known(falls.fall, Some(0)),
+    };
+    let held = greater_known(falls.held, falls.rest);
     falls_without_end(Falls {
-        fall: fall_at_page(edition, falls.fall),
-        held: greater_known(falls.held, falls.rest),
+        fall,
+        held,
         ..falls
     })
 }
@@ -248,25 +206,18 @@ fn falls_after(edition: Rules, descent: Descent, falls: Falls) -> Falls
     }
 }
 
-// The falls behind a shift, where the pointer has these distances.
-fn falls_behind(edition: Rules, shift: &Shift, margins: Margins, falls: Falls) -> Falls
-    requires { IsSmallFalls falls }
-    ensures { result ≡ falls_at edition shift.now margins falls }
-{
-    let moved = falls_after(edition, shift.descent, falls);
-    let held = fall_after(shift.held_fall(), moved.held);
-    in_order(edition, margins, Falls { held, ..moved })
-}
-
 /// The falls of each iteration behind a shift, where the pointer has these distances.
 pub fn all_behind(edition: Rules, shift: &Shift, margins: Margins, falls: &OpenFalls) -> OpenFalls
     requires { AreSmall falls.now }
     ensures { result ≡ map (falls_at edition shift.now margins) falls.now }
 {
     let falls = falls.as_slice();
-    let mut behind = Few::empty(none_known());
-    for at in (0..falls.len()).rev() {
-        behind.put(falls_behind(edition, shift, margins, falls[at]));
+    let by = shift.held_fall();
+    let mut behind = no_falls();
+    for at in 0..falls.len() {
+        let moved = falls_after(edition, shift.descent, falls[at]);
+        let held = fall_after(by, moved.held);
+        behind.push(in_order(edition, margins, Falls { held, ..moved }));
     }
     behind
 }
@@ -292,9 +243,9 @@ pub fn all_near(edition: Rules, size: Option<u64>, margins: Margins, falls: &Ope
     ensures { result ≡ map (falls_near edition size margins) falls.now }
 {
     let falls = falls.as_slice();
-    let mut near = Few::empty(none_known());
-    for at in (0..falls.len()).rev() {
-        near.put(in_order(edition, margins, with_rest_of(size, falls[at])));
+    let mut near = no_falls();
+    for at in 0..falls.len() {
+        near.push(in_order(edition, margins, with_rest_of(size, falls[at])));
     }
     near
 }
@@ -315,14 +266,6 @@ impl Meets for Falls {
     }
 }
 
-/// The smaller falls of each iteration.
-#[tactic(auto, using(crate::proofs::Meeting::falls_are))]
-pub fn joined_falls(one: &OpenFalls, two: &OpenFalls) -> OpenFalls
-    ensures { result ≡ joins.joined_falls one.now two.now }
-{
-    one.met(two)
-}
-
 // At a body's start the falls of an iteration outside are those at the < if that is kept, and what
 // is unread has not grown.
 fn falls_outside(kept: bool, falls: Falls) -> Falls
@@ -336,40 +279,26 @@ fn falls_outside(kept: bool, falls: Falls) -> Falls
     })
 }
 
-// The falls of iterations outside at the start of a body.
-fn all_outside(edition: Rules, kept: bool, margins: Margins, falls: &OpenFalls) -> OpenFalls
-    ensures value { result ≡ map (rules.in_order edition margins) (map (rules.falls_outside kept)
-        falls.now) }
-    ensures long { length result ≡ length falls.now }
-{
-    let falls = falls.as_slice();
-    let mut outside = Few::empty(none_known());
-    for at in (0..falls.len()).rev() {
-        outside.put(in_order(edition, margins, falls_outside(kept, falls[at])));
-    }
-    outside
-}
-
 /// The falls at the start of a body: nothing has fallen in it, and those outside are kept, or
 /// unknown.
 pub fn falls_at_start(edition: Rules, kept: bool, margins: Margins, falls: &OpenFalls) -> OpenFalls
     ensures { result ≡ map (rules.in_order edition margins) (bodies.falls_at_start edition kept
         falls.now) }
 {
-    if falls.as_slice().is_empty() {
-        return Few::empty(none_known());
+    let mut start = no_falls();
+    let [_, outer @ ..] = falls.as_slice() else {
+        return start;
+    };
+    start.push(in_order(edition, margins, falls_at_turn(edition)));
+    for at in 0..outer.len() {
+        start.push(in_order(edition, margins, falls_outside(kept, outer[at])));
     }
-    let mut outer = falls.copied();
-    outer.drop_front(1);
-    let mut start = all_outside(edition, kept, margins, &outer);
-    start.put(in_order(edition, margins, falls_at_turn(edition)));
     start
 }
 
 // Whether more may be added to a fall, if it is known.
 fn is_small_fall(fall: Option<i64>) -> bool
-    ensures yes { IsTrue result → IsSmallFall fall }
-    ensures no { IsSmallFall fall → IsTrue result }
+    ensures { IsTrue result ↔ IsSmallFall fall }
 {
     match fall {
         None => true,
@@ -379,8 +308,7 @@ fn is_small_fall(fall: Option<i64>) -> bool
 
 // Whether more may be added to each fall of an iteration.
 fn is_small(falls: &Falls) -> bool
-    ensures yes { IsTrue result → IsSmallFalls falls.now }
-    ensures no { IsSmallFalls falls.now → IsTrue result }
+    ensures { IsTrue result ↔ IsSmallFalls falls.now }
 {
     is_small_fall(falls.fall)
         && is_small_fall(falls.far)

@@ -1,9 +1,9 @@
 //! Lists of at most seven: at most six iterations are open, and where a seventh would begin there
 //! is one more.
-ghost use Rattle.std.specs.Prelude.{◌≡◌, ◌<◌, ◌≤◌, [], ◌∷◌, length, drop};
+ghost use Rattle.std.specs.Prelude.{◌≡◌, ◌<◌, ◌≤◌, ◌++◌, [], ◌∷◌, length, drop};
 ghost use Rattle.teco_facts.specs.Each.{each_met};
 
-use crate::each::{Meets, meet_each};
+use crate::{Meets, meet_each};
 use std::marker::Model;
 
 /// How many there may be.
@@ -63,6 +63,16 @@ impl<T: Copy> Few<T> {
     {
         self.items.copy_within(..self.len, 1);
         self.items[0] = item;
+        self.len += 1;
+    }
+
+    /// Puts one behind the others.
+    #[tactic(auto, using(std::proofs::lemmas::List::take_more_set))]
+    pub fn push(&mut self, item: T)
+        requires { length self.old < DEPTH }
+        ensures { self.new ≡ self.old ++ item ∷ [] }
+    {
+        self.items[self.len] = item;
         self.len += 1;
     }
 

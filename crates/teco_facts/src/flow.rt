@@ -1,24 +1,18 @@
 //! Iterations, conditionals and tags.
-ghost use Rattle.std.specs.Prelude.{◌≡◌, ◌<◌, drop, length, IfOk, IsTrue, Some};
+ghost use Rattle.std.specs.Prelude.{◌≡◌, ◌<◌, drop, length, IsTrue};
 ghost use Rattle.teco_verifier.specs.facts.Facts as rules;
 ghost use Rattle.teco_verifier.specs.facts.Flows as flows;
-ghost use Rattle.teco_verifier.specs.facts.Ranks as ranks;
 ghost use Rattle.teco_facts.specs.Does.{Gives};
 ghost use Rattle.teco_facts.specs.Numbers.{AreSmall};
 ghost use Rattle.teco_facts.specs.Room.{HasRoom};
 ghost use Rattle.teco_facts.specs.Seen.{seen};
 ghost use Rattle.teco_facts.specs.declared.few.TheConstants.{DEPTH};
 
-use crate::arithmetic::{at_most, is, positive};
-use crate::facts::{Answer, Facts, Iteration};
+use crate::arithmetic::{at_most, is};
 use crate::falls::falls_at_turn;
-use crate::fault::Fault;
 use crate::few::DEPTH;
-use crate::number::Number;
-use crate::position::sum_of;
-use crate::typing::needed_value;
-use crate::ways::{Numbers, both_ways};
-use std::alloc::AllocError;
+use crate::ways::both_ways;
+use crate::{Answer, Facts, Fault, Iteration, Number, Numbers, needed_value, positive, sum_of};
 use std::marker::Model;
 use teco_poly::Poly;
 use teco_verifier::{Rank, Refusal};
@@ -122,14 +116,6 @@ impl Facts {
     }
 }
 
-/// The number that is taken where one is needed.
-pub fn needed_taken(facts: &Facts) -> Result<Number, Refusal>
-    ensures { result ≡ flows.needed_taken facts.now }
-{
-    let taken = facts.level().taken()?;
-    needed_value(taken.value)
-}
-
 // The most that a value is, told by how often each distance counts.
 fn bound_by(ahead: i64, behind: i64, k: u64, most: u64, facts: &Facts) -> Result<Poly, Refusal>
     ensures { result ≡ flows.bound_by ahead behind k most facts.now }
@@ -163,23 +149,15 @@ pub fn bound_of(number: Number, facts: &Facts) -> Result<Poly, Refusal>
     bound_by(n.ahead, n.behind, positive(n.hi), most, facts)
 }
 
-// The most that there is of what falls; where nothing is known to fall that is what is ahead.
-fn measure_of(rank: Option<Rank>, facts: &Facts) -> Poly
-    ensures { result ≡ ranks.measure_of rank facts.now }
-{
-    match rank {
-        Some(Rank::Held) => facts.held(),
-        _ => facts.ahead(),
-    }
-}
-
-// The turns of an iteration with this count.
+// The turns of an iteration with this count. Where nothing is known to fall, what falls is what is
+// ahead.
 fn turns_of(rank: Option<Rank>, count: Option<Number>, facts: &Facts) -> Result<Poly, Refusal>
     ensures { result ≡ flows.turns_of rank count facts.now }
 {
-    match count {
-        Some(count) => bound_of(count, facts),
-        None => sum_of(&measure_of(rank, facts), &Poly::number(1)),
+    match (count, rank) {
+        (Some(count), _) => bound_of(count, facts),
+        (None, Some(Rank::Held)) => sum_of(&facts.known.held, &Poly::number(1)),
+        (None, _) => sum_of(&facts.known.position.ahead, &Poly::number(1)),
     }
 }
 
@@ -190,33 +168,6 @@ pub fn turns(rank: Option<Rank>, facts: &Facts) -> Result<Poly, Refusal>
 {
     let taken = facts.level().taken()?;
     turns_of(rank, taken.value, facts)
-}
-
-// The edges behind the begin of an iteration with a count, if there is memory.
-fn counted(count: Number, facts: Facts) -> Result<Edges, AllocError>
-    requires falls { length facts.position.falls < DEPTH }
-    requires iterations { length facts.iterations < DEPTH }
-    ensures { IfOk result (λ edges. edges ≡ flows.iteration (Some count) facts) }
-{
-    let range = count.range(facts.margins());
-    match (
-        Numbers::Positive.may_take(range),
-        Numbers::NotPositive.may_take(range),
-    ) {
-        (true, true) => {
-            let skipped = facts.copied()?;
-            Ok(Edges {
-                on: Some(facts.entering(true)),
-                away: Some(skipped),
-            })
-        }
-        (true, false) => Ok(Edges::on(facts.entering(true))),
-        (false, true) => Ok(Edges::away(facts)),
-        (false, false) => Ok(Edges {
-            on: None,
-            away: None,
-        }),
-    }
 }
 
 /// < enters its body where there may be a turn, and skips it where there may be none.
@@ -230,10 +181,21 @@ pub fn iterate(facts: Facts) -> Result<Edges, Fault>
     facts.known.arguments.none_pending()?;
     let _most = turns_of(None, taken.value, &facts)?;
     let facts = facts.without_arguments();
-    match taken.value {
-        None => Ok(Edges::on(facts.entering(false))),
-        Some(count) => Ok(counted(count, facts)?),
-    }
+    let Some(count) = taken.value else {
+        return Ok(Edges::on(facts.entering(false)));
+    };
+    let range = count.range(facts.margins());
+    let away = if Numbers::NotPositive.may_take(range) {
+        Some(facts.copied()?)
+    } else {
+        None
+    };
+    let on = if Numbers::Positive.may_take(range) {
+        Some(facts.entering(true))
+    } else {
+        None
+    };
+    Ok(Edges { on, away })
 }
 
 /// The end of a turn goes back, and where turns are counted on, too.
@@ -264,35 +226,15 @@ fn leaving_numbers(colons: u8) -> Numbers
     }
 }
 
-/// Semicolons leave their iteration, or go on.
+/// Semicolons leave their iteration, or go on: with a colon on a negative number.
 pub fn leave(colons: u8, answer: &Option<Answer>, facts: Facts) -> Result<Edges, Fault>
     ensures { Gives (flows.leave colons answer.now facts) result }
 {
-    let n = needed_taken(&facts)?;
+    let n = needed_value(facts.level().taken()?.value)?;
     let (leaving, on) = both_ways(leaving_numbers(colons), answer, n, facts.taking())?;
     let away = match leaving {
         None => None,
         Some(facts) => Some(facts.leaving(1)),
     };
     Ok(Edges { on, away })
-}
-
-/// A conditional goes on where its test holds.
-pub fn conditional(numbers: Numbers, answer: &Option<Answer>, facts: Facts) -> Result<Edges, Fault>
-    ensures { Gives (flows.conditional (seen numbers) answer.now facts) result }
-{
-    let n = needed_taken(&facts)?;
-    let (on, away) = both_ways(numbers, answer, n, facts.taking())?;
-    Ok(Edges { on, away })
-}
-
-/// O goes to its tag, and leaves as many iterations as lie between.
-pub fn go_to(leaves: usize, facts: Facts) -> Result<Edges, Refusal>
-    ensures { result ≡ flows.go_to leaves facts }
-{
-    let taken = facts.level().taken()?;
-    if taken.value.is_some() {
-        return Err(Refusal::Argument);
-    }
-    Ok(Edges::away(facts.leaving(leaves)))
 }

@@ -1,15 +1,10 @@
 //! Where ways meet: what is known on both.
-ghost use Rattle.std.specs.Prelude.{◌≡◌, ◌++◌, ◌∷◌, [], length, IsTrue, IfOk, OnOk};
-ghost use Rattle.teco_base.specs.declared.TheConstants.{REGISTERS};
+ghost use Rattle.std.specs.Prelude.{◌≡◌, ◌++◌, IfOk};
 ghost use Rattle.teco_verifier.specs.facts.Joins as joins;
 ghost use Rattle.teco_facts.specs.Does.{Gives};
-ghost use Rattle.teco_facts.specs.Joined as joined;
 
-use crate::each::{Meets, meet_each};
-use crate::facts::{Facts, Pushed};
-use crate::fault::Fault;
 use crate::position::join_of;
-use crate::range::Range;
+use crate::{Facts, Fault, Meets, Pushed, Range, meet_each};
 use std::alloc::{AllocError, Global};
 use teco_base::REGISTERS;
 use teco_poly::Poly;
@@ -47,17 +42,8 @@ pub fn joined_pair(one: &Pushed, two: &Pushed) -> Result<Pushed, Refusal>
     ensures { result ≡ joins.joined_pair one.now two.now }
 {
     let text = join_of(&one.text, &two.text)?;
-    Ok(Pushed {
-        number: one.number.met(two.number),
-        text,
-    })
-}
-
-// Whether two pairs are the same.
-fn are_same(one: &Pushed, two: &Pushed) -> bool
-    ensures { IsTrue result → one.now ≡ two.now }
-{
-    one.number.is(two.number) && one.text == two.text
+    let number = one.number.met(two.number);
+    Ok(Pushed { number, text })
 }
 
 // These pairs on top of those of a stack, if there is memory.
@@ -69,14 +55,6 @@ fn stacked(pairs: &[Pushed], below: Stack<Pushed>) -> Result<Stack<Pushed>, Allo
         stack = stack.with(pairs[at])?;
     }
     Ok(stack)
-}
-
-// Puts a pair behind others, if there is memory.
-fn put_pair(pairs: &mut Vec<Pushed>, pair: Pushed) -> Result<(), AllocError>
-    ensures { OnOk result (pairs.new.items ≡ pairs.old.items ++ pair ∷ []) }
-{
-    pairs.push(pair)?;
-    Ok(())
 }
 
 // What is known of each pair of two ways, which meet with as many. What lies below the last pair
@@ -96,8 +74,10 @@ fn joined_pairs(
             return Err(Fault::Refused(Refusal::Pop));
         };
         let pair = joined_pair(of_one, of_two)?;
-        put_pair(&mut pairs, pair)?;
-        if !are_same(of_one, &pair) {
+        if pairs.push(pair).is_err() {
+            return Err(Fault::Memory);
+        }
+        if !of_one.number.is(pair.number) || of_one.text != pair.text {
             changed = pairs.len();
             shared = one_below;
         }
@@ -112,39 +92,23 @@ fn joined_pairs(
 }
 
 impl Facts {
-    // The facts with what is known of each pair on both ways.
-    fn with_pushes_joined(mut self, other: &Facts) -> Result<Facts, Fault>
-        ensures { Gives (joined.with_pushes_joined self other.now) result }
-    {
-        self.known.pushes = joined_pairs(
-            self.alloc,
-            self.known.pushes.chain(),
-            other.known.pushes.chain(),
-        )?;
-        Ok(self)
-    }
-
-    // The facts with what is known of the position, of what is held, and of the registers on both
-    // ways.
-    #[tactic(auto, using(crate::proofs::Meeting::hulls_are))]
-    fn with_rest_joined(mut self, other: &Facts) -> Result<Facts, Refusal>
-        ensures { result ≡ joined.with_rest_joined self other.now }
-    {
-        self.known.position = self.known.position.joined(&other.known.position)?;
-        self.known.held = join_of(&self.known.held, &other.known.held)?;
-        self.known.texts = joined_lengths(&self.known.texts, &other.known.texts)?;
-        meet_each(&mut self.known.numbers, &other.known.numbers);
-        Ok(self)
-    }
-
     /// What is known where two ways meet: on both, with nothing pending.
-    pub fn joined(self, other: &Facts) -> Result<Facts, Fault>
+    #[tactic(auto, using(crate::proofs::Meeting::hulls_are))]
+    pub fn joined(mut self, other: &Facts) -> Result<Facts, Fault>
         ensures { Gives (joins.joined self other.now) result }
     {
         self.known.arguments.none_pending()?;
         other.known.arguments.none_pending()?;
-        let facts = self.with_pushes_joined(other)?;
-        let facts = facts.with_rest_joined(other)?;
-        Ok(facts.without_arguments())
+        let (one, two) = (&self.known, &other.known);
+        let pushes = joined_pairs(self.alloc, one.pushes.chain(), two.pushes.chain())?;
+        let position = one.position.joined(&two.position)?;
+        let held = join_of(&one.held, &two.held)?;
+        let texts = joined_lengths(&one.texts, &two.texts)?;
+        self.known.pushes = pushes;
+        self.known.position = position;
+        self.known.held = held;
+        self.known.texts = texts;
+        meet_each(&mut self.known.numbers, &two.numbers);
+        Ok(self.without_arguments())
     }
 }

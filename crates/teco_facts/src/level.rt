@@ -1,13 +1,14 @@
 //! What is known of what is pending at one depth of parentheses.
 ghost use Rattle.std.specs.Prelude.{◌≡◌};
+ghost use Rattle.teco_model.specs.Arguments as model;
 ghost use Rattle.teco_verifier.specs.facts.Arguments as rules;
 ghost use Rattle.teco_verifier.specs.facts.Joins as joins;
 
-use crate::margins::Margins;
-use crate::number::Number;
+use crate::{Margins, Number};
 use std::marker::Model;
+use teco_base::arithmetic;
 use teco_model::Operator;
-use teco_verifier::Refusal;
+use teco_verifier::{Refusal, Value};
 
 /// A level of arguments.
 #[derive(Clone, Copy)]
@@ -44,43 +45,18 @@ impl Model for Taken {
     ghost inverse = { λ t. record { first = t.first; value = t.value } };
 }
 
-// What an operator makes of two values.
-fn applied(
-    operator: Operator,
-    one: Number,
-    two: Number,
-    margins: Margins,
-) -> Result<Number, Refusal>
-    ensures { result ≡ rules.result_of margins operator one two }
+/// The number that a run of digits is: decimal, modulo 2^32.
+pub fn run_value(digits: &[u8]) -> i32
+    ensures { result ≡ model.run_value digits.now }
 {
-    match operator {
-        Operator::Plus => Ok(one.sum(two, margins)),
-        Operator::Minus => Ok(one.difference(two, margins)),
-        Operator::Times => Ok(one.product(two, margins)),
-        Operator::Over => one.quotient(two, margins),
-        Operator::And => Ok(one.and(two, margins)),
-        Operator::Or => Ok(one.or(two, margins)),
+    let mut value = 0;
+    for digit in digits {
+        value = arithmetic::add(
+            arithmetic::mul(value, 10),
+            i32::from(digit.saturating_sub(b'0')),
+        );
     }
-}
-
-// A value with a pending operator applied.
-fn operated(
-    value: Number,
-    standing: Option<Number>,
-    operator: Option<Operator>,
-    margins: Margins,
-) -> Result<Number, Refusal>
-    ensures { result ≡ rules.value_with margins value standing operator }
-{
-    match operator {
-        None => Ok(value),
-        Some(operator) => applied(
-            operator,
-            standing.unwrap_or(Number::single(0)),
-            value,
-            margins,
-        ),
-    }
+    value
 }
 
 // The value at the end of a level, where a lone sign stands for one.
@@ -125,55 +101,75 @@ impl Level {
         (self.first, self.value, self.operator)
     }
 
-    /// The level with a value given to it.
-    pub fn given(self, value: Number, margins: Margins) -> Result<Level, Refusal>
+    /// The value in front of a comma.
+    pub fn first_told(self) -> Option<Value>
+        ensures { result ≡ self.first }
+    {
+        Some(self.first?.value)
+    }
+
+    /// The value that stands.
+    pub fn value_told(self) -> Option<Value>
+        ensures { result ≡ self.value }
+    {
+        Some(self.value?.value)
+    }
+
+    /// The operator that waits for a value.
+    pub fn operator(self) -> Option<Operator>
+        ensures { result ≡ self.operator }
+    {
+        self.operator
+    }
+
+    /// The level with a value given to it, to which a pending operator is applied.
+    pub fn given(mut self, value: Number, margins: Margins) -> Result<Level, Refusal>
         ensures { result ≡ rules.level_with margins value self }
     {
-        let given = operated(value, self.value, self.operator, margins)?;
-        Ok(Level {
-            first: self.first,
-            value: Some(given),
-            operator: None,
-        })
+        let standing = self.value.unwrap_or(Number::single(0));
+        let given = match self.operator {
+            None => value,
+            Some(Operator::Plus) => standing.sum(value, margins),
+            Some(Operator::Minus) => standing.difference(value, margins),
+            Some(Operator::Times) => standing.product(value, margins),
+            Some(Operator::Over) => standing.quotient(value, margins)?,
+            Some(Operator::And) => standing.and(value, margins),
+            Some(Operator::Or) => standing.or(value, margins),
+        };
+        self.value = Some(given);
+        self.operator = None;
+        Ok(self)
     }
 
     /// The level with an operator that waits for a value.
-    pub fn operating(self, operator: Operator) -> Result<Level, Refusal>
+    pub fn operating(mut self, operator: Operator) -> Result<Level, Refusal>
         ensures { result ≡ rules.level_with_operator operator self }
     {
-        match self.operator {
-            None => Ok(Level {
-                first: self.first,
-                value: self.value,
-                operator: Some(operator),
-            }),
-            Some(_) => Err(Refusal::Argument),
+        if self.operator.is_some() {
+            return Err(Refusal::Argument);
         }
+        self.operator = Some(operator);
+        Ok(self)
     }
 
-    /// The level behind a comma.
+    /// The level behind a comma; what cannot be negative may stand in front of it.
     pub fn parted(self, margins: Margins) -> Result<Level, Refusal>
         ensures { result ≡ rules.level_after_comma margins self }
     {
         if self.first.is_some() {
             return Err(Refusal::Argument);
         }
-        let value = finished(self.value, self.operator)?;
-        let first = first_value(value, margins)?;
+        let Some(first) = finished(self.value, self.operator)? else {
+            return Err(Refusal::Argument);
+        };
+        if first.range(margins).lo < 0 {
+            return Err(Refusal::Argument);
+        }
         Ok(Level {
             first: Some(first),
             value: None,
             operator: None,
         })
-    }
-
-    /// The level with two values, a comma between them.
-    pub fn with_pair(self, one: Number, two: Number, margins: Margins) -> Result<Level, Refusal>
-        ensures { result ≡ rules.level_with_pair margins one two self }
-    {
-        self.given(one, margins)?
-            .parted(margins)?
-            .given(two, margins)
     }
 
     /// The value of a level in parentheses.
@@ -183,22 +179,18 @@ impl Level {
         if self.first.is_some() {
             return Err(Refusal::Argument);
         }
-        let value = finished(self.value, self.operator)?;
-        value.ok_or(Refusal::Argument)
+        finished(self.value, self.operator)?.ok_or(Refusal::Argument)
     }
 
     /// What a command takes.
     pub fn taken(self) -> Result<Taken, Refusal>
         ensures { result ≡ rules.arguments_of self }
     {
-        let value = finished(self.value, self.operator)?;
-        if self.first.is_some() && value.is_none() {
+        let (first, value) = (self.first, finished(self.value, self.operator)?);
+        if first.is_some() && value.is_none() {
             return Err(Refusal::Argument);
         }
-        Ok(Taken {
-            first: self.first,
-            value,
-        })
+        Ok(Taken { first, value })
     }
 
     /// The value that stands, with no operator behind it.
@@ -231,31 +223,11 @@ impl Level {
     }
 }
 
-// What may become a first value.
-fn first_value(value: Option<Number>, margins: Margins) -> Result<Number, Refusal>
-    ensures { result ≡ rules.first_value margins value }
-{
-    match value {
-        None => Err(Refusal::Argument),
-        Some(value) => {
-            if value.range(margins).lo >= 0 {
-                Ok(value)
-            } else {
-                Err(Refusal::Argument)
-            }
-        }
-    }
-}
-
 // The value as an interval.
 fn settled(value: Option<Number>, margins: Margins, ends: bool) -> Option<Number>
     ensures { result ≡ rules.settled_value margins ends value }
 {
-    match value {
-        None => None,
-        Some(value) => {
-            let saved = if ends { false } else { value.value.saved };
-            Some(Number::saved_within(value.range(margins), saved))
-        }
-    }
+    let value = value?;
+    let saved = if ends { false } else { value.value.saved };
+    Some(Number::saved_within(value.range(margins), saved))
 }

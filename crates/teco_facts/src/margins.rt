@@ -2,7 +2,6 @@
 ghost use Rattle.std.specs.Prelude.{◌≡◌, min};
 ghost use Rattle.teco_base.specs.declared.TheConstants.{LIMIT};
 ghost use Rattle.teco_verifier.specs.facts.Facts as facts;
-ghost use Rattle.teco_verifier.specs.facts.Joins as joins;
 ghost use Rattle.teco_verifier.specs.facts.Shifts as shifts;
 
 use std::marker::Model;
@@ -57,29 +56,12 @@ impl Margins {
         Margins::capped(u64::from(told.back), u64::from(told.fore))
     }
 
-    /// The smaller distances.
-    pub fn nearer(self, other: Margins) -> Margins
-        ensures { result ≡ joins.nearer_of self other }
-    {
-        Margins {
-            back: self.back.min(other.back),
-            fore: self.fore.min(other.fore),
-        }
-    }
-
     /// Each distance where it is at most another, and else 0.
     pub fn where_at_most(self, other: Margins) -> Margins {
+        let Margins { back, fore } = self;
         Margins {
-            back: if self.back <= other.back {
-                self.back
-            } else {
-                0
-            },
-            fore: if self.fore <= other.fore {
-                self.fore
-            } else {
-                0
-            },
+            back: if back <= other.back { back } else { 0 },
+            fore: if fore <= other.fore { fore } else { 0 },
         }
     }
 

@@ -1,16 +1,12 @@
 //! C, R, J and L.
-ghost use Rattle.std.specs.Prelude.{◌≡◌, IfSome};
+ghost use Rattle.std.specs.Prelude.{◌≡◌};
 ghost use Rattle.teco_verifier.specs.facts.Motions as motions;
 ghost use Rattle.teco_verifier.specs.facts.Shifts as shifts;
-ghost use Rattle.teco_facts.specs.Numbers.{IsNear, IsPlace, AreSmall};
+ghost use Rattle.teco_facts.specs.Numbers.{IsPlace, AreSmall};
 
-use crate::facts::{Facts, Foreseen};
-use crate::level::Taken;
-use crate::margins::Margins;
-use crate::number::Number;
-use crate::place::{minus, plus};
-use crate::range::Range;
-use crate::shift::{Descent, KnownPlace, Shift};
+use crate::{
+    Descent, Facts, Foreseen, KnownPlace, Margins, Number, Range, Shift, Taken, minus, plus,
+};
 use teco_model::kind::Motion;
 use teco_verifier::{DigitMark, Refusal, Rules, Value};
 
@@ -59,25 +55,6 @@ fn goes_forward(motion: Motion, n: Range) -> bool
     }
 }
 
-// Anywhere, with a colon.
-fn perhaps_forward(forward: bool) -> Shift
-    ensures { result ≡ motions.perhaps_forward forward }
-{
-    let fall = if forward { Some(0) } else { None };
-    Shift::moving(0, 0, Descent::By(fall))
-}
-
-// The distance from the begin past the end of the line: in the second edition the pointer is
-// farther from the begin where a character stood at it.
-fn back_past_line(rules: Rules, margins: Margins) -> u64
-    ensures { result ≡ (motions.distances_past_line rules margins).back }
-{
-    match rules {
-        Rules::First => margins.back,
-        Rules::Second => margins.back + margins.fore.min(1),
-    }
-}
-
 // Whether every number of a range is one.
 fn is_exactly(n: i64, range: Range) -> bool
     ensures { result ≡ motions.is_exactly n range }
@@ -86,57 +63,45 @@ fn is_exactly(n: i64, range: Range) -> bool
 }
 
 // nL: where n is at least 1 past the end of the line, where it is 0 to the begin of the line, where
-// it is less behind that.
+// it is less behind that. In the second edition the pointer is farther from the begin of the buffer
+// past a character that stood at it.
 fn shift_by_lines(rules: Rules, margins: Margins, n: Range) -> Shift
     ensures { result ≡ motions.shift_by_lines rules margins n }
 {
+    let Margins { back, fore } = margins;
     if 1 <= n.lo {
-        Shift::moving(back_past_line(rules, margins), 0, Descent::PastLine)
+        match rules {
+            Rules::First => Shift::moving(back, 0, Descent::PastLine),
+            Rules::Second => Shift::moving(back + fore.min(1), 0, Descent::PastLine),
+        }
     } else if is_exactly(0, n) {
-        Shift::moving(0, margins.fore, Descent::InLine)
+        Shift::moving(0, fore, Descent::InLine)
     } else if n.hi <= 0 {
-        Shift::moving(0, margins.fore, Descent::By(None))
+        Shift::moving(0, fore, Descent::By(None))
     } else {
         Shift::moving(0, 0, Descent::By(None))
     }
 }
 
-// Whether J goes to a saved place.
-fn goes_to_saved(motion: Motion, n: &Option<Number>) -> bool
-    ensures { result ≡ motions.goes_to_saved motion n.now }
-{
-    match (motion, n) {
-        (Motion::To, Some(n)) => n.value.saved,
-        _ => false,
-    }
-}
-
-// A place that is known to lie in the buffer; a saved one is somewhere in it.
+// A place that is known to lie in the buffer; a saved one, to which J goes, is somewhere in it.
 fn place_for(motion: Motion, n: &Option<Number>, margins: Margins) -> Result<KnownPlace, Refusal>
     ensures { result ≡ shifts.place_or_saved (motions.goes_to_saved motion n.now) (shifts.place_of
         (motions.target motion n.now) margins) }
 {
-    let saved = goes_to_saved(motion, n);
+    let saved = match (motion, n) {
+        (Motion::To, Some(n)) => n.value.saved,
+        _ => false,
+    };
     KnownPlace::or_saved(saved, KnownPlace::of(target(motion, *n), margins))
 }
 
-// Whether the pointer goes back by one.
-fn is_step_back(motion: Motion, n: Range) -> bool
-    ensures { result ≡ motions.is_step_back motion n }
-{
-    match motion {
-        Motion::Forward => is_exactly(-1, n),
-        Motion::Backward => is_exactly(1, n),
-        Motion::To | Motion::Lines => false,
-    }
-}
-
 // One step back from behind a digit leads to it.
-fn digit_after(step_back: bool, digit: Option<DigitMark>) -> Option<DigitMark>
-    ensures { result ≡ motions.digit_after step_back digit }
+fn digit_after(motion: Motion, n: Range, digit: Option<DigitMark>) -> Option<DigitMark>
+    ensures { result ≡ motions.digit_after (motions.is_step_back motion n) digit }
 {
-    match digit {
-        Some(DigitMark::Before) if step_back => Some(DigitMark::At),
+    match (digit, motion) {
+        (Some(DigitMark::Before), Motion::Forward) if is_exactly(-1, n) => Some(DigitMark::At),
+        (Some(DigitMark::Before), Motion::Backward) if is_exactly(1, n) => Some(DigitMark::At),
         _ => None,
     }
 }
@@ -156,12 +121,17 @@ fn motion_to(
     let count = count_of(n, margins);
     if colons == 0 {
         let place = place?;
-        let digit = digit_after(is_step_back(motion, count), facts.digit());
-        Foreseen::behind(&place.shift().marking(digit), facts)
+        let digit = digit_after(motion, count, facts.known.position.digit);
+        let shift = Shift::moving(place.back, place.fore, Descent::By(place.beyond));
+        Foreseen::behind(&shift.marking(digit), facts)
     } else {
-        let forward = goes_forward(motion, count);
-        let facts = facts.shifted(&perhaps_forward(forward))?;
-        Ok(Foreseen::answering(success(), facts))
+        let fall = if goes_forward(motion, count) {
+            Some(0)
+        } else {
+            None
+        };
+        let facts = facts.shifted(&Shift::moving(0, 0, Descent::By(fall)))?;
+        Ok(Foreseen::giving(Number::within(success()), facts))
     }
 }
 

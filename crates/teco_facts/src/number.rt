@@ -6,9 +6,8 @@ ghost use Rattle.teco_verifier.specs.facts.Values as values;
 ghost use Rattle.teco_facts.specs.Numbers.{IsPlace};
 
 use crate::arithmetic::{self, range_of};
-use crate::margins::Margins;
-use crate::place::{is_linear, minus, plus};
-use crate::range::Range;
+use crate::place::is_linear;
+use crate::{Margins, Range, minus, plus};
 use std::marker::Model;
 use teco_model::ArgumentRange;
 use teco_verifier::{CharacterCode, Refusal, Value};
@@ -54,10 +53,8 @@ impl Number {
     pub fn declared(range: ArgumentRange) -> Number
         ensures { result ≡ values.value_in (record { lo = pos range.low; hi = pos range.high }) }
     {
-        Number::within(Range {
-            lo: i64::from(range.low()),
-            hi: i64::from(range.high()),
-        })
+        let (lo, hi) = (i64::from(range.low()), i64::from(range.high()));
+        Number::within(Range { lo, hi })
     }
 
     /// A number of a range, which may be a place of the buffer.
@@ -154,13 +151,6 @@ impl Number {
         self.value
     }
 
-    // Whether two numbers both have a code.
-    fn have_codes(self, other: Number) -> bool
-        ensures { result ≡ values.have_codes self other }
-    {
-        self.value.code.is_some() && other.value.code.is_some()
-    }
-
     // The number that a place is, where that is linear and no code is lost, and else one of a
     // range.
     fn linear_or(range: Range, codes: bool, exact: Value) -> Number
@@ -179,7 +169,8 @@ impl Number {
         ensures { result ≡ values.sum margins self other }
     {
         let range = arithmetic::sum_of(self.range(margins), other.range(margins));
-        Number::linear_or(range, self.have_codes(other), plus(self, other))
+        let codes = self.value.code.is_some() && other.value.code.is_some();
+        Number::linear_or(range, codes, plus(self, other))
     }
 
     /// The difference.
@@ -187,7 +178,8 @@ impl Number {
         ensures { result ≡ values.difference margins self other }
     {
         let range = arithmetic::difference_of(self.range(margins), other.range(margins));
-        Number::linear_or(range, self.have_codes(other), minus(self, other))
+        let codes = self.value.code.is_some() && other.value.code.is_some();
+        Number::linear_or(range, codes, minus(self, other))
     }
 
     /// The product.

@@ -4,8 +4,7 @@ ghost use Rattle.teco_verifier.specs.facts.Values as values;
 ghost use Rattle.teco_facts.specs.Numbers.{IsPlace, IsNear, IsSmall};
 
 use crate::arithmetic::{add, at_most, code_range, share, sub};
-use crate::margins::Margins;
-use crate::number::Number;
+use crate::{Margins, Number};
 use teco_base::LIMIT;
 use teco_verifier::{CharacterCode, Value};
 
@@ -17,13 +16,11 @@ const MOST: i64 = 536_870_912;
 fn opposite_code(code: Option<CharacterCode>) -> Option<CharacterCode>
     ensures { result ≡ option_map values.opposite_code code }
 {
-    match code {
-        None => None,
-        Some(code) => Some(CharacterCode {
-            offset: code.offset,
-            negated: !code.negated,
-        }),
-    }
+    let CharacterCode { offset, negated } = code?;
+    Some(CharacterCode {
+        offset,
+        negated: !negated,
+    })
 }
 
 // The code of the one of two numbers that has one.

@@ -1,18 +1,14 @@
 //! Where the pointer is, and how much is ahead of it.
-ghost use Rattle.std.specs.Prelude.{◌≡◌, [], IsTrue, None};
+ghost use Rattle.std.specs.Prelude.{◌≡◌, ◌&&◌, [], IsTrue, None};
 ghost use Rattle.teco_poly.specs.Polynomial.{variable};
 ghost use Rattle.teco_verifier.specs.facts.Facts as facts;
 ghost use Rattle.teco_verifier.specs.facts.Joins as joins;
 ghost use Rattle.teco_verifier.specs.facts.Shifts as shifts;
-ghost use Rattle.teco_facts.specs.Descents.{seen};
 ghost use Rattle.teco_facts.specs.Numbers.{AreSmall};
 
-use crate::falls::{self, OpenFalls};
-use crate::few::Few;
-use crate::margins::Margins;
-use crate::saved::Saved;
-use crate::shift::{Descent, Shift};
+use crate::{Descent, Margins, Meets, OpenFalls, Shift, falls, meet_each};
 use std::marker::Model;
+use teco_base::REGISTERS;
 use teco_poly::Poly;
 use teco_verifier::{DigitMark, Refusal, Rules};
 
@@ -23,11 +19,13 @@ pub struct Position {
     pub(crate) margins: Margins,
     pub(crate) falls: OpenFalls,
     pub(crate) ahead: Poly,
-    pub(crate) saved: Saved,
+    pub(crate) saved: [bool; REGISTERS],
     pub(crate) digit: Option<DigitMark>,
 }
 
 impl Model for Position {
+    ghost use Rattle.std.specs.Prelude.{◌≡◌, length};
+    ghost use Rattle.teco_base.specs.declared.TheConstants.{REGISTERS};
     ghost use Rattle.teco_verifier.specs.facts.Facts as facts;
 
     ghost Value = { facts.Position };
@@ -36,10 +34,11 @@ impl Model for Position {
       distances = p.margins;
       falls = p.falls;
       ahead = p.ahead;
-      saved =
-          p.saved;
+      saved = p.saved;
       digit = p.digit;
     } };
+
+    ghost invariant = { λ p. length p.saved ≡ REGISTERS };
 }
 
 /// The sum, where it does not overflow.
@@ -56,30 +55,22 @@ pub fn join_of(one: &Poly, two: &Poly) -> Result<Poly, Refusal>
     one.join(two).ok_or(Refusal::Overflow)
 }
 
-// Where more may be ahead than before, that may be all that is held.
-fn ahead_after(descent: Descent, held: Poly, ahead: Poly) -> Poly
-    ensures { result ≡ shifts.ahead_after (seen descent) held ahead }
-{
-    if descent.is_no_rise() { ahead } else { held }
-}
-
-/// Whether a digit stands at the same place.
-pub fn is_same_mark(one: DigitMark, other: DigitMark) -> bool
-    ensures { result ≡ joins.is_same_mark one other }
-{
-    matches!(
-        (one, other),
-        (DigitMark::Before, DigitMark::Before) | (DigitMark::At, DigitMark::At)
-    )
-}
-
-// Where a digit stands on two ways.
+// Where a digit stands on two ways: at the same place, or it is unknown.
 fn joined_mark(one: Option<DigitMark>, other: Option<DigitMark>) -> Option<DigitMark>
     ensures { result ≡ joins.joined_mark one other }
 {
     match (one, other) {
-        (Some(mark), Some(other)) if is_same_mark(mark, other) => Some(mark),
+        (Some(DigitMark::Before), Some(DigitMark::Before)) => one,
+        (Some(DigitMark::At), Some(DigitMark::At)) => one,
         _ => None,
+    }
+}
+
+impl Meets for bool {
+    ghost met = { λ one two. one && two };
+
+    fn met(self, other: bool) -> bool {
+        self && other
     }
 }
 
@@ -96,9 +87,9 @@ impl Position {
     {
         Position {
             margins: Margins::nowhere(),
-            falls: Few::empty(falls::none_known()),
+            falls: falls::no_falls(),
             ahead: Poly::variable(),
-            saved: Saved::none(),
+            saved: [false; REGISTERS],
             digit: None,
         }
     }
@@ -116,7 +107,8 @@ impl Position {
         }
     }
 
-    /// The position behind a shift, where so much is held.
+    /// The position behind a shift, where so much is held. Where more may be ahead than before, that
+    /// may be all that is held.
     pub fn after(&self, rules: Rules, shift: &Shift, held: Poly) -> Position
         requires { AreSmall self.now.falls }
         ensures { result ≡ shifts.position_after rules shift.now held self.now }
@@ -125,8 +117,16 @@ impl Position {
         Position {
             margins,
             falls: falls::all_behind(rules, shift, margins, &self.falls),
-            ahead: ahead_after(shift.descent, held, self.ahead),
-            saved: self.saved.after(shift.ends),
+            ahead: match shift.descent {
+                Descent::By(None) | Descent::InLine => held,
+                Descent::By(Some(by)) if by < 0 => held,
+                _ => self.ahead,
+            },
+            saved: if shift.ends {
+                [false; REGISTERS]
+            } else {
+                self.saved
+            },
             digit: shift.digit,
         }
     }
@@ -140,15 +140,22 @@ impl Position {
     }
 
     /// What is known at two positions.
+    #[tactic(auto, using(crate::proofs::Meeting::falls_are, crate::proofs::Meeting::saved_are))]
     pub fn joined(&self, other: &Position) -> Result<Position, Refusal>
         ensures { result ≡ joins.joined_position self.now other.now }
     {
         let ahead = join_of(&self.ahead, &other.ahead)?;
+        let mut saved = self.saved;
+        meet_each(&mut saved, &other.saved);
+        let margins = Margins {
+            back: self.margins.back.min(other.margins.back),
+            fore: self.margins.fore.min(other.margins.fore),
+        };
         Ok(Position {
-            margins: self.margins.nearer(other.margins),
-            falls: falls::joined_falls(&self.falls, &other.falls),
+            margins,
+            falls: self.falls.met(&other.falls),
             ahead,
-            saved: self.saved.joined(other.saved),
+            saved,
             digit: joined_mark(self.digit, other.digit),
         })
     }

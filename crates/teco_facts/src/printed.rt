@@ -2,37 +2,13 @@
 ghost use Rattle.std.specs.Prelude.{◌≡◌};
 ghost use Rattle.teco_verifier.specs.facts.Printed as printed;
 
-use crate::facts::Facts;
 use crate::flow::bound_of;
-use crate::level::Taken;
 use crate::motion::or_one;
-use crate::number::Number;
-use crate::position::sum_of;
+use crate::{Facts, sum_of};
 use teco_model::kind::{Page, Search};
 use teco_model::{Kind, Needs};
 use teco_poly::Poly;
 use teco_verifier::{Refusal, Rules};
-
-// A step for each page, or one for a part.
-fn steps_of_pages(taken: Taken, facts: &Facts) -> Result<Poly, Refusal>
-    ensures { result ≡ printed.steps_of_pages taken.first taken.value facts.now }
-{
-    if taken.first.is_some() && taken.value.is_some() {
-        Ok(Poly::number(1))
-    } else {
-        bound_of(or_one(taken.value), facts)
-    }
-}
-
-// The steps of a command of pages.
-fn steps_of_page(page: Page, taken: Taken, facts: &Facts) -> Result<Poly, Refusal>
-    ensures { result ≡ printed.steps_of_page page taken facts.now }
-{
-    match page {
-        Page::Next | Page::Write => steps_of_pages(taken, facts),
-        Page::Append | Page::Yank => Ok(Poly::number(1)),
-    }
-}
 
 /// Whether a search looks through pages: N and FN do.
 pub fn is_in_pages(search: Search) -> bool
@@ -41,70 +17,43 @@ pub fn is_in_pages(search: Search) -> bool
     matches!(search, Search::FindInPages | Search::ReplaceInPages)
 }
 
-// By the first edition N and FN take a step for each page that is ahead, and one more. By the
-// second these pages count once for all.
-fn steps_of_search(search: Search, facts: &Facts) -> Result<Poly, Refusal>
-    ensures { result ≡ printed.steps_of_search search facts.now }
-{
-    match facts.rules() {
-        Rules::First if is_in_pages(search) => sum_of(&facts.ahead(), &Poly::number(1)),
-        _ => Ok(Poly::number(1)),
-    }
-}
-
-/// The most steps that an element takes.
+/// The most steps that an element takes: a command of pages one for each page, or one for a part.
+/// By the first edition N and FN take one for each page that is ahead, and one more; by the second
+/// these pages count once for all.
 pub fn steps(kind: Kind, facts: &Facts) -> Result<Poly, Refusal>
     ensures { result ≡ printed.steps kind facts.now }
 {
     match kind {
         Kind::Page(page) => {
             let taken = facts.level().taken()?;
-            steps_of_page(page, taken, facts)
+            match (page, taken.first, taken.value) {
+                (Page::Append | Page::Yank, _, _) | (_, Some(_), Some(_)) => Ok(Poly::number(1)),
+                (_, _, value) => bound_of(or_one(value), facts),
+            }
         }
-        Kind::Search(search) => steps_of_search(search, facts),
+        Kind::Search(search) => match facts.rules() {
+            Rules::First if is_in_pages(search) => sum_of(&facts.ahead(), &Poly::number(1)),
+            _ => Ok(Poly::number(1)),
+        },
         _ => Ok(Poly::number(1)),
     }
 }
 
-// A without n reads the input, and the others write to the output.
-fn needs_of_page(page: Page, value: Option<Number>) -> Needs
-    ensures { result ≡ printed.needs_of_page page value }
-{
-    match page {
-        Page::Append => Needs {
-            input: value.is_none(),
-            output: false,
-        },
-        _ => Needs {
-            input: false,
-            output: true,
-        },
-    }
-}
-
-// N and FN write to the output.
-fn needs_of_search(search: Search) -> Needs
-    ensures { result ≡ printed.needs_of_search search }
-{
-    Needs {
-        input: false,
-        output: is_in_pages(search),
-    }
-}
-
-/// The files that an element needs.
+/// The files that an element needs: A without n reads the input, and the other commands of pages,
+/// N and FN write to the output.
 pub fn needs_of(kind: Kind, facts: &Facts) -> Result<Needs, Refusal>
     ensures { result ≡ printed.needs kind facts.now }
 {
-    match kind {
+    let (input, output) = match kind {
         Kind::Page(page) => {
-            let taken = facts.level().taken()?;
-            Ok(needs_of_page(page, taken.value))
+            let value = facts.level().taken()?.value;
+            match page {
+                Page::Append => (value.is_none(), false),
+                _ => (false, true),
+            }
         }
-        Kind::Search(search) => Ok(needs_of_search(search)),
-        _ => Ok(Needs {
-            input: false,
-            output: false,
-        }),
-    }
+        Kind::Search(search) => (false, is_in_pages(search)),
+        _ => (false, false),
+    };
+    Ok(Needs { input, output })
 }

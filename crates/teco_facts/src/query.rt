@@ -4,12 +4,7 @@ ghost use Rattle.teco_verifier.specs.facts.Queries as queries;
 ghost use Rattle.teco_verifier.specs.facts.Values as values;
 ghost use Rattle.teco_facts.specs.Numbers.{AreSmall};
 
-use crate::facts::{Facts, Foreseen};
-use crate::level::Level;
-use crate::margins::Margins;
-use crate::number::Number;
-use crate::range::Range;
-use crate::shift::{Descent, Shift};
+use crate::{Descent, Facts, Foreseen, Level, Number, Range, Shift};
 use teco_base::LIMIT;
 use teco_model::kind::Query;
 use teco_poly::Poly;
@@ -28,63 +23,38 @@ impl Facts {
         ensures { result ≡ queries.query query.now colons self.now }
     {
         match *query {
-            Query::Number(register) => {
-                if colons == 0 {
-                    Number::saved_within(self.number_of(register), self.is_saved(register))
-                } else {
-                    Number::within(Range {
-                        lo: 0,
-                        hi: LIMIT as i64,
-                    })
-                }
+            Query::Number(register) if colons == 0 => {
+                Number::saved_within(self.number_of(register), self.is_saved(register))
+            }
+            Query::Number(_) => {
+                let (lo, hi) = (0, LIMIT as i64);
+                Number::within(Range { lo, hi })
             }
             Query::Mode | Query::Conversion => Number::within(Range::any()),
         }
     }
 }
 
-// On past the number that is read, of which a digit that is known to stand at the pointer is one.
-fn past_number(digit: Option<DigitMark>, margins: Margins) -> Shift
-    ensures { result ≡ queries.past_number digit margins }
-{
-    let digits = match digit {
-        Some(DigitMark::At) => 1,
-        _ => 0,
-    };
-    Shift::moving(margins.back + digits, 0, Descent::By(Some(digits as i64)))
-}
-
-// What is known where nothing is taken.
+// What is known where nothing is taken: \ goes on past the number that is read, of which a digit
+// that is known to stand at the pointer is one.
 fn facts_at_query(query: Query, facts: Facts) -> Result<Facts, Refusal>
     requires { AreSmall facts.position.falls }
     ensures { result ≡ queries.facts_at_query query facts }
 {
-    match query {
-        Query::Conversion => {
-            let shift = past_number(facts.digit(), facts.margins());
-            facts.shifted(&shift)
-        }
-        Query::Number(_) | Query::Mode => Ok(facts),
+    if !matches!(query, Query::Conversion) {
+        return Ok(facts);
     }
+    let digits = match facts.known.position.digit {
+        Some(DigitMark::At) => 1,
+        _ => 0,
+    };
+    let fall = Descent::By(Some(digits as i64));
+    let shift = Shift::moving(facts.margins().back + digits, 0, fall);
+    facts.shifted(&shift)
 }
 
-// What is done with the value that stands.
-fn query_with(query: Query, facts: Facts) -> Result<Foreseen, Refusal>
-    requires { AreSmall facts.position.falls }
-    ensures { result ≡ queries.query_with query facts }
-{
-    match query {
-        Query::Number(_) => Ok(Foreseen::answering(character(), facts)),
-        Query::Mode => Ok(Foreseen::silent(facts)),
-        Query::Conversion => {
-            let shift = Shift::inserting(1, Poly::number(11), facts.margins());
-            Foreseen::behind(&shift, facts)
-        }
-    }
-}
-
-/// The value that is taken, if one stands and is taken.
-pub fn value_for(query: &Query, colons: u8, level: Level) -> Option<Number>
+// The value that is taken, if one stands and is taken.
+fn value_for(query: &Query, colons: u8, level: Level) -> Option<Number>
     ensures { result ≡ queries.value_for query.now colons level }
 {
     let gives = matches!(query, Query::Number(_)) && colons != 0;
@@ -92,16 +62,12 @@ pub fn value_for(query: &Query, colons: u8, level: Level) -> Option<Number>
 }
 
 /// A query gives a value, or takes one.
-pub fn facts_after_query(
-    query: Query,
-    colons: u8,
-    taken: Option<Number>,
-    facts: Facts,
-) -> Result<Facts, Refusal>
+pub fn facts_after_query(query: Query, colons: u8, facts: Facts) -> Result<Facts, Refusal>
     requires { AreSmall facts.position.falls }
-    ensures { result ≡ queries.facts_after_query query colons taken facts }
+    ensures { result ≡ queries.facts_after_query query colons (queries.value_for query colons
+        facts.arguments.level) facts }
 {
-    match taken {
+    match value_for(&query, colons, facts.level()) {
         None => {
             let given = facts.queried(&query, colons);
             let known = facts_at_query(query, facts)?;
@@ -109,8 +75,18 @@ pub fn facts_after_query(
             Ok(known.with_level(level))
         }
         Some(_) => {
-            let known = query_with(query, facts.taking())?;
-            Ok(known.answered())
+            let facts = facts.taking();
+            match query {
+                Query::Number(_) => {
+                    let character = Number::within(character());
+                    Ok(Foreseen::giving(character, facts).answered())
+                }
+                Query::Mode => Ok(Foreseen::silent(facts).answered()),
+                Query::Conversion => {
+                    let shift = Shift::inserting(1, Poly::number(11), facts.margins());
+                    Ok(Foreseen::behind(&shift, facts)?.answered())
+                }
+            }
         }
     }
 }

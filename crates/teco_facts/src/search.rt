@@ -1,67 +1,42 @@
 //! S, FS, N and FN: what is known where they found, and where they failed.
-ghost use Rattle.std.specs.Prelude.{◌≡◌, ◌≤◌, IfOk, IfSome, length, true};
+ghost use Rattle.std.specs.Prelude.{◌≡◌, ◌≤◌, IfOk, length};
 ghost use Rattle.teco_base.specs.declared.TheConstants.{LIMIT};
 ghost use Rattle.teco_verifier.specs.facts.Arguments as arguments;
 ghost use Rattle.teco_verifier.specs.facts.Facts as known;
 ghost use Rattle.teco_model.specs.Pattern as pattern;
 ghost use Rattle.teco_verifier.specs.facts.Searches as searches;
-ghost use Rattle.teco_facts.specs.Numbers.{AreSmall, IsNear};
+ghost use Rattle.teco_facts.specs.Numbers.{AreSmall};
 ghost use Rattle.teco_facts.specs.Searched as searched;
 
-use crate::facts::{Answer, Facts};
-use crate::level::Taken;
-use crate::margins::Margins;
-use crate::motion::{count_of, success};
-use crate::number::Number;
-use crate::position::Position;
-use crate::range::Range;
-use crate::shift::{Descent, Shift};
+use crate::motion::success;
+use crate::{Answer, Descent, Facts, Margins, Number, Position, Shift, Taken, count_of};
+use std::mem;
 use teco_find::{last_part, minimum};
 use teco_model::kind::Search;
 use teco_model::pattern::{Class, Item, Part};
 use teco_poly::Poly;
 use teco_verifier::{DigitMark, Refusal, Rules};
 
-// S and FS: a count that may be 0 may be refused, and one that may be negative is not verified.
-fn count_in_buffer(n: Range) -> Result<(), Refusal>
-    ensures { result ≡ searches.count_in_buffer n }
-{
-    if n.lo <= 0 && 0 <= n.hi {
-        Err(Refusal::Argument)
-    } else if n.lo < 1 {
-        Err(Refusal::Unverified)
-    } else {
-        Ok(())
-    }
-}
-
-// N and FN: a count that may be below 1 may be refused.
-fn count_in_pages(n: Range) -> Result<(), Refusal>
-    ensures { result ≡ searches.count_in_pages n }
-{
-    if n.lo < 1 {
-        Err(Refusal::Argument)
-    } else {
-        Ok(())
-    }
-}
-
-fn count_allowed(search: Search, n: Range) -> Result<(), Refusal>
-    ensures { result ≡ searches.count_allowed search n }
-{
-    match search {
-        Search::Find | Search::Replace => count_in_buffer(n),
-        Search::FindInPages | Search::ReplaceInPages => count_in_pages(n),
-    }
-}
-
-// The count, and no first value.
+// The count, and no first value. Of S and FS a count that may be 0 may be refused, and one that may
+// be negative is not verified; of N and FN one that may be below 1 may be refused.
 fn count_checked(search: Search, taken: Taken, margins: Margins) -> Result<(), Refusal>
     ensures { result ≡ searches.count_checked search taken.first taken.value margins }
 {
-    match taken.first {
-        None => count_allowed(search, count_of(taken.value, margins)),
-        Some(_) => Err(Refusal::Argument),
+    if taken.first.is_some() {
+        return Err(Refusal::Argument);
+    }
+    let n = count_of(taken.value, margins);
+    let in_pages = matches!(search, Search::FindInPages | Search::ReplaceInPages);
+    if !in_pages && n.lo <= 0 && 0 <= n.hi {
+        Err(Refusal::Argument)
+    } else if n.lo < 1 {
+        Err(if in_pages {
+            Refusal::Argument
+        } else {
+            Refusal::Unverified
+        })
+    } else {
+        Ok(())
     }
 }
 
@@ -116,16 +91,6 @@ fn digit_found(rules: Rules, search: Search, text: &[u8]) -> Option<DigitMark>
     }
 }
 
-// Another text takes the place of one: the buffer grows, and what is saved ends.
-fn replacing(least: usize, new: usize, shift: Shift) -> Shift
-    requires { least ≤ LIMIT }
-    ensures { result ≡ searches.replacing least new shift }
-{
-    let mut replacing = shift.losing(least as u64).ending();
-    replacing.growth = Poly::number(new as u64);
-    replacing
-}
-
 // What is found lies ahead; the pointer goes behind it, or behind what replaces it. A shorter
 // buffer, and another page, end all that is saved.
 fn shift_found(search: Search, least: usize, new: usize, margins: Margins) -> Shift
@@ -133,52 +98,42 @@ fn shift_found(search: Search, least: usize, new: usize, margins: Margins) -> Sh
     requires new_within { new ≤ LIMIT }
     ensures { result ≡ searches.shift_found search least new margins }
 {
+    let (lost, put_in) = (least as u64, new as u64);
     let fall = Descent::By(Some(least as i64));
-    let refilled = Descent::Refilled(least as u64);
+    let refilled = Descent::Refilled(lost);
+    let growth = Poly::number(put_in);
     match search {
-        Search::Find => Shift::moving(margins.back + least as u64, 0, fall),
+        Search::Find => Shift::moving(margins.back + lost, 0, fall),
         Search::Replace => {
-            let shift = Shift::moving(margins.back + new as u64, 0, fall);
-            replacing(least, new, shift)
+            let shift = Shift::moving(margins.back + put_in, 0, fall);
+            shift.losing(lost).growing(growth).ending()
         }
-        Search::FindInPages => Shift::moving(least as u64, 0, refilled).ending(),
+        Search::FindInPages => Shift::moving(lost, 0, refilled).ending(),
         Search::ReplaceInPages => {
-            let shift = Shift::moving(new as u64, 0, refilled);
-            replacing(least, new, shift)
+            let shift = Shift::moving(put_in, 0, refilled);
+            shift.losing(lost).growing(growth).ending()
         }
     }
 }
 
-// A failure goes to the begin of the buffer; with two colons nothing moves.
-fn position_failed_in(colons: u8, facts: &Facts) -> Position
-    requires { AreSmall facts.now.position.falls }
-    ensures { result ≡ searches.position_failed_in colons facts.now }
-{
-    if colons >= 2 {
-        return facts.known.position.copied();
-    }
-    let margins = facts.margins();
-    let shift = Shift::moving(0, margins.back + margins.fore, Descent::By(None));
-    facts
-        .known
-        .position
-        .after(facts.rules(), &shift, facts.held())
-}
-
-/// The position where a search failed.
+/// The position where a search failed: at the begin of the buffer, which of N and FN is another one;
+/// of others with two colons nothing moves.
 pub fn position_failed(search: Search, colons: u8, facts: &Facts) -> Position
     requires { AreSmall facts.now.position.falls }
     ensures { result ≡ searches.position_failed search colons facts.now }
 {
+    let (rules, held, position) = (facts.known.rules, facts.known.held, &facts.known.position);
+    let Margins { back, fore } = position.margins;
     match search {
         Search::FindInPages | Search::ReplaceInPages => {
             let shift = Shift::moving(0, 0, Descent::By(None)).ending();
-            facts
-                .known
-                .position
-                .after(facts.rules(), &shift, facts.held())
+            position.after(rules, &shift, held)
         }
-        Search::Find | Search::Replace => position_failed_in(colons, facts),
+        Search::Find | Search::Replace if colons >= 2 => position.copied(),
+        Search::Find | Search::Replace => {
+            let shift = Shift::moving(0, back + fore, Descent::By(None));
+            position.after(rules, &shift, held)
+        }
     }
 }
 
@@ -205,15 +160,13 @@ pub fn facts_of_answer(mut found: Facts, failed: Position) -> Result<Facts, Refu
     ensures { result ≡ searched.facts_of_answer found failed }
 {
     let position = found.known.position.joined(&failed)?;
-    found
-        .known
-        .arguments
-        .answer(Some(Number::within(success())));
+    let answer = Number::within(success());
+    found.known.arguments.answer(Some(answer));
+    let found_at = mem::replace(&mut found.known.position, position);
     found.known.answer = Some(Answer {
-        found: found.known.position.copied(),
+        found: found_at,
         failed,
     });
-    found.known.position = position;
     Ok(found)
 }
 

@@ -3,8 +3,7 @@ ghost use Rattle.std.specs.Prelude.{◌≡◌, ◌||◌};
 ghost use Rattle.teco_facts.specs.Settled.{SettlesAgain, SettlesBoth, levels_since, settled_by};
 ghost use Rattle.teco_verifier.specs.facts.Covers as covers;
 
-use crate::level::Level;
-use crate::margins::Margins;
+use crate::{Level, Margins};
 use teco_stack::Chain;
 
 /// Where the pointer was when levels settled first, and whether all that was saved has ended since.
@@ -61,22 +60,6 @@ pub fn both(earlier: Option<Settling>, later: Option<Settling>) -> Option<Settli
     }
 }
 
-impl Opened {
-    // The level as it is by now.
-    fn level_since(&self, settling: &Option<Settling>) -> Level
-        ensures { result ≡ settled_by settling.now self.now.level }
-    {
-        settled(*settling, self.level)
-    }
-
-    // What has become by now of those outside it.
-    fn below_since(&self, settling: &Option<Settling>) -> Option<Settling>
-        ensures { SettlesBoth self.now.below settling.now result }
-    {
-        both(self.below, *settling)
-    }
-}
-
 // Whether a level as it is by now covers another. Where both are empty nothing has to be settled.
 #[tactic(auto, using(crate::proofs::Settles::empty_settled))]
 fn covers_since(
@@ -92,8 +75,8 @@ fn covers_since(
     if one.level.is_empty() && edge.level.is_empty() {
         return true;
     }
-    let there = one.level_since(one_since);
-    there.covers(edge.level_since(edge_since), margins)
+    let there = settled(*one_since, one.level);
+    there.covers(settled(*edge_since, edge.level), margins)
 }
 
 /// Whether each level as it is by now is covered, of as many.
@@ -117,8 +100,8 @@ pub fn covers_levels(
         if !covers_since(level, &one_since, arriving, &edge_since, margins) {
             return false;
         }
-        one_since = level.below_since(&one_since);
-        edge_since = arriving.below_since(&edge_since);
+        one_since = both(level.below, one_since);
+        edge_since = both(arriving.below, edge_since);
         one = one_below;
         edge = edge_below;
     }

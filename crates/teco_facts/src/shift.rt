@@ -1,7 +1,6 @@
 //! What elements that move the pointer, or edit the buffer, do to what is known of the position.
-ghost use Rattle.std.specs.Prelude.{◌≡◌, ◌≤◌, ◌^◌, pos, Option, Some, IfSome};
+ghost use Rattle.std.specs.Prelude.{◌≡◌, ◌≤◌, ◌^◌, IfSome};
 ghost use Rattle.teco_verifier.specs.facts.Deletions as deletions;
-ghost use Rattle.teco_verifier.specs.facts.Falls as falls;
 ghost use Rattle.teco_verifier.specs.facts.Shifts as shifts;
 ghost use Rattle.teco_verifier.specs.facts.Insertions as insertions;
 ghost use Rattle.teco_base.specs.declared.TheConstants.{LIMIT};
@@ -9,9 +8,8 @@ ghost use Rattle.teco_facts.specs.Descents.{seen, IsNearDescent};
 ghost use Rattle.teco_facts.specs.Numbers.{IsNear, IsPlace};
 
 use crate::falls::greater_known;
-use crate::margins::Margins;
-use crate::number::Number;
 use crate::place::{distance_of, least, least_behind, least_past};
+use crate::{Margins, Number};
 use std::marker::Model;
 use teco_base::LIMIT;
 use teco_poly::Poly;
@@ -31,19 +29,6 @@ pub enum Descent {
     Refilled(u64),
     /// The next page comes.
     NextPage,
-}
-
-impl Descent {
-    /// Whether no more is ahead than before.
-    pub fn is_no_rise(self) -> bool
-        ensures { result ≡ falls.is_no_rise (seen self) }
-    {
-        match self {
-            Descent::By(None) | Descent::InLine => false,
-            Descent::By(Some(by)) => by >= 0,
-            Descent::PastLine | Descent::Refilled(_) | Descent::NextPage => true,
-        }
-    }
 }
 
 /// The least distances afterwards, how what is ahead changes, how many characters are taken away at
@@ -105,6 +90,14 @@ impl Shift {
         self
     }
 
+    /// The shift, by which the buffer grows by so much at the most.
+    pub fn growing(mut self, growth: Poly) -> Shift
+        ensures { result ≡ record self { growth = growth } }
+    {
+        self.growth = growth;
+        self
+    }
+
     /// A shift that takes nothing away and puts nothing in.
     pub fn moving(back: u64, fore: u64, descent: Descent) -> Shift
         requires { IsNearDescent descent }
@@ -127,13 +120,8 @@ impl Shift {
         requires { least ≤ 2 ^ 63 }
         ensures { result ≡ insertions.insertion_of least growth margins }
     {
-        let mut shift = Shift::moving(
-            margins.back + least as u64,
-            margins.fore,
-            Descent::By(Some(0)),
-        );
-        shift.growth = growth;
-        shift
+        let back = margins.back + least as u64;
+        Shift::moving(back, margins.fore, Descent::By(Some(0))).growing(growth)
     }
 
     /// How much less is held at the least, if that is known.
@@ -223,13 +211,6 @@ impl KnownPlace {
     {
         let saved = matches!(rules, Rules::Second) && n.value.saved;
         KnownPlace::or_saved(saved, KnownPlace::of(n.place(), margins))
-    }
-
-    /// The shift to the place.
-    pub fn shift(self) -> Shift
-        ensures { result ≡ shifts.shift_to self }
-    {
-        Shift::moving(self.back, self.fore, Descent::By(self.beyond))
     }
 
     /// The shift to either of two places, at the less known of which nothing may be nearer.

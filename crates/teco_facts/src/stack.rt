@@ -5,9 +5,8 @@ ghost use Rattle.teco_facts.specs.Does.{Gives, Pops};
 ghost use Rattle.teco_verifier.specs.facts.Facts as rules;
 ghost use Rattle.teco_verifier.specs.facts.Storages as storages;
 
-use crate::facts::{Facts, Pushed};
-use crate::fault::Fault;
-use crate::storage::{not_of_library, with_number, with_text};
+use crate::storage::{with_number, with_text};
+use crate::{Facts, Fault, Pushed};
 use std::alloc::AllocError;
 use std::mem;
 use teco_base::Reg;
@@ -83,10 +82,14 @@ pub fn push(register: Reg, mut facts: Facts) -> Result<Facts, AllocError>
     Ok(facts)
 }
 
-// The pair is popped, but none from below the entry, or from below the < of an open iteration.
-fn with_popped(register: Reg, mut facts: Facts) -> Result<Facts, Fault>
-    ensures { Gives (storages.with_popped register facts.pushes facts) result }
+/// A pair is popped into a register whose text is none of the library's, but none from below the
+/// entry, or from below the < of an open iteration.
+pub fn pop(library: bool, register: Reg, mut facts: Facts) -> Result<Facts, Fault>
+    ensures { Gives (storages.pop library register facts) result }
 {
+    if library {
+        return Err(Fault::Refused(Refusal::Written));
+    }
     let above = facts.is_above(facts.pushed());
     let popped = facts.pop_pushed()?;
     match popped {
@@ -100,12 +103,4 @@ fn with_popped(register: Reg, mut facts: Facts) -> Result<Facts, Fault>
             }
         }
     }
-}
-
-/// A pair is popped into a register whose text is none of the library's.
-pub fn pop(library: bool, register: Reg, facts: Facts) -> Result<Facts, Fault>
-    ensures { Gives (storages.pop library register facts) result }
-{
-    not_of_library(library)?;
-    with_popped(register, facts)
 }

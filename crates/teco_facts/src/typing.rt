@@ -1,14 +1,13 @@
-//! T, V, ^A, ^T and =.
+//! T, V, ^A, ^T and =, and I and TAB.
 ghost use Rattle.std.specs.Prelude.{◌≡◌};
 ghost use Rattle.teco_verifier.specs.facts.Arguments as arguments;
+ghost use Rattle.teco_verifier.specs.facts.Insertions as insertions;
 ghost use Rattle.teco_verifier.specs.facts.Typings as typings;
+ghost use Rattle.teco_facts.specs.Numbers.{AreSmall};
 
-use crate::facts::{Facts, Foreseen};
-use crate::level::Taken;
-use crate::margins::Margins;
-use crate::number::Number;
-use crate::shift::KnownPlace;
-use teco_model::kind::Typing;
+use crate::{Facts, Foreseen, KnownPlace, Margins, Number, Shift, Taken};
+use teco_model::kind::{Insertion, Typing};
+use teco_poly::Poly;
 use teco_verifier::{Refusal, Rules};
 
 /// Two places that are known to lie in the buffer, if there are two.
@@ -41,4 +40,24 @@ pub fn typing(typing: Typing, taken: Taken, facts: Facts) -> Result<Foreseen, Re
         }
     }
     Ok(Foreseen::silent(facts))
+}
+
+/// An insertion of its text, or of a byte.
+pub fn insertion(
+    insertion: Insertion,
+    text: &[u8],
+    taken: Taken,
+    facts: Facts,
+) -> Result<Foreseen, Refusal>
+    requires { AreSmall facts.position.falls }
+    ensures { result ≡ insertions.insertion insertion text.now taken facts }
+{
+    let length = match (insertion, taken.value) {
+        (Insertion::Text, None) => text.len(),
+        (Insertion::Text, Some(_)) if text.is_empty() => 1,
+        (Insertion::Tab, None) => text.len() + 1,
+        _ => return Err(Refusal::Argument),
+    };
+    let shift = Shift::inserting(length, Poly::number(length as u64), facts.margins());
+    Foreseen::behind(&shift, facts)
 }

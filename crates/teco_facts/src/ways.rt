@@ -1,21 +1,16 @@
 //! The two ways of a test, and what is known on each.
-ghost use Rattle.std.specs.Prelude.{◌≡◌, ◌≤◌, ◌≤ℤ◌, ◌*◌, ◌^◌, ◌-◌, IfOk, IfSome, negsuc, option_map, pos};
+ghost use Rattle.std.specs.Prelude.{◌≡◌, ◌≤◌, ◌≤ℤ◌, ◌*◌, ◌^◌, ◌-◌, IfOk, IfSome, negsuc, pos};
 ghost use Rattle.teco_base.specs.declared.TheConstants.{LIMIT};
 ghost use Rattle.teco_facts.specs.Numbers.{HasRoomForCode, IsBesideCode, IsNear, IsRange};
 ghost use Rattle.teco_facts.specs.Seen.{seen};
-ghost use Rattle.teco_verifier.specs.facts.Facts as known;
 ghost use Rattle.teco_verifier.specs.facts.Ways as ways;
 
-use crate::arithmetic::{add, is, negated, positive, sub};
-use crate::facts::{Answer, Facts};
+use crate::arithmetic::{add, is, negated, sub};
 use crate::falls::all_near;
-use crate::margins::Margins;
-use crate::number::Number;
-use crate::position::Position;
-use crate::range::Range;
+use crate::{Answer, Facts, Margins, Number, Position, Range, positive};
 use std::alloc::AllocError;
 use teco_model::kind::Test;
-use teco_verifier::{CharacterCode, DigitMark, Rules, Value};
+use teco_verifier::{CharacterCode, DigitMark, Value};
 
 /// Which numbers take a way: the codes of characters where their class is asked, those of digits, and
 /// all on the other way.
@@ -100,13 +95,7 @@ impl Numbers {
         let sum = least as i64 + k;
         match self {
             Numbers::Zero => if sum <= 0 { Some(positive(-k)) } else { None },
-            Numbers::NotZero => {
-                if 0 <= sum && sum <= 0 {
-                    Some(least + 1)
-                } else {
-                    Some(least)
-                }
-            }
+            Numbers::NotZero => Some(if sum == 0 { least + 1 } else { least }),
             Numbers::Negative => if sum <= -1 { Some(least) } else { None },
             Numbers::NotNegative => Some(least.max(positive(-k))),
             Numbers::Positive => Some(least.max(positive(1 - k))),
@@ -186,26 +175,19 @@ fn takes_without(numbers: Numbers, code: CharacterCode, n: Value) -> bool
     }
 }
 
-// The distances where a character stands at an offset.
-fn with_character(offset: i64, margins: Margins) -> Margins
-    ensures { result ≡ ways.with_character offset margins }
-{
-    if offset < 0 {
-        Margins::capped(margins.back.max(offset.unsigned_abs()), margins.fore)
-    } else {
-        Margins::capped(margins.back, margins.fore.max(offset as u64 + 1))
-    }
-}
-
-// The distances where the place of a code is proved on the way.
+// The distances where the place of a code is proved on the way: a character stands there.
 fn proved(numbers: Numbers, n: Value, margins: Margins) -> Margins
     requires room { HasRoomForCode n.code n }
     requires ordered { n.lo ≤ℤ n.hi }
     ensures { result ≡ ways.proved (seen numbers) n margins }
 {
     match n.code {
-        Some(code) if !takes_without(numbers, code, n) => with_character(code.offset, margins),
-        _ => margins,
+        Some(code) if takes_without(numbers, code, n) => margins,
+        Some(code) if code.offset < 0 => {
+            Margins::capped(margins.back.max(code.offset.unsigned_abs()), margins.fore)
+        }
+        Some(code) => Margins::capped(margins.back, margins.fore.max(code.offset as u64 + 1)),
+        None => margins,
     }
 }
 
@@ -241,99 +223,51 @@ fn least_size(numbers: Numbers, n: Value, margins: Margins) -> Option<u64>
     }
 }
 
-// The position with these distances, on the way of a number.
-fn position_near(
-    rules: Rules,
-    numbers: Numbers,
-    n: Value,
-    position: &Position,
-    margins: Margins,
-) -> Position
-    requires { IsNear n.lo }
-    ensures { result ≡ ways.position_near rules (seen numbers) n position.now margins }
+// The position on the way of a number, where that may take it.
+fn position_on(numbers: Numbers, number: Number, facts: &Facts) -> Option<Position>
+    ensures { result ≡ ways.position_on facts.now.rules (seen numbers) number facts.now.position }
 {
-    let size = least_size(numbers, n, position.margins);
-    Position {
-        margins,
-        falls: all_near(rules, size, margins, &position.falls),
-        ahead: position.ahead,
-        saved: position.saved,
-        digit: mark_on(numbers, n, position.digit),
-    }
-}
-
-// The position on the way of some numbers.
-fn position_on(
-    rules: Rules,
-    numbers: Numbers,
-    number: Number,
-    position: &Position,
-) -> Option<Position>
-    ensures { result ≡ ways.position_on rules (seen numbers) number position.now }
-{
-    if !numbers.may_take(number.range(position.margins)) {
+    let here = &facts.known.position;
+    if !numbers.may_take(number.range(here.margins)) {
         return None;
     }
     let n = number.value;
-    let margins = proved(numbers, n, raised(numbers, number, position.margins)?);
-    Some(position_near(rules, numbers, n, position, margins))
+    let margins = proved(numbers, n, raised(numbers, number, here.margins)?);
+    let size = least_size(numbers, n, here.margins);
+    Some(Position {
+        margins,
+        falls: all_near(facts.known.rules, size, margins, &here.falls),
+        ahead: here.ahead,
+        saved: here.saved,
+        digit: mark_on(numbers, n, here.digit),
+    })
 }
 
-// The position on the way of a search's answer.
-fn position_of(numbers: Numbers, answer: &Answer, position: &Position) -> Option<Position>
-    ensures { result ≡ ways.position_of (seen numbers) answer.now position.now }
+// The position on the way of what is tested: of a search's answer, or of a number.
+fn position_by(
+    numbers: Numbers,
+    answer: &Option<Answer>,
+    number: Number,
+    facts: &Facts,
+) -> Option<Position>
+    ensures { result ≡ ways.position_by facts.now.rules (seen numbers) answer.now number
+        facts.now.position }
 {
+    let Some(answer) = answer else {
+        return position_on(numbers, number, facts);
+    };
     match numbers {
         Numbers::Zero | Numbers::NotNegative => Some(answer.failed.copied()),
         Numbers::NotZero | Numbers::Negative => Some(answer.found.copied()),
         Numbers::Positive => None,
         Numbers::NotPositive | Numbers::Characters | Numbers::Digits | Numbers::All => {
-            Some(position.copied())
+            Some(facts.known.position.copied())
         }
-    }
-}
-
-// The position on the way of what is tested.
-fn position_by(
-    rules: Rules,
-    numbers: Numbers,
-    answer: &Option<Answer>,
-    number: Number,
-    position: &Position,
-) -> Option<Position>
-    ensures { result ≡ ways.position_by rules (seen numbers) answer.now number position.now }
-{
-    match answer {
-        None => position_on(rules, numbers, number, position),
-        Some(answer) => position_of(numbers, answer, position),
-    }
-}
-
-// The facts at two positions, where each is reached, if there is memory: only facts for both are
-// copied.
-fn at_positions(
-    one: Option<Position>,
-    two: Option<Position>,
-    facts: Facts,
-) -> Result<(Option<Facts>, Option<Facts>), AllocError>
-    ensures { IfOk result (λ both. both ≡ (
-      option_map (λ p. known.at_position p facts) one,
-      option_map (λ p. known.at_position p facts) two,
-    )) }
-{
-    match (one, two) {
-        (Some(one), Some(two)) => {
-            let copy = facts.copied()?.at_position(one);
-            Ok((Some(copy), Some(facts.at_position(two))))
-        }
-        (Some(one), None) => Ok((Some(facts.at_position(one)), None)),
-        (None, Some(two)) => Ok((None, Some(facts.at_position(two)))),
-        (None, None) => Ok((None, None)),
     }
 }
 
 /// The facts on the way of some numbers and on that of the others, where each is reached, if there
-/// is memory.
+/// is memory: only facts for both are copied.
 pub fn both_ways(
     numbers: Numbers,
     answer: &Option<Answer>,
@@ -345,14 +279,15 @@ pub fn both_ways(
       ways.way (ways.other (seen numbers)) answer.now number facts,
     )) }
 {
-    let rules = facts.known.rules;
-    let one = position_by(rules, numbers, answer, number, &facts.known.position);
-    let two = position_by(
-        rules,
-        numbers.other(),
-        answer,
-        number,
-        &facts.known.position,
-    );
-    at_positions(one, two, facts)
+    let one = position_by(numbers, answer, number, &facts);
+    let two = position_by(numbers.other(), answer, number, &facts);
+    match (one, two) {
+        (Some(one), Some(two)) => {
+            let copy = facts.copied()?.at_position(one);
+            Ok((Some(copy), Some(facts.at_position(two))))
+        }
+        (Some(one), None) => Ok((Some(facts.at_position(one)), None)),
+        (None, Some(two)) => Ok((None, Some(facts.at_position(two)))),
+        (None, None) => Ok((None, None)),
+    }
 }

@@ -1,6 +1,6 @@
 use Rattle.std.proofs.Common.{◌≡◌, take}
 use Rattle.teco_model.specs.Arguments as model
-use Rattle.teco_facts.proofs.digits.run_value.Given as goal
+use Rattle.teco_facts.proofs.level.run_value.Given as goal
 
 -- the value of the digits so far
 abbrev pub invariant-loop-digit : goal.invariant-loop-digit

@@ -2,7 +2,7 @@ use Rattle.std.proofs.Common.{◌≡◌, rules, take, w32, to_z}
 use Rattle.std.proofs.lemmas.Int.{to_z-of_z}
 use Rattle.teco_model.specs.Arguments.{run_value}
 use Rattle.teco_model.proofs.Digits.{run_value-more}
-use Rattle.teco_facts.proofs.digits.run_value.Goals as goal
+use Rattle.teco_facts.proofs.level.run_value.Goals as goal
 
 pub loop-digit-preserved : goal.loop-digit-preserved
 loop-digit-preserved c =
