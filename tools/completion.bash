@@ -16,6 +16,10 @@ _teco() {
     trace) options="--limit --memory --arg --set --rules --esc --help" ;;
     show) options="--source --esc --help" ;;
     explain)
+      if [[ $current == -* ]]; then
+        mapfile -t COMPREPLY < <(compgen -W "--rules --esc --help" -- "$current")
+        return
+      fi
       mapfile -t COMPREPLY < <(compgen -W "X1 X2 X3 X4 X5 X6 X7 X8 X9 X10 X11 X12 X13 X14 X15 X16 X17 X18
         ARG NAC NCA DIV POP DTB IIA ILL IQN ICE SRH TAG SNI BNI PES UTC UTM NFI NFO YCA OFO FUL LIM MEM FNF INP OUT" -- "$current")
       return
