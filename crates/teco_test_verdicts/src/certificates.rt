@@ -1,8 +1,13 @@
 //! Certificates that are accepted, and texts that differ from one.
 ghost use Rattle.std.specs.Prelude.{◌<◌, length};
 
-use super::*;
-use std::alloc::AllocError;
+use crate::trial::{checked, expect, expect_row, is_accepted, library_of};
+use std::alloc::{AllocError, Global};
+use std::process::Abort;
+use std::test::Fail;
+use teco_library::Library;
+use teco_verifier::Refusal as Why;
+use teco_verify::Refusal;
 
 /// Puts a mark behind each occurrence of a word.
 const MARK: &[u8] = b"@^UA/J<Sfoo\x1b;I!\x1b>/";
@@ -36,7 +41,8 @@ const CHOICES: [Choice; 16] = [
     ),
     (
         MARK,
-        b"commands 8 + 4*N\nsize 1 + 18446744073709551615*N\nloop 3 held 18446744073709551615*N kept texts -\n",
+        b"commands 8 + 4*N\nsize 1 + 18446744073709551615*N\n\
+          loop 3 held 18446744073709551615*N kept texts -\n",
         true,
     ),
     (
@@ -109,7 +115,8 @@ const CHOICES: [Choice; 16] = [
     ),
     (
         MARK,
-        b"commands 8 + 4*N\nsize 1 + 18446744073709551616*N\nloop 3 held 18446744073709551616*N kept texts -\n",
+        b"commands 8 + 4*N\nsize 1 + 18446744073709551616*N\n\
+          loop 3 held 18446744073709551616*N kept texts -\n",
         false,
     ),
 ];
@@ -230,8 +237,8 @@ fn other_lines_are_refused(rt: HostRuntime) -> Result<(), Fail> {
 fn a_size_that_no_text_has(rt: HostRuntime) {
     let alloc = rt.alloc();
     let library = library_of(&rt, alloc, MARK);
-    let text =
-        b"TECO-CERT 1\nentry A\nneeds -\ncommands 8 + 4*N\nsize 1 + 18446744073709551615*N\nloop 3 held 18446744073709551615*N kept texts -\nend\n";
+    let text = b"TECO-CERT 1\nentry A\nneeds -\ncommands 8 + 4*N\nsize 1 + 18446744073709551615*N\n\
+          loop 3 held 18446744073709551615*N kept texts -\nend\n";
     let is_so = match checked(&rt, alloc, &library, text) {
         Ok(verified) => verified.size().at(0) == Some(1) && verified.size().at(1).is_none(),
         Err(_) => false,

@@ -1,8 +1,8 @@
 //! How the words of the command line are read.
-use crate::trial::expect_row;
 use clap::ArgMatches;
 use std::alloc::Global;
 use std::env::{Env, FillError};
+use std::process::Abort;
 use std::test::Fail;
 use teco_tools::Script;
 use teco_verdicts::Rules;
@@ -10,6 +10,11 @@ use teco_words::{
     Arguments, WordsFault, cap, check_streams, command, entry, escape_of, file_name, given, limit,
     pages, rules_of, scripts, settings,
 };
+
+// It is so of a row, by its number.
+fn expect_row(rt: &impl Abort, is_so: bool, number: usize) {
+    assert!(rt; is_so, "row {number}");
+}
 
 // What is given to the subcommand.
 fn given_of<'m, 'a>(matches: &'m ArgMatches<'a>) -> Result<&'m ArgMatches<'a>, WordsFault> {

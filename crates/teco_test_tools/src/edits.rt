@@ -1,6 +1,5 @@
 //! Files that are edited, by pages and in place.
-use super::task;
-use crate::trial::{expect, expect_text, kept, library_file};
+use crate::trial::{expect, expect_text, kept, library_file, task};
 use std::alloc::Global;
 use std::process::Abort;
 use std::test::Fail;
@@ -28,7 +27,8 @@ const ROWS: [Row; 5] = [
         false,
         b"a bar\x0cfoo\x0c\x0cfoo",
         Outcome::Done,
-        "somleut_tools_in: 8 bytes behind the first page were copied unedited; --pages each or --pages whole edits them too\n",
+        "somleut_tools_in: 8 bytes behind the first page were copied unedited; --pages each or \
+         --pages whole edits them too\n",
     ),
     (
         Pages::Each,
@@ -76,7 +76,7 @@ fn expect_pages(
         pages,
         is_strict,
         tells_counts,
-        ..task(abort, request)
+        ..task(request)
     };
     let names = Names {
         source: b"somleut_tools_in",
@@ -132,7 +132,7 @@ fn a_strict_edit_is_refused_outside_the_promise(rt: HostRuntime) -> Result<(), F
     };
     let task = Task {
         is_strict: true,
-        ..task(&rt, request)
+        ..task(request)
     };
     let mut console = kept(&rt);
     let mut host = FileHost::new(rt.alloc(), rt);
@@ -168,7 +168,7 @@ fn expect_stream(
 ) -> Result<(), Fail> {
     let task = Task {
         pages,
-        ..task(abort, request)
+        ..task(request)
     };
     let files = FileHost::new(rt.alloc(), *rt);
     let mut host = Streams::new(rt.alloc(), files, THREE, Vec::new(rt.alloc()));
@@ -186,7 +186,7 @@ fn streams_are_edited(rt: HostRuntime) -> Result<(), Fail> {
     expect_stream(&rt, &rt, request, Pages::Each, b"a bar\x0cbar\x0c\x0cbar")?;
     let task = Task {
         is_strict: true,
-        ..task(&rt, request)
+        ..task(request)
     };
     let files = FileHost::new(rt.alloc(), rt);
     let mut host = Streams::new(rt.alloc(), files, THREE, io::sink());
@@ -216,7 +216,7 @@ fn registers_are_set(rt: HostRuntime) -> Result<(), Fail> {
     let taken = [setting(&rt, rt.alloc(), "A=")];
     let good = Task {
         settings: &settings,
-        ..task(&rt, request)
+        ..task(request)
     };
     let mut host = FileHost::new(rt.alloc(), rt);
     let outcome = apply_macro(&rt, &mut kept(&rt), &good, names, &mut host)?;
@@ -224,7 +224,7 @@ fn registers_are_set(rt: HostRuntime) -> Result<(), Fail> {
     expect_file(&rt, &rt, "somleut_tools_plain", b"some text")?;
     let bad = Task {
         settings: &taken,
-        ..task(&rt, request)
+        ..task(request)
     };
     let outcome = apply_macro(&rt, &mut kept(&rt), &bad, names, &mut host);
     let is_taken = matches!(outcome, Err(ToolFault::Taken { register: 'A' }));
@@ -287,7 +287,7 @@ fn expect_in_place(
         suffix,
     };
     let mut console = kept(rt);
-    let outcome = edit_files(rt, &mut console, &task(abort, request), &given);
+    let outcome = edit_files(rt, &mut console, &task(request), &given);
     expect(abort, matches!(outcome, Ok(Outcome::Coded)), said);
     let (written, messages) = console.into_parts();
     expect_text(abort, &written, "?FNF\r\n");

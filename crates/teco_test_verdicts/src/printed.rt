@@ -1,15 +1,43 @@
-//! Verdicts over libraries in a scratch folder.
-use crate::trial::{expect, expect_text, kept, library_file, register};
+//! What is printed of verdicts, over libraries in a scratch folder.
+use crate::trial::expect;
 use std::fs;
 use std::process::Abort;
 use std::test::Fail;
 use teco_base::Reg;
 use teco_poly::Poly;
 use teco_verdicts::{
-    Outcome, Premise, Request, Verdict, check_macro, verify_library_as_json, verify_macro,
-    verify_macro_as_json,
+    Console, Escape, Outcome, Premise, Request, Verdict, check_macro, verify_library_as_json,
+    verify_macro, verify_macro_as_json,
 };
 use teco_verifier::{Refusal as Why, Rules};
+
+// The bytes are those of a text.
+fn expect_text(rt: &impl Abort, found: &[u8], wanted: &str) {
+    assert!(rt; found == wanted.as_bytes(), "{wanted}: {found:?}");
+}
+
+// Writers over memory, in place of standard output and standard error.
+fn kept(rt: &HostRuntime) -> Console<Vec<u8>, Vec<u8>> {
+    Console::new(rt.alloc(), Vec::new(rt.alloc()), Vec::new(rt.alloc()))
+}
+
+// A library in the file of a name.
+fn library_file<'a>(rt: &HostRuntime, name: &'a str, text: &[u8]) -> Result<Request<'a>, Fail> {
+    fs::write(rt, name, text)?;
+    Ok(Request {
+        library: name,
+        escape: Escape::Mark(b'$'),
+        rules: Rules::First,
+    })
+}
+
+// The register of a name.
+fn register(rt: &impl Abort, name: u8) -> Reg {
+    let Some(register) = Reg::of(name) else {
+        panic!(rt; "a register");
+    };
+    register
+}
 
 /// A size and commands, and what is said of the texts that they hold for.
 const PREMISES: [(&[u8], &[u8], &str); 4] = [
@@ -60,7 +88,8 @@ fn a_macro_is_verified(rt: HostRuntime) -> Result<(), Fail> {
     expect_text(
         &rt,
         &console.out,
-        "TECO-CERT 1\nentry A\nneeds -\ncommands 8 + 4*N\nsize 1 + 2*N\nloop 3 held 2*N kept texts -\nend\n",
+        "TECO-CERT 1\nentry A\nneeds -\ncommands 8 + 4*N\nsize 1 + 2*N\n\
+         loop 3 held 2*N kept texts -\nend\n",
     );
     Ok(())
 }
@@ -95,8 +124,10 @@ fn verdicts_are_json(rt: HostRuntime) -> Result<(), Fail> {
         "somleut_tools_json",
         b"@^UA/J<Sfoo$;I!$>/\n@^UB/J\n5C/@^UC~J2147483647U0Q0<I*$>~",
     )?;
-    let rows =
-        "{\"macro\": \"A\", \"accepted\": true, \"commands\": [8, 4], \"size\": [1, 2], \"needs_input\": false, \"needs_output\": false, \"greatest_n\": 134217727}\n{\"macro\": \"B\", \"accepted\": false, \"refusal\": \"X6\", \"register\": \"B\", \"place\": 3, \"line\": 3, \"column\": 2}\n";
+    let rows = "{\"macro\": \"A\", \"accepted\": true, \"commands\": [8, 4], \"size\": [1, 2], \
+         \"needs_input\": false, \"needs_output\": false, \"greatest_n\": 134217727}\n\
+         {\"macro\": \"B\", \"accepted\": false, \"refusal\": \"X6\", \"register\": \"B\", \
+         \"place\": 3, \"line\": 3, \"column\": 2}\n";
     let mut console = kept(&rt);
     let outcome = verify_library_as_json(&rt, &mut console, request)?;
     let is_begun = console.out.starts_with(rows.as_bytes());
