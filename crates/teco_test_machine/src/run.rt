@@ -43,6 +43,39 @@ fn is_text(machine: &Machine<VecText>, text: &[u8]) -> bool {
         .is_some_and(|behind| behind == back)
 }
 
+// Runs a command string of at most so many steps on a machine; once more, on another, where memory
+// was refused.
+fn answer_of(
+    machine: &mut Machine<VecText>,
+    alloc: Global,
+    command: &[u8],
+    limit: u64,
+) -> Result<u64, Code> {
+    let mut host = MemHost::new(alloc);
+    let got = answer(run(machine, &mut host, command, limit));
+    if got != Err(Code::Mem) {
+        return got;
+    }
+    *machine = Machine::new(alloc, VecText::new(alloc));
+    answer(run(machine, &mut host, command, limit))
+}
+
+// It is so.
+fn expect_so(rt: &impl Abort, is_so: bool, what: &str) {
+    assert!(rt; is_so, "{what}");
+}
+
+// A machine has this text and this pointer.
+fn expect_left(rt: &impl Abort, machine: &Machine<VecText>, left: (&[u8], usize)) {
+    assert!(rt; is_text(machine, left.0) && machine.dot() == left.1);
+}
+
+// A machine has typed this.
+fn expect_typed(rt: &impl Abort, machine: &mut Machine<VecText>, typed: &[u8]) {
+    let taken = machine.take_typed();
+    assert!(rt; taken.as_slice() == typed, "{typed:?}");
+}
+
 // Runs a command string of at most so many steps on a new machine. It comes to this, types this,
 // and leaves this text and this pointer.
 fn expect(
@@ -54,15 +87,11 @@ fn expect(
     left: (&[u8], usize),
 ) {
     let mut machine = Machine::new(rt.alloc(), VecText::new(rt.alloc()));
-    let mut host = MemHost::new(rt.alloc());
-    let mut got = answer(run(&mut machine, &mut host, command, limit));
-    if got == Err(Code::Mem) {
-        machine = Machine::new(rt.alloc(), VecText::new(rt.alloc()));
-        got = answer(run(&mut machine, &mut host, command, limit));
-    }
-    assert!(rt; got == want && is_text(&machine, left.0) && machine.dot() == left.1);
-    assert!(rt; machine.take_typed().as_slice() == typed);
-    assert!(rt; machine.take_typed().is_empty());
+    let got = answer_of(&mut machine, rt.alloc(), command, limit);
+    assert!(rt; got == want, "{command:?}");
+    expect_left(rt, &machine, left);
+    expect_typed(rt, &mut machine, typed);
+    expect_typed(rt, &mut machine, b"");
 }
 
 #[test]
@@ -165,39 +194,66 @@ fn is_short(text: &Option<&[u8]>) -> bool
     }
 }
 
-fn load(machine: &mut Machine<VecText>, texts: [Option<&[u8]>; 36]) -> Result<(), AllocError> {
+fn load(machine: &mut Machine<VecText>, texts: &[Option<&[u8]>; 36]) -> Result<(), AllocError> {
     if texts.iter().all(is_short) {
-        machine.load(texts)?;
+        machine.load(*texts)?;
     }
     Ok(())
+}
+
+// A register has this number and this text.
+fn expect_register(
+    rt: &impl Abort,
+    machine: &Machine<VecText>,
+    name: u8,
+    number: i32,
+    text: &[u8],
+) {
+    let regs = machine.regs();
+    assert!(rt; regs.number(register(name)) == number && regs.text(register(name)) == text);
+}
+
+// The buffer and all texts have so many characters.
+fn expect_held(rt: &impl Abort, machine: &Machine<VecText>, held: u128) {
+    assert!(rt; machine.held() == held);
+}
+
+// A number goes into a register, and a text into another, which is pushed.
+fn expect_shown(rt: &impl Abort, machine: &mut Machine<VecText>, alloc: Global) {
+    let done = answer_of(machine, alloc, b"Iab\x1b5U9^UBcde\x1b[B\x1b\x1b", 100);
+    assert!(rt; done.is_ok());
+    expect_register(rt, machine, b'9', 5, b"");
+    expect_register(rt, machine, b'B', 0, b"cde");
+    expect_held(rt, machine, 8);
+}
+
+// Two texts are loaded, or nothing changes.
+fn expect_loaded(rt: &impl Abort, machine: &mut Machine<VecText>) {
+    let mut texts: [Option<&[u8]>; 36] = [None; 36];
+    texts[0] = Some(b"%9=");
+    texts[35] = Some(b"ninth");
+    if load(machine, &texts).is_err() {
+        expect_held(rt, machine, 8);
+        let again = load(machine, &texts);
+        assert!(rt; again.is_ok());
+    }
 }
 
 #[test]
 fn registers_are_shown_and_loaded(rt: HostRuntime) {
     let mut machine = Machine::new(rt.alloc(), VecText::new(rt.alloc()));
+    expect_shown(&rt, &mut machine, rt.alloc());
+    expect_loaded(&rt, &mut machine);
+    expect_held(&rt, &machine, 16);
+    expect_register(&rt, &machine, b'B', 0, b"cde");
+    expect_register(&rt, &machine, b'9', 5, b"ninth");
     let mut host = MemHost::new(rt.alloc());
-    let command = b"Iab\x1b5U9^UBcde\x1b[B\x1b\x1b";
-    if let Stop::Memory = run(&mut machine, &mut host, command, 100) {
-        machine = Machine::new(rt.alloc(), VecText::new(rt.alloc()));
-        run(&mut machine, &mut host, command, 100);
+    let mut stop = run(&mut machine, &mut host, b"MA", 100);
+    if let Stop::Memory = stop {
+        stop = run(&mut machine, &mut host, b"MA", 100);
     }
-    assert_eq!(rt; machine.regs().number(register(b'9')), 5);
-    assert_eq!(rt; machine.regs().text(register(b'B')), b"cde".as_slice());
-    assert_eq!(rt; machine.held(), 8);
-    let mut texts: [Option<&[u8]>; 36] = [None; 36];
-    texts[0] = Some(b"%9=");
-    texts[35] = Some(b"ninth");
-    if load(&mut machine, texts).is_err() {
-        assert_eq!(rt; machine.held(), 8);
-        assert!(rt; load(&mut machine, texts).is_ok());
-    }
-    assert_eq!(rt; machine.held(), 16);
-    assert_eq!(rt; machine.regs().text(register(b'B')), b"cde".as_slice());
-    assert_eq!(rt; machine.regs().text(register(b'9')), b"ninth".as_slice());
-    if let Stop::Memory = run(&mut machine, &mut host, b"MA", 100) {
-        run(&mut machine, &mut host, b"MA", 100);
-    }
-    assert_eq!(rt; machine.take_typed().as_slice(), b"6\r\n".as_slice());
+    expect_so(&rt, answer(stop).is_ok(), "the loaded macro");
+    expect_typed(&rt, &mut machine, b"6\r\n");
 }
 
 // Runs a command string on a new machine that may type so many bytes, and whose texts may take as
@@ -221,11 +277,9 @@ fn expect_capped(
     let (mut machine, stop) = run_capped(rt.alloc(), cap, command);
     let got = answer(stop);
     let bytes = machine.take_typed();
+    let is_all = got == want && bytes.len() == typed.len();
     let is_refused = got == Err(Code::Mem);
-    assert!(rt;
-        (got == want && bytes.len() == typed.len()) || is_refused,
-        "{command:?}"
-    );
+    assert!(rt; is_all || is_refused, "{command:?}");
     assert!(rt; typed.starts_with(&bytes), "{command:?}");
 }
 
@@ -238,13 +292,23 @@ fn caps_are_refused_growths(rt: HostRuntime) {
     expect_capped(&rt, 3, b"@^UA/abcd/:GA", b"", Err(Code::Mem));
     expect_capped(&rt, 5, b"@I/ab/<Sx\x1b>", b"", Err(Code::Mem));
     expect_capped(&rt, 100_000, b"@^UA/MA/MA", b"", Err(Code::Mem));
-    // as deep as the cap lets, and the next string runs
+}
+
+// A machine goes on as if nothing had been: no limit is met.
+fn expect_runs(rt: &impl Abort, machine: &mut Machine<VecText>, alloc: Global) {
+    let mut host = MemHost::new(alloc);
+    let got = answer(run(machine, &mut host, b"1U0", 10));
+    assert!(rt; got != Err(Code::Lim));
+}
+
+// Macros call one another as deep as the cap lets, and the next string runs.
+#[test]
+fn calls_are_as_deep_as_a_cap_lets(rt: HostRuntime) {
     let (mut machine, stop) = run_capped(rt.alloc(), 1_000_000, b"@^UA/%B-1000\"LMA'/MA");
     if let Stop::Memory = stop {
         machine.set_cap(1_000_000);
     } else {
-        assert_eq!(rt; machine.regs().number(register(b'B')), 1000);
+        expect_register(&rt, &machine, b'B', 1000, b"");
     }
-    let mut host = MemHost::new(rt.alloc());
-    assert!(rt; answer(run(&mut machine, &mut host, b"1U0", 10)) != Err(Code::Lim));
+    expect_runs(&rt, &mut machine, rt.alloc());
 }

@@ -29,10 +29,9 @@ fn expect_listed(
     abort: &impl Abort,
     rt: &HostRuntime,
     request: Request<'static>,
-    most: u64,
-    listed: &str,
-    said: &str,
-) -> Result<(), Fail> {
+    row: &(u64, &str, &str),
+) {
+    let (most, listed, said) = *row;
     let names = Names {
         source: b"somleut_tools_traced",
         target: OUTPUT,
@@ -40,21 +39,20 @@ fn expect_listed(
     let mut console = kept(rt);
     let files = FileHost::new(rt.alloc(), *rt);
     let mut host = Streams::new(rt.alloc(), files, io::empty(), io::sink());
-    let task = task(request);
-    let outcome = trace_macro(rt, &mut console, &task, Listing { names, most }, &mut host)?;
-    expect(abort, outcome == Outcome::Done, "an outcome");
+    let listing = Listing { names, most };
+    let outcome = trace_macro(rt, &mut console, &task(request), listing, &mut host);
+    expect(abort, matches!(outcome, Ok(Outcome::Done)), said);
     let (written, messages) = console.into_parts();
     expect_text(abort, &written, listed);
     expect_text(abort, &messages, said);
-    Ok(())
 }
 
 #[test]
 fn steps_are_listed(rt: HostRuntime) -> Result<(), Fail> {
     let request = library_file(&rt, "somleut_tools_trace", b"@^UA/J3C\nZ=/")?;
     fs::write(&rt, "somleut_tools_traced", b"abcd")?;
-    for (most, listed, said) in LISTED.iter() {
-        expect_listed(&rt, &rt, request, *most, listed, said)?;
+    for row in LISTED.iter() {
+        expect_listed(&rt, &rt, request, row);
     }
     fs::remove_file(&rt, "somleut_tools_trace")?;
     fs::remove_file(&rt, "somleut_tools_traced")?;

@@ -1,8 +1,7 @@
 //! Verdicts on the macro A of libraries, where they reach what a library may have, and go past it.
 use crate::trial::{expect, is_accepted, is_certified, library_of, verdict};
-use std::alloc::{AllocError, Global};
+use std::alloc::Global;
 use std::process::Abort;
-use std::test::Fail;
 use teco_library::Library;
 use teco_verifier::Refusal as Why;
 use teco_verify::Refusal;
@@ -108,14 +107,14 @@ fn is_refused_at(alloc: Global, library: &Library, name: &str, at: (u8, usize)) 
 }
 
 // A library whose macro A is so many motions.
-fn motions(alloc: Global, count: usize) -> Result<Vec<u8>, AllocError> {
+fn motions(rt: &impl Abort, alloc: Global, count: usize) -> Vec<u8> {
     let mut file = Vec::new(alloc);
-    file.extend_from_slice(b"@^UA/")?;
+    file.extend_from_slice(b"@^UA/").expect(rt, "memory");
     for _ in 0..count {
-        file.extend_from_slice(b"J")?;
+        file.push(b'J').expect(rt, "memory");
     }
-    file.extend_from_slice(b"/")?;
-    Ok(file)
+    file.push(b'/').expect(rt, "memory");
+    file
 }
 
 // The macro A of a library is accepted with this certificate, which is accepted.
@@ -135,23 +134,29 @@ fn expect_refused(rt: &impl Abort, alloc: Global, file: &[u8], name: &str, at: (
 }
 
 #[test]
-fn accepts_as_much_as_there_may_be(rt: HostRuntime) -> Result<(), Fail> {
+fn accepts_as_much_as_there_may_be(rt: HostRuntime) {
     for (file, text) in ACCEPTED.iter() {
         expect_certified(&rt, rt.alloc(), file, text);
     }
-    let most = motions(rt.alloc(), MOTIONS)?;
-    let text = "TECO-CERT 1\nentry A\nneeds -\ncommands 4096\nsize N\nend\n";
-    expect_certified(&rt, rt.alloc(), most.as_slice(), text);
-    Ok(())
 }
 
 #[test]
-fn refuses_what_goes_past_it(rt: HostRuntime) -> Result<(), Fail> {
+fn accepts_as_many_motions_as_there_may_be(rt: HostRuntime) {
+    let most = motions(&rt, rt.alloc(), MOTIONS);
+    let text = "TECO-CERT 1\nentry A\nneeds -\ncommands 4096\nsize N\nend\n";
+    expect_certified(&rt, rt.alloc(), &most, text);
+}
+
+#[test]
+fn refuses_what_goes_past_it(rt: HostRuntime) {
     for (file, name, register, place) in REFUSED.iter() {
         expect_refused(&rt, rt.alloc(), file, name, (*register, *place));
     }
-    let more = motions(rt.alloc(), MOTIONS + 1)?;
+}
+
+#[test]
+fn refuses_one_motion_more(rt: HostRuntime) {
+    let more = motions(&rt, rt.alloc(), MOTIONS + 1);
     let at = (b'A', MOTIONS + 1);
-    expect_refused(&rt, rt.alloc(), more.as_slice(), "X16", at);
-    Ok(())
+    expect_refused(&rt, rt.alloc(), &more, "X16", at);
 }

@@ -83,6 +83,12 @@ fn machine_on_a_list(rt: &impl Abort, alloc: Global) -> Machine<Counting> {
     Machine::new(alloc, Counting { text, put_in: 0 })
 }
 
+// So many characters were put in, and the text is as it was.
+fn expect_counted(rt: &impl Abort, machine: &Machine<Counting>, put_in: usize) {
+    let store = machine.store();
+    assert!(rt; store.put_in == put_in && store.slices().0 == [b'b'; 500].as_slice());
+}
+
 #[test]
 fn copies_list_at_end(rt: HostRuntime) {
     let mut machine = machine_on_a_list(&rt, rt.alloc());
@@ -94,6 +100,5 @@ fn copies_list_at_end(rt: HostRuntime) {
         stop = machine.run(command, 10_000, &mut host);
     }
     assert!(rt; matches!(stop, Stop::Ended { .. }));
-    assert_eq!(rt; machine.store().put_in, 1000);
-    assert_eq!(rt; machine.store().slices().0, [b'b'; 500].as_slice());
+    expect_counted(&rt, &machine, 1000);
 }
