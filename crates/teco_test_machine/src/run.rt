@@ -60,20 +60,28 @@ fn answer_of(
     answer(run(machine, &mut host, command, limit))
 }
 
-// It is so.
-fn expect_so(rt: &impl Abort, is_so: bool, what: &str) {
-    assert!(rt; is_so, "{what}");
-}
-
-// A machine has this text and this pointer.
-fn expect_left(rt: &impl Abort, machine: &Machine<VecText>, left: (&[u8], usize)) {
-    assert!(rt; is_text(machine, left.0) && machine.dot() == left.1);
-}
-
-// A machine has typed this.
-fn expect_typed(rt: &impl Abort, machine: &mut Machine<VecText>, typed: &[u8]) {
+// Has a machine typed this?
+fn has_typed(machine: &mut Machine<VecText>, typed: &[u8]) -> bool {
     let taken = machine.take_typed();
-    assert!(rt; taken.as_slice() == typed, "{typed:?}");
+    taken.as_slice() == typed
+}
+
+// Runs a command string of at most so many steps on a new machine: what it comes to, and whether it
+// types this and leaves this text and this pointer.
+fn run_anew(
+    alloc: Global,
+    command: &[u8],
+    limit: u64,
+    typed: &[u8],
+    left: (&[u8], usize),
+) -> (Result<u64, Code>, bool) {
+    let mut machine = Machine::new(alloc, VecText::new(alloc));
+    let mut host = MemHost::new(alloc);
+    let got = answer(run(&mut machine, &mut host, command, limit));
+    let is_left = is_text(&machine, left.0) && machine.dot() == left.1;
+    let is_typed = has_typed(&mut machine, typed);
+    let is_taken = has_typed(&mut machine, b"");
+    (got, is_left && is_typed && is_taken)
 }
 
 // Runs a command string of at most so many steps on a new machine. It comes to this, types this,
@@ -86,12 +94,11 @@ fn expect(
     typed: &[u8],
     left: (&[u8], usize),
 ) {
-    let mut machine = Machine::new(rt.alloc(), VecText::new(rt.alloc()));
-    let got = answer_of(&mut machine, rt.alloc(), command, limit);
-    assert!(rt; got == want, "{command:?}");
-    expect_left(rt, &machine, left);
-    expect_typed(rt, &mut machine, typed);
-    expect_typed(rt, &mut machine, b"");
+    let mut found = run_anew(rt.alloc(), command, limit, typed, left);
+    if found.0 == Err(Code::Mem) {
+        found = run_anew(rt.alloc(), command, limit, typed, left);
+    }
+    assert!(rt; found.0 == want && found.1, "{command:?}");
 }
 
 #[test]
@@ -239,6 +246,17 @@ fn expect_loaded(rt: &impl Abort, machine: &mut Machine<VecText>) {
     }
 }
 
+// The macro that was loaded types a number.
+fn expect_macro(rt: &impl Abort, machine: &mut Machine<VecText>, alloc: Global) {
+    let mut host = MemHost::new(alloc);
+    let mut stop = run(machine, &mut host, b"MA", 100);
+    if let Stop::Memory = stop {
+        stop = run(machine, &mut host, b"MA", 100);
+    }
+    let is_typed = has_typed(machine, b"6\r\n");
+    assert!(rt; is_typed && answer(stop).is_ok());
+}
+
 #[test]
 fn registers_are_shown_and_loaded(rt: HostRuntime) {
     let mut machine = Machine::new(rt.alloc(), VecText::new(rt.alloc()));
@@ -247,13 +265,7 @@ fn registers_are_shown_and_loaded(rt: HostRuntime) {
     expect_held(&rt, &machine, 16);
     expect_register(&rt, &machine, b'B', 0, b"cde");
     expect_register(&rt, &machine, b'9', 5, b"ninth");
-    let mut host = MemHost::new(rt.alloc());
-    let mut stop = run(&mut machine, &mut host, b"MA", 100);
-    if let Stop::Memory = stop {
-        stop = run(&mut machine, &mut host, b"MA", 100);
-    }
-    expect_so(&rt, answer(stop).is_ok(), "the loaded macro");
-    expect_typed(&rt, &mut machine, b"6\r\n");
+    expect_macro(&rt, &mut machine, rt.alloc());
 }
 
 // Runs a command string on a new machine that may type so many bytes, and whose texts may take as
@@ -266,6 +278,12 @@ fn run_capped(alloc: Global, cap: usize, command: &[u8]) -> (Machine<VecText>, S
     (machine, stop)
 }
 
+// What a command string types under a cap, and how it stops.
+fn typed_under(alloc: Global, cap: usize, command: &[u8]) -> (Vec<u8>, Stop) {
+    let (mut machine, stop) = run_capped(alloc, cap, command);
+    (machine.take_typed(), stop)
+}
+
 // Under a cap a command string may type these bytes, and comes to this where no allocation fails.
 fn expect_capped(
     rt: &(impl Abort + AllocGlobal),
@@ -274,13 +292,12 @@ fn expect_capped(
     typed: &[u8],
     want: Result<u64, Code>,
 ) {
-    let (mut machine, stop) = run_capped(rt.alloc(), cap, command);
+    let (bytes, stop) = typed_under(rt.alloc(), cap, command);
+    let is_begun = typed.starts_with(&bytes);
+    let is_all = bytes.len() == typed.len();
     let got = answer(stop);
-    let bytes = machine.take_typed();
-    let is_all = got == want && bytes.len() == typed.len();
-    let is_refused = got == Err(Code::Mem);
-    assert!(rt; is_all || is_refused, "{command:?}");
-    assert!(rt; typed.starts_with(&bytes), "{command:?}");
+    let is_so = got == Err(Code::Mem) || (got == want && is_all);
+    assert!(rt; is_begun && is_so, "{command:?}");
 }
 
 #[test]

@@ -8,10 +8,10 @@ use teco_tools::{Run, Script, run_scripts};
 use teco_verdicts::{Console, Escape};
 
 // Scripts that are run over a console.
-fn run_over(
+fn run_over<'a>(
     rt: &HostRuntime,
     console: &mut Console<Vec<u8>, Vec<u8>>,
-    scripts: &[Script<'_>],
+    scripts: &'a [Script<'a>],
     until_code: bool,
 ) -> bool {
     let run = Run {
@@ -111,8 +111,9 @@ const ENDED: [(&str, &str); 10] = [
 
 // A word types this.
 fn expect_typed(abort: &impl Abort, rt: &HostRuntime, word: &str, typed: &str) {
+    let scripts = [Word(word)];
     let mut console = kept(rt);
-    let is_run = run_over(rt, &mut console, &[Word(word)], false);
+    let is_run = run_over(rt, &mut console, &scripts, false);
     expect(abort, is_run, word);
     expect_text(abort, &console.out, typed);
 }

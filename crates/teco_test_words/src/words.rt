@@ -16,7 +16,7 @@ fn expect_row(rt: &impl Abort, is_so: bool, number: usize) {
 }
 
 // What words say, or the status of their refusal; -1 where memory was refused.
-fn matched<'a>(alloc: Global, words: &'a [&'a str]) -> Result<ArgMatches<'a>, i32> {
+fn matched<'a>(alloc: Global, words: &'a [&str]) -> Result<ArgMatches<'a>, i32> {
     let Ok(command) = command(alloc) else {
         return Err(-1);
     };
@@ -68,7 +68,9 @@ fn words_are_read(rt: HostRuntime) {
 
 // The register that words name; 0 where they name none, and nothing where they are not read.
 fn entry_of(alloc: Global, words: &[&str]) -> Option<u8> {
-    let matches = matched(alloc, words).ok()?;
+    let Ok(matches) = matched(alloc, words) else {
+        return None;
+    };
     match entry(given_of(&matches)?) {
         Ok(register) => Some(register.name()),
         Err(_) => Some(0),
@@ -96,7 +98,9 @@ fn macros_are_named(rt: HostRuntime) {
 
 // The edition of the rules that words ask for; 0 where it is none.
 fn edition_of(alloc: Global, words: &[&str]) -> Option<u8> {
-    let matches = matched(alloc, words).ok()?;
+    let Ok(matches) = matched(alloc, words) else {
+        return None;
+    };
     match rules_of(given_of(&matches)?) {
         Ok(Rules::First) => Some(1),
         Ok(Rules::Second) => Some(2),
@@ -168,7 +172,12 @@ impl Env for Words<'_> {
 }
 
 // Is a file's name in these words read as it was given? None where it may be no name.
-fn is_read(given: &ArgMatches<'_>, arguments: &Arguments, id: &str, name: &[u8]) -> Option<bool> {
+fn is_read<'a>(
+    given: &ArgMatches<'a>,
+    arguments: &'a Arguments,
+    id: &str,
+    name: &[u8],
+) -> Option<bool> {
     match file_name(given, id, arguments) {
         Ok(found) => Some(found == name),
         Err(_) => None,
@@ -177,10 +186,12 @@ fn is_read(given: &ArgMatches<'_>, arguments: &Arguments, id: &str, name: &[u8])
 
 // What is said of the names of files in some words: of another one first.
 fn names_in(arguments: &Arguments, name: &[u8], alloc: Global) -> Option<(bool, Option<bool>)> {
-    let matches = command(alloc)
-        .ok()?
-        .try_get_matches_from(arguments.texts())
-        .ok()?;
+    let Ok(command) = command(alloc) else {
+        return None;
+    };
+    let Ok(matches) = command.try_get_matches_from(arguments.texts()) else {
+        return None;
+    };
     let given = given_of(&matches)?;
     let is_other_read = is_read(given, arguments, "OUT", b"OUT") == Some(true);
     Some((is_other_read, is_read(given, arguments, "IN", name)))
@@ -216,7 +227,9 @@ fn names_of_files_are_judged(rt: HostRuntime) {
 
 // The cap that words give.
 fn cap_of(alloc: Global, words: &[&str]) -> Option<usize> {
-    let matches = matched(alloc, words).ok()?;
+    let Ok(matches) = matched(alloc, words) else {
+        return None;
+    };
     Some(cap(given_of(&matches)?))
 }
 
@@ -296,7 +309,9 @@ fn have_names(scripts: &[Script<'_>], names: &[&str]) -> bool {
 
 // Do words name these scripts, in this order?
 fn names_scripts(alloc: Global, words: &[&str], names: &[&str]) -> Option<bool> {
-    let matches = matched(alloc, words).ok()?;
+    let Ok(matches) = matched(alloc, words) else {
+        return None;
+    };
     match scripts(alloc, given_of(&matches)?) {
         Ok(scripts) => Some(have_names(&scripts, names)),
         Err(_) => None,
@@ -331,7 +346,9 @@ const PLAIN: &str = "--memory=1";
 // Is what is given to an edit good?
 fn is_good_edit(alloc: Global, given: &ArgMatches<'_>) -> Option<bool> {
     let is_strict = given.get_flag("strict");
-    let escape = escape_of(given).ok()?;
+    let Ok(escape) = escape_of(given) else {
+        return None;
+    };
     Some(
         pages(given).is_ok()
             && settings(alloc, given, escape).is_ok()
@@ -343,7 +360,9 @@ fn is_good_edit(alloc: Global, given: &ArgMatches<'_>) -> Option<bool> {
 fn is_edit(alloc: Global, word: &str, names: &[&str; 3]) -> Option<bool> {
     let [library, source, target] = *names;
     let words = ["teco", "apply", word, library, "A", source, target];
-    let matches = matched(alloc, &words).ok()?;
+    let Ok(matches) = matched(alloc, &words) else {
+        return None;
+    };
     is_good_edit(alloc, given_of(&matches)?)
 }
 

@@ -152,62 +152,66 @@ fn agrees(stop: Stop, progress: Progress) -> bool {
     }
 }
 
-// What a run leaves.
+// How a run stopped, and what it left.
 #[derive(Drop)]
 struct Left {
-    steps: u64,
-    site: Site,
+    stopped: Stopped,
     typed: Vec<u8>,
     dot: usize,
 }
 
 impl Left {
-    fn is_same(&self, other: &Left) -> bool {
-        self.steps == other.steps
-            && self.site == other.site
-            && self.typed.as_slice() == other.typed.as_slice()
-            && self.dot == other.dot
+    // Do so many steps come to the same, there?
+    fn is_by(&self, steps: u64, site: Site, progress: Progress) -> bool {
+        let is_there = self.stopped.steps == steps && self.stopped.site == site;
+        is_there && agrees(self.stopped.stop, progress)
+    }
+
+    // Is it what a machine has?
+    fn is_of(&self, machine: &mut Machine<VecText>) -> bool {
+        has_typed(machine, &self.typed) && machine.dot() == self.dot
     }
 }
 
-// Runs a command string on a new machine: what it leaves, and what it answers.
-fn left_by_run(alloc: Global, command: &[u8], limit: u64) -> (Left, Stop) {
+// Runs a command string on a new machine.
+fn left_by_run(alloc: Global, command: &[u8], limit: u64) -> Left {
     let (mut machine, stopped) = run_surely(alloc, command, limit);
-    let left = Left {
-        steps: stopped.steps,
-        site: stopped.site,
+    Left {
+        stopped,
         typed: machine.take_typed(),
         dot: machine.dot(),
-    };
-    (left, stopped.stop)
+    }
 }
 
-// Does steps of a command string on a new machine: what they leave, and what the last came to.
-fn left_by_steps(alloc: Global, command: &[u8], limit: u64) -> Result<(Left, Progress), AllocError>
+// Do steps of a command string leave the same? None where memory was refused.
+fn is_left_by_steps(
+    machine: &mut Machine<VecText>,
+    host: &mut MemHost,
+    command: &[u8],
+    limit: u64,
+    left: &Left,
+) -> Option<bool>
     requires { length command.now ≤ LIMIT }
 {
-    let mut machine = Machine::new(alloc, VecText::new(alloc));
-    let mut host = MemHost::new(alloc);
-    let mut execution = machine.begin(command)?;
-    let (steps, progress) = step_on(&mut machine, &mut execution, limit, &mut host);
-    let left = Left {
-        steps,
-        site: execution.site(),
-        typed: machine.take_typed(),
-        dot: machine.dot(),
+    let Ok(mut execution) = machine.begin(command) else {
+        return None;
     };
-    Ok((left, progress))
+    let (steps, progress) = step_on(machine, &mut execution, limit, host);
+    let is_by = left.is_by(steps, execution.site(), progress);
+    match progress {
+        Progress::Memory => None,
+        _ => Some(left.is_of(machine) && is_by),
+    }
 }
 
 // Are the steps of a command string a run of that limit? None where memory was refused.
 fn are_steps_a_run(alloc: Global, command: &[u8], limit: u64) -> Option<bool>
     requires { length command.now ≤ LIMIT }
 {
-    let (ran, stop) = left_by_run(alloc, command, limit);
-    match left_by_steps(alloc, command, limit) {
-        Ok((_, Progress::Memory)) | Err(_) => None,
-        Ok((stepped, progress)) => Some(stepped.is_same(&ran) && agrees(stop, progress)),
-    }
+    let left = left_by_run(alloc, command, limit);
+    let mut machine = Machine::new(alloc, VecText::new(alloc));
+    let mut host = MemHost::new(alloc);
+    is_left_by_steps(&mut machine, &mut host, command, limit, &left)
 }
 
 // They are, up to each of some limits.
