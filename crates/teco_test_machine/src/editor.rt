@@ -4,7 +4,6 @@ mod searching;
 
 use std::alloc::Global;
 use std::process::Abort;
-use std::test::Fail;
 use teco_base::{Code, LIMIT, Reg};
 use teco_editor::{Editor, Stuck};
 use teco_lex::element;
@@ -53,6 +52,14 @@ fn execute_once(
     }
 }
 
+// The element at the beginning of a text.
+fn element_of<'t>(rt: &impl Abort, text: &'t [u8]) -> Element<'t> {
+    let Ok(Some(element)) = element(text, 0) else {
+        panic!(rt; "no element")
+    };
+    element
+}
+
 // Executes the element of a text with these arguments, the one before the comma first. This is what
 // it answers.
 fn expect(
@@ -66,9 +73,7 @@ fn expect(
         first: arguments.0,
         value: arguments.1,
     };
-    let Ok(Some(element)) = element(text, 0) else {
-        panic!(rt; "no element")
-    };
+    let element = element_of(rt, text);
     let mut done = execute_once(editor, element.kind, &element, taken);
     if let Err(Stuck::Memory) = done {
         done = execute_once(editor, element.kind, &element, taken);
@@ -76,18 +81,50 @@ fn expect(
     assert!(rt; matches!(done, Ok(answer) if answer == want));
 }
 
+// It is so.
+fn expect_so(rt: &impl Abort, is_so: bool, what: &str) {
+    assert!(rt; is_so, "{what}");
+}
+
+// These bytes are those.
+fn expect_bytes(rt: &impl Abort, found: &[u8], wanted: &[u8]) {
+    assert!(rt; found == wanted, "{found:?}");
+}
+
+// An editor with no text.
+fn empty(alloc: Global) -> Editor<VecText> {
+    Editor::new(alloc, VecText::new(alloc))
+}
+
+fn is_text(editor: &Editor<VecText>, text: &[u8]) -> bool {
+    let (front, back) = editor.text();
+    text.starts_with(front) && text.ends_with(back) && editor.size() == text.len()
+}
+
 // The editor has this text and this pointer.
 fn expect_text(rt: &impl Abort, editor: &Editor<VecText>, text: &[u8], dot: usize) {
-    let (front, back) = editor.text();
-    assert!(rt; front.len() <= text.len());
-    assert_eq!(rt; front, &text[..front.len()]);
-    assert_eq!(rt; back, &text[front.len()..]);
-    assert_eq!(rt; (editor.size(), editor.dot()), (text.len(), dot));
+    assert!(rt; is_text(editor, text) && editor.dot() == dot, "{text:?}");
+}
+
+// This was typed.
+fn expect_typed(rt: &impl Abort, editor: &mut Editor<VecText>, typed: &[u8]) {
+    let taken = editor.take_typed();
+    expect_bytes(rt, &taken, typed);
+}
+
+// The last length is this.
+fn expect_length(rt: &impl Abort, editor: &Editor<VecText>, length: usize) {
+    expect_so(rt, editor.last_length() == length, "the last length");
+}
+
+// This is the search text.
+fn expect_search_text(rt: &impl Abort, editor: &Editor<VecText>, text: &[u8]) {
+    expect_bytes(rt, editor.search_text(), text);
 }
 
 #[test]
-fn commands_in_turn(rt: HostRuntime) -> Result<(), Fail> {
-    let mut editor = Editor::new(rt.alloc(), VecText::new(rt.alloc()));
+fn commands_in_turn(rt: HostRuntime) {
+    let mut editor = empty(rt.alloc());
     expect(&rt, &mut editor, b"Iabc\x1b", (None, None), None);
     expect(&rt, &mut editor, b"\td\x1b", (None, None), None);
     expect(&rt, &mut editor, b":R", (None, Some(5)), Some(-1));
@@ -97,16 +134,15 @@ fn commands_in_turn(rt: HostRuntime) -> Result<(), Fail> {
     expect(&rt, &mut editor, b"^T", (None, Some(321)), None);
     expect(&rt, &mut editor, b":==", (None, Some(255)), None);
     expect_text(&rt, &editor, b"bc\td", 0);
-    assert_eq!(rt; editor.last_length(), 2);
-    assert_eq!(rt; editor.take_typed().as_slice(), &b"c\txA377"[..]);
-    assert_eq!(rt; editor.take_typed().len(), 0);
-    Ok(())
+    expect_length(&rt, &editor, 2);
+    expect_typed(&rt, &mut editor, b"c\txA377");
+    expect_typed(&rt, &mut editor, b"");
 }
 
 // The text is three lines, with the pointer in the second.
 #[test]
-fn lines(rt: HostRuntime) -> Result<(), Fail> {
-    let mut editor = Editor::new(rt.alloc(), VecText::new(rt.alloc()));
+fn lines(rt: HostRuntime) {
+    let mut editor = empty(rt.alloc());
     expect(&rt, &mut editor, b"Iab\ncd\nef\x1b", (None, None), None);
     expect(&rt, &mut editor, b"L", (None, Some(-1)), None);
     expect(&rt, &mut editor, b"C", (None, None), None);
@@ -114,114 +150,163 @@ fn lines(rt: HostRuntime) -> Result<(), Fail> {
     expect(&rt, &mut editor, b"V", (None, Some(2)), None);
     expect(&rt, &mut editor, b"T", (None, Some(0)), None);
     expect_text(&rt, &editor, b"ab\ncd\nef", 4);
-    assert_eq!(rt; editor.take_typed().as_slice(), &b"cd\nab\ncd\nefc"[..]);
+    expect_typed(&rt, &mut editor, b"cd\nab\ncd\nefc");
     expect(&rt, &mut editor, b"K", (None, None), None);
     expect(&rt, &mut editor, b"K", (None, Some(-1)), None);
     expect_text(&rt, &editor, b"ef", 0);
-    Ok(())
+}
+
+// A register has this number and this text, and all texts have so many characters.
+fn expect_register(
+    rt: &impl Abort,
+    editor: &Editor<VecText>,
+    number: i32,
+    text: &[u8],
+    held: u128,
+) {
+    let register = Reg::of(b'q').expect(rt, "a register");
+    expect_so(rt, editor.regs().number(register) == number, "its number");
+    expect_bytes(rt, editor.regs().text(register), text);
+    expect_so(rt, editor.held() == held, "what is held");
+}
+
+// Parts of the text go into a register.
+fn store(rt: &impl Abort, editor: &mut Editor<VecText>) {
+    expect(rt, editor, b"Iab\ncd\x1b", (None, None), None);
+    expect(rt, editor, b"J", (None, None), None);
+    expect(rt, editor, b"XQ", (None, None), None);
+    expect(rt, editor, b":XQ", (Some(3), Some(5)), None);
+    expect(rt, editor, b"QQ", (None, Some(3)), Some(99));
+    expect(rt, editor, b"QQ", (None, Some(5)), Some(-1));
+    expect(rt, editor, b"XQ", (Some(1), Some(0)), None);
+    expect(rt, editor, b":GQ", (None, None), None);
+}
+
+// A number and a text go into it, and are pushed and popped.
+fn push_and_pop(rt: &impl Abort, editor: &mut Editor<VecText>) {
+    expect(rt, editor, b"^UQx\x1b", (None, None), None);
+    expect(rt, editor, b":^UQyz\x1b", (None, None), None);
+    expect(rt, editor, b"UQ", (None, Some(5)), None);
+    expect(rt, editor, b"%Q", (None, None), Some(6));
+    expect(rt, editor, b"[Q", (None, None), None);
+    expect(rt, editor, b"%Q", (None, Some(-8)), Some(-2));
+    expect(rt, editor, b"^UQ\x1b", (None, None), None);
+    expect(rt, editor, b"]Q", (None, None), None);
+    expect(rt, editor, b"GQ", (None, None), None);
+    expect(rt, editor, b"[Q", (None, None), None);
 }
 
 #[test]
-fn registers(rt: HostRuntime) -> Result<(), Fail> {
-    let mut editor = Editor::new(rt.alloc(), VecText::new(rt.alloc()));
-    let reg = Reg::of(b'q').expect(&rt, "a register");
-    expect(&rt, &mut editor, b"Iab\ncd\x1b", (None, None), None);
-    expect(&rt, &mut editor, b"J", (None, None), None);
-    expect(&rt, &mut editor, b"XQ", (None, None), None);
-    expect(&rt, &mut editor, b":XQ", (Some(3), Some(5)), None);
-    expect(&rt, &mut editor, b"QQ", (None, Some(3)), Some(99));
-    expect(&rt, &mut editor, b"QQ", (None, Some(5)), Some(-1));
-    expect(&rt, &mut editor, b"XQ", (Some(1), Some(0)), None);
-    expect(&rt, &mut editor, b":GQ", (None, None), None);
-    expect(&rt, &mut editor, b"^UQx\x1b", (None, None), None);
-    expect(&rt, &mut editor, b":^UQyz\x1b", (None, None), None);
-    expect(&rt, &mut editor, b"UQ", (None, Some(5)), None);
-    expect(&rt, &mut editor, b"%Q", (None, None), Some(6));
-    expect(&rt, &mut editor, b"[Q", (None, None), None);
-    expect(&rt, &mut editor, b"%Q", (None, Some(-8)), Some(-2));
-    expect(&rt, &mut editor, b"^UQ\x1b", (None, None), None);
-    expect(&rt, &mut editor, b"]Q", (None, None), None);
-    expect(&rt, &mut editor, b"GQ", (None, None), None);
-    expect(&rt, &mut editor, b"[Q", (None, None), None);
+fn registers(rt: HostRuntime) {
+    let mut editor = empty(rt.alloc());
+    store(&rt, &mut editor);
+    push_and_pop(&rt, &mut editor);
     expect_text(&rt, &editor, b"xyzab\ncd", 3);
-    assert_eq!(rt; editor.last_length(), 3);
-    assert_eq!(rt; editor.regs().number(reg), 6);
-    assert_eq!(rt; editor.regs().text(reg), &b"xyz"[..]);
-    assert_eq!(rt; editor.held(), 14);
-    assert_eq!(rt; editor.take_typed().as_slice(), &b"a"[..]);
-    Ok(())
+    expect_length(&rt, &editor, 3);
+    expect_register(&rt, &editor, 6, b"xyz", 14);
+    expect_typed(&rt, &mut editor, b"a");
+}
+
+// At a place stands this number, which ends there.
+fn expect_number(
+    rt: &impl Abort,
+    editor: &mut Editor<VecText>,
+    place: usize,
+    number: i32,
+    end: usize,
+) {
+    assert!(rt; place <= editor.size());
+    editor.set_dot(place);
+    let reply = editor.query(Query::Conversion, 0);
+    assert!(rt; reply.value == number && reply.dot == end);
+}
+
+// So far from the pointer stands this character.
+fn expect_character(rt: &impl Abort, editor: &Editor<VecText>, distance: i32, character: i32) {
+    assert!(rt; editor.character(distance) == character);
 }
 
 // At a place stands this number, which ends there, and this character.
-fn expect_number(
+fn expect_there(
     rt: &impl Abort,
     editor: &mut Editor<VecText>,
     place: usize,
     number: (i32, usize),
     character: i32,
 ) {
-    assert!(rt; place <= editor.size());
-    editor.set_dot(place);
-    let reply = editor.query(Query::Conversion, 0);
-    assert!(rt; reply.value == number.0 && reply.dot == number.1);
-    assert!(rt; editor.character(0) == character);
+    expect_number(rt, editor, place, number.0, number.1);
+    expect_character(rt, editor, 0, character);
 }
 
 #[test]
-fn numbers_in_the_text(rt: HostRuntime) -> Result<(), Fail> {
-    let mut editor = Editor::new(rt.alloc(), VecText::new(rt.alloc()));
+fn numbers_in_the_text(rt: HostRuntime) {
+    let mut editor = empty(rt.alloc());
     expect(&rt, &mut editor, b"\\", (None, Some(-12)), None);
     expect(&rt, &mut editor, b"J", (None, None), None);
     expect(&rt, &mut editor, b"\\", (None, None), Some(-12));
     expect(&rt, &mut editor, b"I+7-x4294967297\x1b", (None, None), None);
     expect_text(&rt, &editor, b"-12+7-x4294967297", 17);
-    expect_number(&rt, &mut editor, 0, (-12, 3), 45);
-    expect_number(&rt, &mut editor, 1, (12, 3), 49);
-    expect_number(&rt, &mut editor, 3, (7, 5), 43);
-    expect_number(&rt, &mut editor, 5, (0, 5), 45);
-    expect_number(&rt, &mut editor, 6, (0, 6), 120);
-    expect_number(&rt, &mut editor, 7, (1, 17), 52);
-    expect_number(&rt, &mut editor, 17, (0, 17), -1);
-    assert_eq!(rt; editor.character(-17), 45);
-    assert_eq!(rt; editor.character(-18), -1);
-    Ok(())
+    expect_there(&rt, &mut editor, 0, (-12, 3), 45);
+    expect_there(&rt, &mut editor, 1, (12, 3), 49);
+    expect_there(&rt, &mut editor, 3, (7, 5), 43);
+    expect_there(&rt, &mut editor, 5, (0, 5), 45);
+    expect_there(&rt, &mut editor, 6, (0, 6), 120);
+    expect_there(&rt, &mut editor, 7, (1, 17), 52);
+    expect_there(&rt, &mut editor, 17, (0, 17), -1);
+    expect_character(&rt, &editor, -17, 45);
+    expect_character(&rt, &editor, -18, -1);
 }
 
-// What searches leave; a call that is refused memory is made once more.
+// A search text is kept; a call that is refused memory is made once more.
+fn keep(rt: &impl Abort, editor: &mut Editor<VecText>, text: &[u8]) {
+    if editor.keep_search_text(text).is_err() {
+        let again = editor.keep_search_text(text);
+        assert!(rt; again.is_ok());
+    }
+}
+
+// The pointer goes behind a match.
+fn go_behind(rt: &impl Abort, editor: &mut Editor<VecText>, found: Span) {
+    assert!(rt; found.start <= found.end && found.end <= editor.size());
+    editor.go_behind(found);
+}
+
+// Replaces a match.
+fn replace(rt: &impl Abort, editor: &mut Editor<VecText>, found: Span, new: &[u8], text: &[u8]) {
+    assert!(rt; found.start <= found.end && found.end <= editor.size());
+    let mut done = editor.replace(found, new, text);
+    if done.is_err() && found.end <= editor.size() {
+        done = editor.replace(found, new, text);
+    }
+    assert!(rt; done.is_ok());
+}
+
+// A text is missed, and a message typed.
+fn miss(rt: &impl Abort, editor: &mut Editor<VecText>, text: &[u8], message: &[u8]) {
+    if editor.miss(text, message).is_err() {
+        let again = editor.miss(text, message);
+        assert!(rt; again.is_ok());
+    }
+}
+
+// What searches leave.
 #[test]
-fn searches_leave_their_text(rt: HostRuntime) -> Result<(), Fail> {
-    let mut store = VecText::new(rt.alloc());
-    if store.insert(b"abcab").is_err() {
-        store.insert(b"abcab").expect(&rt, "memory");
-    }
-    let mut editor = Editor::new(rt.alloc(), store);
-    if editor.keep_search_text(b"bc").is_err() {
-        editor.keep_search_text(b"bc").expect(&rt, "memory");
-    }
-    assert!(rt; editor.keep_search_text(b"").is_ok());
-    assert_eq!(rt; editor.search_text(), &b"bc"[..]);
-    assert_eq!(rt; editor.mode(), 0);
-    if editor.size() < 3 {
-        return Ok(());
-    }
-    editor.go_behind(Span { start: 1, end: 3 });
+fn searches_leave_their_text(rt: HostRuntime) {
+    let mut editor = empty(rt.alloc());
+    expect(&rt, &mut editor, b"Iabcab\x1b", (None, None), None);
+    keep(&rt, &mut editor, b"bc");
+    keep(&rt, &mut editor, b"");
+    expect_search_text(&rt, &editor, b"bc");
+    expect_so(&rt, editor.mode() == 0, "the mode");
+    go_behind(&rt, &mut editor, Span { start: 1, end: 3 });
     expect_text(&rt, &editor, b"abcab", 3);
-    assert_eq!(rt; editor.last_length(), 2);
-    let found = Span { start: 0, end: 2 };
-    if editor.replace(found, b"XYZ", b"ab").is_err() && editor.size() >= 2 {
-        editor
-            .replace(found, b"XYZ", b"ab")
-            .map_err(|_| ())
-            .expect(&rt, "memory");
-    }
+    expect_length(&rt, &editor, 2);
+    replace(&rt, &mut editor, Span { start: 0, end: 2 }, b"XYZ", b"ab");
     expect_text(&rt, &editor, b"XYZcab", 3);
-    assert_eq!(rt; editor.search_text(), &b"ab"[..]);
-    if editor.miss(b"q", b"no").is_err() {
-        editor.miss(b"q", b"no").expect(&rt, "memory");
-    }
+    expect_search_text(&rt, &editor, b"ab");
+    miss(&rt, &mut editor, b"q", b"no");
     expect_text(&rt, &editor, b"XYZcab", 0);
-    assert_eq!(rt; editor.take_typed().as_slice(), &b"no"[..]);
-    Ok(())
+    expect_typed(&rt, &mut editor, b"no");
 }
 
 // A page that was read.
@@ -239,76 +324,117 @@ fn take_page(rt: &impl Abort, alloc: Global, editor: &mut Editor<VecText>) {
     assert!(rt; editor.take_page(page, true).is_empty());
 }
 
+// Two more characters are added to the buffer.
+fn add_page(rt: &impl Abort, editor: &mut Editor<VecText>) {
+    let mut done = editor.add_page(b"cd", false);
+    if done.is_err() {
+        done = editor.add_page(b"cd", false);
+    }
+    assert!(rt; done.is_ok());
+}
+
+// A form feed ended the page, or none did.
+fn expect_form_feed(rt: &impl Abort, editor: &Editor<VecText>, is_ended: bool) {
+    assert!(rt; editor.form_feed() == is_ended);
+}
+
 #[test]
 fn pages_come_into_the_buffer(rt: HostRuntime) {
-    let mut editor = Editor::new(rt.alloc(), VecText::new(rt.alloc()));
-    assert!(rt; !editor.form_feed());
+    let mut editor = empty(rt.alloc());
+    expect_form_feed(&rt, &editor, false);
     take_page(&rt, rt.alloc(), &mut editor);
     expect_text(&rt, &editor, b"ab", 0);
-    assert!(rt; editor.form_feed());
-    assert_eq!(rt; editor.size(), 2);
-    editor.set_dot(1);
-    if editor.add_page(b"cd", false).is_err() {
-        editor
-            .add_page(b"cd", false)
-            .map_err(|_| ())
-            .expect(&rt, "memory");
-    }
+    expect_form_feed(&rt, &editor, true);
+    expect(&rt, &mut editor, b"C", (None, None), None);
+    add_page(&rt, &mut editor);
     expect_text(&rt, &editor, b"abcd", 1);
-    assert!(rt; !editor.form_feed());
+    expect_form_feed(&rt, &editor, false);
     take_page(&rt, rt.alloc(), &mut editor);
     expect_text(&rt, &editor, b"ab", 0);
+}
+
+#[test]
+fn ranges_are_told(rt: HostRuntime) {
+    let mut editor = empty(rt.alloc());
+    take_page(&rt, rt.alloc(), &mut editor);
+    let range = editor.range_text(2, 1);
+    let is_told = range == Ok((b"b".as_slice(), b"".as_slice()));
+    expect_so(&rt, is_told, "the second character");
+    let refused = editor.range_text(0, 3);
+    expect_so(&rt, matches!(refused, Err(Code::Pop)), "no range");
 }
 
 // A host with an open output.
 fn open_host(rt: &impl Abort, alloc: Global, pages: &mut Pages) -> MemHost {
     let mut host = MemHost::new(alloc);
     if pages.open_out(b"out", &mut host).is_err() {
-        pages
-            .open_out(b"out", &mut host)
-            .map_err(|_| ())
-            .expect(rt, "memory");
+        let again = pages.open_out(b"out", &mut host);
+        assert!(rt; again.is_ok());
     }
     host
 }
 
+// The buffer is written as a page, and stays; says whether memory lasted for it.
+fn writes(
+    rt: &impl Abort,
+    editor: &mut Editor<VecText>,
+    pages: &Pages,
+    host: &mut MemHost,
+) -> bool {
+    if editor.write_page(b"q", pages, host).is_err() {
+        return false;
+    }
+    expect_text(rt, editor, b"ab", 0);
+    expect_form_feed(rt, editor, true);
+    expect_search_text(rt, editor, b"q");
+    true
+}
+
+// It is written and becomes empty; says whether memory lasted for it.
+fn looks_through(
+    rt: &impl Abort,
+    editor: &mut Editor<VecText>,
+    pages: &Pages,
+    host: &mut MemHost,
+) -> bool {
+    if editor.look_through(b"", b"no", pages, host).is_err() {
+        return false;
+    }
+    expect_text(rt, editor, b"", 0);
+    expect_search_text(rt, editor, b"q");
+    expect_typed(rt, editor, b"no");
+    true
+}
+
+// Two pages were written, unless memory is refused where the output is closed.
+fn expect_closed(rt: &impl Abort, pages: &mut Pages, host: &mut MemHost) {
+    if pages.close_out(host).is_ok() {
+        let is_so = match host.file(b"out") {
+            Some(bytes) => bytes == b"ab\x0cab\x0c".as_slice(),
+            None => false,
+        };
+        expect_so(rt, is_so, "two pages");
+    }
+}
+
 #[test]
-fn pages_go_out_of_the_buffer(rt: HostRuntime) -> Result<(), Fail> {
-    let mut editor = Editor::new(rt.alloc(), VecText::new(rt.alloc()));
+fn pages_go_out_of_the_buffer(rt: HostRuntime) {
+    let mut editor = empty(rt.alloc());
     let mut pages = Pages::new(rt.alloc());
     let mut host = open_host(&rt, rt.alloc(), &mut pages);
     take_page(&rt, rt.alloc(), &mut editor);
-    let (front, back) = editor
-        .range_text(2, 1)
-        .map_err(|_| ())
-        .expect(&rt, "a range");
-    assert_eq!(rt; (front, back), (&b"b"[..], &b""[..]));
-    assert!(rt; matches!(editor.range_text(0, 3), Err(Code::Pop)));
-    if editor.write_page(b"q", &pages, &mut host).is_err() {
-        // a write may have been refused memory
-        return Ok(());
+    if writes(&rt, &mut editor, &pages, &mut host)
+        && looks_through(&rt, &mut editor, &pages, &mut host)
+    {
+        expect_closed(&rt, &mut pages, &mut host);
     }
-    expect_text(&rt, &editor, b"ab", 0);
-    assert!(rt; editor.form_feed());
-    assert_eq!(rt; editor.search_text(), &b"q"[..]);
-    if editor.look_through(b"", b"no", &pages, &mut host).is_err() {
-        return Ok(());
-    }
-    expect_text(&rt, &editor, b"", 0);
-    assert_eq!(rt; editor.search_text(), &b"q"[..]);
-    assert_eq!(rt; editor.take_typed().as_slice(), &b"no"[..]);
-    if pages.close_out(&mut host).is_err() {
-        return Ok(());
-    }
-    assert_eq!(rt; host.file(b"out"), Some(&b"ab\x0cab\x0c"[..]));
-    Ok(())
 }
 
 #[test]
 fn the_buffer_is_left(rt: HostRuntime) {
-    let mut editor = Editor::new(rt.alloc(), VecText::new(rt.alloc()));
+    let mut editor = empty(rt.alloc());
     take_page(&rt, rt.alloc(), &mut editor);
     editor.leave_page();
     expect_text(&rt, &editor, b"", 0);
-    assert!(rt; !editor.form_feed());
+    expect_form_feed(&rt, &editor, false);
 }

@@ -1,7 +1,8 @@
 // Commands of pages and files on an editor over files in memory. Expected bytes are worked by hand
 // from the rules.
+use std::alloc::Global;
 use std::process::Abort;
-use std::test::Fail;
+use teco_base::Code;
 use teco_editor::Editor;
 use teco_filing::{
     Halt, abandon_output, append, close_output, copy_all, exit, has_unread, look_through,
@@ -9,9 +10,91 @@ use teco_filing::{
 };
 use teco_model::HostFault;
 use teco_pages::{MemHost, Pages};
-use teco_text::{TextStore, VecText};
+use teco_text::VecText;
 
 const TWO_PAGES: &[u8] = b"ab\x0ccd";
+
+// An editor with its open files, and all files.
+#[derive(Drop)]
+struct Desk {
+    editor: Editor<VecText>,
+    pages: Pages,
+    host: MemHost,
+}
+
+// A host with a file of two pages.
+fn host_of(rt: &impl Abort, alloc: Global) -> MemHost {
+    let mut host = MemHost::new(alloc);
+    if host.put(b"in", TWO_PAGES).is_err() {
+        let again = host.put(b"in", TWO_PAGES);
+        assert!(rt; again.is_ok());
+    }
+    host
+}
+
+// An editor with no text and no open file, beside a file of two pages.
+fn new_desk(rt: &impl Abort, alloc: Global) -> Desk {
+    Desk {
+        editor: Editor::new(alloc, VecText::new(alloc)),
+        pages: Pages::new(alloc),
+        host: host_of(rt, alloc),
+    }
+}
+
+// What is done there.
+#[derive(Clone, Copy)]
+enum Deed {
+    OpenInput(&'static [u8]),
+    OpenOutput(&'static [u8]),
+    CloseOutput,
+    AbandonOutput,
+    Yank,
+    Append,
+    TurnPage,
+    WritePage,
+    WriteRange(i32, i32),
+    LookThrough,
+    CopyAll,
+    Exit,
+}
+
+// Does something to the output; there is none, or it is done.
+fn put_out(desk: &mut Desk, deed: Deed) -> Result<(), Halt> {
+    if desk.pages.output_name().is_none() {
+        return Err(Halt::Code(Code::Nfo));
+    }
+    match deed {
+        Deed::TurnPage => turn_page(&mut desk.editor, &mut desk.pages, &[], &mut desk.host),
+        Deed::WriteRange(m, n) => write_range(&desk.editor, &desk.pages, m, n, &mut desk.host),
+        Deed::LookThrough => {
+            look_through(&mut desk.editor, &desk.pages, b"cd", b"!", &mut desk.host)
+        }
+        _ => write_page(&desk.editor, &desk.pages, &mut desk.host),
+    }
+}
+
+// Opens a file, or lets go of one.
+fn turn_to(desk: &mut Desk, deed: Deed) -> Result<(), Halt> {
+    match deed {
+        Deed::OpenInput(name) => open_input(&mut desk.pages, name, &mut desk.host),
+        Deed::OpenOutput(name) => open_output(&mut desk.pages, name, &mut desk.host),
+        Deed::CloseOutput => close_output(&mut desk.pages, &mut desk.host),
+        _ => abandon_output(&mut desk.pages, &mut desk.host),
+    }
+}
+
+fn perform(desk: &mut Desk, deed: Deed) -> Result<(), Halt> {
+    match deed {
+        Deed::Yank => yank(&mut desk.editor, &mut desk.pages, &mut desk.host),
+        Deed::Append => append(&mut desk.editor, &mut desk.pages, &mut desk.host),
+        Deed::CopyAll => copy_all(&mut desk.editor, &mut desk.pages, &mut desk.host),
+        Deed::Exit => exit(&mut desk.editor, &mut desk.pages, &mut desk.host),
+        Deed::TurnPage | Deed::WritePage | Deed::WriteRange(_, _) | Deed::LookThrough => {
+            put_out(desk, deed)
+        }
+        _ => turn_to(desk, deed),
+    }
+}
 
 // What came of a command, in a word.
 fn word(done: Result<(), Halt>) -> &'static [u8] {
@@ -25,92 +108,71 @@ fn word(done: Result<(), Halt>) -> &'static [u8] {
     }
 }
 
-fn is_text<T: TextStore>(editor: &Editor<T>, text: &[u8]) -> bool {
+fn is_text(editor: &Editor<VecText>, text: &[u8]) -> bool {
     let (front, back) = editor.text();
     text.starts_with(front) && text.ends_with(back) && editor.size() == text.len()
 }
 
-// A command was done, and left this text.
-fn expect<T: TextStore>(rt: &impl Abort, done: Result<(), Halt>, editor: &Editor<T>, text: &[u8]) {
-    assert!(rt; done.is_ok() && is_text(editor, text));
+// A command comes to this, and leaves this text.
+fn expect(rt: &impl Abort, desk: &mut Desk, deed: Deed, want: &[u8], text: &[u8]) {
+    let done = perform(desk, deed);
+    assert!(rt;
+        word(done) == want && is_text(&desk.editor, text),
+        "{want:?} and {text:?}"
+    );
 }
 
-// A command was refused with this word.
-fn expect_word(rt: &impl Abort, done: Result<(), Halt>, want: &[u8]) {
-    assert!(rt; word(done) == want);
+// A file has these bytes, or is not there.
+fn expect_file(rt: &impl Abort, desk: &Desk, name: &[u8], bytes: Option<&[u8]>) {
+    let found = desk.host.file(name);
+    assert!(rt; found == bytes, "{name:?}");
 }
 
-// What an output or a file has.
-fn expect_bytes(rt: &impl Abort, got: Option<&[u8]>, want: &[u8]) {
-    assert!(rt; got.is_some_and(|bytes| bytes == want));
+// Something of the input is still to be read.
+fn expect_unread(rt: &impl Abort, desk: &mut Desk) {
+    let unread = has_unread(&mut desk.pages, &mut desk.host);
+    assert!(rt; matches!(unread, Ok(true)));
 }
 
-#[test]
-fn pages_are_read_turned_and_written(rt: HostRuntime) -> Result<(), Fail> {
-    let alloc = rt.alloc();
-    let mut host = MemHost::new(alloc);
-    host.put(b"in", TWO_PAGES)?;
-    let mut editor = Editor::new(alloc, VecText::new(alloc));
-    let mut pages = Pages::new(alloc);
-    let done = open_input(&mut pages, b"in", &mut host);
-    expect(&rt, done, &editor, b"");
-    let done = open_output(&mut pages, b"out", &mut host);
-    expect(&rt, done, &editor, b"");
-    let done = yank(&mut editor, &mut pages, &mut host);
-    expect(&rt, done, &editor, b"ab");
-    expect_word(&rt, yank(&mut editor, &mut pages, &mut host), b"YCA");
-    assert!(rt; has_unread(&mut pages, &mut host).is_ok_and(|some| some));
-    if pages.output_name().is_some() {
-        let done = turn_page(&mut editor, &mut pages, &[], &mut host);
-        expect(&rt, done, &editor, b"cd");
-    }
-    if pages.output_name().is_some() {
-        expect(&rt, write_page(&editor, &pages, &mut host), &editor, b"cd");
-        expect(
-            &rt,
-            write_range(&editor, &pages, 0, 1, &mut host),
-            &editor,
-            b"cd",
-        );
-        expect_word(&rt, write_range(&editor, &pages, 0, 3, &mut host), b"POP");
-        let done = look_through(&mut editor, &pages, b"cd", b"!", &mut host);
-        expect(&rt, done, &editor, b"");
-    }
-    expect_bytes(&rt, Some(&editor.take_typed()), b"!");
-    let done = copy_all(&mut editor, &mut pages, &mut host);
-    expect(&rt, done, &editor, b"");
-    expect_bytes(&rt, host.file(b"out"), b"ab\x0ccd\x0cccd");
-    Ok(())
+// This was typed.
+fn expect_typed(rt: &impl Abort, desk: &mut Desk, typed: &[u8]) {
+    let taken = desk.editor.take_typed();
+    assert!(rt; taken.as_slice() == typed, "{typed:?}");
 }
 
 #[test]
-fn files_are_opened_and_let_go(rt: HostRuntime) -> Result<(), Fail> {
-    let alloc = rt.alloc();
-    let mut host = MemHost::new(alloc);
-    host.put(b"in", TWO_PAGES)?;
-    let mut editor = Editor::new(alloc, VecText::new(alloc));
-    let mut pages = Pages::new(alloc);
-    expect_word(&rt, append(&mut editor, &mut pages, &mut host), b"NFI");
-    expect_word(&rt, open_input(&mut pages, b"no", &mut host), b"no file");
-    let done = open_input(&mut pages, b"in", &mut host);
-    expect(&rt, done, &editor, b"");
-    let done = append(&mut editor, &mut pages, &mut host);
-    expect(&rt, done, &editor, b"ab");
-    let done = append(&mut editor, &mut pages, &mut host);
-    expect(&rt, done, &editor, b"abcd");
-    expect_word(&rt, open_output(&mut pages, b"in", &mut host), b"ARG");
-    expect_word(&rt, close_output(&mut pages, &mut host), b"NFO");
-    let done = open_output(&mut pages, b"a", &mut host);
-    expect(&rt, done, &editor, b"abcd");
-    let done = abandon_output(&mut pages, &mut host);
-    expect(&rt, done, &editor, b"abcd");
-    assert!(rt; host.file(b"a").is_none());
-    let done = open_output(&mut pages, b"b", &mut host);
-    expect(&rt, done, &editor, b"abcd");
-    let done = close_output(&mut pages, &mut host);
-    expect(&rt, done, &editor, b"abcd");
-    expect_bytes(&rt, host.file(b"b"), b"");
-    let done = exit(&mut editor, &mut pages, &mut host);
-    expect(&rt, done, &editor, b"abcd");
-    Ok(())
+fn pages_are_read_turned_and_written(rt: HostRuntime) {
+    let mut desk = new_desk(&rt, rt.alloc());
+    expect(&rt, &mut desk, Deed::OpenInput(b"in"), b"done", b"");
+    expect(&rt, &mut desk, Deed::OpenOutput(b"out"), b"done", b"");
+    expect(&rt, &mut desk, Deed::Yank, b"done", b"ab");
+    expect(&rt, &mut desk, Deed::Yank, b"YCA", b"ab");
+    expect_unread(&rt, &mut desk);
+    expect(&rt, &mut desk, Deed::TurnPage, b"done", b"cd");
+    expect(&rt, &mut desk, Deed::WritePage, b"done", b"cd");
+    expect(&rt, &mut desk, Deed::WriteRange(0, 1), b"done", b"cd");
+    expect(&rt, &mut desk, Deed::WriteRange(0, 3), b"POP", b"cd");
+    expect(&rt, &mut desk, Deed::LookThrough, b"done", b"");
+    expect_typed(&rt, &mut desk, b"!");
+    expect(&rt, &mut desk, Deed::CopyAll, b"done", b"");
+    expect_file(&rt, &desk, b"out", Some(b"ab\x0ccd\x0cccd"));
+}
+
+#[test]
+fn files_are_opened_and_let_go(rt: HostRuntime) {
+    let mut desk = new_desk(&rt, rt.alloc());
+    expect(&rt, &mut desk, Deed::Append, b"NFI", b"");
+    expect(&rt, &mut desk, Deed::OpenInput(b"no"), b"no file", b"");
+    expect(&rt, &mut desk, Deed::OpenInput(b"in"), b"done", b"");
+    expect(&rt, &mut desk, Deed::Append, b"done", b"ab");
+    expect(&rt, &mut desk, Deed::Append, b"done", b"abcd");
+    expect(&rt, &mut desk, Deed::OpenOutput(b"in"), b"ARG", b"abcd");
+    expect(&rt, &mut desk, Deed::CloseOutput, b"NFO", b"abcd");
+    expect(&rt, &mut desk, Deed::OpenOutput(b"a"), b"done", b"abcd");
+    expect(&rt, &mut desk, Deed::AbandonOutput, b"done", b"abcd");
+    expect_file(&rt, &desk, b"a", None);
+    expect(&rt, &mut desk, Deed::OpenOutput(b"b"), b"done", b"abcd");
+    expect(&rt, &mut desk, Deed::CloseOutput, b"done", b"abcd");
+    expect_file(&rt, &desk, b"b", Some(b""));
+    expect(&rt, &mut desk, Deed::Exit, b"done", b"abcd");
 }

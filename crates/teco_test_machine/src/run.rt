@@ -43,6 +43,47 @@ fn is_text(machine: &Machine<VecText>, text: &[u8]) -> bool {
         .is_some_and(|behind| behind == back)
 }
 
+// Runs a command string of at most so many steps on a machine; once more, on another, where memory
+// was refused.
+fn answer_of(
+    machine: &mut Machine<VecText>,
+    alloc: Global,
+    command: &[u8],
+    limit: u64,
+) -> Result<u64, Code> {
+    let mut host = MemHost::new(alloc);
+    let got = answer(run(machine, &mut host, command, limit));
+    if got != Err(Code::Mem) {
+        return got;
+    }
+    *machine = Machine::new(alloc, VecText::new(alloc));
+    answer(run(machine, &mut host, command, limit))
+}
+
+// Has a machine typed this?
+fn has_typed(machine: &mut Machine<VecText>, typed: &[u8]) -> bool {
+    let taken = machine.take_typed();
+    taken.as_slice() == typed
+}
+
+// Runs a command string of at most so many steps on a new machine: what it comes to, and whether it
+// types this and leaves this text and this pointer.
+fn run_anew(
+    alloc: Global,
+    command: &[u8],
+    limit: u64,
+    typed: &[u8],
+    left: (&[u8], usize),
+) -> (Result<u64, Code>, bool) {
+    let mut machine = Machine::new(alloc, VecText::new(alloc));
+    let mut host = MemHost::new(alloc);
+    let got = answer(run(&mut machine, &mut host, command, limit));
+    let is_left = is_text(&machine, left.0) && machine.dot() == left.1;
+    let is_typed = has_typed(&mut machine, typed);
+    let is_taken = has_typed(&mut machine, b"");
+    (got, is_left && is_typed && is_taken)
+}
+
 // Runs a command string of at most so many steps on a new machine. It comes to this, types this,
 // and leaves this text and this pointer.
 fn expect(
@@ -53,16 +94,11 @@ fn expect(
     typed: &[u8],
     left: (&[u8], usize),
 ) {
-    let mut machine = Machine::new(rt.alloc(), VecText::new(rt.alloc()));
-    let mut host = MemHost::new(rt.alloc());
-    let mut got = answer(run(&mut machine, &mut host, command, limit));
-    if got == Err(Code::Mem) {
-        machine = Machine::new(rt.alloc(), VecText::new(rt.alloc()));
-        got = answer(run(&mut machine, &mut host, command, limit));
+    let mut found = run_anew(rt.alloc(), command, limit, typed, left);
+    if found.0 == Err(Code::Mem) {
+        found = run_anew(rt.alloc(), command, limit, typed, left);
     }
-    assert!(rt; got == want && is_text(&machine, left.0) && machine.dot() == left.1);
-    assert!(rt; machine.take_typed().as_slice() == typed);
-    assert!(rt; machine.take_typed().is_empty());
+    assert!(rt; found.0 == want && found.1, "{command:?}");
 }
 
 #[test]
@@ -165,39 +201,71 @@ fn is_short(text: &Option<&[u8]>) -> bool
     }
 }
 
-fn load(machine: &mut Machine<VecText>, texts: [Option<&[u8]>; 36]) -> Result<(), AllocError> {
+fn load(machine: &mut Machine<VecText>, texts: &[Option<&[u8]>; 36]) -> Result<(), AllocError> {
     if texts.iter().all(is_short) {
-        machine.load(texts)?;
+        machine.load(*texts)?;
     }
     Ok(())
+}
+
+// A register has this number and this text.
+fn expect_register(
+    rt: &impl Abort,
+    machine: &Machine<VecText>,
+    name: u8,
+    number: i32,
+    text: &[u8],
+) {
+    let regs = machine.regs();
+    assert!(rt; regs.number(register(name)) == number && regs.text(register(name)) == text);
+}
+
+// The buffer and all texts have so many characters.
+fn expect_held(rt: &impl Abort, machine: &Machine<VecText>, held: u128) {
+    assert!(rt; machine.held() == held);
+}
+
+// A number goes into a register, and a text into another, which is pushed.
+fn expect_shown(rt: &impl Abort, machine: &mut Machine<VecText>, alloc: Global) {
+    let done = answer_of(machine, alloc, b"Iab\x1b5U9^UBcde\x1b[B\x1b\x1b", 100);
+    assert!(rt; done.is_ok());
+    expect_register(rt, machine, b'9', 5, b"");
+    expect_register(rt, machine, b'B', 0, b"cde");
+    expect_held(rt, machine, 8);
+}
+
+// Two texts are loaded, or nothing changes.
+fn expect_loaded(rt: &impl Abort, machine: &mut Machine<VecText>) {
+    let mut texts: [Option<&[u8]>; 36] = [None; 36];
+    texts[0] = Some(b"%9=");
+    texts[35] = Some(b"ninth");
+    if load(machine, &texts).is_err() {
+        expect_held(rt, machine, 8);
+        let again = load(machine, &texts);
+        assert!(rt; again.is_ok());
+    }
+}
+
+// The macro that was loaded types a number.
+fn expect_macro(rt: &impl Abort, machine: &mut Machine<VecText>, alloc: Global) {
+    let mut host = MemHost::new(alloc);
+    let mut stop = run(machine, &mut host, b"MA", 100);
+    if let Stop::Memory = stop {
+        stop = run(machine, &mut host, b"MA", 100);
+    }
+    let is_typed = has_typed(machine, b"6\r\n");
+    assert!(rt; is_typed && answer(stop).is_ok());
 }
 
 #[test]
 fn registers_are_shown_and_loaded(rt: HostRuntime) {
     let mut machine = Machine::new(rt.alloc(), VecText::new(rt.alloc()));
-    let mut host = MemHost::new(rt.alloc());
-    let command = b"Iab\x1b5U9^UBcde\x1b[B\x1b\x1b";
-    if let Stop::Memory = run(&mut machine, &mut host, command, 100) {
-        machine = Machine::new(rt.alloc(), VecText::new(rt.alloc()));
-        run(&mut machine, &mut host, command, 100);
-    }
-    assert_eq!(rt; machine.regs().number(register(b'9')), 5);
-    assert_eq!(rt; machine.regs().text(register(b'B')), b"cde".as_slice());
-    assert_eq!(rt; machine.held(), 8);
-    let mut texts: [Option<&[u8]>; 36] = [None; 36];
-    texts[0] = Some(b"%9=");
-    texts[35] = Some(b"ninth");
-    if load(&mut machine, texts).is_err() {
-        assert_eq!(rt; machine.held(), 8);
-        assert!(rt; load(&mut machine, texts).is_ok());
-    }
-    assert_eq!(rt; machine.held(), 16);
-    assert_eq!(rt; machine.regs().text(register(b'B')), b"cde".as_slice());
-    assert_eq!(rt; machine.regs().text(register(b'9')), b"ninth".as_slice());
-    if let Stop::Memory = run(&mut machine, &mut host, b"MA", 100) {
-        run(&mut machine, &mut host, b"MA", 100);
-    }
-    assert_eq!(rt; machine.take_typed().as_slice(), b"6\r\n".as_slice());
+    expect_shown(&rt, &mut machine, rt.alloc());
+    expect_loaded(&rt, &mut machine);
+    expect_held(&rt, &machine, 16);
+    expect_register(&rt, &machine, b'B', 0, b"cde");
+    expect_register(&rt, &machine, b'9', 5, b"ninth");
+    expect_macro(&rt, &mut machine, rt.alloc());
 }
 
 // Runs a command string on a new machine that may type so many bytes, and whose texts may take as
@@ -210,6 +278,12 @@ fn run_capped(alloc: Global, cap: usize, command: &[u8]) -> (Machine<VecText>, S
     (machine, stop)
 }
 
+// What a command string types under a cap, and how it stops.
+fn typed_under(alloc: Global, cap: usize, command: &[u8]) -> (Vec<u8>, Stop) {
+    let (mut machine, stop) = run_capped(alloc, cap, command);
+    (machine.take_typed(), stop)
+}
+
 // Under a cap a command string may type these bytes, and comes to this where no allocation fails.
 fn expect_capped(
     rt: &(impl Abort + AllocGlobal),
@@ -218,15 +292,12 @@ fn expect_capped(
     typed: &[u8],
     want: Result<u64, Code>,
 ) {
-    let (mut machine, stop) = run_capped(rt.alloc(), cap, command);
+    let (bytes, stop) = typed_under(rt.alloc(), cap, command);
+    let is_begun = typed.starts_with(&bytes);
+    let is_all = bytes.len() == typed.len();
     let got = answer(stop);
-    let bytes = machine.take_typed();
-    let is_refused = got == Err(Code::Mem);
-    assert!(rt;
-        (got == want && bytes.len() == typed.len()) || is_refused,
-        "{command:?}"
-    );
-    assert!(rt; typed.starts_with(&bytes), "{command:?}");
+    let is_so = got == Err(Code::Mem) || (got == want && is_all);
+    assert!(rt; is_begun && is_so, "{command:?}");
 }
 
 #[test]
@@ -238,13 +309,23 @@ fn caps_are_refused_growths(rt: HostRuntime) {
     expect_capped(&rt, 3, b"@^UA/abcd/:GA", b"", Err(Code::Mem));
     expect_capped(&rt, 5, b"@I/ab/<Sx\x1b>", b"", Err(Code::Mem));
     expect_capped(&rt, 100_000, b"@^UA/MA/MA", b"", Err(Code::Mem));
-    // as deep as the cap lets, and the next string runs
+}
+
+// A machine goes on as if nothing had been: no limit is met.
+fn expect_runs(rt: &impl Abort, machine: &mut Machine<VecText>, alloc: Global) {
+    let mut host = MemHost::new(alloc);
+    let got = answer(run(machine, &mut host, b"1U0", 10));
+    assert!(rt; got != Err(Code::Lim));
+}
+
+// Macros call one another as deep as the cap lets, and the next string runs.
+#[test]
+fn calls_are_as_deep_as_a_cap_lets(rt: HostRuntime) {
     let (mut machine, stop) = run_capped(rt.alloc(), 1_000_000, b"@^UA/%B-1000\"LMA'/MA");
     if let Stop::Memory = stop {
         machine.set_cap(1_000_000);
     } else {
-        assert_eq!(rt; machine.regs().number(register(b'B')), 1000);
+        expect_register(&rt, &machine, b'B', 1000, b"");
     }
-    let mut host = MemHost::new(rt.alloc());
-    assert!(rt; answer(run(&mut machine, &mut host, b"1U0", 10)) != Err(Code::Lim));
+    expect_runs(&rt, &mut machine, rt.alloc());
 }

@@ -111,21 +111,24 @@ const NAMES: [FileRow; 6] = [
 const EXAMPLES: [FileRow; 3] = [
     (
         b"one fish\ntwo fish\n\x0cred fish\nblue cow\n",
-        "!Every fish in the file in becomes a cat, in the file out!\nERin\x1b EWout\x1b Y\n<FNfish\x1bcat\x1b;>\nEC\x1b\x1b\n",
+        "!Every fish in the file in becomes a cat, in the file out!\nERin\x1b EWout\x1b Y\n\
+         <FNfish\x1bcat\x1b;>\nEC\x1b\x1b\n",
         b"",
         "done",
         Some(b"one cat\ntwo cat\n\x0cred cat\nblue cow\n"),
     ),
     (
         b"one fish\ntwo fish\n\x0cred fish\nblue cow\n",
-        "!The pages of the file in become one page, in the file out!\nERin\x1b EWout\x1b Y\n<ZUA A QA-Z;>\nEC\x1b\x1b\n",
+        "!The pages of the file in become one page, in the file out!\nERin\x1b EWout\x1b Y\n\
+         <ZUA A QA-Z;>\nEC\x1b\x1b\n",
         b"",
         "done",
         Some(b"one fish\ntwo fish\nred fish\nblue cow\n"),
     ),
     (
         b"milk\nbread\n\x0cbuttermilk and milk\neggs\nmore milk",
-        "!The lines of the file in with milk go to the file out!\nERin\x1b EWout\x1b Y\n<J <Smilk\x1b; 0L .UA L QA,.PW> HK Y -Z;>\nEF\x1b\x1b\n",
+        "!The lines of the file in with milk go to the file out!\nERin\x1b EWout\x1b Y\n\
+         <J <Smilk\x1b; 0L .UA L QA,.PW> HK Y -Z;>\nEF\x1b\x1b\n",
         b"",
         "done",
         Some(b"milk\nbuttermilk and milk\nmore milk"),

@@ -57,9 +57,14 @@ const FLOW: &[&str] = &[
 
 /// The programs in `examples/`: replace all, number the lines, drop the lines with a word.
 const PROGRAMS: &[&str] = &[
-    "!A text to work on!\nIone fish\ntwo fish\nred Fish\n\x1b\x1b\n!Each fish becomes a cat!\nJ<FSfish\x1bcat\x1b;>HT\x1b\x1b\n => one cat\ntwo cat\nred cat\n",
-    "!A text to work on!\nIapples\npears\nplums\n\x1b\x1b\n!Each line gets its number, from 1 on!\n1UN J <.-Z; QN\\ I. \x1b %N\x1b L> HT\x1b\x1b\n => 1. apples\n2. pears\n3. plums\n",
-    "!A text to work on!\nImilk\nbread\nbuttermilk\neggs and milk\nmilkshake\n\x1b\x1b\n!Each line with the word milk goes!\nJ <Smilk\x1b; ^S-1A\"R| 0A\"R| 0LK ''> HT\x1b\x1b\n => bread\nbuttermilk\nmilkshake\n",
+    "!A text to work on!\nIone fish\ntwo fish\nred Fish\n\x1b\x1b\n!Each fish becomes a cat!\n\
+     J<FSfish\x1bcat\x1b;>HT\x1b\x1b\n => one cat\ntwo cat\nred cat\n",
+    "!A text to work on!\nIapples\npears\nplums\n\x1b\x1b\n\
+     !Each line gets its number, from 1 on!\n1UN J <.-Z; QN\\ I. \x1b %N\x1b L> HT\x1b\x1b\n\
+     \x20=> 1. apples\n2. pears\n3. plums\n",
+    "!A text to work on!\nImilk\nbread\nbuttermilk\neggs and milk\nmilkshake\n\x1b\x1b\n\
+     !Each line with the word milk goes!\nJ <Smilk\x1b; ^S-1A\"R| 0A\"R| 0LK ''> HT\x1b\x1b\n\
+     \x20=> bread\nbuttermilk\nmilkshake\n",
 ];
 
 // What is written is as the lines `INPUT => WRITTEN` say.

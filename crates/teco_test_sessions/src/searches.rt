@@ -65,7 +65,8 @@ const REFUSED: &[&str] = &[
     "S^N\x1b\x1b => ?ICE\r\n",
     "S\x0e\x1b\x1b => ?ICE\r\n",
     "Iab\x1bJ:Sa^N\x1b=\x1b\x1b.=\x1b\x1b => ?ICE\r\n0\r\n | ab | 0",
-    "S^Q\x1b\x1bS^E\x1b\x1bS^\x1b\x1bS^1\x1b\x1bS^EZ\x1b\x1bS^EQ\x1b\x1b => ?ICE\r\n?ICE\r\n?ICE\r\n?ICE\r\n?ICE\r\n?ICE\r\n",
+    "S^Q\x1b\x1bS^E\x1b\x1bS^\x1b\x1bS^1\x1b\x1bS^EZ\x1b\x1bS^EQ\x1b\x1b => ?ICE\r\n?ICE\r\n\
+     ?ICE\r\n?ICE\r\n?ICE\r\n?ICE\r\n",
     "S^N^EQA\x1b\x1bS^N^ES\x1b\x1bS^N^N\x1b\x1b => ?ICE\r\n?ICE\r\n?ICE\r\n",
     "S^EQ^\x1b\x1bS^EQ?^N\x1b\x1bS^N^N^EQ?\x1b\x1b => ?IQN\r\n?IQN\r\n?ICE\r\n",
     "Iab\x1bJ:Sa\x1b=S^N\x1b\x1bJ:S\x1b=.=\x1b\x1b => -1\r\n?ICE\r\n-1\r\n1\r\n | ab | 1",

@@ -168,31 +168,56 @@ fn look_twice(
     }
 }
 
+// The editor has this text, of which a vector has all.
+fn expect_text(rt: &impl Abort, editor: &Editor<VecText>, text: &[u8]) {
+    assert!(rt; editor.text().0 == text);
+}
+
+// The editor has this pointer and this search text.
+fn expect_kept(rt: &impl Abort, editor: &Editor<VecText>, dot: usize, text: &[u8]) {
+    assert!(rt;
+        editor.dot() == dot && editor.search_text() == text,
+        "{text:?}"
+    );
+}
+
+/// A search for ab, which x may replace.
+const ELEMENT: Element<'static> = Element {
+    kind: Kind::Search(Search::ReplaceInPages),
+    colons: 0,
+    at: false,
+    text: b"ab",
+    second: b"x",
+    place: 0,
+    next: 1,
+};
+
+// It is looked for the last of so many, and so many are wanted still.
+fn expect_wanted(
+    rt: &impl Abort,
+    editor: &mut Editor<VecText>,
+    last: &mut LastPattern,
+    kind: Search,
+    wanted: (u32, Option<u32>),
+) {
+    assert!(rt; wanted.0 > 0);
+    let looked = look_twice(editor, last, kind, &ELEMENT, wanted.0);
+    assert!(rt; matches!(looked, Ok(left) if left == wanted.1));
+}
+
 #[test]
 fn looks_for_the_last_of_some(rt: HostRuntime) {
-    let element = Element {
-        kind: Kind::Search(Search::ReplaceInPages),
-        colons: 0,
-        at: false,
-        text: b"ab",
-        second: b"x",
-        place: 0,
-        next: 1,
-    };
     let mut buffer = editor(&rt, rt.alloc(), b"abcabc", 0);
     let mut last = LastPattern::new(rt.alloc());
     // fewer are there, and nothing changes
-    let wanted = look_twice(&mut buffer, &mut last, Search::FindInPages, &element, 3);
-    assert!(rt; matches!(wanted, Ok(Some(1))));
-    assert_eq!(rt; buffer.dot(), 0);
-    assert_eq!(rt; buffer.search_text(), &b""[..]);
-    let found = look_twice(&mut buffer, &mut last, Search::FindInPages, &element, 2);
-    assert!(rt; matches!(found, Ok(None)));
-    assert_eq!(rt; buffer.dot(), 5);
-    assert_eq!(rt; buffer.search_text(), &b"ab"[..]);
+    let kind = Search::FindInPages;
+    expect_wanted(&rt, &mut buffer, &mut last, kind, (3, Some(1)));
+    expect_kept(&rt, &buffer, 0, b"");
+    expect_wanted(&rt, &mut buffer, &mut last, kind, (2, None));
+    expect_kept(&rt, &buffer, 5, b"ab");
     buffer.set_dot(0);
-    let replaced = look_twice(&mut buffer, &mut last, Search::ReplaceInPages, &element, 1);
-    assert!(rt; matches!(replaced, Ok(None)));
-    assert_eq!(rt; buffer.text().0, &b"xcabc"[..]);
-    assert_eq!(rt; buffer.dot(), 1);
+    let kind = Search::ReplaceInPages;
+    expect_wanted(&rt, &mut buffer, &mut last, kind, (1, None));
+    expect_kept(&rt, &buffer, 1, b"ab");
+    expect_text(&rt, &buffer, b"xcabc");
 }

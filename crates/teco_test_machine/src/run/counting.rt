@@ -83,17 +83,28 @@ fn machine_on_a_list(rt: &impl Abort, alloc: Global) -> Machine<Counting> {
     Machine::new(alloc, Counting { text, put_in: 0 })
 }
 
+// Were so many characters put in, and is the text as it was?
+fn has_counted(machine: &Machine<Counting>, put_in: usize) -> bool {
+    let store = machine.store();
+    store.put_in == put_in && store.slices().0 == [b'b'; 500].as_slice()
+}
+
+// Does a run put in as many characters as it says? None where memory was refused.
+fn is_counted(rt: &impl Abort, alloc: Global) -> Option<bool> {
+    let mut machine = machine_on_a_list(rt, alloc);
+    let mut host = MemHost::new(alloc);
+    match machine.run(b"1000<Ia\x1b-D>\x1b\x1b", 10_000, &mut host) {
+        Stop::Memory => None,
+        Stop::Ended { .. } => Some(has_counted(&machine, 1000)),
+        _ => Some(false),
+    }
+}
+
 #[test]
 fn copies_list_at_end(rt: HostRuntime) {
-    let mut machine = machine_on_a_list(&rt, rt.alloc());
-    let mut host = MemHost::new(rt.alloc());
-    let command = b"1000<Ia\x1b-D>\x1b\x1b";
-    let mut stop = machine.run(command, 10_000, &mut host);
-    if let Stop::Memory = stop {
-        machine = machine_on_a_list(&rt, rt.alloc());
-        stop = machine.run(command, 10_000, &mut host);
+    let mut is_so = is_counted(&rt, rt.alloc());
+    if is_so.is_none() {
+        is_so = is_counted(&rt, rt.alloc());
     }
-    assert!(rt; matches!(stop, Stop::Ended { .. }));
-    assert_eq!(rt; machine.store().put_in, 1000);
-    assert_eq!(rt; machine.store().slices().0, [b'b'; 500].as_slice());
+    assert!(rt; is_so == Some(true));
 }

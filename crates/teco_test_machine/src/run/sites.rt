@@ -3,7 +3,6 @@ ghost use Rattle.std.specs.Prelude.{◌≤◌, length};
 ghost use Rattle.teco_base.specs.declared.TheConstants.{LIMIT};
 
 use super::*;
-use std::test::Fail;
 use teco_run::{Execution, Progress, Site, Stopped};
 
 // Runs a command string to its stop, on a new machine.
@@ -105,19 +104,23 @@ fn runs_stop_in_texts_of_registers(rt: HostRuntime) {
     );
 }
 
+// A run under a cap that lets nothing be typed stops at its second element.
+fn is_capped_there(stopped: &Stopped) -> bool {
+    let is_refused = answer(stopped.stop) == Err(Code::Mem);
+    is_refused && stopped.steps == 1 && stopped.site == in_command(2)
+}
+
 #[test]
 fn want_of_memory_has_a_site(rt: HostRuntime) {
     let mut machine = Machine::new(rt.alloc(), VecText::new(rt.alloc()));
     let mut host = MemHost::new(rt.alloc());
     machine.set_cap(2);
     let mut stopped = machine.run_to_stop(b"1 =", 9, &mut host);
-    assert_eq!(rt; answer(stopped.stop), Err(Code::Mem));
     if stopped.steps == 0 {
         // an allocation failed
         stopped = machine.run_to_stop(b"1 =", 9, &mut host);
     }
-    assert_eq!(rt; stopped.steps, 1);
-    assert_eq!(rt; stopped.site, in_command(2));
+    assert!(rt; is_capped_there(&stopped));
 }
 
 // Does steps until the run stops, `limit` at most; answers how many were done, and what the last
@@ -149,150 +152,178 @@ fn agrees(stop: Stop, progress: Progress) -> bool {
     }
 }
 
-// What a run leaves.
+// How a run stopped, and what it left.
 #[derive(Drop)]
 struct Left {
-    steps: u64,
-    site: Site,
+    stopped: Stopped,
     typed: Vec<u8>,
     dot: usize,
 }
 
 impl Left {
-    fn is_same(&self, other: &Left) -> bool {
-        self.steps == other.steps
-            && self.site == other.site
-            && self.typed.as_slice() == other.typed.as_slice()
-            && self.dot == other.dot
+    // Do so many steps come to the same, there?
+    fn is_by(&self, steps: u64, site: Site, progress: Progress) -> bool {
+        let is_there = self.stopped.steps == steps && self.stopped.site == site;
+        is_there && agrees(self.stopped.stop, progress)
+    }
+
+    // Is it what a machine has?
+    fn is_of(&self, machine: &mut Machine<VecText>) -> bool {
+        has_typed(machine, &self.typed) && machine.dot() == self.dot
     }
 }
 
-// Runs a command string on a new machine: what it leaves, and what it answers.
-fn left_by_run(alloc: Global, command: &[u8], limit: u64) -> (Left, Stop) {
+// Runs a command string on a new machine.
+fn left_by_run(alloc: Global, command: &[u8], limit: u64) -> Left {
     let (mut machine, stopped) = run_surely(alloc, command, limit);
-    let left = Left {
-        steps: stopped.steps,
-        site: stopped.site,
+    Left {
+        stopped,
         typed: machine.take_typed(),
         dot: machine.dot(),
-    };
-    (left, stopped.stop)
+    }
 }
 
-// Does steps of a command string on a new machine: what they leave, and what the last came to.
-fn left_by_steps(alloc: Global, command: &[u8], limit: u64) -> Result<(Left, Progress), AllocError>
-    requires { length command.now ≤ LIMIT }
-{
-    let mut machine = Machine::new(alloc, VecText::new(alloc));
-    let mut host = MemHost::new(alloc);
-    let mut execution = machine.begin(command)?;
-    let (steps, progress) = step_on(&mut machine, &mut execution, limit, &mut host);
-    let left = Left {
-        steps,
-        site: execution.site(),
-        typed: machine.take_typed(),
-        dot: machine.dot(),
-    };
-    Ok((left, progress))
-}
-
-// Does steps of a command string, and compares them with a run of that limit; says whether memory
-// was refused.
-fn expect_steps(
-    rt: &impl Abort,
-    alloc: Global,
+// Do steps of a command string leave the same? None where memory was refused.
+fn is_left_by_steps(
+    machine: &mut Machine<VecText>,
+    host: &mut MemHost,
     command: &[u8],
     limit: u64,
-) -> Result<bool, AllocError> {
-    if command.len() > LIMIT {
-        return Ok(false);
+    left: &Left,
+) -> Option<bool>
+    requires { length command.now ≤ LIMIT }
+{
+    let Ok(mut execution) = machine.begin(command) else {
+        return None;
+    };
+    let (steps, progress) = step_on(machine, &mut execution, limit, host);
+    let is_by = left.is_by(steps, execution.site(), progress);
+    match progress {
+        Progress::Memory => None,
+        _ => Some(left.is_of(machine) && is_by),
     }
-    let (ran, stop) = left_by_run(alloc, command, limit);
-    let (stepped, progress) = left_by_steps(alloc, command, limit)?;
-    if let Progress::Memory = progress {
-        return Ok(true);
-    }
-    assert!(rt;
-        stepped.is_same(&ran) && agrees(stop, progress),
-        "{command:?}"
-    );
-    Ok(false)
 }
 
-#[test]
-fn steps_are_a_run(rt: HostRuntime) -> Result<(), Fail> {
-    let commands: [&[u8]; 6] = [
-        b"Iabc\x1b J 2C HT",
-        b"@^UA/1=  2=/MA MA 3=",
-        b"3<1=> EX",
-        b"1= ERno\x1b",
-        b"Iab\x1b<1=0;>-3D",
-        b"@^UA/<1=/ MA",
-    ];
-    for command in commands {
-        for limit in 0..16 {
-            if !matches!(expect_steps(&rt, rt.alloc(), command, limit), Ok(false)) {
-                assert!(rt; !expect_steps(&rt, rt.alloc(), command, limit)?);
-            }
+// Are the steps of a command string a run of that limit? None where memory was refused.
+fn are_steps_a_run(alloc: Global, command: &[u8], limit: u64) -> Option<bool>
+    requires { length command.now ≤ LIMIT }
+{
+    let left = left_by_run(alloc, command, limit);
+    let mut machine = Machine::new(alloc, VecText::new(alloc));
+    let mut host = MemHost::new(alloc);
+    is_left_by_steps(&mut machine, &mut host, command, limit, &left)
+}
+
+// They are, up to each of some limits.
+fn expect_steps(rt: &impl Abort, alloc: Global, command: &[u8]) {
+    assert!(rt; command.len() <= LIMIT);
+    for limit in 0..16 {
+        let mut is_so = are_steps_a_run(alloc, command, limit);
+        if is_so.is_none() {
+            is_so = are_steps_a_run(alloc, command, limit);
         }
+        assert!(rt; is_so == Some(true), "{command:?} up to {limit}");
     }
-    Ok(())
 }
 
 #[test]
-fn values_are_pending(rt: HostRuntime) -> Result<(), Fail> {
+fn steps_are_a_run(rt: HostRuntime) {
+    expect_steps(&rt, rt.alloc(), b"Iabc\x1b J 2C HT");
+    expect_steps(&rt, rt.alloc(), b"@^UA/1=  2=/MA MA 3=");
+    expect_steps(&rt, rt.alloc(), b"3<1=> EX");
+    expect_steps(&rt, rt.alloc(), b"1= ERno\x1b");
+    expect_steps(&rt, rt.alloc(), b"Iab\x1b<1=0;>-3D");
+    expect_steps(&rt, rt.alloc(), b"@^UA/<1=/ MA");
+}
+
+// What is pending before a string's first step, and behind each of some steps.
+const PENDING: [Option<i32>; 8] = [
+    Some(1),
+    None,
+    Some(2),
+    Some(2),
+    Some(5),
+    Some(5),
+    None,
+    Some(4),
+];
+
+// Is this pending behind each step of a command string, and nothing before? None where memory was
+// refused.
+fn are_pending(
+    machine: &mut Machine<VecText>,
+    host: &mut MemHost,
+    command: &[u8],
+    values: &[Option<i32>],
+) -> Option<bool>
+    requires { length command.now ≤ LIMIT }
+{
+    let Ok(mut execution) = machine.begin(command) else {
+        return None;
+    };
+    let mut is_so = execution.value().is_none();
+    for value in values {
+        let is_on = matches!(machine.step(&mut execution, host), Progress::On);
+        is_so = is_so && is_on && execution.value() == *value;
+    }
+    Some(is_so)
+}
+
+#[test]
+fn values_are_pending(rt: HostRuntime) {
     let mut machine = Machine::new(rt.alloc(), VecText::new(rt.alloc()));
     let mut host = MemHost::new(rt.alloc());
-    let command = b"1,2+3*(4";
-    let mut execution = match machine.begin(command) {
-        Ok(execution) => execution,
-        Err(_) => machine.begin(command)?,
-    };
-    assert_eq!(rt; execution.value(), None);
-    let values = [
-        Some(1),
-        None,
-        Some(2),
-        Some(2),
-        Some(5),
-        Some(5),
-        None,
-        Some(4),
-    ];
-    for value in values {
-        assert!(rt; matches!(machine.step(&mut execution, &mut host), Progress::On));
-        assert_eq!(rt; execution.value(), value);
+    let mut is_so = are_pending(&mut machine, &mut host, b"1,2+3*(4", &PENDING);
+    if is_so.is_none() {
+        is_so = are_pending(&mut machine, &mut host, b"1,2+3*(4", &PENDING);
     }
-    Ok(())
+    assert!(rt; is_so == Some(true));
 }
 
 // Runs a command string, and once more where memory was refused.
-fn run_again(machine: &mut Machine<VecText>, host: &mut MemHost, command: &[u8]) -> bool {
+fn run_again(rt: &impl Abort, machine: &mut Machine<VecText>, host: &mut MemHost, command: &[u8]) {
     let mut stop = run(machine, host, command, 100);
     if let Stop::Memory = stop {
         stop = run(machine, host, command, 100);
     }
-    answer(stop).is_ok()
+    assert!(rt; answer(stop).is_ok(), "{command:?}");
+}
+
+// Some of the input is unread, or none, and so many bytes are held once the next page is ready.
+fn expect_unread(
+    rt: &impl Abort,
+    machine: &mut Machine<VecText>,
+    host: &mut MemHost,
+    is_some: bool,
+    held: usize,
+) {
+    let mut unread = machine.has_unread(host);
+    if unread.is_err() {
+        unread = machine.has_unread(host);
+    }
+    assert!(rt; matches!(unread, Ok(some) if some == is_some));
+    assert!(rt; machine.read_ahead() == held);
+}
+
+// A host with a file of two pages.
+fn host_of(rt: &impl Abort, alloc: Global) -> MemHost {
+    let mut host = MemHost::new(alloc);
+    if host.put(b"in", b"ab\x0ccd").is_err() {
+        let again = host.put(b"in", b"ab\x0ccd");
+        assert!(rt; again.is_ok());
+    }
+    host
 }
 
 #[test]
-fn unread_input_is_told(rt: HostRuntime) -> Result<(), Fail> {
+fn unread_input_is_told(rt: HostRuntime) {
     let mut machine = Machine::new(rt.alloc(), VecText::new(rt.alloc()));
-    let mut host = MemHost::new(rt.alloc());
-    if host.put(b"in", b"ab\x0ccd").is_err() {
-        host.put(b"in", b"ab\x0ccd")?;
-    }
-    assert!(rt; matches!(machine.has_unread(&mut host), Ok(false)));
-    // the command strings, and the bytes that are held once the next page is ready
-    let rows: [(&[u8], usize); 3] = [(b"ERin\x1b", 5), (b"Y", 2), (b"A", 0)];
-    for (command, held) in rows {
-        assert!(rt; run_again(&mut machine, &mut host, command));
-        let mut unread = machine.has_unread(&mut host);
-        if unread.is_err() {
-            unread = machine.has_unread(&mut host);
-        }
-        assert!(rt; matches!(unread, Ok(some) if some == (held > 0)));
-        assert_eq!(rt; machine.read_ahead(), held);
-    }
-    Ok(())
+    let mut host = host_of(&rt, rt.alloc());
+    expect_unread(&rt, &mut machine, &mut host, false, 0);
+    run_again(&rt, &mut machine, &mut host, b"ERin\x1b");
+    expect_unread(&rt, &mut machine, &mut host, true, 5);
+    run_again(&rt, &mut machine, &mut host, b"Y");
+    expect_unread(&rt, &mut machine, &mut host, true, 2);
+    run_again(&rt, &mut machine, &mut host, b"A");
+    expect_unread(&rt, &mut machine, &mut host, false, 0);
 }

@@ -1,29 +1,47 @@
 //! How the words of the command line are read.
-use crate::trial::expect_row;
 use clap::ArgMatches;
 use std::alloc::Global;
 use std::env::{Env, FillError};
-use std::test::Fail;
+use std::process::Abort;
 use teco_tools::Script;
 use teco_verdicts::Rules;
 use teco_words::{
-    Arguments, WordsFault, cap, check_streams, command, entry, escape_of, file_name, given, limit,
-    pages, rules_of, scripts, settings,
+    Arguments, cap, check_streams, command, entry, escape_of, file_name, given, limit, pages,
+    rules_of, scripts, settings,
 };
 
-// What is given to the subcommand.
-fn given_of<'m, 'a>(matches: &'m ArgMatches<'a>) -> Result<&'m ArgMatches<'a>, WordsFault> {
-    match matches.subcommand() {
-        Some((_, given)) => Ok(given),
-        None => Err(WordsFault::Unknown),
+// It is so of a row, by its number.
+fn expect_row(rt: &impl Abort, is_so: bool, number: usize) {
+    assert!(rt; is_so, "row {number}");
+}
+
+// What words say, or the status of their refusal; -1 where memory was refused.
+fn matched<'a>(alloc: Global, words: &'a [&str]) -> Result<ArgMatches<'a>, i32> {
+    let Ok(command) = command(alloc) else {
+        return Err(-1);
+    };
+    match command.try_get_matches_from(words) {
+        Ok(matches) => Ok(matches),
+        Err(error) => Err(error.exit_code()),
     }
 }
 
-// The step limit that words give, or the status of their refusal.
-fn limit_of(alloc: Global, words: &[&str]) -> Result<(u32, i32), Fail> {
-    match command(alloc)?.try_get_matches_from(words) {
-        Ok(matches) => Ok((limit(given_of(&matches)?), 0)),
-        Err(error) => Ok((0, error.exit_code())),
+// What is given to the subcommand.
+fn given_of<'m, 'a>(matches: &'m ArgMatches<'a>) -> Option<&'m ArgMatches<'a>> {
+    match matches.subcommand() {
+        Some((_, given)) => Some(given),
+        None => None,
+    }
+}
+
+// The step limit that words give, and the status.
+fn limit_of(alloc: Global, words: &[&str]) -> (u32, i32) {
+    match matched(alloc, words) {
+        Ok(matches) => match given_of(&matches) {
+            Some(given) => (limit(given), 0),
+            None => (0, -1),
+        },
+        Err(status) => (0, status),
     }
 }
 
@@ -41,20 +59,21 @@ const LIMITS: [(&[&str], u32, i32); 9] = [
 ];
 
 #[test]
-fn words_are_read(rt: HostRuntime) -> Result<(), Fail> {
+fn words_are_read(rt: HostRuntime) {
     for (row, (words, limit, status)) in LIMITS.iter().enumerate() {
-        let (found, code) = limit_of(rt.alloc(), *words)?;
-        expect_row(&rt, found == *limit && code == *status, row);
+        let is_so = limit_of(rt.alloc(), *words) == (*limit, *status);
+        expect_row(&rt, is_so, row);
     }
-    Ok(())
 }
 
-// The register that words name; 0 where they name none.
-fn entry_of(alloc: Global, words: &[&str]) -> Result<u8, Fail> {
-    let matches = command(alloc)?.try_get_matches_from(words)?;
+// The register that words name; 0 where they name none, and nothing where they are not read.
+fn entry_of(alloc: Global, words: &[&str]) -> Option<u8> {
+    let Ok(matches) = matched(alloc, words) else {
+        return None;
+    };
     match entry(given_of(&matches)?) {
-        Ok(register) => Ok(register.name()),
-        Err(_) => Ok(0),
+        Ok(register) => Some(register.name()),
+        Err(_) => Some(0),
     }
 }
 
@@ -71,20 +90,21 @@ const ENTRIES: [(&[&str], u8); 9] = [
 ];
 
 #[test]
-fn macros_are_named(rt: HostRuntime) -> Result<(), Fail> {
+fn macros_are_named(rt: HostRuntime) {
     for (row, (words, name)) in ENTRIES.iter().enumerate() {
-        expect_row(&rt, entry_of(rt.alloc(), *words)? == *name, row);
+        expect_row(&rt, entry_of(rt.alloc(), *words) == Some(*name), row);
     }
-    Ok(())
 }
 
 // The edition of the rules that words ask for; 0 where it is none.
-fn edition_of(alloc: Global, words: &[&str]) -> Result<u8, Fail> {
-    let matches = command(alloc)?.try_get_matches_from(words)?;
+fn edition_of(alloc: Global, words: &[&str]) -> Option<u8> {
+    let Ok(matches) = matched(alloc, words) else {
+        return None;
+    };
     match rules_of(given_of(&matches)?) {
-        Ok(Rules::First) => Ok(1),
-        Ok(Rules::Second) => Ok(2),
-        Err(_) => Ok(0),
+        Ok(Rules::First) => Some(1),
+        Ok(Rules::Second) => Some(2),
+        Err(_) => Some(0),
     }
 }
 
@@ -103,11 +123,10 @@ const EDITIONS: [(&[&str], u8); 8] = [
 ];
 
 #[test]
-fn rules_are_named(rt: HostRuntime) -> Result<(), Fail> {
+fn rules_are_named(rt: HostRuntime) {
     for (row, (words, edition)) in EDITIONS.iter().enumerate() {
-        expect_row(&rt, edition_of(rt.alloc(), *words)? == *edition, row);
+        expect_row(&rt, edition_of(rt.alloc(), *words) == Some(*edition), row);
     }
-    Ok(())
 }
 
 const LACKING: [&[&str]; 6] = [
@@ -120,12 +139,11 @@ const LACKING: [&[&str]; 6] = [
 ];
 
 #[test]
-fn words_are_missing(rt: HostRuntime) -> Result<(), Fail> {
+fn words_are_missing(rt: HostRuntime) {
     for (row, words) in LACKING.iter().enumerate() {
-        let (_, code) = limit_of(rt.alloc(), *words)?;
-        expect_row(&rt, code == 2, row);
+        let (_, status) = limit_of(rt.alloc(), *words);
+        expect_row(&rt, status == 2, row);
     }
-    Ok(())
 }
 
 // Words that a test gives in place of those of the process.
@@ -153,19 +171,41 @@ impl Env for Words<'_> {
     }
 }
 
-// Is a word the name of a file? Where it is, it is read as it was given, and so is another.
-fn is_name(alloc: Global, name: &[u8]) -> Result<bool, Fail> {
-    let words: [&[u8]; 6] = [b"teco", b"apply", b"LIB", b"A", name, b"OUT"];
-    let arguments = Arguments::read(&(Words(&words), alloc))?;
-    let matches = command(alloc)?.try_get_matches_from(arguments.texts())?;
-    let given = given_of(&matches)?;
-    if file_name(given, "OUT", &arguments)? != b"OUT".as_slice() {
-        return Err(WordsFault::FileName)?;
+// Is a file's name in these words read as it was given? None where it may be no name.
+fn is_read<'a>(
+    given: &ArgMatches<'a>,
+    arguments: &'a Arguments,
+    id: &str,
+    name: &[u8],
+) -> Option<bool> {
+    match file_name(given, id, arguments) {
+        Ok(found) => Some(found == name),
+        Err(_) => None,
     }
-    match file_name(given, "IN", &arguments) {
-        Ok(found) if found == name => Ok(true),
-        Ok(_) => Err(WordsFault::FileName)?,
-        Err(_) => Ok(false),
+}
+
+// What is said of the names of files in some words: of another one first.
+fn names_in(arguments: &Arguments, name: &[u8], alloc: Global) -> Option<(bool, Option<bool>)> {
+    let Ok(command) = command(alloc) else {
+        return None;
+    };
+    let Ok(matches) = command.try_get_matches_from(arguments.texts()) else {
+        return None;
+    };
+    let given = given_of(&matches)?;
+    let is_other_read = is_read(given, arguments, "OUT", b"OUT") == Some(true);
+    Some((is_other_read, is_read(given, arguments, "IN", name)))
+}
+
+// Is a word the name of a file, or not? Where it is, it is read as it was given, and so is another.
+fn is_name(alloc: Global, name: &[u8], is_good: bool) -> bool {
+    let words: [&[u8]; 6] = [b"teco", b"apply", b"LIB", b"A", name, b"OUT"];
+    match Arguments::read(&(Words(&words), alloc)) {
+        Ok(arguments) => {
+            let wanted = if is_good { Some(true) } else { None };
+            names_in(&arguments, name, alloc) == Some((true, wanted))
+        }
+        Err(_) => false,
     }
 }
 
@@ -179,17 +219,18 @@ const NAMES: [(&[u8], bool); 5] = [
 ];
 
 #[test]
-fn names_of_files_are_judged(rt: HostRuntime) -> Result<(), Fail> {
+fn names_of_files_are_judged(rt: HostRuntime) {
     for (row, (name, is_good)) in NAMES.iter().enumerate() {
-        expect_row(&rt, is_name(rt.alloc(), *name)? == *is_good, row);
+        expect_row(&rt, is_name(rt.alloc(), *name, *is_good), row);
     }
-    Ok(())
 }
 
 // The cap that words give.
-fn cap_of(alloc: Global, words: &[&str]) -> Result<usize, Fail> {
-    let matches = command(alloc)?.try_get_matches_from(words)?;
-    Ok(cap(given_of(&matches)?))
+fn cap_of(alloc: Global, words: &[&str]) -> Option<usize> {
+    let Ok(matches) = matched(alloc, words) else {
+        return None;
+    };
+    Some(cap(given_of(&matches)?))
 }
 
 const CAPS: [(&[&str], usize); 4] = [
@@ -203,23 +244,23 @@ const CAPS: [(&[&str], usize); 4] = [
 ];
 
 #[test]
-fn caps_are_read(rt: HostRuntime) -> Result<(), Fail> {
+fn caps_are_read(rt: HostRuntime) {
     for (row, (words, cap)) in CAPS.iter().enumerate() {
-        expect_row(&rt, cap_of(rt.alloc(), *words)? == *cap, row);
+        expect_row(&rt, cap_of(rt.alloc(), *words) == Some(*cap), row);
     }
-    Ok(())
 }
 
 // The argument that a word gives; -1 where it gives none, and -2 where it is refused.
-fn argument_of(alloc: Global, word: &str) -> Result<i32, Fail> {
+fn argument_of(alloc: Global, word: &str) -> Option<i32> {
     let words = ["teco", "apply", word, "LIB", "A", "in", "out"];
-    match command(alloc)?.try_get_matches_from(&words) {
-        Ok(matches) => match given(given_of(&matches)?) {
-            Ok(Some(number)) => Ok(number),
-            Ok(None) => Ok(-1),
-            Err(_) => Ok(-2),
-        },
-        Err(_) => Ok(-2),
+    let matches = match matched(alloc, &words) {
+        Ok(matches) => matches,
+        Err(status) => return if status == 2 { Some(-2) } else { None },
+    };
+    match given(given_of(&matches)?) {
+        Ok(Some(number)) => Some(number),
+        Ok(None) => Some(-1),
+        Err(_) => Some(-2),
     }
 }
 
@@ -241,11 +282,10 @@ const ARGUMENTS: [(&str, i32); 13] = [
 ];
 
 #[test]
-fn arguments_are_read(rt: HostRuntime) -> Result<(), Fail> {
+fn arguments_are_read(rt: HostRuntime) {
     for (row, (word, argument)) in ARGUMENTS.iter().enumerate() {
-        expect_row(&rt, argument_of(rt.alloc(), *word)? == *argument, row);
+        expect_row(&rt, argument_of(rt.alloc(), *word) == Some(*argument), row);
     }
-    Ok(())
 }
 
 // Is a script of a name, which is the word stream for standard input?
@@ -257,16 +297,25 @@ fn has_name(script: &Script<'_>, name: &str) -> bool {
     }
 }
 
-// Do words name these scripts, in this order?
-fn names_scripts(alloc: Global, words: &[&str], names: &[&str]) -> Result<bool, Fail> {
-    let matches = command(alloc)?.try_get_matches_from(words)?;
-    let scripts = scripts(alloc, given_of(&matches)?)?;
+// Have scripts these names, in this order?
+fn have_names(scripts: &[Script<'_>], names: &[&str]) -> bool {
     for (script, name) in scripts.iter().zip(names.iter()) {
         if !has_name(script, *name) {
-            return Ok(false);
+            return false;
         }
     }
-    Ok(scripts.len() == names.len())
+    scripts.len() == names.len()
+}
+
+// Do words name these scripts, in this order?
+fn names_scripts(alloc: Global, words: &[&str], names: &[&str]) -> Option<bool> {
+    let Ok(matches) = matched(alloc, words) else {
+        return None;
+    };
+    match scripts(alloc, given_of(&matches)?) {
+        Ok(scripts) => Some(have_names(&scripts, names)),
+        Err(_) => None,
+    }
 }
 
 /// Words, and the scripts that they name.
@@ -284,29 +333,37 @@ const SCRIPTS: [(&[&str], &[&str]); 4] = [
 ];
 
 #[test]
-fn scripts_come_in_the_order_of_the_words(rt: HostRuntime) -> Result<(), Fail> {
+fn scripts_come_in_the_order_of_the_words(rt: HostRuntime) {
     for (row, (words, names)) in SCRIPTS.iter().enumerate() {
-        expect_row(&rt, names_scripts(rt.alloc(), *words, *names)?, row);
+        let is_so = names_scripts(rt.alloc(), *words, *names);
+        expect_row(&rt, is_so == Some(true), row);
     }
-    Ok(())
 }
 
 /// A word about something else.
 const PLAIN: &str = "--memory=1";
 
-// Are the words of an edit good?
-fn is_edit(alloc: Global, word: &str, names: &[&str; 3]) -> Result<bool, Fail> {
-    let [library, source, target] = *names;
-    let words = ["teco", "apply", word, library, "A", source, target];
-    let matches = command(alloc)?.try_get_matches_from(&words)?;
-    let given = given_of(&matches)?;
+// Is what is given to an edit good?
+fn is_good_edit(alloc: Global, given: &ArgMatches<'_>) -> Option<bool> {
     let is_strict = given.get_flag("strict");
-    let escape = escape_of(given)?;
-    Ok(
+    let Ok(escape) = escape_of(given) else {
+        return None;
+    };
+    Some(
         pages(given).is_ok()
             && settings(alloc, given, escape).is_ok()
             && check_streams(given, is_strict).is_ok(),
     )
+}
+
+// Are the words of an edit good?
+fn is_edit(alloc: Global, word: &str, names: &[&str; 3]) -> Option<bool> {
+    let [library, source, target] = *names;
+    let words = ["teco", "apply", word, library, "A", source, target];
+    let Ok(matches) = matched(alloc, &words) else {
+        return None;
+    };
+    is_good_edit(alloc, given_of(&matches)?)
 }
 
 /// A word, LIB, IN and OUT, and whether they are good.
@@ -329,9 +386,9 @@ const EDITS: [(&str, [&str; 3], bool); 15] = [
 ];
 
 #[test]
-fn edits_are_asked_for(rt: HostRuntime) -> Result<(), Fail> {
+fn edits_are_asked_for(rt: HostRuntime) {
     for (row, (word, names, is_good)) in EDITS.iter().enumerate() {
-        expect_row(&rt, is_edit(rt.alloc(), *word, names)? == *is_good, row);
+        let is_so = is_edit(rt.alloc(), *word, names) == Some(*is_good);
+        expect_row(&rt, is_so, row);
     }
-    Ok(())
 }

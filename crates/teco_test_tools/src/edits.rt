@@ -1,6 +1,5 @@
 //! Files that are edited, by pages and in place.
-use super::task;
-use crate::trial::{expect, expect_text, kept, library_file};
+use crate::trial::{expect, expect_text, kept, library_file, task};
 use std::alloc::Global;
 use std::process::Abort;
 use std::test::Fail;
@@ -28,7 +27,8 @@ const ROWS: [Row; 5] = [
         false,
         b"a bar\x0cfoo\x0c\x0cfoo",
         Outcome::Done,
-        "somleut_tools_in: 8 bytes behind the first page were copied unedited; --pages each or --pages whole edits them too\n",
+        "somleut_tools_in: 8 bytes behind the first page were copied unedited; --pages each or \
+         --pages whole edits them too\n",
     ),
     (
         Pages::Each,
@@ -64,40 +64,58 @@ const ROWS: [Row; 5] = [
     ),
 ];
 
+// What came of an edit: its outcome, what is typed, and what is said.
+#[derive(Drop)]
+struct Came {
+    outcome: Result<Outcome, ToolFault>,
+    typed: Vec<u8>,
+    said: Vec<u8>,
+}
+
+fn edited(rt: &HostRuntime, task: &Task<'_, '_>, names: Names<'_>) -> Came {
+    let mut console = kept(rt);
+    let mut host = FileHost::new(rt.alloc(), *rt);
+    let outcome = apply_macro(rt, &mut console, task, names, &mut host);
+    let (typed, said) = console.into_parts();
+    Came {
+        outcome,
+        typed,
+        said,
+    }
+}
+
+// This came of it, and nothing is typed.
+fn expect_came(abort: &impl Abort, came: &Came, wanted: Outcome, said: &str) {
+    let is_so = matches!(came.outcome, Ok(outcome) if outcome == wanted);
+    expect(abort, is_so && came.typed.is_empty(), "an outcome");
+    expect_text(abort, &came.said, said);
+}
+
+// A file has these bytes.
+fn expect_file(abort: &impl Abort, rt: &HostRuntime, name: &str, bytes: &[u8]) {
+    let is_so = match fs::read(rt, name) {
+        Ok(found) => found.as_slice() == bytes,
+        Err(_) => false,
+    };
+    expect(abort, is_so, name);
+}
+
 // The edit of a row makes what it says.
-fn expect_pages(
-    abort: &impl Abort,
-    rt: &HostRuntime,
-    request: Request<'static>,
-    row: &Row,
-) -> Result<(), Fail> {
+fn expect_pages(abort: &impl Abort, rt: &HostRuntime, request: Request<'static>, row: &Row) {
     let (pages, is_strict, tells_counts, made, wanted, said) = *row;
     let task = Task {
         pages,
         is_strict,
         tells_counts,
-        ..task(abort, request)
+        ..task(request)
     };
     let names = Names {
         source: b"somleut_tools_in",
         target: b"somleut_tools_out",
     };
-    let mut console = kept(rt);
-    let mut host = FileHost::new(rt.alloc(), *rt);
-    let outcome = apply_macro(rt, &mut console, &task, names, &mut host)?;
-    let (typed, messages) = console.into_parts();
-    expect_text(abort, &messages, said);
-    expect_file(abort, rt, "somleut_tools_out", made)?;
-    expect(abort, outcome == wanted && typed.is_empty(), "an outcome");
-    fs::remove_file(rt, "somleut_tools_out")?;
-    Ok(())
-}
-
-// A file has these bytes.
-fn expect_file(abort: &impl Abort, rt: &HostRuntime, name: &str, bytes: &[u8]) -> Result<(), Fail> {
-    let found = fs::read(rt, name)?;
-    expect(abort, found.as_slice() == bytes, name);
-    Ok(())
+    let came = edited(rt, &task, names);
+    expect_came(abort, &came, wanted, said);
+    expect_file(abort, rt, "somleut_tools_out", made);
 }
 
 // Files of these names go.
@@ -113,7 +131,8 @@ fn pages_are_edited(rt: HostRuntime) -> Result<(), Fail> {
     let request = library_file(&rt, "somleut_tools_pages", REPLACES)?;
     fs::write(&rt, "somleut_tools_in", THREE)?;
     for row in ROWS.iter() {
-        expect_pages(&rt, &rt, request, row)?;
+        expect_pages(&rt, &rt, request, row);
+        fs::remove_file(&rt, "somleut_tools_out")?;
     }
     remove(&rt, &["somleut_tools_pages", "somleut_tools_in"])
 }
@@ -121,30 +140,29 @@ fn pages_are_edited(rt: HostRuntime) -> Result<(), Fail> {
 /// Inserts so many characters that the promise holds for no text.
 const INSERTS: &[u8] = b"@^UA/J2147483647U0Q0<I*$>/";
 
-#[test]
-fn a_strict_edit_is_refused_outside_the_promise(rt: HostRuntime) -> Result<(), Fail> {
-    let request = library_file(&rt, "somleut_tools_strict", INSERTS)?;
-    fs::write(&rt, "somleut_tools_given", b"a")?;
-    fs::write(&rt, "somleut_tools_kept", b"old")?;
+// Such an edit is refused, and leaves a file as it was.
+fn expect_strict(abort: &impl Abort, rt: &HostRuntime, request: Request<'static>) {
     let names = Names {
         source: b"somleut_tools_given",
         target: b"somleut_tools_kept",
     };
     let task = Task {
         is_strict: true,
-        ..task(&rt, request)
+        ..task(request)
     };
-    let mut console = kept(&rt);
-    let mut host = FileHost::new(rt.alloc(), rt);
-    let outcome = apply_macro(&rt, &mut console, &task, names, &mut host)?;
-    let (_, messages) = console.into_parts();
-    expect_text(
-        &rt,
-        &messages,
-        "teco: somleut_tools_given: N = 21 is outside the promise, which holds for no text\n",
-    );
-    expect(&rt, outcome == Outcome::Refused, "an outcome");
-    expect_file(&rt, &rt, "somleut_tools_kept", b"old")?;
+    let came = edited(rt, &task, names);
+    let said =
+        "teco: somleut_tools_given: N = 21 is outside the promise, which holds for no text\n";
+    expect_came(abort, &came, Outcome::Refused, said);
+    expect_file(abort, rt, "somleut_tools_kept", b"old");
+}
+
+#[test]
+fn a_strict_edit_is_refused_outside_the_promise(rt: HostRuntime) -> Result<(), Fail> {
+    let request = library_file(&rt, "somleut_tools_strict", INSERTS)?;
+    fs::write(&rt, "somleut_tools_given", b"a")?;
+    fs::write(&rt, "somleut_tools_kept", b"old")?;
+    expect_strict(&rt, &rt, request);
     let names = [
         "somleut_tools_strict",
         "somleut_tools_given",
@@ -165,33 +183,41 @@ fn expect_stream(
     request: Request<'static>,
     pages: Pages,
     made: &[u8],
-) -> Result<(), Fail> {
+) {
     let task = Task {
         pages,
-        ..task(abort, request)
+        ..task(request)
     };
     let files = FileHost::new(rt.alloc(), *rt);
     let mut host = Streams::new(rt.alloc(), files, THREE, Vec::new(rt.alloc()));
-    let outcome = apply_macro(rt, &mut kept(rt), &task, STREAMS, &mut host)?;
+    let outcome = apply_macro(rt, &mut kept(rt), &task, STREAMS, &mut host);
     let (_, written) = host.into_parts();
-    let is_made = outcome == Outcome::Done && written.as_slice() == made;
-    expect(abort, is_made, "a stream");
-    Ok(())
+    let is_done = matches!(outcome, Ok(Outcome::Done));
+    expect(abort, is_done && written.as_slice() == made, "a stream");
+}
+
+// A strict edit wants an input whose length is known.
+fn expect_unsized(abort: &impl Abort, rt: &HostRuntime, request: Request<'static>) {
+    let task = Task {
+        is_strict: true,
+        ..task(request)
+    };
+    let files = FileHost::new(rt.alloc(), *rt);
+    let mut host = Streams::new(rt.alloc(), files, THREE, io::sink());
+    let outcome = apply_macro(rt, &mut kept(rt), &task, STREAMS, &mut host);
+    expect(
+        abort,
+        matches!(outcome, Err(ToolFault::Unsized)),
+        "no length",
+    );
 }
 
 #[test]
 fn streams_are_edited(rt: HostRuntime) -> Result<(), Fail> {
     let request = library_file(&rt, "somleut_tools_stream", REPLACES)?;
-    expect_stream(&rt, &rt, request, Pages::First, b"a bar\x0cfoo\x0c\x0cfoo")?;
-    expect_stream(&rt, &rt, request, Pages::Each, b"a bar\x0cbar\x0c\x0cbar")?;
-    let task = Task {
-        is_strict: true,
-        ..task(&rt, request)
-    };
-    let files = FileHost::new(rt.alloc(), rt);
-    let mut host = Streams::new(rt.alloc(), files, THREE, io::sink());
-    let outcome = apply_macro(&rt, &mut kept(&rt), &task, STREAMS, &mut host);
-    expect(&rt, matches!(outcome, Err(ToolFault::Unsized)), "no length");
+    expect_stream(&rt, &rt, request, Pages::First, b"a bar\x0cfoo\x0c\x0cfoo");
+    expect_stream(&rt, &rt, request, Pages::Each, b"a bar\x0cbar\x0c\x0cbar");
+    expect_unsized(&rt, &rt, request);
     remove(&rt, &["somleut_tools_stream"])
 }
 
@@ -204,30 +230,34 @@ fn setting(rt: &impl Abort, alloc: Global, word: &str) -> Setting {
     setting.expect(rt, "a setting")
 }
 
-#[test]
-fn registers_are_set(rt: HostRuntime) -> Result<(), Fail> {
-    let request = library_file(&rt, "somleut_tools_set", GETS)?;
-    fs::write(&rt, "somleut_tools_plain", b"text")?;
+// What came of an edit of a file in its own place with a setting.
+fn edited_with(
+    abort: &impl Abort,
+    rt: &HostRuntime,
+    request: Request<'static>,
+    word: &str,
+) -> Came {
     let names = Names {
         source: b"somleut_tools_plain",
         target: b"./somleut_tools_plain",
     };
-    let settings = [setting(&rt, rt.alloc(), "B=some ")];
-    let taken = [setting(&rt, rt.alloc(), "A=")];
-    let good = Task {
+    let settings = [setting(abort, rt.alloc(), word)];
+    let task = Task {
         settings: &settings,
-        ..task(&rt, request)
+        ..task(request)
     };
-    let mut host = FileHost::new(rt.alloc(), rt);
-    let outcome = apply_macro(&rt, &mut kept(&rt), &good, names, &mut host)?;
-    expect(&rt, outcome == Outcome::Done, "an outcome");
-    expect_file(&rt, &rt, "somleut_tools_plain", b"some text")?;
-    let bad = Task {
-        settings: &taken,
-        ..task(&rt, request)
-    };
-    let outcome = apply_macro(&rt, &mut kept(&rt), &bad, names, &mut host);
-    let is_taken = matches!(outcome, Err(ToolFault::Taken { register: 'A' }));
+    edited(rt, &task, names)
+}
+
+#[test]
+fn registers_are_set(rt: HostRuntime) -> Result<(), Fail> {
+    let request = library_file(&rt, "somleut_tools_set", GETS)?;
+    fs::write(&rt, "somleut_tools_plain", b"text")?;
+    let came = edited_with(&rt, &rt, request, "B=some ");
+    expect_came(&rt, &came, Outcome::Done, "");
+    expect_file(&rt, &rt, "somleut_tools_plain", b"some text");
+    let came = edited_with(&rt, &rt, request, "A=");
+    let is_taken = matches!(came.outcome, Err(ToolFault::Taken { register: 'A' }));
     expect(&rt, is_taken, "a register of the library");
     remove(&rt, &["somleut_tools_set", "somleut_tools_plain"])
 }
@@ -273,32 +303,39 @@ const FILES: [&str; 3] = [
     "somleut_tools_two",
 ];
 
-// The edit of a row leaves and says what it says.
-fn expect_in_place(
-    abort: &impl Abort,
-    rt: &HostRuntime,
-    request: Request<'static>,
-    row: &InPlaceRow,
-) -> Result<(), Fail> {
-    let (is_dry, suffix, said, left, is_kept) = *row;
+// The edit of a row says what it says.
+fn expect_said(abort: &impl Abort, rt: &HostRuntime, task: &Task<'_, '_>, row: &InPlaceRow) {
+    let (is_dry, suffix, said, _, _) = *row;
     let given = InPlace {
         files: &FILES,
         is_dry,
         suffix,
     };
     let mut console = kept(rt);
-    let outcome = edit_files(rt, &mut console, &task(abort, request), &given);
+    let outcome = edit_files(rt, &mut console, task, &given);
     expect(abort, matches!(outcome, Ok(Outcome::Coded)), said);
     let (written, messages) = console.into_parts();
     expect_text(abort, &written, "?FNF\r\n");
     expect(abort, messages.ends_with(said.as_bytes()), said);
-    expect_file(abort, rt, "somleut_tools_one", left)?;
-    expect(
-        abort,
-        fs::exists(rt, "somleut_tools_one.old")? == is_kept,
-        said,
-    );
-    Ok(())
+}
+
+// Is there a file of a name?
+fn is_there(rt: &HostRuntime, name: &str) -> bool {
+    matches!(fs::exists(rt, name), Ok(true))
+}
+
+// The edit of a row leaves and says what it says.
+fn expect_in_place(
+    abort: &impl Abort,
+    rt: &HostRuntime,
+    request: Request<'static>,
+    row: &InPlaceRow,
+) {
+    expect_said(abort, rt, &task(request), row);
+    let (_, _, said, left, is_kept) = *row;
+    expect_file(abort, rt, "somleut_tools_one", left);
+    let is_so = is_there(rt, "somleut_tools_one.old") == is_kept;
+    expect(abort, is_so, said);
 }
 
 #[test]
@@ -307,10 +344,10 @@ fn files_are_edited_in_place(rt: HostRuntime) -> Result<(), Fail> {
     fs::write(&rt, "somleut_tools_one", b"a foo")?;
     fs::write(&rt, "somleut_tools_two", b"nothing")?;
     for row in IN_PLACE.iter() {
-        expect_in_place(&rt, &rt, request, row)?;
+        expect_in_place(&rt, &rt, request, row);
     }
-    expect_file(&rt, &rt, "somleut_tools_one.old", b"a foo")?;
-    expect_file(&rt, &rt, "somleut_tools_two", b"nothing")?;
+    expect_file(&rt, &rt, "somleut_tools_one.old", b"a foo");
+    expect_file(&rt, &rt, "somleut_tools_two", b"nothing");
     let names = [
         "somleut_tools_edit",
         "somleut_tools_one",

@@ -1,6 +1,5 @@
 //! What is listed and prompted.
-use super::task;
-use crate::trial::{expect, expect_text, kept, library_file};
+use crate::trial::{expect, expect_text, kept, library_file, task};
 use std::io::Read;
 use std::process::Abort;
 use std::test::Fail;
@@ -13,7 +12,9 @@ use teco_verdicts::{Outcome, Request};
 const LISTED: [(u64, &str, &str); 2] = [
     (
         100,
-        "step\tplace\telement\tpointer\tlength\tanswer\ttyped\n1\t-:1:1\tMA\t0\t4\t-\t\n2\tA:1:1\tJ\t0\t4\t-\t\n3\tA:1:2\t3\t0\t4\t3\t\n4\tA:1:3\tC\t3\t4\t-\t\n5\tA:2:1\tZ\t3\t4\t4\t\n6\tA:2:2\t=\t3\t4\t-\t4^M^J\n7\tA:2:3\t\t3\t4\t-\t\n",
+        "step\tplace\telement\tpointer\tlength\tanswer\ttyped\n1\t-:1:1\tMA\t0\t4\t-\t\n\
+         2\tA:1:1\tJ\t0\t4\t-\t\n3\tA:1:2\t3\t0\t4\t3\t\n4\tA:1:3\tC\t3\t4\t-\t\n\
+         5\tA:2:1\tZ\t3\t4\t4\t\n6\tA:2:2\t=\t3\t4\t-\t4^M^J\n7\tA:2:3\t\t3\t4\t-\t\n",
         "it came to its end in 7 steps\n",
     ),
     (
@@ -28,10 +29,9 @@ fn expect_listed(
     abort: &impl Abort,
     rt: &HostRuntime,
     request: Request<'static>,
-    most: u64,
-    listed: &str,
-    said: &str,
-) -> Result<(), Fail> {
+    row: &(u64, &str, &str),
+) {
+    let (most, listed, said) = *row;
     let names = Names {
         source: b"somleut_tools_traced",
         target: OUTPUT,
@@ -39,21 +39,20 @@ fn expect_listed(
     let mut console = kept(rt);
     let files = FileHost::new(rt.alloc(), *rt);
     let mut host = Streams::new(rt.alloc(), files, io::empty(), io::sink());
-    let task = task(abort, request);
-    let outcome = trace_macro(rt, &mut console, &task, Listing { names, most }, &mut host)?;
-    expect(abort, outcome == Outcome::Done, "an outcome");
+    let listing = Listing { names, most };
+    let outcome = trace_macro(rt, &mut console, &task(request), listing, &mut host);
+    expect(abort, matches!(outcome, Ok(Outcome::Done)), said);
     let (written, messages) = console.into_parts();
     expect_text(abort, &written, listed);
     expect_text(abort, &messages, said);
-    Ok(())
 }
 
 #[test]
 fn steps_are_listed(rt: HostRuntime) -> Result<(), Fail> {
     let request = library_file(&rt, "somleut_tools_trace", b"@^UA/J3C\nZ=/")?;
     fs::write(&rt, "somleut_tools_traced", b"abcd")?;
-    for (most, listed, said) in LISTED.iter() {
-        expect_listed(&rt, &rt, request, *most, listed, said)?;
+    for row in LISTED.iter() {
+        expect_listed(&rt, &rt, request, row);
     }
     fs::remove_file(&rt, "somleut_tools_trace")?;
     fs::remove_file(&rt, "somleut_tools_traced")?;

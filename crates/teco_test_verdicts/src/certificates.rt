@@ -1,8 +1,12 @@
 //! Certificates that are accepted, and texts that differ from one.
 ghost use Rattle.std.specs.Prelude.{◌<◌, length};
 
-use super::*;
-use std::alloc::AllocError;
+use crate::trial::{checked, expect, expect_row, is_accepted, library_of};
+use std::alloc::Global;
+use std::process::Abort;
+use teco_library::Library;
+use teco_verifier::Refusal as Why;
+use teco_verify::Refusal;
 
 /// Puts a mark behind each occurrence of a word.
 const MARK: &[u8] = b"@^UA/J<Sfoo\x1b;I!\x1b>/";
@@ -36,7 +40,8 @@ const CHOICES: [Choice; 16] = [
     ),
     (
         MARK,
-        b"commands 8 + 4*N\nsize 1 + 18446744073709551615*N\nloop 3 held 18446744073709551615*N kept texts -\n",
+        b"commands 8 + 4*N\nsize 1 + 18446744073709551615*N\n\
+          loop 3 held 18446744073709551615*N kept texts -\n",
         true,
     ),
     (
@@ -109,18 +114,22 @@ const CHOICES: [Choice; 16] = [
     ),
     (
         MARK,
-        b"commands 8 + 4*N\nsize 1 + 18446744073709551616*N\nloop 3 held 18446744073709551616*N kept texts -\n",
+        b"commands 8 + 4*N\nsize 1 + 18446744073709551616*N\n\
+          loop 3 held 18446744073709551616*N kept texts -\n",
         false,
     ),
 ];
 
 // Some parts as one text.
-fn joined(alloc: Global, parts: &[&[u8]]) -> Result<Vec<u8>, AllocError> {
+fn joined(rt: &impl Abort, alloc: Global, parts: &[&[u8]]) -> Vec<u8> {
     let mut text = Vec::new(alloc);
     for part in parts {
-        text.extend_from_slice(part)?;
+        if text.extend_from_slice(part).is_err() {
+            let again = text.extend_from_slice(part);
+            assert!(rt; again.is_ok());
+        }
     }
-    Ok(text)
+    text
 }
 
 // Whether a text is refused as no certificate of a library. Want of memory is no such refusal.
@@ -135,126 +144,110 @@ fn is_refused(rt: &impl Abort, alloc: Global, library: &Library, text: &[u8]) ->
     )
 }
 
-// Whether a text is refused with each other byte in the place of one.
-fn is_refused_with_others(
+// Another text is refused.
+fn expect_refused(rt: &impl Abort, alloc: Global, library: &Library, text: &[u8], row: usize) {
+    expect_row(rt, is_refused(rt, alloc, library, text), row);
+}
+
+// A text is refused with each other byte in the place of one.
+fn expect_others_refused(
     rt: &impl Abort,
     alloc: Global,
     library: &Library,
     text: &[u8],
     place: usize,
-) -> Result<bool, AllocError>
+)
     requires { place < length text.now }
 {
     for other in 0..=u8::MAX {
-        let changed = joined(alloc, &[&text[..place], &[other], &text[place + 1..]])?;
-        if other != text[place] && !is_refused(rt, alloc, library, changed.as_slice()) {
-            return Ok(false);
-        }
+        let changed = joined(rt, alloc, &[&text[..place], &[other], &text[place + 1..]]);
+        let is_so = other == text[place] || is_refused(rt, alloc, library, &changed);
+        expect_row(rt, is_so, place);
     }
-    Ok(true)
 }
 
-// Is a text refused that has another byte at a place, and one that ends there?
-fn is_refused_at(
-    rt: &impl Abort,
-    alloc: Global,
-    library: &Library,
-    text: &[u8],
-    place: usize,
-) -> Result<bool, AllocError>
-    requires { place < length text.now }
-{
-    let is_so = is_refused_with_others(rt, alloc, library, text, place)?;
-    Ok(is_so && is_refused(rt, alloc, library, &text[..place]))
+// Beside a certificate each text is refused that has another byte, and each that ends early.
+fn expect_all_refused(rt: &impl Abort, alloc: Global, library: &Library, text: &[u8]) {
+    for place in 0..text.len() {
+        expect_others_refused(rt, alloc, library, text, place);
+        expect_refused(rt, alloc, library, &text[..place], place);
+    }
 }
 
 #[test]
-fn another_byte_is_refused(rt: HostRuntime) -> Result<(), Fail> {
-    let alloc = rt.alloc();
-    let library = library_of(&rt, alloc, MARK);
-    let certificate = joined(alloc, &LINES)?;
-    let text = certificate.as_slice();
-    expect(
-        &rt,
-        is_accepted(&rt, alloc, &library, text),
-        "the text itself",
-    );
-    for place in 0..text.len() {
-        let is_so = is_refused_at(&rt, alloc, &library, text, place)?;
-        expect_row(&rt, is_so, place);
-    }
-    let longer = joined(alloc, &[text, b"\n"])?;
-    expect(
-        &rt,
-        is_refused(&rt, alloc, &library, longer.as_slice()),
-        "a longer text",
-    );
-    Ok(())
+fn another_byte_is_refused(rt: HostRuntime) {
+    let library = library_of(&rt, rt.alloc(), MARK);
+    let text = joined(&rt, rt.alloc(), &LINES);
+    let is_so = is_accepted(&rt, rt.alloc(), &library, &text);
+    expect(&rt, is_so, "the text itself");
+    expect_all_refused(&rt, rt.alloc(), &library, &text);
+    let longer = joined(&rt, rt.alloc(), &[text.as_slice(), b"\n"]);
+    expect_refused(&rt, rt.alloc(), &library, &longer, text.len());
 }
 
 // The certificate with a line twice.
-fn doubled(alloc: Global, line: usize) -> Result<Vec<u8>, AllocError>
+fn doubled(rt: &impl Abort, alloc: Global, line: usize) -> Vec<u8>
     requires { line < 7 }
 {
-    let front = joined(alloc, &LINES[..=line])?;
-    let back = joined(alloc, &LINES[line..])?;
-    joined(alloc, &[front.as_slice(), back.as_slice()])
+    let front = joined(rt, alloc, &LINES[..=line]);
+    let back = joined(rt, alloc, &LINES[line..]);
+    joined(rt, alloc, &[front.as_slice(), back.as_slice()])
 }
 
 // The certificate with a line and the next one in each other's places.
-fn swapped(alloc: Global, line: usize) -> Result<Vec<u8>, AllocError>
+fn swapped(rt: &impl Abort, alloc: Global, line: usize) -> Vec<u8>
     requires { line < 6 }
 {
     let mut lines = LINES;
     lines.swap(line, line + 1);
-    joined(alloc, &lines)
+    joined(rt, alloc, &lines)
 }
 
 #[test]
-fn other_lines_are_refused(rt: HostRuntime) -> Result<(), Fail> {
-    let alloc = rt.alloc();
-    let library = library_of(&rt, alloc, MARK);
+fn other_lines_are_refused(rt: HostRuntime) {
+    let library = library_of(&rt, rt.alloc(), MARK);
     for line in 0..7 {
-        let text = doubled(alloc, line)?;
-        expect_row(&rt, is_refused(&rt, alloc, &library, text.as_slice()), line);
+        let text = doubled(&rt, rt.alloc(), line);
+        expect_refused(&rt, rt.alloc(), &library, &text, line);
     }
     for line in 0..6 {
-        let text = swapped(alloc, line)?;
-        expect_row(&rt, is_refused(&rt, alloc, &library, text.as_slice()), line);
+        let text = swapped(&rt, rt.alloc(), line);
+        expect_refused(&rt, rt.alloc(), &library, &text, line);
     }
-    Ok(())
 }
 
-// What is held would pass 64 bits with one character: the promise is for no text but the empty one.
+/// What is held would pass 64 bits with one character.
+const HUGE: &[u8] = b"TECO-CERT 1\nentry A\nneeds -\ncommands 8 + 4*N\n\
+size 1 + 18446744073709551615*N\nloop 3 held 18446744073709551615*N kept texts -\nend\n";
+
+// The promise is for no text but the empty one.
 #[test]
 fn a_size_that_no_text_has(rt: HostRuntime) {
-    let alloc = rt.alloc();
-    let library = library_of(&rt, alloc, MARK);
-    let text =
-        b"TECO-CERT 1\nentry A\nneeds -\ncommands 8 + 4*N\nsize 1 + 18446744073709551615*N\nloop 3 held 18446744073709551615*N kept texts -\nend\n";
-    let is_so = match checked(&rt, alloc, &library, text) {
+    let library = library_of(&rt, rt.alloc(), MARK);
+    let is_so = match checked(&rt, rt.alloc(), &library, HUGE) {
         Ok(verified) => verified.size().at(0) == Some(1) && verified.size().at(1).is_none(),
         Err(_) => false,
     };
     expect(&rt, is_so, "a size");
 }
 
-// Is a choice judged as it says?
-fn is_judged(rt: &impl Abort, alloc: Global, choice: &Choice) -> Result<bool, AllocError> {
+// A choice is judged as it says.
+fn expect_judged(rt: &impl Abort, alloc: Global, choice: &Choice, row: usize) {
     let (file, said, accepted) = *choice;
     let library = library_of(rt, alloc, file);
-    let text = joined(alloc, &[b"TECO-CERT 1\nentry A\nneeds -\n", said, b"end\n"])?;
-    Ok(if accepted {
-        is_accepted(rt, alloc, &library, text.as_slice())
+    let head = b"TECO-CERT 1\nentry A\nneeds -\n";
+    let text = joined(rt, alloc, &[head, said, b"end\n"]);
+    let is_so = if accepted {
+        is_accepted(rt, alloc, &library, &text)
     } else {
-        is_refused(rt, alloc, &library, text.as_slice())
-    })
+        is_refused(rt, alloc, &library, &text)
+    };
+    expect_row(rt, is_so, row);
 }
 
 #[test]
-fn other_choices_have_their_own_numbers(rt: HostRuntime) -> Result<(), Fail> {
-    for (number, choice) in CHOICES.iter().enumerate() {
-        expect_row(&rt, is_judged(&rt, rt.alloc(), choice)?, number);
+fn other_choices_have_their_own_numbers(rt: HostRuntime) {
+    for (row, choice) in CHOICES.iter().enumerate() {
+        expect_judged(&rt, rt.alloc(), choice, row);
     }
-    Ok(())
 }

@@ -1,24 +1,16 @@
 //! Verified macros on machines that a command string made ready: how the run stops, and the text
 //! that it leaves. A call that is refused memory is made once more, so that the rows also hold
 //! where one allocation fails.
-mod by_pages;
-mod certificates;
-mod editing;
-mod examples;
-mod verdicts;
-
-use super::trial::{expect, expect_row, library_of, verdict, verified_of};
+use crate::trial::{expect, expect_row, library_of, verified_of};
 use std::alloc::Global;
 use std::process::Abort;
-use std::test::Fail;
 use teco_apply::{NotReady, run_verified, run_verified_with};
 use teco_base::LIMIT;
 use teco_model::Stop;
 use teco_pages::MemHost;
 use teco_run::Machine;
 use teco_text::VecText;
-use teco_verifier::Refusal as Why;
-use teco_verify::{Library, Refusal, Verified, check_certificate};
+use teco_verify::Verified;
 
 // A library, a command string before its macro A, the steps of that macro, and the text that it
 // leaves.
@@ -54,47 +46,6 @@ fn prepare(rt: &impl Abort, machine: &mut Machine<VecText>, host: &mut MemHost, 
         stop => stop,
     };
     assert!(rt; matches!(stop, Stop::Ended { .. }));
-}
-
-// What the checker says of a certificate.
-fn checked<'l>(
-    rt: &impl Abort,
-    alloc: Global,
-    library: &'l Library,
-    text: &[u8],
-) -> Result<Verified<'l>, Refusal> {
-    assert!(rt; text.len() <= LIMIT);
-    match check_certificate(alloc, library, text) {
-        Err(Refusal::Memory) => check_certificate(alloc, library, text),
-        answer => answer,
-    }
-}
-
-// Whether it accepts a text, and that is the certificate's.
-fn is_accepted(rt: &impl Abort, alloc: Global, library: &Library, text: &[u8]) -> bool {
-    match checked(rt, alloc, library, text) {
-        Ok(verified) => match verified.certificate(alloc) {
-            Ok(printed) => printed.as_slice() == text,
-            Err(_) => false,
-        },
-        Err(_) => false,
-    }
-}
-
-// The length of its text.
-fn length_of(verified: &Verified<'_>) -> u64 {
-    match verified.text(verified.entry()) {
-        Some(text) => text.len() as u64,
-        None => 0,
-    }
-}
-
-// Whether so many steps are no more than it may take at N.
-fn is_within(verified: &Verified<'_>, n: u64, steps: u64) -> bool {
-    match verified.commands().at(n) {
-        Some(most) => steps <= most,
-        None => false,
-    }
 }
 
 // How its run stops.

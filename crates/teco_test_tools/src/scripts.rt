@@ -1,0 +1,126 @@
+//! Words that are run as scripts.
+use crate::trial::{expect, expect_text, kept};
+use std::io;
+use std::process::Abort;
+use teco_pages::FileHost;
+use teco_tools::Script::Word;
+use teco_tools::{Run, Script, run_scripts};
+use teco_verdicts::{Console, Escape};
+
+// Scripts that are run over a console.
+fn run_over<'a>(
+    rt: &HostRuntime,
+    console: &mut Console<Vec<u8>, Vec<u8>>,
+    scripts: &'a [Script<'a>],
+    until_code: bool,
+) -> bool {
+    let run = Run {
+        scripts,
+        escape: Escape::ByName,
+        limit: 1000,
+        cap: 1 << 20,
+        until_code,
+        settings: &[],
+    };
+    let mut host = FileHost::new(rt.alloc(), *rt);
+    run_scripts(rt, console, &run, &mut io::empty(), &mut host).is_ok()
+}
+
+/// Words that are run, whether the first code ends it, what is typed, and what is said.
+type Words = (&'static [Script<'static>], bool, &'static str, &'static str);
+
+const WORDS: [Words; 8] = [
+    (&[Word("1+2*3=")], false, "9\r\n", ""),
+    (&[Word("Iabc$HT"), Word("Z=")], false, "abc3\r\n", ""),
+    (
+        &[Word("Iab$9C"), Word("2=")],
+        false,
+        "?POP\r\n2\r\n",
+        "-e:1:6: ?POP at C (pointer 2, length 2): the pointer, or a place, would be outside the \
+         buffer\n    Iab$9C\n         ^\n",
+    ),
+    (
+        &[Word("Iab$9C"), Word("2=")],
+        true,
+        "?POP\r\n",
+        "-e:1:6: ?POP at C (pointer 2, length 2): the pointer, or a place, would be outside the \
+         buffer\n    Iab$9C\n         ^\n",
+    ),
+    (
+        &[Word("@^UA/J\n9C/MA")],
+        false,
+        "?POP\r\n",
+        "?POP at 2:2 in macro A: C (pointer 0, length 0): the pointer, or a place, would be \
+         outside the buffer\n",
+    ),
+    (
+        &[Word("ERsomleut_none")],
+        false,
+        "?FNF\r\n",
+        "-e:1:1: ?FNF at ERsomleut_none$ (pointer 0, length 0): the input can't be opened\n\
+         \x20   ERsomleut_none\n    ^\n\
+         teco: cannot open input somleut_none: No such file or directory (os error 2) (?FNF)\n",
+    ),
+    (
+        &[Word("Iabc$EX")],
+        false,
+        "",
+        "teco: EX ended the session with 3 characters in the buffer and no output, and they are \
+         dropped\n",
+    ),
+    (
+        &[Word("<")],
+        false,
+        "?UTC\r\n",
+        "-e:1:2: ?UTC at  (pointer 0, length 0): the command string ends too early\n    <\n\
+         \x20    ^\n",
+    ),
+];
+
+// What words type, and what is said of it.
+fn expect_words(abort: &impl Abort, rt: &HostRuntime, words: &Words) {
+    let (scripts, until_code, typed, said) = *words;
+    let mut console = kept(rt);
+    let is_run = run_over(rt, &mut console, scripts, until_code);
+    expect(abort, is_run, typed);
+    let (written, messages) = console.into_parts();
+    expect_text(abort, &written, typed);
+    expect_text(abort, &messages, said);
+}
+
+#[test]
+fn words_are_run(rt: HostRuntime) {
+    for words in WORDS.iter() {
+        expect_words(&rt, &rt, words);
+    }
+}
+
+// A word, and what it types: where it got an ESC too few, its end would be missed.
+const ENDED: [(&str, &str); 10] = [
+    ("", ""),
+    ("\r\n ", ""),
+    ("1=$$\n", "1\r\n"),
+    ("1=", "1\r\n"),
+    ("1=$", "1\r\n"),
+    ("1=$$", "1\r\n"),
+    ("FSa$$", "?SRH\r\n"),
+    ("FSa$b", "?SRH\r\n"),
+    ("1=$$2=", "1\r\n2\r\n"),
+    ("1=$$$", "1\r\n"),
+];
+
+// A word types this.
+fn expect_typed(abort: &impl Abort, rt: &HostRuntime, word: &str, typed: &str) {
+    let scripts = [Word(word)];
+    let mut console = kept(rt);
+    let is_run = run_over(rt, &mut console, &scripts, false);
+    expect(abort, is_run, word);
+    expect_text(abort, &console.out, typed);
+}
+
+#[test]
+fn words_get_the_escapes_that_they_lack(rt: HostRuntime) {
+    for (word, typed) in ENDED.iter() {
+        expect_typed(&rt, &rt, word, typed);
+    }
+}

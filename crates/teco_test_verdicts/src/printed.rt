@@ -1,0 +1,219 @@
+//! What is printed of verdicts, over libraries in a scratch folder.
+use crate::trial::expect;
+use std::alloc::Global;
+use std::fs;
+use std::process::Abort;
+use std::test::Fail;
+use teco_base::Reg;
+use teco_poly::Poly;
+use teco_verdicts::{
+    Console, Escape, Outcome, Premise, Request, Verdict, check_macro, verify_library_as_json,
+    verify_macro, verify_macro_as_json,
+};
+use teco_verifier::{Refusal as Why, Rules};
+
+// The bytes are those of a text.
+fn expect_text(rt: &impl Abort, found: &[u8], wanted: &str) {
+    assert!(rt; found == wanted.as_bytes(), "{wanted}: {found:?}");
+}
+
+// Writers over memory, in place of standard output and standard error.
+fn kept(rt: &HostRuntime) -> Console<Vec<u8>, Vec<u8>> {
+    Console::new(rt.alloc(), Vec::new(rt.alloc()), Vec::new(rt.alloc()))
+}
+
+// A library in the file of a name.
+fn library_file<'a>(rt: &HostRuntime, name: &'a str, text: &[u8]) -> Result<Request<'a>, Fail> {
+    fs::write(rt, name, text)?;
+    Ok(Request {
+        library: name,
+        escape: Escape::Mark(b'$'),
+        rules: Rules::First,
+    })
+}
+
+// The register of a name.
+fn register(rt: &impl Abort, name: u8) -> Reg {
+    let Some(register) = Reg::of(name) else {
+        panic!(rt; "a register");
+    };
+    register
+}
+
+/// A size and commands, and what is said of the texts that they hold for.
+const PREMISES: [(&[u8], &[u8], &str); 4] = [
+    (
+        b"1 + 2*N",
+        b"8 + 4*N",
+        "holds for texts up to N = 134,217,727 characters",
+    ),
+    (
+        b"12 + 13*N",
+        b"7 + 9*N",
+        "holds for texts up to N = 20,648,880 characters",
+    ),
+    (b"2147483647 + N", b"4294967301", "holds for no text"),
+    (
+        b"N",
+        b"5",
+        "holds for texts up to N = 268,435,456 characters",
+    ),
+];
+
+// A polynomial of a text.
+fn poly(rt: &impl Abort, text: &[u8]) -> Poly {
+    let Some(poly) = Poly::read(text) else {
+        panic!(rt; "a polynomial");
+    };
+    poly
+}
+
+// A premise is said so.
+fn expect_premise(rt: &impl Abort, alloc: Global, size: &[u8], commands: &[u8], said: &str) {
+    let premise = Premise::of(&poly(rt, size), &poly(rt, commands));
+    let printed = format!(in alloc; "{premise}").expect(rt, "memory");
+    expect_text(rt, printed.as_bytes(), said);
+}
+
+#[test]
+fn premises_are_the_last(rt: HostRuntime) {
+    for (size, commands, said) in PREMISES.iter() {
+        expect_premise(&rt, rt.alloc(), size, commands, said);
+    }
+}
+
+// The certificate that is printed of the macro A of a library, if it is accepted.
+fn certificate_of(rt: &HostRuntime, request: Request<'_>) -> Option<Vec<u8>> {
+    let mut console = kept(rt);
+    match verify_macro(rt, &mut console, request, Reg::default()) {
+        Ok(Outcome::Done) => Some(console.into_parts().0),
+        _ => None,
+    }
+}
+
+#[test]
+fn a_macro_is_verified(rt: HostRuntime) -> Result<(), Fail> {
+    let request = library_file(&rt, "somleut_tools_verified", b"@^UA/J<Sfoo$;I!$>/")?;
+    let certificate = certificate_of(&rt, request);
+    fs::remove_file(&rt, "somleut_tools_verified")?;
+    let Some(certificate) = certificate else {
+        panic!(rt; "accepted");
+    };
+    let wanted = "TECO-CERT 1\nentry A\nneeds -\ncommands 8 + 4*N\nsize 1 + 2*N\n\
+         loop 3 held 2*N kept texts -\nend\n";
+    expect_text(&rt, &certificate, wanted);
+    Ok(())
+}
+
+/// A reason, the name of a register and a place, and the line of the refusal.
+const LINES: [(Why, Option<u8>, usize, &str); 5] = [
+    (Why::Place, Some(b'a'), 1, "refused X6 in A at 1"),
+    (Why::Bound, Some(b'0'), 12, "refused X10 in 0 at 12"),
+    (Why::Overflow, Some(b'Z'), 0, "refused X17 in Z at 0"),
+    (Why::Library, None, 3, "refused X1 at 3"),
+    (Why::Certificate, None, 0, "refused X18"),
+];
+
+// A verdict is said so.
+fn expect_line(rt: &impl Abort, alloc: Global, verdict: &Verdict, line: &str) {
+    let printed = format!(in alloc; "{verdict}").expect(rt, "memory");
+    expect_text(rt, printed.as_bytes(), line);
+}
+
+#[test]
+fn refusals_are_printed(rt: HostRuntime) {
+    for (why, name, place, line) in LINES.iter() {
+        let verdict = Verdict {
+            why: *why,
+            register: name.and_then(Reg::of),
+            place: *place,
+        };
+        expect_line(&rt, rt.alloc(), &verdict, line);
+    }
+}
+
+/// What is said of two macros of a library, of which there is a third one.
+const ROWS: &str = "{\"macro\": \"A\", \"accepted\": true, \"commands\": [8, 4], \
+\"size\": [1, 2], \"needs_input\": false, \"needs_output\": false, \"greatest_n\": 134217727}\n\
+{\"macro\": \"B\", \"accepted\": false, \"refusal\": \"X6\", \"register\": \"B\", \
+\"place\": 3, \"line\": 3, \"column\": 2}\n";
+
+// All of it is said of a library.
+fn expect_all(abort: &impl Abort, rt: &HostRuntime, request: Request<'_>) {
+    let mut console = kept(rt);
+    let outcome = verify_library_as_json(rt, &mut console, request);
+    let is_begun = console.out.starts_with(ROWS.as_bytes());
+    let is_ended = console.out.ends_with(b"\"greatest_n\": null}\n");
+    let is_refused = matches!(outcome, Ok(Outcome::Refused));
+    expect(abort, is_refused && is_begun && is_ended, "a library");
+}
+
+// The last row is said of a macro.
+fn expect_last(abort: &impl Abort, rt: &HostRuntime, request: Request<'_>) {
+    let mut console = kept(rt);
+    let entry = register(abort, b'B');
+    let outcome = verify_macro_as_json(rt, &mut console, request, entry);
+    let is_last = !console.out.is_empty() && ROWS.as_bytes().ends_with(&console.out);
+    let is_refused = matches!(outcome, Ok(Outcome::Refused));
+    expect(abort, is_refused && is_last, "a macro");
+}
+
+#[test]
+fn verdicts_are_json(rt: HostRuntime) -> Result<(), Fail> {
+    let name = "somleut_tools_json";
+    let text = b"@^UA/J<Sfoo$;I!$>/\n@^UB/J\n5C/@^UC~J2147483647U0Q0<I*$>~";
+    let request = library_file(&rt, name, text)?;
+    expect_all(&rt, &rt, request);
+    expect_last(&rt, &rt, request);
+    fs::remove_file(&rt, name)?;
+    Ok(())
+}
+
+// The check of a certificate for the macro A of a library comes to this, and prints this.
+fn expect_check(
+    abort: &impl Abort,
+    rt: &HostRuntime,
+    request: Request<'_>,
+    name: &str,
+    wanted: (Outcome, &str),
+) {
+    let mut console = kept(rt);
+    let outcome = check_macro(rt, &mut console, request, Reg::default(), name);
+    expect_text(abort, &console.out, wanted.1);
+    let is_so = matches!(outcome, Ok(outcome) if outcome == wanted.0);
+    expect(abort, is_so, wanted.1);
+}
+
+// The certificate of a macro that the second edition alone accepts.
+fn second_certificate(abort: &impl Abort, rt: &HostRuntime, first: Request<'_>) -> Vec<u8> {
+    let second = Request {
+        rules: Rules::Second,
+        ..first
+    };
+    let is_refused = certificate_of(rt, first).is_none();
+    expect(abort, is_refused, "the first edition");
+    let Some(certificate) = certificate_of(rt, second) else {
+        panic!(abort; "the second edition");
+    };
+    certificate
+}
+
+// A macro that the second edition alone accepts, and its certificate, which the first one refuses.
+#[test]
+fn certificates_are_of_an_edition(rt: HostRuntime) -> Result<(), Fail> {
+    let request = library_file(&rt, "somleut_tools_rules", b"@^UA/J<I> $L.-Z;>/")?;
+    let second = Request {
+        rules: Rules::Second,
+        ..request
+    };
+    let certificate = second_certificate(&rt, &rt, request);
+    let is_second = certificate.starts_with(b"TECO-CERT 1\nentry A\nrules 2\n");
+    expect(&rt, is_second, "its certificate");
+    let name = "somleut_tools_rules_cert";
+    fs::write(&rt, name, certificate.as_slice())?;
+    expect_check(&rt, &rt, second, name, (Outcome::Done, "accepted\n"));
+    expect_check(&rt, &rt, request, name, (Outcome::Refused, "refused X18\n"));
+    fs::remove_file(&rt, "somleut_tools_rules")?;
+    fs::remove_file(&rt, name)?;
+    Ok(())
+}

@@ -1,0 +1,5 @@
+//! Tests of `teco_words`.
+#![tactic(auto)]
+
+#[cfg(test)]
+mod words;
