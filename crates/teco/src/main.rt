@@ -20,8 +20,8 @@ use teco_verdicts::{
 };
 use teco_words::{Arguments, WordsFault};
 
-/// The words are no command, or a file of macros, a certificate, standard input, standard output or
-/// memory failed.
+/// The command line names no command, or a file of macros, a certificate, standard input, standard
+/// output or memory failed.
 const FAILED: u8 = 2;
 
 // `run`.
