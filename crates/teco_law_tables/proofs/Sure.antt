@@ -11,7 +11,7 @@ use Rattle.teco_model.specs.declared.kind.Search.TheVariants as search
 use Rattle.teco_model.specs.declared.stop.HostFault.TheVariants as host_fault
 use Rattle.teco_model.specs.declared.stop.Stop.TheVariants as stop
 use Rattle.teco_model.specs.Element.{Element, element_at}
-use Rattle.teco_model.specs.Faults.{PageBreaks, SearchBreaks, Breaks, BreaksAt, BreaksFrom}
+use Rattle.teco_model.specs.Faults.{Breaks, BreaksAt, BreaksFrom}
 use Rattle.teco_model.specs.Going.{Course, Behind, Again, Along, Into, Quit, NoFile, Refused, Reply, settled, settle, world_left}
 use Rattle.teco_model.specs.Memory.{grows}
 use Rattle.teco_model.specs.Run.{run, go_on, Reaches}
@@ -71,7 +71,7 @@ before_or_at s most ends k t reached = by (cases_order ends.steps k)
     by (inr (inr before)) = inl before
 
 -- ---- a command of files alone may find no file
-page_reads : (p : Page) (reads : Bool) (before after new : World) → PageBreaks p reads host_fault.NoFile before after new → ⊥
+page_reads : (p : Page) (reads : Bool) (before after new : World) → Breaks (kind.Page p) reads host_fault.NoFile before after new → ⊥
 page_reads page.Yank reads before after new h = h
 page_reads page.Append true before after new h = h
 page_reads page.Append false before after new h = h
@@ -79,16 +79,16 @@ page_reads page.Next true before after new h = h
 page_reads page.Next false before after new h = h
 page_reads page.Write reads before after new h = h
 
-search_reads : (q : Search) (before after new : World) → SearchBreaks q host_fault.NoFile before after new → ⊥
-search_reads search.Find before after new h = h
-search_reads search.Replace before after new h = h
-search_reads search.FindInPages before after new h = h
-search_reads search.ReplaceInPages before after new h = h
+search_reads : (q : Search) (grows : Bool) (before after new : World) → Breaks (kind.Search q) grows host_fault.NoFile before after new → ⊥
+search_reads search.Find grows before after new h = h
+search_reads search.Replace grows before after new h = h
+search_reads search.FindInPages grows before after new h = h
+search_reads search.ReplaceInPages grows before after new h = h
 
 kind_opens : (k : Kind) (grows : Bool) (before after new : World) → is_of_files k ≡ false → Breaks k grows host_fault.NoFile before after new → ⊥
 kind_opens (kind.File f) grows before after new none h = absurd (cc)
 kind_opens (kind.Page p) grows before after new none h = page_reads p grows before after new h
-kind_opens (kind.Search q) grows before after new none h = search_reads q before after new h
+kind_opens (kind.Search q) grows before after new none h = search_reads q grows before after new h
 kind_opens k grows before after new none h = h
 
 read_opens : (t : State) (r : Result (Option Element) Code) (new : World) → ((read : Option Element) → r ≡ Ok read → changes_files read ≡ false) → BreaksAt t r host_fault.NoFile new → ⊥

@@ -6,11 +6,8 @@ use Rattle.teco_base.specs.declared.code.Code.{Code}
 use Rattle.teco_base.specs.declared.code.Code.TheVariants as code
 use Rattle.teco_model.specs.declared.kind.Kind.{Kind}
 use Rattle.teco_model.specs.declared.kind.Kind.TheVariants as kind
-use Rattle.teco_model.specs.declared.kind.File.{File}
 use Rattle.teco_model.specs.declared.kind.File.TheVariants as file
-use Rattle.teco_model.specs.declared.kind.Page.{Page}
 use Rattle.teco_model.specs.declared.kind.Page.TheVariants as page
-use Rattle.teco_model.specs.declared.kind.Search.{Search}
 use Rattle.teco_model.specs.declared.kind.Search.TheVariants as search_kind
 use Rattle.teco_model.specs.declared.stop.HostFault.{HostFault}
 use Rattle.teco_model.specs.declared.stop.HostFault.TheVariants.{NoFile, In, Out}
@@ -34,80 +31,26 @@ pub record WritesPart (before after new : World) : Type 0 where
 abbrev pub without_files : World → World
 without_files world = record world { files = record world.files { input = None; output = None } }
 
--- how pages are read and written
-abbrev pub ReadsPage : HostFault → World → World → Type 0
-ReadsPage NoFile before new = ⊥
-ReadsPage In before new = new ≡ before
-ReadsPage Out before new = ⊥
-
-abbrev pub TurnsPage : HostFault → World → World → World → Type 0
-TurnsPage NoFile before after new = ⊥
-TurnsPage In before after new = new ≡ before
-TurnsPage Out before after new = WritesPart before after new
-
-abbrev pub WritesPage : HostFault → World → World → World → Type 0
-WritesPage NoFile before after new = ⊥
-WritesPage In before after new = ⊥
-WritesPage Out before after new = WritesPart before after new
-
--- how files are opened, closed, abandoned and copied
-abbrev pub OpensInput : HostFault → World → World → Type 0
-OpensInput NoFile before new = new ≡ before
-OpensInput In before new = ⊥
-OpensInput Out before new = ⊥
-
-abbrev pub OpensOutput : HostFault → World → World → Type 0
-OpensOutput NoFile before new = ⊥
-OpensOutput In before new = ⊥
-OpensOutput Out before new = new ≡ before
-
-abbrev pub LetsOutputGo : HostFault → World → World → Type 0
-LetsOutputGo NoFile before new = ⊥
-LetsOutputGo In before new = ⊥
-LetsOutputGo Out before new = new ≡ abandon_output before
-
-abbrev pub CopiesAll : HostFault → World → World → Type 0
-CopiesAll NoFile before new = ⊥
-CopiesAll In before new = new ≡ without_files before
-CopiesAll Out before new = new ≡ without_files before
-
--- what a fault leaves where pages are read or written, by whether the command reads one
-abbrev pub PageBreaks : Page → Bool → HostFault → World → World → World → Type 0
-PageBreaks page.Yank reads fault before after new = ReadsPage fault before new
-PageBreaks page.Append true fault before after new = ReadsPage fault before new
-PageBreaks page.Append false fault before after new = ⊥
-PageBreaks page.Next true fault before after new = TurnsPage fault before after new
-PageBreaks page.Next false fault before after new = WritesPage fault before after new
-PageBreaks page.Write reads fault before after new = WritesPage fault before after new
-
--- of searches N and FN alone go to the host
-abbrev pub SearchBreaks : Search → HostFault → World → World → World → Type 0
-SearchBreaks search_kind.Find fault before after new = ⊥
-SearchBreaks search_kind.Replace fault before after new = ⊥
-SearchBreaks search_kind.FindInPages fault before after new = TurnsPage fault before after new
-SearchBreaks search_kind.ReplaceInPages fault before after new = TurnsPage fault before after new
-
--- where files are opened and closed
-abbrev pub FileBreaks : File → HostFault → World → World → Type 0
-FileBreaks file.Read fault before new = OpensInput fault before new
-FileBreaks file.Write fault before new = OpensOutput fault before new
-FileBreaks file.Close fault before new = LetsOutputGo fault before new
-FileBreaks file.Abandon fault before new = LetsOutputGo fault before new
-FileBreaks file.Copy fault before new = CopiesAll fault before new
-FileBreaks file.Exit fault before new = CopiesAll fault before new
-
--- No other element goes to the host. A command of pages reads one if it grows.
+-- what a fault leaves, by what the element does with the files; A and P read a page if they grow
 abbrev pub Breaks : Kind → Bool → HostFault → World → World → World → Type 0
-Breaks (kind.Argument a) grows fault before after new = ⊥
-Breaks (kind.Value v) grows fault before after new = ⊥
-Breaks (kind.Query q) grows fault before after new = ⊥
-Breaks (kind.Stack k) grows fault before after new = ⊥
-Breaks (kind.Call c) grows fault before after new = ⊥
-Breaks (kind.Flow f) grows fault before after new = ⊥
-Breaks (kind.Command c) grows fault before after new = ⊥
-Breaks (kind.Search x) grows fault before after new = SearchBreaks x fault before after new
-Breaks (kind.Page p) grows fault before after new = PageBreaks p grows fault before after new
-Breaks (kind.File f) grows fault before after new = FileBreaks f fault before new
+Breaks (kind.Page page.Yank) grows In before after new = new ≡ before
+Breaks (kind.Page page.Append) true In before after new = new ≡ before
+Breaks (kind.Page page.Next) true In before after new = new ≡ before
+Breaks (kind.Page page.Next) grows Out before after new = WritesPart before after new
+Breaks (kind.Page page.Write) grows Out before after new = WritesPart before after new
+Breaks (kind.Search search_kind.FindInPages) grows In before after new = new ≡ before
+Breaks (kind.Search search_kind.FindInPages) grows Out before after new = WritesPart before after new
+Breaks (kind.Search search_kind.ReplaceInPages) grows In before after new = new ≡ before
+Breaks (kind.Search search_kind.ReplaceInPages) grows Out before after new = WritesPart before after new
+Breaks (kind.File file.Read) grows NoFile before after new = new ≡ before
+Breaks (kind.File file.Write) grows Out before after new = new ≡ before
+Breaks (kind.File file.Close) grows Out before after new = new ≡ abandon_output before
+Breaks (kind.File file.Abandon) grows Out before after new = new ≡ abandon_output before
+Breaks (kind.File file.Copy) grows In before after new = new ≡ without_files before
+Breaks (kind.File file.Copy) grows Out before after new = new ≡ without_files before
+Breaks (kind.File file.Exit) grows In before after new = new ≡ without_files before
+Breaks (kind.File file.Exit) grows Out before after new = new ≡ without_files before
+Breaks k grows fault before after new = ⊥
 
 -- Every code comes whatever the host does, but for those that are only told by reading a page: that it is too long,
 -- or that there is none, so that a search fails. The SRH of such a search writes the buffer, too.
