@@ -11,7 +11,7 @@ ghost use Rattle.teco_expansion.specs.Texts.{library_of};
 ghost use Rattle.teco_expansion.specs.Walks.{walk_seen};
 
 use crate::few::Few;
-use crate::link::{base_of, way_numbers};
+use crate::link::{Link, base_of, way_numbers};
 use crate::names::names_macro;
 use crate::node::Node;
 use crate::nodes::Nodes;
@@ -78,7 +78,14 @@ fn node_at(
         Err(reason) => return Err(refusal_at(texts, visit, reason)),
     };
     let base = base_of(&element, number, &visit.stand.iterations);
-    let ways = way_numbers(texts, walk, stands, base, number, visit, &targets)?;
+    let link = Link {
+        texts,
+        walk,
+        stands,
+        number,
+        visit,
+    };
+    let ways = way_numbers(&link, base, &targets)?;
     let names_macro = names_macro(texts, &element);
     Ok(Node {
         stand: visit.stand,

@@ -4,15 +4,12 @@ ghost use Rattle.teco_model.specs.Element.{seen};
 ghost use Rattle.teco_verifier.specs.expansion.Expansion as model;
 ghost use Rattle.teco_verifier.specs.expansion.Node as node;
 ghost use Rattle.teco_verifier.specs.expansion.Position as places;
-ghost use Rattle.teco_verifier.specs.expansion.Refusal as refusal;
 ghost use Rattle.teco_expansion.specs.Few.{listed};
-ghost use Rattle.teco_expansion.specs.Linking.{open_in, has_place, way_number, AreStandsOf};
+ghost use Rattle.teco_expansion.specs.Linking.{open_in, has_place, way_number, IsLink, numbers_of, overlap_of};
 ghost use Rattle.teco_expansion.specs.Refused.{refusal_seen, Answers};
 ghost use Rattle.teco_expansion.specs.Seen.{position_seen, stand_seen, visit_seen, ways_seen};
-ghost use Rattle.teco_expansion.specs.Texts.{library_of};
 ghost use Rattle.teco_expansion.specs.Walks.{walk_seen};
 ghost use Rattle.teco_expansion.specs.declared.few.TheConstants.{ROOM};
-ghost use Rattle.teco_expansion.specs.declared.texts.Texts.{Texts};
 
 use crate::few::{Few, ROOM};
 use crate::refusal::{Reason, Refusal};
@@ -102,100 +99,71 @@ fn any_place(texts: &Texts<'_>, number: usize, stands: &[Stand], position: &Posi
     false
 }
 
+/// A visit whose ways are being numbered: the stands among which they lead, what the walk came to
+/// that gave those, and the number of the visited element.
+#[derive(Clone, Copy)]
+pub struct Link<'a> {
+    pub texts: &'a Texts<'a>,
+    pub walk: &'a Walk,
+    pub stands: &'a [Stand],
+    pub number: usize,
+    pub visit: &'a Visit,
+}
+
 // Why a way leads nowhere: pairs overlap, or the walk was refused before it came there.
-fn refusal_of_way(
-    texts: &Texts<'_>,
-    first: usize,
-    stands: &[Stand],
-    stopped: Option<Refusal>,
-    overlap: Refusal,
-    stand: &Stand,
-) -> Refusal
+fn refusal_of_way(link: &Link<'_>, first: usize, stand: &Stand) -> Refusal
     ensures { refusal_seen result ≡ model.refusal_of_way first
-        (map (stand_seen texts.now) stands.now)
-        (option_map refusal_seen stopped) (refusal_seen overlap) (stand_seen texts.now stand.now) }
+        (map (stand_seen link.now.texts.now) link.now.stands.now)
+        (option_map refusal_seen link.now.walk.now.refusal)
+        (overlap_of link.now) (stand_seen link.now.texts.now stand.now) }
 {
-    if any_place(texts, first, stands, &stand.position) {
+    let overlap = refusal_at(link.texts, link.visit, Reason::Unpaired);
+    if any_place(link.texts, first, link.stands, &stand.position) {
         return overlap;
     }
-    match stopped {
-        Some(refusal) => refusal,
-        None => overlap,
-    }
+    link.walk.refusal.unwrap_or(overlap)
 }
 
 // The number that one way leads to.
-fn number_of_way(
-    texts: &Texts<'_>,
-    walk: &Walk,
-    stands: &[Stand],
-    first: usize,
-    number: usize,
-    visit: &Visit,
-    target: &Position,
-) -> Result<usize, Refusal>
-    requires stands { AreStandsOf texts.now walk.now stands.now }
-    requires room { length (listed visit.now.stand.iterations) < ROOM }
+fn number_of_way(link: &Link<'_>, first: usize, target: &Position) -> Result<usize, Refusal>
+    requires { IsLink link.now }
     ensures { Answers (λ way. way) result
-        (way_number texts.now.entry (walk_seen texts.now walk.now) first number
-        (visit_seen texts.now visit.now) (position_seen texts.now target.now)) }
+        (way_number link.now.texts.now.entry (walk_seen link.now.texts.now link.now.walk.now)
+        first link.now.number (visit_seen link.now.texts.now link.now.visit.now)
+        (position_seen link.now.texts.now target.now)) }
 {
-    let stand = stand_at(texts, number, &visit.stand, target);
-    match number_behind(texts, first, stands, &stand) {
+    let stand = stand_at(link.texts, link.number, &link.visit.stand, target);
+    match number_behind(link.texts, first, link.stands, &stand) {
         Some(way) => Ok(way),
-        None => {
-            let overlap = refusal_at(texts, visit, Reason::Unpaired);
-            Err(refusal_of_way(texts, first, stands, walk.refusal, overlap, &stand))
-        }
+        None => Err(refusal_of_way(link, first, &stand)),
     }
 }
 
 // The number of the only way that is left.
 #[tactic(auto, unfolding(teco_verifier::specs::expansion::Expansion::way_numbers))]
-fn last_number(
-    texts: &Texts<'_>,
-    walk: &Walk,
-    stands: &[Stand],
-    first: usize,
-    number: usize,
-    visit: &Visit,
-    target: &Position,
-) -> Result<Few<usize>, Refusal>
-    requires stands { AreStandsOf texts.now walk.now stands.now }
-    requires room { length (listed visit.now.stand.iterations) < ROOM }
+fn last_number(link: &Link<'_>, first: usize, target: &Position) -> Result<Few<usize>, Refusal>
+    requires { IsLink link.now }
     ensures value { Answers listed result
-        (model.way_numbers (library_of texts.now) texts.now.entry
-        (walk_seen texts.now walk.now) first number
-        (visit_seen texts.now visit.now) (position_seen texts.now target.now ∷ [])) }
+        (numbers_of first (position_seen link.now.texts.now target.now ∷ []) link.now) }
     ensures few { IfOk result (λ ways. length (listed ways) ≡ 1) }
 {
-    let way = number_of_way(texts, walk, stands, first, number, visit, target)?;
+    let way = number_of_way(link, first, target)?;
     Ok(Few::empty(0).with(way))
 }
 
 /// The numbers that ways lead to, the first of them behind a number of its own.
 #[tactic(auto, unfolding(teco_verifier::specs::expansion::Expansion::way_numbers))]
-pub fn way_numbers(
-    texts: &Texts<'_>,
-    walk: &Walk,
-    stands: &[Stand],
-    first: usize,
-    number: usize,
-    visit: &Visit,
-    ways: &Ways,
-) -> Result<Few<usize>, Refusal>
-    requires stands { AreStandsOf texts.now walk.now stands.now }
-    requires room { length (listed visit.now.stand.iterations) < ROOM }
-    ensures { Answers listed result (model.way_numbers (library_of texts.now)
-        texts.now.entry (walk_seen texts.now walk.now) first number
-        (visit_seen texts.now visit.now) (ways_seen texts.now ways.now)) }
+pub fn way_numbers(link: &Link<'_>, first: usize, ways: &Ways) -> Result<Few<usize>, Refusal>
+    requires { IsLink link.now }
+    ensures { Answers listed result
+        (numbers_of first (ways_seen link.now.texts.now ways.now) link.now) }
 {
     match ways {
         Ways::End => Ok(Few::empty(0)),
-        Ways::One(target) => last_number(texts, walk, stands, first, number, visit, target),
+        Ways::One(target) => last_number(link, first, target),
         Ways::Two(one, other) => {
-            let way = number_of_way(texts, walk, stands, first, number, visit, one)?;
-            match last_number(texts, walk, stands, number, number, visit, other) {
+            let way = number_of_way(link, first, one)?;
+            match last_number(link, link.number, other) {
                 Ok(last) => Ok(last.with(way)),
                 Err(refusal) => Err(refusal),
             }
