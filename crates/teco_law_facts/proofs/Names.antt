@@ -1,6 +1,5 @@
 -- The register that an element names is one of the 36.
-use Rattle.std.proofs.Common.{◌≡◌, ℕ, ◌+◌, ◌-◌, ◌<◌, ◌≤◌, arith, refl, subst, List, [], ◌∷◌, take, drop, length, Option, Some, None, option_map, IfSome, Result, Ok, Err, IfOk, ok_or, Bool, true, false, cond, nat_le, ◌==◌, ◌&&◌}
-use Rattle.std.specs.List.{prefix_len}
+use Rattle.std.proofs.Common.{◌≡◌, ℕ, ◌+◌, ◌-◌, ◌<◌, ◌≤◌, arith, refl, List, [], ◌∷◌, Option, Some, None, option_map, IfSome, Result, IfOk, Bool, true, false, cond, nat_le, ◌==◌, ◌&&◌}
 use Rattle.std.specs.Option.{option_or}
 use Rattle.std.specs.Prelude.{⊤, codes, option_and_then}
 use Rattle.std.proofs.lemmas.Bool.Decides.{nat_tests}
@@ -9,10 +8,7 @@ use Rattle.teco_base.specs.Register.{register_of}
 use Rattle.teco_base.specs.declared.TheConstants.{REGISTERS}
 use Rattle.teco_base.specs.declared.bytes.TheConstants.{QUOTE}
 use Rattle.teco_base.specs.declared.code.Code.{Code}
-use Rattle.teco_base.specs.declared.code.Code.TheVariants as code
-use Rattle.teco_model.specs.Checked.{◌>>=◌}
-use Rattle.teco_model.specs.Element.{Element, TextsRead, is_modifier, modifiers_refused, colons_in, ats_in, blank_end, kind_read, texts, element_from, element_at}
-use Rattle.teco_model.specs.Form.{kind_on, texts_of}
+use Rattle.teco_model.specs.Form.{kind_on}
 use Rattle.teco_model.specs.Letters as letter
 use Rattle.teco_model.specs.Letters.{letters}
 use Rattle.teco_model.specs.declared.head.Head.{Head}
@@ -26,7 +22,8 @@ use Rattle.teco_model.specs.declared.kind.Flow.TheVariants as flow
 use Rattle.teco_model.specs.declared.kind.Goal.{Goal}
 use Rattle.teco_model.specs.declared.kind.Search.{Search}
 use Rattle.teco_model.specs.declared.kind.Test.{Test}
-use Rattle.teco_law_facts.proofs.Bytes.{of_either, ok_then, ok_any}
+use Rattle.teco_model.proofs.Standing.{IsOfHead, found_read}
+use Rattle.teco_law_facts.proofs.Bytes.{of_either}
 use Rattle.teco_law_facts.specs.SoundSteps.{IsNamed, ElementsAreNamed}
 
 -- ---- heads
@@ -132,39 +129,14 @@ letters_so (b ∷ rest) =
     (of_either Q (is_among b (codes "^")) _ _ (caret_so rest)
     (of_either Q (is_among (to_upper b) (codes "P")) _ _ (page_so rest) (head_so _ 1 (one_so b))))))))
 
-kind_so : (h : Head) (bytes : List ℕ) → IsPlain h → IfOk (kind_read h bytes) (λ (k : Kind × List ℕ). IsNamed k.0)
-kind_so (head.Kind k) bytes h = h
-kind_so (head.OnRegister c) [] h = tt
-kind_so (head.OnRegister c) (name ∷ rest) h = by _ (register_small name) where
-  by : (o : Option ℕ) → IfSome o (λ r. r < REGISTERS) → IfOk (ok_or o code.Iqn >>= λ r. Ok (kind_on c r, rest)) (λ (k : Kind × List ℕ). IsNamed k.0)
-  by None l = tt
-  by (Some r) l = named_on c r l
-
--- ---- elements
-abbrev IsNamedElement : Element → Type 0
-IsNamedElement e = IsNamed e.kind
-
-made_so : (k : Kind) (modifiers text : List ℕ) (place : ℕ) (r : Result TextsRead Code) → IsNamed k → IfOk (r >>= λ read. Ok (record { kind = k; colons = colons_in modifiers; at = nat_le 1 (ats_in modifiers); text = read.text; second = read.second; place = place; next = length text - length read.rest })) IsNamedElement
-made_so k modifiers text place (Ok read) n = n
-made_so k modifiers text place (Err c) n = tt
-
-element_so : (text : List ℕ) (place : ℕ) → IfOk (element_from text place) IsNamedElement
-unfolding element_from
-element_so text place =
-    let bytes = drop place text in
-    let modifiers = take (prefix_len is_modifier bytes) bytes in
-    let behind = drop (prefix_len is_modifier bytes) bytes in
-    ok_then (λ (h : Head × ℕ). IsPlain h.0) IsNamedElement (letters behind) _ (letters_so behind) (λ named n.
-    ok_any IsNamedElement (modifiers_refused named.0 modifiers) _ (λ allowed.
-    ok_then (λ (k : Kind × List ℕ). IsNamed k.0) IsNamedElement (kind_read named.0 (drop named.1 behind)) _ (kind_so named.0 (drop named.1 behind) n) (λ kind k.
-    made_so kind.0 modifiers text place (texts (texts_of kind.0) (nat_le 1 (ats_in modifiers)) (take named.1 behind) kind.1) k)))
+kind_so : (h : Head) (k : Kind) → IsPlain h → IsOfHead h k → IsNamed k
+kind_so (head.Kind k) kind p is = rw is p
+kind_so (head.OnRegister c) kind p is =
+    let small : is.register < REGISTERS = rw is.named at (register_small is.name) in
+    rw is.is (named_on c is.register small)
 
 pub elements_are_named : ElementsAreNamed
-unfolding element_at
-elements_are_named text at e r = by (nat_le (length text) (blank_end text at)) r where
-  by : (b : Bool) → elim b as (λ x. Result (Option Element) Code) [ true ↦ Ok None | false ↦ (element_from text (blank_end text at) >>= λ element. Ok (Some element)) ] ≡ Ok (Some e) → IsNamed e.kind
-  by true r = absurd (cc)
-  by false r = read _ (element_so text (blank_end text at)) r where
-    read : (o : Result Element Code) → IfOk o IsNamedElement → (o >>= λ element. Ok (Some element)) ≡ Ok (Some e) → IsNamed e.kind
-    read (Err c) n r = absurd (cc)
-    read (Ok other) n r = let same : other ≡ e = cc in subst IsNamedElement same n
+elements_are_named text at e h =
+    let r = found_read text at e h in
+    let plain : IsPlain r.head = rw r.named at (letters_so r.behind) in
+    kind_so r.head e.kind plain r.kind

@@ -1,5 +1,5 @@
 -- What the header of a library says.
-use Rattle.std.proofs.Common.{◌≡◌, ◌≢◌, ℕ, ◌+◌, ◌<◌, ◌≤◌, ◌^◌, List, [], ◌∷◌, ◌++◌, length, Bool, true, false, ◌==◌, ◌&&◌, Option, Some, None, MatchOption, refl, sym, ap, ◌∙◌, arith, append-nil}
+use Rattle.std.proofs.Common.{◌≡◌, ◌≢◌, ℕ, List, [], ◌∷◌, ◌++◌, length, Bool, true, false, ◌==◌, ◌&&◌, Option, Some, None, MatchOption, refl, sym, ap, ◌∙◌, arith, append-nil}
 use Rattle.std.specs.Prelude.{codes, if◌then◌else◌}
 use Rattle.std.specs.Fmt.{decimal}
 use Rattle.std.specs.Option.{option_and_then}
@@ -8,7 +8,6 @@ use Rattle.std.proofs.lemmas.Bool.Decides.{nat_tests}
 use Rattle.std.proofs.lemmas.List.Elements.{All-nil}
 use Rattle.teco_poly.specs.Reading.{IsNumberAt}
 use Rattle.teco_poly.proofs.Front.{one_number}
-use Rattle.teco_base.specs.Register.{register_name}
 use Rattle.teco_model.specs.Ahead.{Reading, Whole, Faulty, reading_at, readings}
 use Rattle.teco_model.proofs.Ahead.{readings-some, readings-none}
 use Rattle.teco_library.specs.Header.{Declared, HasNoOtherHeader, IsDeclared, first_comment, header_text, header_word, is_comment}

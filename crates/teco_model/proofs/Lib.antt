@@ -1,7 +1,9 @@
 pub mod Worked
 pub mod WorkedPages
 pub mod WorkedSkips
+pub mod Chains
 pub mod Progress
+pub mod Standing
 pub mod Ahead
 pub mod SkipSteps
 pub mod Digits
