@@ -1,5 +1,5 @@
 -- As many texts wait as registers are open, and as many iterations are open as the texts have; so there is room for one more.
-use Rattle.std.proofs.Common.{◌≡◌, ℕ, ◌≤◌, List, [], ◌∷◌, ◌++◌, map, drop, length, Bool, true, false, not, Option, Some, None, Result, Ok, Err, refl, sym, ap, ◌∙◌, subst, nat_le, ◌&&◌, length-append, length-drop, arith}
+use Rattle.std.proofs.Common.{◌≡◌, ℕ, ◌≤◌, List, [], ◌∷◌, ◌++◌, map, drop, length, Bool, true, false, not, Option, Some, None, Ok, refl, sym, ap, ◌∙◌, subst, nat_le, ◌&&◌, length-append, length-drop, arith}
 use Rattle.std.proofs.lemmas.List.{length-map}
 use Rattle.std.proofs.lemmas.Bool.{leb-true}
 use Rattle.teco_model.specs.declared.kind.Flow.TheVariants as flow
@@ -12,8 +12,9 @@ use Rattle.teco_verifier.specs.expansion.Node.{Stand}
 use Rattle.teco_verifier.specs.expansion.Order.{position_in_text, position_behind_call, stand_behind_kind}
 use Rattle.teco_verifier.specs.expansion.Overlap.{overlaps}
 use Rattle.teco_verifier.specs.expansion.Position.{Spot, Position, starts_in, depth}
-use Rattle.teco_verifier.specs.expansion.Refusal.{Reason, Unpaired, Recursion, TooLarge, unless, ◌>>=◌}
+use Rattle.teco_verifier.specs.expansion.Refusal.{Reason, Unpaired, Recursion, TooLarge, unless}
 use Rattle.teco_verifier.specs.expansion.Ways.{read_at, end_ways, flow_ways, return_ways, call_ways, element_ways, ways_at}
+use Rattle.teco_model.proofs.Chains.{bound, ok}
 use Rattle.teco_expansion.specs.Few.{listed}
 use Rattle.teco_expansion.specs.Room.{HasRoom}
 use Rattle.teco_expansion.specs.Seen.{spot_seen, visit_seen}
@@ -78,16 +79,6 @@ unfolding ways_at
 read_even library number None v ways w even = returned_even v.stand.position.running.starts v.stand.position.callers v.stand v.registers ways refl refl w even
 read_even library number (Some e) v ways w even = kind_even library number e.kind e v.stand v.registers ways w even
 
--- what a step before another gave
-record Bound {X Y : Type 0} (r : Result X Reason) (f : X → Result Y Reason) (y : Y) : Type 0 where
-  before : X
-  was : r ≡ Ok before
-  gives : f before ≡ Ok y
-
-bound : {X Y : Type 0} (r : Result X Reason) (f : X → Result Y Reason) (y : Y) → r >>= f ≡ Ok y → Bound r f y
-bound (Ok x) f y h = record { before = x; was = refl; gives = h }
-bound (Err c) f y h = absurd (cc)
-
 not_refused : (b : Bool) (c : Reason) (u : Unit {0}) → unless (not b) c ≡ Ok u → b ≡ true
 not_refused true c u h = refl
 not_refused false c u h = absurd (cc)
@@ -95,9 +86,6 @@ not_refused false c u h = absurd (cc)
 both : (a b : Bool) → (a && b) ≡ true → (a ≡ true) × (b ≡ true)
 both true b h = (refl, h)
 both false b h = absurd (cc)
-
-same : {X : Type 0} (x y : X) → Path (Result X Reason) (Ok x) (Ok y) → x ≡ y
-same x y h = cc
 
 few_within : (number : ℕ) (v : Visit) → IsEven v.stand v.registers → is_within number v ≡ true → IsLevel v
 few_within number v even h =
@@ -117,7 +105,7 @@ level_next library number v next h level =
     let apart = bound (unless (overlaps a.before b.before v.stand.position) Unpaired) _ next b.gives in
     let c = bound (unless (is_recursion a.before v.registers) Recursion) _ next apart.gives in
     let d = bound (unless (not (is_within number (visit_behind library number a.before v))) TooLarge) _ next c.gives in
-    let is = same (visit_behind library number a.before v) next d.gives in
+    let is = ok (visit_behind library number a.before v) next d.gives in
     let within = not_refused (is_within number (visit_behind library number a.before v)) TooLarge d.before d.was in
     let even = read_even library number a.before v b.before b.was level.even in
     subst IsLevel is (few_within number (visit_behind library number a.before v) even within)

@@ -16,7 +16,7 @@ use Rattle.teco_verifier.specs.expansion.Refusal.{Reason, Unpaired, ◌>>=◌}
 use Rattle.teco_verifier.specs.expansion.Position.{Position, position_of_frames, start_of, moved_to}
 use Rattle.teco_verifier.specs.expansion.Ways.{past, jumped, jump_way, way_or_jump, leave_ways, ahead_ways, flow_ways}
 use Rattle.teco_law_expansion.specs.Turns.{Jumps, Went}
-use Rattle.teco_law_expansion.proofs.Checks.{ok, bound_way}
+use Rattle.teco_model.proofs.Chains.{ok, bound}
 
 -- the position of a text with those that wait
 abbrev pub position_in : Frame → List Frame → Position
@@ -37,7 +37,7 @@ jump_leads n e a frame callers turn j =
 
 -- the ways of what may jump
 pub first_way : (first : Position) (e : Element) (p : Position) (ways : List Position) → way_or_jump first e p ≡ Ok ways → slice_get ways 0 ≡ Some first
-first_way first e p ways h = let b = bound_way (jumped e p) _ ways h in ap (λ l. slice_get l 0) (sym (ok _ ways b.gives))
+first_way first e p ways h = let b = bound (jumped e p) _ ways h in ap (λ l. slice_get l 0) (sym (ok _ ways b.gives))
 
 pub second_way : (first q : Position) (e : Element) (p : Position) (ways : List Position) → jumped e p ≡ Ok q → way_or_jump first e p ≡ Ok ways → slice_get ways 1 ≡ Some q
 second_way first q e p ways j h = ap (λ l. slice_get l 1) (sym (ok _ ways (rw j at h)))

@@ -22,7 +22,7 @@ use Rattle.teco_verifier.specs.expansion.Order.{position_in_text, position_behin
 use Rattle.teco_verifier.specs.expansion.Position.{Spot, Position, moved_to, starts_in, depth}
 use Rattle.teco_verifier.specs.expansion.Refusal.{Reason, Unpaired}
 use Rattle.teco_verifier.specs.expansion.Ways.{past, jumped, jump_way, way_or_jump, end_ways, leave_ways, flow_ways, search_ways, called, call_ways, return_ways, element_ways, ways_at}
-use Rattle.teco_law_expansion.proofs.Checks.{ok, bound_way}
+use Rattle.teco_model.proofs.Chains.{ok, bound}
 use Rattle.teco_law_expansion.proofs.Iterations.{iterations_are_open}
 use Rattle.teco_law_expansion.proofs.FlowWays.{ahead_way}
 use Rattle.teco_law_expansion.proofs.Turns.{leaves_by_kind, leaves_none}
@@ -63,7 +63,7 @@ record Jumped (e : Element) (p q : Position) : Type 0 where
   is : q ≡ moved_to place (drop (skip_of p.running.text (Whole e)).leaves p.running.starts) p
 
 jump_is : (e : Element) (p q : Position) → jumped e p ≡ Ok q → Jumped e p q
-jump_is e p q h = let to = bound_way (ok_or (skip_of p.running.text (Whole e)).to Unpaired) _ q h in record { place = to.before; is = sym (ok _ q to.gives) }
+jump_is e p q h = let to = bound (ok_or (skip_of p.running.text (Whole e)).to Unpaired) _ q h in record { place = to.before; is = sym (ok _ q to.gives) }
 
 -- the ways, one by one
 only_way : (p q : Position) (targets : List Position) → Path (Result (List Position) Reason) (Ok (p ∷ [])) (Ok targets) → slice_get targets 0 ≡ Some q → p ≡ q
@@ -74,31 +74,31 @@ no_second_way p q way targets w g = let e : Path (Option Position) None (Some q)
 
 first_of : (first q : Position) (e : Element) (p : Position) (targets : List Position) → way_or_jump first e p ≡ Ok targets → slice_get targets 0 ≡ Some q → first ≡ q
 first_of first q e p targets w g =
-    let b = bound_way (jumped e p) _ targets w in
+    let b = bound (jumped e p) _ targets w in
     let h : Some first ≡ Some q = ap (λ l. slice_get l 0) (ok _ targets b.gives) ∙ g in cc
 
 second_of : (first q : Position) (e : Element) (p : Position) (targets : List Position) → way_or_jump first e p ≡ Ok targets → slice_get targets 1 ≡ Some q → Jumped e p q
 second_of first q e p targets w g =
-    let b = bound_way (jumped e p) _ targets w in
+    let b = bound (jumped e p) _ targets w in
     let h : Some b.before ≡ Some q = ap (λ l. slice_get l 1) (ok _ targets b.gives) ∙ g in
     let same : b.before ≡ q = cc in
     jump_is e p q (b.was ∙ ap Ok same)
 
 no_third_way : {P : Type 0} (first q : Position) (e : Element) (p : Position) (way : ℕ) (targets : List Position) → way_or_jump first e p ≡ Ok targets → slice_get targets (suc (suc way)) ≡ Some q → P
 no_third_way first q e p way targets w g =
-    let b = bound_way (jumped e p) _ targets w in
+    let b = bound (jumped e p) _ targets w in
     let h : Path (Option Position) None (Some q) = ap (λ l. slice_get l (suc (suc way))) (ok _ targets b.gives) ∙ g in absurd (cc)
 
 jump_of : (q : Position) (e : Element) (p : Position) (targets : List Position) → jump_way e p ≡ Ok targets → slice_get targets 0 ≡ Some q → Jumped e p q
 jump_of q e p targets w g =
-    let b = bound_way (jumped e p) _ targets w in
+    let b = bound (jumped e p) _ targets w in
     let h : Some b.before ≡ Some q = ap (λ l. slice_get l 0) (ok _ targets b.gives) ∙ g in
     let same : b.before ≡ q = cc in
     jump_is e p q (b.was ∙ ap Ok same)
 
 no_other_jump : {P : Type 0} (q : Position) (e : Element) (p : Position) (way : ℕ) (targets : List Position) → jump_way e p ≡ Ok targets → slice_get targets (suc way) ≡ Some q → P
 no_other_jump q e p way targets w g =
-    let b = bound_way (jumped e p) _ targets w in
+    let b = bound (jumped e p) _ targets w in
     let h : Path (Option Position) None (Some q) = ap (λ l. slice_get l (suc way)) (ok _ targets b.gives) ∙ g in absurd (cc)
 
 -- what a jump leaves of the depth

@@ -1,4 +1,3 @@
-mod Checks
 mod Turns
 mod FlowWays
 mod StepWays

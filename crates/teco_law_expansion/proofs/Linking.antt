@@ -22,7 +22,7 @@ use Rattle.teco_verifier.specs.expansion.Node.{Stand, Node, beginning, over, sta
 use Rattle.teco_verifier.specs.expansion.Order.{position_in_text, position_behind_call, stand_behind_kind, stand_behind}
 use Rattle.teco_verifier.specs.expansion.Expansion.{Visit, first_visit, open_behind_kind, open_behind, visit_behind, is_recursion, is_within, next_visit, register_at, refusal_at, Walk, walk, walk_while, walk_behind, whole_walk_of, stand_of_visit, all_stands, same_spot, same_spots, same_position, same_stand, number_behind, refusal_of_way, way_numbers, refused_at, node_at, nodes_at, unless_refused, expansion, MOST_ELEMENTS, MOST_OPEN}
 use Rattle.teco_law_expansion.specs.Linked.{IsNext, Lead, IsLinked, ExpansionsAreLinked, ExpansionsAreSmall, IsTextOf, NodesHaveTexts}
-use Rattle.teco_law_expansion.proofs.Checks.{ok, bound_way, some_of}
+use Rattle.teco_model.proofs.Chains.{ok, bound, some_of}
 
 and_left : (a b : Bool) → (a && b) ≡ true → a ≡ true
 and_left true b h = refl
@@ -120,8 +120,8 @@ numbers_lead library entry w base number v [] ways h = subst (Lead (all_stands w
 numbers_lead library entry w base number v (target ∷ targets) ways h =
     let all = all_stands w entry in
     let stand = stand_at number v.stand target in
-    let way = bound_way (ok_or (number_behind base all stand) (refusal_of_way base all w.refusal (refusal_at entry v Unpaired) stand)) _ ways h in
-    let rest = bound_way (way_numbers library entry w number number v targets) _ ways way.gives in
+    let way = bound (ok_or (number_behind base all stand) (refusal_of_way base all w.refusal (refusal_at entry v Unpaired) stand)) _ ways h in
+    let rest = bound (way_numbers library entry w number number v targets) _ ways way.gives in
     let head = found all base stand _ way.before refl (some_of (number_behind base all stand) _ way.before way.was) in
     let tail = numbers_lead library entry w number number v targets rest.before rest.was in
     subst (Lead all base number v.stand (target ∷ targets)) (ok _ ways rest.gives) (head, tail)
@@ -139,9 +139,9 @@ read_there entry v (Err reason) x h = absurd (cc)
 node_stands : (library : Library) (entry : ℕ) (w : Walk) (number : ℕ) (v : Visit) (node : Node) → node_at library entry w number v ≡ Ok node → Stands library entry (all_stands w entry) number v node
 unfolding node_at
 node_stands library entry w number v node h =
-    let read = bound_way (refused_at entry v (read_at v.stand.position)) _ node h in
-    let targets = bound_way (refused_at entry v (ways_at library read.before v.stand.position)) _ node read.gives in
-    let ways = bound_way (way_numbers library entry w (base_of read.before number v.stand.iterations) number v targets.before) _ node targets.gives in
+    let read = bound (refused_at entry v (read_at v.stand.position)) _ node h in
+    let targets = bound (refused_at entry v (ways_at library read.before v.stand.position)) _ node read.gives in
+    let ways = bound (way_numbers library entry w (base_of read.before number v.stand.iterations) number v targets.before) _ node targets.gives in
     let lead = numbers_lead library entry w (base_of read.before number v.stand.iterations) number v targets.before ways.before ways.was in
     subst (Stands library entry (all_stands w entry) number v) (ok _ node ways.gives) (record {
       stand = refl;
@@ -184,8 +184,8 @@ all_stand : (library : Library) (entry : ℕ) (w : Walk) (number : ℕ) (vs : Li
 unfolding nodes_at
 all_stand library entry w number [] nodes h = subst (AllStand library entry (all_stands w entry) number []) (ok [] nodes h) (record { each = λ k node g. absurd (cc); same = refl; registers = refl })
 all_stand library entry w number (v ∷ vs) nodes h =
-    let node = bound_way (node_at library entry w number v) _ nodes h in
-    let rest = bound_way (nodes_at library entry w (number + 1) vs) _ nodes node.gives in
+    let node = bound (node_at library entry w number v) _ nodes h in
+    let rest = bound (nodes_at library entry w (number + 1) vs) _ nodes node.gives in
     subst (AllStand library entry (all_stands w entry) number (v ∷ vs)) (ok _ nodes rest.gives)
     (one_more library entry (all_stands w entry) number v vs node.before rest.before (node_stands library entry w number v node.before node.was) (all_stand library entry w (number + 1) vs rest.before rest.was))
 
@@ -246,11 +246,11 @@ not_false false h = absurd (cc)
 next_is : (library : Library) (number : ℕ) (v next : Visit) → next_visit library number v ≡ Ok next → Next library number v next
 unfolding next_visit
 next_is library number v next h =
-    let read = bound_way (read_at v.stand.position) _ next h in
-    let ways = bound_way (ways_at library read.before v.stand.position) _ next read.gives in
-    let apart = bound_way (unless (overlaps read.before ways.before v.stand.position) Unpaired) _ next ways.gives in
-    let once = bound_way (unless (is_recursion read.before v.registers) Recursion) _ next apart.gives in
-    let few = bound_way (unless (not (is_within number (visit_behind library number read.before v))) TooLarge) _ next once.gives in
+    let read = bound (read_at v.stand.position) _ next h in
+    let ways = bound (ways_at library read.before v.stand.position) _ next read.gives in
+    let apart = bound (unless (overlaps read.before ways.before v.stand.position) Unpaired) _ next ways.gives in
+    let once = bound (unless (is_recursion read.before v.registers) Recursion) _ next apart.gives in
+    let few = bound (unless (not (is_within number (visit_behind library number read.before v))) TooLarge) _ next once.gives in
     let is : visit_behind library number read.before v ≡ next = ok _ next few.gives in
     record {
       read = read.before;
@@ -554,8 +554,8 @@ expanded : (library : Library) (entry : ℕ) (nodes : List Node) → expansion l
 unfolding expansion
 expanded library entry nodes h =
     let w = whole_walk_of library entry in
-    let made = bound_way (nodes_at library entry w 1 w.visits) _ nodes h in
-    let ended = bound_way (unless_refused w.refusal) _ nodes made.gives in
+    let made = bound (nodes_at library entry w 1 w.visits) _ nodes h in
+    let ended = bound (unless_refused w.refusal) _ nodes made.gives in
     record {
       made = all_stand library entry w 1 w.visits nodes (made.was ∙ ended.gives);
       walked = done library entry (MOST_ELEMENTS + 1) 1 (first_visit entry) (record { waits = refl; deep = refl; few = omega arith; few_calls = omega arith; texts = refl }) (not_refused w.refusal ended.was);

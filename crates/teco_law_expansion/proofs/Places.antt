@@ -19,7 +19,7 @@ use Rattle.teco_law_expansion.specs.Places.{IsPlaceOf, NodesHavePlaces}
 use Rattle.teco_verifier.specs.expansion.Position.{Spot, spot_at, Position, place_at}
 use Rattle.teco_verifier.specs.expansion.Ways.{pattern_parts, as_fault, sound, read_at}
 use Rattle.teco_verifier.specs.expansion.Refusal as refusal
-use Rattle.teco_law_expansion.proofs.Checks.{ok, bound_way}
+use Rattle.teco_model.proofs.Chains.{ok, bound}
 use Rattle.teco_law_expansion.proofs.Iterations.{earlier, first_is, node_stands}
 use Rattle.teco_law_expansion.proofs.StepWays.{read_is}
 
@@ -129,6 +129,6 @@ nodes_are_sound library all number node linked =
     among : (r : Result (Option Element) Code) (read : Option Element) → refusal.◌>>=◌ (as_fault r) (λ read. sound read) ≡ Ok read → IsSound read
     among (Ok None) read h = subst IsSound (ok None read h) tt
     among (Ok (Some e)) read h =
-        let p = bound_way (as_fault (pattern_parts e.kind e.text)) _ read h in
+        let p = bound (as_fault (pattern_parts e.kind e.text)) _ read h in
         subst IsSound (ok (Some e) read p.gives) (p.before, faultless (pattern_parts e.kind e.text) p.before p.was)
     among (Err c) read h = absurd (cc)

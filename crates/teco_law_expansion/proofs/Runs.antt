@@ -13,7 +13,7 @@ use Rattle.teco_law_expansion.specs.Run.{MovesFrom, Went, Stayed, StepsGoAlongNo
 use Rattle.teco_law_expansion.specs.Steps as steps
 use Rattle.teco_law_expansion.specs.Steps.{IsLeftAt, Goes, Stays, Moves}
 use Rattle.teco_verifier.specs.expansion.Ways.{read_at, ways_at}
-use Rattle.teco_law_expansion.proofs.Checks.{ok}
+use Rattle.teco_model.proofs.Chains.{ok}
 use Rattle.teco_law_expansion.proofs.StayLoaded.{stays_loaded}
 use Rattle.teco_law_expansion.proofs.StepWays.{as_read, steps_go_ways}
 

@@ -35,7 +35,7 @@ use Rattle.teco_verifier.specs.expansion.Position.{Position, position_of, positi
 use Rattle.teco_verifier.specs.expansion.Ways.{pattern_parts, as_fault, sound, past, read_at, search_ways, call_ways, return_ways, element_ways, ways_at, flow_ways}
 use Rattle.teco_law_expansion.specs.Was.{answer_where, looking_on, levels_looking, levels_searching, Finds, Misses, Answers, GoesOnFound, GoesOnMissed, LeavesByMiss, ElementWas, StepWas}
 use Rattle.teco_law_expansion.specs.Steps.{is_long, IsLeftAt, Stays, Moves, Went, Stayed, StepsGoWays}
-use Rattle.teco_law_expansion.proofs.Checks.{ok, bound_way}
+use Rattle.teco_model.proofs.Chains.{ok, bound}
 use Rattle.teco_law_expansion.proofs.Turns.{leaves_by_kind, turn_goes, jumped as jump_made}
 use Rattle.teco_law_expansion.proofs.FlowWays.{position_in, jump_leads, first_way, second_way, only, way_leads}
 
@@ -45,7 +45,7 @@ next s t h = cc
 -- what was read
 pub read_is : (r : Result (Option Element) Code) (read : Option Element) → (as_fault r >>= (λ read. sound read)) ≡ Ok read → r ≡ Ok read
 read_is (Ok None) read h = ap Ok (ok None read h)
-read_is (Ok (Some e)) read h = let b = bound_way (as_fault (pattern_parts e.kind e.text)) _ read h in ap Ok (ok (Some e) read b.gives)
+read_is (Ok (Some e)) read h = let b = bound (as_fault (pattern_parts e.kind e.text)) _ read h in ap Ok (ok (Some e) read b.gives)
 read_is (Err c) read h = absurd (cc)
 
 pub as_read : (s : State) (read : Option Element) → read_at (position_of s) ≡ Ok read → step s ≡ outcome_at s (Ok read)

@@ -19,7 +19,7 @@ use Rattle.teco_model.specs.Flow.{Turn, turn_of, turn_to, jump, iteration, count
 use Rattle.teco_model.specs.Skip.{route_of, skip_on, skip_of}
 use Rattle.teco_model.specs.State.{Frame}
 use Rattle.teco_law_expansion.specs.Turns.{Took, Jumps, Went}
-use Rattle.teco_law_expansion.proofs.Checks.{ok, bound, some_of}
+use Rattle.teco_model.proofs.Chains.{ok, bound, some_of}
 
 -- some way of an element was gone
 pub record Goes (f : Flow) (e : Element) (a : Arguments) (frame : Frame) (turn : Turn) : Type 0 where

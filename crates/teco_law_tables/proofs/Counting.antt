@@ -14,16 +14,16 @@ use Rattle.teco_law_tables.specs.Laws.{CommandsAreSteps}
 use Rattle.teco_verifier.specs.table.Printed.{at_node, turns_at, turns_round, product_of, steps_of, weight, Counted, turns_pages, with_pages, counted_with, count_from, steps_before, multiplied, once, commands}
 use Rattle.teco_verifier.specs.table.Table.{Table, facts_at}
 use Rattle.teco_law_tables.specs.Turning.{value_of, own_of, iterations_of, turning}
-use Rattle.teco_law_tables.proofs.Lookup.{bound, given}
+use Rattle.teco_model.proofs.Chains.{bound, some_of}
 
 numbers_have : (k n : ℕ) → value (number k) n ≡ k
 numbers_have k n = (values_of_constants n k).0
 
 product_has : (p q r : Polynomial) (n : ℕ) → product_of p q ≡ Ok r → value r n ≡ value p n * value q n
-product_has p q r n h = value_of_product p q r n (given (mul p q) refusal.Overflow r h)
+product_has p q r n h = value_of_product p q r n (some_of (mul p q) refusal.Overflow r h)
 
 sum_has : (p q r : Polynomial) (n : ℕ) → sum_of p q ≡ Ok r → value r n ≡ value p n + value q n
-sum_has p q r n h = value_of_sum p q r n (given (add p q) refusal.Overflow r h)
+sum_has p q r n h = value_of_sum p q r n (some_of (add p q) refusal.Overflow r h)
 
 value_is : (n : ℕ) (r : Result Polynomial Refusal) (p : Polynomial) → r ≡ Ok p → value_of n r ≡ value p n
 value_is n r p h = ap (value_of n) h

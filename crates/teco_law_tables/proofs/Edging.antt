@@ -23,7 +23,8 @@ use Rattle.teco_law_tables.proofs.Entering.{kind_edges, enters}
 use Rattle.teco_law_tables.proofs.Fitting.{fits_covered}
 use Rattle.teco_law_tables.proofs.Going.{way_covered, way_within}
 use Rattle.teco_law_tables.proofs.Leading.{on_way, way_there}
-use Rattle.teco_law_tables.proofs.Lookup.{bound, node_of}
+use Rattle.teco_model.proofs.Chains.{bound}
+use Rattle.teco_law_tables.proofs.Lookup.{node_of}
 
 on_of : (r : Result Edges Refusal) (edges other : Edges) → r ≡ Ok edges → r ≡ Ok other → edges.on ≡ other.on
 on_of r edges other h g = let e : r ≡ Ok other = g in let f : edges ≡ other = same (sym h ∙ g) in ap (λ (edges : Edges). edges.on) f

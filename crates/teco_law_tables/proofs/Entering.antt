@@ -13,7 +13,7 @@ use Rattle.teco_verifier.specs.facts.Joins.{none_pending}
 use Rattle.teco_law_facts.specs.Laws.{entered}
 use Rattle.teco_verifier.specs.facts.Transfer.{answer_for, without_answer, edges_of, transfer}
 use Rattle.teco_verifier.specs.table.Behind.{placed, edges_behind, edges_at}
-use Rattle.teco_law_tables.proofs.Lookup.{bound}
+use Rattle.teco_model.proofs.Chains.{bound}
 
 -- the element of a node by its kind
 pub kind_edges : (nodes : List Node) (node : Node) (e : Element) (k : Kind) (facts : Facts) (edges : Edges) → node.element ≡ Some e → e.kind ≡ k → edges_at nodes node facts ≡ Ok edges →

@@ -21,7 +21,7 @@ use Rattle.teco_law_facts.specs.SoundElements.{Fits}
 use Rattle.teco_verifier.specs.table.Printed.{at_node, steps_of, weight, Counted, turns_pages, with_pages, counted_with, count_from, multiplied, commands, own_texts, joined_with, sized_with, size_from, size}
 use Rattle.teco_verifier.specs.table.Table.{Table, facts_at}
 use Rattle.teco_law_tables.proofs.Closing.{held_covered}
-use Rattle.teco_law_tables.proofs.Lookup.{bound, given}
+use Rattle.teco_model.proofs.Chains.{bound, some_of}
 
 -- ---- the steps of each node that is reached are printed
 module _ (table : Table) where
@@ -61,7 +61,7 @@ module _ (table : Table) where
   joined_grow [] acc p n h = let e : acc ≡ p = cc in (subst (λ p. value acc n ≤ value p n) e (omega arith), tt)
   joined_grow (q ∷ ps) acc p n h =
       let more = bound (join_of acc q) _ p h in
-      let both = value_of_join acc q more.before n (given (join acc q) refusal.Overflow more.before more.was) in
+      let both = value_of_join acc q more.before n (some_of (join acc q) refusal.Overflow more.before more.was) in
       let rest = joined_grow ps more.before p n more.gives in
       (omega (arith, both.0, rest.0), (omega (arith, both.1, rest.0), rest.1))
 

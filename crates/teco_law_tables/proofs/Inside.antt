@@ -41,7 +41,7 @@ use Rattle.teco_law_tables.proofs.Entered.{counted_by}
 use Rattle.teco_law_tables.proofs.Entering.{kind_edges, Entering, enters}
 use Rattle.teco_law_tables.proofs.Going.{known_in}
 use Rattle.teco_law_tables.proofs.Leading.{JumpPlace, HasStart, FlowHas, flow_has, search_has}
-use Rattle.teco_law_tables.proofs.Lookup.{bound}
+use Rattle.teco_model.proofs.Chains.{bound}
 use Rattle.teco_law_tables.proofs.Reading.{Body, body_is}
 
 has_loop : (frame : Frame) (loops : List Loop) → frame.loops ≡ loops → HasStart (map start_of loops) → HasLoop frame

@@ -1,5 +1,5 @@
 -- What the ways of a node say of where its element leads.
-use Rattle.std.proofs.Common.{◌≡◌, ℕ, zero, suc, refl, subst, List, [], ◌∷◌, Bool, true, false, Option, Some, None, Result, Ok, Err, slice_get, ok_or}
+use Rattle.std.proofs.Common.{◌≡◌, ℕ, zero, suc, refl, subst, List, [], ◌∷◌, Bool, true, false, Option, Some, None, Result, Ok, slice_get, ok_or}
 use Rattle.std.specs.Prelude.{⊤}
 use Rattle.teco_model.specs.declared.kind.Flow.{Flow}
 use Rattle.teco_model.specs.declared.kind.Flow.TheVariants as flow
@@ -13,34 +13,21 @@ use Rattle.teco_model.specs.Searching.{has_colon}
 use Rattle.teco_model.specs.Skip.{skip_of}
 use Rattle.teco_model.specs.State.{frame_of}
 use Rattle.teco_model.specs.Macros.{Library, macro}
+use Rattle.teco_model.proofs.Chains.{bound, some_of}
 use Rattle.teco_law_expansion.specs.Linked.{Lead}
 use Rattle.teco_verifier.specs.expansion.Node.{Stand}
 use Rattle.teco_verifier.specs.expansion.Position.{Position, moved_to}
-use Rattle.teco_verifier.specs.expansion.Refusal as expanding
 use Rattle.teco_verifier.specs.expansion.Refusal.{Reason, Unpaired}
 use Rattle.teco_verifier.specs.expansion.Ways.{past, jumped, jump_way, way_or_jump, end_ways, leave_ways, ahead_ways, flow_ways, search_ways, call_ways, element_ways, ways_at}
-
-record Bound (X Y : Type 0) (r : Result X Reason) (f : X → Result Y Reason) (y : Y) : Type 0 where
-  before : X
-  was : r ≡ Ok before
-  gives : f before ≡ Ok y
-
-bound : {X Y : Type 0} (r : Result X Reason) (f : X → Result Y Reason) (y : Y) → expanding.◌>>=◌ r f ≡ Ok y → Bound X Y r f y
-bound (Ok x) f y h = record { before = x; was = refl; gives = h }
-bound (Err why) f y h = absurd (cc)
 
 -- ---- where a jump leads
 abbrev pub JumpPlace : Element → Position → Type 0
 JumpPlace e p = (place : ℕ) × ((skip_of p.running.text (Whole e)).to ≡ Some place)
 
-placed_at : (o : Option ℕ) (place : ℕ) → ok_or o Unpaired ≡ Ok place → o ≡ Some place
-placed_at None place h = absurd (cc)
-placed_at (Some other) place h = cc
-
 jump_place : (e : Element) (p q : Position) → jumped e p ≡ Ok q → JumpPlace e p
 jump_place e p q h =
     let b = bound (ok_or (skip_of p.running.text (Whole e)).to Unpaired) _ q h in
-    (b.before, placed_at (skip_of p.running.text (Whole e)).to b.before b.was)
+    (b.before, some_of (skip_of p.running.text (Whole e)).to Unpaired b.before b.was)
 
 either_place : (first : Position) (e : Element) (p : Position) (targets : List Position) → way_or_jump first e p ≡ Ok targets → JumpPlace e p
 either_place first e p targets h = let b = bound (jumped e p) _ targets h in jump_place e p b.before b.was

@@ -1,27 +1,11 @@
--- Steps that may be refused, and nodes by their numbers.
-use Rattle.std.proofs.Common.{◌≡◌, ℕ, zero, suc, ◌+◌, ◌≤◌, ◌<◌, refl, sym, ap, ◌∙◌, arith, rules, eqb-true, List, [], ◌∷◌, ◌++◌, map, drop, length, ◌==◌, Bool, true, false, if◌then◌else◌, Option, Some, None, Result, Ok, Err, slice_get, ok_or}
+-- Nodes by their numbers.
+use Rattle.std.proofs.Common.{◌≡◌, ℕ, zero, suc, ◌+◌, ◌≤◌, ◌<◌, refl, sym, ap, ◌∙◌, arith, rules, eqb-true, List, [], ◌∷◌, ◌++◌, map, drop, length, ◌==◌, Bool, true, false, if◌then◌else◌, Option, Some, None, slice_get}
 use Rattle.teco_model.specs.declared.kind.Flow.TheVariants as flow
 use Rattle.teco_model.specs.declared.kind.Kind.{Kind}
 use Rattle.teco_model.specs.declared.kind.Kind.TheVariants as kind
 use Rattle.teco_model.specs.Element.{Element}
 use Rattle.teco_verifier.specs.expansion.Ends.{is_innermost, ends_by_kind, ends_by, ends, first_end, end_of}
 use Rattle.teco_verifier.specs.expansion.Node.{Stand, Node, over, stand_of_node, stands, numbered}
-use Rattle.teco_verifier.specs.declared.refusal.Refusal.{Refusal}
-use Rattle.teco_verifier.specs.facts.Attempt.{◌>>=◌}
-
--- what is given was given at each step
-pub record Bound (X Y : Type 0) (r : Result X Refusal) (f : X → Result Y Refusal) (y : Y) : Type 0 where
-  pub before : X
-  pub was : r ≡ Ok before
-  pub gives : f before ≡ Ok y
-
-pub bound : {X Y : Type 0} (r : Result X Refusal) (f : X → Result Y Refusal) (y : Y) → (r >>= f) ≡ Ok y → Bound X Y r f y
-bound (Ok x) f y h = record { before = x; was = refl; gives = h }
-bound (Err why) f y h = absurd (cc)
-
-pub given : {X : Type 0} (o : Option X) (why : Refusal) (x : X) → ok_or o why ≡ Ok x → o ≡ Some x
-given (Some y) why x h = cc
-given None why x h = absurd (cc)
 
 -- ---- places in lists
 pub got : {X : Type 0} (xs : List X) (k : ℕ) → k < length xs → (x : X) × (slice_get xs k ≡ Some x)
