@@ -6,6 +6,7 @@ mod Turning
 mod Forward
 mod Passed
 mod Sum
+mod Stepwise
 mod Tight
 mod Endless
 mod Outgrown
