@@ -1,21 +1,19 @@
 -- How many turns of an iteration a run begins.
 use Rattle.std.proofs.Common.{◌≡◌, ◌⊎◌, inl, inr, ℕ, zero, suc, ◌+◌, ◌≤◌, ◌<◌, ◌==◌, refl, sym, ap, ◌∙◌, subst, arith, eqb-true, List, [], ◌∷◌, length, nat_lt, Bool, true, false, ◌&&◌, if◌then◌else◌, Option, Some, None, Result, Ok, Err}
 use Rattle.std.proofs.lemmas.Bool.{cases_order}
-use Rattle.teco_law_tables.specs.Following.{pages_in, OpenTurn, loops_in, open_loops, loops_of, shown}
-use Rattle.teco_law_turns.specs.Moves.{OpenLoop, State as Shown, Move, Forward, Into, Back, Enters as EntersLoop, IsStart, still_open}
+use Rattle.teco_law_tables.specs.Following.{OpenTurn, loops_in, open_loops, loops_of, shown}
+use Rattle.teco_law_turns.specs.Moves.{OpenLoop, State as Shown, Move, Forward, Into, Back, Enters as EntersLoop, still_open}
 use Rattle.teco_law_turns.specs.Turns.{Repeats, TurnsAreBounded, turns_begun as turns_by}
 use Rattle.teco_model.specs.declared.kind.Flow.TheVariants as flow
 use Rattle.teco_model.specs.declared.kind.Kind.{Kind}
 use Rattle.teco_model.specs.declared.kind.Kind.TheVariants as kind
 use Rattle.teco_model.specs.Element.{Element, element_at}
-use Rattle.teco_model.specs.Registers.{Pair}
 use Rattle.teco_model.specs.Run.{Reaches}
 use Rattle.teco_model.specs.State.{Frames, State, Next, End}
 use Rattle.teco_model.specs.Step.{step}
 use Rattle.teco_verifier.specs.expansion.Ends.{end_of}
 use Rattle.teco_law_expansion.specs.Ends.{IsBegin, AreClosed, IterationsEnd}
-use Rattle.teco_model.specs.Macros.{Library}
-use Rattle.teco_law_expansion.specs.Linked.{AreLinked, NodesAreSound}
+use Rattle.teco_law_expansion.specs.Linked.{NodesAreSound}
 use Rattle.teco_verifier.specs.expansion.Node.{Node, over}
 use Rattle.teco_verifier.specs.expansion.Position.{Position, open_starts, position_of}
 use Rattle.teco_law_expansion.specs.Steps.{is_long}
@@ -23,14 +21,14 @@ use Rattle.teco_poly.specs.Polynomial.{Polynomial}
 use Rattle.teco_law_facts.proofs.Covering.{and_both}
 use Rattle.teco_verifier.specs.declared.refusal.Refusal.{Refusal}
 use Rattle.teco_law_tables.specs.Bounded.{depth_of, is_turn_end, reads_turn_end, stands_at_turn_end, goes_back, turns_begun, BeginTurns, Enters, TakesFewTurns, IterationsAreBounded}
-use Rattle.teco_verifier.specs.table.Closed.{check_nodes}
 use Rattle.teco_law_tables.specs.Ending.{start_given}
 use Rattle.teco_law_tables.specs.Moving.{IsLong, MovesOn, ComesOn, Over, On}
 use Rattle.teco_verifier.specs.table.Printed.{turns_at}
-use Rattle.teco_verifier.specs.table.Table.{Table}
 use Rattle.teco_law_tables.specs.Turning.{value_of, turning}
 use Rattle.teco_law_tables.proofs.Described as described
 use Rattle.teco_law_tables.proofs.Ending as ending
+use Rattle.teco_law_tables.proofs.Ending.{Course, course}
+use Rattle.teco_law_tables.proofs.Described.{ready_call}
 use Rattle.teco_law_tables.proofs.Lookup.{same_node, same_number}
 use Rattle.teco_law_tables.proofs.Passing.{below_is, frames_starts, opened_length}
 use Rattle.teco_law_tables.proofs.Standing.{ending as ends_innermost}
@@ -89,9 +87,11 @@ none_begun depth u t h = by_test (stands_at_turn_end u) (depth_of u == depth) (d
     by_test false c d e = refl
     by_test true c d e = absurd (cc)
 
-module _ (laws : ending.Laws) (sound : NodesAreSound) (bounded : TurnsAreBounded) (library : Library) (entry : ℕ) (nodes : List Node) (table : Table) (n : ℕ) (below : List Pair) (first : State) (zeroth : Shown) (are : AreLinked library entry nodes) (passes : check_nodes nodes table ≡ Ok tt) (begins : IsStart (turning nodes table n) zeroth) (paged : zeroth.apart ≤ pages_in nodes table n) (go : ElementsGo library entry nodes table n below first) (closed : AreClosed nodes) where
+module _ (laws : ending.Laws) (sound : NodesAreSound) (bounded : TurnsAreBounded) (c : Course) (go : ElementsGo c.library c.entry c.nodes c.table c.n c.below c.first) (closed : AreClosed c.nodes) where
+  open c use {library, entry, nodes, table, n, below, first, zeroth, are, passes, begins, paged}
+
   abbrev At : ℕ → List OpenTurn → State → Type 0
-  At number turns s = described.At laws library entry nodes table n below first zeroth are passes begins paged go number turns s
+  At number turns s = described.At laws c go number turns s
 
   abbrev there : (number : ℕ) (turns : List OpenTurn) (s : State) → At number turns s → Shown
   there number turns s at = shown nodes table number at.here.node.stand.iterations turns s.world
@@ -125,11 +125,11 @@ module _ (laws : ending.Laws) (sound : NodesAreSound) (bounded : TurnsAreBounded
     reads_same : (j : ℕ) (u : State) → j ≤ g.passes.before → Reaches j s u → stands_at_turn_end u ≡ reads_turn_end (Ok at.here.node.element)
     reads_same j u l came =
         ap (λ (frames : Frames). reads_turn_end (element_at frames.running.text frames.running.place)) (same_frames j u l came)
-        ∙ ap reads_turn_end (element_here sound library entry nodes table n below are number turns s at.here)
+        ∙ ap reads_turn_end (element_here sound c.ground (record { number = number; turns = turns; s = s; here = at.here }))
 
     module _ (m : Moving) where
       later : At g.passes.goes.target m.later g.passes.next
-      later = described.on_there laws library entry nodes table n below first zeroth are passes begins paged go number turns s at g m
+      later = described.on_there laws c go number turns s at g m
 
       abbrev here : Shown
       here = there number turns s at
@@ -204,7 +204,7 @@ module _ (laws : ending.Laws) (sound : NodesAreSound) (bounded : TurnsAreBounded
             let to : run.0 ≡ g.passes.next = same_next run.0 g.passes.next (sym run.2 ∙ (ap step same ∙ g.passes.steps)) in
             counted_on depth k count run.1 u some came_last (subst (λ (t : State). depth ≤ depth_of t) to run.3) (subst (λ (t : State). BeginTurns depth k t run.1) to run.4)
             (subst (λ (t : State). count ≡ turns_begun depth u t + run.1) to run.5) on
-            (described.goes_on laws library entry nodes table n below first zeroth are passes begins paged go number turns s at g)
+            (described.goes_on laws c go number turns s at g)
 
         amid : (less : suc j ≤ g.passes.before) → Counted depth (there number turns s at) run.1 → Counted depth (there number turns s at) count
         amid less counted =
@@ -291,7 +291,7 @@ module _ (laws : ending.Laws) (sound : NodesAreSound) (bounded : TurnsAreBounded
           let counted = counts (suc steps) (depth_of t) steps count g.passes.goes.target m.later g.passes.next (later number turns begun at g m) (omega arith) some (subst (λ (u : State). BeginTurns (depth_of t) steps u count) next_is run) in
           let depth : depth_of t ≡ length to.opened = ap depth_of next_is ∙ sym (next_many number turns begun at g m) in
           let all = bounded (turning nodes table n) zeroth from to at.moves counted.moves counted.more
-          (ending.closed laws library entry nodes table n below first zeroth are passes begins paged (described.pass laws library entry nodes table n below first zeroth are passes begins paged go)) begins
+          (ending.closed laws c (described.pass laws c go)) begins
           (came_leads (turning nodes table n) at.moves zeroth from at.total at.came) entry_is
           (subst (λ depth. Repeats (turning nodes table n) depth counted.moves to counted.more) depth counted.repeats) in
           omega (arith, all, counted.enough)
@@ -313,30 +313,24 @@ module _ (laws : ending.Laws) (sound : NodesAreSound) (bounded : TurnsAreBounded
     few_behind (On m) = few_turns m _ refl
 
     few_there : TakesFewTurns library nodes table n below s t
-    few_there = few_behind (described.goes_on laws library entry nodes table n below first zeroth are passes begins paged go number turns begun at g)
+    few_there = few_behind (described.goes_on laws c go number turns begun at g)
 
   module _ (s t : State) (enters : Enters s t) where
     few_here : (number : ℕ) (turns : List OpenTurn) (at : At number turns s) → (step s ≡ End s.world) ⊎ Goes library entry nodes table n below number turns s at.here → TakesFewTurns library nodes table n below s t
     few_here number turns at (inl e) = let z : End s.world ≡ Next t = sym e ∙ enters.goes in absurd (cc)
     few_here number turns at (inr g) = few_there number turns s at g 0 s t (omega arith) (ending.reached_first s) enters
 
-    few_where : described.Comes laws library entry nodes table n below first zeroth are passes begins paged go s → TakesFewTurns library nodes table n below s t
+    few_where : described.Comes laws c go s → TakesFewTurns library nodes table n below s t
     few_where (described.Here number turns at) = few_here number turns at (go number turns at.total s at.reached at.here at.files)
     few_where (described.Within number turns begun at g k l came) = few_there number turns begun at g (suc k) s t l came enters
     few_where (described.Behind o) = let z : End s.world ≡ Next t = sym (laws.over entry s o) ∙ enters.goes in absurd (cc)
 
     pub few : (steps number : ℕ) (turns : List OpenTurn) (from : State) → At number turns from → Reaches steps from s → TakesFewTurns library nodes table n below s t
     few steps number turns from at came =
-        few_where (described.comes laws library entry nodes table n below first zeroth are passes begins paged go (suc steps) steps number turns from s at (omega arith) came)
+        few_where (described.comes laws c go (suc steps) steps number turns from s at (omega arith) came)
 
 pub turns_are_bounded : ending.Laws → verifying.Laws → IterationsEnd → TurnsAreBounded → IterationsAreBounded
 turns_are_bounded laws sound ends bounded library entry rules argument given nodes table commands most n world are printed asked ready files steps s t came enters =
-    let on = few laws sound.sound bounded library entry nodes table n world.kept.registers.stack
-    (described.first laws sound ends library entry rules argument given nodes table commands most n world are printed asked ready files)
-    (described.zeroth laws sound ends library entry rules argument given nodes table commands most n world are printed asked ready files) are
-    (described.passes laws sound ends library entry rules argument given nodes table commands most n world are printed asked ready files)
-    (described.begins laws sound ends library entry rules argument given nodes table commands most n world are printed asked ready files)
-    (described.paged laws sound ends library entry rules argument given nodes table commands most n world are printed asked ready files)
-    (described.go laws sound ends library entry rules argument given nodes table commands most n world are printed asked ready files)
-    (ends library entry nodes are) s t enters in
-    on steps 1 [] (start_given entry given world) (described.at_first laws sound ends library entry rules argument given nodes table commands most n world are printed asked ready files) came
+    let call = ready_call library entry rules argument given nodes table commands most n world are printed asked ready in
+    let go = verifying.elements_go sound ends library entry rules argument given nodes table commands most n world are printed asked ready in
+    few laws sound.sound bounded (course call) go (ends library entry nodes are) s t enters steps 1 [] (start_given entry given world) (described.at_first laws call go files) came

@@ -18,12 +18,10 @@ use Rattle.teco_model.specs.declared.kind.Search.{Search}
 use Rattle.teco_model.specs.declared.kind.Search.TheVariants as search
 use Rattle.teco_model.specs.Element.{Element, element_at}
 use Rattle.teco_model.specs.Files.{Files}
-use Rattle.teco_model.specs.Registers.{Pair}
 use Rattle.teco_model.specs.Run.{Reaches, run, go_on}
 use Rattle.teco_model.specs.State.{Frames, State, Outcome, Next, End, Exit, Fail, Absent}
 use Rattle.teco_model.specs.Step.{step}
 use Rattle.teco_model.specs.Macros.{Library, is_macro, IsLoaded, Needs}
-use Rattle.teco_law_expansion.specs.Linked.{AreLinked}
 use Rattle.teco_law_expansion.specs.Loaded.{StaysLoaded}
 use Rattle.teco_verifier.specs.expansion.Names.{named_by, names_macro, written_by, writes_macro}
 use Rattle.teco_verifier.specs.expansion.Position.{position_of, position_of_frames}
@@ -47,12 +45,13 @@ use Rattle.teco_law_facts.specs.SoundSeeking.{IsInPages}
 use Rattle.teco_law_facts.specs.SoundSteps.{AreOpen, BeginsAt, KindUnderway, IsUnderway, KindEnds, unread_left, Proceeds, StepsAreSound, LaterStepsAreSound}
 use Rattle.teco_verifier.specs.facts.Transfer.{Placed, answer_for, without_answer, edges_of, transfer}
 use Rattle.teco_verifier.specs.table.Behind.{placed, edges_behind, edges_at}
-use Rattle.teco_law_tables.specs.Following.{OpenTurn, run_at, IsDescribed, is_paged_at, is_paged_from, apart_of}
+use Rattle.teco_law_tables.specs.Following.{run_at, is_paged_at, is_paged_from, apart_of}
 use Rattle.teco_law_tables.specs.Moving.{IsLong, IsLast, Alone, Again, Comes}
 use Rattle.teco_verifier.specs.table.Printed.{steps_of, needs_in, turns_pages_by, turns_pages}
 use Rattle.teco_law_tables.specs.Staying.{is_of_files, ReadsNoFileCommand, NoFileCommands, AreAsOpen, FilesStayOpen}
 use Rattle.teco_verifier.specs.table.Table.{Table}
 use Rattle.teco_law_tables.specs.Turning.{value_of}
+use Rattle.teco_law_tables.proofs.Ground.{Ground, Arrival}
 use Rattle.teco_law_tables.proofs.Coming.{HasLoop, element_comes}
 use Rattle.teco_law_tables.proofs.Underway.{IsAmid, AreAmid, none_amid, more_amid, Goes}
 use Rattle.teco_law_tables.proofs.Walking.{reads_none, none_yet, none_more}
@@ -196,7 +195,10 @@ pub record Facts_laws : Type 0 where
   pub loaded : StaysLoaded
   pub files : FilesStayOpen
 
-module _ (laws : Facts_laws) (library : Library) (entry : ℕ) (nodes : List Node) (are : AreLinked library entry nodes) (table : Table) (n : ℕ) (below : List Pair) (number : ℕ) (turns : List OpenTurn) (s : State) (here : IsDescribed library nodes table n below number turns s) where
+module _ (laws : Facts_laws) (ground : Ground) (arrival : Arrival ground) where
+  open ground use {library, entry, nodes, table, n, below, are}
+  open arrival use {number, turns, s, here}
+
   module _ (e : Element) (reads : here.node.element ≡ Some e) (edges : Edges) (leads : edges_at nodes here.node here.facts ≡ Ok edges) (most : Polynomial) (takes : steps e.kind here.facts ≡ Ok most) (fits : FitsOn (run_at library n below turns) edges) (begins : BeginsAt (run_at library n below turns) here.facts (placed nodes here.node e) s) (wholes : (k : ℕ) (u : State) → Reaches k s u → IsWhole u.world.kept) (inside : (q : Search) → e.kind ≡ kind.Search q → (placed nodes here.node e).colon ≡ false → HasLoop s.frames.running) where
     abbrev run_here : Run
     run_here = run_at library n below turns

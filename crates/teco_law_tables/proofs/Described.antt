@@ -1,11 +1,9 @@
 -- Where an element begins on a run of a macro, it is described; or the run is over.
-use Rattle.std.proofs.Common.{◌≡◌, ◌⊎◌, inl, inr, ℕ, zero, suc, ◌+◌, ◌-◌, ◌≤◌, ◌<◌, sym, ap, ◌∙◌, subst, arith, List, [], Option, Some, None, Ok}
+use Rattle.std.proofs.Common.{◌≡◌, ◌⊎◌, inl, inr, ℕ, zero, suc, ◌+◌, ◌-◌, ◌≤◌, ◌<◌, sym, ap, ◌∙◌, subst, arith, List, [], Option, Some, None}
 use Rattle.std.proofs.lemmas.Bool.{cases_order}
-use Rattle.teco_law_tables.specs.Following.{pages_in, OpenTurn}
+use Rattle.teco_law_tables.specs.Following.{OpenTurn}
 use Rattle.teco_verifier.specs.facts.Facts.{entry_of}
 use Rattle.teco_verifier.specs.declared.rules.Rules.{Rules}
-use Rattle.teco_law_turns.specs.Moves.{State as Shown, IsStart}
-use Rattle.teco_model.specs.Registers.{Pair}
 use Rattle.teco_model.specs.Run.{Reaches, run, go_on}
 use Rattle.teco_model.specs.State.{World, State, Next, End}
 use Rattle.teco_model.specs.Step.{step}
@@ -17,15 +15,13 @@ use Rattle.teco_verifier.specs.expansion.Position.{position_of}
 use Rattle.teco_poly.specs.Polynomial.{Polynomial}
 use Rattle.teco_law_facts.specs.SoundSteps.{AreOpen}
 use Rattle.teco_law_tables.specs.Bounded.{IsKnown, AtNode, BehindCall, RunsAreDescribed}
-use Rattle.teco_verifier.specs.table.Closed.{check_nodes}
 use Rattle.teco_law_tables.specs.Ending.{ElementsPass, start_given}
 use Rattle.teco_law_tables.specs.Moving.{MovesOn, ComesOn, Over, On}
 use Rattle.teco_verifier.specs.table.Table.{Table}
 use Rattle.teco_verifier.specs.table.Printed.{needs_in, IsPrinted}
-use Rattle.teco_law_tables.specs.Turning.{turning}
 use Rattle.teco_law_tables.specs.Verified.{IsReady}
 use Rattle.teco_law_tables.proofs.Ending as ending
-use Rattle.teco_law_tables.proofs.Reading.{nodes_checked}
+use Rattle.teco_law_tables.proofs.Ending.{Course, Call, course}
 use Rattle.teco_law_tables.proofs.Verifying as verifying
 use Rattle.teco_law_tables.proofs.Underway.{Goes, ElementsGo, elements_pass}
 use Rattle.teco_law_tables.proofs.Walking.{run_on}
@@ -50,12 +46,14 @@ reaches_more k s u v came goes = ap go_on came ∙ goes
 pub reaches_later : (k m : ℕ) (s u v : State) → Reaches k s u → Reaches (k + m) s v → Reaches m u v
 reaches_later k m s u v came later = sym (run_on k s u came m) ∙ later
 
-module _ (laws : ending.Laws) (library : Library) (entry : ℕ) (nodes : List Node) (table : Table) (n : ℕ) (below : List Pair) (first : State) (zeroth : Shown) (are : AreLinked library entry nodes) (passes : check_nodes nodes table ≡ Ok tt) (begins : IsStart (turning nodes table n) zeroth) (paged : zeroth.apart ≤ pages_in nodes table n) (go : ElementsGo library entry nodes table n below first) where
+module _ (laws : ending.Laws) (c : Course) (go : ElementsGo c.library c.entry c.nodes c.table c.n c.below c.first) where
+  open c use {library, entry, nodes, table, n, below, first, zeroth, are, passes, begins, paged}
+
   abbrev pub pass : ElementsPass library entry nodes table n below first
   pass = elements_pass library entry nodes table n below first go
 
   abbrev pub At : ℕ → List OpenTurn → State → Type 0
-  At number turns s = ending.At laws library entry nodes table n below first zeroth are passes begins paged pass number turns s
+  At number turns s = ending.At laws c pass number turns s
 
   -- where an element begins, in its midst, or behind the call
   pub data Comes (s : State) : Type 0 where
@@ -70,7 +68,7 @@ module _ (laws : ending.Laws) (library : Library) (entry : ℕ) (nodes : List No
   goes_on number turns s at g = laws.moves library entry nodes table n below number turns s g.passes.last g.passes.next are passes at.here g.passes.again g.passes.goes g.passes.comes g.passes.loaded g.passes.whole
 
   pub on_there : (number : ℕ) (turns : List OpenTurn) (s : State) (at : At number turns s) (g : Goes library entry nodes table n below number turns s at.here) (m : MovesOn library nodes table n below number at.here.node turns s g.passes.goes.target g.passes.next) → At g.passes.goes.target m.later g.passes.next
-  on_there number turns s at g m = ending.on_there laws library entry nodes table n below first zeroth are passes begins paged pass number turns s at g.passes m
+  on_there number turns s at g m = ending.on_there laws c pass number turns s at g.passes m
 
   module _ (number : ℕ) (turns : List OpenTurn) (s : State) (at : At number turns s) (g : Goes library entry nodes table n below number turns s at.here) (k : ℕ) (u : State) (came : Reaches (suc k) s u) where
     reached_next : Reaches (suc g.passes.before) s g.passes.next
@@ -120,31 +118,18 @@ module _ (laws : ending.Laws) (library : Library) (entry : ℕ) (nodes : List No
   known k number turns s u at came none = known_by u none (comes (suc k) k number turns s u at (omega arith) came)
 
 -- ---- the run of a macro that is accepted
-module _ (laws : ending.Laws) (sound : verifying.Laws) (ends : IterationsEnd) (library : Library) (entry : ℕ) (rules : Rules) (argument : Option ArgumentRange) (given : Option ℕ) (nodes : List Node) (table : Table) (commands most : Polynomial) (n : ℕ) (world : World) (are : AreLinked library entry nodes) (printed : IsPrinted (entry_of rules library argument) nodes table commands most) (asked : IsAsked argument given) (ready : IsReady library entry most n world) (files : AreOpen (needs_in nodes table) world.files) where
-  abbrev pub first : State
-  first = start_given entry given world
+abbrev pub ready_call : (library : Library) (entry : ℕ) (rules : Rules) (argument : Option ArgumentRange) (given : Option ℕ) (nodes : List Node) (table : Table) (commands most : Polynomial) (n : ℕ) (world : World) →
+    AreLinked library entry nodes → IsPrinted (entry_of rules library argument) nodes table commands most → IsAsked argument given → IsReady library entry most n world → Call
+ready_call library entry rules argument given nodes table commands most n world are printed asked ready =
+    record { library = library; entry = entry; rules = rules; argument = argument; given = given; nodes = nodes; table = table; n = n; world = world; are = are; passes = printed.closed; asked = asked; loaded = ready.loaded; whole = ready.whole.kept; entering = ready.begins }
 
-  abbrev pub zeroth : Shown
-  zeroth = ending.zeroth library entry rules argument given nodes table n world are printed.closed asked ready.loaded ready.whole.kept ready.begins
+module _ (laws : ending.Laws) (call : Call) (go : ElementsGo call.library call.entry call.nodes call.table call.n call.world.kept.registers.stack (start_given call.entry call.given call.world)) (files : AreOpen (needs_in call.nodes call.table) call.world.files) where
+  pub at_first : At laws (course call) go 1 [] (course call).first
+  at_first = ending.at_first call laws (pass laws (course call) go) files
 
-  abbrev pub passes : check_nodes nodes table ≡ Ok tt
-  passes = nodes_checked nodes table (entry_of rules library argument) printed.closed
-
-  abbrev pub begins : IsStart (turning nodes table n) zeroth
-  begins = ending.begins library entry rules argument given nodes table n world are printed.closed asked ready.loaded ready.whole.kept ready.begins
-
-  abbrev pub paged : zeroth.apart ≤ pages_in nodes table n
-  paged = ending.paged library entry rules argument given nodes table n world are printed.closed asked ready.loaded ready.whole.kept ready.begins
-
-  abbrev pub go : ElementsGo library entry nodes table n world.kept.registers.stack first
-  go = verifying.elements_go sound ends library entry rules argument given nodes table commands most n world are printed asked ready
-
-  pub at_first : At laws library entry nodes table n world.kept.registers.stack first zeroth are passes begins paged go 1 [] first
-  at_first = ending.at_first laws library entry rules argument given nodes table n world are printed.closed asked ready.loaded ready.whole.kept ready.begins files (pass laws library entry nodes table n world.kept.registers.stack first zeroth are passes begins paged go)
-
-  known_there : (steps : ℕ) (s : State) → Reaches steps first s → s.left ≡ None → IsKnown library entry nodes table n world.kept.registers.stack s
-  known_there steps s came none = known laws library entry nodes table n world.kept.registers.stack first zeroth are passes begins paged go steps 1 [] first s at_first came none
+  known_there : (steps : ℕ) (s : State) → Reaches steps (course call).first s → s.left ≡ None → IsKnown call.library call.entry call.nodes call.table call.n call.world.kept.registers.stack s
+  known_there steps s came none = known laws (course call) go steps 1 [] (course call).first s at_first came none
 
 pub runs_are_described : ending.Laws → verifying.Laws → IterationsEnd → RunsAreDescribed
 runs_are_described laws sound ends library entry rules argument given nodes table commands most n world are printed asked ready files =
-    known_there laws sound ends library entry rules argument given nodes table commands most n world are printed asked ready files
+    known_there laws (ready_call library entry rules argument given nodes table commands most n world are printed asked ready) (verifying.elements_go sound ends library entry rules argument given nodes table commands most n world are printed asked ready) files

@@ -6,7 +6,6 @@ use Rattle.teco_verifier.specs.declared.rules.Rules.{Rules}
 use Rattle.teco_law_turns.specs.Moves.{State as Shown, Move, Forward, FallFollows, IsStart, RunsAreBounded}
 use Rattle.teco_law_turns.specs.Table.{IsClosed, commands as steps_in}
 use Rattle.teco_law_turns.specs.Turns.{RunsAreCovered}
-use Rattle.teco_model.specs.Registers.{Pair}
 use Rattle.teco_model.specs.Run.{Reaches, run, go_on}
 use Rattle.teco_model.specs.State.{World, Kept, State, End}
 use Rattle.teco_model.specs.Step.{step}
@@ -24,7 +23,7 @@ use Rattle.teco_verifier.specs.facts.Facts.{Facts, entry_of}
 use Rattle.teco_law_facts.specs.Laws.{IsEntry, HaveLengths}
 use Rattle.teco_model.specs.Paging.{unread_of}
 use Rattle.teco_law_facts.specs.SoundSteps.{AreOpen}
-use Rattle.teco_verifier.specs.table.Closed.{say_same, is_entry, check_nodes, check}
+use Rattle.teco_verifier.specs.table.Closed.{say_same, is_entry, check}
 use Rattle.teco_law_tables.specs.Ending.{Passes, ElementsPass, EndsWithin, start_given, RunsEndInTime}
 use Rattle.teco_law_tables.specs.Following.{OpenTurn, run_at, AreOpened, IsDescribed, held_of, loops_of, shown, is_paged_from, apart_of, pages_in}
 use Rattle.teco_law_tables.specs.Laws.{TablesAreClosed}
@@ -33,6 +32,7 @@ use Rattle.teco_verifier.specs.table.Printed.{steps_of, needs_in}
 use Rattle.teco_law_tables.specs.Staying.{NoFileCommands}
 use Rattle.teco_verifier.specs.table.Table.{Table, facts_at}
 use Rattle.teco_law_tables.specs.Turning.{value_of, own_of, held_at, turning}
+use Rattle.teco_law_tables.proofs.Ground.{Ground}
 use Rattle.teco_law_tables.proofs.Closing.{held_known, held_same}
 use Rattle.teco_law_tables.proofs.Going.{Target, AtNode, AtEnd, target_is}
 use Rattle.teco_law_tables.proofs.Lookup.{number_within, same_node}
@@ -49,7 +49,21 @@ pub record Laws : Type 0 where
   pub closed : TablesAreClosed
   pub moves : StepsMove
 
-module _ (laws : Laws) (library : Library) (entry : ℕ) (nodes : List Node) (table : Table) (n : ℕ) (below : List Pair) (first : State) (zeroth : Shown) (are : AreLinked library entry nodes) (passes : check_nodes nodes table ≡ Ok tt) (begins : IsStart (turning nodes table n) zeroth) (paged : zeroth.apart ≤ pages_in nodes table n) (pass : ElementsPass library entry nodes table n below first) where
+-- a run over a closed table, from the call on, and how the law of turns sees its beginning
+pub record Course : Type 0 where
+  pub ground : Ground
+  pub open ground use *
+  pub first : State
+  pub zeroth : Shown
+  pub begins : IsStart (turning nodes table n) zeroth
+  pub paged : zeroth.apart ≤ pages_in nodes table n
+
+module _ (laws : Laws) (c : Course) (pass : ElementsPass c.library c.entry c.nodes c.table c.n c.below c.first) where
+  open c use {library, entry, nodes, table, n, below, first, zeroth, are, passes, begins, paged}
+
+  abbrev EndsInTime : Type 0
+  EndsInTime = EndsWithin first (steps_in (turning nodes table n) + pages_in nodes table n)
+
   pub closed : IsClosed (turning nodes table n)
   closed = laws.closed library entry nodes table n are passes
 
@@ -68,7 +82,7 @@ module _ (laws : Laws) (library : Library) (entry : ℕ) (nodes : List Node) (ta
     pub files : AreOpen (needs_in nodes table) s.world.files
     pub none : NoFileCommands first total
 
-  ends_here : (number : ℕ) (turns : List OpenTurn) (s : State) (at : At number turns s) → step s ≡ End s.world → EndsWithin first (steps_in (turning nodes table n) + pages_in nodes table n)
+  ends_here : (number : ℕ) (turns : List OpenTurn) (s : State) (at : At number turns s) → step s ≡ End s.world → EndsInTime
   ends_here number turns s at e = record {
     steps = at.total;
     new = s.world;
@@ -88,7 +102,7 @@ module _ (laws : Laws) (library : Library) (entry : ℕ) (nodes : List Node) (ta
     none_next : NoFileCommands first (at.total + suc passing.before)
     none_next = none_on at.total (suc passing.before) first s at.none at.reached passing.none
 
-    ends_there : (over entry).position ≡ position_of passing.next → EndsWithin first (steps_in (turning nodes table n) + pages_in nodes table n)
+    ends_there : (over entry).position ≡ position_of passing.next → EndsInTime
     ends_there o = record {
       steps = at.total + suc passing.before;
       new = passing.next.world;
@@ -116,19 +130,19 @@ module _ (laws : Laws) (library : Library) (entry : ℕ) (nodes : List Node) (ta
     unfolding on_there
     more_there m = omega arith
 
-  walk : (fuel : ℕ) (number : ℕ) (turns : List OpenTurn) (s : State) (at : At number turns s) → steps_in (turning nodes table n) + pages_in nodes table n < at.total + fuel → EndsWithin first (steps_in (turning nodes table n) + pages_in nodes table n)
+  walk : (fuel : ℕ) (number : ℕ) (turns : List OpenTurn) (s : State) (at : At number turns s) → steps_in (turning nodes table n) + pages_in nodes table n < at.total + fuel → EndsInTime
   walk zero number turns s at l =
       let few = few_steps at.moves at.total 0 (shown nodes table number at.here.node.stand.iterations turns s.world) at.came (omega arith) in
       absurd (omega (arith, few, l))
   walk (suc fuel) number turns s at l = go (pass number turns at.total s at.reached at.here at.files) (λ p m. walk fuel p.goes.target m.later p.next (on_there number turns s at p m) (omega (arith, l, more_there number turns s at p m)))
     where
       by_end : (p : Passes library entry nodes table n below number turns s at.here) → ComesOn library entry nodes table n below number at.here.node turns s p.goes.target p.next →
-          (MovesOn library nodes table n below number at.here.node turns s p.goes.target p.next → EndsWithin first (steps_in (turning nodes table n) + pages_in nodes table n)) → EndsWithin first (steps_in (turning nodes table n) + pages_in nodes table n)
+          (MovesOn library nodes table n below number at.here.node turns s p.goes.target p.next → EndsInTime) → EndsInTime
       by_end p (Over o) on = ends_there number turns s at p o
       by_end p (On m) on = on m
 
       go : (step s ≡ End s.world) ⊎ Passes library entry nodes table n below number turns s at.here →
-          ((p : Passes library entry nodes table n below number turns s at.here) → MovesOn library nodes table n below number at.here.node turns s p.goes.target p.next → EndsWithin first (steps_in (turning nodes table n) + pages_in nodes table n)) → EndsWithin first (steps_in (turning nodes table n) + pages_in nodes table n)
+          ((p : Passes library entry nodes table n below number turns s at.here) → MovesOn library nodes table n below number at.here.node turns s p.goes.target p.next → EndsInTime) → EndsInTime
       go (inl e) on = ends_here number turns s at e
       go (inr p) on = by_end p (laws.moves library entry nodes table n below number turns s p.last p.next are passes at.here p.again p.goes p.comes p.loaded p.whole) (on p)
 
@@ -150,7 +164,31 @@ have_lengths library kept loaded r m h =
     let text = length_at library r m h in
     ap length (loaded.holds r text.0 text.1) ∙ text.2
 
-module _ (library : Library) (entry : ℕ) (rules : Rules) (argument : Option ArgumentRange) (given : Option ℕ) (nodes : List Node) (table : Table) (n : ℕ) (world : World) (are : AreLinked library entry nodes) (passes : check (entry_of rules library argument) nodes table ≡ Ok tt) (asked : IsAsked argument given) (loaded : IsLoaded library world.kept) (whole : IsWhole world.kept) (entering : IsEntry n (unread_of world) world.kept) where
+pub reached_first : (s : State) → Reaches 0 s s
+unfolding run
+reached_first s = refl
+
+-- the call of a macro with a closed table, in a world where it may be called
+pub record Call : Type 0 where
+  pub library : Library
+  pub entry : ℕ
+  pub rules : Rules
+  pub argument : Option ArgumentRange
+  pub given : Option ℕ
+  pub nodes : List Node
+  pub table : Table
+  pub n : ℕ
+  pub world : World
+  pub are : AreLinked library entry nodes
+  pub passes : check (entry_of rules library argument) nodes table ≡ Ok tt
+  pub asked : IsAsked argument given
+  pub loaded : IsLoaded library world.kept
+  pub whole : IsWhole world.kept
+  pub entering : IsEntry n (unread_of world) world.kept
+
+module _ (call : Call) where
+  open call use {library, entry, rules, argument, given, nodes, table, n, world, are, passes, asked, loaded, whole, entering}
+
   abbrev pub first : State
   first = start_given entry given world
 
@@ -195,7 +233,7 @@ module _ (library : Library) (entry : ℕ) (rules : Rules) (argument : Option Ar
     described = covers_are_sound (run_at library n world.kept.registers.stack []) one.facts (facts_given (entry_of rules library argument)) (unread_of world) world.kept (arguments_given given) whole (and_both _ _ one.same).0 (entry_is_sound n (unread_of world) world.kept (entry_of rules library argument) (is_macro library) given whole entering (have_lengths library world.kept loaded) asked);
   }
 
-  abbrev pub zeroth : Shown
+  abbrev zeroth : Shown
   zeroth = shown nodes table 0 [] [] world
 
   pub begins : IsStart (turning nodes table n) zeroth
@@ -223,26 +261,29 @@ module _ (library : Library) (entry : ℕ) (rules : Rules) (argument : Option Ar
   came_first : Came (turning nodes table n) 1 zeroth 0 (shown nodes table 1 one.node.stand.iterations [] world)
   came_first = came_on (turning nodes table n) 0 zeroth zeroth (shown nodes table 1 one.node.stand.iterations [] world) 0 0 (refl, refl) into_first (omega arith)
 
-pub reached_first : (s : State) → Reaches 0 s s
-unfolding run
-reached_first s = refl
+  abbrev pub course : Course
+  course = record {
+    ground = record { library = library; entry = entry; nodes = nodes; table = table; n = n; below = world.kept.registers.stack; are = are; passes = nodes_checked nodes table (entry_of rules library argument) passes };
+    first = first;
+    zeroth = zeroth;
+    begins = begins;
+    paged = paged;
+  }
 
-module _ (laws : Laws) (library : Library) (entry : ℕ) (rules : Rules) (argument : Option ArgumentRange) (given : Option ℕ) (nodes : List Node) (table : Table) (n : ℕ) (world : World) (are : AreLinked library entry nodes) (passes : check (entry_of rules library argument) nodes table ≡ Ok tt) (asked : IsAsked argument given) (loaded : IsLoaded library world.kept) (whole : IsWhole world.kept) (entering : IsEntry n (unread_of world) world.kept) (files : AreOpen (needs_in nodes table) world.files) (pass : ElementsPass library entry nodes table n world.kept.registers.stack (start_given entry given world)) where
-  pub at_first : At laws library entry nodes table n world.kept.registers.stack (start_given entry given world) (zeroth library entry rules argument given nodes table n world are passes asked loaded whole entering) are (nodes_checked nodes table (entry_of rules library argument) passes) (begins library entry rules argument given nodes table n world are passes asked loaded whole entering) (paged library entry rules argument given nodes table n world are passes asked loaded whole entering) pass 1 [] (start_given entry given world)
+  pub at_first : (laws : Laws) (pass : ElementsPass library entry nodes table n world.kept.registers.stack first) → AreOpen (needs_in nodes table) world.files → At laws course pass 1 [] first
   unfolding described one
-  at_first = record {
+  at_first laws pass files = record {
     total = 0;
     moves = 1;
-    reached = reached_first (start_given entry given world);
-    here = described library entry rules argument given nodes table n world are passes asked loaded whole entering;
-    came = came_first library entry rules argument given nodes table n world are passes asked loaded whole entering;
+    reached = reached_first first;
+    here = described;
+    came = came_first;
     files = files;
-    none = none_yet (start_given entry given world);
+    none = none_yet first;
   }
 
 pub runs_end_in_time : Laws → RunsEndInTime
 unfolding at_first
 runs_end_in_time laws library entry rules argument given nodes table n world are passes asked loaded whole entering files pass =
-    walk laws library entry nodes table n world.kept.registers.stack (start_given entry given world) (zeroth library entry rules argument given nodes table n world are passes asked loaded whole entering) are (nodes_checked nodes table (entry_of rules library argument) passes) (begins library entry rules argument given nodes table n world are passes asked loaded whole entering) (paged library entry rules argument given nodes table n world are passes asked loaded whole entering) pass
-    (suc (steps_in (turning nodes table n) + pages_in nodes table n)) 1 [] (start_given entry given world)
-    (at_first laws library entry rules argument given nodes table n world are passes asked loaded whole entering files pass) (omega arith)
+    let call : Call = record { library = library; entry = entry; rules = rules; argument = argument; given = given; nodes = nodes; table = table; n = n; world = world; are = are; passes = passes; asked = asked; loaded = loaded; whole = whole; entering = entering } in
+    walk laws (course call) pass (suc (steps_in (turning nodes table n) + pages_in nodes table n)) 1 [] (start_given entry given world) (at_first call laws pass files) (omega arith)

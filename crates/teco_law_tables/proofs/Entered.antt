@@ -15,16 +15,12 @@ use Rattle.teco_model.specs.declared.kind.Kind.TheVariants as kind
 use Rattle.teco_model.specs.Arguments as model
 use Rattle.teco_model.specs.Element.{Element}
 use Rattle.teco_model.specs.Flow.{Turn, later_turns}
-use Rattle.teco_model.specs.Registers.{Pair}
 use Rattle.teco_model.specs.State.{World, State}
 use Rattle.teco_verifier.specs.expansion.Ends.{end_of}
 use Rattle.teco_law_expansion.specs.Ends.{AreClosed}
 use Rattle.teco_law_expansion.specs.Leading.{LeadsBy, LeadsByKind, IsInside, place_at}
-use Rattle.teco_model.specs.Macros.{Library, IsLoaded}
-use Rattle.teco_law_expansion.specs.Linked.{AreLinked}
-use Rattle.teco_verifier.specs.expansion.Node.{Node, stands, numbered, stand_at}
+use Rattle.teco_verifier.specs.expansion.Node.{Node, numbered, stand_at}
 use Rattle.teco_verifier.specs.expansion.Position.{position_of}
-use Rattle.teco_law_expansion.specs.Run.{GoesTo}
 use Rattle.teco_law_expansion.specs.Steps.{is_long}
 use Rattle.teco_law_expansion.specs.Turns as went
 use Rattle.teco_law_expansion.specs.Was.{StepWas, ElementWas, Turns}
@@ -36,7 +32,7 @@ use Rattle.teco_law_facts.proofs.Steps.{Covers}
 use Rattle.teco_verifier.specs.facts.Arguments.{KnownTaken, arguments_of}
 use Rattle.teco_verifier.specs.facts.Bodies.{Changes, Choice, body_start, begins, stands as choice_stands}
 use Rattle.teco_verifier.specs.facts.Covers.{covers, each_covers, is_same_truth, is_same_iteration}
-use Rattle.teco_law_facts.specs.Describes.{Begun, begun_at, IsOptional, IsTaken, IsWhole, Describes, around_of}
+use Rattle.teco_law_facts.specs.Describes.{Begun, begun_at, IsOptional, IsTaken, Describes, around_of}
 use Rattle.teco_verifier.specs.facts.Facts.{Iteration, Facts}
 use Rattle.teco_verifier.specs.facts.Flows.{turns as turns_of}
 use Rattle.teco_law_facts.specs.Laws.{entered, amount_of}
@@ -47,13 +43,14 @@ use Rattle.teco_verifier.specs.facts.Values.{IsValue, Surroundings}
 use Rattle.teco_verifier.specs.declared.refusal.Refusal.{Refusal}
 use Rattle.teco_verifier.specs.declared.values.Value.{Value}
 use Rattle.teco_verifier.specs.table.Behind.{left_by, along, turns_by_flow, turns_by_kind, begins_turn}
-use Rattle.teco_verifier.specs.table.Closed.{say_same, is_counted, body_stands, is_entered, enters_by, enters_at, closed_behind, check_nodes}
-use Rattle.teco_law_tables.specs.Following.{OpenTurn, begun_of, run_at, falling_in, loops_in, open_loops, AreMore, IsOpened, AreOpened, IsDescribed, held_of, loops_of, shown}
-use Rattle.teco_law_tables.specs.Moving.{run_by_kind, run_along, IsLong, IsLast, Alone, Again, Comes, MovesOn}
+use Rattle.teco_verifier.specs.table.Closed.{say_same, is_counted, body_stands, is_entered, enters_by, enters_at, closed_behind}
+use Rattle.teco_law_tables.specs.Following.{OpenTurn, begun_of, run_at, falling_in, loops_in, open_loops, AreMore, IsOpened, AreOpened, held_of, loops_of, shown}
+use Rattle.teco_law_tables.specs.Moving.{run_by_kind, run_along, IsLong, IsLast, Alone, Again, MovesOn}
 use Rattle.teco_verifier.specs.table.Table.{Table, facts_at, choice_at}
 use Rattle.teco_verifier.specs.table.Printed.{turns_at}
 use Rattle.teco_law_tables.specs.Turning.{value_of, is_reached, turning}
 use Rattle.teco_verifier.specs.table.Written.{changes_in}
+use Rattle.teco_law_tables.proofs.Ground.{Ground, Passage}
 use Rattle.teco_law_tables.proofs.Closing.{turns_known}
 use Rattle.teco_law_tables.proofs.Entering.{Entering, enters}
 use Rattle.teco_law_tables.proofs.Going.{Laws, behind_checked, stands_there, leads_there}
@@ -177,138 +174,140 @@ not_again f e read s last reads is (Again same long) = absurd (short f e.kind is
 pub world_same : (f : Flow) (way : ℕ) (e : Element) (s t : State) → Turns f way e s t → t.world ≡ s.world
 world_same f way e s t w = ap (λ (t : State). t.world) w.gone
 
-module _ (laws : Laws) (library : Library) (entry : ℕ) (nodes : List Node) (are : AreLinked library entry nodes) (closed : AreClosed nodes) (table : Table) (n : ℕ) (below : List Pair) (passes : check_nodes nodes table ≡ Ok tt) where
-  module _ (number : ℕ) (turns : List OpenTurn) (s last t : State) (here : IsDescribed library nodes table n below number turns s) (again : IsLast here.node.element s last) (goes : GoesTo (stands nodes entry) number here.node last t) (comes : Comes nodes here.node here.facts goes.way (run_at library n below turns) s t) (loaded : IsLoaded library t.world.kept) (whole : IsWhole t.world.kept) where
-    module _ (there : Node) (at : numbered nodes goes.target ≡ Some there) (stand : there.stand ≡ stand_at number here.node.stand (position_of t)) where
-      module _ (e : Element) (reads : here.node.element ≡ Some e) (is : e.kind ≡ kind.Flow flow.Iterate) (first : goes.way ≡ 0) where
-        was : Turns flow.Iterate zero e s t
-        was = subst (λ (last : State). Turns flow.Iterate zero e last t) (not_again flow.Iterate e here.node.element s last reads is again) (subst (λ k. ElementWas k zero e last t) is (subst (λ way. StepWas (Some e) way last t) first (subst (λ read. StepWas read goes.way last t) reads goes.was)))
+module _ (laws : Laws) (ground : Ground) (closed : AreClosed ground.nodes) (passage : Passage ground) where
+  open ground use {library, entry, nodes, table, n, below, are, passes}
+  open passage use {number, turns, s, last, t, here, again, goes, comes, loaded, whole}
 
-        into : IsInside (place_at number here.node.stand) (place_at goes.target there.stand)
-        into = subst (λ k. LeadsByKind k zero (place_at number here.node.stand) (place_at goes.target there.stand)) is
-            (subst (λ way. LeadsBy (Some e) way (place_at number here.node.stand) (place_at goes.target there.stand)) first
-            (subst (λ read. LeadsBy read goes.way (place_at number here.node.stand) (place_at goes.target there.stand)) reads
-            (leads_there laws library entry nodes are closed table n below passes number turns s last t here again goes comes loaded whole there at stand)))
+  module _ (there : Node) (at : numbered nodes goes.target ≡ Some there) (stand : there.stand ≡ stand_at number here.node.stand (position_of t)) where
+    module _ (e : Element) (reads : here.node.element ≡ Some e) (is : e.kind ≡ kind.Flow flow.Iterate) (first : goes.way ≡ 0) where
+      was : Turns flow.Iterate zero e s t
+      was = subst (λ (last : State). Turns flow.Iterate zero e last t) (not_again flow.Iterate e here.node.element s last reads is again) (subst (λ k. ElementWas k zero e last t) is (subst (λ way. StepWas (Some e) way last t) first (subst (λ read. StepWas read goes.way last t) reads goes.was)))
 
-        on : comes.edges.on ≡ Some comes.next
-        on = subst (λ k. along (Some (record e { kind = k })) zero comes.edges ≡ Some comes.next) is
-            (subst (λ way. along (Some e) way comes.edges ≡ Some comes.next) first
-            (subst (λ read. along read goes.way comes.edges ≡ Some comes.next) reads comes.on_way))
+      into : IsInside (place_at number here.node.stand) (place_at goes.target there.stand)
+      into = subst (λ k. LeadsByKind k zero (place_at number here.node.stand) (place_at goes.target there.stand)) is
+          (subst (λ way. LeadsBy (Some e) way (place_at number here.node.stand) (place_at goes.target there.stand)) first
+          (subst (λ read. LeadsBy read goes.way (place_at number here.node.stand) (place_at goes.target there.stand)) reads
+          (leads_there laws ground closed passage there at stand)))
 
-        same_world : t.world ≡ s.world
-        same_world = world_same flow.Iterate zero e s t was
+      on : comes.edges.on ≡ Some comes.next
+      on = subst (λ k. along (Some (record e { kind = k })) zero comes.edges ≡ Some comes.next) is
+          (subst (λ way. along (Some e) way comes.edges ≡ Some comes.next) first
+          (subst (λ read. along read goes.way comes.edges ≡ Some comes.next) reads comes.on_way))
 
-        abbrev begun : Begun
-        begun = begun_at (unread_of s.world) s.world.kept
+      same_world : t.world ≡ s.world
+      same_world = world_same flow.Iterate zero e s t was
 
-        abbrev falling : Option Rank
-        falling = falling_in nodes table number
+      abbrev begun : Begun
+      begun = begun_at (unread_of s.world) s.world.kept
 
-        entering : Entering here.facts comes.next
-        entering = enters nodes here.node e here.facts comes.next comes.edges reads is comes.leads on
+      abbrev falling : Option Rank
+      falling = falling_in nodes table number
 
-        entered_there : is_entered nodes table number here.facts comes.edges.on ≡ true
-        entered_there =
-            let behind : IsTrue (closed_behind nodes table number here.node here.facts (Ok comes.edges)) = behind_checked nodes table number here.node here.facts comes.edges passes here.at here.known comes.leads in
-            let stands_here : enters_at nodes table number here.facts comes.edges here.node.element ≡ true = (and_both _ _ behind).0 in
-            sym (ap (enters_at nodes table number here.facts comes.edges) reads ∙ ap (enters_by nodes table number here.facts comes.edges) is) ∙ stands_here
+      entering : Entering here.facts comes.next
+      entering = enters nodes here.node e here.facts comes.next comes.edges reads is comes.leads on
 
-        body : Started nodes table number here.facts comes.next
-        body = started_by nodes table number here.facts comes.next _ _ _ refl refl refl (sym (ap (is_entered nodes table number here.facts) on) ∙ entered_there)
+      entered_there : is_entered nodes table number here.facts comes.edges.on ≡ true
+      entered_there =
+          let behind : IsTrue (closed_behind nodes table number here.node here.facts (Ok comes.edges)) = behind_checked nodes table number here.node here.facts comes.edges passes here.at here.known comes.leads in
+          let stands_here : enters_at nodes table number here.facts comes.edges here.node.element ≡ true = (and_both _ _ behind).0 in
+          sym (ap (enters_at nodes table number here.facts comes.edges) reads ∙ ap (enters_by nodes table number here.facts comes.edges) is) ∙ stands_here
 
-        counted : is_counted body.start.iterations ≡ is_some entering.taken.value
-        counted = counted_covered body.start (body_start body.choice (changes_in nodes number) comes.next) (and_both _ _ body.same).0 ∙ ap (λ (facts : Facts). is_counted facts.iterations) entering.is
+      body : Started nodes table number here.facts comes.next
+      body = started_by nodes table number here.facts comes.next _ _ _ refl refl refl (sym (ap (is_entered nodes table number here.facts) on) ∙ entered_there)
 
-        first_one : First_turn falling (is_counted body.start.iterations) (value body.most n) begun was.went.turns
-        first_one = first_turn falling (is_counted body.start.iterations) (value body.most n) begun was.went.value was.went.turns was.went.counts
-            (subst (λ v. AreTurns (value body.most n) (amount_of falling begun) v) was.went.took.value_is
-            (taken_turns n (amount_of falling begun) (turns_of falling here.facts) (model.arguments_of s.arguments.level) body.most was.went.took.taken body.turns_are was.went.took.took
-            (turns_are_sound (run_at library n below turns) here.facts (unread_of s.world) s.world.kept s.arguments falling here.whole here.described)))
-            (counted ∙ (both_taken (around_of s.world.kept) (arguments_of here.facts.arguments.level) (model.arguments_of s.arguments.level) entering.taken was.went.took.taken entering.took was.went.took.took
-            (taking_is (run_at library n below turns) here.facts (unread_of s.world) s.world.kept s.arguments here.whole here.described) ∙ ap (λ v. is_some v) was.went.took.value_is))
+      counted : is_counted body.start.iterations ≡ is_some entering.taken.value
+      counted = counted_covered body.start (body_start body.choice (changes_in nodes number) comes.next) (and_both _ _ body.same).0 ∙ ap (λ (facts : Facts). is_counted facts.iterations) entering.is
 
-        abbrev turn : OpenTurn
-        turn = record { begun = begun; more = first_one.more }
+      first_one : First_turn falling (is_counted body.start.iterations) (value body.most n) begun was.went.turns
+      first_one = first_turn falling (is_counted body.start.iterations) (value body.most n) begun was.went.value was.went.turns was.went.counts
+          (subst (λ v. AreTurns (value body.most n) (amount_of falling begun) v) was.went.took.value_is
+          (taken_turns n (amount_of falling begun) (turns_of falling here.facts) (model.arguments_of s.arguments.level) body.most was.went.took.taken body.turns_are was.went.took.took
+          (turns_are_sound (run_at library n below turns) here.facts (unread_of s.world) s.world.kept s.arguments falling here.whole here.described)))
+          (counted ∙ (both_taken (around_of s.world.kept) (arguments_of here.facts.arguments.level) (model.arguments_of s.arguments.level) entering.taken was.went.took.taken entering.took was.went.took.took
+          (taking_is (run_at library n below turns) here.facts (unread_of s.world) s.world.kept s.arguments here.whole here.described) ∙ ap (λ v. is_some v) was.went.took.value_is))
 
-        abbrev later : List OpenTurn
-        later = turn ∷ turns
+      abbrev turn : OpenTurn
+      turn = record { begun = begun; more = first_one.more }
 
-        -- what is known on the way in describes the state there
-        run_is : run_along here.node.element goes.way (left_by nodes here.node) s.world (run_at library n below turns) ≡ run_at library n below later
-        run_is =
-            ap (λ read. run_along read goes.way (left_by nodes here.node) s.world (run_at library n below turns)) reads
-            ∙ (ap (λ way. run_along (Some e) way (left_by nodes here.node) s.world (run_at library n below turns)) first
-            ∙ ap (λ k. run_by_kind k zero (left_by nodes here.node) s.world (run_at library n below turns)) is)
+      abbrev later : List OpenTurn
+      later = turn ∷ turns
 
-        described_in : Describes (run_at library n below later) (entered (is_some entering.taken.value) here.facts) (unread_of s.world) s.world.kept t.arguments
-        described_in = subst (λ facts. Describes (run_at library n below later) facts (unread_of s.world) s.world.kept t.arguments) entering.is
-            (subst (λ (world : World). Describes (run_at library n below later) comes.next (unread_of world) world.kept t.arguments) same_world
-            (subst (λ run. Describes run comes.next (unread_of t.world) t.world.kept t.arguments) run_is comes.described))
+      -- what is known on the way in describes the state there
+      run_is : run_along here.node.element goes.way (left_by nodes here.node) s.world (run_at library n below turns) ≡ run_at library n below later
+      run_is =
+          ap (λ read. run_along read goes.way (left_by nodes here.node) s.world (run_at library n below turns)) reads
+          ∙ (ap (λ way. run_along (Some e) way (left_by nodes here.node) s.world (run_at library n below turns)) first
+          ∙ ap (λ k. run_by_kind k zero (left_by nodes here.node) s.world (run_at library n below turns)) is)
 
-        described_start : Describes (run_at library n below later) (body_start body.choice (changes_in nodes number) (entered (is_some entering.taken.value) here.facts)) (unread_of s.world) s.world.kept t.arguments
-        described_start = body_starts_are_sound (run_at library n below turns) here.facts (unread_of s.world) s.world.kept t.arguments body.choice (changes_in nodes number) (is_some entering.taken.value) here.whole
-            (subst (λ facts. IsTrue (begins body.choice facts)) entering.is body.starts) described_in
+      described_in : Describes (run_at library n below later) (entered (is_some entering.taken.value) here.facts) (unread_of s.world) s.world.kept t.arguments
+      described_in = subst (λ facts. Describes (run_at library n below later) facts (unread_of s.world) s.world.kept t.arguments) entering.is
+          (subst (λ (world : World). Describes (run_at library n below later) comes.next (unread_of world) world.kept t.arguments) same_world
+          (subst (λ run. Describes run comes.next (unread_of t.world) t.world.kept t.arguments) run_is comes.described))
 
-        described_there : Describes (run_at library n below later) body.start (unread_of t.world) t.world.kept t.arguments
-        described_there = subst (λ (world : World). Describes (run_at library n below later) body.start (unread_of world) world.kept t.arguments) (sym same_world)
-            (covers_are_sound (run_at library n below later) body.start (body_start body.choice (changes_in nodes number) comes.next) (unread_of s.world) s.world.kept t.arguments here.whole (and_both _ _ body.same).0
-            (subst (λ facts. Describes (run_at library n below later) (body_start body.choice (changes_in nodes number) facts) (unread_of s.world) s.world.kept t.arguments) (sym entering.is) described_start))
+      described_start : Describes (run_at library n below later) (body_start body.choice (changes_in nodes number) (entered (is_some entering.taken.value) here.facts)) (unread_of s.world) s.world.kept t.arguments
+      described_start = body_starts_are_sound (run_at library n below turns) here.facts (unread_of s.world) s.world.kept t.arguments body.choice (changes_in nodes number) (is_some entering.taken.value) here.whole
+          (subst (λ facts. IsTrue (begins body.choice facts)) entering.is body.starts) described_in
 
-        opened_there : AreOpened nodes table n there.stand.iterations (open_loops t) later
-        opened_there =
-            let to : open_loops t ≡ record { start = e.next; turns = was.went.turns } ∷ open_loops s = ap open_loops was.gone ∙ ap (λ (turn : Turn). turn.frame.loops ++ loops_in s.frames.callers) was.went.gone in
-            let own : IsOpened nodes table n number (record { start = e.next; turns = was.went.turns }) turn turns = record {
-              facts = here.facts;
-              start = body.start;
-              choice = body.choice;
-              known = here.known;
-              started = body.started;
-              chosen = body.chosen;
-              more = first_one.is;
-              carried = record {
-                ahead = λ k. here.described.state.position.ahead;
-                falls = λ k. fell_before (around_of s.world.kept) (unread_of s.world) here.facts.position.falls (map begun_of turns) here.described.state.position.fallen;
-                rests = rests_of (around_of s.world.kept) (unread_of s.world) here.facts.position.falls (map begun_of turns) here.described.state.position.fallen;
-              };
-            } in
-            subst (λ ls. AreOpened nodes table n ls (open_loops t) later) (sym into.1) (subst (λ ls. AreOpened nodes table n (number ∷ here.node.stand.iterations) ls later) (sym to) (own, here.opened))
+      described_there : Describes (run_at library n below later) body.start (unread_of t.world) t.world.kept t.arguments
+      described_there = subst (λ (world : World). Describes (run_at library n below later) body.start (unread_of world) world.kept t.arguments) (sym same_world)
+          (covers_are_sound (run_at library n below later) body.start (body_start body.choice (changes_in nodes number) comes.next) (unread_of s.world) s.world.kept t.arguments here.whole (and_both _ _ body.same).0
+          (subst (λ facts. Describes (run_at library n below later) (body_start body.choice (changes_in nodes number) facts) (unread_of s.world) s.world.kept t.arguments) (sym entering.is) described_start))
 
-        started_at : facts_at table goes.target ≡ Some body.start
-        started_at = ap (facts_at table) into.0 ∙ body.started
+      opened_there : AreOpened nodes table n there.stand.iterations (open_loops t) later
+      opened_there =
+          let to : open_loops t ≡ record { start = e.next; turns = was.went.turns } ∷ open_loops s = ap open_loops was.gone ∙ ap (λ (turn : Turn). turn.frame.loops ++ loops_in s.frames.callers) was.went.gone in
+          let own : IsOpened nodes table n number (record { start = e.next; turns = was.went.turns }) turn turns = record {
+            facts = here.facts;
+            start = body.start;
+            choice = body.choice;
+            known = here.known;
+            started = body.started;
+            chosen = body.chosen;
+            more = first_one.is;
+            carried = record {
+              ahead = λ k. here.described.state.position.ahead;
+              falls = λ k. fell_before (around_of s.world.kept) (unread_of s.world) here.facts.position.falls (map begun_of turns) here.described.state.position.fallen;
+              rests = rests_of (around_of s.world.kept) (unread_of s.world) here.facts.position.falls (map begun_of turns) here.described.state.position.fallen;
+            };
+          } in
+          subst (λ ls. AreOpened nodes table n ls (open_loops t) later) (sym into.1) (subst (λ ls. AreOpened nodes table n (number ∷ here.node.stand.iterations) ls later) (sym to) (own, here.opened))
 
-        ends_ahead : number < end_of nodes number
-        ends_ahead = let all = subst (AllByRecursion (λ b. goes.target ≤ end_of nodes b)) into.1 (closed.ahead goes.target there at) in omega (arith, all.0, into.0)
+      started_at : facts_at table goes.target ≡ Some body.start
+      started_at = ap (facts_at table) into.0 ∙ body.started
 
-        few : first_one.more < value_of n (turns_at nodes table number)
-        few = omega (arith, first_one.few, turns_known nodes table n number here.facts body.start here.known body.started body.most body.turns_are)
+      ends_ahead : number < end_of nodes number
+      ends_ahead = let all = subst (AllByRecursion (λ b. goes.target ≤ end_of nodes b)) into.1 (closed.ahead goes.target there at) in omega (arith, all.0, into.0)
 
-        entering_it : moves.Enters (turning nodes table n) (shown nodes table number here.node.stand.iterations turns s.world) (shown nodes table goes.target there.stand.iterations later t.world)
-        entering_it = record {
-          is_loop = ends_ahead;
-          node = into.0;
-          reached = ap (is_reached table) into.0 ∙ ap (λ (o : Option Facts). is_some o) body.started;
-          more = Some first_one.more;
-          opened = ap (λ ls. loops_of ls later) into.1;
-          begins = let w : held_of t.world ≡ held_of s.world = ap held_of same_world in record { held = omega (arith, w); ahead = omega (arith, w); within = omega arith };
-          turns = few;
-        }
+      few : first_one.more < value_of n (turns_at nodes table number)
+      few = omega (arith, first_one.few, turns_known nodes table n number here.facts body.start here.known body.started body.most body.turns_are)
 
-        pub begins_first : MovesOn library nodes table n below number here.node turns s goes.target t
-        begins_first = record {
-          there = there;
+      entering_it : moves.Enters (turning nodes table n) (shown nodes table number here.node.stand.iterations turns s.world) (shown nodes table goes.target there.stand.iterations later t.world)
+      entering_it = record {
+        is_loop = ends_ahead;
+        node = into.0;
+        reached = ap (is_reached table) into.0 ∙ ap (λ (o : Option Facts). is_some o) body.started;
+        more = Some first_one.more;
+        opened = ap (λ ls. loops_of ls later) into.1;
+        begins = let w : held_of t.world ≡ held_of s.world = ap held_of same_world in record { held = omega (arith, w); ahead = omega (arith, w); within = omega arith };
+        turns = few;
+      }
+
+      pub begins_first : MovesOn library nodes table n below number here.node turns s goes.target t
+      begins_first = record {
+        there = there;
+        at = at;
+        later = later;
+        move = Into entering_it;
+        held = λ few. record {
+          node = there;
+          facts = body.start;
           at = at;
-          later = later;
-          move = Into entering_it;
-          held = λ few. record {
-            node = there;
-            facts = body.start;
-            at = at;
-            known = started_at;
-            position = stands_there laws library entry nodes are closed table n below passes number turns s last t here again goes comes loaded whole there at stand;
-            begins = goes.done;
-            loaded = loaded;
-            whole = whole;
-            opened = opened_there;
-            described = described_there;
-          };
-        }
+          known = started_at;
+          position = stands_there laws ground closed passage there at stand;
+          begins = goes.done;
+          loaded = loaded;
+          whole = whole;
+          opened = opened_there;
+          described = described_there;
+        };
+      }

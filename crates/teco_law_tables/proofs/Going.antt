@@ -16,25 +16,24 @@ use Rattle.teco_verifier.specs.expansion.Ends.{end_of}
 use Rattle.teco_law_expansion.specs.Ends.{AreClosed, LeftHaveEnded}
 use Rattle.teco_law_expansion.specs.Iterations.{AreOpen, IterationsAreOpen}
 use Rattle.teco_law_expansion.specs.Leading.{LeadsBy, place_at, WaysLead}
-use Rattle.teco_model.specs.Macros.{Library, IsLoaded, is_macro}
-use Rattle.teco_law_expansion.specs.Linked.{AreLinked}
+use Rattle.teco_model.specs.Macros.{Library, is_macro}
 use Rattle.teco_verifier.specs.expansion.Node.{Stand, Node, over, stand_of_node, stands, numbered, stand_at}
 use Rattle.teco_verifier.specs.expansion.Position.{Position, position_of}
-use Rattle.teco_law_expansion.specs.Run.{GoesTo}
 use Rattle.teco_poly.proofs.Lawful.{values_compare}
 use Rattle.teco_poly.specs.Polynomial.{value}
 use Rattle.teco_law_facts.proofs.Covering.{and_both, covers_are_sound}
 use Rattle.teco_verifier.specs.facts.Covers.{covers}
-use Rattle.teco_law_facts.specs.Describes.{Run, run_behind, IsWhole, Describes, Begun}
+use Rattle.teco_law_facts.specs.Describes.{Run, run_behind, Describes, Begun}
 use Rattle.teco_verifier.specs.facts.Facts.{Facts}
 use Rattle.teco_verifier.specs.facts.Flows.{Edges}
 use Rattle.teco_model.specs.Paging.{unread_of}
 use Rattle.teco_verifier.specs.table.Behind.{open_of, open_at, left_by, edges_at, along, turns_by_flow, turns_by_kind, begins_turn}
 use Rattle.teco_verifier.specs.table.Closed.{is_return, is_covered, arrives, arrive, is_known_in, closed_behind, closed_where, check_nodes}
-use Rattle.teco_law_tables.specs.Following.{OpenTurn, run_at, loops_in, open_loops, AreOpened, IsDescribed, held_of, loops_of, shown}
-use Rattle.teco_law_tables.specs.Moving.{left_by_flow, left_by_kind, left_along, run_by_flow, run_by_kind, run_along, IsLast, Alone, Again, Comes, MovesOn}
+use Rattle.teco_law_tables.specs.Following.{OpenTurn, run_at, loops_in, open_loops, AreOpened, held_of, loops_of, shown}
+use Rattle.teco_law_tables.specs.Moving.{left_by_flow, left_by_kind, left_along, run_by_flow, run_by_kind, run_along, IsLast, Alone, Again, MovesOn}
 use Rattle.teco_verifier.specs.table.Table.{Table, facts_at}
 use Rattle.teco_law_tables.specs.Turning.{is_reached, held_at, turning}
+use Rattle.teco_law_tables.proofs.Ground.{Ground, Passage}
 use Rattle.teco_law_tables.proofs.Closing.{held_covered, held_known}
 use Rattle.teco_law_tables.proofs.Leaving.{step_loops}
 use Rattle.teco_law_tables.proofs.Lookup.{number_within, stand_of}
@@ -169,109 +168,111 @@ pub record Laws : Type 0 where
   pub left : LeftHaveEnded
   pub lead : WaysLead
 
-module _ (laws : Laws) (library : Library) (entry : ℕ) (nodes : List Node) (are : AreLinked library entry nodes) (closed : AreClosed nodes) (table : Table) (n : ℕ) (below : List Pair) (passes : check_nodes nodes table ≡ Ok tt) where
-  module _ (number : ℕ) (turns : List OpenTurn) (s last t : State) (here : IsDescribed library nodes table n below number turns s) (again : IsLast here.node.element s last) (goes : GoesTo (stands nodes entry) number here.node last t) (comes : Comes nodes here.node here.facts goes.way (run_at library n below turns) s t) (loaded : IsLoaded library t.world.kept) (whole : IsWhole t.world.kept) where
-    module _ (there : Node) (at : numbered nodes goes.target ≡ Some there) (stand : there.stand ≡ stand_at number here.node.stand (position_of t)) where
-      pub stands_there : there.stand.position ≡ position_of t
-      stands_there = ap (λ (stand : Stand). stand.position) stand
+module _ (laws : Laws) (ground : Ground) (closed : AreClosed ground.nodes) (passage : Passage ground) where
+  open ground use {library, entry, nodes, table, n, below, are, passes}
+  open passage use {number, turns, s, last, t, here, again, goes, comes, loaded, whole}
 
-      pub leads_there : LeadsBy here.node.element goes.way (place_at number here.node.stand) (place_at goes.target there.stand)
-      leads_there = laws.lead library entry nodes number here.node goes.way goes.target there.stand are here.at goes.taken (stand_of nodes entry goes.target there at)
+  module _ (there : Node) (at : numbered nodes goes.target ≡ Some there) (stand : there.stand ≡ stand_at number here.node.stand (position_of t)) where
+    pub stands_there : there.stand.position ≡ position_of t
+    stands_there = ap (λ (stand : Stand). stand.position) stand
 
-      many_there : length (open_loops t) ≡ length there.stand.iterations
-      many_there = loops_length nodes entry goes.target t there.stand.iterations
-          (subst (λ (p : Position). AreOpen nodes entry goes.target (p.running ∷ p.callers) there.stand.iterations) stands_there (laws.open_at library entry nodes goes.target there are at))
+    pub leads_there : LeadsBy here.node.element goes.way (place_at number here.node.stand) (place_at goes.target there.stand)
+    leads_there = laws.lead library entry nodes number here.node goes.way goes.target there.stand are here.at goes.taken (stand_of nodes entry goes.target there at)
 
-      many_here : (length here.node.stand.iterations ≡ length (open_loops s)) × (length here.node.stand.iterations ≡ length turns)
-      many_here = opened_length nodes table n here.node.stand.iterations (open_loops s) turns here.opened
+    many_there : length (open_loops t) ≡ length there.stand.iterations
+    many_there = loops_length nodes entry goes.target t there.stand.iterations
+        (subst (λ (p : Position). AreOpen nodes entry goes.target (p.running ∷ p.callers) there.stand.iterations) stands_there (laws.open_at library entry nodes goes.target there are at))
 
-      between_is : goes.way ≡ 0 → left_by nodes here.node ≡ length here.node.stand.iterations - length there.stand.iterations
-      between_is z =
-          let first : get_or here.node.ways 0 0 ≡ goes.target = first_got here.node.ways goes.target (ap (slice_get here.node.ways) (sym z) ∙ goes.taken) in
-          ap (λ k. open_of here.node - k) (ap (open_at nodes) first ∙ ap (λ (o : Option Node). option_map_or open_of o 0) at)
+    many_here : (length here.node.stand.iterations ≡ length (open_loops s)) × (length here.node.stand.iterations ≡ length turns)
+    many_here = opened_length nodes table n here.node.stand.iterations (open_loops s) turns here.opened
 
-      module _ (plain : begins_turn here.node.element goes.way ≡ false) where
-        abbrev left : ℕ
-        left = left_along here.node.element goes.way (left_by nodes here.node)
+    between_is : goes.way ≡ 0 → left_by nodes here.node ≡ length here.node.stand.iterations - length there.stand.iterations
+    between_is z =
+        let first : get_or here.node.ways 0 0 ≡ goes.target = first_got here.node.ways goes.target (ap (slice_get here.node.ways) (sym z) ∙ goes.taken) in
+        ap (λ k. open_of here.node - k) (ap (open_at nodes) first ∙ ap (λ (o : Option Node). option_map_or open_of o 0) at)
 
-        counted_there : goes.way ≡ 0 → left_by nodes here.node ≡ length (open_loops last) - length (open_loops t)
-        counted_there z = let b = between_is z in let l = ap length (same_loops here.node.element s last again) in omega (arith, b, l, many_here.0, many_there)
+    module _ (plain : begins_turn here.node.element goes.way ≡ false) where
+      abbrev left : ℕ
+      left = left_along here.node.element goes.way (left_by nodes here.node)
 
-        is_ahead : Ahead left (place_at number here.node.stand) (place_at goes.target there.stand)
-        is_ahead = ahead (place_at number here.node.stand) (place_at goes.target there.stand) (left_by nodes here.node) here.node.element goes.way between_is leads_there plain
+      counted_there : goes.way ≡ 0 → left_by nodes here.node ≡ length (open_loops last) - length (open_loops t)
+      counted_there z = let b = between_is z in let l = ap length (same_loops here.node.element s last again) in omega (arith, b, l, many_here.0, many_there)
 
-        loops_there : open_loops t ≡ drop left (open_loops s)
-        loops_there =
-            step_loops here.node.element goes.way last t (left_by nodes here.node) counted_there goes.was plain
-            ∙ ap (drop left) (same_loops here.node.element s last again)
+      is_ahead : Ahead left (place_at number here.node.stand) (place_at goes.target there.stand)
+      is_ahead = ahead (place_at number here.node.stand) (place_at goes.target there.stand) (left_by nodes here.node) here.node.element goes.way between_is leads_there plain
 
-        abbrev later : List OpenTurn
-        later = drop left turns
+      loops_there : open_loops t ≡ drop left (open_loops s)
+      loops_there =
+          step_loops here.node.element goes.way last t (left_by nodes here.node) counted_there goes.was plain
+          ∙ ap (drop left) (same_loops here.node.element s last again)
 
-        described_there : Describes (run_at library n below later) comes.next (unread_of t.world) t.world.kept t.arguments
-        described_there = subst (λ run. Describes run comes.next (unread_of t.world) t.world.kept t.arguments)
-            (run_behind_way here.node.element goes.way (left_by nodes here.node) s.world (run_at library n below turns) plain ∙ run_dropped library left n below turns)
-            comes.described
+      abbrev later : List OpenTurn
+      later = drop left turns
 
-        covered : Covered nodes table goes.target comes.next
-        covered = way_covered nodes table number here.node here.facts comes.next comes.edges goes.way goes.target passes here.at here.known comes.leads goes.taken plain comes.on_way (not_behind nodes table goes.target (number_within nodes goes.target there at).1)
+      described_there : Describes (run_at library n below later) comes.next (unread_of t.world) t.world.kept t.arguments
+      described_there = subst (λ run. Describes run comes.next (unread_of t.world) t.world.kept t.arguments)
+          (run_behind_way here.node.element goes.way (left_by nodes here.node) s.world (run_at library n below turns) plain ∙ run_dropped library left n below turns)
+          comes.described
 
-        described_again : Describes (run_at library n below later) covered.facts (unread_of t.world) t.world.kept t.arguments
-        described_again = covers_are_sound (run_at library n below later) covered.facts comes.next (unread_of t.world) t.world.kept t.arguments whole covered.covered described_there
+      covered : Covered nodes table goes.target comes.next
+      covered = way_covered nodes table number here.node here.facts comes.next comes.edges goes.way goes.target passes here.at here.known comes.leads goes.taken plain comes.on_way (not_behind nodes table goes.target (number_within nodes goes.target there at).1)
 
-        held_there : held_at nodes table n goes.target ≡ value covered.facts.held n
-        held_there = held_known nodes table n goes.target covered.facts covered.known
+      described_again : Describes (run_at library n below later) covered.facts (unread_of t.world) t.world.kept t.arguments
+      described_again = covers_are_sound (run_at library n below later) covered.facts comes.next (unread_of t.world) t.world.kept t.arguments whole covered.covered described_there
 
-        held_more : value comes.next.held n ≤ value covered.facts.held n
-        held_more = values_compare comes.next.held covered.facts.held n (held_covered covered.facts comes.next covered.covered)
+      held_there : held_at nodes table n goes.target ≡ value covered.facts.held n
+      held_there = held_known nodes table n goes.target covered.facts covered.known
 
-        ended : AllByRecursion (λ b. end_of nodes b < goes.target) (take left here.node.stand.iterations)
-        ended = laws.left library entry nodes number goes.target left here.node there.stand are here.at (stand_of nodes entry goes.target there at) is_ahead.0 is_ahead.1
+      held_more : value comes.next.held n ≤ value covered.facts.held n
+      held_more = values_compare comes.next.held covered.facts.held n (held_covered covered.facts comes.next covered.covered)
 
-        open_still : AllByRecursion (λ b. goes.target ≤ end_of nodes b) (drop left here.node.stand.iterations)
-        open_still = subst (AllByRecursion (λ b. goes.target ≤ end_of nodes b)) is_ahead.1 (closed.ahead goes.target there at)
+      ended : AllByRecursion (λ b. end_of nodes b < goes.target) (take left here.node.stand.iterations)
+      ended = laws.left library entry nodes number goes.target left here.node there.stand are here.at (stand_of nodes entry goes.target there at) is_ahead.0 is_ahead.1
 
-        reached : (k : ℕ) (facts : Facts) → facts_at table k ≡ Some facts → is_reached table k ≡ true
-        reached zero facts h = refl
-        reached (suc k) facts h = ap (λ (o : Option Facts). is_some o) h
+      open_still : AllByRecursion (λ b. goes.target ≤ end_of nodes b) (drop left here.node.stand.iterations)
+      open_still = subst (AllByRecursion (λ b. goes.target ≤ end_of nodes b)) is_ahead.1 (closed.ahead goes.target there at)
 
-        falls : AllByRecursion (λ b. FallFollows (if number == suc b then Some (pos 0) else None) (if goes.target == suc b then Some (pos 0) else None) (held_of s.world) (held_of t.world)) there.stand.iterations
-        falls = subst (AllByRecursion (λ b. FallFollows (if number == suc b then Some (pos 0) else None) (if goes.target == suc b then Some (pos 0) else None) (held_of s.world) (held_of t.world))) (sym is_ahead.1)
-            (no_falls (λ b. if number == suc b then Some (pos 0) else None) goes.target (held_of s.world) (held_of t.world) number (drop left here.node.stand.iterations) is_ahead.0 (descend_dropped left number here.node.stand.iterations (closed.descend number here.node here.at)))
+      reached : (k : ℕ) (facts : Facts) → facts_at table k ≡ Some facts → is_reached table k ≡ true
+      reached zero facts h = refl
+      reached (suc k) facts h = ap (λ (o : Option Facts). is_some o) h
 
-        going : Goes (turning nodes table n) (shown nodes table number here.node.stand.iterations turns s.world) (shown nodes table goes.target there.stand.iterations later t.world)
-        going = record {
-          later = is_ahead.0;
-          inside = omega (arith, number_within nodes goes.target there at);
-          reached = reached goes.target covered.facts covered.known;
-          loops = iterations_are nodes goes.target there at ∙ (is_ahead.1 ∙ (numbers_still (λ b. end_of nodes b) goes.target left here.node.stand.iterations ended open_still ∙ ap (λ ls. still_open (λ b. end_of nodes b) goes.target ls) (sym (iterations_are nodes number here.node here.at))));
-          opened = ap (λ ls. loops_of ls later) is_ahead.1 ∙ loops_still (λ b. end_of nodes b) goes.target left here.node.stand.iterations turns many_here.1 ended open_still;
-          held = omega (arith, comes.grown, held_known nodes table n number here.facts here.known, held_there, held_more);
-          ahead = omega (arith, held_there, described_again.state.held);
-          falls = subst (λ ls. AllByRecursion (λ b. FallFollows (if number == suc b then Some (pos 0) else None) (if goes.target == suc b then Some (pos 0) else None) (held_of s.world) (held_of t.world)) ls) (sym (iterations_are nodes goes.target there at)) falls;
-        }
+      falls : AllByRecursion (λ b. FallFollows (if number == suc b then Some (pos 0) else None) (if goes.target == suc b then Some (pos 0) else None) (held_of s.world) (held_of t.world)) there.stand.iterations
+      falls = subst (AllByRecursion (λ b. FallFollows (if number == suc b then Some (pos 0) else None) (if goes.target == suc b then Some (pos 0) else None) (held_of s.world) (held_of t.world))) (sym is_ahead.1)
+          (no_falls (λ b. if number == suc b then Some (pos 0) else None) goes.target (held_of s.world) (held_of t.world) number (drop left here.node.stand.iterations) is_ahead.0 (descend_dropped left number here.node.stand.iterations (closed.descend number here.node here.at)))
 
-        opened_there : AreOpened nodes table n there.stand.iterations (open_loops t) later
-        opened_there = subst (λ ls. AreOpened nodes table n ls (open_loops t) later) (sym is_ahead.1)
-            (subst (λ ls. AreOpened nodes table n (drop left here.node.stand.iterations) ls later) (sym loops_there)
-            (opened_dropped nodes table n left here.node.stand.iterations (open_loops s) turns here.opened))
+      going : Goes (turning nodes table n) (shown nodes table number here.node.stand.iterations turns s.world) (shown nodes table goes.target there.stand.iterations later t.world)
+      going = record {
+        later = is_ahead.0;
+        inside = omega (arith, number_within nodes goes.target there at);
+        reached = reached goes.target covered.facts covered.known;
+        loops = iterations_are nodes goes.target there at ∙ (is_ahead.1 ∙ (numbers_still (λ b. end_of nodes b) goes.target left here.node.stand.iterations ended open_still ∙ ap (λ ls. still_open (λ b. end_of nodes b) goes.target ls) (sym (iterations_are nodes number here.node here.at))));
+        opened = ap (λ ls. loops_of ls later) is_ahead.1 ∙ loops_still (λ b. end_of nodes b) goes.target left here.node.stand.iterations turns many_here.1 ended open_still;
+        held = omega (arith, comes.grown, held_known nodes table n number here.facts here.known, held_there, held_more);
+        ahead = omega (arith, held_there, described_again.state.held);
+        falls = subst (λ ls. AllByRecursion (λ b. FallFollows (if number == suc b then Some (pos 0) else None) (if goes.target == suc b then Some (pos 0) else None) (held_of s.world) (held_of t.world)) ls) (sym (iterations_are nodes goes.target there at)) falls;
+      }
 
-        pub goes_on : MovesOn library nodes table n below number here.node turns s goes.target t
-        goes_on = record {
-          there = there;
+      opened_there : AreOpened nodes table n there.stand.iterations (open_loops t) later
+      opened_there = subst (λ ls. AreOpened nodes table n ls (open_loops t) later) (sym is_ahead.1)
+          (subst (λ ls. AreOpened nodes table n (drop left here.node.stand.iterations) ls later) (sym loops_there)
+          (opened_dropped nodes table n left here.node.stand.iterations (open_loops s) turns here.opened))
+
+      pub goes_on : MovesOn library nodes table n below number here.node turns s goes.target t
+      goes_on = record {
+        there = there;
+        at = at;
+        later = later;
+        move = Forward going;
+        held = λ few. record {
+          node = there;
+          facts = covered.facts;
           at = at;
-          later = later;
-          move = Forward going;
-          held = λ few. record {
-            node = there;
-            facts = covered.facts;
-            at = at;
-            known = covered.known;
-            position = stands_there;
-            begins = goes.done;
-            loaded = loaded;
-            whole = whole;
-            opened = opened_there;
-            described = described_again;
-          };
-        }
+          known = covered.known;
+          position = stands_there;
+          begins = goes.done;
+          loaded = loaded;
+          whole = whole;
+          opened = opened_there;
+          described = described_again;
+        };
+      }

@@ -3,7 +3,7 @@ use Rattle.std.proofs.Common.{◌≡◌, ℕ, ◌≤◌, ◌<◌, refl, sym, ap,
 use Rattle.std.specs.Prelude.{IsTrue}
 use Rattle.std.specs.List.{AllByRecursion}
 use Rattle.std.specs.Option.{option_map_or}
-use Rattle.teco_law_tables.specs.Following.{falling_in, OpenTurn, loops_in, AreMore, IsOpened, AreOpened, IsDescribed}
+use Rattle.teco_law_tables.specs.Following.{falling_in, OpenTurn, loops_in, AreMore, IsOpened, AreOpened}
 use Rattle.teco_verifier.specs.declared.falls.Rank.{Rank}
 use Rattle.teco_model.specs.declared.flow.Loop.{Loop}
 use Rattle.teco_model.specs.declared.kind.Flow.{Flow}
@@ -14,13 +14,10 @@ use Rattle.teco_model.specs.declared.kind.Kind.TheVariants as kind
 use Rattle.teco_model.specs.declared.kind.Search.{Search}
 use Rattle.teco_model.specs.Ahead.{Whole}
 use Rattle.teco_model.specs.Element.{Element}
-use Rattle.teco_model.specs.Registers.{Pair}
 use Rattle.teco_model.specs.Skip.{skip_of}
-use Rattle.teco_model.specs.State.{Frame, State}
+use Rattle.teco_model.specs.State.{Frame}
 use Rattle.teco_law_expansion.specs.Ends.{Descend, IsBegin, AreClosed}
 use Rattle.teco_verifier.specs.expansion.Ends.{end_of}
-use Rattle.teco_model.specs.Macros.{Library}
-use Rattle.teco_law_expansion.specs.Linked.{AreLinked}
 use Rattle.teco_verifier.specs.expansion.Node.{Node}
 use Rattle.teco_verifier.specs.expansion.Position.{Position, start_of}
 use Rattle.teco_verifier.specs.expansion.Ways.{search_ways, element_ways, ways_at}
@@ -33,9 +30,10 @@ use Rattle.teco_verifier.specs.facts.Searches.{facts_at_search}
 use Rattle.teco_law_facts.specs.SoundSteps.{IsInside, LeadsAhead, FlowStands, KindStands}
 use Rattle.teco_verifier.specs.facts.Transfer.{search_allowed, without_answer}
 use Rattle.teco_verifier.specs.table.Behind.{is_inside, placed, edges_at}
-use Rattle.teco_verifier.specs.table.Closed.{is_counted, is_known_in, check_nodes}
+use Rattle.teco_verifier.specs.table.Closed.{is_counted, is_known_in}
 use Rattle.teco_verifier.specs.table.Table.{Table}
 use Rattle.teco_verifier.specs.table.Written.{changes_in}
+use Rattle.teco_law_tables.proofs.Ground.{Ground, Arrival}
 use Rattle.teco_law_tables.proofs.Coming.{HasLoop}
 use Rattle.teco_law_tables.proofs.Entered.{counted_by}
 use Rattle.teco_law_tables.proofs.Entering.{kind_edges, Entering, enters}
@@ -87,7 +85,10 @@ counted_where : (falling : Option Rank) (left : Option ℕ) (counted : Bool) (tu
 counted_where falling None counted turn turns e h = absurd (cc)
 counted_where falling (Some left) counted turn turns e h = h.0
 
-module _ (library : Library) (entry : ℕ) (nodes : List Node) (table : Table) (n : ℕ) (below : List Pair) (are : AreLinked library entry nodes) (closed : AreClosed nodes) (passes : check_nodes nodes table ≡ Ok tt) (number : ℕ) (turns : List OpenTurn) (s : State) (here : IsDescribed library nodes table n below number turns s) where
+module _ (ground : Ground) (closed : AreClosed ground.nodes) (arrival : Arrival ground) where
+  open ground use {library, entry, nodes, table, n, below, are, passes}
+  open arrival use {number, turns, s, here}
+
   loop_there : HasStart here.node.stand.position.running.starts → HasLoop s.frames.running
   loop_there h = has_loop s.frames.running s.frames.running.loops refl (subst HasStart (ap (λ (p : Position). p.running.starts) here.position) h)
 

@@ -8,6 +8,7 @@ mod Closing
 mod Leaving
 mod Passing
 mod Pending
+mod Ground
 mod Going
 mod Entered
 mod Returned

@@ -1,5 +1,5 @@
 -- A step of > back to the start of its body begins a further turn.
-use Rattle.std.proofs.Common.{◌≡◌, ℕ, zero, suc, ◌+◌, ◌-◌, ◌≤◌, ◌<◌, refl, sym, ap, ◌∙◌, subst, arith, List, [], ◌∷◌, ◌++◌, map, drop, Bool, false, Option, Some, None, Ok, is_some}
+use Rattle.std.proofs.Common.{◌≡◌, ℕ, zero, suc, ◌+◌, ◌-◌, ◌≤◌, ◌<◌, refl, sym, ap, ◌∙◌, subst, arith, List, [], ◌∷◌, ◌++◌, map, drop, Bool, false, Option, Some, None, is_some}
 use Rattle.std.specs.Prelude.{IsTrue}
 use Rattle.teco_verifier.specs.facts.Ranks.{rank_of, rank_at}
 use Rattle.teco_verifier.specs.declared.falls.Rank.{Rank}
@@ -11,32 +11,30 @@ use Rattle.teco_model.specs.declared.kind.Kind.TheVariants as kind
 use Rattle.teco_model.specs.Arguments as model
 use Rattle.teco_model.specs.Element.{Element}
 use Rattle.teco_model.specs.Flow.{Turn}
-use Rattle.teco_model.specs.Registers.{Pair}
 use Rattle.teco_model.specs.State.{World, State}
 use Rattle.teco_law_expansion.specs.Ends.{Descend, IsBegin, AreClosed}
 use Rattle.teco_verifier.specs.expansion.Ends.{end_of}
 use Rattle.teco_law_expansion.specs.Leading.{LeadsBy, LeadsByKind, IsBack, place_at}
-use Rattle.teco_model.specs.Macros.{Library, IsLoaded, is_macro}
-use Rattle.teco_law_expansion.specs.Linked.{AreLinked}
-use Rattle.teco_verifier.specs.expansion.Node.{Node, stands, numbered, stand_at}
+use Rattle.teco_model.specs.Macros.{is_macro}
+use Rattle.teco_verifier.specs.expansion.Node.{Node, numbered, stand_at}
 use Rattle.teco_verifier.specs.expansion.Position.{position_of}
-use Rattle.teco_law_expansion.specs.Run.{GoesTo}
 use Rattle.teco_law_expansion.specs.Turns as went
 use Rattle.teco_law_expansion.specs.Was.{StepWas, ElementWas, Turns}
 use Rattle.teco_poly.specs.Polynomial.{Polynomial, value}
 use Rattle.teco_law_facts.proofs.Bodies.{returns_are_sound, turns_fall}
 use Rattle.teco_law_facts.proofs.Covering.{and_both, covers_are_sound}
 use Rattle.teco_verifier.specs.facts.Bodies.{Changes, Choice, body_start, returns, stands as choice_stands}
-use Rattle.teco_law_facts.specs.Describes.{Begun, begun_at, run_behind, run_in_turn, IsWhole, Describes}
+use Rattle.teco_law_facts.specs.Describes.{Begun, begun_at, run_behind, run_in_turn, Describes}
 use Rattle.teco_verifier.specs.facts.Facts.{Facts}
 use Rattle.teco_law_facts.specs.Laws.{entered, amount_of, IsCarried, BeginsAgain}
 use Rattle.teco_model.specs.Paging.{unread_of}
-use Rattle.teco_verifier.specs.table.Closed.{is_counted, check_nodes}
+use Rattle.teco_verifier.specs.table.Closed.{is_counted}
 use Rattle.teco_law_tables.specs.Following.{OpenTurn, begun_of, run_at, falling_in, loops_in, open_loops, AreMore, IsOpened, AreOpened, IsDescribed, held_of, loops_of, shown}
-use Rattle.teco_law_tables.specs.Moving.{IsLast, Comes, MovesOn}
+use Rattle.teco_law_tables.specs.Moving.{MovesOn}
 use Rattle.teco_verifier.specs.table.Table.{Table, facts_at, choice_at}
 use Rattle.teco_law_tables.specs.Turning.{is_reached, held_at, turning}
 use Rattle.teco_verifier.specs.table.Written.{changes_in}
+use Rattle.teco_law_tables.proofs.Ground.{Ground, Passage}
 use Rattle.teco_law_tables.proofs.Closing.{held_known, held_same}
 use Rattle.teco_law_tables.proofs.Entered.{counted_covered, not_again, world_same}
 use Rattle.teco_law_tables.proofs.Entering.{Entering, enters}
@@ -79,168 +77,170 @@ returns_by : (choice : Choice) (changes : Changes) (most : Polynomial) (entering
 returns_by choice changes most entering end counted facts e h =
     (and_both _ _ (subst (λ (entering : Facts). IsTrue (choice_stands choice changes (is_counted entering.iterations) most entering (Some end))) e h)).1
 
-module _ (laws : Laws) (library : Library) (entry : ℕ) (nodes : List Node) (are : AreLinked library entry nodes) (closed : AreClosed nodes) (table : Table) (n : ℕ) (below : List Pair) (passes : check_nodes nodes table ≡ Ok tt) where
-  module _ (number : ℕ) (turns : List OpenTurn) (s last t : State) (here : IsDescribed library nodes table n below number turns s) (again : IsLast here.node.element s last) (goes : GoesTo (stands nodes entry) number here.node last t) (comes : Comes nodes here.node here.facts goes.way (run_at library n below turns) s t) (loaded : IsLoaded library t.world.kept) (whole : IsWhole t.world.kept) where
-    module _ (there : Node) (at : numbered nodes goes.target ≡ Some there) (stand : there.stand ≡ stand_at number here.node.stand (position_of t)) where
-      module _ (e : Element) (reads : here.node.element ≡ Some e) (is : e.kind ≡ kind.Flow flow.EndTurn) (first : goes.way ≡ 0) where
-        was : Turns flow.EndTurn zero e s t
-        was = subst (λ (last : State). Turns flow.EndTurn zero e last t) (not_again flow.EndTurn e here.node.element s last reads is again) (subst (λ k. ElementWas k zero e last t) is (subst (λ way. StepWas (Some e) way last t) first (subst (λ read. StepWas read goes.way last t) reads goes.was)))
+module _ (laws : Laws) (ground : Ground) (closed : AreClosed ground.nodes) (passage : Passage ground) where
+  open ground use {library, entry, nodes, table, n, below, are, passes}
+  open passage use {number, turns, s, last, t, here, again, goes, comes, loaded, whole}
 
-        back : IsBack (place_at number here.node.stand) (place_at goes.target there.stand)
-        back = subst (λ k. LeadsByKind k zero (place_at number here.node.stand) (place_at goes.target there.stand)) is
-            (subst (λ way. LeadsBy (Some e) way (place_at number here.node.stand) (place_at goes.target there.stand)) first
-            (subst (λ read. LeadsBy read goes.way (place_at number here.node.stand) (place_at goes.target there.stand)) reads
-            (leads_there laws library entry nodes are closed table n below passes number turns s last t here again goes comes loaded whole there at stand)))
+  module _ (there : Node) (at : numbered nodes goes.target ≡ Some there) (stand : there.stand ≡ stand_at number here.node.stand (position_of t)) where
+    module _ (e : Element) (reads : here.node.element ≡ Some e) (is : e.kind ≡ kind.Flow flow.EndTurn) (first : goes.way ≡ 0) where
+      was : Turns flow.EndTurn zero e s t
+      was = subst (λ (last : State). Turns flow.EndTurn zero e last t) (not_again flow.EndTurn e here.node.element s last reads is again) (subst (λ k. ElementWas k zero e last t) is (subst (λ way. StepWas (Some e) way last t) first (subst (λ read. StepWas read goes.way last t) reads goes.was)))
 
-        same_world : t.world ≡ s.world
-        same_world = world_same flow.EndTurn zero e s t was
+      back : IsBack (place_at number here.node.stand) (place_at goes.target there.stand)
+      back = subst (λ k. LeadsByKind k zero (place_at number here.node.stand) (place_at goes.target there.stand)) is
+          (subst (λ way. LeadsBy (Some e) way (place_at number here.node.stand) (place_at goes.target there.stand)) first
+          (subst (λ read. LeadsBy read goes.way (place_at number here.node.stand) (place_at goes.target there.stand)) reads
+          (leads_there laws ground closed passage there at stand)))
 
-        abbrev begun : Begun
-        begun = begun_at (unread_of s.world) s.world.kept
+      same_world : t.world ≡ s.world
+      same_world = world_same flow.EndTurn zero e s t was
 
-        abbrev falling : Option Rank
-        falling = falling_in nodes table back.begin
+      abbrev begun : Begun
+      begun = begun_at (unread_of s.world) s.world.kept
 
-        opened : Innermost nodes table n back.begin back.outer was.went.loop (was.went.outer ++ loops_in s.frames.callers) turns
-        opened = innermost nodes table n back.begin back.outer was.went.loop (was.went.outer ++ loops_in s.frames.callers) turns
-            (subst (λ ls. AreOpened nodes table n (back.begin ∷ back.outer) (ls ++ loops_in s.frames.callers) turns) was.went.inside
-            (subst (λ begins. AreOpened nodes table n begins (open_loops s) turns) back.innermost here.opened))
+      abbrev falling : Option Rank
+      falling = falling_in nodes table back.begin
 
-        ends_here : end_of nodes back.begin ≡ number
-        ends_here = closed.only number here.node back.begin here.at (ending here.node e back.begin back.outer reads is back.innermost)
+      opened : Innermost nodes table n back.begin back.outer was.went.loop (was.went.outer ++ loops_in s.frames.callers) turns
+      opened = innermost nodes table n back.begin back.outer was.went.loop (was.went.outer ++ loops_in s.frames.callers) turns
+          (subst (λ ls. AreOpened nodes table n (back.begin ∷ back.outer) (ls ++ loops_in s.frames.callers) turns) was.went.inside
+          (subst (λ begins. AreOpened nodes table n begins (open_loops s) turns) back.innermost here.opened))
 
-        before : back.begin < number
-        before = (subst (Descend number) back.innermost (closed.descend number here.node here.at)).0
+      ends_here : end_of nodes back.begin ≡ number
+      ends_here = closed.only number here.node back.begin here.at (ending here.node e back.begin back.outer reads is back.innermost)
 
-        begin : IsBegin nodes back.begin
-        begin = (closed.begins back.begin (omega (arith, before, ends_here))).0
+      before : back.begin < number
+      before = (subst (Descend number) back.innermost (closed.descend number here.node here.at)).0
 
-        body : Body nodes table back.begin begin.node opened.own.start
-        body = body_is nodes table back.begin begin.node opened.own.start opened.own.started begin.element begin.reads begin.kind_is passes begin.at
+      begin : IsBegin nodes back.begin
+      begin = (closed.begins back.begin (omega (arith, before, ends_here))).0
 
-        entering : Entering body.facts body.entering
-        entering = enters nodes begin.node begin.element body.facts body.entering body.edges begin.reads begin.kind_is body.leads body.on
+      body : Body nodes table back.begin begin.node opened.own.start
+      body = body_is nodes table back.begin begin.node opened.own.start opened.own.started begin.element begin.reads begin.kind_is passes begin.at
 
-        abbrev counted : Bool
-        counted = is_some entering.taken.value
+      entering : Entering body.facts body.entering
+      entering = enters nodes begin.node begin.element body.facts body.entering body.edges begin.reads begin.kind_is body.leads body.on
 
-        counted_is : is_counted opened.own.start.iterations ≡ counted
-        counted_is = counted_covered opened.own.start (body_start body.choice (changes_in nodes back.begin) body.entering) (and_both _ _ body.same).0 ∙ ap (λ (facts : Facts). is_counted facts.iterations) entering.is
+      abbrev counted : Bool
+      counted = is_some entering.taken.value
 
-        known_here : facts_at table (end_of nodes back.begin) ≡ Some here.facts
-        known_here = ap (facts_at table) ends_here ∙ here.known
+      counted_is : is_counted opened.own.start.iterations ≡ counted
+      counted_is = counted_covered opened.own.start (body_start body.choice (changes_in nodes back.begin) body.entering) (and_both _ _ body.same).0 ∙ ap (λ (facts : Facts). is_counted facts.iterations) entering.is
 
-        returning : IsTrue (returns body.choice (changes_in nodes back.begin) counted body.most (entered counted body.facts) here.facts)
-        returning = returns_by body.choice (changes_in nodes back.begin) body.most body.entering here.facts counted body.facts entering.is
-            (subst (λ o. IsTrue (choice_stands body.choice (changes_in nodes back.begin) (is_counted body.entering.iterations) body.most body.entering o)) known_here body.stands_there)
+      known_here : facts_at table (end_of nodes back.begin) ≡ Some here.facts
+      known_here = ap (facts_at table) ends_here ∙ here.known
 
-        begun_are : map begun_of turns ≡ opened.turn.begun ∷ map begun_of opened.outer
-        begun_are = ap (λ turns. map begun_of turns) opened.turns_are
+      returning : IsTrue (returns body.choice (changes_in nodes back.begin) counted body.most (entered counted body.facts) here.facts)
+      returning = returns_by body.choice (changes_in nodes back.begin) body.most body.entering here.facts counted body.facts entering.is
+          (subst (λ o. IsTrue (choice_stands body.choice (changes_in nodes back.begin) (is_counted body.entering.iterations) body.most body.entering o)) known_here body.stands_there)
 
-        falling_is : falling ≡ rank_of here.facts.position
-        falling_is = ap rank_at known_here
+      begun_are : map begun_of turns ≡ opened.turn.begun ∷ map begun_of opened.outer
+      begun_are = ap (λ turns. map begun_of turns) opened.turns_are
 
-        falls : is_counted opened.own.start.iterations ≡ false → amount_of falling begun + 1 ≤ amount_of falling opened.turn.begun
-        falls none = subst (λ falling. amount_of falling begun + 1 ≤ amount_of falling opened.turn.begun) (sym falling_is)
-            (turns_fall (run_at library n below turns) here.facts (unread_of s.world) s.world.kept s.arguments body.choice (changes_in nodes back.begin) body.most (entered counted body.facts) opened.turn.begun (map begun_of opened.outer)
-            here.whole.inside
-            (subst (λ b. IsTrue (returns body.choice (changes_in nodes back.begin) b body.most (entered counted body.facts) here.facts)) (sym counted_is ∙ none) returning)
-            here.described begun_are)
+      falling_is : falling ≡ rank_of here.facts.position
+      falling_is = ap rank_at known_here
 
-        less : Fewer falling (is_counted opened.own.start.iterations) opened.turn begun was.went.turns
-        less = fewer falling (is_counted opened.own.start.iterations) opened.turn begun was.went.loop.turns was.went.turns opened.own.more was.went.counts falls
+      falls : is_counted opened.own.start.iterations ≡ false → amount_of falling begun + 1 ≤ amount_of falling opened.turn.begun
+      falls none = subst (λ falling. amount_of falling begun + 1 ≤ amount_of falling opened.turn.begun) (sym falling_is)
+          (turns_fall (run_at library n below turns) here.facts (unread_of s.world) s.world.kept s.arguments body.choice (changes_in nodes back.begin) body.most (entered counted body.facts) opened.turn.begun (map begun_of opened.outer)
+          here.whole.inside
+          (subst (λ b. IsTrue (returns body.choice (changes_in nodes back.begin) b body.most (entered counted body.facts) here.facts)) (sym counted_is ∙ none) returning)
+          here.described begun_are)
 
-        abbrev turn : OpenTurn
-        turn = record { begun = begun; more = opened.turn.more - 1 }
+      less : Fewer falling (is_counted opened.own.start.iterations) opened.turn begun was.went.turns
+      less = fewer falling (is_counted opened.own.start.iterations) opened.turn begun was.went.loop.turns was.went.turns opened.own.more was.went.counts falls
 
-        abbrev later : List OpenTurn
-        later = turn ∷ opened.outer
+      abbrev turn : OpenTurn
+      turn = record { begun = begun; more = opened.turn.more - 1 }
 
-        target_is : goes.target ≡ suc back.begin
-        target_is = back.number
+      abbrev later : List OpenTurn
+      later = turn ∷ opened.outer
 
-        started_at : facts_at table goes.target ≡ Some opened.own.start
-        started_at = ap (facts_at table) target_is ∙ opened.own.started
+      target_is : goes.target ≡ suc back.begin
+      target_is = back.number
 
-        -- the move
-        returning_it : moves.Returns (turning nodes table n) (shown nodes table number here.node.stand.iterations turns s.world) (shown nodes table goes.target there.stand.iterations later t.world)
-        returning_it = record {
-          begin = back.begin;
-          more = Some opened.turn.more;
-          left = Some (opened.turn.more - 1);
-          outer = loops_of back.outer opened.outer;
-          at_end = sym ends_here;
-          node = target_is;
-          reached = ap (is_reached table) target_is ∙ ap (λ (o : Option Facts). is_some o) opened.own.started;
-          old_opened = ap (λ ls. loops_of ls turns) back.innermost ∙ ap (λ turns. loops_of (back.begin ∷ back.outer) turns) opened.turns_are;
-          new_opened = ap (λ ls. loops_of ls later) (back.same ∙ back.innermost);
-          begins = let w : held_of t.world ≡ held_of s.world = ap held_of same_world in record { held = omega (arith, w); ahead = omega (arith, w); within = omega arith };
-          counts = (opened.turn.more - 1, less.some, refl);
+      started_at : facts_at table goes.target ≡ Some opened.own.start
+      started_at = ap (facts_at table) target_is ∙ opened.own.started
+
+      -- the move
+      returning_it : moves.Returns (turning nodes table n) (shown nodes table number here.node.stand.iterations turns s.world) (shown nodes table goes.target there.stand.iterations later t.world)
+      returning_it = record {
+        begin = back.begin;
+        more = Some opened.turn.more;
+        left = Some (opened.turn.more - 1);
+        outer = loops_of back.outer opened.outer;
+        at_end = sym ends_here;
+        node = target_is;
+        reached = ap (is_reached table) target_is ∙ ap (λ (o : Option Facts). is_some o) opened.own.started;
+        old_opened = ap (λ ls. loops_of ls turns) back.innermost ∙ ap (λ turns. loops_of (back.begin ∷ back.outer) turns) opened.turns_are;
+        new_opened = ap (λ ls. loops_of ls later) (back.same ∙ back.innermost);
+        begins = let w : held_of t.world ≡ held_of s.world = ap held_of same_world in record { held = omega (arith, w); ahead = omega (arith, w); within = omega arith };
+        counts = (opened.turn.more - 1, less.some, refl);
+      }
+
+      -- what is known at the start of the body describes the state there
+      same_facts : opened.own.facts ≡ body.facts
+      same_facts = same_some (facts_at table back.begin) opened.own.facts body.facts opened.own.known body.known
+
+      same_choice : opened.own.choice ≡ body.choice
+      same_choice = same_some (choice_at table back.begin) opened.own.choice body.choice opened.own.chosen body.chosen
+
+      carried : IsCarried n body.facts body.choice.kept opened.turn.begun (map begun_of opened.outer)
+      carried = subst (λ (choice : Choice). IsCarried n body.facts choice.kept opened.turn.begun (map begun_of opened.outer)) same_choice
+          (subst (λ (facts : Facts). IsCarried n facts opened.own.choice.kept opened.turn.begun (map begun_of opened.outer)) same_facts opened.own.carried)
+
+      held_start : held_at nodes table n goes.target ≡ value body.choice.held n
+      held_start = ap (held_at nodes table n) target_is ∙ (held_known nodes table n (suc back.begin) opened.own.start opened.own.started ∙ held_same opened.own.start (body_start body.choice (changes_in nodes back.begin) body.entering) n body.same)
+
+      module _ (few : held_of t.world ≤ held_at nodes table n goes.target) where
+        next_turn : BeginsAgain (run_at library n below turns) body.facts (body_start body.choice (changes_in nodes back.begin) (entered counted body.facts)) (unread_of s.world) s.world.kept body.choice.kept (map begun_of opened.outer)
+        next_turn = returns_are_sound (run_at library n below turns) body.facts here.facts (unread_of s.world) s.world.kept s.arguments body.choice (changes_in nodes back.begin) counted body.most opened.turn.begun (map begun_of opened.outer)
+            here.whole returning here.described begun_are
+            (let w : held_of t.world ≡ held_of s.world = ap held_of same_world in omega (arith, few, w, held_start)) carried
+
+        run_is : run_in_turn (unread_of s.world) s.world.kept (run_behind 1 (run_at library n below turns)) ≡ run_at library n below later
+        run_is = ap (λ (all : List Begun). record { n = n; library = is_macro library; turns = begun ∷ drop 1 all; below = below }) begun_are
+
+        described_start : Describes (run_at library n below later) opened.own.start (unread_of s.world) s.world.kept model.no_arguments
+        described_start = covers_are_sound (run_at library n below later) opened.own.start (body_start body.choice (changes_in nodes back.begin) body.entering) (unread_of s.world) s.world.kept model.no_arguments here.whole (and_both _ _ body.same).0
+            (subst (λ facts. Describes (run_at library n below later) (body_start body.choice (changes_in nodes back.begin) facts) (unread_of s.world) s.world.kept model.no_arguments) (sym entering.is)
+            (subst (λ run. Describes run (body_start body.choice (changes_in nodes back.begin) (entered counted body.facts)) (unread_of s.world) s.world.kept model.no_arguments) run_is next_turn.described))
+
+        arguments_are : t.arguments ≡ model.no_arguments
+        arguments_are = ap (λ (t : State). t.arguments) was.gone ∙ ap (λ (turn : Turn). turn.arguments) was.went.gone
+
+        described_there : Describes (run_at library n below later) opened.own.start (unread_of t.world) t.world.kept t.arguments
+        described_there = subst (λ arguments. Describes (run_at library n below later) opened.own.start (unread_of t.world) t.world.kept arguments) (sym arguments_are)
+            (subst (λ (world : World). Describes (run_at library n below later) opened.own.start (unread_of world) world.kept model.no_arguments) (sym same_world) described_start)
+
+        opened_there : AreOpened nodes table n there.stand.iterations (open_loops t) later
+        opened_there =
+            let to : open_loops t ≡ record { start = was.went.loop.start; turns = was.went.turns } ∷ (was.went.outer ++ loops_in s.frames.callers) = ap open_loops was.gone ∙ ap (λ (turn : Turn). turn.frame.loops ++ loops_in s.frames.callers) was.went.gone in
+            let own : IsOpened nodes table n back.begin (record { start = was.went.loop.start; turns = was.went.turns }) turn opened.outer = record {
+              facts = body.facts;
+              start = opened.own.start;
+              choice = body.choice;
+              known = body.known;
+              started = opened.own.started;
+              chosen = body.chosen;
+              more = less.is;
+              carried = next_turn.carried;
+            } in
+            subst (λ ls. AreOpened nodes table n ls (open_loops t) later) (sym (back.same ∙ back.innermost)) (subst (λ ls. AreOpened nodes table n (back.begin ∷ back.outer) ls later) (sym to) (own, opened.rest))
+
+        described_again : IsDescribed library nodes table n below goes.target later t
+        described_again = record {
+          node = there;
+          facts = opened.own.start;
+          at = at;
+          known = started_at;
+          position = stands_there laws ground closed passage there at stand;
+          begins = goes.done;
+          loaded = loaded;
+          whole = whole;
+          opened = opened_there;
+          described = described_there;
         }
 
-        -- what is known at the start of the body describes the state there
-        same_facts : opened.own.facts ≡ body.facts
-        same_facts = same_some (facts_at table back.begin) opened.own.facts body.facts opened.own.known body.known
-
-        same_choice : opened.own.choice ≡ body.choice
-        same_choice = same_some (choice_at table back.begin) opened.own.choice body.choice opened.own.chosen body.chosen
-
-        carried : IsCarried n body.facts body.choice.kept opened.turn.begun (map begun_of opened.outer)
-        carried = subst (λ (choice : Choice). IsCarried n body.facts choice.kept opened.turn.begun (map begun_of opened.outer)) same_choice
-            (subst (λ (facts : Facts). IsCarried n facts opened.own.choice.kept opened.turn.begun (map begun_of opened.outer)) same_facts opened.own.carried)
-
-        held_start : held_at nodes table n goes.target ≡ value body.choice.held n
-        held_start = ap (held_at nodes table n) target_is ∙ (held_known nodes table n (suc back.begin) opened.own.start opened.own.started ∙ held_same opened.own.start (body_start body.choice (changes_in nodes back.begin) body.entering) n body.same)
-
-        module _ (few : held_of t.world ≤ held_at nodes table n goes.target) where
-          next_turn : BeginsAgain (run_at library n below turns) body.facts (body_start body.choice (changes_in nodes back.begin) (entered counted body.facts)) (unread_of s.world) s.world.kept body.choice.kept (map begun_of opened.outer)
-          next_turn = returns_are_sound (run_at library n below turns) body.facts here.facts (unread_of s.world) s.world.kept s.arguments body.choice (changes_in nodes back.begin) counted body.most opened.turn.begun (map begun_of opened.outer)
-              here.whole returning here.described begun_are
-              (let w : held_of t.world ≡ held_of s.world = ap held_of same_world in omega (arith, few, w, held_start)) carried
-
-          run_is : run_in_turn (unread_of s.world) s.world.kept (run_behind 1 (run_at library n below turns)) ≡ run_at library n below later
-          run_is = ap (λ (all : List Begun). record { n = n; library = is_macro library; turns = begun ∷ drop 1 all; below = below }) begun_are
-
-          described_start : Describes (run_at library n below later) opened.own.start (unread_of s.world) s.world.kept model.no_arguments
-          described_start = covers_are_sound (run_at library n below later) opened.own.start (body_start body.choice (changes_in nodes back.begin) body.entering) (unread_of s.world) s.world.kept model.no_arguments here.whole (and_both _ _ body.same).0
-              (subst (λ facts. Describes (run_at library n below later) (body_start body.choice (changes_in nodes back.begin) facts) (unread_of s.world) s.world.kept model.no_arguments) (sym entering.is)
-              (subst (λ run. Describes run (body_start body.choice (changes_in nodes back.begin) (entered counted body.facts)) (unread_of s.world) s.world.kept model.no_arguments) run_is next_turn.described))
-
-          arguments_are : t.arguments ≡ model.no_arguments
-          arguments_are = ap (λ (t : State). t.arguments) was.gone ∙ ap (λ (turn : Turn). turn.arguments) was.went.gone
-
-          described_there : Describes (run_at library n below later) opened.own.start (unread_of t.world) t.world.kept t.arguments
-          described_there = subst (λ arguments. Describes (run_at library n below later) opened.own.start (unread_of t.world) t.world.kept arguments) (sym arguments_are)
-              (subst (λ (world : World). Describes (run_at library n below later) opened.own.start (unread_of world) world.kept model.no_arguments) (sym same_world) described_start)
-
-          opened_there : AreOpened nodes table n there.stand.iterations (open_loops t) later
-          opened_there =
-              let to : open_loops t ≡ record { start = was.went.loop.start; turns = was.went.turns } ∷ (was.went.outer ++ loops_in s.frames.callers) = ap open_loops was.gone ∙ ap (λ (turn : Turn). turn.frame.loops ++ loops_in s.frames.callers) was.went.gone in
-              let own : IsOpened nodes table n back.begin (record { start = was.went.loop.start; turns = was.went.turns }) turn opened.outer = record {
-                facts = body.facts;
-                start = opened.own.start;
-                choice = body.choice;
-                known = body.known;
-                started = opened.own.started;
-                chosen = body.chosen;
-                more = less.is;
-                carried = next_turn.carried;
-              } in
-              subst (λ ls. AreOpened nodes table n ls (open_loops t) later) (sym (back.same ∙ back.innermost)) (subst (λ ls. AreOpened nodes table n (back.begin ∷ back.outer) ls later) (sym to) (own, opened.rest))
-
-          described_again : IsDescribed library nodes table n below goes.target later t
-          described_again = record {
-            node = there;
-            facts = opened.own.start;
-            at = at;
-            known = started_at;
-            position = stands_there laws library entry nodes are closed table n below passes number turns s last t here again goes comes loaded whole there at stand;
-            begins = goes.done;
-            loaded = loaded;
-            whole = whole;
-            opened = opened_there;
-            described = described_there;
-          }
-
-        pub begins_further : MovesOn library nodes table n below number here.node turns s goes.target t
-        begins_further = record { there = there; at = at; later = later; move = Back returning_it; held = described_again }
+      pub begins_further : MovesOn library nodes table n below number here.node turns s goes.target t
+      begins_further = record { there = there; at = at; later = later; move = Back returning_it; held = described_again }

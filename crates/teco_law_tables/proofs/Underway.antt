@@ -8,7 +8,7 @@ use Rattle.teco_model.specs.Run.{Reaches, run}
 use Rattle.teco_model.specs.State.{State, End}
 use Rattle.teco_model.specs.Step.{step}
 use Rattle.teco_model.specs.Macros.{Library}
-use Rattle.teco_law_expansion.specs.Linked.{AreLinked, NodesAreSound}
+use Rattle.teco_law_expansion.specs.Linked.{NodesAreSound}
 use Rattle.teco_verifier.specs.expansion.Node.{Node, stands}
 use Rattle.teco_verifier.specs.expansion.Position.{Position}
 use Rattle.teco_law_facts.specs.SoundSteps.{AreOpen}
@@ -17,13 +17,14 @@ use Rattle.teco_law_tables.specs.Following.{OpenTurn, IsDescribed}
 use Rattle.teco_law_tables.specs.Moving.{IsLong}
 use Rattle.teco_verifier.specs.table.Printed.{needs_in}
 use Rattle.teco_verifier.specs.table.Table.{Table}
+use Rattle.teco_law_tables.proofs.Ground.{Ground, Arrival}
 use Rattle.teco_law_tables.proofs.Walking.{same_next}
 
 -- the element that is read where a run is described is the node's
-pub element_here : NodesAreSound → (library : Library) (entry : ℕ) (nodes : List Node) (table : Table) (n : ℕ) (below : List Pair) → AreLinked library entry nodes → (number : ℕ) (turns : List OpenTurn) (s : State) (here : IsDescribed library nodes table n below number turns s) → element_at s.frames.running.text s.frames.running.place ≡ Ok here.node.element
-element_here sound library entry nodes table n below are number turns s here =
-    sym (element_at-again s.frames.running.text s.frames.running.place) ∙ subst (λ (p : Position). element_at p.running.text p.running.place ≡ Ok here.node.element) here.position
-    (sound library (stands nodes entry) number here.node (are.each number here.node here.at)).0
+pub element_here : NodesAreSound → (ground : Ground) (a : Arrival ground) → element_at a.s.frames.running.text a.s.frames.running.place ≡ Ok a.here.node.element
+element_here sound ground a =
+    sym (element_at-again a.s.frames.running.text a.s.frames.running.place) ∙ subst (λ (p : Position). element_at p.running.text p.running.place ≡ Ok a.here.node.element) a.here.position
+    (sound ground.library (stands ground.nodes ground.entry) a.number a.here.node (ground.are.each a.number a.here.node a.here.at)).0
 
 -- work is left at the element, where it began
 pub record IsAmid (read : Option Element) (s u : State) : Type 0 where

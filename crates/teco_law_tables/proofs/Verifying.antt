@@ -8,7 +8,6 @@ use Rattle.teco_verifier.specs.declared.rules.Rules.{Rules}
 use Rattle.teco_model.specs.declared.flow.Loop.{Loop}
 use Rattle.teco_model.specs.Element.{Element, element_at}
 use Rattle.teco_model.specs.Files.{Files}
-use Rattle.teco_model.specs.Registers.{Pair}
 use Rattle.teco_model.specs.Run.{Reaches, run, go_on}
 use Rattle.teco_model.specs.Searching.{has_colon}
 use Rattle.teco_model.specs.State.{World, Kept, Frame, State, Outcome, Next, End, Exit, Fail, Absent, start, frame_of}
@@ -40,13 +39,14 @@ use Rattle.teco_verifier.specs.facts.Printed.{no_needs, needs}
 use Rattle.teco_law_facts.specs.SoundSteps.{AreOpen, BeginsAt, ElementsAreNamed}
 use Rattle.teco_law_facts.specs.Wholeness.{AreBytes, AreWholeArguments, IsWholeWorld, IsWholeState, IsWholeOutcome, WholeIsKept}
 use Rattle.teco_verifier.specs.table.Behind.{left_by, placed, edges_behind, edges_at, along}
-use Rattle.teco_verifier.specs.table.Closed.{closed_behind, check_nodes}
+use Rattle.teco_verifier.specs.table.Closed.{closed_behind}
 use Rattle.teco_law_tables.specs.Ending.{EndsWithin, start_given, RunsEndInTime}
-use Rattle.teco_law_tables.specs.Following.{OpenTurn, run_at, IsDescribed, pages_in}
+use Rattle.teco_law_tables.specs.Following.{run_at, pages_in}
 use Rattle.teco_verifier.specs.table.Printed.{steps_before, steps_of, needs_of, known_needs, needs_from, needs_in, IsPrinted}
 use Rattle.teco_law_tables.specs.Staying.{changes_files, ReadsNoFileCommand}
 use Rattle.teco_verifier.specs.table.Table.{Table, facts_at}
 use Rattle.teco_law_tables.specs.Verified.{IsReady, RunsAreVerified}
+use Rattle.teco_law_tables.proofs.Ground.{Ground, Arrival}
 use Rattle.teco_law_tables.proofs.Completing as completing
 use Rattle.teco_law_tables.proofs.Edging.{edges_fit}
 use Rattle.teco_law_tables.proofs.Fitting.{steps_known, facts_fit}
@@ -131,13 +131,14 @@ returned run facts unread kept arguments d = record {
   answers = tt;
 }
 
-module _ (laws : Laws) (library : Library) (entry : ℕ) (nodes : List Node) (are : AreLinked library entry nodes) (closed : AreClosed nodes) (table : Table) (rules : Rules) (argument : Option ArgumentRange) (commands_are size_is : Polynomial) (n : ℕ) (below : List Pair) (printed : IsPrinted (entry_of rules library argument) nodes table commands_are size_is) (small : value size_is n ≤ LIMIT) (names : ElementsAreNamed) (first : State) (whole_first : IsWholeState first) where
-  passes : check_nodes nodes table ≡ Ok tt
-  passes = nodes_checked nodes table (entry_of rules library argument) printed.closed
+module _ (laws : Laws) (ground : Ground) (closed : AreClosed ground.nodes) (rules : Rules) (argument : Option ArgumentRange) (commands_are size_is : Polynomial) (printed : IsPrinted (entry_of rules ground.library argument) ground.nodes ground.table commands_are size_is) (small : value size_is ground.n ≤ LIMIT) (names : ElementsAreNamed) (first : State) (whole_first : IsWholeState first) where
+  open ground use {library, entry, nodes, table, n, below, are, passes}
 
-  module _ (number : ℕ) (turns : List OpenTurn) (taken : ℕ) (s : State) (reached : Reaches taken first s) (here : IsDescribed library nodes table n below number turns s) (files : AreOpen (needs_in nodes table) s.world.files) where
+  module _ (arrival : Arrival ground) (taken : ℕ) (reached : Reaches taken first arrival.s) (files : AreOpen (needs_in nodes table) arrival.s.world.files) where
+    open arrival use {number, turns, s, here}
+
     read_here : element_at s.frames.running.text s.frames.running.place ≡ Ok here.node.element
-    read_here = element_here laws.sound library entry nodes table n below are number turns s here
+    read_here = element_here laws.sound ground arrival
 
     whole_here : IsWholeState s
     whole_here = whole_there laws.whole taken first s whole_first reached
@@ -156,15 +157,15 @@ module _ (laws : Laws) (library : Library) (entry : ℕ) (nodes : List Node) (ar
           colon = ap (λ (p : Position). has_colon e (frame_of p.running.text)) here.position;
           named = names s.frames.running.text s.frames.running.place e (read_here ∙ ap Ok reads);
           library = λ r e'. sym (ap (λ o. option_map_or (is_macro library) o false) e') ∙ sym ((are.each number here.node here.at).names ∙ ap (names_macro library) reads);
-          stands = stands_there library entry nodes table n below are closed passes number turns s here e reads edges_here.0 edges_here.1;
+          stands = stands_there ground closed arrival e reads edges_here.0 edges_here.1;
           files = open_for (needs e.kind here.facts) (needs_in nodes table) s.world.files (subst (λ read. Among (needs_of read here.facts) (needs_in nodes table)) reads (needs_in_all nodes table number here.node here.facts here.at here.known)) files;
         } in
-        completing.passing laws.steps library entry nodes are table n below number turns s here e reads edges_here.0 edges_here.1 most.0
+        completing.passing laws.steps ground arrival e reads edges_here.0 edges_here.1 most.0
         (sym (ap (λ read. steps_of read here.facts) reads) ∙ most.1)
         (edges_fit library entry nodes table (run_at library n below turns) are passes (λ k node facts at known. facts_fit table rules library argument nodes k node facts size_is (run_at library n below turns) refl printed.size_is small at known) number here.node e here.facts edges_here.0 reads here.at here.known edges_here.1)
         begins
         (λ k u r. (whole_there laws.whole k s u whole_here r).world.kept)
-        (λ q is colon. search_inside library entry nodes table n below are closed passes number turns s here e reads edges_here.0 edges_here.1 q is colon)
+        (λ q is colon. search_inside ground closed arrival e reads edges_here.0 edges_here.1 q is colon)
         files
 
     -- the end of a text
@@ -273,7 +274,8 @@ in_all laws calls entry (Some range) None world steps most named asked all ends 
 pub elements_go : (laws : Laws) → IterationsEnd → (library : Library) (entry : ℕ) (rules : Rules) (argument : Option ArgumentRange) (given : Option ℕ) (nodes : List Node) (table : Table) (commands_are size_is : Polynomial) (n : ℕ) (world : World) → AreLinked library entry nodes → IsPrinted (entry_of rules library argument) nodes table commands_are size_is → IsAsked argument given → IsReady library entry size_is n world →
     ElementsGo library entry nodes table n world.kept.registers.stack (start_given entry given world)
 elements_go laws ends library entry rules argument given nodes table commands_are size_is n world are printed asked ready number turns steps s reached here files =
-    passes_here laws library entry nodes are (ends library entry nodes are) table rules argument commands_are size_is n world.kept.registers.stack printed ready.small laws.named (start_given entry given world) (start_whole laws entry argument given world asked ready.call ready.whole) number turns steps s reached here files
+    let ground : Ground = record { library = library; entry = entry; nodes = nodes; table = table; n = n; below = world.kept.registers.stack; are = are; passes = nodes_checked nodes table (entry_of rules library argument) printed.closed } in
+    passes_here laws ground (ends library entry nodes are) rules argument commands_are size_is printed ready.small laws.named (start_given entry given world) (start_whole laws entry argument given world asked ready.call ready.whole) (record { number = number; turns = turns; s = s; here = here }) steps reached files
 
 pub runs_are_verified : Laws → CallLaws → IterationsEnd → RunsEndInTime → RunsAreVerified
 runs_are_verified laws calls ends in_time library entry rules argument given nodes table commands_are size_is n world are printed asked ready files =
