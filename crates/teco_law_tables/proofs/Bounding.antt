@@ -52,13 +52,12 @@ shown_length (b ∷ begins) (t ∷ turns) l = ap suc (shown_length begins turns 
 
 -- fewer are, where the innermost has ended
 fewer_open : (end : ℕ → ℕ) (target : ℕ) (begins : List ℕ) (turns : List OpenTurn) → length begins ≡ length turns → 0 < length begins → ((b : ℕ) (outer : List ℕ) → begins ≡ b ∷ outer → end b < target) → length (still_open (λ (o : OpenLoop). end o.begin) target (loops_of begins turns)) < length begins
-fewer_open end target [] turns l some ended = absurd (omega (arith, some))
-fewer_open end target (b ∷ begins) [] l some ended = absurd (omega (arith, l))
 fewer_open end target (b ∷ begins) (t ∷ turns) l some ended =
     let rest = still_length (λ (o : OpenLoop). end o.begin) target (loops_of begins turns) in
     let many = shown_length begins turns (omega (arith, l)) in
     subst (λ x. length (if x then still_open (λ (o : OpenLoop). end o.begin) target (loops_of begins turns) else record { begin = b; more = Some t.more } ∷ loops_of begins turns) < suc (length begins)) (sym (below_is (end b) target (ended b begins refl)))
     (omega (arith, rest, many))
+fewer_open end target begins turns l some ended = absurd (grind arith)
 
 none_over : (entry : ℕ) (s : State) → (over entry).position ≡ position_of s → depth_of s ≡ 0
 none_over entry s o = sym (frames_starts (s.frames.running ∷ s.frames.callers)) ∙ ap (λ (p : Position). length (open_starts p)) (sym o)

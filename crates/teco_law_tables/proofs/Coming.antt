@@ -74,7 +74,6 @@ module _ (nodes : List Node) (node : Node) (e : Element) (edges : Edges) (run : 
       if_true _ _ _ edges.on edges.away (ap sound.enters (same_taken s.arguments g.0 w.value g.1 w.took) ∙ enters_counted w.value w.turns w.counts) g.2
   flow_reached flow.Iterate (suc zero) w g =
       if_false _ _ _ edges.on edges.away (ap sound.enters (same_taken s.arguments g.0 (Some w.n) g.1 w.took) ∙ ap (λ (o : Option ℕ). is_some o) w.none) g.2
-  flow_reached flow.Iterate (suc (suc way)) w g = absurd w
   flow_reached flow.EndTurn zero w g =
       let l : g.0 ∷ g.1 ≡ w.loop ∷ w.outer = sym g.2 ∙ w.inside in
       let same : g.0 ≡ w.loop = cc in
@@ -83,23 +82,16 @@ module _ (nodes : List Node) (node : Node) (e : Element) (edges : Edges) (run : 
       let l : g.0 ∷ g.1 ≡ w.loop ∷ w.outer = sym g.2 ∙ w.inside in
       let same : g.0 ≡ w.loop = cc in
       if_true _ _ _ edges.on edges.away (ap (λ (l : Loop). is_last l.turns) same ∙ ap is_last w.last) g.3
-  flow_reached flow.EndTurn (suc (suc way)) w g = absurd w
   flow_reached flow.Leave zero w g = if_false _ _ _ edges.away edges.on (ap (leaves e.colons) (same_number s.arguments g.0 w.n g.1 w.took) ∙ w.stays) g.2
   flow_reached flow.Leave (suc zero) w g = if_true _ _ _ edges.away edges.on (ap (leaves e.colons) (same_number s.arguments g.0 w.n g.1 w.took) ∙ w.leaves) g.2
-  flow_reached flow.Leave (suc (suc way)) w g = absurd w
   flow_reached (flow.Test test) zero w g = if_true _ _ _ edges.on edges.away (ap (holds test) (same_number s.arguments g.0 w.n g.1 w.took) ∙ w.true_here) g.2
   flow_reached (flow.Test test) (suc zero) w g = if_false _ _ _ edges.on edges.away (ap (holds test) (same_number s.arguments g.0 w.n g.1 w.took) ∙ w.false_here) g.2
-  flow_reached (flow.Test test) (suc (suc way)) w g = absurd w
   flow_reached flow.Otherwise zero w g = g
-  flow_reached flow.Otherwise (suc way) w g = absurd w
   flow_reached flow.EndTest zero w g = g
-  flow_reached flow.EndTest (suc way) w g = absurd w
   flow_reached flow.GoTo zero w g = g
-  flow_reached flow.GoTo (suc way) w g = absurd w
   flow_reached flow.Comment zero w g = g
-  flow_reached flow.Comment (suc way) w g = absurd w
   flow_reached (flow.GoAhead to) zero w g = g
-  flow_reached (flow.GoAhead to) (suc way) w g = absurd w
+  flow_reached f way w g = absurd (grind arith)
 
 -- ---- a way
 module _ (nodes : List Node) (node : Node) (facts : Facts) (edges : Edges) (run : Run) (s t : State) (way : ℕ) (leads : edges_at nodes node facts ≡ Ok edges) where
@@ -189,11 +181,9 @@ module _ (nodes : List Node) (node : Node) (facts : Facts) (edges : Edges) (run 
   kind_comes : (k : Kind) (way : ℕ) → e.kind ≡ k → ElementWas k way e last t → KindEnds k run facts (placed nodes node e) edges s t → Comes nodes node facts way run s t
   kind_comes (kind.Flow f) way is w ends = flow_comes f way is w ends
   kind_comes (kind.Call c) zero is w ends = by_kind nodes node facts edges run s t zero leads e reads (kind.Call c) run is refl refl ends.comes
-  kind_comes (kind.Call c) (suc way) is w ends = absurd w
   kind_comes (kind.Search q) zero is (inl w) ends = on_comes q is (ap (λ (frames : Frames). frames.running.loops) w.answers.frames_are) ends
   kind_comes (kind.Search q) zero is (inr w) ends = on_comes q is (ap (λ (frames : Frames). frames.running.loops) w.answers.frames_are) ends
   kind_comes (kind.Search q) (suc zero) is w ends = away_comes q is w ends
-  kind_comes (kind.Search q) (suc (suc way)) is w ends = absurd w
   kind_comes (kind.Argument a) zero is w ends = by_kind nodes node facts edges run s t zero leads e reads (kind.Argument a) run is refl refl ends.comes
   kind_comes (kind.Value v) zero is w ends = by_kind nodes node facts edges run s t zero leads e reads (kind.Value v) run is refl refl ends.comes
   kind_comes (kind.Query q) zero is w ends = by_kind nodes node facts edges run s t zero leads e reads (kind.Query q) run is refl refl ends.comes
@@ -201,7 +191,7 @@ module _ (nodes : List Node) (node : Node) (facts : Facts) (edges : Edges) (run 
   kind_comes (kind.Command c) zero is w ends = by_kind nodes node facts edges run s t zero leads e reads (kind.Command c) run is refl refl ends.comes
   kind_comes (kind.Page p) zero is w ends = by_kind nodes node facts edges run s t zero leads e reads (kind.Page p) run is refl refl ends.comes
   kind_comes (kind.File f) zero is w ends = by_kind nodes node facts edges run s t zero leads e reads (kind.File f) run is refl refl ends.comes
-  kind_comes k (suc way) is w ends = absurd w
+  kind_comes k way is w ends = absurd (grind arith)
 
   pub element_comes : (way : ℕ) → StepWas node.element way last t → KindEnds e.kind run facts (placed nodes node e) edges s t → Comes nodes node facts way run s t
   element_comes way w ends = kind_comes e.kind way refl (subst (λ read. StepWas read way last t) reads w) ends

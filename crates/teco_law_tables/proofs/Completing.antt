@@ -19,7 +19,7 @@ use Rattle.teco_model.specs.declared.kind.Search.TheVariants as search
 use Rattle.teco_model.specs.Element.{Element, element_at}
 use Rattle.teco_model.specs.Files.{Files}
 use Rattle.teco_model.specs.Run.{Reaches, run, go_on}
-use Rattle.teco_model.specs.State.{Frames, State, Outcome, Next, End, Exit, Fail, Absent}
+use Rattle.teco_model.specs.State.{Frames, State, Outcome, Next}
 use Rattle.teco_model.specs.Step.{step}
 use Rattle.teco_model.specs.Macros.{Library, is_macro, IsLoaded, Needs}
 use Rattle.teco_law_expansion.specs.Loaded.{StaysLoaded}
@@ -72,16 +72,14 @@ kind_writes library (kind.Command (command.Storage s)) h = storage_writes librar
 kind_writes library k h = refl
 
 not_refused : (r : Result Edges Refusal) (edges : Edges) → r ≡ Ok edges → IsErr r → ⊥
-not_refused (Ok x) edges h e = absurd (cc)
-not_refused (Err why) edges h e = absurd (cc)
+not_refused r edges h e = absurd (grind arith)
 
 pub writes_nothing : (library : Library) (x : Placed) (facts : Facts) (edges : Edges) → x.library ≡ names_macro library (Some x.element) → transfer x facts ≡ Ok edges → writes_macro library (Some x.element) ≡ false
 writes_nothing library x facts edges names h = kind_writes library x.element.kind (λ e writes. not_refused (transfer x facts) edges h (library_stays x facts (names ∙ e) writes))
 
 -- ---- no file is opened or closed
 never : (r : Result KnownTaken Refusal) (edges : Edges) → (r >>= (λ taken. Err refusal.Unverified)) ≡ Ok edges → ⊥
-never (Ok taken) edges h = absurd (cc)
-never (Err why) edges h = absurd (cc)
+never r edges h = absurd (grind arith)
 
 kind_no_file : (k : Kind) (x : Placed) (answer : Option Answer) (facts : Facts) (edges : Edges) → edges_of k x answer facts ≡ Ok edges → is_of_files k ≡ false
 kind_no_file (kind.File f) x answer facts edges h = absurd (never (arguments_of facts.arguments.level) edges h)
@@ -110,8 +108,7 @@ page_long p h = absurd h
 search_long : (q : Search) → IsInPages q → is_long (kind.Search q) ≡ true
 search_long search.FindInPages h = refl
 search_long search.ReplaceInPages h = refl
-search_long search.Find h = absurd h
-search_long search.Replace h = absurd h
+search_long q h = absurd (grind arith)
 
 under_long : (k : Kind) (run : Run) (facts : Facts) (x : Placed) (edges : Edges) (old u : State) (rest : ℕ) → KindUnderway k run facts x edges old rest u → is_long k ≡ true
 under_long (kind.Page p) run facts x edges old u rest h = page_long p h.0
@@ -306,16 +303,12 @@ module _ (laws : Facts_laws) (ground : Ground) (arrival : Arrival ground) where
     reached j u new came goes = ap go_on came ∙ goes
 
     proceeding : (fuel j : ℕ) (u : State) (rest : ℕ) → At u rest → Reaches j s u → NoFileCommands s j → IsLoaded library u.world.kept → HasOpen u → j + rest ≤ value most n + unread_left e.kind here.facts (unread_of s.world) → rest < fuel → AreAmid here.node.element s j → (o : Outcome) → step u ≡ o → Proceeds e.kind run_here here.facts x edges s rest o → Goes library entry nodes table n below number turns s here
-    proceeding zero j u rest at came none loaded files few l amid o goes p = absurd (omega (arith, l))
     proceeding (suc fuel) j u rest at came none loaded files few l amid (Next new) goes (inl p) = ending j u new rest at came none loaded files goes (omega (arith, p.0, few)) amid p.1
     proceeding (suc fuel) j u rest at came none loaded files few l amid (Next new) goes (inr p) =
         proceeding fuel (suc j) new p.0 (inr p.2) (reached j u new came goes) (none_more j s u none came (none_there u rest at)) (loaded_next u new rest at loaded goes) (open_next u new rest at files goes) (omega (arith, p.1, few)) (omega (arith, p.1, l))
         (more_amid here.node.element s new j amid (reached j u new came goes) (amid_of new p.0 p.2)) (step new) refl
         (laws.later run_here here.facts x edges most s new p.0 begins knows fits takes p.2)
-    proceeding (suc fuel) j u rest at came none loaded files few l amid (End world) goes p = absurd p
-    proceeding (suc fuel) j u rest at came none loaded files few l amid (Exit world) goes p = absurd p
-    proceeding (suc fuel) j u rest at came none loaded files few l amid (Fail c world) goes p = absurd p
-    proceeding (suc fuel) j u rest at came none loaded files few l amid (Absent world) goes p = absurd p
+    proceeding fuel j u rest at came none loaded files few l amid o goes p = absurd (grind arith)
 
     reached_here : Reaches 0 s s
     unfolding run

@@ -154,10 +154,9 @@ held_given rules library (Some range) n = (values_of_constants n 0).1
 
 -- the texts of the library have their lengths there
 length_at : (library : Library) (r m : ℕ) → get_or (map (option_map length) library) r None ≡ Some m → (text : List ℕ) × (get_or library r None ≡ Some text) × (length text ≡ m)
-length_at [] r m h = absurd (cc)
-length_at (None ∷ library) zero m h = absurd (cc)
 length_at (Some text ∷ library) zero m h = (text, refl, cc)
 length_at (o ∷ library) (suc r) m h = length_at library r m h
+length_at library r m h = absurd (grind arith)
 
 have_lengths : (library : Library) (kept : Kept) → IsLoaded library kept → HaveLengths (map (option_map length) library) kept
 have_lengths library kept loaded r m h =

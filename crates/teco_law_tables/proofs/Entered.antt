@@ -1,5 +1,5 @@
 -- A step of < into its body begins its first turn.
-use Rattle.std.proofs.Common.{◌≡◌, ◌⊎◌, inl, inr, ℕ, zero, suc, ◌≤◌, ◌<◌, refl, sym, ap, ◌∙◌, subst, arith, List, [], ◌∷◌, ◌++◌, map, Bool, true, false, pos, negsuc, ℤ, Option, Some, None, Result, Ok, Err, is_some}
+use Rattle.std.proofs.Common.{◌≡◌, ◌⊎◌, inl, inr, ℕ, zero, suc, ◌≤◌, ◌<◌, refl, sym, ap, ◌∙◌, subst, arith, List, [], ◌∷◌, ◌++◌, map, Bool, true, false, pos, ℤ, Option, Some, None, Result, Ok, is_some}
 use Rattle.std.specs.Prelude.{IsTrue, ⊤}
 use Rattle.std.specs.List.{AllByRecursion}
 use Rattle.std.proofs.lemmas.Int.{ints}
@@ -62,10 +62,8 @@ pub data Begins (read : Option Element) (way : ℕ) : Type 0 where
 
 flow_begins : (f : Flow) (way : ℕ) → turns_by_flow f way ≡ true → ((f ≡ flow.Iterate) ⊎ (f ≡ flow.EndTurn)) × (way ≡ 0)
 flow_begins flow.Iterate zero h = (inl refl, refl)
-flow_begins flow.Iterate (suc way) h = absurd (cc)
 flow_begins flow.EndTurn zero h = (inr refl, refl)
-flow_begins flow.EndTurn (suc way) h = absurd (cc)
-flow_begins f way h = absurd (cc)
+flow_begins f way h = absurd (grind arith)
 
 kind_begins : (k : Kind) (way : ℕ) → turns_by_kind k way ≡ true → ((k ≡ kind.Flow flow.Iterate) ⊎ (k ≡ kind.Flow flow.EndTurn)) × (way ≡ 0)
 kind_begins (kind.Flow f) way h = (of_flow b.0, b.1)
@@ -94,9 +92,8 @@ truth_same false false h = refl
 
 pub counted_by : (is js : List Iteration) → IsTrue (each_covers is_same_iteration is js) → is_counted is ≡ is_counted js
 counted_by [] [] h = refl
-counted_by [] (j ∷ js) h = absurd (cc)
-counted_by (i ∷ is) [] h = absurd (cc)
 counted_by (i ∷ is) (j ∷ js) h = truth_same i.counted j.counted (and_both _ _ (and_both _ _ h).0).0
+counted_by is js h = absurd (grind arith)
 
 pub counted_covered : (facts edge : Facts) → IsTrue (covers facts edge) → is_counted facts.iterations ≡ is_counted edge.iterations
 counted_covered facts edge c =
@@ -123,12 +120,10 @@ record Started (nodes : List Node) (table : Table) (begin : ℕ) (facts entering
 
 started_by : (nodes : List Node) (table : Table) (begin : ℕ) (facts entering : Facts) (o : Option Facts) (c : Option Choice) (r : Result Polynomial Refusal) → facts_at table (suc begin) ≡ o → choice_at table begin ≡ c → turns_of (falling_in nodes table begin) facts ≡ r →
     IsTrue (body_stands (changes_in nodes begin) (facts_at table (end_of nodes begin)) entering o c r) → Started nodes table begin facts entering
-started_by nodes table begin facts entering None c r s k t h = absurd (cc)
-started_by nodes table begin facts entering (Some start) None r s k t h = absurd (cc)
-started_by nodes table begin facts entering (Some start) (Some choice) (Err why) s k t h = absurd (cc)
 started_by nodes table begin facts entering (Some start) (Some choice) (Ok most) s k t h =
     let p = and_both _ _ h in
     record { start = start; choice = choice; most = most; started = s; chosen = k; turns_are = t; same = p.0; starts = choice_begins choice (changes_in nodes begin) (is_counted entering.iterations) most entering (facts_at table (end_of nodes begin)) p.1 }
+started_by nodes table begin facts entering o c r s k t h = absurd (grind arith)
 
 -- ---- how many turns come after the first
 record First_turn (falling : Option Rank) (counted : Bool) (most : ℕ) (begun : Begun) (left : Option ℕ) : Type 0 where
@@ -137,9 +132,8 @@ record First_turn (falling : Option Rank) (counted : Bool) (most : ℕ) (begun :
   few : more < most
 
 later_is : (v : ℤ) (more : ℕ) → later_turns v ≡ Some more → v ≡ pos (suc more)
-later_is (pos zero) more h = absurd (cc)
 later_is (pos (suc m)) more h = let e : m ≡ more = cc in ap (λ k. pos (suc k)) e
-later_is (negsuc m) more h = absurd (cc)
+later_is v more h = absurd (grind arith)
 
 first_turn : (falling : Option Rank) (counted : Bool) (most : ℕ) (begun : Begun) (value : Option ℤ) (left : Option ℕ) → went.Counts value left → AreTurns most (amount_of falling begun) value → (counted ≡ is_some value) → First_turn falling counted most begun left
 first_turn falling counted most begun None left counts are f =
@@ -155,8 +149,7 @@ taken_turns n a r c p taken e f h =
 both_optional : (around : Surroundings) (known : Option Value) (v : Option ℤ) → IsOptional (IsValue around) known v → is_some known ≡ is_some v
 both_optional around None None h = refl
 both_optional around (Some k) (Some v) h = refl
-both_optional around None (Some v) h = absurd h
-both_optional around (Some k) None h = absurd h
+both_optional around known v h = absurd (grind arith)
 
 both_taken : (around : Surroundings) (r : Result KnownTaken Refusal) (c : Result Taken Code) (known : KnownTaken) (taken : Taken) → r ≡ Ok known → c ≡ Ok taken → Covers (IsTaken around) r c → is_some known.value ≡ is_some taken.value
 both_taken around r c known taken e f h =

@@ -134,8 +134,7 @@ text_less : (n : ℕ) (texts others : List Polynomial) → IsTrue (each_covers c
 text_less n [] [] c r = omega arith
 text_less n (p ∷ texts) (q ∷ others) c zero = values_compare q p n (and_both _ _ c).0
 text_less n (p ∷ texts) (q ∷ others) c (suc r) = text_less n texts others (and_both _ _ c).1 r
-text_less n [] (q ∷ others) c r = absurd (cc)
-text_less n (p ∷ texts) [] c r = absurd (cc)
+text_less n texts others c r = absurd (grind arith)
 
 pub fits_covered : (run : Run) (facts next : Facts) → IsTrue (covers facts next) → Fits run facts → Fits run next
 fits_covered run facts next c f =

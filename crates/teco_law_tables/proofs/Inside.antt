@@ -55,10 +55,8 @@ record Head (nodes : List Node) (table : Table) (n : ℕ) (begins : List ℕ) (l
   own : IsOpened nodes table n begin loop turn turns
 
 head : (nodes : List Node) (table : Table) (n : ℕ) (begins : List ℕ) (loop : Loop) (loops : List Loop) (turns : List OpenTurn) → AreOpened nodes table n begins (loop ∷ loops) turns → Head nodes table n begins loop
-head nodes table n [] loop loops [] h = absurd h
-head nodes table n [] loop loops (t ∷ turns) h = absurd h
-head nodes table n (b ∷ begins) loop loops [] h = absurd h
 head nodes table n (b ∷ begins) loop loops (t ∷ turns) h = record { begin = b; outer = begins; turn = t; turns = turns; is = refl; own = h.0 }
+head nodes table n begins loop loops turns h = absurd (grind arith)
 
 record NotEmpty (is : List Iteration) : Type 0 where
   one : Iteration
@@ -160,8 +158,7 @@ module _ (ground : Ground) (closed : AreClosed ground.nodes) (arrival : Arrival 
 
     allowed : (inside colon : Bool) (u : Unit {0}) → search_allowed inside colon ≡ Ok u → colon ≡ false → inside ≡ true
     allowed true colon u h c = refl
-    allowed false true u h c = absurd (cc)
-    allowed false false u h c = absurd (cc)
+    allowed inside colon u h c = absurd (grind arith)
 
     start_of_text : (starts : List ℕ) → is_inside starts ≡ true → HasStart starts
     start_of_text [] h = absurd (cc)

@@ -1,5 +1,5 @@
 -- What the ways of a node say of where its element leads.
-use Rattle.std.proofs.Common.{◌≡◌, ℕ, zero, suc, refl, subst, List, [], ◌∷◌, Bool, true, false, Option, Some, None, Result, Ok, slice_get, ok_or}
+use Rattle.std.proofs.Common.{◌≡◌, ℕ, zero, suc, refl, subst, List, [], ◌∷◌, Bool, true, false, Option, Some, None, Result, Ok, slice_get, ok_or, arith}
 use Rattle.std.specs.Prelude.{⊤}
 use Rattle.teco_model.specs.declared.kind.Flow.{Flow}
 use Rattle.teco_model.specs.declared.kind.Flow.TheVariants as flow
@@ -145,11 +145,9 @@ kind_there library (kind.Search q) e p targets h = search_there (has_colon e (fr
 kind_there library k e p targets h = there (past e p ∷ []) targets 0 (past e p) h refl
 
 lead_there : (all : List Stand) (base number : ℕ) (from : Stand) (targets : List Position) (ways : List ℕ) (way : ℕ) (q : Position) → Lead all base number from targets ways → slice_get targets way ≡ Some q → (target : ℕ) × (slice_get ways way ≡ Some target)
-lead_there all base number from [] [] way q l h = absurd (cc)
-lead_there all base number from [] (x ∷ ways) way q l h = absurd l
-lead_there all base number from (t ∷ targets) [] way q l h = absurd l
 lead_there all base number from (t ∷ targets) (x ∷ ways) zero q l h = (x, refl)
 lead_there all base number from (t ∷ targets) (x ∷ ways) (suc way) q l h = lead_there all number number from targets ways way q l.1 h
+lead_there all base number from targets ways way q l h = absurd (grind arith)
 
 pub way_there : (library : Library) (e : Element) (p : Position) (targets : List Position) (all : List Stand) (base number : ℕ) (from : Stand) (ways : List ℕ) → ways_at library (Some e) p ≡ Ok targets → Lead all base number from targets ways → (target : ℕ) × (slice_get ways (on_way e.kind) ≡ Some target)
 unfolding ways_at There

@@ -16,7 +16,7 @@ use Rattle.teco_model.specs.Flow.{Turn}
 use Rattle.std.specs.Prelude.{⊤}
 use Rattle.teco_model.specs.Checked.{◌>>=◌}
 use Rattle.teco_model.specs.Filing.{open_input, open_output, close_output, copy_all}
-use Rattle.teco_model.specs.Going.{After, Course, Behind, Again, Along, Into, Quit, NoFile, Refused, Reply, on_editor, settled, settle}
+use Rattle.teco_model.specs.Going.{After, Course, Behind, Again, Along, Into, Reply, on_editor, settled, settle}
 use Rattle.teco_model.specs.Outside.{going_on, while_left, in_pages, pages_reply, append_reply, page_reply, opened, filed}
 use Rattle.teco_model.specs.Paging.{Progress, append, yank, pages, one_page_of, page_turned, page_written}
 use Rattle.teco_model.specs.State.{World, Frame, State, Next}
@@ -44,11 +44,7 @@ GoesStraight (Err c) = ⊤
 settled_behind : (e : Element) (s t : State) (reply : Reply) (course : Course) → IsStraight course → settled e s.frames reply course ≡ Next t → open_loops t ≡ open_loops s
 settled_behind e s t reply Behind i h = same _ t h
 settled_behind e s t reply Again i h = same _ t h
-settled_behind e s t reply (Along frame) i h = absurd i
-settled_behind e s t reply (Into text) i h = absurd i
-settled_behind e s t reply Quit i h = absurd (cc)
-settled_behind e s t reply NoFile i h = absurd (cc)
-settled_behind e s t reply (Refused c) i h = absurd (cc)
+settled_behind e s t reply course i h = absurd (grind arith)
 
 settle_behind : (e : Element) (s t : State) (r : Result Reply Code) → GoesStraight r → settle e s r ≡ Next t → open_loops t ≡ open_loops s
 settle_behind e s t (Err c) i h = absurd (cc)
@@ -116,37 +112,26 @@ module _ (e : Element) (frame : Frame) (turn : Turn) (rest : List Loop) (between
   leaves loop outer inside h = ap (λ ls. ls ++ rest) h ∙ sym (ap (λ ls. drop 1 (ls ++ rest)) inside)
 
   pub flow_loops : (f : Flow) (way : ℕ) (a : Arguments) → (way ≡ 0 → between ≡ length (frame.loops ++ rest) - length (turn.frame.loops ++ rest)) → Went f way e a frame turn → turns_by_flow f way ≡ false → turn.frame.loops ++ rest ≡ drop (left_by_flow f way between) (frame.loops ++ rest)
-  flow_loops flow.Iterate zero a b w t = absurd (cc)
   flow_loops flow.Iterate (suc zero) a b w t = stays (jumps 0 _ w.jumps)
-  flow_loops flow.Iterate (suc (suc way)) a b w t = absurd w
-  flow_loops flow.EndTurn zero a b w t = absurd (cc)
   flow_loops flow.EndTurn (suc zero) a b w t = leaves w.loop w.outer w.inside (ap (λ (turn : Turn). turn.frame.loops) w.gone)
-  flow_loops flow.EndTurn (suc (suc way)) a b w t = absurd w
   flow_loops flow.Leave zero a b w t = stays (ap (λ (turn : Turn). turn.frame.loops) w.gone)
   flow_loops flow.Leave (suc zero) a b w t = leaves w.loop w.outer w.inside (jumps 1 _ w.jumps ∙ ap (drop 1) w.inside)
-  flow_loops flow.Leave (suc (suc way)) a b w t = absurd w
   flow_loops (flow.Test test) zero a b w t = stays (ap (λ (turn : Turn). turn.frame.loops) w.gone)
   flow_loops (flow.Test test) (suc zero) a b w t = stays (jumps 0 _ w.jumps)
-  flow_loops (flow.Test test) (suc (suc way)) a b w t = absurd w
   flow_loops flow.Otherwise zero a b w t = stays (jumps 0 _ w)
-  flow_loops flow.Otherwise (suc way) a b w t = absurd w
   flow_loops flow.EndTest zero a b w t = stays (ap (λ (turn : Turn). turn.frame.loops) w)
-  flow_loops flow.EndTest (suc way) a b w t = absurd w
   flow_loops flow.GoTo zero a b w t =
       let to = jumps w.left _ w.jumps in
       ap (λ ls. ls ++ rest) to ∙ (drop_some w.left frame.loops rest ∙ (ap (λ ls. drop (length (frame.loops ++ rest) - length (ls ++ rest)) (frame.loops ++ rest)) (sym to) ∙ ap (λ n. drop n (frame.loops ++ rest)) (sym (b refl))))
-  flow_loops flow.GoTo (suc way) a b w t = absurd w
   flow_loops flow.Comment zero a b w t = stays (ap (λ (turn : Turn). turn.frame.loops) w)
-  flow_loops flow.Comment (suc way) a b w t = absurd w
   flow_loops (flow.GoAhead g) zero a b w t = stays (jumps 0 _ w)
-  flow_loops (flow.GoAhead g) (suc way) a b w t = absurd w
+  flow_loops f way a b w t = absurd (grind arith)
 
 -- ---- any element
 module _ (e : Element) (s t : State) (between : ℕ) where
   pub kind_loops : (k : Kind) (way : ℕ) → (way ≡ 0 → between ≡ length (open_loops s) - length (open_loops t)) → ElementWas k way e s t → turns_by_kind k way ≡ false → open_loops t ≡ drop (left_by_kind k way between) (open_loops s)
   unfolding reply_of
   kind_loops (kind.Call c) zero b w x = ap open_loops w
-  kind_loops (kind.Call c) (suc way) b w x = absurd w
   kind_loops (kind.Flow f) way b w x =
       let to : open_loops t ≡ w.turn.frame.loops ++ loops_in s.frames.callers = ap open_loops w.gone in
       to ∙ flow_loops e s.frames.running w.turn (loops_in s.frames.callers) between f way s.arguments (λ z. b z ∙ ap (λ (ls : List Loop). length (open_loops s) - length ls) to) w.went x
@@ -155,7 +140,6 @@ module _ (e : Element) (s t : State) (between : ℕ) where
   kind_loops (kind.Search c) (suc zero) b w x =
       ap (λ frames. loops_in (frames.running ∷ frames.callers)) w.frames_are
       ∙ leaves e s.frames.running w.turn (loops_in s.frames.callers) between w.loop w.outer w.inside (jumps e s.frames.running w.turn (loops_in s.frames.callers) between 1 _ w.jumps ∙ ap (drop 1) w.inside)
-  kind_loops (kind.Search c) (suc (suc way)) b w x = absurd w
   kind_loops (kind.Argument a) zero b w x = settle_behind e s t _ (on_editor_goes s.left s.world _) w
   kind_loops (kind.Value v) zero b w x = settle_behind e s t _ (on_editor_goes s.left s.world _) w
   kind_loops (kind.Query q) zero b w x = settle_behind e s t _ (on_editor_goes s.left s.world _) w
@@ -163,7 +147,7 @@ module _ (e : Element) (s t : State) (between : ℕ) where
   kind_loops (kind.Command c) zero b w x = settle_behind e s t _ (on_editor_goes s.left s.world _) w
   kind_loops (kind.Page p) zero b w x = settle_behind e s t _ (page_goes p s.left s.arguments s.world) w
   kind_loops (kind.File f) zero b w x = settle_behind e s t _ (then (arguments_of s.arguments.level) (λ taken. filed f e.text s.left (levels_after_taking s.arguments) s.world) (λ taken. filed_goes f e.text s.left (levels_after_taking s.arguments) s.world)) w
-  kind_loops k (suc way) b w x = absurd w
+  kind_loops k way b w x = absurd (grind arith)
 
 pub step_loops : (read : Option Element) (way : ℕ) (s t : State) (between : ℕ) → (way ≡ 0 → between ≡ length (open_loops s) - length (open_loops t)) → StepWas read way s t → begins_turn read way ≡ false → open_loops t ≡ drop (left_along read way between) (open_loops s)
 step_loops None zero s t between b w x =

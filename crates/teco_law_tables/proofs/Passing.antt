@@ -33,37 +33,26 @@ drop_all (suc left) (x ∷ xs) =
 
 module _ (from to : Place) (between : ℕ) where
   ahead_flow : (f : Flow) (way : ℕ) → (way ≡ 0 → between ≡ length from.iterations - length to.iterations) → LeadsByFlow f way from to → turns_by_flow f way ≡ false → Ahead (left_by_flow f way between) from to
-  ahead_flow flow.Iterate zero b l t = absurd (cc)
   ahead_flow flow.Iterate (suc zero) b l t = l
-  ahead_flow flow.Iterate (suc (suc way)) b l t = absurd l
-  ahead_flow flow.EndTurn zero b l t = absurd (cc)
   ahead_flow flow.EndTurn (suc zero) b l t = (omega (arith, l.number), sym (ap (drop 1) l.innermost))
-  ahead_flow flow.EndTurn (suc (suc way)) b l t = absurd l
   ahead_flow flow.Leave zero b l t = (omega (arith, l.0), l.1)
   ahead_flow flow.Leave (suc zero) b l t = l
-  ahead_flow flow.Leave (suc (suc way)) b l t = absurd l
   ahead_flow (flow.Test test) zero b l t = (omega (arith, l.0), l.1)
   ahead_flow (flow.Test test) (suc zero) b l t = l
-  ahead_flow (flow.Test test) (suc (suc way)) b l t = absurd l
   ahead_flow flow.Otherwise zero b l t = l
-  ahead_flow flow.Otherwise (suc way) b l t = absurd l
   ahead_flow flow.EndTest zero b l t = (omega (arith, l.0), l.1)
-  ahead_flow flow.EndTest (suc way) b l t = absurd l
   ahead_flow flow.GoTo zero b l t =
       (l.1.0, l.1.1 ∙ (drop_all l.0 from.iterations ∙ (ap (λ (ls : List ℕ). drop (length from.iterations - length ls) from.iterations) (sym l.1.1) ∙ ap (λ n. drop n from.iterations) (sym (b refl)))))
-  ahead_flow flow.GoTo (suc way) b l t = absurd l
   ahead_flow flow.Comment zero b l t = (omega (arith, l.0), l.1)
-  ahead_flow flow.Comment (suc way) b l t = absurd l
   ahead_flow (flow.GoAhead g) zero b l t = l
-  ahead_flow (flow.GoAhead g) (suc way) b l t = absurd l
+  ahead_flow f way b l t = absurd (grind arith)
 
   ahead_kind : (k : Kind) (way : ℕ) → (way ≡ 0 → between ≡ length from.iterations - length to.iterations) → LeadsByKind k way from to → turns_by_kind k way ≡ false → Ahead (left_by_kind k way between) from to
   ahead_kind (kind.Flow f) way b l t = ahead_flow f way b l t
   ahead_kind (kind.Search s) zero b l t = (omega (arith, l.0), l.1)
   ahead_kind (kind.Search s) (suc zero) b l t = l
-  ahead_kind (kind.Search s) (suc (suc way)) b l t = absurd l
   ahead_kind k zero b l t = (omega (arith, l.0), l.1)
-  ahead_kind k (suc way) b l t = absurd l
+  ahead_kind k way b l t = absurd (grind arith)
 
   pub ahead : (read : Option Element) (way : ℕ) → (way ≡ 0 → between ≡ length from.iterations - length to.iterations) → LeadsBy read way from to → begins_turn read way ≡ false → Ahead (left_along read way between) from to
   ahead None zero b l t = (omega (arith, l.0), l.1)
@@ -99,19 +88,13 @@ loops_length nodes entry below s numbers are =
 pub opened_length : (nodes : List Node) (table : Table) (n : ℕ) (begins : List ℕ) (loops : List Loop) (turns : List OpenTurn) → AreOpened nodes table n begins loops turns → (length begins ≡ length loops) × (length begins ≡ length turns)
 opened_length nodes table n [] [] [] h = (refl, refl)
 opened_length nodes table n (b ∷ begins) (l ∷ loops) (t ∷ turns) h = let i = opened_length nodes table n begins loops turns h.1 in (ap suc i.0, ap suc i.1)
-opened_length nodes table n [] [] (t ∷ turns) h = absurd h
-opened_length nodes table n [] (l ∷ loops) turns h = absurd h
-opened_length nodes table n (b ∷ begins) [] turns h = absurd h
-opened_length nodes table n (b ∷ begins) (l ∷ loops) [] h = absurd h
+opened_length nodes table n begins loops turns h = absurd (grind arith)
 
 pub opened_dropped : (nodes : List Node) (table : Table) (n left : ℕ) (begins : List ℕ) (loops : List Loop) (turns : List OpenTurn) → AreOpened nodes table n begins loops turns → AreOpened nodes table n (drop left begins) (drop left loops) (drop left turns)
 opened_dropped nodes table n zero begins loops turns h = h
 opened_dropped nodes table n (suc left) [] [] [] h = tt
 opened_dropped nodes table n (suc left) (b ∷ begins) (l ∷ loops) (t ∷ turns) h = opened_dropped nodes table n left begins loops turns h.1
-opened_dropped nodes table n (suc left) [] [] (t ∷ turns) h = absurd h
-opened_dropped nodes table n (suc left) [] (l ∷ loops) turns h = absurd h
-opened_dropped nodes table n (suc left) (b ∷ begins) [] turns h = absurd h
-opened_dropped nodes table n (suc left) (b ∷ begins) (l ∷ loops) [] h = absurd h
+opened_dropped nodes table n left begins loops turns h = absurd (grind arith)
 
 pub begun_dropped : (left : ℕ) (turns : List OpenTurn) → drop left (map begun_of turns) ≡ map begun_of (drop left turns)
 begun_dropped zero turns = refl

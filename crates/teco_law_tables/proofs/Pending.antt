@@ -4,7 +4,7 @@ use Rattle.std.specs.Option.{option_map_or}
 use Rattle.teco_base.specs.declared.TheConstants.{REGISTERS}
 use Rattle.teco_model.specs.Element.{Element}
 use Rattle.teco_model.specs.Run.{Reaches, Ends, run}
-use Rattle.teco_model.specs.State.{World, State, Outcome, Next, End, Exit, Fail, Absent, start}
+use Rattle.teco_model.specs.State.{World, State, Outcome, Next, End, start}
 use Rattle.teco_law_expansion.specs.Alike.{AreAlike, AreOutcomesAlike, StepsAreAlike, RunsAreAlike, ReadingsAreAlike, kind_of}
 use Rattle.teco_law_expansion.specs.Given.{call_given, start_pending, BeginsPending, NumbersArePending}
 use Rattle.teco_law_tables.specs.Ending.{EndsWithin}
@@ -27,25 +27,11 @@ next_alike : (one other : Outcome) (last : State) → AreOutcomesAlike one other
 next_alike (Next s) (Next t) last a e =
     let same : t ≡ last = cc in
     record { state = s; is = refl; alike = subst (AreAlike s) same a }
-next_alike (End w) (Next t) last a e = absurd (a)
-next_alike (Exit w) (Next t) last a e = absurd (a)
-next_alike (Fail c w) (Next t) last a e = absurd (a)
-next_alike (Absent w) (Next t) last a e = absurd (a)
-next_alike one (End w) last a e = absurd (cc)
-next_alike one (Exit w) last a e = absurd (cc)
-next_alike one (Fail c w) last a e = absurd (cc)
-next_alike one (Absent w) last a e = absurd (cc)
+next_alike one other last a e = absurd (grind arith)
 
 end_alike : (one other : Outcome) (new : World) → AreOutcomesAlike one other → other ≡ End new → one ≡ End new
 end_alike (End w) (End v) new a e = ap End a ∙ e
-end_alike (Next s) (End v) new a e = absurd (a)
-end_alike (Exit w) (End v) new a e = absurd (a)
-end_alike (Fail c w) (End v) new a e = absurd (a)
-end_alike (Absent w) (End v) new a e = absurd (a)
-end_alike one (Next t) new a e = absurd (cc)
-end_alike one (Exit w) new a e = absurd (cc)
-end_alike one (Fail c w) new a e = absurd (cc)
-end_alike one (Absent w) new a e = absurd (cc)
+end_alike one other new a e = absurd (grind arith)
 
 -- and the other way round
 record OtherNext (other : Outcome) (first : State) : Type 0 where
@@ -57,14 +43,7 @@ other_next : (one other : Outcome) (first : State) → AreOutcomesAlike one othe
 other_next (Next s) (Next t) first a e =
     let same : s ≡ first = cc in
     record { state = t; is = refl; alike = subst (λ s. AreAlike s t) same a }
-other_next (Next s) (End w) first a e = absurd (a)
-other_next (Next s) (Exit w) first a e = absurd (a)
-other_next (Next s) (Fail c w) first a e = absurd (a)
-other_next (Next s) (Absent w) first a e = absurd (a)
-other_next (End w) other first a e = absurd (cc)
-other_next (Exit w) other first a e = absurd (cc)
-other_next (Fail c w) other first a e = absurd (cc)
-other_next (Absent w) other first a e = absurd (cc)
+other_next one other first a e = absurd (grind arith)
 
 -- ---- runs that are alike
 files_by : (read : Option Element) → changes_files read ≡ option_map_or is_of_files (option_map kind_of read) false

@@ -74,11 +74,10 @@ module _ (nodes : List Node) (table : Table) where
   module _ (begin : ℕ) (node : Node) (start : Facts) (there : facts_at table (suc begin) ≡ Some start) where
     stand_of_body : (facts : Facts) (edges : Edges) (entering : Facts) → facts_at table begin ≡ Some facts → edges_at nodes node facts ≡ Ok edges → edges.on ≡ Some entering →
         (c : Option Choice) → choice_at table begin ≡ c → (r : Result Polynomial Refusal) → turns (falling_in nodes table begin) facts ≡ r → body_stands (changes_in nodes begin) (facts_at table (end_of nodes begin)) entering (Some start) c r ≡ true → Body begin node start
-    stand_of_body facts edges entering known leads on None chosen r t h = absurd (cc)
-    stand_of_body facts edges entering known leads on (Some choice) chosen (Err why) t h = absurd (cc)
     stand_of_body facts edges entering known leads on (Some choice) chosen (Ok most) t h =
         let p = and_both _ _ h in
         record { facts = facts; edges = edges; entering = entering; choice = choice; most = most; known = known; leads = leads; on = on; chosen = chosen; turns_are = t; same = p.0; stands_there = p.1 }
+    stand_of_body facts edges entering known leads on c chosen r t h = absurd (grind arith)
 
     on_body : (facts : Facts) (edges : Edges) → facts_at table begin ≡ Some facts → edges_at nodes node facts ≡ Ok edges →
         (o : Option Facts) → edges.on ≡ o → is_entered nodes table begin facts o ≡ true → Body begin node start

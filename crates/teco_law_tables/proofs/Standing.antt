@@ -71,9 +71,8 @@ behind library number (Some e) stand = behind_kind library number e.kind e stand
 
 -- ---- a > stands in an iteration
 open_numbers : (nodes : List Node) (entry below : ℕ) (text : List ℕ) (callers : List Spot) (Rest : List ℕ → Type 0) (starts numbers : List ℕ) (targets : List Position) (e : Element) (p : Position) → end_ways starts e p ≡ Ok targets → AreOpenIn nodes entry below text callers Rest starts numbers → numbers ≡ [] → ⊥
-open_numbers nodes entry below text callers Rest [] numbers targets e p h are z = absurd (cc)
 open_numbers nodes entry below text callers Rest (start ∷ outer) [] targets e p h are z = are
-open_numbers nodes entry below text callers Rest (start ∷ outer) (n ∷ numbers) targets e p h are z = absurd (cc)
+open_numbers nodes entry below text callers Rest starts numbers targets e p h are z = absurd (grind arith)
 
 pub iterations_are : (nodes : List Node) (k : ℕ) (node : Node) → numbered nodes k ≡ Some node → iterations_at nodes k ≡ node.stand.iterations
 iterations_are nodes k node at = ap (λ (o : Option Node). option_map_or iterations_of o []) at

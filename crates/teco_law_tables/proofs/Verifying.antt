@@ -253,8 +253,7 @@ module _ (laws : Laws) (ground : Ground) (closed : AreClosed ground.nodes) (rule
 argument_whole : (argument : Option ArgumentRange) (given : Option ℕ) → IsAsked argument given → AreWholeArguments (arguments_given given)
 argument_whole None None asked = record { level = record { first = tt; value = tt }; outer = tt }
 argument_whole (Some range) (Some n) asked = record { level = record { first = tt; value = omega (arith, ints, asked.small) }; outer = tt }
-argument_whole None (Some n) asked = absurd (asked)
-argument_whole (Some range) None asked = absurd (asked)
+argument_whole argument given asked = absurd (grind arith)
 
 start_whole : Laws → (entry : ℕ) (argument : Option ArgumentRange) (given : Option ℕ) (world : World) → IsAsked argument given → AreBytes (call_of entry) → IsWholeWorld world → IsWholeState (start_given entry given world)
 start_whole laws entry argument given world asked call whole =
@@ -268,8 +267,7 @@ in_all laws calls entry None None world steps most named asked all ends =
     let same : steps ≡ most = omega (arith, all) in
     subst (EndsWithin (start (call_of entry) world)) same ends
 in_all laws calls entry (Some range) (Some n) world steps most named asked all ends = subst (EndsWithin (start (call_given entry (Some n)) world)) all (given_ends calls entry n world steps named asked.small ends)
-in_all laws calls entry None (Some n) world steps most named asked all ends = absurd (asked)
-in_all laws calls entry (Some range) None world steps most named asked all ends = absurd (asked)
+in_all laws calls entry argument given world steps most named asked all ends = absurd (grind arith)
 
 pub elements_go : (laws : Laws) → IterationsEnd → (library : Library) (entry : ℕ) (rules : Rules) (argument : Option ArgumentRange) (given : Option ℕ) (nodes : List Node) (table : Table) (commands_are size_is : Polynomial) (n : ℕ) (world : World) → AreLinked library entry nodes → IsPrinted (entry_of rules library argument) nodes table commands_are size_is → IsAsked argument given → IsReady library entry size_is n world →
     ElementsGo library entry nodes table n world.kept.registers.stack (start_given entry given world)

@@ -39,10 +39,9 @@ next_number all rest number stand h =
     let some : nat_lt 0 (length (stand ∷ rest)) ≡ true = search rules in rw (h, stand_alike stand, some, none) refl
 
 pub drop-behind : {X : Type 0} (n : ℕ) (xs rest : List X) (x : X) → drop n xs ≡ x ∷ rest → drop (suc n) xs ≡ rest
-drop-behind zero [] rest x h = absurd (cc)
 drop-behind zero (y ∷ xs) rest x h = cc
-drop-behind (suc n) [] rest x h = absurd (cc)
 drop-behind (suc n) (y ∷ xs) rest x h = drop-behind n xs rest x h
+drop-behind n xs rest x h = absurd (grind arith)
 
 -- the name of a register names it
 abbrev is_number : ℕ → Option ℕ → Bool

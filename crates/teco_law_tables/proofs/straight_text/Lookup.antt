@@ -1,5 +1,5 @@
 -- What the table of a straight text says at a number.
-use Rattle.std.proofs.Common.{◌≡◌, ℕ, zero, suc, ◌+◌, List, [], ◌∷◌, drop, length, Some, slice_get, refl, ap}
+use Rattle.std.proofs.Common.{◌≡◌, ℕ, zero, suc, ◌+◌, List, [], ◌∷◌, drop, length, Some, slice_get, refl, ap, arith}
 use Rattle.teco_verifier.specs.facts.Facts.{Entry}
 use Rattle.teco_model.specs.Element.{Element}
 use Rattle.teco_verifier.specs.table.Table.{Table, facts_at}
@@ -8,10 +8,9 @@ use Rattle.teco_law_tables.specs.straight_text.Straight.{inserted_by}
 use Rattle.teco_law_tables.specs.straight_text.Facts.{facts_behind_insertions, rows_in_text}
 
 first_behind : {X : Type 0} (n : ℕ) (xs rest : List X) (x : X) → drop n xs ≡ x ∷ rest → slice_get xs n ≡ Some x
-first_behind zero [] rest x h = absurd (cc)
 first_behind zero (y ∷ xs) rest x h = cc
-first_behind (suc n) [] rest x h = absurd (cc)
 first_behind (suc n) (y ∷ xs) rest x h = first_behind n xs rest x h
+first_behind n xs rest x h = absurd (grind arith)
 
 pub facts_there : (known : Entry) (table : Table) (m count : ℕ) (elements : List Element) → drop m table ≡ rows_in_text known count elements → facts_at table (suc m) ≡ Some (facts_behind_insertions known count)
 facts_there known table m count [] h = rw (first_behind m table [] _ h) refl
