@@ -6,27 +6,22 @@ use Rattle.teco_law_turns.proofs.Stepwise.{at_node, Run, stop, ◌before◌}
 use Rattle.teco_law_turns.specs.Needed.{rising, rising_loops, rising_end, rising_start, IsClosedButForFall, OwnFallIsNeeded}
 
 outer_body : (j : ℕ) → 0 < j → j ≤ 5 → (inner : List ℕ) × (rising_loops j ≡ inner ++ 0 ∷ [])
-outer_body zero from to = absurd (omega arith)
 outer_body (suc zero) from to = ([], refl)
 outer_body (suc (suc zero)) from to = ([], refl)
 outer_body (suc (suc (suc zero))) from to = (2 ∷ [], refl)
 outer_body (suc (suc (suc (suc zero)))) from to = (2 ∷ [], refl)
 outer_body (suc (suc (suc (suc (suc zero))))) from to = ([], refl)
-outer_body (suc (suc (suc (suc (suc (suc n)))))) from to = absurd (omega arith)
+outer_body j from to = absurd (grind arith)
 
 inner_body : (j : ℕ) → 2 < j → j ≤ 4 → (inner : List ℕ) × (rising_loops j ≡ inner ++ 2 ∷ 0 ∷ [])
-inner_body zero from to = absurd (omega arith)
-inner_body (suc zero) from to = absurd (omega arith)
-inner_body (suc (suc zero)) from to = absurd (omega arith)
 inner_body (suc (suc (suc zero))) from to = ([], refl)
 inner_body (suc (suc (suc (suc zero)))) from to = ([], refl)
-inner_body (suc (suc (suc (suc (suc n))))) from to = absurd (omega arith)
+inner_body j from to = absurd (grind arith)
 
 almost_closed : (l : ℕ) → l < rising_end l → IsClosedButForFall rising l
 almost_closed zero some = search (arith, ints, outer_body)
-almost_closed (suc zero) some = absurd (omega arith)
 almost_closed (suc (suc zero)) some = search (arith, ints, inner_body)
-almost_closed (suc (suc (suc l))) some = absurd (omega arith)
+almost_closed l some = absurd (grind arith)
 
 -- the open loops in the outer body, and in the inner one with so many turns to come
 abbrev outside : List OpenLoop

@@ -8,9 +8,8 @@ use Rattle.teco_law_turns.proofs.Standing.{each_map}
 
 told : (drop x y : Option ℤ) (ahead new : ℕ) → MatchOption drop ⊤ (λ d. (pos new +ℤ d) ≤ℤ pos ahead) → IsCarried drop x y → FallFollows x y ahead new
 told drop x None ahead new does is = tt
-told drop None (Some w) ahead new does is = absurd is
-told None (Some v) (Some w) ahead new does is = absurd is
 told (Some d) (Some v) (Some w) ahead new does is = omega (arith, ints)
+told drop x y ahead new does is = absurd (grind arith)
 
 bounded : (drop : Option ℤ) (old_most most held_most ahead new held : ℕ) → ahead ≤ old_most → held ≤ held_most → new ≤ held → MatchOption drop ⊤ (λ d. (pos new +ℤ d) ≤ℤ pos ahead) → MatchOption drop ⊥ (λ d. pos old_most ≤ℤ (pos most +ℤ d)) ⊎ (held_most ≤ most) → new ≤ most
 bounded drop old_most most held_most ahead new held few many within does (inr h) = omega arith

@@ -6,20 +6,17 @@ use Rattle.teco_law_turns.proofs.Stepwise.{at_node, Run, stop, ◌before◌}
 use Rattle.teco_law_turns.specs.Needed.{grown, grown_loops, grown_end, grown_start, IsClosedButForGrowth, GrowthIsNeeded}
 
 outer_body : (j : ℕ) → 0 < j → j ≤ 5 → (inner : List ℕ) × (grown_loops j ≡ inner ++ 0 ∷ [])
-outer_body zero from to = absurd (omega arith)
 outer_body (suc zero) from to = ([], refl)
 outer_body (suc (suc zero)) from to = (1 ∷ [], refl)
 outer_body (suc (suc (suc zero))) from to = (1 ∷ [], refl)
 outer_body (suc (suc (suc (suc zero)))) from to = ([], refl)
 outer_body (suc (suc (suc (suc (suc zero))))) from to = ([], refl)
-outer_body (suc (suc (suc (suc (suc (suc n)))))) from to = absurd (omega arith)
+outer_body j from to = absurd (grind arith)
 
 inner_body : (j : ℕ) → 1 < j → j ≤ 3 → (inner : List ℕ) × (grown_loops j ≡ inner ++ 1 ∷ 0 ∷ [])
-inner_body zero from to = absurd (omega arith)
-inner_body (suc zero) from to = absurd (omega arith)
 inner_body (suc (suc zero)) from to = ([], refl)
 inner_body (suc (suc (suc zero))) from to = ([], refl)
-inner_body (suc (suc (suc (suc n)))) from to = absurd (omega arith)
+inner_body j from to = absurd (grind arith)
 
 almost_closed : (l : ℕ) → l < grown_end l → IsClosedButForGrowth grown l
 almost_closed zero some = search (arith, ints, outer_body)

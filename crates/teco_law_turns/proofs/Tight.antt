@@ -8,10 +8,9 @@ use Rattle.teco_law_turns.proofs.Stepwise.{at_node, Run, stop, ◌before◌}
 use Rattle.teco_law_turns.specs.Worked.{worked, worked_loops, worked_end, worked_start, WorkedIsTight}
 
 body : (j : ℕ) → 0 < j → j ≤ 2 → (inner : List ℕ) × (worked_loops j ≡ inner ++ 0 ∷ [])
-body zero from to = absurd (omega arith)
 body (suc zero) from to = ([], refl)
 body (suc (suc zero)) from to = ([], refl)
-body (suc (suc (suc n))) from to = absurd (omega arith)
+body j from to = absurd (grind arith)
 
 the_loop : (l : ℕ) → l < worked_end l → IsClosedLoop worked l
 the_loop zero some = search (arith, ints, body)
