@@ -1,5 +1,5 @@
 -- States that are the same but for the text of the command string step to such.
-use Rattle.std.proofs.Common.{◌≡◌, ℕ, zero, suc, List, [], ◌∷◌, Option, Some, None, Result, Ok, Err, refl, sym, ap, ◌∙◌, subst}
+use Rattle.std.proofs.Common.{◌≡◌, ℕ, zero, suc, List, [], ◌∷◌, Option, Some, None, Result, Ok, Err, refl, sym, ap, ◌∙◌, subst, arith}
 use Rattle.teco_base.specs.declared.code.Code.{Code}
 use Rattle.teco_base.specs.declared.code.Code.TheVariants as code
 use Rattle.teco_model.specs.declared.flow.Loop.{Loop}
@@ -111,8 +111,7 @@ texts_alike : (w : World) (g : Arguments) (l : Option ℕ) (a b : Frame) (caller
 texts_alike w g l a b [] [] h = bottom_alike w g l a b h
 texts_alike w g l a b (c ∷ cs) (d ∷ ds) h =
     subst (λ b. AreOutcomesAlike (step (one c d cs ds h.1 w g l a)) (step (other c d cs ds h.1 w g l b))) h.0 (inner_alike c d cs ds h.1 w g l a)
-texts_alike w g l a b [] (d ∷ ds) h = absurd h
-texts_alike w g l a b (c ∷ cs) [] h = absurd h
+texts_alike w g l a b callers others h = absurd (grind arith)
 
 by_parts : (v w : World) (f g : Arguments) (l m : Option ℕ) (a b : Frame) (callers others : List Frame) → v ≡ w → f ≡ g → l ≡ m → AreTextsAlike a callers b others →
     AreOutcomesAlike (step (record { world = v; arguments = f; frames = record { running = a; callers = callers }; left = l })) (step (record { world = w; arguments = g; frames = record { running = b; callers = others }; left = m }))
@@ -169,8 +168,7 @@ bottom_reads a b read t at (Calling c x y) h =
 texts_read : (a b : Frame) (callers others : List Frame) (read : Option Element) (t : State) → t.frames.running ≡ b → AreTextsAlike a callers b others → element_at a.text a.place ≡ Ok read → ReadsAlike read t
 texts_read a b [] [] read t at h r = bottom_reads a b read t at h r
 texts_read a b (c ∷ cs) (d ∷ ds) read t at h r = record { other = read; reads = rw (at, sym h.0) r; kinds = refl }
-texts_read a b [] (d ∷ ds) read t at h r = absurd h
-texts_read a b (c ∷ cs) [] read t at h r = absurd h
+texts_read a b callers others read t at h r = absurd (grind arith)
 
 pub readings_are_alike : ReadingsAreAlike
 readings_are_alike s t read h r = texts_read s.frames.running t.frames.running s.frames.callers t.frames.callers read t refl h.texts r

@@ -140,10 +140,9 @@ first_end_is b n (suc i) (x ∷ xs) node h e f =
 
 -- what is taken of descending numbers is not dropped of them
 among_taken : (b n : ℕ) (numbers : List ℕ) → Among b (take n numbers) → Among b numbers
-among_taken b zero numbers a = absurd a
-among_taken b (suc n) [] a = absurd a
 among_taken b (suc n) (m ∷ numbers) (inl e) = inl e
 among_taken b (suc n) (m ∷ numbers) (inr a) = inr (among_taken b n numbers a)
+among_taken b n numbers a = absurd (grind arith)
 
 among_dropped : (b n : ℕ) (numbers : List ℕ) → Among b (drop n numbers) → Among b numbers
 among_dropped b zero numbers a = a
@@ -151,10 +150,9 @@ among_dropped b (suc n) [] a = absurd a
 among_dropped b (suc n) (m ∷ numbers) a = inr (among_dropped b n numbers a)
 
 taken_or_dropped : (bound b n : ℕ) (numbers : List ℕ) → Descend bound numbers → Among b (take n numbers) → Among b (drop n numbers) → b < b
-taken_or_dropped bound b zero numbers d a c = absurd a
-taken_or_dropped bound b (suc n) [] d a c = absurd a
 taken_or_dropped bound b (suc n) (m ∷ numbers) d (inl e) c = omega (arith, e, below m b numbers d.1 (among_dropped b n numbers c))
 taken_or_dropped bound b (suc n) (m ∷ numbers) d (inr a) c = taken_or_dropped m b n numbers d.1 a c
+taken_or_dropped bound b n numbers d a c = absurd (grind arith)
 
 -- what a search for an end comes to
 data Ended (b n : ℕ) (xs : List Node) : Type 0 where

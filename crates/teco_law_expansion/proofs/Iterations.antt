@@ -55,9 +55,8 @@ entered nodes entry below (Some text) e numbers p o = o
 left : (nodes : List Node) (entry below : ℕ) (starts numbers : List ℕ) (e : Element) (p : Position) (targets : List Position) → end_ways starts e p ≡ Ok targets →
     AreOpenIn nodes entry below p.running.text p.callers (AreOpen nodes entry below p.callers) starts numbers →
     AreOpenIn nodes entry below p.running.text p.callers (AreOpen nodes entry below p.callers) (drop 1 starts) (drop 1 numbers)
-left nodes entry below [] numbers e p targets w o = absurd (cc)
-left nodes entry below (start ∷ outer) [] e p targets w o = absurd o
 left nodes entry below (start ∷ outer) (n ∷ numbers) e p targets w o = o.1
+left nodes entry below starts numbers e p targets w o = absurd (grind arith)
 
 behind_kind : (library : Library) (nodes : List Node) (entry number : ℕ) (k : Kind) (e : Element) (node : Node) (targets : List Position) → numbered nodes number ≡ Some node → node.element ≡ Some e → e.kind ≡ k →
     numbered (stands nodes entry) (suc number) ≡ Some (stand_behind_kind library number k e node.stand) →

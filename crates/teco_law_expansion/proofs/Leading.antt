@@ -173,8 +173,6 @@ module _ (library : Library) (entry : ℕ) (nodes : List Node) (number : ℕ) (n
       AreOpenIn nodes entry number node.stand.position.running.text node.stand.position.callers (AreOpen nodes entry number node.stand.position.callers) starts numbers →
       end_ways starts e node.stand.position ≡ Ok targets → slice_get targets 0 ≡ Some q →
       IsNext (stands nodes entry) (get_or numbers 0 0) (stand_at number node.stand q) target → stand ≡ stand_at number node.stand q → IsBack (place_at number node.stand) (place_at target stand)
-  back [] numbers e q targets target stand k i open' w g n s = absurd (cc)
-  back (start ∷ outer) [] e q targets target stand k i open' w g n s = absurd open'
   back (start ∷ outer) (begin ∷ numbers) e q targets target stand k i open' w g n s =
       let p = node.stand.position in
       let h : Some (moved_to start (start ∷ outer) p) ≡ Some q = ap (λ l. slice_get l 0) (ok _ targets w) ∙ g in
@@ -189,13 +187,12 @@ module _ (library : Library) (entry : ℕ) (nodes : List Node) (number : ℕ) (n
         number = near (stands nodes entry) begin target (stand_at number node.stand q) n (open'.0.behind ∙ ap Some body);
         same = ap (λ (s : Stand). s.iterations) s ∙ same;
       }
+  back starts numbers e q targets target stand k i open' w g n s = absurd (grind arith)
 
   outside : (starts numbers : List ℕ) (e : Element) (q : Position) (targets : List Position) (target : ℕ) (stand : Stand) → node.stand.position.running.starts ≡ starts → node.stand.iterations ≡ numbers →
       AreOpenIn nodes entry number node.stand.position.running.text node.stand.position.callers (AreOpen nodes entry number node.stand.position.callers) starts numbers →
       end_ways starts e node.stand.position ≡ Ok targets → slice_get targets 1 ≡ Some q → stand_behind library number node.element node.stand ≡ stand_outside e node.stand →
       IsNext (stands nodes entry) number (stand_at number node.stand q) target → stand ≡ stand_at number node.stand q → IsOutside (place_at number node.stand) (place_at target stand)
-  outside [] numbers e q targets target stand k i open' w g o n s = absurd (cc)
-  outside (start ∷ outer) [] e q targets target stand k i open' w g o n s = absurd open'
   outside (start ∷ outer) (begin ∷ numbers) e q targets target stand k i open' w g o n s =
       let p = node.stand.position in
       let h : Some (moved_to e.next outer p) ≡ Some q = ap (λ l. slice_get l 1) (ok _ targets w) ∙ g in
@@ -211,6 +208,7 @@ module _ (library : Library) (entry : ℕ) (nodes : List Node) (number : ℕ) (n
         innermost = i ∙ ap (λ ns. begin ∷ ns) (sym left);
         number = behind (stand_at number node.stand q) target n (same ∙ sym o);
       }
+  outside starts numbers e q targets target stand k i open' w g o n s = absurd (grind arith)
 
   -- an element of a kind
   of_kind : (k : Kind) (e : Element) → node.element ≡ Some e → e.kind ≡ k → stand_behind library number node.element node.stand ≡ stand_behind_kind library number k e node.stand
@@ -337,14 +335,13 @@ record Target (all : List Stand) (base number : ℕ) (from : Stand) (targets : L
   next : IsNext all (base_of_way way base number) (stand_at number from position) target
 
 target_of : (all : List Stand) (base number : ℕ) (from : Stand) (targets : List Position) (ways : List ℕ) (way target : ℕ) → Lead all base number from targets ways → slice_get ways way ≡ Some target → Target all base number from targets way target
-target_of all base number from targets [] way target l h = absurd (cc)
-target_of all base number from [] (n ∷ ways) way target l h = absurd l
 target_of all base number from (p ∷ targets) (n ∷ ways) zero target l h =
     let e : n ≡ target = cc in record { position = p; at = refl; next = subst (IsNext all base (stand_at number from p)) e l.0 }
 target_of all base number from (p ∷ targets) (n ∷ ways) (suc zero) target l h =
     let later = target_of all number number from targets ways zero target l.1 h in record { position = later.position; at = later.at; next = later.next }
 target_of all base number from (p ∷ targets) (n ∷ ways) (suc (suc way)) target l h =
     let later = target_of all number number from targets ways (suc way) target l.1 h in record { position = later.position; at = later.at; next = later.next }
+target_of all base number from targets ways way target l h = absurd (grind arith)
 
 pub ways_lead : WaysLead
 ways_lead library entry nodes number node way target stand are at taken there =

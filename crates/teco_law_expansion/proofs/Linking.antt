@@ -43,11 +43,10 @@ spots_alike a b h =
 
 callers_alike : (first second : List Spot) → same_spots first second ≡ true → first ≡ second
 callers_alike [] [] h = refl
-callers_alike [] (b ∷ second) h = absurd (cc)
-callers_alike (a ∷ first) [] h = absurd (cc)
 callers_alike (a ∷ first) (b ∷ second) h =
     let head : a ≡ b = spots_alike a b (and_left (same_spot a b) _ h) in
     let tail : first ≡ second = callers_alike first second (and_right (same_spot a b) _ h) in cc
+callers_alike first second h = absurd (grind arith)
 
 positions_alike : (p q : Position) → same_position p q ≡ true → p ≡ q
 positions_alike p q h =
@@ -263,9 +262,8 @@ next_is library number v next h =
 
 -- the iterations of what follows are as many as are open there
 deep_outside : (starts numbers rest : List ℕ) (e : Element) (p : Position) (targets : List Position) → end_ways starts e p ≡ Ok targets → length numbers ≡ length (starts ++ rest) → length (drop 1 numbers) ≡ length (drop 1 starts ++ rest)
-deep_outside [] numbers rest e p targets w h = absurd (cc)
-deep_outside (start ∷ outer) [] rest e p targets w h = absurd (omega (arith, h))
 deep_outside (start ∷ outer) (n ∷ numbers) rest e p targets w h = omega (arith, h)
+deep_outside starts numbers rest e p targets w h = absurd (grind arith)
 
 deep_called : (text : Option (List ℕ)) (e : Element) (p : Position) → depth (position_in_text text e p) ≡ depth p
 deep_called None e p = refl
@@ -339,10 +337,9 @@ returned_waits entry r registers (caller ∷ callers) p w = w
 waits_behind : (library : Library) (entry number : ℕ) (read : Option Element) (registers : List ℕ) (r : ℕ) (others : List ℕ) (stand : Stand) (targets : List Position) → read_at stand.position ≡ Ok read → ways_at library read stand.position ≡ Ok targets →
     Waits entry registers stand → open_behind read registers ≡ r ∷ others → Waits entry (open_behind read registers) (stand_behind library number read stand)
 unfolding ways_at
-waits_behind library entry number None [] r others stand targets h w o e = absurd (cc)
-waits_behind library entry number None (a ∷ []) r others stand targets h w o e = absurd (cc)
 waits_behind library entry number None (a ∷ b ∷ registers) r others stand targets h w o e = returned_waits entry b registers stand.position.callers stand.position o
 waits_behind library entry number (Some e') registers r others stand targets h w o e = waits_kind library entry number e'.kind e' registers stand targets h refl w o
+waits_behind library entry number read registers r others stand targets h w o e = absurd (grind arith)
 
 -- what follows has such texts, too
 same_text : (library : Library) (entry : ℕ) (registers : List ℕ) (a b : Spot) (callers : List Spot) → a.text ≡ b.text → AreTexts library entry registers (a ∷ callers) → AreTexts library entry registers (b ∷ callers)
@@ -530,8 +527,6 @@ visited (v ∷ vs) (first ∷ nodes) (suc k) node same h =
     record { visit = later.visit; at = later.at; stand = later.stand }
 
 register_there : (entry : ℕ) (vs : List Visit) (nodes : List Node) (k : ℕ) (v : Visit) (node : Node) → map register_of_node nodes ≡ map (register_at entry) vs → slice_get vs k ≡ Some v → slice_get nodes k ≡ Some node → node.register ≡ register_at entry v
-register_there entry [] nodes k v node same h g = absurd (cc)
-register_there entry (first ∷ vs) [] k v node same h g = absurd (cc)
 register_there entry (w ∷ vs) (first ∷ nodes) zero v node same h g =
     let e : first ≡ node = cc in
     let f : w ≡ v = cc in
@@ -539,6 +534,7 @@ register_there entry (w ∷ vs) (first ∷ nodes) zero v node same h g =
     ap register_of_node (sym e) ∙ (register ∙ ap (register_at entry) f)
 register_there entry (w ∷ vs) (first ∷ nodes) (suc k) v node same h g =
     let rest : map register_of_node nodes ≡ map (register_at entry) vs = cc in register_there entry vs nodes k v node rest h g
+register_there entry vs nodes k v node same h g = absurd (grind arith)
 
 -- an expansion that is not refused
 record IsExpanded (library : Library) (entry : ℕ) (nodes : List Node) (w : Walk) : Type 0 where

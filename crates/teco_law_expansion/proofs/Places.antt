@@ -55,8 +55,7 @@ unfolding element_at
 end_read text at l h = among (nat_le (length text) (blank_end text at)) refl h
   where
     no_element : {P : Type 0} (r : Result Element Code) → Path (Result (Option Element) Code) (r >>= (λ e. Ok (Some e))) (Ok None) → P
-    no_element (Ok e) h = absurd (cc)
-    no_element (Err c) h = absurd (cc)
+    no_element r h = absurd (grind arith)
 
     among : (t : Bool) → nat_le (length text) (blank_end text at) ≡ t →
         Path (Result (Option Element) Code) (elim t [ true ↦ Ok None | false ↦ element_from text (blank_end text at) >>= (λ e. Ok (Some e)) ]) (Ok None) → blank_end text at ≡ length text

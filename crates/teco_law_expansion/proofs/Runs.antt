@@ -1,8 +1,8 @@
 -- A run stands at nodes alone.
-use Rattle.std.proofs.Common.{◌≡◌, ℕ, zero, suc, List, [], ◌∷◌, ◌++◌, map, Option, Some, None, Ok, refl, sym, ap, ◌∙◌, subst, slice_get}
+use Rattle.std.proofs.Common.{◌≡◌, ℕ, zero, suc, List, [], ◌∷◌, ◌++◌, map, Option, Some, None, Ok, refl, sym, ap, ◌∙◌, subst, slice_get, arith}
 use Rattle.teco_model.specs.Element.{Element, blank_len, element_at}
 use Rattle.teco_model.specs.Run.{run, go_on}
-use Rattle.teco_model.specs.State.{Frame, State, Outcome, Next, End, Exit, Fail, Absent, start}
+use Rattle.teco_model.specs.State.{Frame, State, Outcome, Next, start}
 use Rattle.teco_model.specs.declared.flow.Loop.{Loop}
 use Rattle.teco_model.specs.Step.{end_outcome, end_of_text, step}
 use Rattle.teco_model.specs.Macros.{Library, IsLoaded, call_of}
@@ -131,10 +131,7 @@ pub record Last (before : Outcome) (t : State) : Type 0 where
 
 pub last_step : (before : Outcome) (t : State) → go_on before ≡ Next t → Last before t
 last_step (Next s) t h = record { last = s; was = refl; goes = h }
-last_step (End world) t h = absurd (cc)
-last_step (Exit world) t h = absurd (cc)
-last_step (Fail c world) t h = absurd (cc)
-last_step (Absent world) t h = absurd (cc)
+last_step before t h = absurd (grind arith)
 
 pub runs_come_to_nodes : RunsComeToNodes
 unfolding run

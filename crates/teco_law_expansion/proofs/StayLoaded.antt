@@ -1,5 +1,5 @@
 -- A library stays loaded through each step that writes none of its registers.
-use Rattle.std.proofs.Common.{◌≡◌, ℕ, ℤ, zero, suc, List, [], ◌∷◌, false, Option, Some, None, Result, Ok, Err, sym, ◌∙◌, subst}
+use Rattle.std.proofs.Common.{◌≡◌, ℕ, ℤ, zero, suc, List, [], ◌∷◌, false, Option, Some, None, Result, Ok, Err, sym, ◌∙◌, subst, arith}
 use Rattle.std.specs.Option.{option_map_or, option_map}
 use Rattle.teco_base.specs.declared.code.Code.{Code}
 use Rattle.teco_model.specs.declared.flow.Loop.{Loop}
@@ -22,7 +22,7 @@ use Rattle.teco_model.specs.Outside.{going_on, while_left, in_pages, pages_reply
 use Rattle.teco_model.specs.Paging.{yank, append, one_page_of, pages, look_first, look_for, needed_output, page_turned, page_written, Progress, Looked, Met, Turned, Through}
 use Rattle.teco_model.specs.Search.{Finding, Found, Missed, search}
 use Rattle.teco_model.specs.Searching.{Miss, Answers, Leaves, Unended, Fails, miss_of, missed, found, found_in_buffer, looked, looking, found_in_pages, search_reply, kept_by_miss}
-use Rattle.teco_model.specs.State.{Kept, World, Frame, State, Outcome, Next, End, Exit, Fail, Absent}
+use Rattle.teco_model.specs.State.{Kept, World, Frame, State, Outcome, Next}
 use Rattle.teco_model.specs.Step.{flow_reply, after_argument, after_value, after_query, after_stack, after_command, value_for, reply_of, end_outcome, end_of_text, outcome_at}
 use Rattle.teco_model.specs.Macros.{Library, is_macro}
 use Rattle.teco_law_expansion.specs.Loaded.{StaysLoaded}
@@ -198,10 +198,7 @@ module _ (library : Library) (s : State) where
 
 kept_there : (library : Library) (old : Kept) (outcome : Outcome) (t : State) → Keeping library old outcome → outcome ≡ Next t → Keeps library old.registers t.world.kept.registers
 kept_there library old (Next u) t k h = let e : u ≡ t = cc in subst (λ (t : State). Keeps library old.registers t.world.kept.registers) e k
-kept_there library old (End world) t k h = absurd (cc)
-kept_there library old (Exit world) t k h = absurd (cc)
-kept_there library old (Fail c world) t k h = absurd (cc)
-kept_there library old (Absent world) t k h = absurd (cc)
+kept_there library old outcome t k h = absurd (grind arith)
 
 pub stays_loaded : StaysLoaded
 stays_loaded library s t read l h r g =

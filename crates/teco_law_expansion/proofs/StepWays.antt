@@ -1,5 +1,5 @@
 -- A step goes one of the ways from where it stands.
-use Rattle.std.proofs.Common.{◌≡◌, ℕ, ℤ, zero, suc, pos, negsuc, inl, inr, List, [], ◌∷◌, map, Bool, true, false, Option, Some, None, Result, Ok, Err, refl, sym, ap, ◌∙◌, subst, slice_get}
+use Rattle.std.proofs.Common.{◌≡◌, ℕ, ℤ, zero, suc, pos, negsuc, inl, inr, List, [], ◌∷◌, map, Bool, true, false, Option, Some, None, Result, Ok, Err, refl, sym, ap, ◌∙◌, subst, slice_get, arith}
 use Rattle.teco_base.specs.declared.code.Code.{Code}
 use Rattle.teco_base.specs.declared.code.Code.TheVariants as code
 use Rattle.teco_model.specs.declared.arguments.Taken.{Taken}
@@ -19,7 +19,7 @@ use Rattle.teco_model.specs.Arguments.{Arguments, arguments_of, no_arguments, le
 use Rattle.teco_model.specs.Checked.{◌>>=◌ as ◌>>>=◌}
 use Rattle.teco_model.specs.Element.{Element, blank_end, element_at}
 use Rattle.teco_model.specs.Flow.{Turn, turn_of, jump}
-use Rattle.teco_model.specs.Going.{After, Course, Behind, Again, Along, Into, Quit, NoFile, Refused, Reply, frames_at, frames_in, on_editor, settled, settle, with_kept}
+use Rattle.teco_model.specs.Going.{After, Course, Behind, Again, Along, Into, Reply, frames_at, frames_in, on_editor, settled, settle, with_kept}
 use Rattle.teco_model.specs.Outside as outside
 use Rattle.teco_model.specs.Paging.{append, yank, pages, look_first, Progress, page_turned, page_written, one_page_of, look_for, looked_through, Looked, Met, Turned, Through}
 use Rattle.teco_model.specs.Filing.{open_input, open_output, close_output, copy_all}
@@ -94,11 +94,7 @@ GoesOn e (Err c) = ⊤
 moved_by : (reply : Reply) (course : Course) (e : Element) (ways : List Position) (s t : State) → GoesOnBy e reply course → StepWas (Some e) 0 s t → slice_get ways 0 ≡ Some (past e (position_of s)) → settled e s.frames reply course ≡ Next t → Moves (Some e) ways s t
 moved_by reply Behind e ways s t l was w h = goes_past (Some e) e ways s s _ t was w l refl h
 moved_by reply Again e ways s t l was w h = stays (Some e) l.0 ways s _ t l.1 refl l.2 h
-moved_by reply (Along frame) e ways s t l was w h = absurd l
-moved_by reply (Into text) e ways s t l was w h = absurd l
-moved_by reply Quit e ways s t l was w h = absurd (cc)
-moved_by reply NoFile e ways s t l was w h = absurd (cc)
-moved_by reply (Refused c) e ways s t l was w h = absurd (cc)
+moved_by reply course e ways s t l was w h = absurd (grind arith)
 
 moved : (r : Result Reply Code) (e : Element) (ways : List Position) (s t : State) → GoesOn e r → StepWas (Some e) 0 s t → slice_get ways 0 ≡ Some (past e (position_of s)) → settle e s r ≡ Next t → Moves (Some e) ways s t
 moved (Err c) e ways s t l was w h = absurd (cc)

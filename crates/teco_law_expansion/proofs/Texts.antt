@@ -44,11 +44,9 @@ still_loaded library old new l k = record { holds = λ r text m. k.same r text m
 -- loading
 loaded_text : (library : List (Option (List ℕ))) (pairs : List Pair) (r : ℕ) (text : List ℕ) → length library ≤ length pairs → slice_index_or library r None ≡ Some text →
     (slice_index_or (map (λ own. with_own_text own.0 own.1) (zip library pairs)) r empty_pair).text ≡ text
-loaded_text [] pairs r text l h = absurd (cc)
-loaded_text (own ∷ library) [] r text l h = absurd (omega (arith, l))
-loaded_text (None ∷ library) (p ∷ pairs) zero text l h = absurd (cc)
 loaded_text (Some own ∷ library) (p ∷ pairs) zero text l h = let e : own ≡ text = cc in e
 loaded_text (own ∷ library) (p ∷ pairs) (suc r) text l h = loaded_text library pairs r text (omega (arith, l)) h
+loaded_text library pairs r text l h = absurd (grind arith)
 
 pub loading_loads : LoadingLoads
 loading_loads library kept l = record { holds = λ r text m. loaded_text library kept.registers.pairs r text l m }
