@@ -51,8 +51,7 @@ beyond_later m n text h = subst (λ rest. behind_line rest ≤ behind_line (drop
 pub drop_joined : (n : ℕ) (xs ys : List ℕ) → length xs ≡ n → drop n (xs ++ ys) ≡ ys
 drop_joined zero [] ys e = refl
 drop_joined (suc n) (x ∷ xs) ys e = drop_joined n xs ys (omega arith)
-drop_joined zero (x ∷ xs) ys e = absurd (omega arith)
-drop_joined (suc n) [] ys e = absurd (omega arith)
+drop_joined n xs ys e = absurd (grind arith)
 
 -- a text that is put behind another
 more_if : (x : Bool) (text more : List ℕ) → behind_line (text ++ more) ≤ behind_line text + length more → cond x (length (text ++ more)) (behind_line (text ++ more)) ≤ cond x (length text) (behind_line text) + length more

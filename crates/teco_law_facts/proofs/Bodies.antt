@@ -70,8 +70,7 @@ outside_fallen kept around unread falls begun line h r =
 each_outside : (kept : Bool) (around : Surroundings) (unread : ℕ) (all : List Falls) (turns : List Begun) → IsLine around → (kept ≡ true → AreEach (FellBefore (around.fore + unread)) all turns) → AreEach (HasRest unread) all turns → AreEach (HasFallen around unread) (map (falls_outside kept) all) turns
 each_outside kept around unread [] [] line h r = tt
 each_outside kept around unread (falls ∷ all) (begun ∷ turns) line h r = (outside_fallen kept around unread falls begun line (λ e. (h e).0) r.0, each_outside kept around unread all turns line (λ e. (h e).1) r.1)
-each_outside kept around unread [] (begun ∷ turns) line h r = absurd r
-each_outside kept around unread (falls ∷ all) [] line h r = absurd r
+each_outside kept around unread all turns line h r = absurd (grind arith)
 
 -- in order
 each_ordered : (rules : Rules) (d : Distances) (around : Surroundings) (unread : ℕ) (all : List Falls) (turns : List Begun) → IsLine around → d.back ≤ around.back → d.fore ≤ around.fore → AreEach (HasFallen around unread) all turns → AreEach (HasFallen around unread) (map (in_order rules d) all) turns
@@ -245,8 +244,7 @@ room_is_sound n choice turns entering end t = grown n choice turns entering end 
 each_replicated : {X : Type 0} (P : X → Pair → Type 0) (k : ℕ) (x : X) (pairs : List Pair) → length pairs ≡ k → ((pair : Pair) → (r : ℕ) → get_or pairs r empty_pair ≡ pair → P x pair) → AreEach P (replicate k x) pairs
 each_replicated P zero x [] l h = tt
 each_replicated P (suc k) x (pair ∷ pairs) l h = (h pair 0 refl, each_replicated P k x pairs (omega arith) (λ p r e. h p (suc r) e))
-each_replicated P zero x (pair ∷ pairs) l h = absurd (omega arith)
-each_replicated P (suc k) x [] l h = absurd (omega arith)
+each_replicated P k x pairs l h = absurd (grind arith)
 
 -- a text of the library has its length
 texts_given : (n : ℕ) (rules : Rules) (lengths : List (Option ℕ)) (k : ℕ) (pairs : List Pair) → length pairs ≡ k → ((r : ℕ) → length (get_or pairs r empty_pair).text ≤ value variable n) → ((r m : ℕ) → get_or lengths r None ≡ Some m → length (get_or pairs r empty_pair).text ≡ m) → AreEach (λ most (pair : Pair). length pair.text ≤ value most n) (texts_at_entry rules lengths k) pairs
@@ -258,8 +256,7 @@ texts_given n rules (o ∷ lengths) (suc k) (pair ∷ pairs) l h i = (by rules o
   by First o i = h 0
   by Second None i = h 0
   by Second (Some m) i = omega (arith, i m refl, (values_of_constants n m).0)
-texts_given n rules lengths zero (pair ∷ pairs) l h i = absurd (omega arith)
-texts_given n rules lengths (suc k) [] l h i = absurd (omega arith)
+texts_given n rules lengths k pairs l h i = absurd (grind arith)
 
 entry_holds : (n unread : ℕ) (kept : Kept) (rules : Rules) (lengths : List (Option ℕ)) (library : ℕ → Bool) → IsWhole kept → IsEntry n unread kept → HaveLengths lengths kept → Holds (record { n = n; library = library; turns = []; below = kept.registers.stack }) (entry_facts rules lengths) unread kept
 entry_holds n unread kept rules lengths library whole i long =

@@ -30,8 +30,7 @@ use Rattle.teco_verifier.specs.declared.falls.Falls.{Falls}
 -- ---- tests
 pub and_both : (x y : Bool) → IsTrue (x && y) → IsTrue x × IsTrue y
 and_both true true h = (refl, refl)
-and_both true false h = absurd (cc)
-and_both false y h = absurd (cc)
+and_both x y h = absurd (grind arith)
 
 pub le_holds : (v w : ℤ) → IsTrue (int_le v w) → v ≤ℤ w
 le_holds v w h = holds_at _ refl h where
@@ -51,11 +50,8 @@ equal_holds v w h = let p = and_both _ _ h in omega (arith, ints, le_holds v w p
 -- of each of two lists: what is covered of one is true of the other
 pub each_covered : {X Y : Type 0} (covers : X → X → Bool) (P Q : X → Y → Type 0) → ((x e : X) (y : Y) → IsTrue (covers x e) → P e y → Q x y) → (xs es : List X) (ys : List Y) → IsTrue (each_covers covers xs es) → AreEach P es ys → AreEach Q xs ys
 each_covered covers P Q k [] [] [] c h = tt
-each_covered covers P Q k [] [] (y ∷ ys) c h = absurd h
 each_covered covers P Q k (x ∷ xs) (e ∷ es) (y ∷ ys) c h = let p = and_both _ _ c in (k x e y p.0 h.0, each_covered covers P Q k xs es ys p.1 h.1)
-each_covered covers P Q k (x ∷ xs) (e ∷ es) [] c h = absurd h
-each_covered covers P Q k [] (e ∷ es) ys c h = absurd (cc)
-each_covered covers P Q k (x ∷ xs) [] ys c h = absurd (cc)
+each_covered covers P Q k xs es ys c h = absurd (grind arith)
 
 -- ---- values
 pub interval_covered : (i j : Interval) (v : ℤ) → IsTrue (covers_interval i j) → IsWithin j v → IsWithin i v
@@ -73,14 +69,12 @@ none_form (Some c) b h = absurd (cc)
 none_alike : (c e : Option CharacterCode) → IsTrue (both_cover is_same_code c e) → is_none c ≡ is_none e
 none_alike None None h = refl
 none_alike (Some c) (Some e) h = refl
-none_alike None (Some e) h = absurd (cc)
-none_alike (Some c) None h = absurd (cc)
+none_alike c e h = absurd (grind arith)
 
 truth_alike : (b c : Bool) → IsTrue (is_same_truth b c) → b ≡ c
 truth_alike true true h = refl
 truth_alike false false h = refl
-truth_alike true false h = absurd (cc)
-truth_alike false true h = absurd (cc)
+truth_alike b c h = absurd (grind arith)
 
 codes_worth : (c e : Option CharacterCode) (around : Surroundings) → IsTrue (both_cover is_same_code c e) → code_worth c around.code_at ≡ code_worth e around.code_at
 codes_worth None None around h = refl
@@ -89,8 +83,7 @@ codes_worth (Some c) (Some e) around h =
     let o : c.offset ≡ e.offset = equal_holds c.offset e.offset p.0 in
     let n : c.negated ≡ e.negated = truth_alike c.negated e.negated p.1 in
     rw (o, n) refl
-codes_worth None (Some e) around h = absurd (cc)
-codes_worth (Some c) None around h = absurd (cc)
+codes_worth c e around h = absurd (grind arith)
 
 module _ (d : Distances) (around : Surroundings) (b : AreDistances d around) where
   value_by : (x : Bool) (s t : Value) (v : ℤ) → is_interval s ≡ x → IsTrue (cond x (covers_interval (record { lo = s.lo; hi = s.hi }) (interval_of d t)) (is_same s t)) → IsIn t around v → IsIn s around v
@@ -134,10 +127,7 @@ module _ (d : Distances) (around : Surroundings) (b : AreDistances d around) whe
   optional_covered : (s t : Option Value) (v : Option ℤ) → IsTrue (both_cover (covers_value d) s t) → IsOptional (IsValue around) t v → IsOptional (IsValue around) s v
   optional_covered None None None c i = tt
   optional_covered (Some s) (Some t) (Some v) c i = value_covered s t v c i
-  optional_covered None None (Some v) c i = absurd i
-  optional_covered (Some s) (Some t) None c i = absurd i
-  optional_covered None (Some t) v c i = absurd (cc)
-  optional_covered (Some s) None v c i = absurd (cc)
+  optional_covered s t v c i = absurd (grind arith)
 
   operator_covered : (o p : Operator) → IsTrue (is_same_operator o p) → o ≡ p
   operator_covered Plus Plus c = refl
@@ -151,8 +141,7 @@ module _ (d : Distances) (around : Surroundings) (b : AreDistances d around) whe
   operators_covered : (o p : Option Operator) → IsTrue (both_cover is_same_operator o p) → p ≡ o
   operators_covered None None c = refl
   operators_covered (Some o) (Some p) c = let e = operator_covered o p c in cc
-  operators_covered None (Some p) c = absurd (cc)
-  operators_covered (Some o) None c = absurd (cc)
+  operators_covered o p c = absurd (grind arith)
 
   level_covered : (known edge : KnownLevel) (level : Level) → IsTrue (covers_level d known edge) → IsLevel around edge level → IsLevel around known level
   level_covered known edge level c i =
@@ -193,9 +182,7 @@ mark_covered : (around : Surroundings) (mark edge : Option DigitMark) → IsTrue
 mark_covered around None edge c h = tt
 mark_covered around (Some Before) (Some Before) c h = h
 mark_covered around (Some At) (Some At) c h = h
-mark_covered around (Some Before) (Some At) c h = absurd (cc)
-mark_covered around (Some At) (Some Before) c h = absurd (cc)
-mark_covered around (Some m) None c h = absurd (cc)
+mark_covered around mark edge c h = absurd (grind arith)
 
 pub saved_covered : (around : Surroundings) (saved edge : List Bool) (pairs : List Pair) → IsTrue (each_covers covers_saved saved edge) → AreSaved around edge pairs → AreSaved around saved pairs
 saved_covered around saved edge pairs c h = each_covered covers_saved (IsSaved around) (IsSaved around) (λ s e pair. place_covered s e around pair.number) saved edge pairs c h
@@ -233,9 +220,7 @@ pushed_covered n below (s ∷ known) (t ∷ edge) (pair ∷ stack) c h =
     let p = and_both _ _ c in
     let q = and_both _ _ p.0 in
     (record { number = interval_covered s.number t.number pair.number q.0 h.0.number; text = omega (arith, values_compare t.text s.text n q.1, h.0.text) }, pushed_covered n below known edge stack p.1 h.1)
-pushed_covered n below (s ∷ known) (t ∷ edge) [] c h = absurd h
-pushed_covered n below [] (t ∷ edge) stack c h = absurd (cc)
-pushed_covered n below (s ∷ known) [] stack c h = absurd (cc)
+pushed_covered n below known edge stack c h = absurd (grind arith)
 
 pub covers_are_sound : CoversAreSound
 covers_are_sound run facts edge unread kept arguments whole c d =

@@ -19,30 +19,26 @@ pub each_at : {X Y : Type 0} (P : X → Y → Type 0) (xs : List X) (ys : List Y
 each_at P [] [] d e h p r = p
 each_at P (x ∷ xs) (y ∷ ys) d e h p zero = h.0
 each_at P (x ∷ xs) (y ∷ ys) d e h p (suc r) = each_at P xs ys d e h.1 p r
-each_at P [] (y ∷ ys) d e h p r = absurd h
-each_at P (x ∷ xs) [] d e h p r = absurd h
+each_at P xs ys d e h p r = absurd (grind arith)
 
 -- both are set at a place
 pub each_set : {X Y : Type 0} (P : X → Y → Type 0) (xs : List X) (ys : List Y) (r : ℕ) (x : X) (y : Y) → AreEach P xs ys → P x y → AreEach P (set xs r x) (set ys r y)
 each_set P [] [] r x y h p = tt
 each_set P (a ∷ xs) (b ∷ ys) zero x y h p = (p, h.1)
 each_set P (a ∷ xs) (b ∷ ys) (suc r) x y h p = (h.0, each_set P xs ys r x y h.1 p)
-each_set P [] (b ∷ ys) r x y h p = absurd h
-each_set P (a ∷ xs) [] r x y h p = absurd h
+each_set P xs ys r x y h p = absurd (grind arith)
 
 -- the second alone is set
 pub each_kept : {X Y : Type 0} (P : X → Y → Type 0) (xs : List X) (ys : List Y) (d : X) (r : ℕ) (y : Y) → AreEach P xs ys → P (get_or xs r d) y → AreEach P xs (set ys r y)
 each_kept P [] [] d r y h p = tt
 each_kept P (a ∷ xs) (b ∷ ys) d zero y h p = (p, h.1)
 each_kept P (a ∷ xs) (b ∷ ys) d (suc r) y h p = (h.0, each_kept P xs ys d r y h.1 p)
-each_kept P [] (b ∷ ys) d r y h p = absurd h
-each_kept P (a ∷ xs) [] d r y h p = absurd h
+each_kept P xs ys d r y h p = absurd (grind arith)
 
 pub each_length : {X Y : Type 0} (P : X → Y → Type 0) (xs : List X) (ys : List Y) → AreEach P xs ys → length xs ≡ length ys
 each_length P [] [] h = omega arith
 each_length P (x ∷ xs) (y ∷ ys) h = omega (arith, each_length P xs ys h.1)
-each_length P [] (y ∷ ys) h = absurd h
-each_length P (x ∷ xs) [] h = absurd h
+each_length P xs ys h = absurd (grind arith)
 
 -- of all of one list
 pub all_at : {X : Type 0} (P : X → Type 0) (xs : List X) (d : X) → AllByRecursion P xs → P d → (r : ℕ) → P (get_or xs r d)

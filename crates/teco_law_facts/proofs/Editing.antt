@@ -192,10 +192,7 @@ module _ (run : Run) (facts : Facts) (unread : ℕ) (kept : Kept) (whole : IsWho
   range_foretold (Some s) (Some t) (Some v) (Some w) i j = part_foretold s t v w i j
   range_foretold None o None v i j = lines_foretold o v j
   range_foretold (Some s) None (Some v) None i j = lines_foretold None None tt
-  range_foretold (Some s) (Some t) (Some v) None i j = absurd j
-  range_foretold (Some s) None (Some v) (Some w) i j = absurd j
-  range_foretold (Some s) o None v i j = absurd i
-  range_foretold None o (Some w) v i j = absurd i
+  range_foretold f o m v i j = absurd (grind arith)
 
   characters_known : (o : Option Value) (v : Option ℤ) → IsOptional (IsValue (around_of kept)) o v → Foretells run facts unread kept (row.character_deletion facts.position.distances (count_of o facts.position.distances) >>= λ shift. silent_behind (ending shift) facts) (model.character_deletion (unwrap_or v (pos 1)) kept)
   characters_known o v i = characters_foretold _ _ (count_of o facts.position.distances) (unwrap_or v (pos 1)) (count_within run facts unread kept whole h o v i) refl refl
@@ -205,10 +202,7 @@ module _ (run : Run) (facts : Facts) (unread : ℕ) (kept : Kept) (whole : IsWho
   deletion_known Characters (Some s) (Some t) (Some v) (Some w) i j = part_foretold s t v w i j
   deletion_known Characters None o None v i j = characters_known o v j
   deletion_known Characters (Some s) None (Some v) None i j = characters_known None None tt
-  deletion_known Characters (Some s) (Some t) (Some v) None i j = absurd j
-  deletion_known Characters (Some s) None (Some v) (Some w) i j = absurd j
-  deletion_known Characters (Some s) o None v i j = absurd i
-  deletion_known Characters None o (Some w) v i j = absurd i
+  deletion_known unit f o m v i j = absurd (grind arith)
 
   pub deletion_foretold : (unit : Counted) (known : KnownTaken) (taken : Taken) → IsTaken (around_of kept) known taken → Foretells run facts unread kept (row.deletion unit known facts) (model.deletion unit taken kept)
   deletion_foretold unit known taken i = deletion_known unit known.first known.value taken.first taken.value i.first i.value
@@ -271,8 +265,7 @@ module _ (run : Run) (facts : Facts) (unread : ℕ) (kept : Kept) (whole : IsWho
   insertion_known Text (c ∷ text) (Some s) (Some v) j = tt
   insertion_known Tab text None None j = length_foretold (TAB ∷ text)
   insertion_known Tab text (Some s) (Some v) j = tt
-  insertion_known i text None (Some v) j = absurd j
-  insertion_known i text (Some s) None j = absurd j
+  insertion_known i text o v j = absurd (grind arith)
 
   pub insertion_foretold : (i : Insertion) (e : Element) (known : KnownTaken) (taken : Taken) → IsTaken (around_of kept) known taken → Foretells run facts unread kept (insertions.insertion i e.text known facts) (model_insertion.insertion i e taken kept)
   insertion_foretold i e known taken j = insertion_known i e.text known.value taken.value j.value
@@ -298,7 +291,4 @@ module _ (run : Run) (facts : Facts) (unread : ℕ) (kept : Kept) (whole : IsWho
       leads_given (λ u. Comes (part_named (Some v) (Some w) kept)) _ (IsDone run facts unread kept) _ _ _ (both_named s t v w i j) (λ u ok. part_leads known go_on k _ ok)
   parts_lead None o None v i j known go_on k = k _
   parts_lead (Some s) None (Some v) None i j known go_on k = k _
-  parts_lead (Some s) (Some t) (Some v) None i j known go_on k = absurd j
-  parts_lead (Some s) None (Some v) (Some w) i j known go_on k = absurd j
-  parts_lead (Some s) o None v i j known go_on k = absurd i
-  parts_lead None o (Some w) v i j known go_on k = absurd i
+  parts_lead f o m v i j known go_on k = absurd (grind arith)

@@ -94,13 +94,12 @@ module _ (run : Run) (facts : Facts) (x : Placed) (edges : Edges) (s : State) (h
   page_output p most e m o = output_of p most o _ m (needed (kind.Page p) e)
 
   input_of : (most : Polynomial) (r : Result KnownTaken Refusal) (c : Result Taken Code) → Covers (IsTaken (around_of kept)) r c → (r >>= λ taken. steps_of_page page.Append taken facts) ≡ Ok most → IfOk (r >>= λ taken. Ok (needs_of_page page.Append taken.value)) (λ need. AreOpen need s.world.files) → Succeeds (λ (taken : Taken). taken.value ≡ None → (input : Input) × (s.world.files.input ≡ Some input)) c
-  input_of most (Err why) c i m n = absurd (cc)
-  input_of most (Ok k) (Err c) i m n = absurd i
   input_of most (Ok k) (Ok taken) i m n = by k.value taken.value i.value n where
     by : (o : Option Value) (v : Option ℤ) → IsOptional (IsValue (around_of kept)) o v → AreOpen (needs_of_page page.Append o) s.world.files → v ≡ None → (input : Input) × (s.world.files.input ≡ Some input)
     by None v j a q = a.input refl
     by (Some w) (Some z) j a q = absurd (cc)
     by (Some w) None j a q = absurd j
+  input_of most r c i m n = absurd (grind arith)
 
   looks : (q : Search) (most : Polynomial) → x.element.kind ≡ kind.Search q → IsInPages q → IsOpen s.world → u + 1 ≤ value most run.n + pages_left q facts u → Proceeds (kind.Search q) run facts x edges s (value most run.n + pages_left q facts u) (settle x.element s (outcomes.found_in_pages q x.element (outcomes.miss_of x.element s.frames.running) s.left s.arguments s.world))
   looks q most e b o m = look_proceeds run facts x edges s h t q (value most run.n + pages_left q facts u) fits b e (stands (kind.Search q) e) o.0 o.1 m

@@ -290,19 +290,16 @@ module _ (rules : Rules) (old : Surroundings) (u : ℕ) (new : Surroundings) (u'
 pub each_fallen : (P Q : Falls → Begun → Type 0) (f : Falls → Falls) → ((falls : Falls) (begun : Begun) → P falls begun → Q (f falls) begun) → (all : List Falls) (turns : List Begun) → AreEach P all turns → AreEach Q (map f all) turns
 each_fallen P Q f k [] [] h = tt
 each_fallen P Q f k (falls ∷ all) (begun ∷ turns) h = (k falls begun h.0, each_fallen P Q f k all turns h.1)
-each_fallen P Q f k [] (begun ∷ turns) h = absurd h
-each_fallen P Q f k (falls ∷ all) [] h = absurd h
+each_fallen P Q f k all turns h = absurd (grind arith)
 
 -- the shape of what describes another state
 pub each_kept : (P Q : Falls → Begun → Type 0) → ((falls : Falls) (begun : Begun) → P falls begun → Q falls begun) → (all : List Falls) (turns : List Begun) → AreEach P all turns → AreEach Q all turns
 each_kept P Q k [] [] h = tt
 each_kept P Q k (falls ∷ all) (begun ∷ turns) h = (k falls begun h.0, each_kept P Q k all turns h.1)
-each_kept P Q k [] (begun ∷ turns) h = absurd h
-each_kept P Q k (falls ∷ all) [] h = absurd h
+each_kept P Q k all turns h = absurd (grind arith)
 
 -- of each of two lists, where one is changed in two ways
 pub each_remapped : (P Q : Falls → Begun → Type 0) (f g : Falls → Falls) → ((falls : Falls) (begun : Begun) → P (f falls) begun → Q (g falls) begun) → (all : List Falls) (turns : List Begun) → AreEach P (map f all) turns → AreEach Q (map g all) turns
 each_remapped P Q f g k [] [] h = tt
 each_remapped P Q f g k (falls ∷ all) (begun ∷ turns) h = (k falls begun h.0, each_remapped P Q f g k all turns h.1)
-each_remapped P Q f g k [] (begun ∷ turns) h = absurd h
-each_remapped P Q f g k (falls ∷ all) [] h = absurd h
+each_remapped P Q f g k all turns h = absurd (grind arith)

@@ -70,8 +70,7 @@ pub each_dropped : {X Y : Type 0} (P : X → Y → Type 0) (count : ℕ) (xs : L
 each_dropped P zero xs ys h = h
 each_dropped P (suc count) [] [] h = tt
 each_dropped P (suc count) (x ∷ xs) (y ∷ ys) h = each_dropped P count xs ys h.1
-each_dropped P (suc count) [] (y ∷ ys) h = absurd h
-each_dropped P (suc count) (x ∷ xs) [] h = absurd h
+each_dropped P count xs ys h = absurd (grind arith)
 
 -- the number of a level, as ; and " need it
 abbrev number_in : Level → Result ℤ Code
@@ -122,44 +121,29 @@ module _ (run : Run) (facts : Facts) (unread : ℕ) (kept : Kept) (arguments : m
   -- a test
   holding_takes : (t : Test) (v : ℤ) (b : Bool) → holds t v ≡ b → Takes (cond b (holding t) (other (holding t))) v
   holding_takes test.Zero (pos zero) true e = refl
-  holding_takes test.Zero (pos (suc n)) true e = absurd (cc)
-  holding_takes test.Zero (negsuc n) true e = absurd (cc)
-  holding_takes test.Zero (pos zero) false e = absurd (cc)
   holding_takes test.Zero (pos (suc n)) false e = λ z. omega (arith, ints)
   holding_takes test.Zero (negsuc n) false e = λ z. cc
-  holding_takes test.NotZero (pos zero) true e = absurd (cc)
   holding_takes test.NotZero (pos (suc n)) true e = λ z. omega (arith, ints)
   holding_takes test.NotZero (negsuc n) true e = λ z. cc
   holding_takes test.NotZero (pos zero) false e = refl
-  holding_takes test.NotZero (pos (suc n)) false e = absurd (cc)
-  holding_takes test.NotZero (negsuc n) false e = absurd (cc)
-  holding_takes test.Negative (pos n) true e = absurd (cc)
   holding_takes test.Negative (negsuc n) true e = omega (arith, ints)
   holding_takes test.Negative (pos n) false e = omega (arith, ints)
-  holding_takes test.Negative (negsuc n) false e = absurd (cc)
-  holding_takes test.Positive (pos zero) true e = absurd (cc)
   holding_takes test.Positive (pos (suc n)) true e = omega (arith, ints)
-  holding_takes test.Positive (negsuc n) true e = absurd (cc)
   holding_takes test.Positive (pos zero) false e = omega (arith, ints)
-  holding_takes test.Positive (pos (suc n)) false e = absurd (cc)
   holding_takes test.Positive (negsuc n) false e = omega (arith, ints)
   holding_takes test.Letter (pos n) true e = omega (arith, ints)
-  holding_takes test.Letter (negsuc n) true e = absurd (cc)
   holding_takes test.Letter v false e = tt
   holding_takes test.Symbol (pos n) true e = omega (arith, ints)
-  holding_takes test.Symbol (negsuc n) true e = absurd (cc)
   holding_takes test.Symbol v false e = tt
   holding_takes test.Digit v true e = e
   holding_takes test.Digit v false e = tt
   holding_takes test.LetterOrDigit (pos n) true e = omega (arith, ints)
-  holding_takes test.LetterOrDigit (negsuc n) true e = absurd (cc)
   holding_takes test.LetterOrDigit v false e = tt
   holding_takes test.Lower (pos n) true e = omega (arith, ints)
-  holding_takes test.Lower (negsuc n) true e = absurd (cc)
   holding_takes test.Lower v false e = tt
   holding_takes test.Upper (pos n) true e = omega (arith, ints)
-  holding_takes test.Upper (negsuc n) true e = absurd (cc)
   holding_takes test.Upper v false e = tt
+  holding_takes t v b e = absurd (grind arith)
 
   tested : (t : Test) (s : Value) (v : ℤ) (b : Bool) → holds t v ≡ b → IsTold run facts.answer s (around_of kept) unread kept.registers.pairs v → IsReached run (cond b (way (holding t) facts.answer s (facts_taken facts)) (way (other (holding t)) facts.answer s (facts_taken facts))) unread kept (model.levels_after_taking arguments)
   tested t s v true e i = reached _ (told (holding t) s v i (holding_takes t v true e))
@@ -171,13 +155,10 @@ module _ (run : Run) (facts : Facts) (unread : ℕ) (kept : Kept) (arguments : m
   -- ; and :;
   leaving_takes : (colons : ℕ) (v : ℤ) (b : Bool) → leaves colons v ≡ b → Takes (cond b (leaving_numbers colons) (other (leaving_numbers colons))) v
   leaving_takes zero (pos n) true e = omega (arith, ints)
-  leaving_takes zero (pos n) false e = absurd (cc)
-  leaving_takes zero (negsuc n) true e = absurd (cc)
   leaving_takes zero (negsuc n) false e = omega (arith, ints)
-  leaving_takes (suc colons) (pos n) true e = absurd (cc)
   leaving_takes (suc colons) (pos n) false e = omega (arith, ints)
   leaving_takes (suc colons) (negsuc n) true e = omega (arith, ints)
-  leaving_takes (suc colons) (negsuc n) false e = absurd (cc)
+  leaving_takes colons v b e = absurd (grind arith)
 
   leaves_or : (colons : ℕ) (s : Value) (v : ℤ) (b : Bool) → leaves colons v ≡ b → IsTold run facts.answer s (around_of kept) unread kept.registers.pairs v → LeavingOr run unread kept arguments b (record { on = way (other (leaving_numbers colons)) facts.answer s (facts_taken facts); away = option_map (leaving 1) (way (leaving_numbers colons) facts.answer s (facts_taken facts)) })
   leaves_or colons s v true e i = left_behind _ (told (leaving_numbers colons) s v i (leaving_takes colons v true e))
@@ -224,8 +205,7 @@ module _ (run : Run) (facts : Facts) (unread : ℕ) (kept : Kept) (arguments : m
   enters (Some s) (Some (pos (suc n))) none i = rw (within_may Positive (interval_of facts.position.distances s) (pos (suc n)) (of_value s (pos (suc n)) i) (omega (arith, ints))) (entered true none)
   enters (Some s) (Some (pos zero)) none i = rw (within_may NotPositive (interval_of facts.position.distances s) (pos zero) (of_value s (pos zero) i) (omega (arith, ints))) (skipped none)
   enters (Some s) (Some (negsuc n)) none i = rw (within_may NotPositive (interval_of facts.position.distances s) (negsuc n) (of_value s (negsuc n) i) (omega (arith, ints))) (skipped none)
-  enters None (Some v) none i = absurd i
-  enters (Some s) None none i = absurd i
+  enters o v none i = absurd (grind arith)
 
   -- the turns: what a value is at most
   bounded_sum : (p : Polynomial) (k : ℕ) (v : ℤ) → v ≤ℤ (pos (value p run.n) +ℤ pos k) → IfOk (sum_of p (number k)) (λ most. v ≤ℤ pos (value most run.n))
@@ -292,8 +272,7 @@ module _ (run : Run) (facts : Facts) (unread : ℕ) (kept : Kept) (arguments : m
   turns_for : (falling : Option Rank) (o : Option Value) (v : Option ℤ) → IsOptional (IsValue (around_of kept)) o v → IfOk (turns_of falling o facts) (λ most. AreTurns (value most run.n) (amount_of falling (begun_at unread kept)) v)
   turns_for falling None None i = amount_and_one falling
   turns_for falling (Some s) (Some v) i = bound_is s v i
-  turns_for falling None (Some v) i = absurd i
-  turns_for falling (Some s) None i = absurd i
+  turns_for falling o v i = absurd (grind arith)
 
   iterated : Tells (λ edges (taken : Taken). EntersOr run unread kept arguments taken.value edges) (known.arguments_of facts.arguments.level >>= λ taken. none_pending (known.levels_after_taking facts.arguments) >>= λ alone. turns_of None taken.value (transfers.without_answer facts) >>= λ most. Ok (iteration taken.value taken_facts)) (model.arguments_of arguments.level)
   iterated =

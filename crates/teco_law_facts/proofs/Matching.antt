@@ -78,8 +78,7 @@ one_in exact c text start end d m = absurd (cc)
 
 item_in : (exact : Bool) (i : Item) (text : List ℕ) (start end : ℕ) → is_digit_item i ≡ true → Matches (item_of exact i) text start end → EndsInDigit text end
 item_in exact (item.Is c) text start end d m = one_in exact c text start end d m
-item_in exact (item.IsNot c) text start end d m = absurd (cc)
-item_in exact item.Blanks text start end d m = absurd (cc)
+item_in exact i text start end d m = absurd (grind arith)
 
 part_in : (registers : Registers) (exact : Bool) (p : Part) (text : List ℕ) (start end : ℕ) → is_digit_part p ≡ true → InTurn (items_of registers exact p ++ []) text start end → EndsInDigit text end
 part_in registers exact (part.Item i) text start end d (middle, m, e) = subst (EndsInDigit text) e (item_in exact i text start middle d m)

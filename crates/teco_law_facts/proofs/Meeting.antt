@@ -66,23 +66,18 @@ falls_both_too around unread v w begun h = record {
 falls_left : (around : Surroundings) (unread : ℕ) (vs ws : List Falls) (turns : List Begun) → length vs ≡ length ws → AreEach (HasFallen around unread) vs turns → AreEach (HasFallen around unread) (joined_falls vs ws) turns
 falls_left around unread [] [] turns l h = h
 falls_left around unread (v ∷ vs) (w ∷ ws) (begun ∷ turns) l h = (falls_both around unread v w begun h.0, falls_left around unread vs ws turns (omega arith) h.1)
-falls_left around unread (v ∷ vs) (w ∷ ws) [] l h = absurd h
-falls_left around unread [] (w ∷ ws) turns l h = absurd (omega arith)
-falls_left around unread (v ∷ vs) [] turns l h = absurd (omega arith)
+falls_left around unread vs ws turns l h = absurd (grind arith)
 
 falls_right : (around : Surroundings) (unread : ℕ) (vs ws : List Falls) (turns : List Begun) → length vs ≡ length ws → AreEach (HasFallen around unread) ws turns → AreEach (HasFallen around unread) (joined_falls vs ws) turns
 falls_right around unread [] [] turns l h = h
 falls_right around unread (v ∷ vs) (w ∷ ws) (begun ∷ turns) l h = (falls_both_too around unread v w begun h.0, falls_right around unread vs ws turns (omega arith) h.1)
-falls_right around unread (v ∷ vs) (w ∷ ws) [] l h = absurd h
-falls_right around unread [] (w ∷ ws) turns l h = absurd (omega arith)
-falls_right around unread (v ∷ vs) [] turns l h = absurd (omega arith)
+falls_right around unread vs ws turns l h = absurd (grind arith)
 
 -- ---- digits
 same_mark : (m n : DigitMark) → is_same_mark m n ≡ true → m ≡ n
 same_mark Before Before e = refl
 same_mark At At e = refl
-same_mark Before At e = absurd (cc)
-same_mark At Before e = absurd (cc)
+same_mark m n e = absurd (grind arith)
 
 mark_left : (around : Surroundings) (m n : Option DigitMark) → IsMarked around m → IsMarked around (joined_mark m n)
 mark_left around None n h = tt
@@ -119,16 +114,12 @@ position_joined run p q l k = position_with run p q l k _ (value-join_of run.n p
 hulls_left : (is js : List Interval) (pairs : List Pair) → length is ≡ length js → AreEach IsNumber is pairs → AreEach IsNumber (hulls is js) pairs
 hulls_left [] [] pairs l h = h
 hulls_left (i ∷ is) (j ∷ js) (pair ∷ pairs) l h = (record { low = omega (arith, ints, clamps, h.0); high = omega (arith, ints, clamps, h.0) }, hulls_left is js pairs (omega arith) h.1)
-hulls_left (i ∷ is) (j ∷ js) [] l h = absurd h
-hulls_left [] (j ∷ js) pairs l h = absurd (omega arith)
-hulls_left (i ∷ is) [] pairs l h = absurd (omega arith)
+hulls_left is js pairs l h = absurd (grind arith)
 
 hulls_right : (is js : List Interval) (pairs : List Pair) → length is ≡ length js → AreEach IsNumber js pairs → AreEach IsNumber (hulls is js) pairs
 hulls_right [] [] pairs l h = h
 hulls_right (i ∷ is) (j ∷ js) (pair ∷ pairs) l h = (record { low = omega (arith, ints, clamps, h.0); high = omega (arith, ints, clamps, h.0) }, hulls_right is js pairs (omega arith) h.1)
-hulls_right (i ∷ is) (j ∷ js) [] l h = absurd h
-hulls_right [] (j ∷ js) pairs l h = absurd (omega arith)
-hulls_right (i ∷ is) [] pairs l h = absurd (omega arith)
+hulls_right is js pairs l h = absurd (grind arith)
 
 -- texts that are no longer than those of one list, or of the other, are no longer than those that are joined
 pub record AreAbove (ps qs rs : List Polynomial) : Type 0 where
@@ -150,8 +141,7 @@ put_before p q ps qs (Ok r) (Ok rs) a b = record { left = left_of; right = right
 lengths_above : (ps qs : List Polynomial) → length ps ≡ length qs → IfOk (joined_lengths ps qs) (AreAbove ps qs)
 lengths_above [] [] l = record { left = λ n pairs h. h; right = λ n pairs h. h }
 lengths_above (p ∷ ps) (q ∷ qs) l = put_before p q ps qs _ _ (λ n. value-join_of n p q) (lengths_above ps qs (omega arith))
-lengths_above [] (q ∷ qs) l = absurd (omega arith)
-lengths_above (p ∷ ps) [] l = absurd (omega arith)
+lengths_above ps qs l = absurd (grind arith)
 
 -- pushes
 pub record ArePushedBoth (ss ts js : List Pushed) : Type 0 where

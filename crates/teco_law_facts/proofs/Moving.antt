@@ -46,8 +46,7 @@ use Rattle.teco_model.specs.Character.{code_at}
 pub or_single : (around : Surroundings) (o : Option Value) (v : Option ℤ) (d : ℤ) → IsOptional (IsValue around) o v → IsIn (unwrap_or o (single d)) around (unwrap_or v d)
 or_single around None None d h = record { low = omega (arith, ints); high = omega (arith, ints) }
 or_single around (Some s) (Some v) d h = h.is
-or_single around None (Some v) d h = absurd h
-or_single around (Some s) None d h = absurd h
+or_single around o v d h = absurd (grind arith)
 
 -- a value without a code
 pub none_too : (b : Bool) → (b && false) ≡ false
@@ -178,8 +177,7 @@ module _ (run : Run) (facts : Facts) (unread : ℕ) (kept : Kept) (whole : IsWho
   goes_on_is : (m : Motion) (r : Interval) (v : Option ℤ) → IsWithin r (unwrap_or v (pos 1)) → row.goes_forward m r ≡ true → pos kept.pointer ≤ℤ model.target m kept.pointer v
   goes_on_is Forward r v i e = omega (arith, ints)
   goes_on_is Backward r v i e = omega (arith, ints)
-  goes_on_is To r v i e = absurd cc
-  goes_on_is Lines r v i e = absurd cc
+  goes_on_is m r v i e = absurd (grind arith)
 
   -- L
   pub line_within : (v : ℤ) → line_place kept.text kept.pointer v ≤ length kept.text
@@ -189,8 +187,7 @@ module _ (run : Run) (facts : Facts) (unread : ℕ) (kept : Kept) (whole : IsWho
 
   pub line_on : (v : ℤ) → pos 1 ≤ℤ v → kept.pointer ≤ line_place kept.text kept.pointer v
   line_on (pos (suc m)) p = (on_within kept.text kept.pointer whole.inside m).0
-  line_on (pos zero) p = absurd (omega (arith, ints))
-  line_on (negsuc m) p = absurd (omega (arith, ints))
+  line_on v p = absurd (grind arith)
 
   pub line_back : (v : ℤ) → v ≤ℤ pos 0 → line_place kept.text kept.pointer v ≤ kept.pointer
   line_back (pos (suc m)) p = absurd (omega (arith, ints))
@@ -200,8 +197,7 @@ module _ (run : Run) (facts : Facts) (unread : ℕ) (kept : Kept) (whole : IsWho
   -- behind the line no more than stands beyond it
   pub line_past : (v : ℤ) → pos 1 ≤ℤ v → length kept.text - line_place kept.text kept.pointer v ≤ beyond_of kept
   line_past (pos (suc m)) p = omega (arith, first_line_least kept.text kept.pointer whole.inside m)
-  line_past (pos zero) p = absurd (omega (arith, ints))
-  line_past (negsuc m) p = absurd (omega (arith, ints))
+  line_past v p = absurd (grind arith)
 
   back_past : (rules : Rules) (m : ℕ) → length kept.text - m ≤ beyond_of kept → m ≤ length kept.text → (row.distances_past_line rules facts.position.distances).back ≤ m
   back_past First m l w = omega (arith, h.position.begin, l, (line_of kept whole.inside).within, whole.inside)
@@ -227,8 +223,7 @@ module _ (run : Run) (facts : Facts) (unread : ℕ) (kept : Kept) (whole : IsWho
   step_back : (m : Motion) (r : Interval) (v : Option ℤ) → row.is_step_back m r ≡ true → IsWithin r (unwrap_or v (pos 1)) → model.target m kept.pointer v ≡ pos kept.pointer +ℤ negsuc 0
   step_back Forward r v e i = omega (arith, ints, exactly (negsuc 0) r (unwrap_or v (pos 1)) e i)
   step_back Backward r v e i = omega (arith, ints, exactly (pos 1) r (unwrap_or v (pos 1)) e i)
-  step_back To r v e i = absurd cc
-  step_back Lines r v e i = absurd cc
+  step_back m r v e i = absurd (grind arith)
 
   marked_at : (z : ℤ) (m : ℕ) → z ≡ pos kept.pointer +ℤ negsuc 0 → z ≡ pos m → IsDigitAt (around_of kept) (negsuc 0) → IsDigitAt (around_of (at_pointer m)) (pos 0)
   marked_at z m e g d =

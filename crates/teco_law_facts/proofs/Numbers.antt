@@ -84,8 +84,7 @@ least_at : (x y : Bool) (c d e w lo v : ℤ) (distances : Distances) (around : S
 least_at true y c d e w lo v distances around p q b l h = tt
 least_at false true c d e w lo v distances around p q b l h = tt
 least_at false false (pos c) (pos d) e w lo v distances around p q b l h = omega (arith, ints, l, scaled_more distances.fore around.fore c b.ahead, scaled_more distances.back around.back d b.behind, h)
-least_at false false (negsuc c) d e w lo v distances around p q b l h = absurd (omega (arith, ints))
-least_at false false (pos c) (negsuc d) e w lo v distances around p q b l h = absurd (omega (arith, ints))
+least_at x y c d e w lo v distances around p q b l h = absurd (grind arith)
 
 pub least_in : (s : Value) (distances : Distances) (around : Surroundings) (v : ℤ) → AreLeast distances around → IsIn s around v → IfSome (least s distances) (λ m. m ≤ℤ v)
 least_in s distances around v b h = least_at _ _ s.ahead s.behind _ (code_worth s.code around.code_at) s.lo v distances around refl refl b (code_in s.code around b.codes).low h.low
@@ -128,8 +127,7 @@ both {x} {y} p q = rw (p, q) refl
 
 pub both_true : (x y : Bool) → (x && y) ≡ true → (x ≡ true) × (y ≡ true)
 both_true true true h = (refl, refl)
-both_true true false h = absurd cc
-both_true false y h = absurd cc
+both_true x y h = absurd (grind arith)
 
 -- a linear value is a 32-bit number
 pub are_equal_is : (v w : ℤ) → are_equal v w ≡ true → v ≡ w
@@ -151,8 +149,7 @@ code_bounds (Some c) w h = by c.negated h where
 or_and : (x y z : Bool) → (x || y) ≡ true → z ≡ true → (x || (y && z)) ≡ true
 or_and true y z h e = refl
 or_and false true true h e = refl
-or_and false true false h e = absurd cc
-or_and false false z h e = absurd cc
+or_and x y z h e = absurd (grind arith)
 
 linear_form : (s : Value) → is_linear s ≡ true → has_form s ≡ true
 linear_form s l =

@@ -132,8 +132,7 @@ module _ (run : Run) (facts : Facts) (x : Placed) (edges : Edges) (s : State) (h
   in_buffer_left : {most : ℕ} (q : Search) → IsInBuffer q → (unread : ℕ) → 1 ≤ most → pages_left q facts unread + 1 ≤ most
   in_buffer_left search.Find b unread l = l
   in_buffer_left search.Replace b unread l = l
-  in_buffer_left search.FindInPages b unread l = absurd b
-  in_buffer_left search.ReplaceInPages b unread l = absurd b
+  in_buffer_left q b unread l = absurd (grind arith)
 
   -- ---- searches
   module _ (q : Search) (of_search : x.element.kind ≡ kind.Search q) (most cap : ℕ) (some : (unread : ℕ) → unread ≤ cap → pages_left q facts unread + 1 ≤ most) (stands : x.colon ≡ false → IsInside facts frame × LeadsAhead x.element frame) where

@@ -155,8 +155,7 @@ module _ (run : Run) (facts : Facts) (world : World) (h : Holds run facts (unrea
 again_mapped : (old : Surroundings) (u : ℕ) (new : Surroundings) (u' : ℕ) → u' ≤ u → IsLine new → new.fore + new.back + u' ≤ u → (rules : Rules) (all : List Falls) (turns : List Begun) → AreEach (HasFallen old u) (map (falls_behind rules (ending (moving nowhere NextPage))) all) turns → AreEach (HasFallen new u') (map (falls_behind rules (ending (moving nowhere NextPage))) all) turns
 again_mapped old u new u' less line page rules [] [] h = tt
 again_mapped old u new u' less line page rules (falls ∷ all) (begun ∷ turns) h = (fallen_again rules (capped nowhere) old u new u' (held_fall (ending (moving nowhere NextPage))) falls begun (omega arith) (omega arith) less line page h.0, again_mapped old u new u' less line page rules all turns h.1)
-again_mapped old u new u' less line page rules [] (begun ∷ turns) h = absurd h
-again_mapped old u new u' less line page rules (falls ∷ all) [] h = absurd h
+again_mapped old u new u' less line page rules all turns h = absurd (grind arith)
 
 -- ---- the laws
 taking_leads : (L : Edges → Type 0) (Q : Edges → Taken → Type 0) (T : Facts) (act : KnownTaken → Result Foreseen Refusal) (P : KnownTaken → Taken → Type 0) (r : Result KnownTaken Refusal) (c : Result Taken Code) → Covers P r c → ((k : KnownTaken) (t : Taken) → P k t → Leads L Q (transfers.on (act k >>= λ known. Ok (facts_answered known))) (Ok t)) → Leads L Q (transfers.on (r >>= λ k. act k >>= λ known. Ok (facts_answered known))) c
@@ -218,8 +217,7 @@ module _ (run : Run) (facts : Facts) (world : World) (pending : arguments.Argume
   -- some pages
   counted_pages : (page : World → Result World Code) (z : ℤ) (P : model.Progress → Type 0) → pos 1 ≤ℤ z → ((n : ℕ) → Succeeds P (model.one_page_of page n world)) → Succeeds P (model.page_count z >>>= λ n. model.one_page_of page n world)
   counted_pages page (pos (suc n)) P l h = h (suc n)
-  counted_pages page (pos zero) P l h = absurd (omega (arith, ints))
-  counted_pages page (negsuc n) P l h = absurd (omega (arith, ints))
+  counted_pages page z P l h = absurd (grind arith)
 
   some_known : (b : Bool) (o : Option Value) (v : Option ℤ) → int_le (pos 1) (count_of o facts.position.distances).lo ≡ b → IsWithin (count_of o facts.position.distances) (unwrap_or v (pos 1)) → IfOk (cond b (Ok tt) (Err refusal.Argument)) (λ (u : Unit {0}). pos 1 ≤ℤ unwrap_or v (pos 1))
   some_known true o v e w = omega (arith, ints)
@@ -277,10 +275,7 @@ module _ (run : Run) (facts : Facts) (world : World) (pending : arguments.Argume
     turning_turns (Some s) (Some t) (Some v) (Some w) i j = range_turns _ v w (Editing.both_named run taking (unread_of world) world.kept whole taking_holds s t v w i j)
     turning_turns None o None v i j = counted_turns None v (λ P h. h) _ (some_known _ o v refl (of_count run taking (unread_of world) world.kept whole taking_holds o v j)) _ (value-sum_of run.n facts.held (number 0))
     turning_turns (Some s) None (Some v) None i j = counted_turns (Some v) None (λ P h. h) _ (some_known _ None None refl (of_count run taking (unread_of world) world.kept whole taking_holds None None tt)) _ (value-sum_of run.n facts.held (number 0))
-    turning_turns (Some s) (Some t) (Some v) None i j = absurd j
-    turning_turns (Some s) None (Some v) (Some w) i j = absurd j
-    turning_turns (Some s) o None v i j = absurd i
-    turning_turns None o (Some w) v i j = absurd i
+    turning_turns f o m v i j = absurd (grind arith)
 
     -- PW
     abbrev Writes : Option ℤ → Option ℤ → Edges → Type 0
@@ -298,10 +293,7 @@ module _ (run : Run) (facts : Facts) (world : World) (pending : arguments.Argume
     writing_writes (Some s) (Some t) (Some v) (Some w) i j = range_writes _ v w (Editing.both_named run taking (unread_of world) world.kept whole taking_holds s t v w i j)
     writing_writes None o None v i j = counted_writes None v (λ P h. h) _ (some_known _ o v refl (of_count run taking (unread_of world) world.kept whole taking_holds o v j))
     writing_writes (Some s) None (Some v) None i j = counted_writes (Some v) None (λ P h. h) _ (some_known _ None None refl (of_count run taking (unread_of world) world.kept whole taking_holds None None tt))
-    writing_writes (Some s) (Some t) (Some v) None i j = absurd j
-    writing_writes (Some s) None (Some v) (Some w) i j = absurd j
-    writing_writes (Some s) o None v i j = absurd i
-    writing_writes None o (Some w) v i j = absurd i
+    writing_writes f o m v i j = absurd (grind arith)
 
   -- a page comes behind the buffer, and a digit stays where it stands
   abbrev grown_shift : Shift
@@ -322,10 +314,9 @@ module _ (run : Run) (facts : Facts) (world : World) (pending : arguments.Argume
       omega (arith, beyond_is world.kept whole.inside, beyond_is grown_world.kept (omega (arith, l, whole.inside)), b, d)
 
   code_more : (text more : List ℕ) (z : ℤ) → is_code_of is_digit (code_at text z) ≡ true → is_code_of is_digit (code_at (text ++ more) z) ≡ true
-  code_more [] more (pos n) e = absurd (cc)
   code_more (c ∷ text) more (pos zero) e = e
   code_more (c ∷ text) more (pos (suc n)) e = code_more text more (pos n) e
-  code_more text more (negsuc n) e = absurd (cc)
+  code_more text more z e = absurd (grind arith)
 
   grown_mark : (mark : Option DigitMark) → IsMarked (around_of world.kept) mark → IsMarked (around_of grown_world.kept) mark
   grown_mark None m = tt

@@ -47,8 +47,7 @@ module _ (distances : Distances) (around : Surroundings) (b : AreDistances dista
   given_covers s v value n None h i = h
   given_covers s v None None (Some operator) h i = applied_covers operator _ _ _ _ (single_in (pos 0) (omega (arith, ints))) h
   given_covers s v (Some t) (Some w) (Some operator) h i = applied_covers operator _ _ _ _ i h
-  given_covers s v None (Some w) (Some operator) h i = absurd i
-  given_covers s v (Some t) None (Some operator) h i = absurd i
+  given_covers s v value n operator h i = absurd (grind arith)
 
   pub give_covers : (s : Value) (v : ℤ) (k : KnownLevel) (level : Level) → IsValue around s v → IsLevel around k level → Covers (IsLevel around) (known.level_with distances s k) (model.level_with v level)
   give_covers s v k level h i =
@@ -71,17 +70,15 @@ module _ (distances : Distances) (around : Surroundings) (b : AreDistances dista
   finished_value_covers None None (Some And) h = tt
   finished_value_covers None None (Some Or) h = tt
   finished_value_covers (Some s) (Some v) (Some operator) h = tt
-  finished_value_covers (Some s) None (Some operator) h = absurd h
-  finished_value_covers None (Some v) (Some operator) h = absurd h
+  finished_value_covers value n operator h = absurd (grind arith)
 
   pub finished_covers : (k : KnownLevel) (level : Level) → IsLevel around k level → Covers (IsOptional (IsValue around)) (known.final_value k) (model.final_value level)
   finished_covers k level i = rw i.operator (finished_value_covers k.value level.value k.operator i.value)
 
   no_first_covers : (first : Option Value) (n : Option ℤ) → IsOptional (IsValue around) first n → Covers (λ x y. ⊤) (known.no_first first) (model.no_first n)
   no_first_covers None None h = tt
-  no_first_covers None (Some v) h = absurd h
-  no_first_covers (Some s) None h = absurd h
   no_first_covers (Some s) (Some v) h = tt
+  no_first_covers first n h = absurd (grind arith)
 
   not_negative : (x : Bool) (s : Value) (v : ℤ) → int_le (pos 0) (interval_of distances s).lo ≡ x → IsValue around s v → Covers (IsValue around) (cond x (Ok s) (Err refusal.Argument)) (model.first_value (Some v))
   not_negative false s v e h = tt
@@ -92,9 +89,8 @@ module _ (distances : Distances) (around : Surroundings) (b : AreDistances dista
 
   first_value_covers : (value : Option Value) (n : Option ℤ) → IsOptional (IsValue around) value n → Covers (IsValue around) (known.first_value distances value) (model.first_value n)
   first_value_covers None None h = tt
-  first_value_covers None (Some v) h = absurd h
-  first_value_covers (Some s) None h = absurd h
   first_value_covers (Some s) (Some v) h = not_negative _ s v refl h
+  first_value_covers value n h = absurd (grind arith)
 
   pub comma_covers : (k : KnownLevel) (level : Level) → IsLevel around k level → Covers (IsLevel around) (known.level_after_comma distances k) (model.level_after_comma level)
   comma_covers k level i =
@@ -121,9 +117,8 @@ module _ (distances : Distances) (around : Surroundings) (b : AreDistances dista
 
   the_value : (value : Option Value) (n : Option ℤ) → IsOptional (IsValue around) value n → Covers (IsValue around) (ok_or value refusal.Argument) (ok_or n code.Arg)
   the_value None None h = tt
-  the_value None (Some v) h = absurd h
-  the_value (Some s) None h = absurd h
   the_value (Some s) (Some v) h = h
+  the_value value n h = absurd (grind arith)
 
   enclosed_covers : (k : KnownLevel) (level : Level) → IsLevel around k level → Covers (IsValue around) (known.inner_value k) (model.inner_value level)
   enclosed_covers k level i =
@@ -143,12 +138,7 @@ module _ (distances : Distances) (around : Surroundings) (b : AreDistances dista
   paired_covers None (Some s) None (Some v) h i = record { first = tt; value = i }
   paired_covers (Some s) None (Some v) None h i = tt
   paired_covers (Some s) (Some t) (Some v) (Some w) h i = record { first = h; value = i }
-  paired_covers None v (Some n) w h i = absurd h
-  paired_covers (Some s) v None w h i = absurd h
-  paired_covers None None None (Some w) h i = absurd i
-  paired_covers None (Some s) None None h i = absurd i
-  paired_covers (Some s) None (Some v) (Some w) h i = absurd i
-  paired_covers (Some s) (Some t) (Some v) None h i = absurd i
+  paired_covers f v m n h i = absurd (grind arith)
 
   pub taken_covers : (k : KnownLevel) (level : Level) → IsLevel around k level → Covers (IsTaken around) (known.arguments_of k) (model.arguments_of level)
   taken_covers k level i =
@@ -164,8 +154,7 @@ module _ (distances : Distances) (ends : Bool) (around around' : Surroundings) (
   settled_value_is (Some s) (Some v) h =
       let i = value_in_in (interval_of distances s) around' v (interval_of_in s distances around v b.least (omega arith) (omega arith) h.is) in
       record { is = record { low = i.low; high = i.high }; form = refl; fits = h.fits; saved = place_after ends s.saved around around' v wider h.saved }
-  settled_value_is None (Some v) h = absurd h
-  settled_value_is (Some s) None h = absurd h
+  settled_value_is value n h = absurd (grind arith)
 
   settled_level_is : (k : KnownLevel) (level : Level) → IsLevel around k level → IsLevel around' (known.settled_level distances ends k) level
   settled_level_is k level i = record { first = settled_value_is k.first level.first i.first; value = settled_value_is k.value level.value i.value; operator = i.operator }
@@ -173,8 +162,7 @@ module _ (distances : Distances) (ends : Bool) (around around' : Surroundings) (
   settled_levels_are : (ks : List KnownLevel) (levels : List Level) → AreEach (IsLevel around) ks levels → AreEach (IsLevel around') (map (known.settled_level distances ends) ks) levels
   settled_levels_are [] [] h = tt
   settled_levels_are (k ∷ ks) (level ∷ levels) h = (settled_level_is k level h.0, settled_levels_are ks levels h.1)
-  settled_levels_are [] (level ∷ levels) h = absurd h
-  settled_levels_are (k ∷ ks) [] h = absurd h
+  settled_levels_are ks levels h = absurd (grind arith)
 
   pub settled_are : (pending : KnownArguments) (arguments : model.Arguments) → ArePending around pending arguments → ArePending around' (known.settled distances ends pending) arguments
   settled_are pending arguments h = record { level = settled_level_is pending.level arguments.level h.level; outer = settled_levels_are pending.outer arguments.outer h.outer }

@@ -52,16 +52,7 @@ divisor_back (negsuc n) c y d h i = let p = nat_down (suc n) c y h in let q = na
 divisor_between : (x c y d : ℤ) → (pos 1 ≤ℤ c) ⊎ (d ≤ℤ negsuc 0) → c ≤ℤ y → y ≤ℤ d → (int_min (int_div x c) (int_div x d) ≤ℤ int_div x y) × (int_div x y ≤ℤ int_max (int_div x c) (int_div x d))
 divisor_between x (pos (suc c)) (pos (suc y)) (pos (suc d)) s h i = divisor_on x c y d (omega (arith, ints)) (omega (arith, ints))
 divisor_between x (negsuc c) (negsuc y) (negsuc d) s h i = divisor_back x d y c (omega (arith, ints)) (omega (arith, ints))
-divisor_between x (pos zero) y d (inl s) h i = absurd (omega (arith, ints))
-divisor_between x (pos zero) y d (inr s) h i = absurd (omega (arith, ints))
-divisor_between x (pos (suc c)) (pos zero) d s h i = absurd (omega (arith, ints))
-divisor_between x (pos (suc c)) (negsuc y) d s h i = absurd (omega (arith, ints))
-divisor_between x (pos (suc c)) (pos (suc y)) (pos zero) s h i = absurd (omega (arith, ints))
-divisor_between x (pos (suc c)) (pos (suc y)) (negsuc d) s h i = absurd (omega (arith, ints))
-divisor_between x (negsuc c) (pos y) d (inl s) h i = absurd (omega (arith, ints))
-divisor_between x (negsuc c) (pos y) d (inr s) h i = absurd (omega (arith, ints))
-divisor_between x (negsuc c) (negsuc y) (pos d) (inl s) h i = absurd (omega (arith, ints))
-divisor_between x (negsuc c) (negsuc y) (pos d) (inr s) h i = absurd (omega (arith, ints))
+divisor_between x c y d s h i = absurd (grind arith)
 
 pub quotient_within : (r s : Interval) (x y : ℤ) → (pos 1 ≤ℤ s.lo) ⊎ (s.hi ≤ℤ negsuc 0) → IsWithin r x → IsWithin s y → IsWithin (interval_quotient r s) (int_div x y)
 quotient_within r s x y apart h i =

@@ -102,8 +102,7 @@ module _ (run : Run) (facts : Facts) (unread : ℕ) (kept : Kept) (whole : IsWho
   set_foretold : (r : ℕ) (o : Option Value) (v : Option ℤ) → IsOptional (IsValue (around_of kept)) o v → Foretells run facts unread kept (known.needed_value o >>= λ n. Ok (silent (row.with_number r (interval_of facts.position.distances n) (is_place n facts.position.distances) facts))) (needed_value v >>>= λ n. Ok (no_answer (model.kept_with_number r n kept)))
   set_foretold r None None i = tt
   set_foretold r (Some s) (Some v) i = λ l. done_with run facts unread kept whole h _ _ None (with_number r _ _ v (of_value s v i) (place_known run facts unread kept whole h s v i)) refl refl refl refl tt
-  set_foretold r (Some s) None i = absurd i
-  set_foretold r None (Some v) i = absurd i
+  set_foretold r o v i = absurd (grind arith)
 
   added : (r : ℕ) (o : Option Value) (v : Option ℤ) → IsOptional (IsValue (around_of kept)) o v → IsDone run facts unread kept (row.addition r o facts) (model.addition r (unwrap_or v (pos 1)) kept)
   added r o v i =
@@ -141,8 +140,7 @@ module _ (run : Run) (facts : Facts) (unread : ℕ) (kept : Kept) (whole : IsWho
   own_text_foretold : (library : Bool) (colons r : ℕ) (text : List ℕ) (o : Option Value) (v : Option ℤ) → r < REGISTERS → run.library r ≡ library → IsOptional (IsValue (around_of kept)) o v → Foretells run facts unread kept (row.own_text_storage library colons r text o facts) (model.own_text_storage colons r text v kept)
   own_text_foretold library colons r text None None w knows i = unless_library library _ _ (λ free. stored colons r _ text w (knows ∙ free) (omega (arith, value-number (length text) run.n)))
   own_text_foretold library colons r text (Some s) (Some v) w knows i = tt
-  own_text_foretold library colons r text None (Some v) w knows i = absurd i
-  own_text_foretold library colons r text (Some s) None w knows i = absurd i
+  own_text_foretold library colons r text o v w knows i = absurd (grind arith)
 
   retrieval_foretold : (colons r : ℕ) → Foretells run facts unread kept (row.retrieval colons r facts) (model.retrieval colons r kept)
   retrieval_foretold zero r = inserted_foretold run facts unread kept whole h 0 (text_of r facts) (model.text_in r kept) (omega arith) (text_at run facts.numbers facts.texts kept.registers.pairs h.registers r)
@@ -160,8 +158,7 @@ module _ (run : Run) (facts : Facts) (unread : ℕ) (kept : Kept) (whole : IsWho
   number_foretold : (o : Option Value) (v : Option ℤ) (c : ℤ → Kept) → ((n : ℤ) → IsDone run facts unread kept (silent facts) (no_answer (c n))) → IsOptional (IsValue (around_of kept)) o v → Foretells run facts unread kept (known.needed_value o >>= λ s. Ok (silent facts)) (needed_value v >>>= λ n. Ok (no_answer (c n)))
   number_foretold None None c d i = tt
   number_foretold (Some s) (Some v) c d i = λ l. d v
-  number_foretold None (Some v) c d i = absurd i
-  number_foretold (Some s) None c d i = absurd i
+  number_foretold o v c d i = absurd (grind arith)
 
   pub typing_foretold : (t : Typing) (e : Element) (taking : KnownTaken) (taken : Taken) → IsTaken (around_of kept) taking taken → Foretells run facts unread kept (typings.typing t taking facts) (model_typing.typing t e taken kept)
   typing_foretold typing_kind.Part e taking taken i = parts_lead run facts unread kept whole h taking.first taking.value taken.first taken.value i.first i.value _ (λ part. Ok (model_typing.typing_of (characters_of part kept) kept)) (λ part l. untouched _ _)

@@ -39,14 +39,12 @@ place_covered false e around v c h = tt
 each_wider : (saved : List Bool) (pairs : List Pair) (around around' : Surroundings) → around.fore + around.back ≤ around'.fore + around'.back → AreSaved around saved pairs → AreSaved around' saved pairs
 each_wider [] [] around around' w h = tt
 each_wider (s ∷ saved) (pair ∷ pairs) around around' w h = (place_wider s around around' pair.number w h.0, each_wider saved pairs around around' w h.1)
-each_wider [] (pair ∷ pairs) around around' w h = absurd h
-each_wider (s ∷ saved) [] around around' w h = absurd h
+each_wider saved pairs around around' w h = absurd (grind arith)
 
 none_of : (around : Surroundings) (k : ℕ) (pairs : List Pair) → length pairs ≡ k → AreSaved around (replicate k false) pairs
 none_of around zero [] l = tt
 none_of around (suc k) (pair ∷ pairs) l = (tt, none_of around k pairs (omega arith))
-none_of around zero (pair ∷ pairs) l = absurd (omega arith)
-none_of around (suc k) [] l = absurd (omega arith)
+none_of around k pairs l = absurd (grind arith)
 
 pub none_are : (around : Surroundings) (pairs : List Pair) → length pairs ≡ REGISTERS → AreSaved around none_saved pairs
 none_are around pairs l = none_of around REGISTERS pairs l
@@ -90,16 +88,12 @@ both_saved_too false t around v h = tt
 pub saved_left : (around : Surroundings) (ss ts : List Bool) (pairs : List Pair) → length ss ≡ length ts → AreSaved around ss pairs → AreSaved around (joined_saved ss ts) pairs
 saved_left around [] [] pairs l h = h
 saved_left around (s ∷ ss) (t ∷ ts) (pair ∷ pairs) l h = (both_saved s t around pair.number h.0, saved_left around ss ts pairs (omega arith) h.1)
-saved_left around (s ∷ ss) (t ∷ ts) [] l h = absurd h
-saved_left around [] (t ∷ ts) pairs l h = absurd (omega arith)
-saved_left around (s ∷ ss) [] pairs l h = absurd (omega arith)
+saved_left around ss ts pairs l h = absurd (grind arith)
 
 pub saved_right : (around : Surroundings) (ss ts : List Bool) (pairs : List Pair) → length ss ≡ length ts → AreSaved around ts pairs → AreSaved around (joined_saved ss ts) pairs
 saved_right around [] [] pairs l h = h
 saved_right around (s ∷ ss) (t ∷ ts) (pair ∷ pairs) l h = (both_saved_too s t around pair.number h.0, saved_right around ss ts pairs (omega arith) h.1)
-saved_right around (s ∷ ss) (t ∷ ts) [] l h = absurd h
-saved_right around [] (t ∷ ts) pairs l h = absurd (omega arith)
-saved_right around (s ∷ ss) [] pairs l h = absurd (omega arith)
+saved_right around ss ts pairs l h = absurd (grind arith)
 
 -- at a place
 pub saved_at : (around : Surroundings) (saved : List Bool) (pairs : List Pair) → AreSaved around saved pairs → (r : ℕ) → IsPlaceIf (get_or saved r false) around (get_or pairs r empty_pair).number

@@ -67,8 +67,7 @@ Counts first value = (m : ℕ) × (searching.count_of first value ≡ Ok (pos (s
 
 positive_count : (value : Option ℤ) (v : ℤ) → unwrap_or value (pos 1) ≡ v → pos 1 ≤ℤ v → Counts None value
 positive_count value (pos (suc m)) e h = (m, ap searching.nonzero e)
-positive_count value (pos zero) e h = absurd (omega (arith, ints))
-positive_count value (negsuc m) e h = absurd (omega (arith, ints))
+positive_count value v e h = absurd (grind arith)
 
 in_buffer : (x y z : Bool) (i : Interval) (value : Option ℤ) → int_le i.lo (pos 0) ≡ x → int_le (pos 0) i.hi ≡ y → int_lt i.lo (pos 1) ≡ z → IsWithin i (unwrap_or value (pos 1)) → IfOk (cond (x && y) (Err refusal.Argument) (cond z (Err refusal.Unverified) (Ok tt))) (λ (u : Unit {0}). Counts None value)
 in_buffer true true z i value e f g h = tt
@@ -137,8 +136,7 @@ module _ (run : Run) (facts : Facts) (unread : ℕ) (kept : Kept) (whole : IsWho
       put_at : (b : Bool) → nat_le (length (text_after_replacement kept.text span.start span.end e.second)) LIMIT ≡ b → Succeeds (λ new. Shifts run.n (found_shift Replace least e) kept new) (cond b (Ok (record kept { text = text_after_replacement kept.text span.start span.end e.second; pointer = span.start + length e.second; last_length = length e.second; search_text = last })) (Err code.Ful))
       put_at true p = record { registers = refl; inside = shifts.inside; behind = shifts.behind; ahead = shifts.ahead; grown = shifts.grown; fallen = shifts.fallen; elsewhere = shifts.elsewhere; wider = shifts.wider; digit = shifts.digit }
       put_at false p = absurd (grind (arith, nat_tests, within))
-  found_at FindInPages b e least span last l f = absurd b
-  found_at ReplaceInPages b e least span last l f = absurd b
+  found_at s b e least span last l f = absurd (grind arith)
 
   -- and what is missed
   to_begin : Shifts run.n (row.shift_to_begin facts.position.distances) kept (record kept { pointer = 0 })
@@ -155,8 +153,7 @@ module _ (run : Run) (facts : Facts) (unread : ℕ) (kept : Kept) (whole : IsWho
   failed_at : (s : Search) → IsInBuffer s → (colons : ℕ) (last : List ℕ) → let new = kept_by_miss colons (record kept { search_text = last }) in IsAt run (row.position_failed s colons facts) (around_of new) unread new.registers.pairs
   failed_at Find b colons last = failed_in colons last
   failed_at Replace b colons last = failed_in colons last
-  failed_at FindInPages b colons last = absurd b
-  failed_at ReplaceInPages b colons last = absurd b
+  failed_at s b colons last = absurd (grind arith)
 
   falls_alike : (s : Search) → IsInBuffer s → (colons : ℕ) (f : Falls → Falls) → length (map f facts.position.falls) ≡ length (row.position_failed s colons facts).falls
   falls_alike Find b zero f = omega (arith, length-map facts.position.falls f, length-map facts.position.falls (falls_behind facts.rules (row.shift_to_begin facts.position.distances)))
@@ -165,8 +162,7 @@ module _ (run : Run) (facts : Facts) (unread : ℕ) (kept : Kept) (whole : IsWho
   falls_alike Replace b zero f = omega (arith, length-map facts.position.falls f, length-map facts.position.falls (falls_behind facts.rules (row.shift_to_begin facts.position.distances)))
   falls_alike Replace b (suc zero) f = omega (arith, length-map facts.position.falls f, length-map facts.position.falls (falls_behind facts.rules (row.shift_to_begin facts.position.distances)))
   falls_alike Replace b (suc (suc colons)) f = omega (arith, length-map facts.position.falls f)
-  falls_alike FindInPages b colons f = absurd b
-  falls_alike ReplaceInPages b colons f = absurd b
+  falls_alike s b colons f = absurd (grind arith)
 
   -- a miss leaves the buffer as it is
   missed_wider : (colons : ℕ) (last : List ℕ) → let new = kept_by_miss colons (record kept { search_text = last }) in fore_of kept + back_of kept ≤ fore_of new + back_of new
@@ -182,8 +178,7 @@ module _ (run : Run) (facts : Facts) (unread : ℕ) (kept : Kept) (whole : IsWho
   missed_saved Replace b zero = refl
   missed_saved Replace b (suc zero) = refl
   missed_saved Replace b (suc (suc colons)) = refl
-  missed_saved FindInPages b colons = absurd b
-  missed_saved ReplaceInPages b colons = absurd b
+  missed_saved s b colons = absurd (grind arith)
 
   saved_alike : (s : Search) → IsInBuffer s → (colons : ℕ) (ends : Bool) → length (saved_after ends facts.position.saved) ≡ length (row.position_failed s colons facts).saved
   saved_alike s b colons ends =

@@ -1,5 +1,5 @@
 -- N and FN: page after page goes by, and what is known is true where they find, and where no page is left.
-use Rattle.std.proofs.Common.{◌∙◌, ◌≡◌, ℕ, zero, suc, ◌+◌, ◌-◌, ◌≤◌, arith, refl, sym, subst, ℤ, pos, negsuc, ◌≤ℤ◌, List, [], ◌∷◌, length, ◌++◌, length-append, length-take, length-drop, map, Bool, true, false, cond, nat_le, ◌==◌, Option, Some, None, Result, Ok, Err, IfOk, inl, inr, ok_or, take, drop, ◌&&◌, not, ap}
+use Rattle.std.proofs.Common.{◌∙◌, ◌≡◌, ℕ, suc, ◌+◌, ◌-◌, ◌≤◌, arith, refl, sym, subst, ℤ, pos, negsuc, ◌≤ℤ◌, List, [], ◌∷◌, length, ◌++◌, length-append, length-take, length-drop, map, Bool, true, false, cond, nat_le, ◌==◌, Option, Some, None, Result, Ok, Err, IfOk, inl, inr, ok_or, take, drop, ◌&&◌, not, ap}
 use Rattle.std.specs.Prelude.{unwrap_or, not, ⊤}
 use Rattle.std.proofs.lemmas.Int.{ints}
 use Rattle.std.proofs.lemmas.List.{length-map}
@@ -65,9 +65,8 @@ use Rattle.teco_law_facts.proofs.Beyond.{behind_line, beyond_later, drop_joined}
 
 -- ---- how many are sought
 pages_of_count : (v : ℤ) (m : ℕ) → searching.nonzero v ≡ Ok (pos (suc m)) → paging.page_count v ≡ Ok (suc m)
-pages_of_count (pos zero) m e = absurd (cc)
 pages_of_count (pos (suc n)) m e = cc
-pages_of_count (negsuc n) m e = absurd (cc)
+pages_of_count v m e = absurd (grind arith)
 
 match_counted : (first value : Option ℤ) (m : ℕ) → searching.count_of first value ≡ Ok (pos (suc m)) → paging.match_count first value ≡ Ok (suc m)
 match_counted None value m e = pages_of_count (unwrap_or value (pos 1)) m e
@@ -250,16 +249,14 @@ module _ (run : Run) (facts : Facts) (world : World) (pending : model.Arguments)
       by_search : (s : Search) → IsInPages s → IsAt run (row.position_failed s x.element.colons (facts_taken facts)) (around_of (emptied now).kept) u now.kept.registers.pairs
       by_search FindInPages b = record { begin = at_end.begin; end = at_end.end; fallen = at_end.fallen; ahead = at_end.ahead; saved = at_end.saved; digit = at_end.digit }
       by_search ReplaceInPages b = record { begin = at_end.begin; end = at_end.end; fallen = at_end.fallen; ahead = at_end.ahead; saved = at_end.saved; digit = at_end.digit }
-      by_search Find b = absurd b
-      by_search Replace b = absurd b
+      by_search s b = absurd (grind arith)
 
     falls_alike : (f : Falls → Falls) → length (map f facts.position.falls) ≡ length failed.falls
     falls_alike f = by_search s in_pages where
       by_search : (s : Search) → IsInPages s → length (map f facts.position.falls) ≡ length (row.position_failed s x.element.colons (facts_taken facts)).falls
       by_search FindInPages b = omega (arith, length-map facts.position.falls f, length-map facts.position.falls (falls_behind facts.rules (ending (moving nowhere (By None)))))
       by_search ReplaceInPages b = omega (arith, length-map facts.position.falls f, length-map facts.position.falls (falls_behind facts.rules (ending (moving nowhere (By None)))))
-      by_search Find b = absurd b
-      by_search Replace b = absurd b
+      by_search s b = absurd (grind arith)
 
     -- nothing is saved in either outcome
     saved_alike : (ends : Bool) → length (saved_after ends facts.position.saved) ≡ length failed.saved
@@ -270,16 +267,14 @@ module _ (run : Run) (facts : Facts) (world : World) (pending : model.Arguments)
       by_search : (s : Search) → IsInPages s → length (saved_after ends facts.position.saved) ≡ length (row.position_failed s x.element.colons (facts_taken facts)).saved
       by_search FindInPages b = length_after ends facts.position.saved all ∙ sym (length_after true facts.position.saved all)
       by_search ReplaceInPages b = length_after ends facts.position.saved all ∙ sym (length_after true facts.position.saved all)
-      by_search Find b = absurd b
-      by_search Replace b = absurd b
+      by_search s b = absurd (grind arith)
 
     ends_found : (least new : ℕ) (distances : Distances) → (row.shift_found s least new distances).ends ≡ true
     ends_found least new distances = by_search s in_pages where
       by_search : (s : Search) → IsInPages s → (row.shift_found s least new distances).ends ≡ true
       by_search FindInPages b = refl
       by_search ReplaceInPages b = refl
-      by_search Find b = absurd b
-      by_search Replace b = absurd b
+      by_search s b = absurd (grind arith)
 
     module _ (least : ℕ) (minimal : IsMinimum x.element.text least) (held : Polynomial) (more : value held run.n ≡ value facts.held run.n + value (found_shift facts.rules s least x.element facts.position.distances).growth run.n) where
       abbrev shift : Shift
@@ -296,8 +291,7 @@ module _ (run : Run) (facts : Facts) (world : World) (pending : model.Arguments)
         by_search : (s : Search) → IsInPages s → (found_shift facts.rules s least x.element facts.position.distances).descent ≡ Refilled least
         by_search FindInPages b = refl
         by_search ReplaceInPages b = refl
-        by_search Find b = absurd b
-        by_search Replace b = absurd b
+        by_search s b = absurd (grind arith)
 
       ends : shift.ends ≡ true
       ends = ends_found least (length x.element.second) facts.position.distances

@@ -25,8 +25,7 @@ use Rattle.teco_verifier.specs.declared.values.Value.{Value}
 one_fits : (around : Surroundings) (o : Option Value) (v : Option ℤ) → IsOptional (IsValue around) o v → FitsSigned w32 (unwrap_or v (pos 1))
 one_fits around None None i = omega (arith, ints)
 one_fits around (Some s) (Some v) i = i.fits
-one_fits around None (Some v) i = absurd i
-one_fits around (Some s) None i = absurd i
+one_fits around o v i = absurd (grind arith)
 
 one_saved : (around : Surroundings) (o : Option Value) (v : Option ℤ) → IsOptional (IsValue around) o v → IsPlaceIf (or_one o).saved around (unwrap_or v (pos 1))
 one_saved around None v i = tt
@@ -46,10 +45,7 @@ module _ (run : Run) (facts : Facts) (unread : ℕ) (kept : Kept) (arguments : m
   pages_most (Some s) (Some t) (Some v) (Some w) i j = omega (arith, value-number 1 run.n)
   pages_most None o None v i j = counted_steps o v j
   pages_most (Some s) None (Some v) None i j = counted_steps None None tt
-  pages_most (Some s) (Some t) (Some v) None i j = absurd j
-  pages_most (Some s) None (Some v) (Some w) i j = absurd j
-  pages_most (Some s) o None v i j = absurd i
-  pages_most None o (Some w) v i j = absurd i
+  pages_most f o m v i j = absurd (grind arith)
 
   told : (r : Result Polynomial Refusal) (t : Taken) → IfOk r (λ most. PagesAtMost (value most run.n) t.first t.value) → Tells (λ most (taken : Taken). PagesAtMost (value most run.n) taken.first taken.value) r (Ok t)
   told (Ok most) t h = λ l. h
@@ -58,8 +54,7 @@ module _ (run : Run) (facts : Facts) (unread : ℕ) (kept : Kept) (arguments : m
   steps_told : (p : Page) → IsTurnOrWrite p → (k : KnownTaken) (t : Taken) → IsTaken (around_of kept) k t → Tells (λ most (taken : Taken). PagesAtMost (value most run.n) taken.first taken.value) (steps_of_page p k facts) (Ok t)
   steps_told page.Next b k t i = told _ t (pages_most k.first k.value t.first t.value i.first i.value)
   steps_told page.Write b k t i = told _ t (pages_most k.first k.value t.first t.value i.first i.value)
-  steps_told page.Yank b k t i = absurd b
-  steps_told page.Append b k t i = absurd b
+  steps_told p b k t i = absurd (grind arith)
 
 pub page_steps_are_bounded : PageStepsAreBounded
 page_steps_are_bounded run facts unread kept arguments p whole d b =

@@ -122,8 +122,7 @@ module _ (run : Run) (facts : Facts) (unread : ℕ) (kept : Kept) (arguments : m
   answered_are : (around : Surroundings) (o : Option Value) (v : Option ℤ) (pending : KnownArguments) (left : model.Arguments) → IsOptional (IsValue around) o v → ArePending around pending left → ArePending around (known.levels_after_answer o pending) (model.levels_after_answer v left)
   answered_are around None None pending left i p = p
   answered_are around (Some s) (Some v) pending left i p = record { level = record { first = tt; value = i; operator = refl }; outer = p.outer }
-  answered_are around None (Some v) pending left i p = absurd i
-  answered_are around (Some s) None pending left i p = absurd i
+  answered_are around o v pending left i p = absurd (grind arith)
 
   arrived : (foreseen : Foreseen) (effect : Effect) → IsDone run taking unread kept foreseen effect → Arrives run facts.held unread kept (facts_answered foreseen) (after effect.kept (model.levels_after_answer effect.answer (model.levels_after_taking arguments)))
   arrived foreseen effect i = record {

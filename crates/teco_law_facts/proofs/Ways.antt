@@ -1,5 +1,5 @@
 -- The way that a number takes is reached, and what is known on it holds.
-use Rattle.std.proofs.Common.{List, ◌≡◌, ℕ, zero, suc, ◌+◌, ◌≤◌, arith, refl, subst, ℤ, pos, negsuc, neg_ℤ, ◌+ℤ◌, ◌-ℤ◌, ◌≤ℤ◌, ◌*ℤ◌, int_le, Bool, true, false, ◌&&◌, not, cond, Option, Some, None, option_map, MatchOption, inl, inr, IfSome, length, [], ◌∷◌, ◌||◌, is_none, sym}
+use Rattle.std.proofs.Common.{List, ◌≡◌, ℕ, zero, suc, ◌+◌, ◌≤◌, arith, refl, subst, ℤ, pos, negsuc, neg_ℤ, ◌+ℤ◌, ◌-ℤ◌, ◌≤ℤ◌, ◌*ℤ◌, int_le, Bool, true, false, ◌&&◌, not, cond, Option, Some, None, option_map, MatchOption, inl, inr, IfSome, length, ◌∷◌, ◌||◌, is_none, sym}
 use Rattle.std.proofs.lemmas.Int.{ints}
 use Rattle.std.specs.Prelude.{IsTrue, ⊤}
 use Rattle.std.specs.Option.{option_map_or}
@@ -316,10 +316,9 @@ module _ (run : Run) (position : Position) (around : Surroundings) (unread : ℕ
 
 -- the codes of a text
 code_inside : (text : List ℕ) (z : ℤ) → pos 0 ≤ℤ code_at text z → (pos 0 ≤ℤ z) × ((z +ℤ pos 1) ≤ℤ pos (length text))
-code_inside [] (pos n) h = absurd (omega (arith, ints))
 code_inside (c ∷ text) (pos zero) h = (omega (arith, ints), omega (arith, ints))
 code_inside (c ∷ text) (pos (suc n)) h = let p = code_inside text (pos n) h in (omega (arith, ints), omega (arith, ints, p))
-code_inside text (negsuc n) h = absurd (omega (arith, ints))
+code_inside text z h = absurd (grind arith)
 
 pub codes_in : (kept : Kept) → AreCodes (around_of kept)
 codes_in kept n h = let p = code_inside kept.text (pos kept.pointer +ℤ n) h in (omega (arith, ints, p), omega (arith, ints, p))
