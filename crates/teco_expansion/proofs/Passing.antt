@@ -123,9 +123,7 @@ closing to place l (suc outside) ended from rest after f behind h =
     })
 
 no-stop : (k : Kind) → bracket Iterations k ≡ Stops → ⊥
-no-stop (kind.Flow flow.Iterate) h = absurd (cc)
-no-stop (kind.Flow flow.EndTurn) h = absurd (cc)
-no-stop k h = absurd (cc)
+no-stop k h = absurd (grind arith)
 
 -- the first so many stand before a place
 abbrev pub Precede : ℕ → ℕ → List Reading → Type 0
@@ -228,23 +226,20 @@ found pairs inner (Whole e ∷ rs) t h = among (inner_behind (bracket pairs e.ki
     among (Some n) f h = let inner = f n h in record { number = suc inner.number; rest = inner.rest; is = inner.is }
 
 drop-next : (n : ℕ) (rs : List Reading) (r : Reading) (rest : List Reading) → drop n rs ≡ r ∷ rest → drop (suc n) rs ≡ rest
-drop-next zero [] r rest h = absurd (cc)
-drop-next (suc n) [] r rest h = absurd (cc)
 drop-next zero (q ∷ rs) r rest h = cc
 drop-next (suc n) (q ∷ rs) r rest h = drop-next n rs r rest h
+drop-next n rs r rest h = absurd (grind arith)
 
 passed : (low n : ℕ) (rs : List Reading) (r : Reading) (rest : List Reading) → Ascends low rs → drop n rs ≡ r ∷ rest → low < next_of r
-passed low zero [] r rest a h = absurd (cc)
-passed low (suc n) [] r rest a h = absurd (cc)
 passed low zero (q ∷ rs) r rest a h = let same : q ≡ r = cc in omega (arith, a.0, a.1, ap next_of same)
 passed low (suc n) (q ∷ rs) r rest a h = omega (arith, a.0, a.1, passed (next_of q) n rs r rest a.2 h)
+passed low n rs r rest a h = absurd (grind arith)
 
 precede : (to low n : ℕ) (rs : List Reading) (r : Reading) (rest : List Reading) → Ascends low rs → drop n rs ≡ r ∷ rest → next_of r ≤ to → Precede to (suc n) rs
-precede to low zero [] r rest a h l = absurd (cc)
-precede to low (suc n) [] r rest a h l = absurd (cc)
 precede to low zero (q ∷ rs) r rest a h l = let same : q ≡ r = cc in (omega (arith, a.1, ap next_of same), tt)
 precede to low (suc n) (q ∷ rs) r rest a h l =
     (omega (arith, a.1, passed (next_of q) n rs r rest a.2 h), precede to (next_of q) n rs r rest a.2 h l)
+precede to low n rs r rest a h l = absurd (grind arith)
 
 -- all that is read stands before the end
 inside : (text : List ℕ) (at : ℕ) (rs : List Reading) (i : ℕ) → drop i (readings text at) ≡ rs → Precede (length text) (length rs) rs
