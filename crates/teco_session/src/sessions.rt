@@ -47,6 +47,14 @@ pub struct Conduct {
     pub until_code: bool,
 }
 
+// A piece of the input, with the limits of its session.
+#[derive(Clone, Copy)]
+struct Cut<'a> {
+    piece: Piece,
+    bytes: &'a [u8],
+    limits: Limits,
+}
+
 // The code that is typed for what the host could not do.
 fn code_of_fault(fault: HostFault) -> Code
     ensures { result ≡ model.code_of_fault fault }
@@ -155,41 +163,39 @@ fn said(line: Result<bool, SessionFault>, exit: bool) -> Result<Done, SessionFau
 // Runs a command string, and writes what it types and its code line.
 fn answer_command<T: TextStore, W: Write, H: Host, L: Listener<H>>(
     machine: &mut Machine<T>,
-    bytes: &[u8],
+    cut: &Cut<'_>,
     writer: &mut W,
     host: &mut H,
-    limits: Limits,
     listener: &mut L,
 ) -> Result<Done, SessionFault>
-    requires { length bytes.now ≤ LIMIT }
-    ensures run { Joined (λ old new. Answers limits piece.Command bytes.now old
+    requires { length cut.now.bytes.now ≤ LIMIT }
+    ensures run { Joined (λ old new. Answers cut.now.limits piece.Command cut.now.bytes.now old
         new (H.failures host.old) (H.failures host.new)
         (W.contents writer.old) (W.contents writer.new) result)
         machine.old machine.new (H.files host.old) (H.files host.new) }
     ensures counted { SessionCounts result (H.failures host.old) (H.failures host.new) }
 {
-    let stopped = machine.run_to_stop(bytes, limits.steps, host);
+    let stopped = machine.run_to_stop(cut.bytes, cut.limits.steps, host);
     let line = write_stop(machine, stopped.stop, writer);
-    listener.stopped(bytes, &stopped, machine, host);
+    listener.stopped(cut.bytes, &stopped, machine, host);
     said(line, is_exit(stopped.stop))
 }
 
 // Writes the code line of a rest, which is not run.
 fn answer_rest<T: TextStore, W: Write, H: Host, L: Listener<H>>(
     machine: &Machine<T>,
-    bytes: &[u8],
+    cut: &Cut<'_>,
     writer: &mut W,
     host: &H,
-    limits: Limits,
     listener: &mut L,
 ) -> Result<Done, SessionFault>
-    requires { length bytes.now ≤ LIMIT }
-    ensures { Joined (λ old new. Answers limits piece.Rest bytes.now old new
+    requires { length cut.now.bytes.now ≤ LIMIT }
+    ensures { Joined (λ old new. Answers cut.now.limits piece.Rest cut.now.bytes.now old new
         (H.failures host.now) (H.failures host.now)
         (W.contents writer.old) (W.contents writer.new) result)
         machine.now machine.now (H.files host.now) (H.files host.now) }
 {
-    let code = code_of_rest(bytes, limits);
+    let code = code_of_rest(cut.bytes, cut.limits);
     let line = write_lines(writer, &[], code);
     if code.is_some() {
         listener.rest(code);
@@ -201,23 +207,21 @@ fn answer_rest<T: TextStore, W: Write, H: Host, L: Listener<H>>(
 // Says whether there is such a line, and whether it ends the session.
 fn answer<T: TextStore, W: Write, H: Host, L: Listener<H>>(
     machine: &mut Machine<T>,
-    piece: Piece,
-    bytes: &[u8],
+    cut: &Cut<'_>,
     writer: &mut W,
     host: &mut H,
-    limits: Limits,
     listener: &mut L,
 ) -> Result<Done, SessionFault>
-    requires { length bytes.now ≤ LIMIT }
-    ensures run { Joined (λ old new. Answers limits piece bytes.now old new
+    requires { length cut.now.bytes.now ≤ LIMIT }
+    ensures run { Joined (λ old new. Answers cut.now.limits cut.now.piece cut.now.bytes.now old new
         (H.failures host.old) (H.failures host.new)
         (W.contents writer.old) (W.contents writer.new) result)
         machine.old machine.new (H.files host.old) (H.files host.new) }
     ensures counted { SessionCounts result (H.failures host.old) (H.failures host.new) }
 {
-    match piece {
-        Piece::Command => answer_command(machine, bytes, writer, host, limits, listener),
-        Piece::Rest => answer_rest(machine, bytes, writer, host, limits, listener),
+    match cut.piece {
+        Piece::Command => answer_command(machine, cut, writer, host, listener),
+        Piece::Rest => answer_rest(machine, cut, writer, host, listener),
     }
 }
 
@@ -301,15 +305,12 @@ pub fn session_heard<T: TextStore, R: Read, W: Write, H: Host, L: Listener<H>>(
     let mut coded = false;
     for _ in 0..STRINGS {
         let piece = next_piece(&mut string, &mut ahead, reader, limits)?;
-        let done = answer(
-            machine,
+        let cut = Cut {
             piece,
-            string.as_slice(),
-            writer,
-            host,
+            bytes: string.as_slice(),
             limits,
-            listener,
-        )?;
+        };
+        let done = answer(machine, &cut, writer, host, listener)?;
         coded |= done.coded;
         if done.exit {
             return Ok(Done { coded, exit: true });

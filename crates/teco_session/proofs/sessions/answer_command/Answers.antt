@@ -12,8 +12,8 @@ use Rattle.teco_session.specs.declared.strings.Piece.TheVariants as piece
 pub returns-clause-run : goal.returns-clause-run
 returns-clause-run g c =
     let stop = c.run_to_stop-stopped.result.stop in
-    Joined-typed (λ (old : World) (after : World). Stops (start c.args.bytes.now old) c.args.limits.steps stop after)
-    (λ (old : World) (new : World). Answers c.args.limits piece.Command c.args.bytes.now old new (g.H.Host.failures c.args.host.now) (g.H.Host.failures c.run_to_stop-stopped.new.host) (g.W.Write.contents c.args.writer.now) (g.W.Write.contents c.write_stop-line.new.writer) c.said.result)
+    Joined-typed (λ (old : World) (after : World). Stops (start c.args.cut.now.bytes.now old) c.args.cut.now.limits.steps stop after)
+    (λ (old : World) (new : World). Answers c.args.cut.now.limits piece.Command c.args.cut.now.bytes.now old new (g.H.Host.failures c.args.host.now) (g.H.Host.failures c.run_to_stop-stopped.new.host) (g.W.Write.contents c.args.writer.now) (g.W.Write.contents c.write_stop-line.new.writer) c.said.result)
     c.args.machine.now c.run_to_stop-stopped.new.self c.write_stop-line.new.machine
     (g.H.Host.files c.args.host.now) (g.H.Host.files c.run_to_stop-stopped.new.host) c.write_stop-line.ensures.taken
     (λ (old : World) (after : World) same stops. record {
