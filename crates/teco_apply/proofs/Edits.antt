@@ -3,7 +3,7 @@ use Rattle.std.proofs.Common.{◌≡◌, ℕ, List, Bool, true, false, Option, S
 use Rattle.teco_apply.proofs.Opening.{opens_both}
 use Rattle.teco_apply.specs.Apply.{AnswersMacro, AnswersText, Applied, BothOpen, Course, DropCounts, DropsIfCoded, EditCounts, Edits, Finishes, IsNotRun, Lacks, LineCounts, MacroStops, Then, WantsMemory, are_plain, has_esc, opening, stop_of}
 use Rattle.teco_apply.specs.Sure as sure
-use Rattle.teco_apply.specs.Sure.{Call, HasFiles, TakesArgument}
+use Rattle.teco_apply.specs.Sure.{Call, TakesArgument}
 use Rattle.teco_apply.specs.declared.ready.NotReady.{NotReady}
 use Rattle.teco_apply.specs.declared.ready.NotReady.TheVariants.{NoInput, NoOutput, Argument, Memory}
 use Rattle.teco_model.specs.Files.{Input, Output}

@@ -11,7 +11,7 @@ use Rattle.teco_verifier.specs.expansion.Node.{Stand, Node, beginning, over, sta
 use Rattle.teco_verifier.specs.expansion.Position.{Position, start_of, spot_of, position_of, position_of_frames}
 use Rattle.teco_law_expansion.specs.Run.{MovesFrom, Went, Stayed, StepsGoAlongNodes, StandsAt, WritesNoMacro, ComesTo, RunsComeToNodes, RunsEnd}
 use Rattle.teco_law_expansion.specs.Steps as steps
-use Rattle.teco_law_expansion.specs.Steps.{IsLeftAt, Goes, Stays, Moves}
+use Rattle.teco_law_expansion.specs.Steps.{IsLeftAt, Moves}
 use Rattle.teco_verifier.specs.expansion.Ways.{read_at, ways_at}
 use Rattle.teco_model.proofs.Chains.{ok}
 use Rattle.teco_law_expansion.proofs.StayLoaded.{stays_loaded}

@@ -22,7 +22,7 @@ use Rattle.teco_law_facts.proofs.Steps.{Covers}
 use Rattle.teco_law_facts.proofs.Transfers.{without_answer}
 use Rattle.teco_law_facts.proofs.Ways.{IsOn, told_on, within_may}
 use Rattle.teco_verifier.specs.facts.Arguments as known
-use Rattle.teco_verifier.specs.facts.Arguments.{KnownLevel, KnownTaken}
+use Rattle.teco_verifier.specs.facts.Arguments.{KnownLevel}
 use Rattle.teco_verifier.specs.facts.Attempt.{◌>>=◌}
 use Rattle.teco_verifier.specs.facts.Deletions.{positive}
 use Rattle.teco_law_facts.specs.Describes.{Run, run_behind, run_in_turn, IsWhole, IsAt, Answers, Describes, AreEach, HasFallen, IsLevel, IsTaken, IsOptional, ArePending, fore_of, back_of, around_of, begun_at}
@@ -32,7 +32,7 @@ use Rattle.teco_verifier.specs.facts.Joins.{is_empty, none_pending}
 use Rattle.teco_law_facts.specs.Laws.{IsTold, amount_of}
 use Rattle.teco_law_facts.specs.SoundFlow.{Tells, IsReached, number_needed, TestsAreSound, LeavingOr, LeavesAreSound, EntersOr, IterationsAreSound, AreTurns, TurnsAreSound, EndsTurn, TurnEndsAreSound, TagsAreSound, OthersAreSound}
 use Rattle.teco_verifier.specs.facts.Transfer as transfers
-use Rattle.teco_verifier.specs.facts.Transfer.{Placed, transfer}
+use Rattle.teco_verifier.specs.facts.Transfer.{transfer}
 use Rattle.teco_verifier.specs.facts.Values.{IsValue, IsWithin, interval_of, Surroundings, code_worth}
 use Rattle.teco_verifier.specs.facts.Ways.{Numbers, Positive, NotPositive, Takes, holding, other, position_by, way}
 use Rattle.teco_verifier.specs.declared.refusal.Refusal.{Refusal}

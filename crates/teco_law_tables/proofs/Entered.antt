@@ -6,7 +6,7 @@ use Rattle.std.proofs.lemmas.Int.{ints}
 use Rattle.teco_verifier.specs.declared.falls.Rank.{Rank}
 use Rattle.teco_base.specs.declared.code.Code.{Code}
 use Rattle.teco_law_turns.specs.Moves as moves
-use Rattle.teco_law_turns.specs.Moves.{Move, Into}
+use Rattle.teco_law_turns.specs.Moves.{Into}
 use Rattle.teco_model.specs.declared.arguments.Taken.{Taken}
 use Rattle.teco_model.specs.declared.kind.Flow.{Flow}
 use Rattle.teco_model.specs.declared.kind.Flow.TheVariants as flow

@@ -4,7 +4,7 @@ use Rattle.std.specs.Prelude.{IsTrue}
 use Rattle.teco_verifier.specs.facts.Ranks.{rank_of, rank_at}
 use Rattle.teco_verifier.specs.declared.falls.Rank.{Rank}
 use Rattle.teco_law_turns.specs.Moves as moves
-use Rattle.teco_law_turns.specs.Moves.{Move, Back}
+use Rattle.teco_law_turns.specs.Moves.{Back}
 use Rattle.teco_model.specs.declared.flow.Loop.{Loop}
 use Rattle.teco_model.specs.declared.kind.Flow.TheVariants as flow
 use Rattle.teco_model.specs.declared.kind.Kind.TheVariants as kind

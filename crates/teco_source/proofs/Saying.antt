@@ -1,9 +1,9 @@
 -- What is written for a text says it.
-use Rattle.std.proofs.Common.{◌≡◌, ℕ, Bool, true, false, ◌==◌, List, [], ◌∷◌, ◌++◌, length, refl, sym, ◌∙◌, arith}
+use Rattle.std.proofs.Common.{◌≡◌, ℕ, true, false, ◌==◌, List, [], ◌∷◌, ◌++◌, length, refl, sym, ◌∙◌, arith}
 use Rattle.std.proofs.lemmas.List.{append-nil}
 use Rattle.std.proofs.lemmas.Grind.{common_steps}
 use Rattle.teco_base.specs.declared.bytes.TheConstants.{ESC}
-use Rattle.teco_source.specs.Source.{said, said_behind, said_by, saying, spelled, spelling, can_say, has_source, has_source_behind, begins_with_dollar}
+use Rattle.teco_source.specs.Source.{said, said_behind, spelled, has_source, has_source_behind, begins_with_dollar}
 use Rattle.teco_source.specs.declared.form.Form.TheVariants.{the_data, Marked, Readable}
 use Rattle.teco_source.specs.declared.form.TheConstants.{CARET, DOLLAR}
 

@@ -1,5 +1,5 @@
 -- Scripts: files whose first line names the program that runs them.
-use Rattle.std.specs.Prelude.{ℕ, suc, Bool, true, false, ◌&&◌, ◌==◌, if◌then◌else◌, List, [], ◌∷◌}
+use Rattle.std.specs.Prelude.{ℕ, suc, Bool, false, ◌&&◌, ◌==◌, if◌then◌else◌, List, [], ◌∷◌}
 use Rattle.teco_base.specs.declared.bytes.TheConstants.{LF}
 use Rattle.teco_source.specs.declared.script.TheConstants.{NUMBER_SIGN, EXCLAMATION}
 

@@ -1,5 +1,5 @@
 -- Where nothing has to be chosen, what is refused is what the rules, the check and the printed numbers refuse.
-use Rattle.std.proofs.Common.{◌≡◌, refl, ◌⊎◌, inl, inr, sym, ap, ◌∙◌, subst, ℕ, List, [], false, Option, Result, Ok, Err, IsOk}
+use Rattle.std.proofs.Common.{◌≡◌, refl, ◌⊎◌, inl, inr, sym, ap, ◌∙◌, subst, ℕ, List, [], false, Result, Ok, Err, IsOk}
 use Rattle.std.specs.List.{list_any}
 use Rattle.teco_check.specs.declared.derivation.NotDerived.{NotDerived}
 use Rattle.teco_check.specs.declared.derivation.NotDerived.TheVariants as fault

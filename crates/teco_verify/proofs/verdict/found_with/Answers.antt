@@ -1,5 +1,4 @@
-use Rattle.std.proofs.Common.{◌≡◌, subst, sym, ap, ◌∙◌, Ok, Err, None}
-use Rattle.teco_library.specs.Library.{argument_of}
+use Rattle.std.proofs.Common.{◌≡◌, subst, sym, ap, ◌∙◌, Ok, Err}
 use Rattle.teco_check.specs.Derived.{Derives, DerivesUpTo}
 use Rattle.teco_verifier.specs.facts.Facts.{entry_of}
 use Rattle.teco_verifier.specs.table.Deriving.{derive}
