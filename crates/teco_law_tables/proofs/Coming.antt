@@ -86,11 +86,7 @@ module _ (nodes : List Node) (node : Node) (e : Element) (edges : Edges) (run : 
   flow_reached flow.Leave (suc zero) w g = if_true _ _ _ edges.away edges.on (ap (leaves e.colons) (same_number s.arguments g.0 w.n g.1 w.took) ∙ w.leaves) g.2
   flow_reached (flow.Test test) zero w g = if_true _ _ _ edges.on edges.away (ap (holds test) (same_number s.arguments g.0 w.n g.1 w.took) ∙ w.true_here) g.2
   flow_reached (flow.Test test) (suc zero) w g = if_false _ _ _ edges.on edges.away (ap (holds test) (same_number s.arguments g.0 w.n g.1 w.took) ∙ w.false_here) g.2
-  flow_reached flow.Otherwise zero w g = g
-  flow_reached flow.EndTest zero w g = g
-  flow_reached flow.GoTo zero w g = g
-  flow_reached flow.Comment zero w g = g
-  flow_reached (flow.GoAhead to) zero w g = g
+  flow_reached f zero w g = g
   flow_reached f way w g = absurd (grind arith)
 
 -- ---- a way
@@ -180,17 +176,10 @@ module _ (nodes : List Node) (node : Node) (facts : Facts) (edges : Edges) (run 
 
   kind_comes : (k : Kind) (way : ℕ) → e.kind ≡ k → ElementWas k way e last t → KindEnds k run facts (placed nodes node e) edges s t → Comes nodes node facts way run s t
   kind_comes (kind.Flow f) way is w ends = flow_comes f way is w ends
-  kind_comes (kind.Call c) zero is w ends = by_kind nodes node facts edges run s t zero leads e reads (kind.Call c) run is refl refl ends.comes
   kind_comes (kind.Search q) zero is (inl w) ends = on_comes q is (ap (λ (frames : Frames). frames.running.loops) w.answers.frames_are) ends
   kind_comes (kind.Search q) zero is (inr w) ends = on_comes q is (ap (λ (frames : Frames). frames.running.loops) w.answers.frames_are) ends
   kind_comes (kind.Search q) (suc zero) is w ends = away_comes q is w ends
-  kind_comes (kind.Argument a) zero is w ends = by_kind nodes node facts edges run s t zero leads e reads (kind.Argument a) run is refl refl ends.comes
-  kind_comes (kind.Value v) zero is w ends = by_kind nodes node facts edges run s t zero leads e reads (kind.Value v) run is refl refl ends.comes
-  kind_comes (kind.Query q) zero is w ends = by_kind nodes node facts edges run s t zero leads e reads (kind.Query q) run is refl refl ends.comes
-  kind_comes (kind.Stack c) zero is w ends = by_kind nodes node facts edges run s t zero leads e reads (kind.Stack c) run is refl refl ends.comes
-  kind_comes (kind.Command c) zero is w ends = by_kind nodes node facts edges run s t zero leads e reads (kind.Command c) run is refl refl ends.comes
-  kind_comes (kind.Page p) zero is w ends = by_kind nodes node facts edges run s t zero leads e reads (kind.Page p) run is refl refl ends.comes
-  kind_comes (kind.File f) zero is w ends = by_kind nodes node facts edges run s t zero leads e reads (kind.File f) run is refl refl ends.comes
+  kind_comes k zero is w ends = by_kind nodes node facts edges run s t zero leads e reads k run is refl refl ends.comes
   kind_comes k way is w ends = absurd (grind arith)
 
   pub element_comes : (way : ℕ) → StepWas node.element way last t → KindEnds e.kind run facts (placed nodes node e) edges s t → Comes nodes node facts way run s t

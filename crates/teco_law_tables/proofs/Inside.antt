@@ -139,17 +139,12 @@ module _ (ground : Ground) (closed : AreClosed ground.nodes) (arrival : Arrival 
     jumps j = (j.0, subst (λ (p : Position). (skip_of p.running.text (Whole e)).to ≡ Some j.0) here.position j.1)
 
     flow_stands : (f : Flow) → FlowHas f e here.node.stand.position → FlowStands f here.facts (placed nodes here.node e) s.frames.running
-    flow_stands flow.Iterate h = jumps h
     flow_stands flow.EndTurn h = inside_is (loop_there h)
     flow_stands flow.Leave h = (inside_is (loop_there h.0), jumps h.1)
-    flow_stands (flow.Test t) h = jumps h
-    flow_stands flow.Otherwise h = jumps h
     flow_stands flow.EndTest h = tt
-    flow_stands flow.GoTo h = jumps h
     flow_stands flow.Comment h = tt
     flow_stands (flow.GoAhead goal.EndTurn) h = (inside_is (loop_there h.0), jumps h.1)
-    flow_stands (flow.GoAhead goal.EndTest) h = jumps h
-    flow_stands (flow.GoAhead goal.Otherwise) h = jumps h
+    flow_stands f h = jumps h
 
     ways_are : (k : Kind) → e.kind ≡ k → element_ways library k e here.node.stand.position ≡ Ok (are.each number here.node here.at).targets
     unfolding ways_at

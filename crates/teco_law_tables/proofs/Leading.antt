@@ -69,13 +69,10 @@ flow_has flow.Iterate e p targets h = either_place _ e p targets h
 flow_has flow.EndTurn e p targets h = end_start p.running.starts e p targets h
 flow_has flow.Leave e p targets h = leave_place p.running.starts e p targets h
 flow_has (flow.Test t) e p targets h = either_place _ e p targets h
-flow_has flow.Otherwise e p targets h = only_place e p targets h
 flow_has flow.EndTest e p targets h = tt
-flow_has flow.GoTo e p targets h = only_place e p targets h
 flow_has flow.Comment e p targets h = tt
 flow_has (flow.GoAhead goal.EndTurn) e p targets h = ahead_place p.running.starts e p targets h
-flow_has (flow.GoAhead goal.EndTest) e p targets h = only_place e p targets h
-flow_has (flow.GoAhead goal.Otherwise) e p targets h = only_place e p targets h
+flow_has f e p targets h = only_place e p targets h
 
 pub search_has : (starts : List ℕ) (e : Element) (p : Position) (targets : List Position) → search_ways false starts e p ≡ Ok targets → HasStart starts → JumpPlace e p
 search_has [] e p targets h s = absurd s

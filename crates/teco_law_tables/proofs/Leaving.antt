@@ -140,13 +140,9 @@ module _ (e : Element) (s t : State) (between : ℕ) where
   kind_loops (kind.Search c) (suc zero) b w x =
       ap (λ frames. loops_in (frames.running ∷ frames.callers)) w.frames_are
       ∙ leaves e s.frames.running w.turn (loops_in s.frames.callers) between w.loop w.outer w.inside (jumps e s.frames.running w.turn (loops_in s.frames.callers) between 1 _ w.jumps ∙ ap (drop 1) w.inside)
-  kind_loops (kind.Argument a) zero b w x = settle_behind e s t _ (on_editor_goes s.left s.world _) w
-  kind_loops (kind.Value v) zero b w x = settle_behind e s t _ (on_editor_goes s.left s.world _) w
-  kind_loops (kind.Query q) zero b w x = settle_behind e s t _ (on_editor_goes s.left s.world _) w
-  kind_loops (kind.Stack c) zero b w x = settle_behind e s t _ (on_editor_goes s.left s.world _) w
-  kind_loops (kind.Command c) zero b w x = settle_behind e s t _ (on_editor_goes s.left s.world _) w
   kind_loops (kind.Page p) zero b w x = settle_behind e s t _ (page_goes p s.left s.arguments s.world) w
   kind_loops (kind.File f) zero b w x = settle_behind e s t _ (then (arguments_of s.arguments.level) (λ taken. filed f e.text s.left (levels_after_taking s.arguments) s.world) (λ taken. filed_goes f e.text s.left (levels_after_taking s.arguments) s.world)) w
+  kind_loops k zero b w x = settle_behind e s t _ (on_editor_goes s.left s.world _) w
   kind_loops k way b w x = absurd (grind arith)
 
 pub step_loops : (read : Option Element) (way : ℕ) (s t : State) (between : ℕ) → (way ≡ 0 → between ≡ length (open_loops s) - length (open_loops t)) → StepWas read way s t → begins_turn read way ≡ false → open_loops t ≡ drop (left_along read way between) (open_loops s)

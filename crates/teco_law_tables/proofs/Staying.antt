@@ -17,13 +17,13 @@ use Rattle.teco_model.specs.Checked.{◌>>=◌}
 use Rattle.teco_model.specs.Element.{Element, element_at}
 use Rattle.teco_model.specs.Files.{Input, Output, Files, with_written}
 use Rattle.teco_model.specs.Flow.{Turn, turn_of}
-use Rattle.teco_model.specs.Going.{After, Course, Behind, Again, Along, Into, Quit, NoFile, Refused, Reply, on_editor, settled, settle}
+use Rattle.teco_model.specs.Going.{After, Course, Quit, NoFile, Refused, Reply, on_editor, settled, settle}
 use Rattle.teco_model.specs.Outside.{going_on, while_left, in_pages, pages_reply, append_reply, page_reply}
 use Rattle.teco_model.specs.Pages.{behind_first_page, first_page}
 use Rattle.teco_model.specs.Paging.{files_behind_page, world_after_writing, page_taken, page_added, world_with_next_page, nothing_lost, yank, append, appended, page_turned, page_written, page_count, needed_output, one_page_of, pages, pages_of, range_written, Progress, Here, MetHere, WantedYet, look_here, Looked, Met, Turned, Through, unread, page_looked_for, looked_on, looked_through, look_first, look_for, match_count, world_seeking}
 use Rattle.teco_model.specs.Places.{text_between}
 use Rattle.teco_model.specs.Search.{Finding, Found, Missed, search}
-use Rattle.teco_model.specs.Searching.{Miss, Answers, Leaves, Unended, Fails, miss_of, missed, found, found_in_buffer, looked, looking, found_in_pages, search_reply}
+use Rattle.teco_model.specs.Searching.{Miss, Unended, miss_of, missed, found, found_in_buffer, looked, looking, found_in_pages, search_reply}
 use Rattle.teco_model.specs.State.{World, Frame, State, Outcome, Next}
 use Rattle.teco_model.specs.Step.{flow_reply, reply_of, end_outcome, end_of_text, outcome_at, step}
 use Rattle.teco_law_tables.specs.Staying.{is_of_files, changes_files, AreAsOpen, FilesStayOpen}
@@ -171,10 +171,8 @@ module _ (s : State) where
 
   -- searches
   missed_opens : (miss : Miss) (left : Option ℕ) (arguments : Arguments) (before now : World) → AreAsOpen s.world.files before.files → AreAsOpen s.world.files now.files → AreAsOpen s.world.files (missed miss left arguments before now).world.files
-  missed_opens Answers left arguments before now k h = h
-  missed_opens (Leaves turn) left arguments before now k h = h
   missed_opens Unended left arguments before now k h = k
-  missed_opens Fails left arguments before now k h = h
+  missed_opens miss left arguments before now k h = h
 
   module _ (x : Search) (e : Element) (miss : Miss) where
     found_opens : (arguments : Arguments) (finding : Finding) → AreAsOpen s.world.files (found e miss s.left arguments s.world finding).world.files
@@ -210,25 +208,18 @@ module _ (s : State) where
 
   reply_opens : (k : Kind) (e : Element) → is_of_files k ≡ false → Replied (reply_of k e s)
   unfolding reply_of
-  reply_opens (kind.Argument a) e h = behind_opens _
-  reply_opens (kind.Value v) e h = behind_opens _
-  reply_opens (kind.Query q) e h = behind_opens _
-  reply_opens (kind.Stack k) e h = behind_opens _
-  reply_opens (kind.Command c) e h = behind_opens _
   reply_opens (kind.Call c) e h = same s.world.files
   reply_opens (kind.Flow f) e h = flow_opens (turn_of f e s.arguments s.frames.running)
   reply_opens (kind.Page p) e h = page_opens p
   reply_opens (kind.Search x) e h = search_opens x e (miss_of e s.frames.running)
   reply_opens (kind.File f) e h = absurd (cc)
+  reply_opens k e h = behind_opens _
 
   settled_opens : (e : Element) (reply : Reply) (course : Course) → AreAsOpen s.world.files reply.world.files → OpenBy (settled e s.frames reply course)
-  settled_opens e reply Behind h = h
-  settled_opens e reply Again h = h
-  settled_opens e reply (Along frame) h = h
-  settled_opens e reply (Into text) h = h
   settled_opens e reply Quit h = tt
   settled_opens e reply NoFile h = tt
   settled_opens e reply (Refused c) h = tt
+  settled_opens e reply course h = h
 
   settle_opens : (e : Element) (r : Result Reply Code) → Replied r → OpenBy (settle e s r)
   settle_opens e (Ok reply) h = settled_opens e reply reply.course h

@@ -10,7 +10,7 @@ use Rattle.teco_model.specs.Element.{Element, element_at}
 use Rattle.teco_model.specs.Files.{Files}
 use Rattle.teco_model.specs.Run.{Reaches, run, go_on}
 use Rattle.teco_model.specs.Searching.{has_colon}
-use Rattle.teco_model.specs.State.{World, Kept, Frame, State, Outcome, Next, End, Exit, Fail, Absent, start, frame_of}
+use Rattle.teco_model.specs.State.{World, Kept, Frame, State, Outcome, Next, End, start, frame_of}
 use Rattle.teco_model.specs.Step.{end_outcome, end_of_text, outcome_at, step}
 use Rattle.teco_law_expansion.specs.Ends.{AreClosed, IterationsEnd}
 use Rattle.teco_model.specs.Macros.{Library, is_macro, call_of, ArgumentRange, IsAsked, Needs}
@@ -61,10 +61,7 @@ use Rattle.teco_law_tables.proofs.Walking.{reads_none, none_yet, none_more}
 -- ---- what is whole stays so
 whole_behind : (whole : WholeIsKept) (o : Outcome) → IsWholeOutcome o → IsWholeOutcome (go_on o)
 whole_behind whole (Next s) h = whole.steps s h
-whole_behind whole (End world) h = h
-whole_behind whole (Exit world) h = h
-whole_behind whole (Fail c world) h = h
-whole_behind whole (Absent world) h = h
+whole_behind whole o h = h
 
 whole_after : (whole : WholeIsKept) (k : ℕ) (s : State) → IsWholeState s → IsWholeOutcome (run k s)
 unfolding run
