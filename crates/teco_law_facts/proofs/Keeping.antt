@@ -115,9 +115,7 @@ module _ (kept : Kept) (w : IsWhole kept) where
 
   motion_whole : (m : Motion) (e : Element) (taken : Taken) → IfOk (motion.motion m e taken kept) IsWholeEffect
   motion_whole motion_kind.Lines e taken = record { kept = moved _ (line_within kept.text kept.pointer w.inside _); answer = tt }
-  motion_whole motion_kind.Forward e taken = motion_to_whole e.colons _ (place_within kept.text _)
-  motion_whole motion_kind.Backward e taken = motion_to_whole e.colons _ (place_within kept.text _)
-  motion_whole motion_kind.To e taken = motion_to_whole e.colons _ (place_within kept.text _)
+  motion_whole m e taken = motion_to_whole e.colons _ (place_within kept.text _)
 
   -- ---- parts
   pub part_whole : (first value : Option ℤ) → IfOk (part_named first value kept) (IsPart kept.text)

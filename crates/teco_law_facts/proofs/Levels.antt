@@ -36,12 +36,10 @@ quotient_fits x (pos (suc n)) = SFits-int_wrap w32 _
 quotient_fits x (negsuc n) = SFits-int_wrap w32 _
 
 result_fits : (operator : Operator) (x y : ℤ) → IfOk (result_of operator x y) Fits
-result_fits Plus x y = SFits-int_wrap w32 _
-result_fits Minus x y = SFits-int_wrap w32 _
-result_fits Times x y = SFits-int_wrap w32 _
 result_fits Over x y = quotient_fits x y
 result_fits And x y = and_fits x y
 result_fits Or x y = or_fits x y
+result_fits operator x y = SFits-int_wrap w32 _
 
 given_fits : (v : ℤ) (value : Option ℤ) (operator : Option Operator) → Fits v → IfOk (value_with v value operator) Fits
 given_fits v value None f = f
@@ -58,12 +56,7 @@ ended_fits None (Some Times) f = tt
 ended_fits None (Some Over) f = tt
 ended_fits None (Some And) f = tt
 ended_fits None (Some Or) f = tt
-ended_fits (Some v) (Some Minus) f = tt
-ended_fits (Some v) (Some Plus) f = tt
-ended_fits (Some v) (Some Times) f = tt
-ended_fits (Some v) (Some Over) f = tt
-ended_fits (Some v) (Some And) f = tt
-ended_fits (Some v) (Some Or) f = tt
+ended_fits (Some v) operator f = tt
 
 final_fits : (level : Level) → IsWholeLevel level → IfOk (final_value level) IsFit
 final_fits level h = ended_fits level.value level.operator h.value

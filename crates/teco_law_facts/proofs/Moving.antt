@@ -251,9 +251,7 @@ module _ (run : Run) (facts : Facts) (unread : ℕ) (kept : Kept) (whole : IsWho
   saved_in To (Some s) (Some v) i = i.saved
   saved_in To (Some s) None i = absurd i
   saved_in To None v i = tt
-  saved_in Forward o v i = tt
-  saved_in Backward o v i = tt
-  saved_in Lines o v i = tt
+  saved_in m o v i = tt
 
   motion_to_foretold : (m : Motion) (colons : ℕ) (o : Option Value) (v : Option ℤ) → IsOptional (IsValue (around_of kept)) o v → Foretells run facts unread kept (row.motion_to m colons o facts) (model.motion_to colons (place_in kept.text (model.target m kept.pointer v)) kept)
   motion_to_foretold m zero o v i =
@@ -263,8 +261,6 @@ module _ (run : Run) (facts : Facts) (unread : ℕ) (kept : Kept) (whole : IsWho
       shift_leads run facts unread kept whole h _ (Some (value_in row.success)) _ (λ l. colon_moves _ (model.target m kept.pointer v) colons (goes_on_is m _ v (count_within o v i)))
 
   pub motion_foretold : (m : Motion) (e : Element) (known : KnownTaken) (taken : Taken) → IsTaken (around_of kept) known taken → Foretells run facts unread kept (row.motion m e.colons known facts) (model.motion m e taken kept)
-  motion_foretold Forward e known taken i = motion_to_foretold Forward e.colons known.value taken.value i.value
-  motion_foretold Backward e known taken i = motion_to_foretold Backward e.colons known.value taken.value i.value
-  motion_foretold To e known taken i = motion_to_foretold To e.colons known.value taken.value i.value
   motion_foretold Lines e known taken i =
       shift_leads run facts unread kept whole h _ None _ (λ l. lined_moves facts.rules _ _ _ (row.count_of known.value facts.position.distances) (unwrap_or taken.value (pos 1)) refl refl refl (count_within known.value taken.value i.value))
+  motion_foretold m e known taken i = motion_to_foretold m e.colons known.value taken.value i.value

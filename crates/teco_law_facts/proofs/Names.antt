@@ -55,15 +55,8 @@ register_small name =
     (in_range 48 57 name (name - 48 + 26) _ _ None refl refl (λ l m. omega arith) tt))
 
 named_on : (c : OnRegister) (r : ℕ) → r < REGISTERS → IsNamed (kind_on c r)
-named_on on_register.SetNumber r l = l
-named_on on_register.Add r l = l
-named_on on_register.Number r l = l
-named_on on_register.Copy r l = l
-named_on on_register.SetText r l = l
-named_on on_register.Get r l = l
-named_on on_register.Push r l = l
-named_on on_register.Pop r l = l
 named_on on_register.Call r l = tt
+named_on c r l = l
 
 -- ---- letters
 plain_or : (b : Bool) (h : Head) (other : Option Head) → IsPlain h → IfSome other IsPlain → IfSome (cond b (Some h) other) IsPlain

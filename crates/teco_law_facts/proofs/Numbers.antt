@@ -116,11 +116,9 @@ kept_in_32_bits_in r v h = in_range r v (int_le (negsuc (2 ^ 31 - 1)) r.lo) (int
 
 -- a product with a sign is no greater than the number
 sign_share : (n : ℕ) (c : ℤ) → is_sign c ≡ true → ((pos n *ℤ c) ≤ℤ pos n) × (neg_ℤ (pos n) ≤ℤ (pos n *ℤ c))
-sign_share n (pos zero) h = (omega (arith, ints), omega (arith, ints))
-sign_share n (pos (suc zero)) h = (omega (arith, ints), omega (arith, ints))
 sign_share n (pos (suc (suc c))) h = absurd (grind (arith, ints))
-sign_share n (negsuc zero) h = (omega (arith, ints), omega (arith, ints))
 sign_share n (negsuc (suc c)) h = absurd (grind (arith, ints))
+sign_share n c h = (omega (arith, ints), omega (arith, ints))
 
 pub both : {x y : Bool} → x ≡ true → y ≡ true → (x && y) ≡ true
 both {x} {y} p q = rw (p, q) refl

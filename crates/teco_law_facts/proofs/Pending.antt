@@ -65,11 +65,8 @@ module _ (distances : Distances) (around : Surroundings) (b : AreDistances dista
   finished_value_covers value n None h = h
   finished_value_covers None None (Some Plus) h = single_in (pos 1) (omega (arith, ints))
   finished_value_covers None None (Some Minus) h = single_in (negsuc 0) (omega (arith, ints))
-  finished_value_covers None None (Some Times) h = tt
-  finished_value_covers None None (Some Over) h = tt
-  finished_value_covers None None (Some And) h = tt
-  finished_value_covers None None (Some Or) h = tt
   finished_value_covers (Some s) (Some v) (Some operator) h = tt
+  finished_value_covers None None operator h = tt
   finished_value_covers value n operator h = absurd (grind arith)
 
   pub finished_covers : (k : KnownLevel) (level : Level) → IsLevel around k level → Covers (IsOptional (IsValue around)) (known.final_value k) (model.final_value level)

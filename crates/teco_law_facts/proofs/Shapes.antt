@@ -1,5 +1,5 @@
 -- The shapes of what commands do, and that the facts that they leave are true.
-use Rattle.std.proofs.Common.{◌≡◌, ℕ, zero, suc, ◌+◌, ◌≤◌, arith, refl, sym, subst, cond, Bool, true, false, option_map, ◌-ℤ◌, pos, negsuc, ◌+ℤ◌, ◌≤ℤ◌, [], ◌∷◌, length, Option, Some, None, Result, Ok, Err, IfSome, IfOk, ok_or, nat_le}
+use Rattle.std.proofs.Common.{◌≡◌, ℕ, zero, suc, ◌+◌, ◌≤◌, arith, refl, sym, subst, cond, Bool, true, false, option_map, ◌-ℤ◌, pos, ◌+ℤ◌, ◌≤ℤ◌, [], ◌∷◌, length, Option, Some, None, Result, Ok, Err, IfSome, IfOk, ok_or, nat_le}
 use Rattle.std.proofs.lemmas.Int.{ints}
 use Rattle.std.proofs.lemmas.Bool.Decides.{nat_tests}
 use Rattle.teco_base.specs.declared.TheConstants.{LIMIT}
@@ -12,7 +12,7 @@ use Rattle.teco_poly.specs.Polynomial.{Polynomial, first, value, is_at_most, in_
 use Rattle.teco_law_facts.proofs.Numbers.{both_true, both}
 use Rattle.teco_law_facts.proofs.Near.{distances, line_of}
 use Rattle.teco_law_facts.proofs.Falls.{IsLine, Descends, held_before, fallen_by, ordered_is, each_fallen}
-use Rattle.teco_verifier.specs.facts.Falls.{Descent, By, PastLine, InLine, Refilled, NextPage}
+use Rattle.teco_verifier.specs.facts.Falls.{Descent, By, PastLine, Refilled, NextPage}
 use Rattle.teco_law_facts.proofs.Pending.{settled_are}
 use Rattle.teco_law_facts.proofs.Saved.{Widens, saved_after_are}
 use Rattle.teco_verifier.specs.facts.Attempt.{◌>>=◌}
@@ -69,12 +69,10 @@ held_falls shift n before after h = by (number_in shift.growth) (number_is shift
 -- ahead is at most what was ahead, or what is held
 pub ahead_most : (descent : Descent) (n : ℕ) (old : Surroundings) (u : ℕ) (new : Surroundings) (u' : ℕ) (held ahead : Polynomial) → u' ≤ u → IsLine old → Descends descent old u new u' → old.fore + u ≤ value ahead n → new.fore + u' ≤ value held n → new.fore + u' ≤ value (ahead_after descent held ahead) n
 ahead_most (By (Some (pos v))) n old u new u' held ahead l e d i j = omega (arith, d.0, l, i)
-ahead_most (By (Some (negsuc v))) n old u new u' held ahead l e d i j = j
-ahead_most (By None) n old u new u' held ahead l e d i j = j
 ahead_most PastLine n old u new u' held ahead l e d i j = omega (arith, d, l, i, e.within)
-ahead_most InLine n old u new u' held ahead l e d i j = j
 ahead_most (Refilled v) n old u new u' held ahead l e d i j = omega (arith, d.0, i)
 ahead_most NextPage n old u new u' held ahead l e d i j = omega (arith, d, i)
+ahead_most descent n old u new u' held ahead l e d i j = j
 
 -- the state is one that the shift speaks of
 pub record Shifts (n : ℕ) (shift : Shift) (old new : Kept) : Type 0 where

@@ -19,7 +19,7 @@ use Rattle.teco_model.specs.Element.{Element}
 use Rattle.teco_model.specs.Filing as filing
 use Rattle.teco_model.specs.Flow as flows
 use Rattle.teco_model.specs.Flow.{Turn}
-use Rattle.teco_model.specs.Going.{After, Course, Behind, Again, Along, Into, Quit, NoFile, Refused, Reply, on_editor, settled, settle}
+use Rattle.teco_model.specs.Going.{After, Course, Behind, Again, Along, Into, Reply, on_editor, settled, settle}
 use Rattle.teco_model.specs.Match.{here, forward, backward}
 use Rattle.teco_model.specs.laws.Matching.{Matches, InTurn, IsMatch, IsFirstFrom, IsLastBefore, IsNth}
 use Rattle.teco_model.specs.Outside as outside
@@ -30,7 +30,7 @@ use Rattle.teco_model.specs.Run as runs
 use Rattle.teco_model.specs.Search as searching
 use Rattle.teco_model.specs.Search.{Finding, Found, Missed}
 use Rattle.teco_model.specs.Searching as outcomes
-use Rattle.teco_model.specs.State.{Absent, Fail, End, Kept, World, Frame, State, Outcome, Next, Exit}
+use Rattle.teco_model.specs.State.{Kept, World, Frame, State, Outcome, Next}
 use Rattle.teco_model.specs.Step as steps
 use Rattle.teco_model.specs.Step.{step}
 use Rattle.teco_model.specs.declared.arguments.Taken.{Taken}
@@ -228,13 +228,11 @@ module _ (e : Element) (frame : Frame) (b : AreBytes frame.text) where
   turn_whole flow.EndTurn arguments h = ended frame.loops
   turn_whole flow.Leave arguments h = left frame.loops arguments h
   turn_whole (flow.Test test) arguments h = ok_any IsWholeTurn (arguments_of arguments.level) _ (λ taken. ok_any IsWholeTurn (needed_value taken.value) _ (λ n. tested (holds test n) _ (taking_whole arguments h)))
-  turn_whole flow.Otherwise arguments h = jumped code.Utc arguments h
   turn_whole flow.EndTest arguments h = past arguments h
   turn_whole flow.GoTo arguments h = ok_any IsWholeTurn (arguments_of arguments.level) _ (λ taken. ok_then IsWholeTurn IsWholeTurn (flows.jump code.Tag e no_arguments frame) _ (jumped code.Tag no_arguments none_whole) (λ turn t. without taken.value turn t))
   turn_whole flow.Comment arguments h = past arguments h
   turn_whole (flow.GoAhead goal.EndTurn) arguments h = to_end frame.loops arguments h
-  turn_whole (flow.GoAhead goal.EndTest) arguments h = jumped code.Utc arguments h
-  turn_whole (flow.GoAhead goal.Otherwise) arguments h = jumped code.Utc arguments h
+  turn_whole f arguments h = jumped code.Utc arguments h
 
 -- ---- replies
 record IsWholeAfter (done : After) : Type 0 where
@@ -263,9 +261,7 @@ module _ (e : Element) (b : IsOfBytes e) (s : State) (h : IsWholeState s) where
   settled_whole reply Again w a c = record { world = w; arguments = a; frames = record { running = h.frames.running; callers = h.frames.callers } }
   settled_whole reply (Along frame) w a c = record { world = w; arguments = a; frames = record { running = c; callers = h.frames.callers } }
   settled_whole reply (Into text) w a c = record { world = w; arguments = a; frames = record { running = c; callers = (h.frames.running, h.frames.callers) } }
-  settled_whole reply Quit w a c = w
-  settled_whole reply NoFile w a c = w
-  settled_whole reply (Refused code) w a c = w
+  settled_whole reply course w a c = w
 
   settle_whole : (r : Result Reply Code) → IfOk r IsWholeReply → IsWholeOutcome (settle e s r)
   settle_whole (Err c) i = h.world
@@ -362,9 +358,7 @@ module _ (e : Element) (b : IsOfBytes e) (s : State) (h : IsWholeState s) where
 
   answer_fits : (miss : outcomes.Miss) → IfSome (outcomes.answer_by miss) (FitsSigned w32)
   answer_fits outcomes.Answers = omega (arith, ints)
-  answer_fits (outcomes.Leaves turn) = tt
-  answer_fits outcomes.Unended = tt
-  answer_fits outcomes.Fails = tt
+  answer_fits miss = tt
 
   at_miss : (colons : ℕ) (kept : Kept) → IsWhole kept → IsWhole (outcomes.kept_by_miss colons kept)
   at_miss zero kept w = edited kept w _ refl refl (omega arith) w.within w.bytes w.last
@@ -446,10 +440,7 @@ step_whole s h = at_place s h _ (element_bytes s.frames.running.text s.frames.ru
 -- ---- runs
 go_on_whole : (o : Outcome) → IsWholeOutcome o → IsWholeOutcome (runs.go_on o)
 go_on_whole (Next s) h = step_whole s h
-go_on_whole (End world) h = h
-go_on_whole (Exit world) h = h
-go_on_whole (Fail c world) h = h
-go_on_whole (Absent world) h = h
+go_on_whole o h = h
 
 run_whole : (n : ℕ) (s : State) → IsWholeState s → IsWholeOutcome (runs.run n s)
 unfolding runs.run

@@ -52,15 +52,10 @@ Bounds Digits v = ⊤
 Bounds n v = Takes n v
 
 bounds_of : (n : Numbers) (v : ℤ) → Takes n v → Bounds n v
-bounds_of Zero v t = t
-bounds_of NotZero v t = t
-bounds_of Negative v t = t
-bounds_of NotNegative v t = t
-bounds_of Positive v t = t
-bounds_of NotPositive v t = t
 bounds_of Characters v t = tt
 bounds_of Digits v t = tt
 bounds_of All v t = tt
+bounds_of n v t = t
 
 least_is : (n : Numbers) (m x : ℕ) (k : ℤ) → m ≤ x → Bounds n (pos x +ℤ k) → IsUpTo (least_taking n m k) x
 least_is Zero m x k h t = some_if _ _ x (le_true (pos m +ℤ k) (pos 0) (omega (arith, ints))) (positive_up_to (neg_ℤ k) x (omega (arith, ints)))
@@ -69,20 +64,14 @@ least_is Negative m x k h t = some_if _ m x (le_true (pos m +ℤ k) (negsuc 0) (
 least_is NotNegative m x k h t = omega (arith, positive_up_to (neg_ℤ k) x (omega (arith, ints)))
 least_is Positive m x k h t = omega (arith, positive_up_to (pos 1 -ℤ k) x (omega (arith, ints)))
 least_is NotPositive m x k h t = some_if _ m x (le_true (pos m +ℤ k) (pos 0) (omega (arith, ints))) h
-least_is Characters m x k h t = h
-least_is Digits m x k h t = h
-least_is All m x k h t = h
+least_is n m x k h t = h
 
 bounds_opposite : (n : Numbers) (v : ℤ) → Bounds n v → Bounds (opposite n) (neg_ℤ v)
-bounds_opposite Zero v t = omega (arith, ints)
 bounds_opposite NotZero v t = λ e. t (omega (arith, ints))
-bounds_opposite Negative v t = omega (arith, ints)
-bounds_opposite NotNegative v t = omega (arith, ints)
-bounds_opposite Positive v t = omega (arith, ints)
-bounds_opposite NotPositive v t = omega (arith, ints)
 bounds_opposite Characters v t = tt
 bounds_opposite Digits v t = tt
 bounds_opposite All v t = tt
+bounds_opposite n v t = omega (arith, ints)
 
 not_both_of : (x y : Bool) → (x ≡ true → y ≡ true → ⊥) → not (x && y) ≡ true
 not_both_of true true h = absurd (h refl refl)
@@ -96,9 +85,7 @@ within_may Negative r v i t = le_true r.lo (negsuc 0) (omega (arith, ints))
 within_may NotNegative r v i t = le_true (pos 0) r.hi (omega (arith, ints))
 within_may Positive r v i t = le_true (pos 1) r.hi (omega (arith, ints))
 within_may NotPositive r v i t = le_true r.lo (pos 0) (omega (arith, ints))
-within_may Characters r v i t = refl
-within_may Digits r v i t = refl
-within_may All r v i t = refl
+within_may n r v i t = refl
 
 -- a position is reached, and what is known of it holds
 abbrev pub IsOn : Run → Surroundings → ℕ → List Pair → Option Position → Type 0
@@ -150,13 +137,7 @@ stands_unless n code s w v l e t f = code_stands w l (λ q. let r = worth_withou
 code_taken : (n : Numbers) (code : CharacterCode) (s : Value) (w v : ℤ) → negsuc 0 ≤ℤ w → (cond code.negated (neg_ℤ w) w +ℤ s.lo) ≡ v → Takes n v → takes_without n code s ≡ false → pos 0 ≤ℤ w
 code_taken Characters code s w v l e t f = let q = is_itself code s w v (true_not _ f) e in omega (arith, ints, q, t)
 code_taken Digits code s w v l e t f = let q = is_itself code s w v (true_not _ f) e in omega (arith, ints, q, code_of_digit v t)
-code_taken Zero code s w v l e t f = stands_unless Zero code s w v l e t f
-code_taken NotZero code s w v l e t f = stands_unless NotZero code s w v l e t f
-code_taken Negative code s w v l e t f = stands_unless Negative code s w v l e t f
-code_taken NotNegative code s w v l e t f = stands_unless NotNegative code s w v l e t f
-code_taken Positive code s w v l e t f = stands_unless Positive code s w v l e t f
-code_taken NotPositive code s w v l e t f = stands_unless NotPositive code s w v l e t f
-code_taken All code s w v l e t f = stands_unless All code s w v l e t f
+code_taken n code s w v l e t f = stands_unless n code s w v l e t f
 
 -- where a character stands, its place is in the buffer
 abbrev pub AreCodes : Surroundings → Type 0
@@ -239,14 +220,7 @@ module _ (run : Run) (position : Position) (around : Surroundings) (unread : ℕ
 
   marked_on : (n : Numbers) (s : Value) (v : ℤ) → IsValue around s v → Takes n v → IsMarked around (mark_on n s position.digit)
   marked_on Digits s v i t = marked_at s.code position.digit s v refl i t h.digit
-  marked_on Zero s v i t = h.digit
-  marked_on NotZero s v i t = h.digit
-  marked_on Negative s v i t = h.digit
-  marked_on NotNegative s v i t = h.digit
-  marked_on Positive s v i t = h.digit
-  marked_on NotPositive s v i t = h.digit
-  marked_on Characters s v i t = h.digit
-  marked_on All s v i t = h.digit
+  marked_on n s v i t = h.digit
 
   -- ---- the size of the buffer
   abbrev IsSize : Option ℕ → Type 0
@@ -309,10 +283,7 @@ module _ (run : Run) (position : Position) (around : Surroundings) (unread : ℕ
   outcome_is Negative answer v i t = elim i.either [ inl e ↦ i.found e | inr e ↦ absurd (omega (arith, ints)) ]
   outcome_is NotNegative answer v i t = elim i.either [ inl e ↦ absurd (omega (arith, ints)) | inr e ↦ i.failed e ]
   outcome_is Positive answer v i t = elim i.either [ inl e ↦ absurd (omega (arith, ints)) | inr e ↦ absurd (omega (arith, ints)) ]
-  outcome_is NotPositive answer v i t = h
-  outcome_is Characters answer v i t = h
-  outcome_is Digits answer v i t = h
-  outcome_is All answer v i t = h
+  outcome_is n answer v i t = h
 
 -- the codes of a text
 code_inside : (text : List ℕ) (z : ℤ) → pos 0 ≤ℤ code_at text z → (pos 0 ≤ℤ z) × ((z +ℤ pos 1) ≤ℤ pos (length text))
