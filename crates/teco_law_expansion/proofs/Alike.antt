@@ -8,7 +8,7 @@ use Rattle.teco_model.specs.declared.kind.Kind.{Kind}
 use Rattle.teco_model.specs.declared.kind.Kind.TheVariants as kind
 use Rattle.teco_model.specs.Arguments.{Arguments}
 use Rattle.teco_model.specs.Element.{Element, element_at}
-use Rattle.teco_model.specs.Going.{Course, Behind, Again, Along, Into, Quit, NoFile, Refused, Reply, code_in, frames_in, settled, settle}
+use Rattle.teco_model.specs.Going.{Course, Into, Quit, NoFile, Refused, Reply, code_in, frames_in, settled, settle}
 use Rattle.teco_model.specs.Run.{run, go_on}
 use Rattle.teco_model.specs.State.{World, Frame, State, Outcome, Next, End, Exit, Fail, Absent}
 use Rattle.teco_model.specs.Step.{reply_of, outcome_of, end_of_text, outcome_at, step}
@@ -38,13 +38,11 @@ module _ (c d : Frame) (cs ds : List Frame) (alike : AreTextsAlike c cs d ds) wh
     t = other w g l f
 
     settled_alike : (e : Element) (reply : Reply) (course : Course) → AreOutcomesAlike (settled e s.frames reply course) (settled e t.frames reply course)
-    settled_alike e reply Behind = same _ _ _ _
-    settled_alike e reply Again = same _ _ _ _
-    settled_alike e reply (Along frame) = same _ _ _ _
     settled_alike e reply (Into text) = record { world = refl; arguments = refl; left = refl; texts = (refl, (refl, alike)) }
     settled_alike e reply Quit = refl
     settled_alike e reply NoFile = refl
     settled_alike e reply (Refused k) = (code_same k, refl)
+    settled_alike e reply course = same _ _ _ _
 
     settle_alike : (e : Element) (r : Result Reply Code) → AreOutcomesAlike (settle e s r) (settle e t r)
     settle_alike e (Ok reply) = settled_alike e reply reply.course
@@ -127,7 +125,6 @@ onward (End w) (End v) h = h
 onward (Exit w) (Exit v) h = h
 onward (Fail c w) (Fail d v) h = h
 onward (Absent w) (Absent v) h = h
-onward (Next s) (End v) h = elim h [ ]
 onward (Next s) (Exit v) h = elim h [ ]
 onward (Next s) (Fail d v) h = elim h [ ]
 onward (Next s) (Absent v) h = elim h [ ]
@@ -136,17 +133,15 @@ onward (End w) (Exit v) h = elim h [ ]
 onward (End w) (Fail d v) h = elim h [ ]
 onward (End w) (Absent v) h = elim h [ ]
 onward (Exit w) (Next t) h = elim h [ ]
-onward (Exit w) (End v) h = elim h [ ]
 onward (Exit w) (Fail d v) h = elim h [ ]
 onward (Exit w) (Absent v) h = elim h [ ]
 onward (Fail c w) (Next t) h = elim h [ ]
-onward (Fail c w) (End v) h = elim h [ ]
 onward (Fail c w) (Exit v) h = elim h [ ]
 onward (Fail c w) (Absent v) h = elim h [ ]
 onward (Absent w) (Next t) h = elim h [ ]
-onward (Absent w) (End v) h = elim h [ ]
 onward (Absent w) (Exit v) h = elim h [ ]
 onward (Absent w) (Fail d v) h = elim h [ ]
+onward one (End v) h = elim h [ ]
 
 pub runs_are_alike : RunsAreAlike
 unfolding run

@@ -85,9 +85,7 @@ module _ (library : Library) (old : Kept) where
 
   motion_keeps : (m : Motion) (e : Element) (taken : Taken) → AllKeep library old kept_of_effect (motion m e taken old)
   motion_keeps motion_kind.Lines e taken = untouched
-  motion_keeps motion_kind.Forward e taken = motion_to_keeps e.colons _
-  motion_keeps motion_kind.Backward e taken = motion_to_keeps e.colons _
-  motion_keeps motion_kind.To e taken = motion_to_keeps e.colons _
+  motion_keeps m e taken = motion_to_keeps e.colons _
 
   characters_keep : (n : ℤ) → AllKeep library old kept_of_effect (character_deletion n old)
   characters_keep (pos n) = either kept_of_effect (nat_le (old.pointer + n) (length old.text)) _ code.Dtb (untouched)

@@ -17,11 +17,11 @@ use Rattle.teco_model.specs.Element.{Element}
 use Rattle.teco_model.specs.Filing.{open_output, close_output, copy_all, with_input, name_apart_from, no_output, exit_from}
 use Rattle.teco_model.specs.Files.{Input, Output, file_named}
 use Rattle.teco_model.specs.Flow.{Turn, turn_of}
-use Rattle.teco_model.specs.Going.{After, Course, Behind, Again, Along, Into, Quit, NoFile, Refused, Reply, on_editor, settled, settle}
+use Rattle.teco_model.specs.Going.{After, Course, Quit, NoFile, Refused, Reply, on_editor, settled, settle}
 use Rattle.teco_model.specs.Outside.{going_on, while_left, in_pages, pages_reply, append_reply, page_reply, opened, filed, file_reply}
 use Rattle.teco_model.specs.Paging.{yank, append, one_page_of, pages, look_first, look_for, needed_output, page_turned, page_written, Progress, Looked, Met, Turned, Through}
 use Rattle.teco_model.specs.Search.{Finding, Found, Missed, search}
-use Rattle.teco_model.specs.Searching.{Miss, Answers, Leaves, Unended, Fails, miss_of, missed, found, found_in_buffer, looked, looking, found_in_pages, search_reply, kept_by_miss}
+use Rattle.teco_model.specs.Searching.{Miss, Unended, miss_of, missed, found, found_in_buffer, looked, looking, found_in_pages, search_reply, kept_by_miss}
 use Rattle.teco_model.specs.State.{Kept, World, Frame, State, Outcome, Next}
 use Rattle.teco_model.specs.Step.{flow_reply, after_argument, after_value, after_query, after_stack, after_command, value_for, reply_of, end_outcome, end_of_text, outcome_at}
 use Rattle.teco_model.specs.Macros.{Library, is_macro}
@@ -114,10 +114,8 @@ module _ (library : Library) (s : State) where
   -- searches
   missed_keeps : (miss : Miss) (left : Option ℕ) (arguments : Arguments) (old new : World) → Keeps library s.world.kept.registers old.kept.registers → Keeps library s.world.kept.registers new.kept.registers →
       Keeps library s.world.kept.registers (missed miss left arguments old new).world.kept.registers
-  missed_keeps Answers left arguments old new h k = k
-  missed_keeps (Leaves turn) left arguments old new h k = k
   missed_keeps Unended left arguments old new h k = h
-  missed_keeps Fails left arguments old new h k = k
+  missed_keeps miss left arguments old new h k = k
 
   moved_by_miss : (colons : ℕ) (kept : Kept) → Keeps library s.world.kept.registers kept.registers → Keeps library s.world.kept.registers (kept_by_miss colons kept).registers
   moved_by_miss zero kept k = k
@@ -172,13 +170,10 @@ module _ (library : Library) (s : State) where
   reply_keeps (kind.File f) e h = file_keeps f e.text
 
   settled_keeps : (e : Element) (reply : Reply) (course : Course) → Keeps library s.world.kept.registers reply.world.kept.registers → KeptBy (settled e s.frames reply course)
-  settled_keeps e reply Behind k = k
-  settled_keeps e reply Again k = k
-  settled_keeps e reply (Along frame) k = k
-  settled_keeps e reply (Into text) k = k
   settled_keeps e reply Quit k = tt
   settled_keeps e reply NoFile k = tt
   settled_keeps e reply (Refused c) k = tt
+  settled_keeps e reply course k = k
 
   settle_keeps : (e : Element) (r : Result Reply Code) → Replied r → KeptBy (settle e s r)
   settle_keeps e (Ok reply) k = settled_keeps e reply reply.course k
