@@ -14,7 +14,7 @@ use Rattle.teco_model.specs.Registers.{Registers}
 use Rattle.teco_model.specs.laws.StepCodes.{IsOfStep}
 use Rattle.teco_model.specs.declared.arguments.Level.{Level}
 use Rattle.teco_model.specs.declared.arguments.Operator.{Operator}
-use Rattle.teco_model.specs.declared.arguments.Operator.TheVariants.{Plus, Minus, Times, Over, And, Or}
+use Rattle.teco_model.specs.declared.arguments.Operator.TheVariants.{Plus, Minus, Over}
 use Rattle.teco_model.specs.declared.head.Head.{Head}
 use Rattle.teco_model.specs.declared.head.Head.TheVariants as head
 use Rattle.teco_model.specs.declared.head.Texts.{Texts}
@@ -93,12 +93,8 @@ element_at text place = by _ _ (element_from text _)
 
 -- arguments
 result_of : (operator : Operator) (x y : ℤ) → Coded (arguments.result_of operator x y)
-result_of Plus x y = tt
-result_of Minus x y = tt
-result_of Times x y = tt
 result_of Over x y = some _ code.Div tt
-result_of And x y = tt
-result_of Or x y = tt
+result_of operator x y = tt
 
 value_with : (v : ℤ) (value : Option ℤ) (operator : Option Operator) → Coded (arguments.value_with v value operator)
 value_with v value None = tt

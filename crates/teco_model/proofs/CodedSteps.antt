@@ -88,9 +88,7 @@ motion_to (suc n) (Some place) kept = tt
 
 motion_coded : (m : Motion) (e : Element) (taken : Taken) (kept : Kept) → Coded (motion.motion m e taken kept)
 motion_coded motion_kind.Lines e taken kept = tt
-motion_coded motion_kind.Forward e taken kept = motion_to e.colons _ kept
-motion_coded motion_kind.Backward e taken kept = motion_to e.colons _ kept
-motion_coded motion_kind.To e taken kept = motion_to e.colons _ kept
+motion_coded m e taken kept = motion_to e.colons _ kept
 
 characters : (n : ℤ) (kept : Kept) → Coded (deletion.character_deletion n kept)
 characters (pos n) kept = search either
@@ -167,12 +165,9 @@ after_argument argument_kind.Close e kept arguments = search (after, levels_afte
 after_argument argument_kind.Comma e kept arguments = search (after, with_level, level_after_comma)
 
 level_with_value : (v : Value) (kept : Kept) (level : Level) → Coded (model.level_with_value v kept level)
-level_with_value value_kind.Begin kept level = level_with _ level
-level_with_value value_kind.Size kept level = level_with _ level
-level_with_value value_kind.Pointer kept level = level_with _ level
 level_with_value value_kind.Whole kept level = level_with_pair _ _ level
-level_with_value value_kind.LastLength kept level = level_with _ level
 level_with_value value_kind.LastText kept level = level_with_pair _ _ level
+level_with_value v kept level = level_with _ level
 
 after_value : (v : Value) (kept : Kept) (arguments : Arguments) → Coded (model.after_value v kept arguments)
 after_value v kept arguments = after _ _ (with_level arguments _ (level_with_value v kept arguments.level)) (λ levels. tt)
@@ -402,9 +397,7 @@ filed file_kind.Exit name left arguments world = tt
 
 missed : (miss : searching.Miss) (left : Option ℕ) (arguments : Arguments) (before next : World) → Allowed (code_by (searching.missed miss left arguments before next).course)
 missed searching.Answers left arguments before next = tt
-missed (searching.Leaves turn) left arguments before next = tt
-missed searching.Unended left arguments before next = tt
-missed searching.Fails left arguments before next = tt
+missed miss left arguments before next = tt
 
 module _ (x : Search) (e : Element) (miss : searching.Miss) where
   found : (left : Option ℕ) (arguments : Arguments) (world : World) (finding : search_text.Finding) → Allowed (code_by (searching.found e miss left arguments world finding).course)
@@ -467,13 +460,8 @@ code_in (caller ∷ callers) code.Utc h = tt
 code_in (caller ∷ callers) c h = h
 
 settled : (e : Element) (frames : Frames) (reply : Reply) (course : Course) → Allowed (code_by course) → Tells (going.settled e frames reply course)
-settled e frames reply Behind h = tt
-settled e frames reply Again h = tt
-settled e frames reply (Along frame) h = tt
-settled e frames reply (Into text) h = tt
-settled e frames reply Quit h = tt
-settled e frames reply NoFile h = tt
 settled e frames reply (Refused c) h = code_in frames.callers c h
+settled e frames reply course h = tt
 
 settle : (e : Element) (s : State) (r : Result Reply Code) → Allowed (code_of r) → Tells (going.settle e s r)
 settle e s (Err c) h = code_in s.frames.callers c h
