@@ -52,15 +52,7 @@ module _ (c d : Frame) (cs ds : List Frame) (alike : AreTextsAlike c cs d ds) wh
     same_reply : (k : Kind) (e : Element) → reply_of k e s ≡ reply_of k e t
     unfolding reply_of
     same_reply (kind.Argument a) e = refl
-    same_reply (kind.Value v) e = refl
-    same_reply (kind.Query q) e = refl
-    same_reply (kind.Stack x) e = refl
-    same_reply (kind.Command x) e = refl
-    same_reply (kind.Call x) e = refl
-    same_reply (kind.Flow x) e = refl
-    same_reply (kind.Page p) e = refl
-    same_reply (kind.Search x) e = refl
-    same_reply (kind.File x) e = refl
+    same_reply k e = refl
 
     element_alike : (k : Kind) (e : Element) → AreOutcomesAlike (outcome_of k e s) (outcome_of k e t)
     element_alike k e = subst (λ r. AreOutcomesAlike (settle e s (reply_of k e s)) (settle e t r)) (same_reply k e) (settle_alike e (reply_of k e s))
