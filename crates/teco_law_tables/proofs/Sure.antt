@@ -12,7 +12,7 @@ use Rattle.teco_model.specs.declared.stop.HostFault.TheVariants as host_fault
 use Rattle.teco_model.specs.declared.stop.Stop.TheVariants as stop
 use Rattle.teco_model.specs.Element.{Element, element_at}
 use Rattle.teco_model.specs.Faults.{Breaks, BreaksAt, BreaksFrom}
-use Rattle.teco_model.specs.Going.{Course, Behind, Again, Along, Into, Quit, NoFile, Refused, Reply, settled, settle, world_left}
+use Rattle.teco_model.specs.Going.{Course, Behind, Reply, settled, settle, world_left}
 use Rattle.teco_model.specs.Memory.{grows}
 use Rattle.teco_model.specs.Run.{run, go_on, Reaches}
 use Rattle.teco_model.specs.State.{World, Frames, State, Outcome, Next, End, Exit, Fail}
@@ -81,9 +81,7 @@ page_reads page.Write reads before after new h = h
 
 search_reads : (q : Search) (grows : Bool) (before after new : World) → Breaks (kind.Search q) grows host_fault.NoFile before after new → ⊥
 search_reads search.Find grows before after new h = h
-search_reads search.Replace grows before after new h = h
-search_reads search.FindInPages grows before after new h = h
-search_reads search.ReplaceInPages grows before after new h = h
+search_reads q grows before after new h = h
 
 kind_opens : (k : Kind) (grows : Bool) (before after new : World) → is_of_files k ≡ false → Breaks k grows host_fault.NoFile before after new → ⊥
 kind_opens (kind.File f) grows before after new none h = absurd (cc)
@@ -102,12 +100,7 @@ none_opens t new none h = read_opens t (element_at t.frames.running.text t.frame
 -- no element is the end
 settled_goes : (e : Element) (frames : Frames) (reply : Reply) (course : Course) (w : World) → settled e frames reply course ≡ End w → ⊥
 settled_goes e frames reply Behind w h = cc
-settled_goes e frames reply Again w h = cc
-settled_goes e frames reply (Along frame) w h = cc
-settled_goes e frames reply (Into text) w h = cc
-settled_goes e frames reply Quit w h = cc
-settled_goes e frames reply NoFile w h = cc
-settled_goes e frames reply (Refused c) w h = cc
+settled_goes e frames reply course w h = cc
 
 settle_goes : (e : Element) (t : State) (r : Result Reply Code) (w : World) → settle e t r ≡ End w → ⊥
 settle_goes e t (Err c) w h = cc
