@@ -68,16 +68,7 @@ module _ (around : Surroundings) (unread : ℕ) (begun : Begun) (line : IsLine a
     by (suc f) e = omega (arith, line.past (omega arith))
 
   line_is : (d : Distances) (falls : Falls) → d.fore ≤ around.fore → Fallen falls → Fallen (line_ordered d falls)
-  line_is d falls l h = record {
-    fall = h.fall;
-    far = h.far;
-    line = less_greater _ _ falls.line _ h.line (less_grown (around.fore + unread) (around.beyond + unread) (min d.fore 1) begun.ahead falls.fall (past_end d.fore l) h.fall);
-    far_line = h.far_line;
-    held = h.held;
-    rest = h.rest;
-    read = h.read;
-    part = h.part;
-  }
+  line_is d falls l h = search (less_greater _ _ falls.line _ h.line (less_grown (around.fore + unread) (around.beyond + unread) (min d.fore 1) begun.ahead falls.fall (past_end d.fore l) h.fall))
 
   far_line_is : (falls : Falls) → Fallen falls → Fallen (far_line_ordered falls)
   far_line_is falls h = record {
@@ -137,16 +128,7 @@ pub anywhere_without : (around : Surroundings) (unread : ℕ) (falls : Falls) (b
 anywhere_without around unread falls begun h = record { fall = h.fall; line = h.line; held = h.held; rest = h.rest; read = h.read; part = h.part }
 
 pub without_end : (around : Surroundings) (unread : ℕ) (falls : Falls) (begun : Begun) → HasFallenAnywhere around unread falls begun → HasFallen around unread (falls_without_end falls) begun
-without_end around unread falls begun h = record {
-  fall = h.fall;
-  far = λ s. less_smaller_too _ _ falls.far falls.fall h.fall;
-  line = h.line;
-  far_line = λ s. less_smaller_too _ _ falls.far_line falls.line h.line;
-  held = h.held;
-  rest = h.rest;
-  read = h.read;
-  part = h.part;
-}
+without_end around unread falls begun h = search less_smaller_too
 
 -- another page comes
 pub anywhere_later : (old : Surroundings) (u : ℕ) (new : Surroundings) (u' : ℕ) (falls : Falls) (begun : Begun) → u' ≤ u → IsLine new → new.fore + new.back + u' ≤ u → HasFallenAnywhere old u falls begun → HasFallenAnywhere new u' falls begun

@@ -40,28 +40,10 @@ value-join_of n p q = value-join_at n p q _ refl
 
 -- ---- falls
 falls_both : (around : Surroundings) (unread : ℕ) (v w : Falls) (begun : Begun) → HasFallen around unread v begun → HasFallen around unread (smaller_falls v w) begun
-falls_both around unread v w begun h = record {
-  fall = less_smaller _ _ v.fall w.fall h.fall;
-  far = λ s. less_smaller _ _ v.far w.far (h.far s);
-  line = less_smaller _ _ v.line w.line h.line;
-  far_line = λ s. less_smaller _ _ v.far_line w.far_line (h.far_line s);
-  held = less_smaller _ _ v.held w.held h.held;
-  rest = less_smaller _ _ v.rest w.rest h.rest;
-  read = h.read;
-  part = h.part;
-}
+falls_both around unread v w begun h = search (less_smaller, h.far, h.far_line)
 
 falls_both_too : (around : Surroundings) (unread : ℕ) (v w : Falls) (begun : Begun) → HasFallen around unread w begun → HasFallen around unread (smaller_falls v w) begun
-falls_both_too around unread v w begun h = record {
-  fall = less_smaller_too _ _ v.fall w.fall h.fall;
-  far = λ s. less_smaller_too _ _ v.far w.far (h.far s);
-  line = less_smaller_too _ _ v.line w.line h.line;
-  far_line = λ s. less_smaller_too _ _ v.far_line w.far_line (h.far_line s);
-  held = less_smaller_too _ _ v.held w.held h.held;
-  rest = less_smaller_too _ _ v.rest w.rest h.rest;
-  read = h.read;
-  part = h.part;
-}
+falls_both_too around unread v w begun h = search (less_smaller_too, h.far, h.far_line)
 
 falls_left : (around : Surroundings) (unread : ℕ) (vs ws : List Falls) (turns : List Begun) → length vs ≡ length ws → AreEach (HasFallen around unread) vs turns → AreEach (HasFallen around unread) (joined_falls vs ws) turns
 falls_left around unread [] [] turns l h = h
