@@ -15,12 +15,21 @@ use teco_model::{Element, Span, Taken};
 use teco_text::{TextStore, pieces};
 
 impl<T: TextStore> Editor<T> {
-    // Adds to the number of a register, and answers the sum.
-    fn add_number(&mut self, reg: Reg, n: i32) -> i32
+    /// Sets the number of a register.
+    #[inline(always)]
+    pub fn set_number(&mut self, reg: Reg, n: i32)
+        ensures { self.new ≡ model.kept_with_number reg n self.old }
+    {
+        self.regs.set_number(reg, n);
+    }
+
+    /// Adds to the number of a register, and answers the sum.
+    #[inline(always)]
+    pub fn add_number(&mut self, reg: Reg, n: i32) -> i32
         ensures { model.addition reg n self.old ≡ with_answer result self.new }
     {
         let sum = arithmetic::add(self.regs.number(reg), n);
-        self.regs.set_number(reg, sum);
+        self.set_number(reg, sum);
         sum
     }
 
@@ -98,7 +107,7 @@ impl<T: TextStore> Editor<T> {
     {
         match storage {
             Storage::SetNumber(reg) => {
-                self.regs.set_number(reg, taken.value.ok_or(Code::Arg)?);
+                self.set_number(reg, taken.value.ok_or(Code::Arg)?);
                 Ok(None)
             }
             Storage::Add(reg) => Ok(Some(self.add_number(reg, taken.value.unwrap_or(1)))),

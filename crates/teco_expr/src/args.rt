@@ -107,6 +107,7 @@ impl Args {
     }
 
     /// Puts a command's answer in the place of what is pending in the innermost level.
+    #[inline(always)]
     pub fn answer(&mut self, value: i32)
         ensures { self.new ≡ model.levels_after_answer (Some value) self.old }
     {
@@ -118,9 +119,21 @@ impl Args {
     }
 
     /// The value so far in the innermost level, if there is one.
+    #[inline(always)]
     pub fn value_so_far(&self) -> Option<i32>
         ensures { result ≡ self.now.level.value }
     {
+        self.level.value
+    }
+
+    /// The value that stands in the innermost level, with no operator behind it.
+    #[inline(always)]
+    pub fn standing(&self) -> Option<i32>
+        ensures { result ≡ model.standing_value self.now.level }
+    {
+        if self.level.operator.is_some() {
+            return None;
+        }
         self.level.value
     }
 
@@ -132,10 +145,7 @@ impl Args {
         ensures taken { OnSome result (self.new ≡ model.levels_after_taking self.old) }
         ensures none { IfNone result (self.new ≡ self.old) }
     {
-        if self.level.operator.is_some() {
-            return None;
-        }
-        let value = self.level.value?;
+        let value = self.standing()?;
         self.level = EMPTY;
         Some(value)
     }

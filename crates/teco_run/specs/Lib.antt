@@ -7,6 +7,7 @@ pub use Rattle.teco_model.specs.Run
 pub use Rattle.teco_model.specs.Registers
 pub use Rattle.teco_regs.specs.Texts
 pub mod Performs
+pub mod AtOnce
 pub mod Bodies
 pub mod Frames
 pub mod Holdings

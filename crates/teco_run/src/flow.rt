@@ -55,8 +55,8 @@ fn holds(test: Test, n: i32) -> bool
     }
 }
 
-// Whether `;` leaves its iteration, or `:;`.
-fn leaves(colons: u8, n: i32) -> bool
+/// Whether `;` leaves its iteration, or `:;`.
+pub fn leaves(colons: u8, n: i32) -> bool
     ensures { result ≡ model.leaves colons n }
 {
     (colons == 0) == (n >= 0)

@@ -2,6 +2,7 @@
 #![tactic(auto)]
 
 mod arguments;
+mod at_once;
 mod body;
 mod course;
 mod desk;
