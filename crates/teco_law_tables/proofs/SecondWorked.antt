@@ -1,5 +1,5 @@
 -- Tables worked by hand, by the second edition of the rules.
-use Rattle.std.proofs.Common.{refl}
+use Rattle.std.proofs.Common.{rules}
 use Rattle.std.specs.Fmt.{digits}
 use Rattle.std.specs.Int.{int_wrap}
 use Rattle.teco_model.specs.Ahead.{reading_at, first_readings, readings}
@@ -18,20 +18,4 @@ use Rattle.teco_verifier.specs.table.Written.{written_in, written, ends_in}
 
 pub worked_second_tables : WorkedSecondTables
 unfolding digits int_wrap blank_len element_from element_at letters reading_at first_readings readings part_at parts_within parts read_at flow_ways ways_at next_visit walk way_numbers node_at nodes_at expansion transfer check_nodes check derive commands size needs_in written_in written ends_in texts_at_entry
-worked_second_tables = record {
-  lines = refl;
-  untested = refl;
-  deleted = refl;
-  saved = refl;
-  not_saved = refl;
-  pages = refl;
-  pages_alone = refl;
-  trimmed = refl;
-  proved = refl;
-  not_proved = refl;
-  near = refl;
-  not_near = refl;
-  added = refl;
-  pages_once = refl;
-  text_put = refl;
-}
+worked_second_tables = search rules

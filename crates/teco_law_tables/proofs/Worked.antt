@@ -1,5 +1,5 @@
 -- Tables worked by hand.
-use Rattle.std.proofs.Common.{refl}
+use Rattle.std.proofs.Common.{rules}
 use Rattle.std.specs.Fmt.{digits}
 use Rattle.std.specs.Int.{int_wrap}
 use Rattle.teco_model.specs.Ahead.{reading_at, first_readings, readings}
@@ -18,26 +18,4 @@ use Rattle.teco_verifier.specs.table.Written.{written_in, written, ends_in}
 
 pub worked_tables : WorkedTables
 unfolding digits int_wrap blank_len element_from element_at letters reading_at first_readings readings part_at parts_within parts read_at flow_ways ways_at next_visit walk way_numbers node_at nodes_at expansion transfer check_nodes check derive commands size needs_in written_in written ends_in texts_at_entry
-worked_tables = record {
-  marks = refl;
-  marks_once = refl;
-  lost = refl;
-  more = refl;
-  too_little = refl;
-  none_chosen = refl;
-  counted = refl;
-  endless = refl;
-  replaced = refl;
-  copied = refl;
-  pages = refl;
-  repeated = refl;
-  by_argument = refl;
-  tested = refl;
-  appended = refl;
-  refused = refl;
-  returned = refl;
-  deleted = refl;
-  returned_in_turns = refl;
-  deleted_in_turns = refl;
-  written_in_turns = refl;
-}
+worked_tables = search rules
