@@ -1,4 +1,4 @@
-use Rattle.std.proofs.Common.{refl}
+use Rattle.std.proofs.Common.{rules}
 use Rattle.std.specs.Fmt.{digits}
 use Rattle.std.specs.Int.{int_wrap}
 use Rattle.teco_model.specs.Ahead.{reading_at, first_readings, readings}
@@ -13,16 +13,4 @@ use Rattle.teco_model.specs.rows.Pages.{PageRows}
 
 pub page_rows : PageRows
 unfolding digits int_wrap empty_pairs blank_len element_from element_at letters reading_at first_readings readings here part_at parts_within parts reply_of step run
-page_rows = record {
-  edits = refl;
-  turns_two = refl;
-  copies = refl;
-  looks_on = refl;
-  looks_through = refl;
-  answers = refl;
-  needs_output = refl;
-  no_pages = refl;
-  missing = refl;
-  exits = refl;
-  exits_with_output = refl;
-}
+page_rows = search rules
