@@ -1,12 +1,11 @@
 -- The register that an element names is one of the 36.
-use Rattle.std.proofs.Common.{◌≡◌, ℕ, ◌+◌, ◌-◌, ◌<◌, ◌≤◌, arith, refl, List, [], ◌∷◌, Option, Some, None, option_map, IfSome, Result, IfOk, Bool, true, false, cond, nat_le, ◌==◌, ◌&&◌}
+use Rattle.std.proofs.Common.{◌≡◌, ℕ, ◌+◌, ◌-◌, ◌<◌, ◌≤◌, arith, refl, List, [], ◌∷◌, Option, Some, None, option_map, IfSome, Result, IfOk, Bool, true, false, cond, nat_le, ◌&&◌}
 use Rattle.std.specs.Option.{option_or}
 use Rattle.std.specs.Prelude.{⊤, codes, option_and_then}
 use Rattle.std.proofs.lemmas.Bool.Decides.{nat_tests}
-use Rattle.teco_base.specs.Bytes.{is_digit, is_among, to_upper, control}
+use Rattle.teco_base.specs.Bytes.{is_among, to_upper, control}
 use Rattle.teco_base.specs.Register.{register_of}
 use Rattle.teco_base.specs.declared.TheConstants.{REGISTERS}
-use Rattle.teco_base.specs.declared.bytes.TheConstants.{QUOTE}
 use Rattle.teco_base.specs.declared.code.Code.{Code}
 use Rattle.teco_model.specs.Form.{kind_on}
 use Rattle.teco_model.specs.Letters as letter
@@ -16,12 +15,6 @@ use Rattle.teco_model.specs.declared.head.Head.TheVariants as head
 use Rattle.teco_model.specs.declared.head.OnRegister.{OnRegister}
 use Rattle.teco_model.specs.declared.head.OnRegister.TheVariants as on_register
 use Rattle.teco_model.specs.declared.kind.Kind.{Kind}
-use Rattle.teco_model.specs.declared.kind.Kind.TheVariants as kind
-use Rattle.teco_model.specs.declared.kind.File.{File}
-use Rattle.teco_model.specs.declared.kind.Flow.TheVariants as flow
-use Rattle.teco_model.specs.declared.kind.Goal.{Goal}
-use Rattle.teco_model.specs.declared.kind.Search.{Search}
-use Rattle.teco_model.specs.declared.kind.Test.{Test}
 use Rattle.teco_model.proofs.Standing.{IsOfHead, found_read}
 use Rattle.teco_law_facts.proofs.Bytes.{of_either}
 use Rattle.teco_law_facts.specs.SoundSteps.{IsNamed, ElementsAreNamed}
@@ -83,7 +76,7 @@ argument_so : (b : ℕ) → IfSome (letter.argument_sign b) IsNamed
 argument_so b = search (kind_or, tt) depth 14
 
 one_so : (b : ℕ) → IfSome (letter.one_byte b) IsPlain
-one_so b = or_so (option_map head.Kind (letter.argument_sign b)) _ (kinds_so (letter.argument_sign b) (argument_so b)) (or_so (letter.command_sign b) _ (command_so b) (or_so (letter.letter_to_m (to_upper b)) _ (to_m_so (to_upper b)) (or_so (letter.letter_from_n (to_upper b)) (letter.control_command b) (from_n_so (to_upper b)) (control_so b))))
+one_so b = search (or_so, kinds_so, argument_so, command_so, to_m_so, from_n_so, control_so) depth 8
 
 head_so : (o : Option Head) (n : ℕ) → IfSome o IsPlain → IfOk (letter.head_of o n) (λ h. IsPlain h.0)
 head_so None n h = tt
@@ -105,22 +98,19 @@ page_so [] = tt
 page_so (b ∷ rest) = of_either (λ (h : Head × ℕ). IsPlain h.0) (is_among (to_upper b) (codes "W")) _ _ tt tt
 
 replace_so : (b : ℕ) → IfSome (letter.replace_or_flow b) IsPlain
-replace_so b =
-    or_so (letter.replace_letter b) _ (mapped_so (λ (s : Search). head.Kind (kind.Search s)) (λ s. tt) _)
-    (mapped_so (λ (g : Goal). head.Kind (kind.Flow (flow.GoAhead g))) (λ g. tt) _)
+replace_so b = search (or_so, mapped_so, tt) depth 6
 
-letters_so : (bytes : List ℕ) → IfOk (letters bytes) (λ h. IsPlain h.0)
+abbrev AreSo : Result (Head × ℕ) Code → Type 0
+AreSo r = IfOk r (λ (h : Head × ℕ). IsPlain h.0)
+
+either_so : (b : Bool) (x y : Result (Head × ℕ) Code) → AreSo x → AreSo y → AreSo (cond b x y)
+either_so true x y h i = h
+either_so false x y h i = i
+
+letters_so : (bytes : List ℕ) → AreSo (letters bytes)
 unfolding letters
 letters_so [] = tt
-letters_so (b ∷ rest) =
-    let Q : Result (Head × ℕ) Code → Type 0 = λ r. IfOk r (λ (h : Head × ℕ). IsPlain h.0) in
-    of_either Q (is_digit b) _ _ tt
-    (of_either Q (is_among b (codes "=")) _ _ tt
-    (of_either Q (is_among (to_upper b) (codes "E")) _ _ (second_so letter.file_letter (λ b. mapped_so (λ (f : File). head.Kind (kind.File f)) (λ f. tt) _) rest)
-    (of_either Q (is_among (to_upper b) (codes "F")) _ _ (second_so letter.replace_or_flow replace_so rest)
-    (of_either Q (b == QUOTE) _ _ (second_so letter.test_letter (λ b. mapped_so (λ (t : Test). head.Kind (kind.Flow (flow.Test t))) (λ t. tt) _) rest)
-    (of_either Q (is_among b (codes "^")) _ _ (caret_so rest)
-    (of_either Q (is_among (to_upper b) (codes "P")) _ _ (page_so rest) (head_so _ 1 (one_so b))))))))
+letters_so (b ∷ rest) = search (either_so, second_so, mapped_so, replace_so, caret_so, page_so, head_so, one_so, tt) depth 14
 
 kind_so : (h : Head) (k : Kind) → IsPlain h → IsOfHead h k → IsNamed k
 kind_so (head.Kind k) kind p is = rw is p
