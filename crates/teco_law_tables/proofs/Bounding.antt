@@ -161,11 +161,7 @@ module _ (laws : ending.Laws) (sound : NodesAreSound) (bounded : TurnsAreBounded
 
       fewer_by : (depth : ℕ) (u : State) → 1 ≤ depth → Reaches g.passes.before s u → (b : Bool) → goes_back depth u g.passes.next ≡ b → (if b then 1 else 0) ≤ turns_by depth (turning nodes table n) here next move
       fewer_by depth u some came false h = omega arith
-      fewer_by depth u some came true h =
-          let p = and_both _ _ h in
-          let q = and_both _ _ p.0 in
-          back_by depth move some (sym (reads_same g.passes.before u (omega arith) came) ∙ q.0)
-          (sym (same_depth g.passes.before u (omega arith) came) ∙ eqb-true (depth_of u) depth q.1) (eqb-true (depth_of g.passes.next) depth p.1)
+      fewer_by depth u some came true h = search (and_both, back_by, move, reads_same, same_depth, eqb-true, arith)
 
       begun : (depth : ℕ) (u : State) → 1 ≤ depth → Reaches g.passes.before s u → turns_begun depth u g.passes.next ≤ turns_by depth (turning nodes table n) here next move
       begun depth u some came = fewer_by depth u some came _ refl

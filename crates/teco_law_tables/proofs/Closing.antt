@@ -1,5 +1,5 @@
 -- A closed table is closed as a table of numbers.
-use Rattle.std.proofs.Common.{◌≡◌, ℕ, zero, suc, ◌+◌, ◌-◌, ◌*◌, ◌≤◌, ◌<◌, ◌==◌, refl, sym, ap, ◌∙◌, subst, arith, inr, eqb-true, ℤ, pos, List, [], ◌∷◌, Bool, true, false, if◌then◌else◌, Option, Some, None, Ok}
+use Rattle.std.proofs.Common.{◌≡◌, ℕ, zero, suc, ◌+◌, ◌-◌, ◌*◌, ◌≤◌, ◌<◌, ◌==◌, refl, sym, ap, ◌∙◌, arith, inr, eqb-true, ℤ, pos, List, [], ◌∷◌, Bool, true, false, if◌then◌else◌, Option, Some, None, Ok}
 use Rattle.std.specs.Prelude.{IsTrue}
 use Rattle.std.specs.List.{AllByRecursion}
 use Rattle.std.specs.Option.{option_map_or}
@@ -169,10 +169,7 @@ module _ (library : Library) (entry : ℕ) (nodes : List Node) (are : AreLinked 
     room_at (Some start) there = room_there start there
 
 falls_alone : (library : Library) (entry : ℕ) (nodes : List Node) → AreClosed nodes → (l : ℕ) → l < end_of nodes l → AllByRecursion (λ o. fall_where (suc l == suc o) ≡ None) (iterations_at nodes l)
-falls_alone library entry nodes closed l some =
-    let begin = (closed.begins l some).0 in
-    subst (AllByRecursion (λ o. fall_where (suc l == suc o) ≡ None)) (sym (iterations_are nodes l begin.node begin.at))
-    (no_falls l l begin.node.stand.iterations (omega arith) (closed.descend l begin.node begin.at))
+falls_alone library entry nodes closed l some = search (iterations_are, no_falls, arith)
 
 tables_close : NodesNest → (library : Library) (entry : ℕ) (nodes : List Node) → AreLinked library entry nodes → IterationsAreOpen → AreClosed nodes → (table : Table) (n : ℕ) → check_nodes nodes table ≡ Ok tt → (l : ℕ) → l < end_of nodes l → IsClosedLoop (turning nodes table n) l
 tables_close nest library entry nodes are open_at closed table n passes l some = record {

@@ -172,10 +172,7 @@ none_later true b h = absurd (cc)
 
 none_paged_from : (table : Table) (k j : ℕ) (rest : List Node) (node : Node) → is_paged_from table k rest ≡ false → slice_get rest j ≡ Some node → is_paged_at table (k + j) node ≡ false
 none_paged_from table k j [] node none at = absurd (cc)
-none_paged_from table k zero (x ∷ rest) node none at =
-    let same : x ≡ node = cc in
-    let z : k ≡ k + 0 = omega arith in
-    subst (λ i. is_paged_at table i node ≡ false) z (subst (λ (x : Node). is_paged_at table k x ≡ false) same (none_first (is_paged_at table k x) (is_paged_from table (suc k) rest) none))
+none_paged_from table k zero (x ∷ rest) node none at = search (none_first, arith)
 none_paged_from table k (suc j) (x ∷ rest) node none at =
     let z : suc k + j ≡ k + suc j = omega arith in
     subst (λ i. is_paged_at table i node ≡ false) z (none_paged_from table (suc k) j rest node (none_later (is_paged_at table k x) (is_paged_from table (suc k) rest) none) at)

@@ -100,12 +100,7 @@ module _ (nodes : List Node) (table : Table) (n : ℕ) where
 
   counts : (k : ℕ) (rest : List Node) (counted : Counted) (p : Polynomial) → ((j : ℕ) (node : Node) → slice_get rest j ≡ Some node → numbered nodes (k + j) ≡ Some node) → count_from nodes table k rest counted ≡ Ok p →
       value p n + sum_below (weight_of (turning nodes table n)) k ≡ value counted.total n + sum_below (weight_of (turning nodes table n)) (k + length rest) + due counted.pages (is_paged_from table k rest)
-  counts k [] counted p at h =
-      let e : counted.total ≡ p = cc in
-      let z : k + 0 ≡ k = omega arith in
-      let one : sum_below (weight_of (turning nodes table n)) (k + 0) ≡ sum_below (weight_of (turning nodes table n)) k = ap (sum_below (weight_of (turning nodes table n))) z in
-      let two : value counted.total n ≡ value p n = ap (λ (p : Polynomial). value p n) e in
-      omega (arith, one, two, due_none counted.pages)
+  counts k [] counted p at h = search (due_none, arith)
   counts k (node ∷ rest) counted p at h =
       let z : k ≡ k + 0 = omega arith in
       let s : suc k + length rest ≡ k + suc (length rest) = omega arith in

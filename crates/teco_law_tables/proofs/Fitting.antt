@@ -137,10 +137,4 @@ text_less n (p ∷ texts) (q ∷ others) c (suc r) = text_less n texts others (a
 text_less n texts others c r = absurd (grind arith)
 
 pub fits_covered : (run : Run) (facts next : Facts) → IsTrue (covers facts next) → Fits run facts → Fits run next
-fits_covered run facts next c f =
-    let held : value next.held run.n ≤ value facts.held run.n = values_compare next.held facts.held run.n (held_covered facts next c) in
-    let buffer : value next.held run.n ≤ LIMIT = omega (arith, held, f.buffer) in
-    let p = and_both _ _ c in
-    let texts = (and_both _ _ p.0).1 in
-    let less = text_less run.n facts.texts next.texts texts in
-    record { buffer = buffer; texts = λ r e. omega (arith, less r, f.texts r e) }
+fits_covered run facts next c f = search (values_compare, held_covered, and_both, text_less, arith)

@@ -229,18 +229,7 @@ module _ (laws : Laws) (ground : Ground) (closed : AreClosed ground.nodes) (pass
             subst (λ ls. AreOpened nodes table n ls (open_loops t) later) (sym (back.same ∙ back.innermost)) (subst (λ ls. AreOpened nodes table n (back.begin ∷ back.outer) ls later) (sym to) (own, opened.rest))
 
         described_again : IsDescribed library nodes table n below goes.target later t
-        described_again = record {
-          node = there;
-          facts = opened.own.start;
-          at = at;
-          known = started_at;
-          position = stands_there laws ground closed passage there at stand;
-          begins = goes.done;
-          loaded = loaded;
-          whole = whole;
-          opened = opened_there;
-          described = described_there;
-        }
+        described_again = search (started_at, stands_there, opened_there, described_there)
 
       pub begins_further : MovesOn library nodes table n below number here.node turns s goes.target t
       begins_further = record { there = there; at = at; later = later; move = Back returning_it; held = described_again }

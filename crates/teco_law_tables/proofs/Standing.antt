@@ -119,10 +119,7 @@ module _ (library : Library) (entry : ℕ) (nodes : List Node) (are : AreLinked 
         iterations_are nodes (suc (suc k)) next.0 next.1 ∙ (after ∙ ap (λ (o : Option Node). onward (option_map_or mark_in o Plain) (suc k) (option_map_or iterations_of o [])) (sym here.1))
 
     begins_at_mark : (l : ℕ) → l < end_of nodes l → (mark_at nodes l ≡ Begin) × (end_of nodes l < suc (length nodes))
-    begins_at_mark l some =
-        let known = closed.begins l some in
-        let begin = known.0 in
-        (ap (λ (o : Option Node). option_map_or mark_in o Plain) begin.at ∙ (ap mark_of begin.reads ∙ ap mark_of_kind begin.kind_is), omega (arith, known.1))
+    begins_at_mark l some = search arith
 
     pub passed : IsPassed (turning nodes table n) (λ k. mark_at nodes k)
     passed = record {

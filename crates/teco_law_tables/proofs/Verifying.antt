@@ -117,16 +117,7 @@ pub record Laws : Type 0 where
   pub whole : WholeIsKept
 
 returned : (run : Run) (facts : Facts) (unread : ℕ) (kept : Kept) (arguments : Arguments) → Describes run facts unread kept arguments → Describes run (without_digit (without_answer facts)) unread kept arguments
-returned run facts unread kept arguments d = record {
-  state = record {
-    position = record { begin = d.state.position.begin; end = d.state.position.end; fallen = d.state.position.fallen; ahead = d.state.position.ahead; saved = d.state.position.saved; digit = tt };
-    held = d.state.held;
-    registers = d.state.registers;
-    pushed = d.state.pushed;
-  };
-  pending = d.pending;
-  answers = tt;
-}
+returned run facts unread kept arguments d = search tt
 
 module _ (laws : Laws) (ground : Ground) (closed : AreClosed ground.nodes) (rules : Rules) (argument : Option ArgumentRange) (commands_are size_is : Polynomial) (printed : IsPrinted (entry_of rules ground.library argument) ground.nodes ground.table commands_are size_is) (small : value size_is ground.n ≤ LIMIT) (names : ElementsAreNamed) (first : State) (whole_first : IsWholeState first) where
   open ground use {library, entry, nodes, table, n, below, are, passes}

@@ -4,7 +4,7 @@ use Rattle.std.proofs.lemmas.Bool.{cases_lt}
 use Rattle.std.proofs.lemmas.Slice.Eq.{bytes_eq-Decides}
 use Rattle.teco_base.specs.declared.TheConstants.{REGISTERS}
 use Rattle.teco_base.specs.Register.{register_of, register_name}
-use Rattle.teco_verifier.specs.expansion.Expansion.{same_spot, same_spots, same_position, same_stand, number_behind}
+use Rattle.teco_verifier.specs.expansion.Expansion.{same_spot, same_spots, same_stand, number_behind}
 use Rattle.teco_verifier.specs.expansion.Node.{Stand}
 use Rattle.teco_verifier.specs.expansion.Position.{Spot}
 
@@ -27,11 +27,7 @@ spots_alike [] = refl
 spots_alike (spot ∷ spots) = both (same_spot spot spot) (same_spots spots spots) (spot_alike spot) (spots_alike spots)
 
 stand_alike : (a : Stand) → same_stand a a ≡ true
-stand_alike a =
-    both (same_position a.position a.position) (bytes_eq a.iterations a.iterations)
-    (both (same_spot a.position.running a.position.running) (same_spots a.position.callers a.position.callers)
-    (spot_alike a.position.running) (spots_alike a.position.callers))
-    (same_bytes a.iterations)
+stand_alike a = search (both, spot_alike, spots_alike, same_bytes)
 
 pub next_number : (all rest : List Stand) (number : ℕ) (stand : Stand) → drop number all ≡ stand ∷ rest → number_behind number all stand ≡ Some (suc number)
 next_number all rest number stand h =

@@ -175,20 +175,7 @@ no_lines entry number place text (e ∷ elements) s = (line_of_kind e.kind s.0, 
 
 -- both polynomials are linear
 linear_fits : (count more : ℕ) → count ≤ LIMIT → more ≤ 1 → IsPoly (first COEFFICIENTS (count ∷ more ∷ []))
-linear_fits count more l m = record {
-  nine = refl;
-  small = (omega arith, (omega arith, (omega arith, (omega arith, (omega arith, (omega arith, (omega arith, (omega arith, (omega arith, tt)))))))));
-}
+linear_fits count more l m = search arith
 
 pub straight_tables_print : StraightTablesPrint
-straight_tables_print rules library entry text elements is l =
-    let known = entry_of rules library None in
-    let none : AllByRecursion BeginsNoIteration (straight_nodes entry text elements) = (refl, no_lines entry 2 0 text elements is.straight) in
-    record {
-      commands_are = commands_printed rules library entry text elements is.straight is.few none;
-      size_is = size_printed known entry text elements (omega (arith, l, inserted_within text elements is.read));
-      needs_nothing = needs_printed known entry text elements is.straight;
-      has_no_lines = none;
-      steps_fit = linear_fits (2 + length elements) 0 (omega (arith, is.few)) (omega arith);
-      most_fits = linear_fits (inserted elements) 1 (omega (arith, l, inserted_within text elements is.read)) (omega arith);
-    }
+straight_tables_print rules library entry text elements is l = search (no_lines, commands_printed, size_printed, inserted_within, needs_printed, linear_fits, arith)

@@ -12,13 +12,7 @@ use Rattle.teco_law_tables.proofs.straight_text.Accepting.{straight_texts_are_ac
 
 is_straight : IsStraight (only letters_put_in) 0 letters_put_in elements_put_in
 unfolding blank_len element_from element_at letters
-is_straight = record {
-  register = omega arith;
-  has_text = refl;
-  read = (refl, (refl, (refl, (refl, refl))));
-  straight = (tt, (tt, (tt, (tt, tt))));
-  few = omega arith;
-}
+is_straight = search arith
 
 pub worked_straight_text : WorkedStraightText
 unfolding digits int_wrap
