@@ -1,12 +1,11 @@
 -- A number before a call is taken first, and then it is pending.
-use Rattle.std.proofs.Common.{◌≡◌, ℕ, zero, suc, ◌+◌, ◌-◌, ◌<◌, ◌≤◌, ◌^◌, arith, pos, List, [], ◌∷◌, ◌++◌, take, drop, map, length, length-append, true, false, Some, None, Ok, refl, sym, ap, ◌∙◌, subst, nat_le, lit<, w32}
+use Rattle.std.proofs.Common.{◌≡◌, ℕ, zero, suc, ◌+◌, ◌-◌, ◌<◌, ◌≤◌, ◌^◌, arith, pos, List, [], ◌∷◌, ◌++◌, take, drop, map, length, length-append, true, false, Some, None, Ok, refl, sym, ap, ◌∙◌, subst, nat_le, lit<}
 use Rattle.std.proofs.Math.Seq.{take-append_seam, drop-append_seam}
 use Rattle.std.proofs.lemmas.Bool.{le-leb}
 use Rattle.std.proofs.lemmas.Bool.Decides.{nat_tests}
 use Rattle.std.proofs.lemmas.List.{length-map}
 use Rattle.std.proofs.lemmas.Fmt.{decimal_digit, decimal-digits_of}
 use Rattle.std.proofs.lemmas.Int.{ints, int_wrap_fits}
-use Rattle.std.specs.Int.{int_wrap}
 use Rattle.std.proofs.lemmas.Int.Digits.{all_below_base_digits_of, number_digits_of}
 use Rattle.std.specs.Int.Digits.{AllBelowBase, digits_of, number_from_digits}
 use Rattle.std.specs.List.{prefix_len}
@@ -74,12 +73,7 @@ some_there rest = grind (arith, nat_tests)
 
 first_digit : (d c : ℕ) (rest : List ℕ) → d < 10 → element_at ((48 + d) ∷ (c ∷ rest)) 0 ≡ Ok (Some (digits_element ((48 + d) ∷ (c ∷ rest))))
 unfolding element_at
-first_digit d c rest small =
-    let text = (48 + d) ∷ (c ∷ rest) in
-    let none : blank_end text 0 ≡ 0 = omega (arith, no_blank_before d c rest small) in
-    ap (λ at. elim (nat_le (length text) at) [ true ↦ Ok None | false ↦ element_from text at >>= (λ e. Ok (Some e)) ]) none
-    ∙ (ap (λ t. elim t [ true ↦ Ok None | false ↦ element_from text 0 >>= (λ e. Ok (Some e)) ]) (some_there (length rest))
-    ∙ ap (λ r. r >>= (λ e. Ok (Some e))) (from_digit d c rest small))
+first_digit d c rest small = search (no_blank_before, some_there, from_digit, arith)
 
 digit_glyph_is : (d : ℕ) → d < 10 → is_digit (48 + d) ≡ true
 digit_glyph_is d small = grind (arith, nat_tests)
@@ -190,10 +184,7 @@ module _ (entry n : ℕ) (world : World) (named : entry < REGISTERS) (small : n 
   front_is = ap (λ k. take k text) (count ∙ sym (length-map ds (λ d. 48 + d))) ∙ take-append_seam (glyphs ds) (call_of entry)
 
   number_is : run_value (take (digits_in text) text) ≡ pos n
-  number_is =
-      ap run_value front_is
-      ∙ (ap (λ xs. int_wrap w32 (pos (number_from_digits 10 xs))) (back ds)
-      ∙ (ap (λ k. int_wrap w32 (pos k)) are.value_is ∙ int_wrap_fits w32 (pos n) (omega (arith, ints, small))))
+  number_is = search (front_is, back, int_wrap_fits, arith, ints)
 
   abbrev behind : State
   behind = record {

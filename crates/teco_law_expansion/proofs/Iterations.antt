@@ -89,10 +89,7 @@ earlier (first ∷ nodes) (suc k) node h = let e = earlier nodes k node h in rec
 
 pub first_is : (nodes : List Node) (end stand : Stand) (node : Node) → slice_get (map stand_of_node nodes ++ end ∷ []) 0 ≡ Some stand → slice_get nodes 0 ≡ Some node → stand ≡ node.stand
 first_is [] end stand node h g = absurd (cc)
-first_is (first ∷ nodes) end stand node h g =
-    let e : first ≡ node = cc in
-    let s : first.stand ≡ stand = cc in
-    sym s ∙ ap stand_of_node e
+first_is (first ∷ nodes) end stand node h g = search tt
 
 -- where a node stands
 pub node_stands : (nodes : List Node) (end : Stand) (k : ℕ) (node : Node) → slice_get nodes k ≡ Some node → slice_get (map stand_of_node nodes ++ end ∷ []) k ≡ Some node.stand

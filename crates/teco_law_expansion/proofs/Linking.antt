@@ -1,5 +1,5 @@
 -- Whatever is expanded is linked.
-use Rattle.std.proofs.Common.{◌≡◌, ℕ, zero, suc, ◌+◌, ◌-◌, ◌<◌, ◌≤◌, nat_le, length, rules, List, [], ◌∷◌, ◌++◌, map, drop, Bool, true, false, not, ◌&&◌, ◌==◌, bytes_eq, Option, Some, None, Result, Ok, Err, refl, sym, ap, ◌∙◌, subst, slice_get, get_or, position, eqb-true, arith}
+use Rattle.std.proofs.Common.{◌≡◌, ℕ, zero, suc, ◌+◌, ◌-◌, ◌<◌, ◌≤◌, length, rules, List, [], ◌∷◌, ◌++◌, map, drop, Bool, true, false, not, ◌&&◌, ◌==◌, bytes_eq, Option, Some, None, Result, Ok, Err, refl, sym, ap, ◌∙◌, subst, slice_get, get_or, position, eqb-true, arith}
 use Rattle.std.specs.Option.{option_map, ok_or}
 use Rattle.std.proofs.lemmas.Bool.{leb-true}
 use Rattle.std.proofs.lemmas.List.{length-map}
@@ -83,10 +83,7 @@ spots_of_itself [] = refl
 spots_of_itself (spot ∷ spots) = and_both (same_spot spot spot) (same_spots spots spots) (spot_alike spot) (spots_of_itself spots)
 
 stand_alike : (a : Stand) → same_stand a a ≡ true
-stand_alike a =
-    and_both (same_position a.position a.position) (bytes_eq a.iterations a.iterations)
-    (and_both (same_spot a.position.running a.position.running) (same_spots a.position.callers a.position.callers) (spot_alike a.position.running) (spots_of_itself a.position.callers))
-    (same_bytes a.iterations)
+stand_alike a = search (and_both, spot_alike, spots_of_itself, same_bytes)
 
 numbered-some : {X : Type 0} (all : List X) (n base j : ℕ) → n ≡ suc (base + j) → numbered all n ≡ slice_get (drop base all) j
 numbered-some all n base j h = ap (numbered all) h ∙ sym (slice_get-drop base j all)
@@ -411,12 +408,7 @@ record IsDone (library : Library) (entry number : ℕ) (vs : List Visit) : Type 
 
 -- the tests of what there may be
 counts_few : (number : ℕ) (next : Visit) → is_within number next ≡ true → (number ≤ MOST_ELEMENTS) × (length next.registers ≤ MOST_OPEN) × (length next.stand.iterations ≤ MOST_OPEN)
-counts_few number next h =
-    let both = and_left (nat_le number MOST_ELEMENTS && nat_le (length next.registers) MOST_OPEN) (nat_le (length next.stand.iterations) MOST_OPEN) h in (
-      leb-true number MOST_ELEMENTS (and_left (nat_le number MOST_ELEMENTS) (nat_le (length next.registers) MOST_OPEN) both),
-      leb-true (length next.registers) MOST_OPEN (and_right (nat_le number MOST_ELEMENTS) (nat_le (length next.registers) MOST_OPEN) both),
-      leb-true (length next.stand.iterations) MOST_OPEN (and_right (nat_le number MOST_ELEMENTS && nat_le (length next.registers) MOST_OPEN) (nat_le (length next.stand.iterations) MOST_OPEN) h),
-    )
+counts_few number next h = search (and_left, leb-true, and_right)
 
 next_sound : (library : Library) (entry number : ℕ) (v next : Visit) (r : ℕ) (others : List ℕ) → IsSound library entry v → Next library number v next → next.registers ≡ r ∷ others → IsSound library entry next
 next_sound library entry number v next r others s n h =
@@ -527,11 +519,7 @@ visited (v ∷ vs) (first ∷ nodes) (suc k) node same h =
     record { visit = later.visit; at = later.at; stand = later.stand }
 
 register_there : (entry : ℕ) (vs : List Visit) (nodes : List Node) (k : ℕ) (v : Visit) (node : Node) → map register_of_node nodes ≡ map (register_at entry) vs → slice_get vs k ≡ Some v → slice_get nodes k ≡ Some node → node.register ≡ register_at entry v
-register_there entry (w ∷ vs) (first ∷ nodes) zero v node same h g =
-    let e : first ≡ node = cc in
-    let f : w ≡ v = cc in
-    let register : first.register ≡ register_at entry w = cc in
-    ap register_of_node (sym e) ∙ (register ∙ ap (register_at entry) f)
+register_there entry (w ∷ vs) (first ∷ nodes) zero v node same h g = search tt
 register_there entry (w ∷ vs) (first ∷ nodes) (suc k) v node same h g =
     let rest : map register_of_node nodes ≡ map (register_at entry) vs = cc in register_there entry vs nodes k v node rest h g
 register_there entry vs nodes k v node same h g = absurd (grind arith)
