@@ -59,10 +59,7 @@ read_short minus sign [] = omega arith
 read_short minus sign (d ∷ digits) = omega arith
 
 pub number_short : (text : List ℕ) → (number_at text).len ≤ length text
-number_short text =
-    let behind = drop (sign_len text) text in
-    let k = prefix_len is_digit behind in
-    omega (arith, read_short (is_minus text) (sign_len text) (take k behind), length-take k behind, length-drop (sign_len text) text, sign_short text)
+number_short text = search (read_short, length-take, length-drop, sign_short, arith)
 
 -- what is read is a 32-bit number
 signed_fits : (minus : Bool) (digits : List ℕ) → FitsSigned w32 (signed_value minus digits)

@@ -157,11 +157,7 @@ module _ (around : Surroundings) (unread : ℕ) (position : Position) (begun : B
   ranked false false p q t now a b = absurd (cc)
 
 pub turns_fall : TurnsFall
-turns_fall run end unread kept arguments choice changes turns entering begun outer whole c d e =
-    let p = and_both _ _ c in
-    let q = and_both _ _ p.0 in
-    let r = and_both _ _ q.0 in
-    ranked (around_of kept) unread end.position begun outer (subst (λ turns. AreEach (HasFallen (around_of kept) unread) end.position.falls turns) e d.state.position.fallen) _ _ refl refl r.0 (begun_at unread kept) refl (omega (arith, whole))
+turns_fall run end unread kept arguments choice changes turns entering begun outer whole c d e = search (and_both, ranked, arith)
 
 -- what fell since the begin of a turn fell since then, too
 pub falls_carried : (ahead begun : ℕ) (all : List Falls) (outer : List Begun) → ahead ≤ begun → AreEach (FellBefore begun) all outer → AreEach (FellBefore ahead) all outer

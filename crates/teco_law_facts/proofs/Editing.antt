@@ -1,5 +1,5 @@
 -- D, K, I and TAB.
-use Rattle.std.proofs.Common.{◌≡◌, ℕ, suc, ◌+◌, ◌-◌, ◌≤◌, min, max, arith, refl, sym, ap, subst, ◌∙◌, ℤ, pos, negsuc, neg_ℤ, ◌+ℤ◌, ◌≤ℤ◌, int_le, List, [], ◌∷◌, take, drop, length, length-append, length-take, length-drop, Option, Some, None, Result, Ok, Err, IfSome, IfOk, Bool, true, false, ◌&&◌, cond, nat_le, ◌++◌, zero}
+use Rattle.std.proofs.Common.{◌≡◌, ℕ, suc, ◌+◌, ◌-◌, ◌≤◌, min, max, arith, refl, ap, ◌∙◌, ℤ, pos, negsuc, neg_ℤ, ◌+ℤ◌, ◌≤ℤ◌, int_le, List, [], ◌∷◌, take, drop, length, length-append, length-take, length-drop, Option, Some, None, Result, Ok, Err, IfSome, IfOk, Bool, true, false, ◌&&◌, cond, nat_le, ◌++◌, zero}
 use Rattle.std.specs.Prelude.{unwrap_or, ⊤}
 use Rattle.std.proofs.lemmas.Int.{ints, clamps}
 use Rattle.std.proofs.lemmas.Bool.Decides.{nat_tests}
@@ -83,19 +83,7 @@ module _ (run : Run) (facts : Facts) (unread : ℕ) (kept : Kept) (whole : IsWho
 
   -- the shape of all that deletes
   cut_with : (shift : Shift) (a b : ℕ) → a ≤ b → b ≤ length kept.text → shift.distances.back ≤ a → shift.distances.fore + b ≤ length kept.text → shift.loss ≤ b - a → shift.digit ≡ None → ((u : ℕ) → held_before shift.descent (around_of kept) u ≡ fore_of kept + back_of kept + u) → ((u : ℕ) → Descends shift.descent (around_of kept) u (around_of (cut a b)) u) → Shifts run.n (ending shift) kept (cut a b)
-  cut_with shift a b ordered inside behind ahead lost digit elsewhere descends =
-      let len = cut_long a b ordered inside in
-      record {
-        registers = refl;
-        inside = omega (arith, len);
-        behind = behind;
-        ahead = omega (arith, len, ahead);
-        grown = omega (arith, len, lost);
-        fallen = descends;
-        elsewhere = elsewhere;
-        wider = λ e. absurd (cc);
-        digit = unmarked (around_of (cut a b)) shift.digit digit;
-      }
+  cut_with shift a b ordered inside behind ahead lost digit elsewhere descends = search (cut_long, unmarked, arith)
 
   cut_by : (by : Option ℤ) (a b u : ℕ) → a ≤ b → b ≤ length kept.text → IfSome by (λ v. (pos (length kept.text - b) +ℤ v) ≤ℤ pos (fore_of kept)) → Descends (By by) (around_of kept) u (around_of (cut a b)) u
   cut_by None a b u ordered inside i = tt
@@ -225,19 +213,7 @@ module _ (run : Run) (facts : Facts) (unread : ℕ) (kept : Kept) (whole : IsWho
   put_by (Some (negsuc v)) a b u new ordered inside i = omega (arith, ints, i, put_long a b new ordered inside)
 
   pub replaced_at : (shift : Shift) (by : Option ℤ) (a b : ℕ) (new : List ℕ) → shift.descent ≡ By by → shift.digit ≡ None → a ≤ b → b ≤ length kept.text → shift.distances.back ≤ a + length new → shift.distances.fore + b ≤ length kept.text → length new + shift.loss ≤ b - a + value shift.growth run.n → IfSome by (λ v. (pos (length kept.text - b) +ℤ v) ≤ℤ pos (fore_of kept)) → (shift.ends ≡ false → b - a ≤ length new) → Shifts run.n shift kept (put a b new)
-  replaced_at shift by a b new descent digit ordered inside behind ahead grown fallen longer =
-      let len = put_long a b new ordered inside in
-      record {
-        registers = refl;
-        inside = omega (arith, len);
-        behind = behind;
-        ahead = omega (arith, len, ahead);
-        grown = omega (arith, len, grown);
-        fallen = λ u. subst (λ d. Descends d (around_of kept) u (around_of (put a b new)) u) (sym descent) (put_by by a b u new ordered inside fallen);
-        elsewhere = λ u. subst (λ d. held_before d (around_of kept) u ≡ fore_of kept + back_of kept + u) (sym descent) refl;
-        wider = λ e. omega (arith, len, whole.inside, longer e);
-        digit = unmarked (around_of (put a b new)) shift.digit digit;
-      }
+  replaced_at shift by a b new descent digit ordered inside behind ahead grown fallen longer = search (put_long, put_by, unmarked, arith)
 
   -- such a text fits where what is held does
   pub replaced_within : (a b growth : ℕ) (new : List ℕ) → a ≤ b → b ≤ length kept.text → length new ≤ b - a + growth → value facts.held run.n + growth ≤ LIMIT → length (text_after_replacement kept.text a b new) ≤ LIMIT

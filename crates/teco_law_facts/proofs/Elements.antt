@@ -1,5 +1,5 @@
 -- One law of all elements: the first step, and each that follows.
-use Rattle.std.proofs.Common.{List, [], ◌∷◌, zero, suc, arith, inl, inr, ◌∙◌, ◌+◌, ◌≤◌, ◌⊎◌, ◌≡◌, ℕ, refl, sym, subst, ap, ℤ, true, Option, Some, None, Result, Ok, Err, IfOk}
+use Rattle.std.proofs.Common.{List, [], ◌∷◌, zero, suc, arith, inl, inr, ◌∙◌, ◌+◌, ◌≤◌, ◌⊎◌, ◌≡◌, ℕ, refl, sym, subst, ap, ℤ, true, Option, Some, None, Result, Ok, Err, IfOk, rules}
 use Rattle.teco_base.specs.declared.code.Code.{Code}
 use Rattle.teco_model.specs.Arguments as model
 use Rattle.teco_model.specs.Files.{Input}
@@ -29,7 +29,7 @@ use Rattle.teco_law_facts.proofs.Paged.{IsOpen, turn_proceeds, write_proceeds, t
 use Rattle.teco_law_facts.proofs.Seeking.{search_steps_are_bounded}
 use Rattle.teco_law_facts.proofs.Shapes.{value-number}
 use Rattle.teco_law_facts.proofs.Steps.{Covers}
-use Rattle.teco_law_facts.proofs.Transfers.{without_answer, arguments_are_sound, values_are_sound, commands_are_sound, queries_are_sound, stacks_are_sound}
+use Rattle.teco_law_facts.proofs.Transfers.{arguments_are_sound, values_are_sound, commands_are_sound, queries_are_sound, stacks_are_sound}
 use Rattle.teco_verifier.specs.facts.Arguments as known
 use Rattle.teco_verifier.specs.facts.Arguments.{KnownTaken}
 use Rattle.teco_verifier.specs.facts.Attempt.{◌>>=◌}
@@ -244,10 +244,7 @@ module _ (s : State) (caller : Frame) (callers : List Frame) where
 
   waiting_goes : (waiting : List Frame) → waiting ≡ caller ∷ callers → stepping.end_outcome waiting s ≡ Next back
   waiting_goes [] e = absurd (cc)
-  waiting_goes (first ∷ others) e =
-      let p : first ≡ caller = cc in
-      let q : others ≡ callers = cc in
-      rw (p, q) refl
+  waiting_goes (first ∷ others) e = search rules
 
   text_goes : (loops : List Loop) → loops ≡ [] → s.frames.callers ≡ caller ∷ callers → stepping.end_of_text loops s ≡ Next back
   text_goes [] e c = waiting_goes s.frames.callers c
@@ -255,8 +252,4 @@ module _ (s : State) (caller : Frame) (callers : List Frame) where
 
 pub returns_go_back : ReturnsGoBack
 unfolding step
-returns_go_back run facts s caller callers d e l c = (
-  back s caller callers,
-  subst (λ r. stepping.outcome_at s r ≡ Next (back s caller callers)) (sym e) (text_goes s caller callers s.frames.running.loops l c),
-  record { comes = record { described = forgotten_answer run facts (unread_of s.world) s.world.kept s.arguments (without_answer run facts (unread_of s.world) s.world.kept s.arguments d); less = omega arith; grown = omega arith }; gone = refl },
-)
+returns_go_back run facts s caller callers d e l c = search (text_goes, forgotten_answer, arith)

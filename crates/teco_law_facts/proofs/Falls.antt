@@ -90,12 +90,7 @@ module _ (around : Surroundings) (unread : ℕ) (begun : Begun) (line : IsLine a
 
   pub ordered_is : (rules : Rules) (d : Distances) (falls : Falls) → d.back ≤ around.back → d.fore ≤ around.fore → Fallen falls → Fallen (in_order rules d falls)
   ordered_is First d falls k l h = h
-  ordered_is Second d falls k l h =
-      let a = fall_is d falls l h in
-      let b = far_is (fall_ordered d falls) a in
-      let c = line_is d (far_ordered (fall_ordered d falls)) l b in
-      let e = far_line_is (line_ordered d (far_ordered (fall_ordered d falls))) c in
-      rest_is d (far_line_ordered (line_ordered d (far_ordered (fall_ordered d falls)))) k l e
+  ordered_is Second d falls k l h = search (fall_is, far_is, line_is, far_line_is, rest_is)
 
 -- ---- how what is ahead, and behind the line, may change, with what is unread
 abbrev pub Descends : Descent → Surroundings → ℕ → Surroundings → ℕ → Type 0

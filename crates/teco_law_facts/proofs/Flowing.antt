@@ -1,5 +1,5 @@
 -- Tests, iterations and tags: the edge that the machine goes along.
-use Rattle.std.proofs.Common.{◌≡◌, ℕ, zero, suc, ◌+◌, ◌≤◌, arith, refl, sym, subst, ℤ, pos, negsuc, ◌+ℤ◌, ◌*ℤ◌, ◌≤ℤ◌, int_le, List, [], ◌∷◌, drop, Bool, true, false, cond, ◌&&◌, Option, Some, None, option_map, Result, Ok, Err, IfOk}
+use Rattle.std.proofs.Common.{◌≡◌, ℕ, zero, suc, ◌+◌, ◌≤◌, arith, refl, sym, subst, ℤ, pos, negsuc, ◌+ℤ◌, ◌≤ℤ◌, int_le, List, [], ◌∷◌, drop, Bool, true, false, cond, ◌&&◌, Option, Some, None, option_map, Result, Ok, Err, IfOk, rules}
 use Rattle.std.proofs.lemmas.Int.{ints}
 use Rattle.teco_base.specs.declared.code.Code.{Code}
 use Rattle.teco_model.specs.Arguments as model
@@ -25,7 +25,7 @@ use Rattle.teco_verifier.specs.facts.Arguments as known
 use Rattle.teco_verifier.specs.facts.Arguments.{KnownLevel}
 use Rattle.teco_verifier.specs.facts.Attempt.{◌>>=◌}
 use Rattle.teco_verifier.specs.facts.Deletions.{positive}
-use Rattle.teco_law_facts.specs.Describes.{Run, run_behind, run_in_turn, IsWhole, IsAt, Answers, Describes, AreEach, HasFallen, IsLevel, IsTaken, IsOptional, ArePending, fore_of, back_of, around_of, begun_at}
+use Rattle.teco_law_facts.specs.Describes.{Run, run_behind, run_in_turn, IsWhole, IsAt, Answers, Describes, AreEach, HasFallen, IsLevel, IsTaken, IsOptional, ArePending, around_of, begun_at}
 use Rattle.teco_verifier.specs.facts.Facts.{Position, Answer, Facts, Iteration, sum_of, at_position, without_arguments, without_digit}
 use Rattle.teco_verifier.specs.facts.Flows.{Edges, needed_taken, facts_taken, leaving, entering, begun, iteration, leaving_numbers, turns_of, bound_by, bound_of, without_value, turn_end}
 use Rattle.teco_verifier.specs.facts.Joins.{is_empty, none_pending}
@@ -33,7 +33,7 @@ use Rattle.teco_law_facts.specs.Laws.{IsTold, amount_of}
 use Rattle.teco_law_facts.specs.SoundFlow.{Tells, IsReached, number_needed, TestsAreSound, LeavingOr, LeavesAreSound, EntersOr, IterationsAreSound, AreTurns, TurnsAreSound, EndsTurn, TurnEndsAreSound, TagsAreSound, OthersAreSound}
 use Rattle.teco_verifier.specs.facts.Transfer as transfers
 use Rattle.teco_verifier.specs.facts.Transfer.{transfer}
-use Rattle.teco_verifier.specs.facts.Values.{IsValue, IsWithin, interval_of, Surroundings, code_worth}
+use Rattle.teco_verifier.specs.facts.Values.{IsValue, IsWithin, interval_of, Surroundings}
 use Rattle.teco_verifier.specs.facts.Ways.{Numbers, Positive, NotPositive, Takes, holding, other, position_by, way}
 use Rattle.teco_verifier.specs.declared.refusal.Refusal.{Refusal}
 use Rattle.teco_verifier.specs.declared.falls.Rank.{Rank}
@@ -183,16 +183,7 @@ module _ (run : Run) (facts : Facts) (unread : ℕ) (kept : Kept) (arguments : m
   none_left = none_with facts.arguments.outer d.pending.outer
 
   entered : (counted : Bool) → NoneLeft → Describes (run_in_turn unread kept run) (entering counted taken_facts) unread kept (model.levels_after_taking arguments)
-  entered counted none = let h = d.state in record {
-    state = record {
-      position = record { begin = h.position.begin; end = h.position.end; fallen = (begun_fallen facts.rules unread kept whole.inside, h.position.fallen); ahead = h.position.ahead; saved = h.position.saved; digit = h.position.digit };
-      held = h.held;
-      registers = let r = h.registers in record { numbers = r.numbers; texts = r.texts };
-      pushed = h.pushed;
-    };
-    pending = none;
-    answers = tt;
-  }
+  entered counted none = search begun_fallen
 
   skipped : NoneLeft → Describes run taken_facts unread kept (model.levels_after_taking arguments)
   skipped none = record { state = let h = d.state in record { position = h.position; held = h.held; registers = h.registers; pushed = h.pushed }; pending = none; answers = tt }
@@ -232,11 +223,7 @@ module _ (run : Run) (facts : Facts) (unread : ℕ) (kept : Kept) (arguments : m
   by_interval s v i = let w = of_value s v i in bounded_number _ v (omega (arith, ints, w, up_to_positive (interval_of facts.position.distances s).hi))
 
   by_signs : (x y : Bool) (s : Value) (v : ℤ) → s.code ≡ None → int_le s.ahead (pos 0) ≡ x → int_le s.behind (pos 0) ≡ y → IsValue (around_of kept) s v → v ≤ℤ pos (value (number (cond (x && y) (positive s.hi) (positive (interval_of facts.position.distances s).hi))) run.n)
-  by_signs true true s v c p q i =
-      let f : (pos (fore_of kept) *ℤ s.ahead) ≤ℤ (pos (fore_of kept) *ℤ pos 0) = scaled_le (fore_of kept) s.ahead (pos 0) (omega (arith, ints)) in
-      let g : (pos (back_of kept) *ℤ s.behind) ≤ℤ (pos (back_of kept) *ℤ pos 0) = scaled_le (back_of kept) s.behind (pos 0) (omega (arith, ints)) in
-      let z : code_worth s.code (around_of kept).code_at ≡ pos 0 = rw c refl in
-      bounded_number (positive s.hi) v (omega (arith, ints, z, i.is.high, up_to_positive s.hi))
+  by_signs true true s v c p q i = search (scaled_le, bounded_number, up_to_positive, arith, ints)
   by_signs true false s v c p q i = by_interval s v i
   by_signs false y s v c p q i = by_interval s v i
 
@@ -310,11 +297,7 @@ module _ (run : Run) (facts : Facts) (unread : ℕ) (kept : Kept) (arguments : m
 
 -- what is known of a digit may be forgotten
 pub forgotten_answer : (run : Run) (facts : Facts) (unread : ℕ) (kept : Kept) (arguments : model.Arguments) → Describes run (transfers.without_answer facts) unread kept arguments → Describes run (without_digit (transfers.without_answer facts)) unread kept arguments
-forgotten_answer run facts unread kept arguments d = let h = d.state in let p = h.position in record {
-  state = record { position = record { begin = p.begin; end = p.end; fallen = p.fallen; ahead = p.ahead; saved = p.saved; digit = tt }; held = h.held; registers = record { numbers = h.registers.numbers; texts = h.registers.texts }; pushed = h.pushed };
-  pending = d.pending;
-  answers = tt;
-}
+forgotten_answer run facts unread kept arguments d = search rules
 
 -- ---- the laws
 pub tests_are_sound : TestsAreSound

@@ -1,5 +1,5 @@
 -- The register that an element names is one of the 36.
-use Rattle.std.proofs.Common.{◌≡◌, ℕ, ◌+◌, ◌-◌, ◌<◌, ◌≤◌, arith, refl, List, [], ◌∷◌, Option, Some, None, option_map, IfSome, Result, IfOk, Bool, true, false, cond, nat_le, ◌&&◌}
+use Rattle.std.proofs.Common.{◌≡◌, ℕ, ◌<◌, ◌≤◌, arith, List, [], ◌∷◌, Option, Some, None, option_map, IfSome, Result, IfOk, Bool, true, false, cond, nat_le, ◌&&◌}
 use Rattle.std.specs.Option.{option_or}
 use Rattle.std.specs.Prelude.{⊤, codes, option_and_then}
 use Rattle.std.proofs.lemmas.Bool.Decides.{nat_tests}
@@ -42,10 +42,7 @@ in_range a b name place true false other e f k h = h
 in_range a b name place false y other e f k h = h
 
 register_small : (name : ℕ) → IfSome (register_of name) (λ r. r < REGISTERS)
-register_small name =
-    in_range 65 90 name (name - 65) _ _ _ refl refl (λ l m. omega arith)
-    (in_range 97 122 name (name - 97) _ _ _ refl refl (λ l m. omega arith)
-    (in_range 48 57 name (name - 48 + 26) _ _ None refl refl (λ l m. omega arith) tt))
+register_small name = search (in_range, arith)
 
 named_on : (c : OnRegister) (r : ℕ) → r < REGISTERS → IsNamed (kind_on c r)
 named_on on_register.Call r l = tt

@@ -40,10 +40,7 @@ pub beyond_is : (kept : Kept) → kept.pointer ≤ length kept.text → beyond_o
 beyond_is kept i = omega (arith, line_end kept.text kept.pointer i)
 
 pub line_of : (kept : Kept) → kept.pointer ≤ length kept.text → IsLine (around_of kept)
-line_of kept i = record {
-  within = omega (arith, beyond_is kept i, beyond_short (drop kept.pointer kept.text), length-drop kept.pointer kept.text, i);
-  past = λ s. omega (arith, beyond_is kept i, beyond_shorter (drop kept.pointer kept.text) (omega (arith, length-drop kept.pointer kept.text, s)), length-drop kept.pointer kept.text, i);
-}
+line_of kept i = search (beyond_is, beyond_short, length-drop, beyond_shorter, arith)
 
 -- where a turn begins nothing has fallen
 pub begun_fallen : (rules : Rules) (unread : ℕ) (kept : Kept) → kept.pointer ≤ length kept.text → HasFallen (around_of kept) unread (falls_at_turn rules) (begun_at unread kept)

@@ -1,5 +1,5 @@
 -- A, P and PW.
-use Rattle.std.proofs.Common.{◌≡◌, ℕ, zero, suc, ◌+◌, ◌≤◌, arith, refl, sym, subst, ap, ℤ, pos, negsuc, ◌≤ℤ◌, int_le, List, [], ◌∷◌, ◌++◌, length, length-append, Bool, true, false, cond, nat_le, ◌==◌, Option, Some, None, option_map, Result, Ok, Err, IfOk, MatchOption, ok_or, map, drop, ◌*ℤ◌, ◌+ℤ◌}
+use Rattle.std.proofs.Common.{◌≡◌, ℕ, zero, suc, ◌+◌, ◌≤◌, arith, refl, sym, subst, ap, ℤ, pos, negsuc, ◌≤ℤ◌, int_le, List, [], ◌∷◌, ◌++◌, length, length-append, Bool, true, false, cond, nat_le, ◌==◌, Option, Some, None, option_map, Result, Ok, Err, IfOk, MatchOption, ok_or, map, drop, ◌+ℤ◌}
 use Rattle.std.specs.Prelude.{unwrap_or, ⊤}
 use Rattle.std.specs.Option.{option_map_or}
 use Rattle.std.proofs.lemmas.Int.{ints}
@@ -28,7 +28,7 @@ use Rattle.teco_verifier.specs.facts.Arguments as known
 use Rattle.teco_verifier.specs.facts.Arguments.{KnownTaken}
 use Rattle.teco_verifier.specs.facts.Attempt.{◌>>=◌}
 use Rattle.teco_verifier.specs.facts.Motions.{count_of}
-use Rattle.teco_verifier.specs.facts.Values.{character as codes, IsWithin, IsValue, Surroundings, code_value, are_equal, code_worth, value_in}
+use Rattle.teco_verifier.specs.facts.Values.{character as codes, IsWithin, IsValue, Surroundings, code_value, value_in}
 use Rattle.teco_verifier.specs.declared.values.Value.{Value}
 use Rattle.teco_verifier.specs.declared.refusal.Refusal.TheVariants as refusal
 use Rattle.teco_verifier.specs.facts.Flows.{Edges, facts_taken}
@@ -237,11 +237,7 @@ module _ (run : Run) (facts : Facts) (world : World) (pending : arguments.Argume
   unchanged = facts_answered (silent (without_digit taking))
 
   stays : (files : Files) → unread files ≡ unread world.files → ComesTo run facts.held world unchanged (arguments.levels_after_taking pending) (record { kept = world.kept; files = files })
-  stays files e = let l : length (unread files) ≡ unread_of world = ap length e in record {
-    described = subst (λ u. Describes run unchanged u world.kept (arguments.levels_after_taking pending)) (sym l) (record { state = pending_again run (without_digit taking) (unread_of world) world.kept (forgotten run taking (unread_of world) world.kept whole taking_holds taking_holds) _; pending = own_is; answers = tt });
-    less = omega (arith, l);
-    grown = omega arith;
-  }
+  stays files e = search (pending_again, forgotten, taking_holds, own_is, arith)
 
   -- a part that is written
   part_written : (P : model.Progress → Type 0) (r : Result Part Code) → Editing.Comes r → ((part : Part) → P (record { world = model.world_after_writing (characters_of part world.kept) world; left = 0 })) → Succeeds P (((r >>>= λ part. Ok (characters_of part world.kept)) >>>= λ text. Ok (model.world_after_writing text world)) >>>= λ done. Ok (record { world = done; left = 0 }))
@@ -375,16 +371,7 @@ module _ (run : Run) (facts : Facts) (world : World) (pending : arguments.Argume
 
   -- the code of a character, of which it may be known where it stands
   offset_is : (s : Value) (n : ℤ) → row.is_offset s ≡ true → IsValue (around_of world.kept) s n → s.lo ≡ n
-  offset_is s n e i =
-      let a = both_true _ _ e in
-      let b = both_true _ _ a.0 in
-      let c = both_true _ _ b.0 in
-      let f = both_true _ _ c.0 in
-      let g = both_true (are_equal s.ahead (pos 0)) (are_equal s.behind (pos 0)) f.0 in
-      let k : code_worth s.code (around_of world.kept).code_at ≡ pos 0 = none_worth s.code (around_of world.kept) f.1 in
-      let x : pos (fore_of world.kept) *ℤ s.ahead ≡ pos 0 = rw (are_equal_is s.ahead (pos 0) g.0) (omega (arith, ints)) in
-      let y : pos (back_of world.kept) *ℤ s.behind ≡ pos 0 = rw (are_equal_is s.behind (pos 0) g.1) (omega (arith, ints)) in
-      omega (arith, ints, k, x, y, c.1, i.is)
+  offset_is s n e i = search (both_true, none_worth, are_equal_is, arith, ints)
 
   code_if : (b : Bool) (s : Value) (n : ℤ) → (b ≡ true → s.lo ≡ n) → IsValue (around_of world.kept) (cond b (code_value s.lo) (value_in codes)) (character n world.kept)
   code_if false s n e = code_in_text (around_of world.kept) world.kept.text whole.bytes _

@@ -1,5 +1,5 @@
 -- U, %, X, ^U, G, the push-down list, and what types.
-use Rattle.std.proofs.Common.{◌≡◌, ℕ, zero, suc, ◌+◌, ◌-◌, ◌≤◌, arith, w32, refl, ℤ, pos, ◌+ℤ◌, List, [], length, drop, length-take, length-drop, length-append, ◌++◌, ◌<◌, get_or, set, Bool, true, false, cond, nat_le, IfOk, Option, Some, None, Result, Ok, Err, ◌∷◌, subst, ◌∙◌}
+use Rattle.std.proofs.Common.{◌≡◌, ℕ, zero, suc, ◌+◌, ◌-◌, ◌≤◌, arith, w32, refl, ℤ, pos, ◌+ℤ◌, List, [], length, drop, length-take, length-drop, length-append, ◌++◌, ◌<◌, get_or, set, Bool, true, false, cond, nat_le, IfOk, Option, Some, None, Result, Ok, Err, ◌∷◌, ◌∙◌}
 use Rattle.std.specs.Prelude.{unwrap_or}
 use Rattle.std.proofs.lemmas.Int.{ints, SFits-int_wrap}
 use Rattle.std.proofs.lemmas.Bool.Decides.{nat_tests}
@@ -118,11 +118,7 @@ module _ (run : Run) (facts : Facts) (unread : ℕ) (kept : Kept) (whole : IsWho
   -- the shape of all that stores a text
   stored_at : (r : ℕ) (most : Polynomial) (text : List ℕ) (b : Bool) → nat_le (length text) LIMIT ≡ b → r < REGISTERS → run.library r ≡ false → length text ≤ value most run.n → Fits run (row.with_text r most facts) → Succeeds (IsDone run facts unread kept (silent (row.with_text r most facts))) (cond b (Ok (no_answer (record kept { registers = with_text r text kept.registers }))) (Err code.Ful))
   stored_at r most text true e w free l f = done_with run facts unread kept whole h _ _ None (record { position = retexted r text; held = h.held; registers = text_set run facts.numbers facts.texts kept.registers.pairs h.registers r most text l; pushed = h.pushed }) refl refl refl refl tt
-  stored_at r most text false e w free l f =
-      let count = each_length (IsText run.n) facts.texts kept.registers.pairs h.registers.texts in
-      let there = text_there facts.texts r most (omega (arith, whole.count)) in
-      let fits : value most run.n ≤ LIMIT = subst (λ most. value most run.n ≤ LIMIT) there (f.texts r free) in
-      absurd (grind (arith, nat_tests))
+  stored_at r most text false e w free l f = search (each_length, text_there, nat_tests, arith)
 
   appended : (r : ℕ) (most : Polynomial) (text : List ℕ) (sum : Result Polynomial Refusal) → IfOk sum (λ p. value p run.n ≡ value (text_of r facts) run.n + value most run.n) → r < REGISTERS → run.library r ≡ false → length text ≤ value most run.n → Foretells run facts unread kept (sum >>= λ p. Ok (silent (row.with_text r p facts))) (model.text_setting r (model.text_in r kept ++ text) kept)
   appended r most text (Ok p) e w free l = λ f. stored_at r p (model.text_in r kept ++ text) _ refl w free (omega (arith, length-append (model.text_in r kept) text, e, l, text_at run facts.numbers facts.texts kept.registers.pairs h.registers r)) f

@@ -1,5 +1,5 @@
 -- S and FS: what is known of both outcomes is true.
-use Rattle.std.proofs.Common.{◌≡◌, ℕ, zero, suc, ◌+◌, ◌≤◌, arith, refl, sym, subst, ap, ◌∙◌, ℤ, pos, negsuc, ◌≤ℤ◌, int_le, int_lt, List, [], ◌∷◌, map, length, Bool, true, false, cond, nat_le, ◌&&◌, Option, Some, None, Result, Ok, Err, IfOk, IfSome, inl, inr, option_map, ◌+ℤ◌}
+use Rattle.std.proofs.Common.{◌≡◌, ℕ, zero, suc, ◌+◌, ◌≤◌, arith, refl, sym, subst, ap, ◌∙◌, ℤ, pos, negsuc, ◌≤ℤ◌, int_le, int_lt, List, [], ◌∷◌, map, length, Bool, true, false, cond, nat_le, ◌&&◌, Option, Some, None, Result, Ok, Err, IfOk, IfSome, inl, inr, ◌+ℤ◌}
 use Rattle.std.specs.Prelude.{unwrap_or, not}
 use Rattle.std.proofs.lemmas.Int.{ints}
 use Rattle.std.proofs.lemmas.List.{length-map}
@@ -88,10 +88,7 @@ allowed_count ReplaceInPages i value h = in_pages _ i value refl h
 
 -- ---- a digit that ends a match
 at_digit : (text : List ℕ) (end : ℕ) → EndsInDigit text end → is_code_of is_digit (code_at text (pos end +ℤ negsuc 0)) ≡ true
-at_digit text end (at, e, (c, g, d)) =
-    let same : pos at ≡ pos end +ℤ negsuc 0 = omega (arith, ints, e) in
-    let code : code_at text (pos at) ≡ pos c = ap (λ o. unwrap_or (option_map pos o) (negsuc 0)) g in
-    subst (λ z. is_code_of is_digit (code_at text z) ≡ true) same (rw code d)
+at_digit text end (at, e, (c, g, d)) = search (arith, ints)
 
 pub marked_found : (x y : Bool) (kept : Kept) → (y ≡ true → EndsInDigit kept.text kept.pointer) → IsMarked (around_of kept) (cond (x && y) (Some Before) None)
 marked_found true true kept d = at_digit kept.text kept.pointer (d refl)

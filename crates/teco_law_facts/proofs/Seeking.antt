@@ -170,24 +170,7 @@ module _ (run : Run) (facts : Facts) (world : World) (pending : model.Arguments)
   anywhere around = settled_are facts.position.distances true (around_of world.kept) around (distances run facts (unread_of world) world.kept whole d.state) (λ e. absurd (cc)) (facts_taken facts).arguments (model.levels_after_taking pending) (taken_are run facts (unread_of world) world.kept pending whole d)
 
   seeks_first : (output : Output) → world.files.output ≡ Some output → ((kept : Kept) → searching.search_text_of x.element.text kept ≡ x.element.text) → Seeking (paging.world_seeking x.element.text world)
-  seeks_first output out own = let h = d.state in record {
-    comes = record {
-      described = record {
-        state = record {
-          position = record { begin = omega arith; end = omega arith; fallen = each_fallen (HasFallen (around_of world.kept) (unread_of world)) (HasFallen (around_of world.kept) (unread_of world)) falls_without_end (λ falls begun i. without_end (around_of world.kept) (unread_of world) falls begun (anywhere_of (around_of world.kept) (unread_of world) falls begun i)) facts.position.falls run.turns h.position.fallen; ahead = h.position.ahead; digit = tt; saved = none_are (around_of world.kept) world.kept.registers.pairs whole.count };
-          held = h.held;
-          registers = record { numbers = h.registers.numbers; texts = h.registers.texts };
-          pushed = h.pushed;
-        };
-        pending = anywhere (around_of world.kept);
-        answers = tt;
-      };
-      less = omega arith;
-      grown = omega arith;
-    };
-    sought = own world.kept;
-    output = (output, out);
-  }
+  seeks_first output out own = search (each_fallen, without_end, anywhere_of, none_are, anywhere, arith)
 
   falls_again : (now : World) → unread_of (turned_world now) ≤ unread_of now → IsLine (around_of (turned_world now).kept) → length (turned_world now).kept.text + unread_of (turned_world now) ≤ unread_of now → AreEach (HasFallen (around_of now.kept) (unread_of now)) seeking.position.falls run.turns → AreEach (HasFallen (around_of (turned_world now).kept) (unread_of (turned_world now))) seeking.position.falls run.turns
   falls_again now less line page g = each_remapped (HasFallen (around_of now.kept) (unread_of now)) (HasFallen (around_of (turned_world now).kept) (unread_of (turned_world now))) falls_without_end falls_without_end (λ falls begun i. without_end (around_of (turned_world now).kept) (unread_of (turned_world now)) falls begun (anywhere_later (around_of now.kept) (unread_of now) (around_of (turned_world now).kept) (unread_of (turned_world now)) falls begun less line (omega (arith, page)) (anywhere_without (around_of now.kept) (unread_of now) falls begun i))) facts.position.falls run.turns g
@@ -212,10 +195,7 @@ module _ (run : Run) (facts : Facts) (world : World) (pending : model.Arguments)
       }
 
   seeks_less : (now : World) → Seeking now → (c : ℕ) (bytes : List ℕ) → unread now.files ≡ c ∷ bytes → unread_of (turned_world now) + 1 ≤ unread_of now
-  seeks_less now k c bytes e =
-      let r = again_rest run seeking now k.comes.described.state refl refl in
-      let l : length (behind_form_feed (unread now.files)) + 1 ≤ length (unread now.files) = rw e (page_shorter c bytes) in
-      omega arith
+  seeks_less now k c bytes e = search (again_rest, page_shorter, arith)
 
   success_is : (around : Surroundings) (v : ℤ) → negsuc 0 ≤ℤ v → v ≤ℤ pos 0 → IsValue around (value_in success) v
   success_is around v l u = record { is = record { low = omega (arith, ints); high = omega (arith, ints) }; form = refl; fits = omega (arith, ints); saved = tt }
@@ -237,14 +217,7 @@ module _ (run : Run) (facts : Facts) (world : World) (pending : model.Arguments)
           ordered_is (around_of (emptied now).kept) u begun line facts.rules (capped nowhere) _ (omega arith) (omega arith) (lost_by (around_of now.kept) (unread_of now) (around_of (emptied now).kept) u (held_fall (ending (moving nowhere (By None)))) falls begun l line (anywhere_without (around_of now.kept) (unread_of now) falls begun i) by)
 
       at_end : IsAt run (row.position_failed FindInPages 0 (facts_taken facts)) (around_of (emptied now).kept) u now.kept.registers.pairs
-      at_end = let h = k.comes.described.state in record {
-        begin = omega arith;
-        end = omega arith;
-        fallen = each_remapped (HasFallen (around_of now.kept) (unread_of now)) (HasFallen (around_of (emptied now).kept) u) falls_without_end (falls_behind facts.rules (ending (moving nowhere (By None)))) lost facts.position.falls run.turns h.position.fallen;
-        ahead = omega (arith, h.held, l);
-        saved = none_again (around_of now.kept) (around_of (emptied now).kept) none_saved now.kept.registers.pairs refl h.position.saved;
-        digit = tt;
-      }
+      at_end = search (each_remapped, lost, none_again, arith)
 
       by_search : (s : Search) → IsInPages s → IsAt run (row.position_failed s x.element.colons (facts_taken facts)) (around_of (emptied now).kept) u now.kept.registers.pairs
       by_search FindInPages b = record { begin = at_end.begin; end = at_end.end; fallen = at_end.fallen; ahead = at_end.ahead; saved = at_end.saved; digit = at_end.digit }
@@ -382,10 +355,7 @@ module _ (run : Run) (facts : Facts) (world : World) (pending : model.Arguments)
       module _ (fits : value held run.n ≤ LIMIT) (edges : Edges) (along : Along edges) (now : World) (k : Seeking now) where
         page_on : (n : ℕ) (bytes : List ℕ) → unread now.files ≡ bytes → Succeeds (LooksOn run seeking world pending x edges now) (paging.page_looked_for bytes n now)
         page_on n [] e = (along.missed now k e, omega arith)
-        page_on n (c ∷ bytes) e =
-            let h = k.comes.described.state in
-            let p = page_short (unread now.files) in
-            succeeds_then (λ new. Seeking new × (unread_of new + 1 ≤ unread_of now)) (LooksOn run seeking world pending x edges now) (paging.page_turned now) (Turned n) (λ new i. i) (turned_to now _ refl (omega (arith, h.held, fits, more)) (λ new. Seeking new × (unread_of new + 1 ≤ unread_of now)) (seeks_again now k, seeks_less now k c bytes e))
+        page_on n (c ∷ bytes) e = search (page_short, succeeds_then, turned_to, seeks_again, seeks_less, arith)
 
         here_on : (r : Sought) → LastLies (row.end_in_digit (parts x.element.text)) now.kept.text least now.kept.pointer r → Succeeds (LooksOn run seeking world pending x edges now) (paging.here_of s x.element now.kept r >>>= λ here. paging.looked_on here now)
         here_on (Last span) l = met_then (LooksOn run seeking world pending x edges now) (Shifts run.n shift now.kept) now _ (λ new sh. (along.met now k new sh, omega arith)) (found_in facts.rules run.n now.kept x.element least facts.position.distances span l s in_pages (omega (arith, k.comes.described.state.held, fits, more)))
