@@ -1,5 +1,5 @@
 -- The numbers of open iterations.
-use Rattle.std.proofs.Common.{◌≡◌, ℕ, zero, suc, ◌<◌, List, [], ◌∷◌, ◌++◌, map, drop, Option, Some, None, Ok, refl, sym, ap, ◌∙◌, subst, slice_get, arith}
+use Rattle.std.proofs.Common.{◌≡◌, ℕ, zero, suc, ◌<◌, List, [], ◌∷◌, ◌++◌, map, drop, Option, Some, None, Ok, refl, sym, ap, ◌∙◌, subst, slice_get, arith, rules}
 use Rattle.teco_model.specs.declared.kind.Flow.TheVariants as flow
 use Rattle.teco_model.specs.declared.kind.Kind.{Kind}
 use Rattle.teco_model.specs.declared.kind.Kind.TheVariants as kind
@@ -89,7 +89,7 @@ earlier (first ∷ nodes) (suc k) node h = let e = earlier nodes k node h in rec
 
 pub first_is : (nodes : List Node) (end stand : Stand) (node : Node) → slice_get (map stand_of_node nodes ++ end ∷ []) 0 ≡ Some stand → slice_get nodes 0 ≡ Some node → stand ≡ node.stand
 first_is [] end stand node h g = absurd (cc)
-first_is (first ∷ nodes) end stand node h g = search tt
+first_is (first ∷ nodes) end stand node h g = search rules
 
 -- where a node stands
 pub node_stands : (nodes : List Node) (end : Stand) (k : ℕ) (node : Node) → slice_get nodes k ≡ Some node → slice_get (map stand_of_node nodes ++ end ∷ []) k ≡ Some node.stand

@@ -519,7 +519,7 @@ visited (v ∷ vs) (first ∷ nodes) (suc k) node same h =
     record { visit = later.visit; at = later.at; stand = later.stand }
 
 register_there : (entry : ℕ) (vs : List Visit) (nodes : List Node) (k : ℕ) (v : Visit) (node : Node) → map register_of_node nodes ≡ map (register_at entry) vs → slice_get vs k ≡ Some v → slice_get nodes k ≡ Some node → node.register ≡ register_at entry v
-register_there entry (w ∷ vs) (first ∷ nodes) zero v node same h g = search tt
+register_there entry (w ∷ vs) (first ∷ nodes) zero v node same h g = search rules
 register_there entry (w ∷ vs) (first ∷ nodes) (suc k) v node same h g =
     let rest : map register_of_node nodes ≡ map (register_at entry) vs = cc in register_there entry vs nodes k v node rest h g
 register_there entry vs nodes k v node same h g = absurd (grind arith)
