@@ -1,5 +1,5 @@
 -- A macro whose table is closed runs to its end in time.
-use Rattle.std.proofs.Common.{◌≡◌, ◌⊎◌, inl, inr, ℕ, zero, suc, ◌+◌, ◌<◌, ◌≤◌, refl, sym, ap, ◌∙◌, subst, arith, List, [], ◌∷◌, map, Bool, true, false, ◌||◌, Option, Some, None, Result, Ok, Err, IfOk, slice_get}
+use Rattle.std.proofs.Common.{◌≡◌, ◌⊎◌, inl, inr, ℕ, zero, suc, ◌+◌, ◌<◌, ◌≤◌, refl, sym, ap, ◌∙◌, subst, arith, List, [], ◌∷◌, map, Bool, true, false, ◌||◌, Option, Some, None, Result, Ok, Err, IfOk, slice_get, rules}
 use Rattle.std.specs.Prelude.{IsTrue}
 use Rattle.std.specs.Option.{option_map_or}
 use Rattle.std.proofs.lemmas.Int.{ints}
@@ -117,7 +117,7 @@ pub record Laws : Type 0 where
   pub whole : WholeIsKept
 
 returned : (run : Run) (facts : Facts) (unread : ℕ) (kept : Kept) (arguments : Arguments) → Describes run facts unread kept arguments → Describes run (without_digit (without_answer facts)) unread kept arguments
-returned run facts unread kept arguments d = search tt
+returned run facts unread kept arguments d = search rules
 
 module _ (laws : Laws) (ground : Ground) (closed : AreClosed ground.nodes) (rules : Rules) (argument : Option ArgumentRange) (commands_are size_is : Polynomial) (printed : IsPrinted (entry_of rules ground.library argument) ground.nodes ground.table commands_are size_is) (small : value size_is ground.n ≤ LIMIT) (names : ElementsAreNamed) (first : State) (whole_first : IsWholeState first) where
   open ground use {library, entry, nodes, table, n, below, are, passes}
