@@ -16,7 +16,7 @@ use Rattle.teco_model.specs.Element.{Element}
 use Rattle.teco_model.specs.Files.{Output, with_written}
 use Rattle.teco_model.specs.Pages.{behind_form_feed}
 use Rattle.teco_model.specs.Paging as paging
-use Rattle.teco_model.specs.Paging.{unread, Met, Turned, MetHere, unread_of}
+use Rattle.teco_model.specs.Paging.{unread, Met, MetHere, unread_of}
 use Rattle.teco_model.specs.Pattern.{minimum, parts}
 use Rattle.teco_model.specs.Search as searching
 use Rattle.teco_law_facts.specs.SoundSearches.{answer_where}

@@ -17,7 +17,7 @@ use Rattle.teco_model.specs.Filing as filing
 use Rattle.teco_model.specs.Flow as flow
 use Rattle.teco_model.specs.Flow.{Turn}
 use Rattle.teco_model.specs.Going as going
-use Rattle.teco_model.specs.Going.{After, Course, Behind, Again, Along, Into, Quit, NoFile, Refused, Reply, with_taken, code_by, code_of}
+use Rattle.teco_model.specs.Going.{After, Course, Refused, Reply, with_taken, code_by, code_of}
 use Rattle.teco_model.specs.Insertion as insertion
 use Rattle.teco_model.specs.Motion as motion
 use Rattle.teco_model.specs.Outside as outside
