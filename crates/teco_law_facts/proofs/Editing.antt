@@ -99,9 +99,7 @@ module _ (run : Run) (facts : Facts) (unread : ℕ) (kept : Kept) (whole : IsWho
       let low = positive_more r.lo (pos m) i.low in
       let high = positive_more (pos m) r.hi i.high in
       (cut_at (row.shift_by_characters facts.position.distances r).distances (Some (pos (row.positive r.lo))) (row.least_count r) kept.pointer (kept.pointer + m) (omega arith) (omega (arith, h.position.end, whole.inside)) (omega (arith, h.position.begin)) (omega (arith, h.position.end, whole.inside)) (omega (arith, low, positive_none r.hi (omega (arith, ints, i.high)))) (omega (arith, ints, h.position.end, whole.inside, low, high)), tt)
-  on_cut r m false i f e =
-      let high = positive_more (pos m) r.hi i.high in
-      absurd (grind (arith, nat_tests, h.position.end, whole.inside))
+  on_cut r m false i f e = search (positive_more, nat_tests, arith)
 
   back_cut : (r : Interval) (m : ℕ) (b : Bool) → IsWithin r (negsuc m) → row.positive (neg_ℤ r.lo) ≤ facts.position.distances.back → nat_le (suc m) kept.pointer ≡ b → Moves run.n (ending (row.shift_by_characters facts.position.distances r)) kept None (cond b (Ok (model.deletion_between (kept.pointer - suc m) kept.pointer kept)) (Err code.Dtb))
   back_cut r m true i f e =
@@ -109,9 +107,7 @@ module _ (run : Run) (facts : Facts) (unread : ℕ) (kept : Kept) (whole : IsWho
       let low = positive_more r.lo (negsuc m) i.low in
       let high = positive_more (pos (suc m)) (neg_ℤ r.lo) (omega (arith, ints, i.low)) in
       (cut_at (row.shift_by_characters facts.position.distances r).distances (Some (pos (row.positive r.lo))) (row.least_count r) (kept.pointer - suc m) kept.pointer (omega arith) whole.inside (omega (arith, h.position.begin)) (omega (arith, h.position.end, whole.inside)) (omega (arith, low, within, positive_more (neg_ℤ r.hi) (pos (suc m)) (omega (arith, ints, i.high)))) (omega (arith, ints, low)), tt)
-  back_cut r m false i f e =
-      let high = positive_more (pos (suc m)) (neg_ℤ r.lo) (omega (arith, ints, i.low)) in
-      absurd (grind (arith, nat_tests, h.position.begin))
+  back_cut r m false i f e = search (positive_more, nat_tests, arith, ints)
 
   characters_cut : (r : Interval) (v : ℤ) → IsWithin r v → row.positive r.hi ≤ facts.position.distances.fore → row.positive (neg_ℤ r.lo) ≤ facts.position.distances.back → Moves run.n (ending (row.shift_by_characters facts.position.distances r)) kept None (model.character_deletion v kept)
   characters_cut r (pos m) i f b = on_cut r m _ i f refl
@@ -217,9 +213,7 @@ module _ (run : Run) (facts : Facts) (unread : ℕ) (kept : Kept) (whole : IsWho
 
   -- such a text fits where what is held does
   pub replaced_within : (a b growth : ℕ) (new : List ℕ) → a ≤ b → b ≤ length kept.text → length new ≤ b - a + growth → value facts.held run.n + growth ≤ LIMIT → length (text_after_replacement kept.text a b new) ≤ LIMIT
-  replaced_within a b growth new ordered inside grown f =
-      let len : length (text_after_replacement kept.text a b new) ≡ a + (length new + (length kept.text - b)) = omega (arith, length-append {A = ℕ}, length-take a kept.text, length-drop b kept.text) in
-      omega (arith, h.held)
+  replaced_within a b growth new ordered inside grown f = search (length-append, length-take, length-drop, arith)
 
   put_at : (m : ℕ) (growth : Polynomial) (new : List ℕ) (b : Bool) → nat_le (length (text_after_insertion kept.text kept.pointer new)) LIMIT ≡ b → m ≤ length new → length new ≤ value growth run.n → value facts.held run.n + value growth run.n ≤ LIMIT → Moves run.n (insertions.insertion_of m growth facts.position.distances) kept None (cond b (Ok (no_answer (record kept { text = text_after_insertion kept.text kept.pointer new; pointer = kept.pointer + length new; last_length = length new }))) (Err code.Ful))
   put_at m growth new true e k l f =

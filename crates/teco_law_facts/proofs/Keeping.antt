@@ -152,9 +152,7 @@ module _ (kept : Kept) (w : IsWhole kept) where
 
   -- ---- insertions, and what is put in the place of a part
   pub replaced : (a b : ℕ) (new : List ℕ) → a ≤ b → b ≤ length kept.text → AreBytes new → length (text_after_replacement kept.text a b new) ≤ LIMIT → (search_text : List ℕ) → IsWhole (record kept { text = text_after_replacement kept.text a b new; pointer = a + length new; last_length = length new; search_text = search_text })
-  replaced a b new o i h f last =
-      let l : length (text_after_replacement kept.text a b new) ≡ a + (length new + (length kept.text - b)) = omega (arith, length-append {A = ℕ}, length-take a kept.text, length-drop b kept.text) in
-      edited _ refl refl (omega arith) f (replaced_bytes kept.text a b new w.bytes h) (omega arith)
+  replaced a b new o i h f last = search (length-append, length-take, length-drop, edited, replaced_bytes, arith)
 
   pub inserted : (new : List ℕ) → AreBytes new → IfOk (insertion.insertion_of new kept) IsWholeEffect
   inserted new h = ok_if IsWholeEffect (nat_le (length (text_after_replacement kept.text kept.pointer kept.pointer new)) LIMIT) _ _ (λ t. record { kept = replaced kept.pointer kept.pointer new (omega arith) w.inside h (grind (arith, nat_tests)) kept.search_text; answer = tt })

@@ -25,7 +25,7 @@ use Rattle.teco_verifier.specs.facts.Facts.{Facts, nowhere}
 use Rattle.teco_verifier.specs.facts.Motions as row
 use Rattle.teco_verifier.specs.facts.Shifts as shifts
 use Rattle.teco_verifier.specs.facts.Shifts.{Shift, moving, KnownPlace}
-use Rattle.teco_verifier.specs.facts.Values.{IsIn, IsWithin, IsPlaceIf, single, size, pointer, minus, least, distance_of, IsValue, value_in, Surroundings, are_equal}
+use Rattle.teco_verifier.specs.facts.Values.{IsIn, IsWithin, IsPlaceIf, single, size, pointer, minus, least, distance_of, IsValue, value_in, Surroundings}
 use Rattle.teco_verifier.specs.declared.refusal.Refusal.{Refusal}
 use Rattle.teco_verifier.specs.declared.refusal.Refusal.TheVariants as refusal
 use Rattle.teco_verifier.specs.declared.values.Distances.{Distances}
@@ -38,9 +38,6 @@ use Rattle.teco_verifier.specs.declared.falls.DigitMark.{DigitMark}
 use Rattle.teco_verifier.specs.declared.falls.DigitMark.TheVariants.{Before, At}
 use Rattle.teco_law_facts.proofs.Falls.{Descends, held_before}
 use Rattle.teco_law_facts.proofs.Beyond.{beyond_later, first_line_least, line_begin}
-use Rattle.teco_model.specs.Condition.{is_code_of}
-use Rattle.teco_base.specs.Bytes.{is_digit}
-use Rattle.teco_model.specs.Character.{code_at}
 
 -- ---- what may be absent
 pub or_single : (around : Surroundings) (o : Option Value) (v : Option ℤ) (d : ℤ) → IsOptional (IsValue around) o v → IsIn (unwrap_or o (single d)) around (unwrap_or v d)
@@ -55,9 +52,7 @@ none_too false = refl
 
 -- every number of an interval is one
 pub exactly : (n : ℤ) (r : Interval) (v : ℤ) → row.is_exactly n r ≡ true → IsWithin r v → v ≡ n
-exactly n r v e i =
-    let b = both_true (are_equal r.lo n) (are_equal r.hi n) e in
-    omega (arith, ints, both_true (int_le r.lo n) (int_le n r.lo) b.0, both_true (int_le r.hi n) (int_le n r.hi) b.1, i)
+exactly n r v e i = search (both_true, arith, ints)
 
 -- ---- least distances
 known_if : (b : Bool) (why : Refusal) (m v : ℤ) → int_lt m (pos 0) ≡ b → m ≤ℤ v → IfOk (shifts.known_distance why (cond b None (Some (min (unsigned_abs m) LIMIT)))) (λ m. pos m ≤ℤ v)
@@ -226,9 +221,7 @@ module _ (run : Run) (facts : Facts) (unread : ℕ) (kept : Kept) (whole : IsWho
   step_back m r v e i = absurd (grind arith)
 
   marked_at : (z : ℤ) (m : ℕ) → z ≡ pos kept.pointer +ℤ negsuc 0 → z ≡ pos m → IsDigitAt (around_of kept) (negsuc 0) → IsDigitAt (around_of (at_pointer m)) (pos 0)
-  marked_at z m e g d =
-      let same : pos kept.pointer +ℤ negsuc 0 ≡ pos m +ℤ pos 0 = omega (arith, ints, e, g) in
-      subst (λ n. is_code_of is_digit (code_at kept.text n) ≡ true) same d
+  marked_at z m e g d = search (arith, ints)
 
   marked_on : (b : Bool) (mark : Option DigitMark) (z : ℤ) (m : ℕ) → (b ≡ true → z ≡ pos kept.pointer +ℤ negsuc 0) → z ≡ pos m → IsMarked (around_of kept) mark → IsMarked (around_of (at_pointer m)) (row.digit_after b mark)
   marked_on true (Some Before) z m e g d = marked_at z m (e refl) g d

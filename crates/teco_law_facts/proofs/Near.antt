@@ -45,6 +45,4 @@ line_of kept i = search (beyond_is, beyond_short, length-drop, beyond_shorter, a
 -- where a turn begins nothing has fallen
 pub begun_fallen : (rules : Rules) (unread : ℕ) (kept : Kept) → kept.pointer ≤ length kept.text → HasFallen (around_of kept) unread (falls_at_turn rules) (begun_at unread kept)
 begun_fallen First unread kept i = record { fall = omega (arith, ints); far = λ s. tt; line = tt; far_line = λ s. tt; held = tt; rest = tt; read = omega arith; part = omega arith }
-begun_fallen Second unread kept i =
-    let l = (line_of kept i).within in
-    record { fall = omega (arith, ints); far = λ s. omega (arith, ints); line = omega (arith, ints, l); far_line = λ s. omega (arith, ints, l); held = omega (arith, ints, i); rest = omega (arith, ints); read = omega arith; part = omega arith }
+begun_fallen Second unread kept i = search (line_of, arith, ints)

@@ -133,9 +133,7 @@ are_equal_is v w h = let p = both_true (int_le v w) (int_le w v) h in omega (ari
 
 code_fits : (c : Option CharacterCode) (s : Value) (around : Surroundings) (v : ℤ) → s.code ≡ c → (is_none c || has_no_distance s) ≡ true → ((n : ℤ) → IsWithin character (around.code_at n)) → (s.code ≡ None → FitsSigned w32 v) → (pos around.fore *ℤ s.ahead ≡ pos 0 → pos around.back *ℤ s.behind ≡ pos 0 → IsWithin (code_interval s.code) (code_worth s.code around.code_at) → FitsSigned w32 v) → FitsSigned w32 v
 code_fits None s around v e l k f g = f e
-code_fits (Some c) s around v e l k f g =
-    let p = both_true _ _ l in
-    g (rw (are_equal_is s.ahead (pos 0) p.0) (omega (arith, ints))) (rw (are_equal_is s.behind (pos 0) p.1) (omega (arith, ints))) (code_in s.code around k)
+code_fits (Some c) s around v e l k f g = search (both_true, are_equal_is, code_in, arith, ints)
 
 code_bounds : (c : Option CharacterCode) (w : ℤ) → IsWithin (code_interval c) w → (neg_ℤ (pos 255) ≤ℤ w) × (w ≤ℤ pos 255)
 code_bounds None w h = (omega (arith, ints, h), omega (arith, ints, h))

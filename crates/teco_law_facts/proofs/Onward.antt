@@ -148,9 +148,7 @@ module _ (run : Run) (facts : Facts) (x : Placed) (edges : Edges) (s : State) (h
     found_goes answer world now arguments before left few l c = inl (some (unread_of world) few, inl (record { comes = c; frames = refl; done = l }))
 
     met_goes : (world now : World) (arguments : model.Arguments) (before left : Option ℕ) → unread_of world ≤ cap → left ≡ None → Comes run facts.held s.world (model.levels_after_answer (answer_where x.colon (negsuc 0)) rest) edges world → Replies now arguments before (Ok (outcomes.met (outcomes.miss_where x.colon x.element frame) left rest world))
-    met_goes world now arguments before left few l c =
-        subst (λ answer. Replies now arguments before (Ok (replying Behind left (model.levels_after_answer answer rest) world))) (sym (answers_where x.colon x.element frame))
-        (found_goes (answer_where x.colon (negsuc 0)) world now arguments before left few l c)
+    met_goes world now arguments before left few l c = search (answers_where, found_goes)
 
     module _ (stays missed now : World) (arguments : model.Arguments) (before left : Option ℕ) (few : unread_of missed ≤ cap) (l : left ≡ None) (colon : x.colon ≡ false) (c : ComesAway (run_behind 1 run) facts.held s.world edges missed) where
       -- a jump that leaves one iteration

@@ -118,9 +118,7 @@ module _ (distances : Distances) (around : Surroundings) (b : AreDistances dista
   the_value value n h = absurd (grind arith)
 
   enclosed_covers : (k : KnownLevel) (level : Level) → IsLevel around k level → Covers (IsValue around) (known.inner_value k) (model.inner_value level)
-  enclosed_covers k level i =
-      covers_then (λ x y. ⊤) (IsValue around) _ _ _ _ (no_first_covers k.first level.first i.first) (λ x y u.
-      covers_then (IsOptional (IsValue around)) (IsValue around) _ _ _ _ (finished_covers k level i) (λ s v h. the_value s v h))
+  enclosed_covers k level i = search (covers_then, no_first_covers, finished_covers, the_value)
 
   pub closed_covers : (k : KnownLevel) (level : Level) (ks : List KnownLevel) (levels : List Level) → IsLevel around k level → AreEach (IsLevel around) ks levels → Covers (ArePending around) (known.levels_closed_onto distances k ks) (model.levels_closed_onto level levels)
   closed_covers k level [] levels i h = tt

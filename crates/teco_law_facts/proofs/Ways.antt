@@ -239,9 +239,7 @@ module _ (run : Run) (position : Position) (around : Surroundings) (unread : ℕ
   unsized n k = tt
 
   sized_with : (c : Option CharacterCode) (n : Numbers) (s : Value) (v : ℤ) → s.code ≡ c → int_le s.hi s.lo ≡ true → IsValue around s v → Takes n v → IsSize (least_size_by n s.ahead s.behind s.lo (position.distances.back + position.distances.fore))
-  sized_with None n s v c e i t =
-      let z : code_worth s.code around.code_at ≡ pos 0 = rw c refl in
-      sized n s.ahead s.behind s.lo v (omega (arith, ints, z, i.is)) (bounds_of n v t)
+  sized_with None n s v c e i t = search (sized, bounds_of, arith, ints)
   sized_with (Some code) n s v c e i t =
       let f : (has_no_distance s && int_le s.hi s.lo) ≡ true = subst (λ (c : Option CharacterCode). (is_none c || (has_no_distance s && int_le s.hi s.lo)) ≡ true) c i.form in
       let q = both_true (are_equal s.ahead (pos 0)) (are_equal s.behind (pos 0)) (both_true (has_no_distance s) (int_le s.hi s.lo) f).0 in
