@@ -148,9 +148,7 @@ module _ (laws : ending.Laws) (sound : NodesAreSound) (bounded : TurnsAreBounded
 
       -- a > that stays in its iteration goes back
       back_by : (depth : ℕ) (move : Move (turning nodes table n) here next) → 1 ≤ depth → reads_turn_end (Ok at.here.node.element) ≡ true → depth_of s ≡ depth → depth_of g.passes.next ≡ depth → 1 ≤ turns_by depth (turning nodes table n) here next move
-      back_by depth (Back returns) some reads before after =
-          let e : (length next.opened == depth) ≡ true = ap (λ k. k == depth) (next_many ∙ after) ∙ same_number depth in
-          subst (λ b. 1 ≤ (if b then 1 else 0)) (sym e) (omega arith)
+      back_by depth (Back returns) some reads before after = search (next_many, same_number, arith)
       back_by depth (Into enters) some reads before after = absurd (omega (arith, ap length enters.opened, here_many, next_many, before, after))
       back_by depth (Forward goes) some reads before after =
           let e = turn_end at.here.node.element reads in

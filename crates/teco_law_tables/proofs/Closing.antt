@@ -39,9 +39,7 @@ held_covered facts edge c =
     (and_both _ _ r.0).1
 
 pub held_same : (facts others : Facts) (n : ℕ) → IsTrue (say_same facts others) → value facts.held n ≡ value others.held n
-held_same facts others n s =
-    let p : IsTrue (covers facts others) × IsTrue (covers others facts) = and_both _ _ s in
-    omega (arith, values_compare others.held facts.held n (held_covered facts others p.0), values_compare facts.held others.held n (held_covered others facts p.1))
+held_same facts others n s = search (and_both, values_compare, held_covered, arith)
 
 module _ (nodes : List Node) (table : Table) (n : ℕ) where
   pub held_known : (k : ℕ) (facts : Facts) → facts_at table k ≡ Some facts → held_at nodes table n k ≡ value facts.held n
@@ -181,6 +179,4 @@ tables_close nest library entry nodes are open_at closed table n passes l some =
 }
 
 pub tables_are_closed : IterationsAreOpen → IterationsEnd → NodesNest → TablesAreClosed
-tables_are_closed open_at ends nest library entry nodes table n are passes = record {
-  loop = λ l some. tables_close nest library entry nodes are open_at (ends library entry nodes are) table n passes l some;
-}
+tables_are_closed open_at ends nest library entry nodes table n are passes = search tables_close

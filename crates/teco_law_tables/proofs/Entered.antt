@@ -42,7 +42,7 @@ use Rattle.teco_model.specs.Paging.{unread_of}
 use Rattle.teco_verifier.specs.facts.Values.{IsValue, Surroundings}
 use Rattle.teco_verifier.specs.declared.refusal.Refusal.{Refusal}
 use Rattle.teco_verifier.specs.declared.values.Value.{Value}
-use Rattle.teco_verifier.specs.table.Behind.{left_by, along, turns_by_flow, turns_by_kind, begins_turn}
+use Rattle.teco_verifier.specs.table.Behind.{left_by, turns_by_flow, turns_by_kind, begins_turn}
 use Rattle.teco_verifier.specs.table.Closed.{say_same, is_counted, body_stands, is_entered, enters_by, enters_at, closed_behind}
 use Rattle.teco_law_tables.specs.Following.{OpenTurn, begun_of, run_at, falling_in, loops_in, open_loops, AreMore, IsOpened, AreOpened, held_of, loops_of, shown}
 use Rattle.teco_law_tables.specs.Moving.{run_by_kind, run_along, IsLong, IsLast, Alone, Again, MovesOn}
@@ -183,9 +183,7 @@ module _ (laws : Laws) (ground : Ground) (closed : AreClosed ground.nodes) (pass
           (leads_there laws ground closed passage there at stand)))
 
       on : comes.edges.on ≡ Some comes.next
-      on = subst (λ k. along (Some (record e { kind = k })) zero comes.edges ≡ Some comes.next) is
-          (subst (λ way. along (Some e) way comes.edges ≡ Some comes.next) first
-          (subst (λ read. along read goes.way comes.edges ≡ Some comes.next) reads comes.on_way))
+      on = search is
 
       same_world : t.world ≡ s.world
       same_world = world_same flow.Iterate zero e s t was

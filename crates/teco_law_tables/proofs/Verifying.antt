@@ -244,16 +244,12 @@ argument_whole (Some range) (Some n) asked = record { level = record { first = t
 argument_whole argument given asked = absurd (grind arith)
 
 start_whole : Laws → (entry : ℕ) (argument : Option ArgumentRange) (given : Option ℕ) (world : World) → IsAsked argument given → AreBytes (call_of entry) → IsWholeWorld world → IsWholeState (start_given entry given world)
-start_whole laws entry argument given world asked call whole =
-    let from = laws.whole.starts (call_of entry) world call whole in
-    record { world = from.world; arguments = argument_whole argument given asked; frames = from.frames }
+start_whole laws entry argument given world asked call whole = search argument_whole
 
 -- the digits before the call take a step, where an argument is given
 in_all : (laws : Laws) (calls : CallLaws) (entry : ℕ) (argument : Option ArgumentRange) (given : Option ℕ) (world : World) (steps most : ℕ) → entry < REGISTERS → IsAsked argument given → steps_before argument + steps ≡ most →
     EndsWithin (start_given entry given world) steps → EndsWithin (start (call_given entry given) world) most
-in_all laws calls entry None None world steps most named asked all ends =
-    let same : steps ≡ most = omega (arith, all) in
-    subst (EndsWithin (start (call_of entry) world)) same ends
+in_all laws calls entry None None world steps most named asked all ends = search arith
 in_all laws calls entry (Some range) (Some n) world steps most named asked all ends = subst (EndsWithin (start (call_given entry (Some n)) world)) all (given_ends calls entry n world steps named asked.small ends)
 in_all laws calls entry argument given world steps most named asked all ends = absurd (grind arith)
 

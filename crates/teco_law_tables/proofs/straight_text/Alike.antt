@@ -1,5 +1,5 @@
 -- A stand compares alike to itself, and so a way to the next node has the next number.
-use Rattle.std.proofs.Common.{◌≡◌, ℕ, zero, suc, ◌+◌, ◌<◌, ◌≤◌, List, [], ◌∷◌, drop, length, nat_lt, Bool, true, false, ◌&&◌, ◌==◌, bytes_eq, Option, Some, None, refl, sym, ap, ◌∙◌, ⊎_elim, eqb-true, rules, arith}
+use Rattle.std.proofs.Common.{◌≡◌, ℕ, zero, suc, ◌<◌, ◌≤◌, List, [], ◌∷◌, drop, Bool, true, false, ◌&&◌, ◌==◌, bytes_eq, Option, Some, None, refl, sym, ap, ◌∙◌, ⊎_elim, eqb-true, rules, arith}
 use Rattle.std.proofs.lemmas.Bool.{cases_lt}
 use Rattle.std.proofs.lemmas.Slice.Eq.{bytes_eq-Decides}
 use Rattle.teco_base.specs.declared.TheConstants.{REGISTERS}
@@ -18,9 +18,7 @@ same_bytes : (xs : List ℕ) → bytes_eq xs xs ≡ true
 same_bytes xs = (bytes_eq-Decides xs xs).1 refl
 
 spot_alike : (a : Spot) → same_spot a a ≡ true
-spot_alike a =
-    both (a.place == a.place) _ (same_number a.place)
-    (both (bytes_eq a.text a.text) (bytes_eq a.starts a.starts) (same_bytes a.text) (same_bytes a.starts))
+spot_alike a = search (both, same_number, same_bytes)
 
 spots_alike : (spots : List Spot) → same_spots spots spots ≡ true
 spots_alike [] = refl
@@ -30,9 +28,7 @@ stand_alike : (a : Stand) → same_stand a a ≡ true
 stand_alike a = search (both, spot_alike, spots_alike, same_bytes)
 
 pub next_number : (all rest : List Stand) (number : ℕ) (stand : Stand) → drop number all ≡ stand ∷ rest → number_behind number all stand ≡ Some (suc number)
-next_number all rest number stand h =
-    let none : number + 0 ≡ number = omega arith in
-    let some : nat_lt 0 (length (stand ∷ rest)) ≡ true = search rules in rw (h, stand_alike stand, some, none) refl
+next_number all rest number stand h = search (stand_alike, arith)
 
 pub drop-behind : {X : Type 0} (n : ℕ) (xs rest : List X) (x : X) → drop n xs ≡ x ∷ rest → drop (suc n) xs ≡ rest
 drop-behind zero (y ∷ xs) rest x h = cc

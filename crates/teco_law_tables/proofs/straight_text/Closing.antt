@@ -1,5 +1,5 @@
 -- The table of a straight text is closed.
-use Rattle.std.proofs.Common.{◌≡◌, ℕ, suc, ◌+◌, ◌<◌, ◌≤◌, min, nat_le, nat_lt, List, [], ◌∷◌, drop, length, Bool, true, false, Some, None, Ok, refl, rules, arith}
+use Rattle.std.proofs.Common.{◌≡◌, ℕ, suc, ◌+◌, ◌≤◌, min, nat_le, nat_lt, List, [], ◌∷◌, drop, length, Bool, true, false, Some, None, Ok, refl, rules, arith}
 use Rattle.std.specs.List.{AllByRecursion}
 use Rattle.teco_model.specs.Macros.{Library}
 use Rattle.teco_verifier.specs.declared.rules.Rules.{Rules}
@@ -82,9 +82,7 @@ element_closed known nodes table entry m place text count e s i l here next =
 
 end_closed : (known : Entry) (nodes : List Node) (table : Table) (entry m place : ℕ) (text : List ℕ) (count : ℕ) → suc m ≡ length nodes → facts_at table (suc m) ≡ Some (facts_behind_insertions known count) →
     closed_at nodes table (suc m) (node_going_on entry (suc m) (stand_in_text entry text place) None false) ≡ true
-end_closed known nodes table entry m place text count l here =
-    let behind : nat_lt (length nodes) (suc (suc m)) ≡ true = (let small : length nodes < suc (suc m) = omega (arith, l) in search rules) in
-    rw (here, behind) refl
+end_closed known nodes table entry m place text count l here = search arith
 
 rows_closed : (known : Entry) (nodes : List Node) (table : Table) (entry m place : ℕ) (text : List ℕ) (count : ℕ) (elements : List Element) → AllByRecursion IsStraightElement elements → count + inserted elements ≤ LIMIT → suc m + length elements ≡ length nodes → drop m table ≡ rows_in_text known count elements →
     check_from nodes table (suc m) (nodes_in_text entry text (suc m) place elements) ≡ Ok tt

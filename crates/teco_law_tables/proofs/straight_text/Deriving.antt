@@ -5,11 +5,8 @@ use Rattle.teco_verifier.specs.facts.Facts.{Entry, entry_of, Facts}
 use Rattle.teco_base.specs.declared.TheConstants.{LIMIT}
 use Rattle.teco_model.specs.Element.{Element}
 use Rattle.teco_verifier.specs.expansion.Node.{Stand, Node, beginning}
-use Rattle.teco_verifier.specs.facts.Flows.{goes_on}
 use Rattle.teco_verifier.specs.facts.Transfer.{transfer}
-use Rattle.teco_verifier.specs.table.Behind.{placed}
 use Rattle.teco_verifier.specs.table.Deriving.{Arrival, met, derived_at, derive_from, derive}
-use Rattle.teco_verifier.specs.table.Written.{changes_in}
 use Rattle.teco_law_tables.specs.straight_text.Straight.{IsStraightElement, inserted_by, inserted}
 use Rattle.teco_law_tables.specs.straight_text.Nodes.{call_element, stand_in_text, node_going_on, nodes_in_text, straight_nodes}
 use Rattle.teco_law_tables.specs.straight_text.Facts.{facts_behind_insertions, row_behind_insertions, rows_in_text, StraightTablesAreDerived}
@@ -44,9 +41,7 @@ call_derived known nodes entry = refl
 element_derived : (known : Entry) (nodes : List Node) (entry number : ℕ) (stand : Stand) (e : Element) (count : ℕ) → IsStraightElement e → count + inserted_by e ≤ LIMIT →
     derived_at nodes [] number (node_going_on entry number stand (Some e) false) (Some (facts_behind_insertions known count))
     ≡ Ok (record { row = row_behind_insertions known count; arrivals = arrival_at (suc number) (facts_behind_insertions known (count + inserted_by e)) ∷ [] })
-element_derived known nodes entry number stand e count s l =
-    rw (edges_of_element known (placed nodes (node_going_on entry number stand (Some e) false) e) count s l)
-    (rw (arriving_by_element (changes_in nodes number) e (goes_on (facts_behind_insertions known (count + inserted_by e))) s) refl)
+element_derived known nodes entry number stand e count s l = search (edges_of_element, arriving_by_element)
 
 rows_derived : (known : Entry) (nodes : List Node) (entry number place : ℕ) (text : List ℕ) (count : ℕ) (before : List Arrival) (elements : List Element) → AllByRecursion IsStraightElement elements → count + inserted elements ≤ LIMIT → AreBelow number before →
     derive_from nodes [] number (nodes_in_text entry text number place elements) (before ++ arrival_at number (facts_behind_insertions known count) ∷ []) ≡ Ok (rows_in_text known count elements)

@@ -144,9 +144,7 @@ first_sized known = join_own known.rules known.lengths REGISTERS 0 (omega arith)
 
 size_printed : (known : Entry) (entry : ℕ) (text : List ℕ) (elements : List Element) → inserted elements ≤ LIMIT → size known (straight_nodes entry text elements) (straight_table known elements) ≡ Ok (and_more (inserted elements))
 unfolding size
-size_printed known entry text elements l =
-    let n : 0 + inserted elements ≡ inserted elements = omega arith in
-    rw (first_sized known) (rw (rows_sized known (straight_table known elements) entry 1 0 text 0 0 elements (omega arith) (omega (arith, l)) refl) (ap (λ n. Ok (and_more n)) n))
+size_printed known entry text elements l = search (first_sized, rows_sized, arith)
 
 -- needs
 rows_need : (known : Entry) (table : Table) (entry m place : ℕ) (text : List ℕ) (count : ℕ) (elements : List Element) → AllByRecursion IsStraightElement elements → drop m table ≡ rows_in_text known count elements →
