@@ -54,9 +54,7 @@ returned b r n e = rw e (omega arith)
 module _ (t : Table) where
   own_weight : (d i : ℕ) → length (t.loops i) ≡ d → weight t d i ≡ t.own i
   unfolding weight
-  own_weight d i e =
-      let none : length (t.loops i) - d ≡ 0 = omega arith in
-      rw none (omega arith)
+  own_weight d i e = search arith
 
   -- at the start all is left
   pub all_left : before t 0 t.size ≡ commands t
@@ -111,6 +109,4 @@ module _ (t : Table) where
 
   -- a further turn is one of those that may come
   pub return : (u v : Turn) (us : List Turn) → u.loop.begin ≡ v.loop.begin → u.rest ≡ suc v.rest → left t (suc v.loop.begin) (v ∷ us) ≡ left t (suc (end_of t u)) (u ∷ us)
-  return u v us same more =
-      let y = before t (suc (length us)) in
-      rw same (omega (arith, returned (y (suc (end_of t v)) - y (suc v.loop.begin)) u.rest v.rest more))
+  return u v us same more = search (returned, arith)

@@ -72,9 +72,4 @@ a_run =
     before stop 2 5 0 (inside 0) (λ i. omega arith)
 
 pub growth_is_needed : GrowthIsNeeded
-growth_is_needed = record {
-  closed = almost_closed;
-  start = search arith;
-  printed = refl;
-  takes = a_run.takes;
-}
+growth_is_needed = search (almost_closed, a_run, arith)

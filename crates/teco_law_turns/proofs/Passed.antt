@@ -7,9 +7,7 @@ use Rattle.teco_law_turns.specs.Nests.{Mark, Begin, End, Plain, onward, EndsInne
 
 module _ (t : Table) (mark : ℕ → Mark) (nested : IsPassed t mark) where
   pub first : (l : ℕ) → l < t.end l → t.loops (suc l) ≡ l ∷ t.loops l
-  first l some =
-      let begins = nested.begins l some in
-      nested.next l (omega (arith, begins.1)) ∙ ap (λ m. onward m l (t.loops l)) begins.0
+  first l some = search arith
 
   -- one node further
   further : (l j : ℕ) (m : Mark) (inner : List ℕ) → mark j ≡ m → suc j ≤ t.end l → t.end l < t.size → t.loops j ≡ inner ++ l ∷ t.loops l → (deeper : List ℕ) × (t.loops (suc j) ≡ deeper ++ l ∷ t.loops l)
