@@ -3,7 +3,7 @@ ghost use Rattle.std.specs.Prelude.{◌≡◌, ◌<◌, ◌≤◌, length, get_o
 ghost use Rattle.teco_model.specs.Element as elements;
 ghost use Rattle.teco_verifier.specs.facts.Flows as flows;
 ghost use Rattle.teco_facts.specs.Does.{Gives};
-ghost use Rattle.teco_facts.specs.Placed.{seen};
+ghost use Rattle.teco_transfer.specs.Placed.{seen};
 ghost use Rattle.teco_verifier.specs.table.Behind as rules;
 ghost use Rattle.teco_check.specs.Here.{node_at};
 ghost use Rattle.teco_check.specs.Kept.{AreKept};
@@ -11,9 +11,11 @@ ghost use Rattle.teco_check.specs.Ways as ways;
 
 use crate::node::{colon, depth, element, inside, names_macro, way};
 use teco_expansion::Nodes;
-use teco_facts::{Edges, Facts, Fault, Placed, return_from, transfer_from};
+use teco_facts::Facts;
+use teco_known::Fault;
 use teco_model::Element;
 use teco_model::kind::{Flow, Kind};
+use teco_transfer::{Edges, Placed, return_from, transfer_from};
 
 // How many iterations are open at a number; behind all nodes there is none.
 #[tactic(auto, using(crate::proofs::Numbered::open_is, crate::proofs::Numbered::open_outside))]

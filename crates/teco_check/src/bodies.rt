@@ -9,10 +9,11 @@ use crate::iterations::{changes_in, end_of};
 use crate::same::say_same;
 use crate::table::Table;
 use teco_expansion::Nodes;
-use teco_facts::{Changes, Choice, Facts, body_start, turns};
+use teco_facts::{Changes, Choice, Facts, body_start};
 use teco_model::Element;
 use teco_model::kind::{Flow, Kind};
 use teco_poly::Poly;
+use teco_transfer::turns;
 use teco_verifier::{Rank, Refusal};
 
 /// Whether an element is a <.

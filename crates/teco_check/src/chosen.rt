@@ -4,7 +4,8 @@ ghost use Rattle.teco_base.specs.declared.TheConstants.{REGISTERS};
 ghost use Rattle.teco_verifier.specs.table.Deriving as rules;
 
 use teco_base::REGISTERS;
-use teco_facts::{Choice, Facts, Margins};
+use teco_facts::{Choice, Facts};
+use teco_known::Margins;
 use teco_poly::Poly;
 use teco_verifier::{LongerText, LoopLine};
 

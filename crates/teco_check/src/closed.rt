@@ -16,8 +16,10 @@ use crate::same::{is_covered, is_entry};
 use crate::table::Table;
 use std::alloc::Global;
 use teco_expansion::Nodes;
-use teco_facts::{Edges, Entry, Facts, Fault};
+use teco_facts::{Entry, Facts};
+use teco_known::Fault;
 use teco_model::Element;
+use teco_transfer::Edges;
 
 // Whether an edge is covered where it leads. Behind all nodes nothing is known; the return of the
 // entry alone leads there.

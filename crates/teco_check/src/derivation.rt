@@ -19,8 +19,10 @@ use crate::node::{element, way, ways};
 use crate::table::{Row, Table, are_kept};
 use std::alloc::{AllocError, Global};
 use teco_expansion::Nodes;
-use teco_facts::{Choice, Edges, Entry, Facts, Fault, body_start};
+use teco_facts::{Choice, Entry, Facts, body_start};
+use teco_known::Fault;
 use teco_model::Element;
+use teco_transfer::Edges;
 use teco_verifier::{LoopLine, Refusal};
 
 /// Why no table is derived.

@@ -20,9 +20,10 @@ use crate::table::Table;
 use std::marker::Model;
 use teco_base::REGISTERS;
 use teco_expansion::Nodes;
-use teco_facts::{Entry, Facts, is_in_pages, needs_of, steps, turns};
+use teco_facts::{Entry, Facts};
 use teco_model::{ArgumentRange, Element, Kind, Needs};
 use teco_poly::Poly;
+use teco_transfer::{is_in_pages, needs_of, steps, turns};
 use teco_verifier::{Rank, Refusal, Rules};
 
 /// A printed number overflows at the node of this number.
@@ -366,10 +367,10 @@ pub fn commands(entry: &Entry, nodes: &Nodes<'_>, table: &Table) -> Result<Poly,
     ensures value { Prints (rules.commands entry.now nodes.now table.now) result }
     ensures told { OverflowsAt nodes.now result }
 {
-    if let Err(overflow) = multiplied(entry.rules(), nodes, table) {
+    if let Err(overflow) = multiplied(entry.rules, nodes, table) {
         return Err(overflow);
     }
-    sum_over(steps_before(entry.argument()), nodes, table)
+    sum_over(steps_before(entry.argument), nodes, table)
 }
 
 // The join with a length, if that counts.

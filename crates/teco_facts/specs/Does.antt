@@ -2,16 +2,9 @@
 use Rattle.std.specs.Prelude.{◌≡◌, [], ◌∷◌, Option, Some, None, Result, Ok, Err}
 use Rattle.std.specs.declared.alloc.AllocError.{AllocError}
 use Rattle.teco_verifier.specs.declared.refusal.Refusal.{Refusal}
-use Rattle.teco_verifier.specs.facts.Arguments.{KnownArguments}
 use Rattle.teco_verifier.specs.facts.Facts.{Pushed, Facts}
-use Rattle.teco_facts.specs.declared.fault.Fault.{Fault}
-use Rattle.teco_facts.specs.declared.fault.Fault.TheVariants as fault
-
--- it left what the definition says, or is its refusal, or memory was refused
-abbrev pub Closes : Result KnownArguments Refusal → KnownArguments → Result (Unit {0}) Fault → Type 0
-Closes defined new (Ok done) = defined ≡ Ok new
-Closes defined new (Err (fault.Refused why)) = defined ≡ Err why
-Closes defined new (Err fault.Memory) = Unit {0}
+use Rattle.teco_known.specs.declared.fault.Fault.{Fault}
+use Rattle.teco_known.specs.declared.fault.Fault.TheVariants as fault
 
 -- it is what the definition says, or its refusal, or memory was refused
 abbrev pub Gives : {X : Type 0} → Result X Refusal → Result X Fault → Type 0

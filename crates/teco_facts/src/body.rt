@@ -5,11 +5,11 @@ ghost use Rattle.teco_verifier.specs.facts.Bodies as bodies;
 ghost use Rattle.teco_verifier.specs.facts.Ranks as ranks;
 ghost use Rattle.teco_verifier.specs.facts.Shifts as shifts;
 
+use crate::Facts;
 use crate::covering::covers_pairs;
-use crate::falls::falls_at_start;
-use crate::{Facts, Margins, Position, Range, each_covers, replace_where, sum_of};
 use std::marker::Model;
 use teco_base::REGISTERS;
+use teco_known::{Margins, Position, Range, each_covers, falls_at_start, replace_where, sum_of};
 use teco_poly::Poly;
 use teco_verifier::{Rank, Refusal, Rules};
 
@@ -60,21 +60,19 @@ impl Model for Changes {
     ghost invariant = { λ c. length c.written ≡ REGISTERS };
 }
 
-impl Position {
-    // Which registers are saved at the start of a body.
-    #[tactic(auto, using(crate::proofs::Meeting::unsaved_are))]
-    fn saved_at_start(&self, changes: &Changes) -> [bool; REGISTERS]
-        ensures value { result ≡ shifts.saved_after changes.now.ends (bodies.unsaved_where
-            changes.now.written self.now.saved) }
-        ensures all { length result ≡ REGISTERS }
-    {
-        if changes.ends {
-            return [false; REGISTERS];
-        }
-        let mut saved = self.saved;
-        replace_where(&mut saved, &changes.written, false);
-        saved
+// Which registers are saved at the start of a body.
+#[tactic(auto, using(crate::proofs::Meeting::unsaved_are))]
+fn saved_at_start(here: &Position, changes: &Changes) -> [bool; REGISTERS]
+    ensures value { result ≡ shifts.saved_after changes.now.ends (bodies.unsaved_where
+        changes.now.written here.now.saved) }
+    ensures all { length result ≡ REGISTERS }
+{
+    if changes.ends {
+        return [false; REGISTERS];
     }
+    let mut saved = here.saved;
+    replace_where(&mut saved, &changes.written, false);
+    saved
 }
 
 // Whether a fall is known to be at least so much.
@@ -175,7 +173,7 @@ pub fn body_start(choice: &Choice, changes: &Changes, mut entering: Facts) -> Fa
         margins: choice.margins,
         falls: falls_at_start(rules, choice.kept, choice.margins, &here.falls),
         ahead: if choice.kept { here.ahead } else { choice.held },
-        saved: here.saved_at_start(changes),
+        saved: saved_at_start(here, changes),
         digit: None,
     };
     entering.known.position = position;
@@ -191,7 +189,7 @@ fn begins_again(choice: &Choice, changes: &Changes, entering: &Facts, end: &Fact
         entering.now) end.now }
 {
     let numbers = unknown_where(&changes.written, &entering.known.numbers);
-    let saved = entering.known.position.saved_at_start(changes);
+    let saved = saved_at_start(&entering.known.position, changes);
     each_covers(&numbers, &end.known.numbers)
         && each_covers(&choice.texts, &end.known.texts)
         && covers_pairs(entering.known.pushes.chain(), end.known.pushes.chain())

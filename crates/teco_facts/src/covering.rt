@@ -1,152 +1,11 @@
 //! When what is known at the end of an edge is covered by what is known at its target.
-ghost use Rattle.std.specs.Prelude.{◌≡◌, ◌&&◌};
+ghost use Rattle.std.specs.Prelude.{◌≡◌};
 ghost use Rattle.teco_verifier.specs.facts.Covers as covers;
-ghost use Rattle.teco_verifier.specs.facts.Values as values;
 
-use crate::{
-    Answer, Covers, Facts, Iteration, Level, Margins, Number, Position, Pushed, Range, each_covers,
-    has_no_distance,
-};
-use teco_model::Operator;
-use teco_poly::Poly;
+use crate::{Answer, Facts, Iteration, Pushed};
+use teco_known::{Covers, each_covers};
 use teco_stack::Chain;
-use teco_verifier::{CharacterCode, DigitMark, Falls, Rules, Value};
-
-// Whether two numbers are the same.
-fn are_equal(one: i64, two: i64) -> bool
-    ensures { result ≡ values.are_equal one two }
-{
-    one <= two && two <= one
-}
-
-// Whether each distance counts as often in both numbers.
-fn counts_as_often(one: Value, edge: Value) -> bool
-    ensures { result ≡ (values.are_equal one.ahead edge.ahead && values.are_equal one.behind edge.behind) }
-{
-    are_equal(one.ahead, edge.ahead) && are_equal(one.behind, edge.behind)
-}
-
-// Whether what else there is has the same ends.
-fn has_same_ends(one: Value, edge: Value) -> bool
-    ensures { result ≡ (values.are_equal one.lo edge.lo && values.are_equal one.hi edge.hi) }
-{
-    are_equal(one.lo, edge.lo) && are_equal(one.hi, edge.hi)
-}
-
-// Whether two numbers have the same code, or none.
-fn has_same_code(one: Option<CharacterCode>, edge: Option<CharacterCode>) -> bool
-    ensures { result ≡ covers.both_cover covers.is_same_code one edge }
-{
-    match (one, edge) {
-        (None, None) => true,
-        (Some(one), Some(edge)) => {
-            are_equal(one.offset, edge.offset) && one.negated == edge.negated
-        }
-        _ => false,
-    }
-}
-
-// Whether two numbers have the same parts.
-fn is_same(one: Value, edge: Value) -> bool
-    ensures { result ≡ covers.is_same one edge }
-{
-    counts_as_often(one, edge) && has_same_code(one.code, edge.code) && has_same_ends(one, edge)
-}
-
-// Whether a linear number is the same, or a range has all that the other number may be; and what is
-// saved is saved on the edge.
-#[tactic(auto, using(crate::proofs::Wholes::wholes))]
-fn covers_value(margins: Margins, one: Number, edge: Number) -> bool
-    ensures { result ≡ covers.covers_value margins one edge }
-{
-    let n = one.value;
-    if !n.saved.covers(&edge.value.saved) {
-        false
-    } else if has_no_distance(n) && n.code.is_none() {
-        one.ends().covers(&edge.range(margins))
-    } else {
-        is_same(n, edge.value)
-    }
-}
-
-// Whether numbers that may be absent are both there and covered, or both absent.
-fn covers_if_any(margins: Margins, one: Option<Number>, edge: Option<Number>) -> bool
-    ensures { result ≡ covers.both_cover (covers.covers_value margins) one edge }
-{
-    match (one, edge) {
-        (None, None) => true,
-        (Some(one), Some(edge)) => covers_value(margins, one, edge),
-        _ => false,
-    }
-}
-
-// Whether two operators are the same, or there is none.
-fn is_same_operator(one: Option<Operator>, edge: Option<Operator>) -> bool
-    ensures { result ≡ covers.both_cover covers.is_same_operator one edge }
-{
-    matches!(
-        (one, edge),
-        (None, None)
-            | (Some(Operator::Plus), Some(Operator::Plus))
-            | (Some(Operator::Minus), Some(Operator::Minus))
-            | (Some(Operator::Times), Some(Operator::Times))
-            | (Some(Operator::Over), Some(Operator::Over))
-            | (Some(Operator::And), Some(Operator::And))
-            | (Some(Operator::Or), Some(Operator::Or))
-    )
-}
-
-impl Level {
-    /// Whether the level covers that of an edge, which has the same shape.
-    pub fn covers(self, edge: Level, margins: Margins) -> bool
-        ensures { result ≡ covers.covers_level margins self edge }
-    {
-        covers_if_any(margins, self.first, edge.first)
-            && covers_if_any(margins, self.value, edge.value)
-            && is_same_operator(self.operator, edge.operator)
-    }
-}
-
-impl Margins {
-    /// Whether the distances are smaller, or the same.
-    pub fn covers(self, edge: Margins) -> bool
-        ensures { result ≡ covers.covers_distances self edge }
-    {
-        self.back <= edge.back && self.fore <= edge.fore
-    }
-}
-
-impl Covers for Range {
-    ghost covers = { covers.covers_interval };
-
-    fn covers(&self, edge: &Range) -> bool {
-        self.lo <= edge.lo && edge.hi <= self.hi
-    }
-}
-
-// Whether a fall is smaller, or the same; an unknown one is the smallest.
-fn covers_fall(one: Option<i64>, edge: Option<i64>) -> bool
-    ensures { result ≡ covers.covers_fall one edge }
-{
-    match (one, edge) {
-        (None, _) => true,
-        (Some(one), Some(edge)) => one <= edge,
-        (Some(_), None) => false,
-    }
-}
-
-impl Covers for Falls {
-    ghost covers = { covers.covers_falls };
-
-    fn covers(&self, edge: &Falls) -> bool {
-        covers_fall(self.fall, edge.fall)
-            && covers_fall(self.far, edge.far)
-            && covers_fall(self.line, edge.line)
-            && covers_fall(self.far_line, edge.far_line)
-            && covers_fall(self.held, edge.held)
-            && covers_fall(self.rest, edge.rest)
-    }
-}
+use teco_verifier::Rules;
 
 // An iteration has a count at both, or at neither, and as many pushes.
 impl Covers for Iteration {
@@ -154,24 +13,6 @@ impl Covers for Iteration {
 
     fn covers(&self, edge: &Iteration) -> bool {
         self.counted == edge.counted && self.pushes == edge.pushes
-    }
-}
-
-// A text may be longer.
-impl Covers for Poly {
-    ghost covers = { covers.covers_length };
-
-    fn covers(&self, edge: &Poly) -> bool {
-        edge.le(self)
-    }
-}
-
-// What is saved here is saved on the edge.
-impl Covers for bool {
-    ghost covers = { covers.covers_saved };
-
-    fn covers(&self, edge: &bool) -> bool {
-        !*self || *edge
     }
 }
 
@@ -199,24 +40,6 @@ pub fn covers_pairs(mut one: &Chain<Pushed>, mut edge: &Chain<Pushed>) -> bool
         }
         one = one_below;
         edge = edge_below;
-    }
-}
-
-impl Position {
-    /// Whether the position covers that of an edge.
-    pub fn covers(&self, edge: &Position) -> bool
-        ensures { result ≡ covers.covers_position self.now edge.now }
-    {
-        self.margins.covers(edge.margins)
-            && each_covers(self.falls.as_slice(), edge.falls.as_slice())
-            && edge.ahead.le(&self.ahead)
-            && each_covers(&self.saved, &edge.saved)
-            && matches!(
-                (self.digit, edge.digit),
-                (None, _)
-                    | (Some(DigitMark::Before), Some(DigitMark::Before))
-                    | (Some(DigitMark::At), Some(DigitMark::At))
-            )
     }
 }
 

@@ -57,20 +57,6 @@ impl Entry {
         texts
     }
 
-    /// The edition of the rules.
-    pub fn rules(&self) -> Rules
-        ensures { result ≡ self.now.rules }
-    {
-        self.rules
-    }
-
-    /// The argument that is declared.
-    pub fn argument(&self) -> Option<ArgumentRange>
-        ensures { result ≡ self.now.argument }
-    {
-        self.argument
-    }
-
     /// Whether the text of a register counts in the size: that of the library does not by the
     /// second edition.
     pub fn counts(&self, register: usize) -> bool

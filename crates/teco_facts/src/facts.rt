@@ -7,13 +7,21 @@ ghost use Rattle.teco_verifier.specs.facts.Facts as rules;
 ghost use Rattle.teco_verifier.specs.facts.Shifts as shifts;
 ghost use Rattle.teco_verifier.specs.facts.Argument as given;
 ghost use Rattle.teco_verifier.specs.facts.Arguments as arguments;
-ghost use Rattle.teco_facts.specs.Numbers.{AreSmall};
+ghost use Rattle.teco_verifier.specs.facts.Joins as joins;
+ghost use Rattle.teco_verifier.specs.facts.Motions as motions;
+ghost use Rattle.teco_verifier.specs.facts.Storages as storages;
+ghost use Rattle.teco_verifier.specs.facts.Transfer as transfer;
+ghost use Rattle.teco_known.specs.Numbers.{AreSmall};
+ghost use Rattle.teco_facts.specs.Does.{Gives};
 ghost use Rattle.teco_facts.specs.Room.{innermost};
+ghost use Rattle.teco_facts.specs.Searched as searched;
 
-use crate::{Arguments, Entry, Few, Level, Margins, Number, Position, Range, Shift, sum_of};
+use crate::Entry;
 use std::alloc::{AllocError, Global};
 use std::marker::Model;
+use std::mem;
 use teco_base::{REGISTERS, Reg};
+use teco_known::{Arguments, Fault, Few, Level, Margins, Number, Position, Range, Shift, sum_of};
 use teco_poly::Poly;
 use teco_stack::Stack;
 use teco_verifier::{Distances, Interval, Refusal, Rules};
@@ -21,8 +29,8 @@ use teco_verifier::{Distances, Interval, Refusal, Rules};
 /// The positions where a search found, and where it failed.
 #[derive(Drop)]
 pub struct Answer {
-    pub(crate) found: Position,
-    pub(crate) failed: Position,
+    pub found: Position,
+    pub failed: Position,
 }
 
 impl Model for Answer {
@@ -183,6 +191,13 @@ impl Facts {
         self
     }
 
+    /// Where the pointer is.
+    pub fn position(&self) -> &Position
+        ensures { result.now ≡ self.now.position }
+    {
+        &self.known.position
+    }
+
     /// The distances of the pointer.
     pub fn margins(&self) -> Margins
         ensures { result ≡ self.now.position.distances }
@@ -194,7 +209,7 @@ impl Facts {
     pub fn level(&self) -> Level
         ensures { result ≡ self.now.arguments.level }
     {
-        self.known.arguments.level
+        self.known.arguments.level()
     }
 
     /// How much is held.
@@ -304,7 +319,7 @@ impl Facts {
         ensures { result ≡ rules.with_arguments (arguments.levels_after_taking self.arguments)
             self }
     {
-        self.known.arguments.level = Level::empty();
+        self.known.arguments.put_level(Level::empty());
         self.known.answer = None;
         self
     }
@@ -313,8 +328,74 @@ impl Facts {
     pub fn with_level(mut self, level: Level) -> Facts
         ensures { result ≡ rules.with_arguments (record self.arguments { level = level }) self }
     {
-        self.known.arguments.level = level;
+        self.known.arguments.put_level(level);
         self.known.answer = None;
+        self
+    }
+
+    /// The facts where a parenthesis opens, if there is memory.
+    pub fn opened(mut self) -> Result<Facts, AllocError>
+        ensures { IfOk result (λ facts. facts ≡ rules.with_arguments (arguments.levels_after_open
+            self.arguments) self) }
+    {
+        self.known.arguments.open()?;
+        self.known.answer = None;
+        Ok(self)
+    }
+
+    /// The facts where the innermost parenthesis closes, and its value is given outside.
+    pub fn closed(mut self) -> Result<Facts, Fault>
+        ensures { Gives (transfer.facts_after_levels (arguments.levels_closed_onto
+            self.position.distances self.arguments.level self.arguments.outer) self) result }
+    {
+        let margins = self.margins();
+        self.known.arguments.close(margins)?;
+        self.known.answer = None;
+        Ok(self)
+    }
+
+    /// Whether nothing is pending.
+    pub fn none_pending(&self) -> Result<(), Refusal>
+        ensures { result ≡ joins.none_pending self.now.arguments }
+    {
+        self.known.arguments.none_pending()
+    }
+
+    /// Takes a search's answer out, if one is pending.
+    pub fn take_answer(&mut self) -> Option<Answer>
+        ensures value { result ≡ self.old.answer }
+        ensures left { self.new ≡ transfer.without_answer self.old }
+    {
+        self.known.answer.take()
+    }
+
+    /// The facts with a search's answer, which tells its outcomes apart: these where it found, and
+    /// the position where it failed.
+    pub fn with_answer(mut self, failed: Position) -> Result<Facts, Refusal>
+        ensures { result ≡ searched.facts_of_answer self failed }
+    {
+        let position = self.known.position.joined(&failed)?;
+        let answer = Number::within(success());
+        self.known.arguments.answer(Some(answer));
+        let found = mem::replace(&mut self.known.position, position);
+        self.known.answer = Some(Answer { found, failed });
+        Ok(self)
+    }
+
+    /// The facts where the number of a register is of a range, and saved or not.
+    pub fn with_number(mut self, register: Reg, number: Range, saved: bool) -> Facts
+        ensures { result ≡ storages.with_number register number saved self }
+    {
+        self.known.numbers[register.index()] = number;
+        self.known.position.saved[register.index()] = saved;
+        self
+    }
+
+    /// The facts where the text of a register is at most so long.
+    pub fn with_text(mut self, register: Reg, length: Poly) -> Facts
+        ensures { result ≡ storages.with_text register length self }
+    {
+        self.known.texts[register.index()] = length;
         self
     }
 
@@ -340,58 +421,9 @@ impl Facts {
     }
 }
 
-/// What a command leaves and answers, as far as it is known.
-#[derive(Drop)]
-pub struct Foreseen {
-    facts: Facts,
-    answer: Option<Number>,
-}
-
-impl Model for Foreseen {
-    ghost use Rattle.teco_verifier.specs.facts.Shifts as shifts;
-
-    ghost Value = { shifts.Foreseen };
-
-    ghost view = { λ f. record { facts = f.facts; answer = f.answer } };
-}
-
-impl Foreseen {
-    /// With no answer.
-    pub fn silent(facts: Facts) -> Foreseen
-        ensures { result ≡ shifts.silent facts }
-    {
-        Foreseen {
-            facts,
-            answer: None,
-        }
-    }
-
-    /// With an answer.
-    pub fn giving(answer: Number, facts: Facts) -> Foreseen
-        ensures { result ≡ shifts.answering_value answer facts }
-    {
-        Foreseen {
-            facts,
-            answer: Some(answer),
-        }
-    }
-
-    /// With no answer, behind a shift.
-    pub fn behind(shift: &Shift, facts: Facts) -> Result<Foreseen, Refusal>
-        requires { AreSmall facts.position.falls }
-        ensures { result ≡ shifts.silent_behind shift.now facts }
-    {
-        let facts = facts.shifted(shift)?;
-        Ok(Foreseen::silent(facts))
-    }
-
-    /// The facts behind a command that took its arguments.
-    pub fn answered(self) -> Facts
-        ensures { result ≡ shifts.facts_answered self }
-    {
-        let mut facts = self.facts;
-        facts.known.arguments.answer(self.answer);
-        facts.known.answer = None;
-        facts
-    }
+/// The answer of what may fail: -1 or 0.
+pub fn success() -> Range
+    ensures { result ≡ motions.success }
+{
+    Range { lo: -1, hi: 0 }
 }

@@ -3,25 +3,13 @@ ghost use Rattle.std.specs.Prelude.{◌≡◌, ◌++◌, IfOk};
 ghost use Rattle.teco_verifier.specs.facts.Joins as joins;
 ghost use Rattle.teco_facts.specs.Does.{Gives};
 
-use crate::position::join_of;
-use crate::{Facts, Fault, Meets, Pushed, Range, meet_each};
+use crate::{Facts, Pushed};
 use std::alloc::{AllocError, Global};
 use teco_base::REGISTERS;
+use teco_known::{Fault, Meets, join_of, meet_each};
 use teco_poly::Poly;
 use teco_stack::{Chain, Stack};
 use teco_verifier::Refusal;
-
-// The hull of two ranges.
-impl Meets for Range {
-    ghost met = { joins.hull };
-
-    fn met(self, other: Range) -> Range {
-        Range {
-            lo: self.lo.min(other.lo),
-            hi: self.hi.max(other.hi),
-        }
-    }
-}
 
 /// The joins of the texts of each register.
 pub fn joined_lengths(

@@ -1,60 +1,17 @@
-//! What the verifier knows before an element, and what each element does to it.
+//! What the verifier knows before an element, where ways meet, and in the body of an iteration.
 #![tactic(auto)]
 
-mod arguments;
-mod arithmetic;
 mod body;
 mod covering;
-mod deletion;
-mod each;
-mod edges;
 mod entry;
 mod facts;
-mod falls;
-mod fault;
-mod few;
-mod flow;
+mod foreseen;
+mod iterations;
 mod joining;
-mod level;
-mod margins;
-mod motion;
-mod number;
-mod pages;
-mod place;
-mod position;
-mod printed;
-mod query;
-mod range;
-mod search;
-mod settling;
-mod shift;
-mod stack;
-mod storage;
-mod typing;
-mod ways;
+pub mod stack;
 
-pub use arguments::Arguments;
-use arithmetic::positive;
 pub use body::{Changes, Choice, body_start, growth_of, held_last};
-use each::{Covers, Meets, each_covers, meet_each, replace_where};
-pub use edges::{Placed, return_from, transfer_from};
 pub use entry::Entry;
-pub use facts::{Answer, Facts, Foreseen, Iteration, Pushed};
-pub use falls::OpenFalls;
-pub use fault::Fault;
-pub use few::Few;
-pub use flow::{Edges, turns};
+pub use facts::{Answer, Facts, Iteration, Pushed, success};
+pub use foreseen::Foreseen;
 pub use joining::{joined_lengths, joined_pair};
-pub use level::{Level, Taken};
-pub use margins::Margins;
-use motion::count_of;
-pub use number::Number;
-use place::{has_no_distance, minus, plus};
-pub use position::Position;
-use position::sum_of;
-pub use printed::{is_in_pages, needs_of, steps};
-pub use range::Range;
-pub use shift::Shift;
-use shift::{Descent, KnownPlace};
-use typing::{needed_value, part_named};
-use ways::Numbers;

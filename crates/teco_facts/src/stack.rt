@@ -5,11 +5,11 @@ ghost use Rattle.teco_facts.specs.Does.{Gives, Pops};
 ghost use Rattle.teco_verifier.specs.facts.Facts as rules;
 ghost use Rattle.teco_verifier.specs.facts.Storages as storages;
 
-use crate::storage::{with_number, with_text};
-use crate::{Facts, Fault, Pushed};
+use crate::{Facts, Pushed};
 use std::alloc::AllocError;
 use std::mem;
 use teco_base::Reg;
+use teco_known::Fault;
 use teco_stack::Stack;
 use teco_verifier::Refusal;
 
@@ -96,8 +96,8 @@ pub fn pop(library: bool, register: Reg, mut facts: Facts) -> Result<Facts, Faul
         None => Err(Fault::Refused(Refusal::Pop)),
         Some(pair) => {
             if above {
-                let facts = with_number(register, pair.number, false, facts);
-                Ok(with_text(register, pair.text, facts))
+                let facts = facts.with_number(register, pair.number, false);
+                Ok(facts.with_text(register, pair.text))
             } else {
                 Err(Fault::Refused(Refusal::Pop))
             }

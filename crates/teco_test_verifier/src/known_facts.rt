@@ -4,10 +4,12 @@ use crate::subjects::{entry_of, expect, name_of};
 use std::alloc::Global;
 use std::test::*;
 use teco_base::LIMIT;
-use teco_facts::{Edges, Facts, Fault, Placed, transfer_from, turns};
+use teco_facts::Facts;
+use teco_known::Fault;
 use teco_lex::{Element, element};
 use teco_model::Kind;
 use teco_model::kind::Flow;
+use teco_transfer::{Edges, Placed, transfer_from, turns};
 use teco_verifier::Refusal;
 
 // Whether a semicolon is the next element.

@@ -16,8 +16,8 @@ use Rattle.teco_model.specs.Macros.{Library}
 use Rattle.teco_verifier.specs.declared.rules.Rules.{Rules}
 use Rattle.teco_verifier.specs.expansion.Node.{Node}
 use Rattle.teco_verifier.specs.expansion.Refusal as expanding
-use Rattle.teco_facts.specs.Numbers.{AreSmall, IsSmallFalls}
-use Rattle.teco_facts.specs.declared.few.TheConstants.{DEPTH}
+use Rattle.teco_known.specs.Numbers.{AreSmall, IsSmallFalls}
+use Rattle.teco_known.specs.declared.few.TheConstants.{DEPTH}
 use Rattle.teco_poly.specs.Polynomial.{Polynomial}
 use Rattle.teco_verifier.specs.declared.refusal.Refusal.{Refusal}
 use Rattle.teco_verifier.specs.facts.Facts.{Facts, Entry, entry_of}

@@ -27,11 +27,12 @@ use std::marker::Model;
 use teco_base::Reg;
 use teco_check::{Table, begins_iteration, end_of, rank_at};
 use teco_expansion::{ExpandFault, Nodes, Refusal as Unexpanded, expand};
-use teco_facts::{Choice, Entry, turns};
+use teco_facts::{Choice, Entry};
 use teco_law_tables::straight::straight_texts_are_accepted;
 use teco_library::Library;
 use teco_model::Element;
 use teco_poly::Poly;
+use teco_transfer::turns;
 use teco_verifier::Rules;
 
 /// What the verifier knows of a macro: the elements that it comes to, numbered from 1, what is

@@ -3,9 +3,8 @@
 use crate::memo::{Body, Memo};
 use std::alloc::{AllocError, Global};
 use teco_check::line_of;
-use teco_facts::{
-    Changes, Choice, Facts, Margins, body_start, growth_of, held_last, joined_lengths,
-};
+use teco_facts::{Changes, Choice, Facts, body_start, growth_of, held_last, joined_lengths};
+use teco_known::Margins;
 use teco_poly::Poly;
 use teco_verifier::{LoopLine, Rank, Refusal, Rules};
 

@@ -12,9 +12,10 @@ use crate::unfit::Unfit;
 use std::alloc::{AllocError, Global};
 use teco_check::{are_kept, begins_iteration, begins_turn, edges_from, take_along};
 use teco_expansion::Nodes;
-use teco_facts::{Edges, Entry, Facts, turns};
+use teco_facts::{Entry, Facts};
 use teco_model::Element;
 use teco_poly::Poly;
+use teco_transfer::{Edges, turns};
 use teco_verifier::{LoopLine, Refusal, Rules};
 
 /// How often the body of the innermost of six iterations may be passed: as often for each of them as

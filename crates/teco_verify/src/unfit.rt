@@ -4,7 +4,7 @@ ghost use Rattle.teco_verify.specs.Unfit.{IsAt};
 ghost use Rattle.teco_verify.specs.declared.unfit.Unfit.TheVariants.{Memory};
 
 use std::alloc::{AllocError, AllocFailed};
-use teco_facts::Fault;
+use teco_known::Fault;
 use teco_verifier::Refusal;
 
 /// Why no choices are found.

@@ -1,7 +1,0 @@
-use Rattle.teco_facts.proofs.edges.search_edges.Goals as goal
-
-pub position_failed-failed-requires : goal.position_failed-failed-requires
-position_failed-failed-requires c = rw c.in_ok-taken.ensures.kept c.requires.small
-
-pub facts_found-requires-clause-small : goal.facts_found-requires-clause-small
-facts_found-requires-clause-small c = rw c.in_ok-taken.ensures.kept c.requires.small

@@ -1,0 +1,10 @@
+-- What the proofs of the functions share.
+pub mod Ends
+pub mod Lengths
+pub mod Linear
+pub mod Places
+pub mod Wholes
+pub mod Shifted
+pub mod Sides
+pub mod Meeting
+pub mod Settles

@@ -1,0 +1,7 @@
+-- The words of the contracts.
+pub mod Numbers
+pub mod Descents
+pub mod Behind
+pub mod Each
+pub mod Does
+pub mod Settled

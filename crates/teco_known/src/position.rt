@@ -1,0 +1,162 @@
+//! Where the pointer is, and how much is ahead of it.
+ghost use Rattle.std.specs.Prelude.{◌≡◌, ◌&&◌, [], IsTrue, None};
+ghost use Rattle.teco_poly.specs.Polynomial.{variable};
+ghost use Rattle.teco_verifier.specs.facts.Facts as facts;
+ghost use Rattle.teco_verifier.specs.facts.Joins as joins;
+ghost use Rattle.teco_verifier.specs.facts.Shifts as shifts;
+ghost use Rattle.teco_known.specs.Numbers.{AreSmall};
+
+use crate::{Descent, Margins, Meets, OpenFalls, Shift, falls, meet_each};
+use std::marker::Model;
+use teco_base::REGISTERS;
+use teco_poly::Poly;
+use teco_verifier::{DigitMark, Refusal, Rules};
+
+/// The least distances of the pointer, the least falls of each open iteration, how much is ahead,
+/// which registers are saved, and where a digit is known to stand.
+#[derive(Drop)]
+pub struct Position {
+    pub margins: Margins,
+    pub falls: OpenFalls,
+    pub ahead: Poly,
+    pub saved: [bool; REGISTERS],
+    pub digit: Option<DigitMark>,
+}
+
+impl Model for Position {
+    ghost use Rattle.std.specs.Prelude.{◌≡◌, length};
+    ghost use Rattle.teco_base.specs.declared.TheConstants.{REGISTERS};
+    ghost use Rattle.teco_verifier.specs.facts.Facts as facts;
+
+    ghost Value = { facts.Position };
+
+    ghost view = { λ p. record {
+      distances = p.margins;
+      falls = p.falls;
+      ahead = p.ahead;
+      saved = p.saved;
+      digit = p.digit;
+    } };
+
+    ghost invariant = { λ p. length p.saved ≡ REGISTERS };
+}
+
+/// The sum, where it does not overflow.
+pub fn sum_of(one: &Poly, two: &Poly) -> Result<Poly, Refusal>
+    ensures { result ≡ facts.sum_of one.now two.now }
+{
+    one.add(two).ok_or(Refusal::Overflow)
+}
+
+/// The join, where it does not overflow.
+pub fn join_of(one: &Poly, two: &Poly) -> Result<Poly, Refusal>
+    ensures { result ≡ facts.join_of one.now two.now }
+{
+    one.join(two).ok_or(Refusal::Overflow)
+}
+
+// Where a digit stands on two ways: at the same place, or it is unknown.
+fn joined_mark(one: Option<DigitMark>, other: Option<DigitMark>) -> Option<DigitMark>
+    ensures { result ≡ joins.joined_mark one other }
+{
+    match (one, other) {
+        (Some(DigitMark::Before), Some(DigitMark::Before)) => one,
+        (Some(DigitMark::At), Some(DigitMark::At)) => one,
+        _ => None,
+    }
+}
+
+impl Meets for bool {
+    ghost met = { λ one two. one && two };
+
+    fn met(self, other: bool) -> bool {
+        self && other
+    }
+}
+
+impl Position {
+    /// Before the first element.
+    pub fn start() -> Position
+        ensures { result ≡ record {
+          distances = facts.nowhere;
+          falls = [];
+          ahead = variable;
+          saved = facts.none_saved;
+          digit = None;
+        } }
+    {
+        Position {
+            margins: Margins::nowhere(),
+            falls: falls::no_falls(),
+            ahead: Poly::variable(),
+            saved: [false; REGISTERS],
+            digit: None,
+        }
+    }
+
+    /// A copy of the position.
+    pub fn copied(&self) -> Position
+        ensures { result ≡ self.now }
+    {
+        Position {
+            margins: self.margins,
+            falls: self.falls.copied(),
+            ahead: self.ahead,
+            saved: self.saved,
+            digit: self.digit,
+        }
+    }
+
+    /// The position behind a shift, where so much is held. Where more may be ahead than before, that
+    /// may be all that is held.
+    pub fn after(&self, rules: Rules, shift: &Shift, held: Poly) -> Position
+        requires { AreSmall self.now.falls }
+        ensures { result ≡ shifts.position_after rules shift.now held self.now }
+    {
+        let margins = Margins::capped(shift.back, shift.fore);
+        Position {
+            margins,
+            falls: falls::all_behind(rules, shift, margins, &self.falls),
+            ahead: match shift.descent {
+                Descent::By(None) | Descent::InLine => held,
+                Descent::By(Some(by)) if by < 0 => held,
+                _ => self.ahead,
+            },
+            saved: if shift.ends {
+                [false; REGISTERS]
+            } else {
+                self.saved
+            },
+            digit: shift.digit,
+        }
+    }
+
+    /// Whether more may be added to each fall.
+    pub fn is_small(&self) -> bool
+        ensures yes { IsTrue result → AreSmall self.now.falls }
+        ensures no { AreSmall self.now.falls → IsTrue result }
+    {
+        falls::are_small(&self.falls)
+    }
+
+    /// What is known at two positions.
+    #[tactic(auto, using(crate::proofs::Meeting::falls_are, crate::proofs::Meeting::saved_are))]
+    pub fn joined(&self, other: &Position) -> Result<Position, Refusal>
+        ensures { result ≡ joins.joined_position self.now other.now }
+    {
+        let ahead = join_of(&self.ahead, &other.ahead)?;
+        let mut saved = self.saved;
+        meet_each(&mut saved, &other.saved);
+        let margins = Margins {
+            back: self.margins.back.min(other.margins.back),
+            fore: self.margins.fore.min(other.margins.fore),
+        };
+        Ok(Position {
+            margins,
+            falls: self.falls.met(&other.falls),
+            ahead,
+            saved,
+            digit: joined_mark(self.digit, other.digit),
+        })
+    }
+}

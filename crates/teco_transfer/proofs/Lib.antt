@@ -1,0 +1,3 @@
+-- What the proofs of the functions share.
+pub mod Parts
+pub mod Searched

@@ -1,0 +1,5 @@
+-- The words of the contracts.
+pub mod Offsets
+pub mod Seen
+pub mod Searched
+pub mod Placed

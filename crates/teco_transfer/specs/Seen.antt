@@ -1,0 +1,15 @@
+-- The numbers that take a way, as the rules have them.
+use Rattle.teco_verifier.specs.facts.Ways as ways
+use Rattle.teco_transfer.specs.declared.ways.Numbers.{Numbers}
+use Rattle.teco_transfer.specs.declared.ways.Numbers.TheVariants.{Zero, NotZero, Negative, NotNegative, Positive, NotPositive, Characters, Digits, All}
+
+abbrev pub seen : Numbers → ways.Numbers
+seen Zero = ways.Zero
+seen NotZero = ways.NotZero
+seen Negative = ways.Negative
+seen NotNegative = ways.NotNegative
+seen Positive = ways.Positive
+seen NotPositive = ways.NotPositive
+seen Characters = ways.Characters
+seen Digits = ways.Digits
+seen All = ways.All

@@ -1,0 +1,235 @@
+//! What an element does to what is known before it.
+ghost use Rattle.std.specs.Prelude.{◌≡◌, ◌≤◌, length};
+ghost use Rattle.teco_base.specs.declared.TheConstants.{LIMIT};
+ghost use Rattle.teco_verifier.specs.facts.Facts as known;
+ghost use Rattle.teco_verifier.specs.facts.Transfer as rules;
+ghost use Rattle.teco_model.specs.declared.kind.Flow.TheVariants as flow;
+ghost use Rattle.teco_model.specs.declared.kind.Kind.TheVariants as kind;
+ghost use Rattle.teco_verifier.specs.facts.Flows as flows;
+ghost use Rattle.teco_facts.specs.Does.{Gives};
+ghost use Rattle.teco_facts.specs.Room.{HasRoom};
+ghost use Rattle.teco_known.specs.Numbers.{AreSmall};
+ghost use Rattle.teco_transfer.specs.Placed.{seen};
+
+use crate::ways::both_ways;
+use crate::{
+    Edges, Numbers, deletion, flow, motion, needed_value, pages, query, search, storage, typing,
+};
+use teco_base::LIMIT;
+use teco_facts::{Answer, Facts, Foreseen, stack};
+use teco_known::{Fault, Number, Position, Range, Taken, run_value};
+use teco_model::Element;
+use teco_model::kind::{Argument, Command, Flow, Kind, Page, Search, Stack, Value};
+use teco_verifier::Refusal;
+
+/// An element where it stands: whether the register that it names is one of the library's, whether
+/// it stands in an iteration of its own text, whether a search counts as having a colon, and how
+/// many iterations its skip leaves.
+#[derive(Clone, Copy)]
+pub struct Placed<'a> {
+    pub element: Element<'a>,
+    pub library: bool,
+    pub inside: bool,
+    pub colon: bool,
+    pub leaves: usize,
+}
+
+// The facts behind a value that the machine has.
+fn facts_after_value(value: Value, facts: Facts) -> Result<Facts, Refusal>
+    ensures { result ≡ rules.facts_after_value value facts }
+{
+    let (level, margins) = (facts.level(), facts.margins());
+    match value {
+        Value::Begin => Ok(facts.with_level(level.given(Number::single(0), margins)?)),
+        Value::Size => Ok(facts.with_level(level.given(Number::size(), margins)?)),
+        Value::Pointer => Ok(facts.with_level(level.given(Number::pointer(), margins)?)),
+        Value::Whole => {
+            let parted = level.given(Number::single(0), margins)?.parted(margins)?;
+            Ok(facts.with_level(parted.given(Number::size(), margins)?))
+        }
+        Value::LastLength => {
+            let (lo, hi) = (-(LIMIT as i64), 0);
+            let length = Number::within(Range { lo, hi });
+            Ok(facts.with_level(level.given(length, margins)?))
+        }
+        Value::LastText => Err(Refusal::Unverified),
+    }
+}
+
+// What a command does with the arguments that it took.
+fn execution(
+    command: Command,
+    placed: &Placed<'_>,
+    taken: Taken,
+    facts: Facts,
+) -> Result<Foreseen, Refusal>
+    requires { AreSmall facts.position.falls }
+    ensures { result ≡ rules.execution command (seen placed.now) taken facts }
+{
+    let Element { colons, text, .. } = placed.element;
+    match command {
+        Command::Motion(kind) => motion::motion(kind, colons, taken, facts),
+        Command::Deletion(unit) => deletion::deletion(unit, taken, facts),
+        Command::Insertion(kind) => typing::insertion(kind, text, taken, facts),
+        Command::Typing(kind) => typing::typing(kind, taken, facts),
+        Command::Storage(kind) => {
+            storage::storage(kind, placed.library, colons, text, taken, facts)
+        }
+    }
+}
+
+// The facts behind an element that changes arguments alone.
+fn facts_after_argument(argument: Argument, text: &[u8], facts: Facts) -> Result<Facts, Fault>
+    ensures { Gives (rules.facts_after_argument argument text.now facts) result }
+{
+    let (level, margins) = (facts.level(), facts.margins());
+    match argument {
+        Argument::DropAll => Ok(facts.without_arguments()),
+        Argument::Digits => {
+            let value = Number::single(run_value(text));
+            Ok(facts.with_level(level.given(value, margins)?))
+        }
+        Argument::Operate(operator) => Ok(facts.with_level(level.operating(operator)?)),
+        Argument::Comma => Ok(facts.with_level(level.parted(margins)?)),
+        Argument::Close => facts.closed(),
+        Argument::Open => Ok(facts.opened()?),
+    }
+}
+
+// The edges behind a search, from the facts where it found, the position where it failed, and what
+// was known before it.
+fn search_outcomes(
+    colon: bool,
+    found: Facts,
+    failed: Position,
+    before: Facts,
+) -> Result<Edges, Refusal>
+    ensures { result ≡ rules.search_outcomes colon found (known.at_position failed before) }
+{
+    if colon {
+        return Ok(Edges::on(found.with_answer(failed)?));
+    }
+    let missed = before.at_position(failed);
+    Ok(Edges {
+        on: Some(found),
+        away: Some(missed.leaving(1)),
+    })
+}
+
+// Whether a search is verified where it stands.
+fn search_allowed(inside: bool, colon: bool) -> Result<(), Refusal>
+    ensures { result ≡ rules.search_allowed inside colon }
+{
+    if inside || colon {
+        Ok(())
+    } else {
+        Err(Refusal::Unverified)
+    }
+}
+
+// The edges behind a search, if there is memory.
+fn search_edges(kind: Search, placed: &Placed<'_>, facts: Facts) -> Result<Edges, Fault>
+    requires small { AreSmall facts.position.falls }
+    requires within { length placed.now.element.text.now ≤ LIMIT }
+    requires second_within { length placed.now.element.second.now ≤ LIMIT }
+    ensures { Gives (rules.search_edges kind (seen placed.now) facts) result }
+{
+    let element = &placed.element;
+    let taken = search::facts_at_search(kind, facts)?;
+    search_allowed(placed.inside, placed.colon)?;
+    let failed = search::position_failed(kind, element.colons, &taken);
+    let before = taken.copied()?;
+    let found = search::facts_found(kind, element.text, element.second, taken)?;
+    Ok(search_outcomes(placed.colon, found, failed, before)?)
+}
+
+// The edges behind an element of flow, if there is memory: a conditional goes on where its test holds,
+// and O goes to its tag, and leaves as many iterations as lie between.
+fn flow_edges(
+    kind: Flow,
+    colons: u8,
+    leaves: usize,
+    answer: &Option<Answer>,
+    facts: Facts,
+) -> Result<Edges, Fault>
+    requires room { kind ≡ flow.Iterate → HasRoom facts }
+    ensures { Gives (flows.flow_edges kind colons leaves answer.now facts) result }
+{
+    match kind {
+        Flow::Iterate => flow::iterate(facts),
+        Flow::EndTurn => flow::turn_end(facts),
+        Flow::Leave => flow::leave(colons, answer, facts),
+        Flow::Test(test) => {
+            let n = needed_value(facts.level().taken()?.value)?;
+            let (on, away) = both_ways(Numbers::holding(test), answer, n, facts.taking())?;
+            Ok(Edges { on, away })
+        }
+        Flow::Otherwise | Flow::GoAhead(_) => Ok(Edges::away(facts)),
+        Flow::EndTest | Flow::Comment => Ok(Edges::on(facts)),
+        Flow::GoTo => {
+            if facts.level().taken()?.value.is_some() {
+                return Err(Fault::Refused(Refusal::Argument));
+            }
+            Ok(Edges::away(facts.leaving(leaves)))
+        }
+    }
+}
+
+// A search's answer, which only a test of it tells apart.
+fn answer_for(kind: &Kind, facts: &mut Facts) -> Option<Answer>
+    ensures value { result ≡ rules.answer_for kind.now facts.old }
+    ensures left { facts.new ≡ rules.without_answer facts.old }
+{
+    let answer = facts.take_answer();
+    match kind {
+        Kind::Flow(Flow::Leave | Flow::Test(_)) => answer,
+        _ => None,
+    }
+}
+
+/// The edges behind an element, from what is known before it, which is taken, if there is memory.
+#[tactic(auto, unfolding(teco_verifier::specs::facts::Transfer::transfer))]
+pub fn transfer_from(placed: &Placed<'_>, mut facts: Facts) -> Result<Edges, Fault>
+    requires small { AreSmall facts.position.falls }
+    requires room { placed.now.element.kind ≡ kind.Flow flow.Iterate → HasRoom facts }
+    requires within { length placed.now.element.text.now ≤ LIMIT }
+    requires second_within { length placed.now.element.second.now ≤ LIMIT }
+    ensures { Gives (rules.transfer (seen placed.now) facts) result }
+{
+    let answer = answer_for(&placed.element.kind, &mut facts);
+    let element = &placed.element;
+    match element.kind {
+        Kind::Argument(kind) => Ok(Edges::on(facts_after_argument(kind, element.text, facts)?)),
+        Kind::Value(kind) => Ok(Edges::on(facts_after_value(kind, facts)?)),
+        Kind::Query(kind) => {
+            Ok(Edges::on(query::facts_after_query(kind, element.colons, facts)?))
+        }
+        Kind::Stack(Stack::Push(register)) => Ok(Edges::on(stack::push(register, facts)?)),
+        Kind::Stack(Stack::Pop(register)) => {
+            Ok(Edges::on(stack::pop(placed.library, register, facts)?))
+        }
+        Kind::Call(_) => Ok(Edges::on(facts.without_digit())),
+        Kind::Flow(kind) => flow_edges(kind, element.colons, placed.leaves, &answer, facts),
+        Kind::Command(kind) => {
+            let taken = facts.level().taken()?;
+            Ok(Edges::on(execution(kind, placed, taken, facts.taking())?.answered()))
+        }
+        Kind::Page(kind) => {
+            let taken = facts.level().taken()?;
+            Ok(Edges::on(pages::page(kind, taken, facts.taking())?.answered()))
+        }
+        Kind::Search(kind) => search_edges(kind, placed, facts),
+        Kind::File(_) => {
+            let _taken = facts.level().taken()?;
+            Err(Fault::Refused(Refusal::Unverified))
+        }
+    }
+}
+
+/// The edge behind the end of a called text, which goes back and leaves the arguments.
+pub fn return_from(mut facts: Facts) -> Edges
+    ensures { result ≡ rules.transfer_return facts }
+{
+    let _answer = facts.take_answer();
+    Edges::on(facts.without_digit())
+}

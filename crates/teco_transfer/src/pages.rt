@@ -1,0 +1,77 @@
+//! A, P, PW and Y.
+ghost use Rattle.std.specs.Prelude.{◌≡◌, if◌then◌else◌};
+ghost use Rattle.teco_verifier.specs.facts.Pages as pages;
+ghost use Rattle.teco_known.specs.Numbers.{AreSmall};
+ghost use Rattle.teco_transfer.specs.Offsets as offsets;
+
+use crate::query::character;
+use crate::{count_of, part_named};
+use teco_base::LIMIT;
+use teco_facts::{Facts, Foreseen};
+use teco_known::{Descent, Margins, Number, Shift, Taken, has_no_distance};
+use teco_model::kind::Page;
+use teco_verifier::{Refusal, Rules, Value};
+
+// The single number from -LIMIT to LIMIT - 1, if it is one.
+fn offset_of(n: Value) -> Option<i64>
+    ensures { result ≡ offsets.offset_of n }
+{
+    let single = has_no_distance(n) && n.code.is_none() && n.hi <= n.lo;
+    if single && -(LIMIT as i64) <= n.lo && n.hi <= LIMIT as i64 - 1 {
+        Some(n.lo)
+    } else {
+        None
+    }
+}
+
+// The code of a character; in the second edition it is known of which.
+fn code_asked(rules: Rules, n: Number) -> Number
+    ensures { result ≡ pages.code_asked rules n }
+{
+    match (rules, offset_of(n.value)) {
+        (Rules::Second, Some(offset)) => Number::code(offset),
+        _ => Number::within(character()),
+    }
+}
+
+// To the begin of another page, where nothing is saved; or pages are written, or a part, which leaves
+// all as it is.
+fn turning(goes_on: bool, taken: Taken, facts: Facts) -> Result<Foreseen, Refusal>
+    requires { AreSmall facts.position.falls }
+    ensures { result ≡ (if goes_on then pages.turning taken.first taken.value facts else
+        pages.writing taken.first taken.value facts) }
+{
+    let margins = facts.margins();
+    if taken.first.is_some() && taken.value.is_some() {
+        part_named(facts.rules(), taken, margins)?;
+    } else {
+        if count_of(taken.value, margins).lo < 1 {
+            return Err(Refusal::Argument);
+        }
+        if goes_on {
+            return Foreseen::behind(&Shift::moving(0, 0, Descent::NextPage).ending(), facts);
+        }
+    }
+    Ok(Foreseen::silent(facts.without_digit()))
+}
+
+/// What is done with pages: A gives the code of a character, or adds a page behind the buffer, where a
+/// digit stays.
+pub fn page(page: Page, taken: Taken, facts: Facts) -> Result<Foreseen, Refusal>
+    requires { AreSmall facts.position.falls }
+    ensures { result ≡ pages.pages page taken facts }
+{
+    match page {
+        Page::Append => match taken.value {
+            Some(n) => Ok(Foreseen::giving(code_asked(facts.rules(), n), facts)),
+            None => {
+                let Margins { back, fore } = facts.margins();
+                let shift = Shift::moving(back, fore, Descent::Refilled(0));
+                Foreseen::behind(&shift.marking(facts.position().digit), facts)
+            }
+        },
+        Page::Next => turning(true, taken, facts),
+        Page::Write => turning(false, taken, facts),
+        Page::Yank => Err(Refusal::Unverified),
+    }
+}

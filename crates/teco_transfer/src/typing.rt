@@ -1,0 +1,64 @@
+//! T, V, ^A, ^T and =, and I and TAB.
+ghost use Rattle.std.specs.Prelude.{◌≡◌};
+ghost use Rattle.teco_verifier.specs.facts.Arguments as arguments;
+ghost use Rattle.teco_verifier.specs.facts.Insertions as insertions;
+ghost use Rattle.teco_verifier.specs.facts.Typings as typings;
+ghost use Rattle.teco_known.specs.Numbers.{AreSmall};
+
+use teco_facts::{Facts, Foreseen};
+use teco_known::{KnownPlace, Margins, Number, Shift, Taken};
+use teco_model::kind::{Insertion, Typing};
+use teco_poly::Poly;
+use teco_verifier::{Refusal, Rules};
+
+/// Two places that are known to lie in the buffer, if there are two.
+pub fn part_named(rules: Rules, taken: Taken, margins: Margins) -> Result<(), Refusal>
+    ensures { result ≡ typings.part_named rules taken.first taken.value margins }
+{
+    if let (Some(m), Some(n)) = (taken.first, taken.value) {
+        let _from = KnownPlace::bound(rules, m, margins)?;
+        let _to = KnownPlace::bound(rules, n, margins)?;
+    }
+    Ok(())
+}
+
+/// An argument that a command needs.
+pub fn needed_value(value: Option<Number>) -> Result<Number, Refusal>
+    ensures { result ≡ arguments.needed_value value }
+{
+    value.ok_or(Refusal::Argument)
+}
+
+/// What types changes nothing.
+pub fn typing(typing: Typing, taken: Taken, facts: Facts) -> Result<Foreseen, Refusal>
+    ensures { result ≡ typings.typing typing taken facts }
+{
+    match typing {
+        Typing::Part => part_named(facts.rules(), taken, facts.margins())?,
+        Typing::View | Typing::Message => {}
+        Typing::Byte | Typing::Number(_) => {
+            let _needed = needed_value(taken.value)?;
+        }
+    }
+    Ok(Foreseen::silent(facts))
+}
+
+/// An insertion of its text, or of a byte.
+pub fn insertion(
+    insertion: Insertion,
+    text: &[u8],
+    taken: Taken,
+    facts: Facts,
+) -> Result<Foreseen, Refusal>
+    requires { AreSmall facts.position.falls }
+    ensures { result ≡ insertions.insertion insertion text.now taken facts }
+{
+    let length = match (insertion, taken.value) {
+        (Insertion::Text, None) => text.len(),
+        (Insertion::Text, Some(_)) if text.is_empty() => 1,
+        (Insertion::Tab, None) => text.len() + 1,
+        _ => return Err(Refusal::Argument),
+    };
+    let shift = Shift::inserting(length, Poly::number(length as u64), facts.margins());
+    Foreseen::behind(&shift, facts)
+}
