@@ -1,6 +1,7 @@
 pub mod Worked
 pub mod WorkedPages
 pub mod WorkedSkips
+pub mod WorkedElements
 pub mod Chains
 pub mod Progress
 pub mod Standing

@@ -1,4 +1,5 @@
--- Sessions, searches, skips and commands worked by hand, which the definition computes.
+-- Elements, sessions, searches, skips and commands worked by hand, which the definition computes.
+pub mod Elements
 pub mod Sessions
 pub mod Matches
 pub mod Skips
