@@ -17,6 +17,3 @@ pub const LIMIT: usize = 268_435_456;
 
 /// How many registers there are.
 pub const REGISTERS: usize = 36;
-
-#[cfg(test)]
-mod tests;

@@ -5,6 +5,3 @@ mod args;
 mod level;
 
 pub use args::{ArgFault, Args};
-
-#[cfg(test)]
-mod tests;

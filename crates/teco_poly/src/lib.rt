@@ -9,6 +9,3 @@ mod text;
 
 pub use poly::Poly;
 pub use text::number_at;
-
-#[cfg(test)]
-mod tests;

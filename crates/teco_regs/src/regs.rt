@@ -269,6 +269,3 @@ fn held_in(pairs: &[Pair]) -> u128
     }
     held
 }
-
-#[cfg(test)]
-mod tests;

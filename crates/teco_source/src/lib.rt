@@ -15,6 +15,3 @@ pub use position::Position;
 pub use script::text_begin;
 pub use shown::{Shown, ShownAs};
 pub use source::Source;
-
-#[cfg(test)]
-mod tests;

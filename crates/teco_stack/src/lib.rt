@@ -4,6 +4,3 @@
 mod stack;
 
 pub use stack::{Chain, Stack};
-
-#[cfg(test)]
-mod tests;

@@ -136,6 +136,3 @@ impl TextStore for GapText {
         self.block.slices()
     }
 }
-
-#[cfg(test)]
-mod tests;

@@ -100,6 +100,3 @@ fn nth_place_from_end(piece: &[u8], at: usize, count: u64) -> Result<usize, u64>
     }
     Err(left)
 }
-
-#[cfg(test)]
-mod tests;

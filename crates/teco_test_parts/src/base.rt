@@ -1,6 +1,6 @@
 // Worked values, taken from the rules and not from a run.
-use crate::arithmetic::{add, and, div, mul, or, sub};
-use crate::{Code, Reg, bytes, decimal, hex, octal};
+use teco_base::arithmetic::{add, and, div, mul, or, sub};
+use teco_base::{Code, Reg, bytes, decimal, hex, octal};
 
 #[test]
 fn wraps_results(rt: HostRuntime) {

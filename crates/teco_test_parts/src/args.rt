@@ -1,10 +1,10 @@
 // Arguments as they are written, with what a command takes, or the code. Only a ninth parenthesis
 // may want memory; a call that is refused memory is made once more, so that the rows also hold
 // where that allocation fails.
-use super::*;
 use std::process::Abort;
 use std::test::Fail;
 use teco_base::Code;
+use teco_expr::{ArgFault, Args};
 use teco_model::Operator;
 
 // Gives the arguments an element of one byte.

@@ -3,8 +3,10 @@
 ghost use Rattle.std.specs.Prelude.{IsTrue};
 ghost use Rattle.teco_regs.specs.Texts.{IsTextWithinLimit};
 
-use super::*;
+use std::alloc::Global;
 use std::process::Abort;
+use teco_base::{LIMIT, REGISTERS, Reg};
+use teco_regs::{RegFault, Regs};
 
 #[derive(Clone, Copy)]
 enum Call {

@@ -1,8 +1,8 @@
 // Worked polynomials, taken from the grammar and from sums and products by hand. A call that is
 // refused memory is made once more, so that the rows also hold where one allocation fails.
-use crate::Poly;
 use std::alloc::Global;
 use std::process::Abort;
+use teco_poly::Poly;
 
 // The polynomial with these coefficients, by sums and products.
 fn poly(coefficients: &[u64]) -> Option<Poly> {

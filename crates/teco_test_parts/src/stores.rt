@@ -1,10 +1,10 @@
 // Rows of calls on either store, with what each answers and leaves. A call that is refused memory
 // is made once more, so that the rows also hold where one allocation fails.
-use crate::{GapText, TextFault, TextStore, VecText};
 use std::alloc::Global;
 use std::process::Abort;
 use std::test::Fail;
 use teco_base::LIMIT;
+use teco_text::{GapText, TextFault, TextStore, VecText};
 
 #[derive(Clone, Copy)]
 enum Call {

@@ -1,6 +1,6 @@
 // Line places worked out by hand.
-use crate::{TextStore, VecText, line_place};
 use std::test::Fail;
+use teco_text::{TextStore, VecText, line_place};
 
 #[test]
 fn counts_line_ends(rt: HostRuntime) -> Result<(), Fail> {

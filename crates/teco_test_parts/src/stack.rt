@@ -1,9 +1,9 @@
 // Stacks that share. A call that is refused memory is made once more, so that the rows also hold
 // where one allocation fails.
-use super::*;
 use std::alloc::{AllocError, Global};
 use std::process::Abort;
 use std::test::*;
+use teco_stack::{Chain, Stack};
 
 // A stack of the numbers below one, the greatest on top.
 fn numbers(alloc: Global, count: u32) -> Result<Stack<u32>, AllocError> {

@@ -1,9 +1,9 @@
 // Sources and the texts that they say, worked by hand. A call that is refused memory is made once
 // more, so that the rows also hold where one allocation fails.
-use super::*;
 use std::alloc::{AllocError, Global};
 use std::process::Abort;
 use std::test::*;
+use teco_source::*;
 
 const TILDE: Form = Form::Marked(b'~');
 
