@@ -1,5 +1,5 @@
 //! What enters the body of an iteration, and what is chosen for it.
-ghost use Rattle.std.specs.Prelude.{◌≡◌, ◌<◌, ◌≤◌, length, option_map, option_copied, Some, Ok};
+ghost use Rattle.std.specs.Prelude.{◌≡◌, ◌<◌, ◌≤◌, length, option_map, option_copied, IfOk, Some, Ok};
 ghost use Rattle.teco_model.specs.Element as elements;
 ghost use Rattle.teco_verifier.specs.facts.Ranks as ranks;
 ghost use Rattle.teco_verifier.specs.table.Closed as rules;
@@ -8,6 +8,7 @@ ghost use Rattle.teco_check.specs.Here.{node_at};
 use crate::iterations::{changes_in, end_of};
 use crate::same::say_same;
 use crate::table::Table;
+use std::alloc::AllocError;
 use teco_expansion::Nodes;
 use teco_facts::{Changes, Choice, Facts, body_start};
 use teco_model::Element;
@@ -37,7 +38,8 @@ fn is_counted(facts: &Facts) -> bool
     }
 }
 
-// Whether the start of a body is what a choice makes of what enters it, and the choice stands.
+// Whether the start of a body is what a choice makes of what enters it, and the choice stands; told
+// if there is memory.
 fn start_stands(
     changes: &Changes,
     end: Option<&Facts>,
@@ -45,12 +47,13 @@ fn start_stands(
     start: &Facts,
     choice: &Choice,
     most: &Poly,
-) -> bool
-    ensures { result ≡ rules.body_stands changes.now (option_copied end.entry) entering
-        (Some start.now) (Some choice.now) (Ok most.now) }
+) -> Result<bool, AllocError>
+    ensures { IfOk result (λ yes. yes ≡ rules.body_stands changes.now (option_copied end.entry)
+        entering (Some start.now) (Some choice.now) (Ok most.now)) }
 {
     let stands = choice.stands(changes, is_counted(&entering), most, &entering, end);
-    say_same(start, &body_start(choice, changes, entering)) && stands
+    let begun = body_start(choice, changes, entering)?;
+    Ok(say_same(start, &begun) && stands)
 }
 
 /// What falls in each turn, from what is known at the > where that is reached.
@@ -63,7 +66,8 @@ pub fn rank_at(end: Option<&Facts>) -> Option<Rank>
     }
 }
 
-// Whether the body stands, where the choice or one of the facts may be absent.
+// Whether the body stands, where the choice or one of the facts may be absent; told if there is
+// memory.
 fn body_stands(
     changes: &Changes,
     end: Option<&Facts>,
@@ -71,31 +75,33 @@ fn body_stands(
     start: Option<&Facts>,
     choice: &Option<Choice>,
     most: &Result<Poly, Refusal>,
-) -> bool
-    ensures { result ≡ rules.body_stands changes.now (option_copied end.entry) entering
-        (option_copied start.entry) choice.now most.now }
+) -> Result<bool, AllocError>
+    ensures { IfOk result (λ yes. yes ≡ rules.body_stands changes.now (option_copied end.entry)
+        entering (option_copied start.entry) choice.now most.now) }
 {
     match (start, choice, most) {
         (Some(start), Some(choice), Ok(most)) => start_stands(
             changes, end, entering, start, choice, most,
         ),
-        _ => false,
+        _ => Ok(false),
     }
 }
 
-/// Whether what enters the body of a < is so; where nothing does, nothing is known at its start.
+/// Whether what enters the body of a < is so; where nothing does, nothing is known at its start. It
+/// is told if there is memory.
 pub fn is_entered(
     nodes: &Nodes<'_>,
     table: &Table,
     number: usize,
     facts: &Facts,
     entering: Option<Facts>,
-) -> bool
-    ensures { result ≡ rules.is_entered nodes.now table.now number facts.now entering }
+) -> Result<bool, AllocError>
+    ensures { IfOk result (λ yes. yes ≡ rules.is_entered nodes.now table.now number facts.now
+        entering) }
 {
     let start = table.facts_behind(number);
     match entering {
-        None => start.is_none(),
+        None => Ok(start.is_none()),
         Some(entering) => {
             let end = table.facts(end_of(nodes, number));
             let changes = changes_in(nodes, number);

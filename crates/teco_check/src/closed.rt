@@ -1,5 +1,5 @@
 //! When a table is closed: what it says at each node follows from what it says at the others.
-ghost use Rattle.std.specs.Prelude.{◌≡◌, ◌<◌, ◌≤◌, ◌||◌, length, option_map, option_copied, Some, None, Ok};
+ghost use Rattle.std.specs.Prelude.{◌≡◌, ◌<◌, ◌≤◌, ◌||◌, length, option_map, option_copied, IfOk, Some, None, Ok};
 ghost use Rattle.teco_model.specs.Element as elements;
 ghost use Rattle.teco_verifier.specs.table.Behind as behind;
 ghost use Rattle.teco_verifier.specs.table.Closed as rules;
@@ -14,7 +14,7 @@ use crate::bodies::{begins_iteration, is_entered};
 use crate::node::{element, iteration, way, ways};
 use crate::same::{is_covered, is_entry};
 use crate::table::Table;
-use std::alloc::Global;
+use std::alloc::{AllocError, Global};
 use teco_expansion::Nodes;
 use teco_facts::{Entry, Facts};
 use teco_known::Fault;
@@ -84,23 +84,23 @@ fn arrive(
     true
 }
 
-// Whether what enters a node's body is so, and its ways arrive.
+// Whether what enters a node's body is so, and its ways arrive; told if there is memory.
 fn closed_behind(
     nodes: &Nodes<'_>,
     table: &Table,
     number: usize,
     facts: &Facts,
     edges: Edges,
-) -> bool
+) -> Result<bool, AllocError>
     requires one { 0 < number }
     requires last { number ≤ length nodes.now }
-    ensures { result ≡ rules.closed_behind nodes.now table.now number
-        (node_at nodes.now number) facts.now (Ok edges) }
+    ensures { IfOk result (λ yes. yes ≡ rules.closed_behind nodes.now table.now number
+        (node_at nodes.now number) facts.now (Ok edges)) }
 {
     let read = element(nodes, number);
     let arrive = arrive(nodes, table, number, &read, &edges);
-    let entered = !begins_iteration(&read) || is_entered(nodes, table, number, facts, edges.on);
-    entered && arrive
+    let entered = !begins_iteration(&read) || is_entered(nodes, table, number, facts, edges.on)?;
+    Ok(entered && arrive)
 }
 
 // Whether what is known at a node is known of the iterations that are open there.
@@ -139,13 +139,11 @@ fn check_reached(nodes: &Nodes<'_>, table: &Table, number: usize, facts: &Facts)
         return Err(Bad::Edge { node: number });
     }
     match edges_at(nodes, number, facts) {
-        Ok(edges) => {
-            if closed_behind(nodes, table, number, facts, edges) {
-                Ok(())
-            } else {
-                Err(Bad::Edge { node: number })
-            }
-        }
+        Ok(edges) => match closed_behind(nodes, table, number, facts, edges) {
+            Ok(true) => Ok(()),
+            Ok(false) => Err(Bad::Edge { node: number }),
+            Err(_) => Err(Bad::Memory),
+        },
         Err(Fault::Refused(_)) => Err(Bad::Edge { node: number }),
         Err(Fault::Memory) => Err(Bad::Memory),
     }

@@ -66,22 +66,26 @@ fn copied(facts: Option<&Facts>) -> Result<Option<Facts>, AllocError>
     }
 }
 
-// The facts at the start of a body, where there is a choice for it and it is entered.
+// The facts at the start of a body, where there is a choice for it and it is entered, if there is
+// memory.
 fn start_of_body(
     nodes: &Nodes<'_>,
     number: usize,
     choice: &Option<Choice>,
     entering: Option<Facts>,
-) -> Option<Facts>
-    ensures { result ≡ rules.start_of_body (writing.changes_in nodes.now number)
-        choice.now entering }
+) -> Result<Option<Facts>, AllocError>
+    ensures { IfOk result (λ start. start ≡ rules.start_of_body
+        (writing.changes_in nodes.now number) choice.now entering) }
 {
     let Some(choice) = choice else {
-        return None;
+        return Ok(None);
     };
     match entering {
-        None => None,
-        Some(entering) => Some(body_start(choice, &changes_in(nodes, number), entering)),
+        None => Ok(None),
+        Some(entering) => {
+            let start = body_start(choice, &changes_in(nodes, number), entering)?;
+            Ok(Some(start))
+        }
     }
 }
 
@@ -106,7 +110,7 @@ fn arriving(
     }
     let facts = copied(along(read, way, edges))?;
     if begins {
-        Ok(start_of_body(nodes, number, choice, facts))
+        start_of_body(nodes, number, choice, facts)
     } else {
         Ok(facts)
     }

@@ -12,7 +12,7 @@ pub record AreJoined {A : Type 0} (join : List A → List A → Result (List A) 
   pub rest : drop count zs ≡ drop count xs
   pub long : length zs ≡ length xs
 
-ok_of : {A B : Type 0} (r : Result A Refusal) (f : A → Result B Refusal) (b : B) → (r >>= f) ≡ Ok b → (a : A) × (r ≡ Ok a) × (f a ≡ Ok b)
+pub ok_of : {A B : Type 0} (r : Result A Refusal) (f : A → Result B Refusal) (b : B) → (r >>= f) ≡ Ok b → (a : A) × (r ≡ Ok a) × (f a ≡ Ok b)
 ok_of (Ok a) f b h = (a, refl, h)
 ok_of (Err why) f b h = absurd (cc)
 

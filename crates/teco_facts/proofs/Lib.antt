@@ -3,4 +3,5 @@ pub mod Entries
 pub mod Popping
 pub mod Meeting
 pub mod Joins
+pub mod Joined
 pub mod Pairs

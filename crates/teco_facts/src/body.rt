@@ -1,5 +1,5 @@
 //! The body of an iteration: what is chosen for its start, and when a choice stands.
-ghost use Rattle.std.specs.Prelude.{◌≡◌, length, option_copied};
+ghost use Rattle.std.specs.Prelude.{◌≡◌, length, option_copied, IfOk};
 ghost use Rattle.teco_base.specs.declared.TheConstants.{REGISTERS};
 ghost use Rattle.teco_verifier.specs.facts.Bodies as bodies;
 ghost use Rattle.teco_verifier.specs.facts.Ranks as ranks;
@@ -7,6 +7,8 @@ ghost use Rattle.teco_verifier.specs.facts.Shifts as shifts;
 
 use crate::Facts;
 use crate::covering::covers_pairs;
+use crate::registers::Registers;
+use std::alloc::AllocError;
 use std::marker::Model;
 use teco_base::REGISTERS;
 use teco_known::{Margins, Position, Range, each_covers, falls_at_start, replace_where, sum_of};
@@ -144,7 +146,7 @@ impl Choice {
         ensures { result ≡ bodies.begins self.now entering.now }
     {
         entering.known.held.le(&self.held)
-            && each_covers(&self.texts, &entering.known.texts)
+            && each_covers(&self.texts, &entering.known.registers.texts)
             && self.margins.covers(entering.margins())
             && match entering.known.rules {
                 Rules::First => self.margins.covers(Margins::nowhere()),
@@ -164,9 +166,13 @@ fn unknown_where(written: &[bool; REGISTERS], numbers: &[Range; REGISTERS]) -> [
     unknown
 }
 
-/// The facts at the start of a body, from those that enter it.
-pub fn body_start(choice: &Choice, changes: &Changes, mut entering: Facts) -> Facts
-    ensures { result ≡ bodies.body_start choice.now changes.now entering }
+/// The facts at the start of a body, from those that enter it, if there is memory.
+pub fn body_start(
+    choice: &Choice,
+    changes: &Changes,
+    mut entering: Facts,
+) -> Result<Facts, AllocError>
+    ensures { IfOk result (λ facts. facts ≡ bodies.body_start choice.now changes.now entering) }
 {
     let (rules, here) = (entering.known.rules, &entering.known.position);
     let position = Position {
@@ -176,11 +182,14 @@ pub fn body_start(choice: &Choice, changes: &Changes, mut entering: Facts) -> Fa
         saved: saved_at_start(here, changes),
         digit: None,
     };
+    let registers = Registers {
+        numbers: unknown_where(&changes.written, &entering.known.registers.numbers),
+        texts: choice.texts,
+    };
     entering.known.position = position;
     entering.known.held = choice.held;
-    entering.known.numbers = unknown_where(&changes.written, &entering.known.numbers);
-    entering.known.texts = choice.texts;
-    entering
+    entering.put_registers(registers)?;
+    Ok(entering)
 }
 
 // Whether a turn that ends leaves what the next one may begin with.
@@ -188,10 +197,10 @@ fn begins_again(choice: &Choice, changes: &Changes, entering: &Facts, end: &Fact
     ensures { result ≡ bodies.begins_again (bodies.body_start choice.now changes.now
         entering.now) end.now }
 {
-    let numbers = unknown_where(&changes.written, &entering.known.numbers);
+    let numbers = unknown_where(&changes.written, &entering.known.registers.numbers);
     let saved = saved_at_start(&entering.known.position, changes);
-    each_covers(&numbers, &end.known.numbers)
-        && each_covers(&choice.texts, &end.known.texts)
+    each_covers(&numbers, &end.known.registers.numbers)
+        && each_covers(&choice.texts, &end.known.registers.texts)
         && covers_pairs(entering.known.pushes.chain(), end.known.pushes.chain())
         && each_covers(&saved, &end.known.position.saved)
         && choice.margins.covers(end.margins())

@@ -50,7 +50,7 @@ fn covers_answer(one: &Option<Answer>, edge: &Option<Answer>) -> bool
     match (one, edge) {
         (None, _) => true,
         (Some(one), Some(edge)) => {
-            one.found.covers(&edge.found) && one.failed.covers(&edge.failed)
+            one.found().covers(edge.found()) && one.failed().covers(edge.failed())
         }
         (Some(_), None) => false,
     }
@@ -83,8 +83,8 @@ impl Facts {
             && known.position.covers(&arriving.position)
             && self.has_iterations_of(edge)
             && arriving.held.le(&known.held)
-            && each_covers(&known.numbers, &arriving.numbers)
-            && each_covers(&known.texts, &arriving.texts)
+            && each_covers(&known.registers.numbers, &arriving.registers.numbers)
+            && each_covers(&known.registers.texts, &arriving.registers.texts)
             && covers_pairs(known.pushes.chain(), arriving.pushes.chain())
     }
 }

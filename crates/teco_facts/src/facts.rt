@@ -1,5 +1,5 @@
 //! What is known before an element.
-ghost use Rattle.std.specs.Prelude.{◌≡◌, IfOk, length, option_map, slice_get};
+ghost use Rattle.std.specs.Prelude.{◌≡◌, IfOk, Ok, length, option_map, slice_get};
 ghost use Rattle.std.specs.Option.{option_and_then};
 ghost use Rattle.teco_base.specs.declared.TheConstants.{REGISTERS};
 ghost use Rattle.teco_verifier.specs.declared.falls.Falls.{Falls};
@@ -17,20 +17,26 @@ ghost use Rattle.teco_facts.specs.Room.{innermost};
 ghost use Rattle.teco_facts.specs.Searched as searched;
 
 use crate::Entry;
+use crate::registers::Registers;
 use std::alloc::{AllocError, Global};
 use std::marker::Model;
-use std::mem;
+use std::rc::Rc;
 use teco_base::{REGISTERS, Reg};
 use teco_known::{Arguments, Fault, Few, Level, Margins, Number, Position, Range, Shift, sum_of};
 use teco_poly::Poly;
 use teco_stack::Stack;
 use teco_verifier::{Distances, Interval, Refusal, Rules};
 
-/// The positions where a search found, and where it failed.
+/// The positions where a search found, and where it failed. They lie on the heap.
 #[derive(Drop)]
 pub struct Answer {
-    pub found: Position,
-    pub failed: Position,
+    outcomes: Box<Outcomes>,
+}
+
+#[derive(Drop)]
+struct Outcomes {
+    found: Position,
+    failed: Position,
 }
 
 impl Model for Answer {
@@ -38,18 +44,55 @@ impl Model for Answer {
 
     ghost Value = { rules.Answer };
 
-    ghost view = { λ a. record { found = a.found; failed = a.failed } };
+    ghost view = { λ a. record {
+      found = a.outcomes.value.found;
+      failed = a.outcomes.value.failed;
+    } };
 }
 
-// A search's answer once more, if there is one.
-fn answer_copied(answer: &Option<Answer>) -> Option<Answer>
-    ensures { result ≡ answer.now }
+impl Answer {
+    // The answer that tells two positions apart, if there is memory.
+    fn of(alloc: Global, found: Position, failed: Position) -> Result<Answer, AllocError>
+        ensures { IfOk result (λ answer. answer ≡ record { found = found; failed = failed }) }
+    {
+        let outcomes = Box::new(alloc, Outcomes { found, failed })?;
+        Ok(Answer { outcomes })
+    }
+
+    // A copy of the answer, if there is memory.
+    fn copied(&self, alloc: Global) -> Result<Answer, AllocError>
+        ensures { IfOk result (λ copy. copy ≡ self.now) }
+    {
+        Answer::of(
+            alloc,
+            self.outcomes.found.copied(),
+            self.outcomes.failed.copied(),
+        )
+    }
+
+    /// The position where the search found.
+    pub fn found(&self) -> &Position
+        ensures { result.now ≡ self.now.found }
+    {
+        &self.outcomes.found
+    }
+
+    /// The position where it failed.
+    pub fn failed(&self) -> &Position
+        ensures { result.now ≡ self.now.failed }
+    {
+        &self.outcomes.failed
+    }
+}
+
+// A search's answer once more, if there is one and there is memory.
+fn answer_copied(alloc: Global, answer: &Option<Answer>) -> Result<Option<Answer>, AllocError>
+    ensures { IfOk result (λ copy. copy ≡ answer.now) }
 {
-    let answer = answer.as_ref()?;
-    Some(Answer {
-        found: answer.found.copied(),
-        failed: answer.failed.copied(),
-    })
+    match answer {
+        None => Ok(None),
+        Some(answer) => Ok(Some(answer.copied(alloc)?)),
+    }
 }
 
 /// An open iteration: whether it has a count, and how many pairs were pushed at its <.
@@ -102,8 +145,7 @@ pub(crate) struct Known {
     pub position: Position,
     pub iterations: Few<Iteration>,
     pub held: Poly,
-    pub numbers: [Range; REGISTERS],
-    pub texts: [Poly; REGISTERS],
+    pub registers: Rc<Registers>,
     pub pushes: Stack<Pushed>,
 }
 
@@ -121,13 +163,13 @@ impl Model for Facts {
       position = k.position;
       iterations = k.iterations;
       held = k.held;
-      numbers = k.numbers;
-      texts = k.texts;
+      numbers = k.registers.value.numbers;
+      texts = k.registers.value.texts;
       pushes = k.pushes;
     } };
 
-    ghost invariant = { λ f. (length f.known.value.numbers ≡ REGISTERS) × (length
-        f.known.value.texts ≡ REGISTERS) };
+    ghost invariant = { λ f. let r = f.known.value.registers.value in
+        (length r.numbers ≡ REGISTERS) × (length r.texts ≡ REGISTERS) };
 }
 
 impl Facts {
@@ -136,6 +178,10 @@ impl Facts {
     pub fn entry(alloc: Global, entry: &Entry) -> Result<Facts, AllocError>
         ensures { IfOk result (λ facts. facts ≡ given.facts_given entry.now) }
     {
+        let registers = Registers {
+            numbers: [Range::any(); REGISTERS],
+            texts: entry.texts(),
+        };
         let known = Known {
             rules: entry.rules,
             arguments: Arguments::declared(alloc, entry.argument),
@@ -146,8 +192,7 @@ impl Facts {
                 pushes: 0,
             }),
             held: Poly::variable(),
-            numbers: [Range::any(); REGISTERS],
-            texts: entry.texts(),
+            registers: Rc::new(alloc, registers)?,
             pushes: Stack::new(alloc),
         };
         let known = Box::new(alloc, known)?;
@@ -161,12 +206,11 @@ impl Facts {
         let known = Known {
             rules: self.known.rules,
             arguments: self.known.arguments.copied()?,
-            answer: answer_copied(&self.known.answer),
+            answer: answer_copied(self.alloc, &self.known.answer)?,
             position: self.known.position.copied(),
             iterations: self.known.iterations.copied(),
             held: self.known.held,
-            numbers: self.known.numbers,
-            texts: self.known.texts,
+            registers: self.known.registers.clone()?,
             pushes: self.known.pushes.copied()?,
         };
         let known = Box::new(self.alloc, known)?;
@@ -230,7 +274,7 @@ impl Facts {
     pub fn number_of(&self, register: Reg) -> Range
         ensures { result ≡ rules.number_of register self.now }
     {
-        self.known.numbers[register.index()]
+        self.known.registers.numbers[register.index()]
     }
 
     /// Whether the number of a register is saved.
@@ -244,7 +288,7 @@ impl Facts {
     pub fn text_of(&self, register: Reg) -> Poly
         ensures { result ≡ rules.text_of register self.now }
     {
-        self.known.texts[register.index()]
+        self.known.registers.texts[register.index()]
     }
 
     /// The lengths of all registers' texts.
@@ -252,7 +296,7 @@ impl Facts {
         ensures value { result ≡ self.now.texts }
         ensures all { length result ≡ REGISTERS }
     {
-        self.known.texts
+        self.known.registers.texts
     }
 
     /// The innermost open iteration.
@@ -294,7 +338,7 @@ impl Facts {
         ensures { result ≡ option_map (λ (a : rules.Answer). a.found.distances) self.now.answer }
     {
         let answer = self.known.answer.as_ref()?;
-        Some(answer.found.margins.told())
+        Some(answer.found().margins.told())
     }
 
     /// The least distances where that answer is that it failed.
@@ -302,7 +346,7 @@ impl Facts {
         ensures { result ≡ option_map (λ (a : rules.Answer). a.failed.distances) self.now.answer }
     {
         let answer = self.known.answer.as_ref()?;
-        Some(answer.failed.margins.told())
+        Some(answer.failed().margins.told())
     }
 
     /// The facts with no argument pending.
@@ -370,33 +414,40 @@ impl Facts {
     }
 
     /// The facts with a search's answer, which tells its outcomes apart: these where it found, and
-    /// the position where it failed.
-    pub fn with_answer(mut self, failed: Position) -> Result<Facts, Refusal>
-        ensures { result ≡ searched.facts_of_answer self failed }
+    /// the position where it failed; if there is memory.
+    pub fn with_answer(mut self, failed: Position) -> Result<Facts, AllocError>
+        ensures { IfOk result (λ facts. searched.facts_of_answer self failed ≡ Ok facts) }
     {
-        let position = self.known.position.joined(&failed)?;
+        let found = self.known.position.copied();
+        self.known.position.join(&failed);
         let answer = Number::within(success());
         self.known.arguments.answer(Some(answer));
-        let found = mem::replace(&mut self.known.position, position);
-        self.known.answer = Some(Answer { found, failed });
+        self.known.answer = Some(Answer::of(self.alloc, found, failed)?);
         Ok(self)
     }
 
-    /// The facts where the number of a register is of a range, and saved or not.
-    pub fn with_number(mut self, register: Reg, number: Range, saved: bool) -> Facts
-        ensures { result ≡ storages.with_number register number saved self }
+    /// The facts where the number of a register is of a range, and saved or not, if there is memory.
+    pub fn with_number(
+        mut self,
+        register: Reg,
+        number: Range,
+        saved: bool,
+    ) -> Result<Facts, AllocError>
+        ensures { IfOk result (λ facts. facts ≡ storages.with_number register number saved self) }
     {
-        self.known.numbers[register.index()] = number;
+        let registers = Rc::make_mut(&mut self.known.registers)?;
+        registers.numbers[register.index()] = number;
         self.known.position.saved[register.index()] = saved;
-        self
+        Ok(self)
     }
 
-    /// The facts where the text of a register is at most so long.
-    pub fn with_text(mut self, register: Reg, length: Poly) -> Facts
-        ensures { result ≡ storages.with_text register length self }
+    /// The facts where the text of a register is at most so long, if there is memory.
+    pub fn with_text(mut self, register: Reg, length: Poly) -> Result<Facts, AllocError>
+        ensures { IfOk result (λ facts. facts ≡ storages.with_text register length self) }
     {
-        self.known.texts[register.index()] = length;
-        self
+        let registers = Rc::make_mut(&mut self.known.registers)?;
+        registers.texts[register.index()] = length;
+        Ok(self)
     }
 
     /// The facts at another position.
@@ -407,16 +458,26 @@ impl Facts {
         self
     }
 
+    /// The facts at the position behind a shift, with all else as it was.
+    pub fn moved(mut self, shift: &Shift) -> Facts
+        requires { AreSmall self.position.falls }
+        ensures { result ≡ rules.at_position (shifts.position_after self.rules shift.now self.held
+            self.position) self }
+    {
+        let known = &mut *self.known;
+        known.position.shift(known.rules, shift, &known.held);
+        self
+    }
+
     /// The facts behind a shift.
     pub fn shifted(mut self, shift: &Shift) -> Result<Facts, Refusal>
         requires { AreSmall self.position.falls }
         ensures { result ≡ shifts.shifted shift.now self }
     {
-        let held = sum_of(&self.known.held, &shift.growth)?;
-        let margins = self.known.position.margins;
-        self.known.arguments.settle(margins, shift.ends);
-        self.known.position = self.known.position.after(self.known.rules, shift, held);
-        self.known.held = held;
+        self.known.held = sum_of(&self.known.held, &shift.growth)?;
+        let known = &mut *self.known;
+        known.arguments.settle(known.position.margins, shift.ends);
+        known.position.shift(known.rules, shift, &known.held);
         Ok(self)
     }
 }

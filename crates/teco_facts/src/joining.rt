@@ -2,9 +2,12 @@
 ghost use Rattle.std.specs.Prelude.{◌≡◌, ◌++◌, IfOk};
 ghost use Rattle.teco_verifier.specs.facts.Joins as joins;
 ghost use Rattle.teco_facts.specs.Does.{Gives};
+ghost use Rattle.teco_facts.specs.Joined.{joined_but_registers};
 
+use crate::registers::Registers;
 use crate::{Facts, Pushed};
 use std::alloc::{AllocError, Global};
+use std::rc::Rc;
 use teco_base::REGISTERS;
 use teco_known::{Fault, Meets, join_of, meet_each};
 use teco_poly::Poly;
@@ -80,23 +83,40 @@ fn joined_pairs(
 }
 
 impl Facts {
-    /// What is known where two ways meet: on both, with nothing pending.
-    #[tactic(auto, using(crate::proofs::Meeting::hulls_are))]
-    pub fn joined(mut self, other: &Facts) -> Result<Facts, Fault>
-        ensures { Gives (joins.joined self other.now) result }
+    /// What is known where two ways meet, but of the registers: of these what is known on this way.
+    pub fn joined_but_registers(mut self, other: &Facts) -> Result<Facts, Fault>
+        ensures { Gives (joined_but_registers self other.now) result }
     {
         self.known.arguments.none_pending()?;
         other.known.arguments.none_pending()?;
-        let (one, two) = (&self.known, &other.known);
-        let pushes = joined_pairs(self.alloc, one.pushes.chain(), two.pushes.chain())?;
-        let position = one.position.joined(&two.position)?;
-        let held = join_of(&one.held, &two.held)?;
-        let texts = joined_lengths(&one.texts, &two.texts)?;
+        let pushes = joined_pairs(
+            self.alloc,
+            self.known.pushes.chain(),
+            other.known.pushes.chain(),
+        )?;
         self.known.pushes = pushes;
-        self.known.position = position;
-        self.known.held = held;
-        self.known.texts = texts;
-        meet_each(&mut self.known.numbers, &two.numbers);
+        self.known.position.join(&other.known.position);
+        self.known.held = join_of(&self.known.held, &other.known.held)?;
         Ok(self.without_arguments())
+    }
+
+    /// Whether what is known of the registers lies at the same place, so that it need not be
+    /// compared. No clause says that it is then the same.
+    pub fn has_registers_of(&self, other: &Facts) -> bool {
+        Rc::ptr_eq(&self.known.registers, &other.known.registers)
+    }
+
+    /// What is known where two ways meet: on both, with nothing pending.
+    #[tactic(auto, using(crate::proofs::Meeting::hulls_are))]
+    pub fn joined(self, other: &Facts) -> Result<Facts, Fault>
+        ensures { Gives (joins.joined self other.now) result }
+    {
+        let mut joined = self.joined_but_registers(other)?;
+        let (one, two) = (&joined.known.registers, &other.known.registers);
+        let mut numbers = one.numbers;
+        meet_each(&mut numbers, &two.numbers);
+        let texts = joined_lengths(&one.texts, &two.texts)?;
+        joined.put_registers(Registers { numbers, texts })?;
+        Ok(joined)
     }
 }

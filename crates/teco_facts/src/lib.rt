@@ -8,6 +8,7 @@ mod facts;
 mod foreseen;
 mod iterations;
 mod joining;
+mod registers;
 pub mod stack;
 
 pub use body::{Changes, Choice, body_start, growth_of, held_last};

@@ -96,8 +96,8 @@ pub fn pop(library: bool, register: Reg, mut facts: Facts) -> Result<Facts, Faul
         None => Err(Fault::Refused(Refusal::Pop)),
         Some(pair) => {
             if above {
-                let facts = facts.with_number(register, pair.number, false);
-                Ok(facts.with_text(register, pair.text))
+                let facts = facts.with_number(register, pair.number, false)?;
+                Ok(facts.with_text(register, pair.text)?)
             } else {
                 Err(Fault::Refused(Refusal::Pop))
             }

@@ -206,20 +206,18 @@ fn falls_after(edition: Rules, descent: Descent, falls: Falls) -> Falls
     }
 }
 
-/// The falls of each iteration behind a shift, where the pointer has these distances.
-pub fn all_behind(edition: Rules, shift: &Shift, margins: Margins, falls: &OpenFalls) -> OpenFalls
-    requires { AreSmall falls.now }
-    ensures { result ≡ map (falls_at edition shift.now margins) falls.now }
+/// The falls of each iteration become those behind a shift, where the pointer has these distances.
+pub fn go_behind(edition: Rules, shift: &Shift, margins: Margins, falls: &mut OpenFalls)
+    requires { AreSmall falls.old }
+    ensures { falls.new ≡ map (falls_at edition shift.now margins) falls.old }
 {
-    let falls = falls.as_slice();
     let by = shift.held_fall();
-    let mut behind = no_falls();
-    for at in 0..falls.len() {
-        let moved = falls_after(edition, shift.descent, falls[at]);
+    for at in 0..falls.as_slice().len() {
+        let fall = falls.at(at);
+        let moved = falls_after(edition, shift.descent, fall);
         let held = fall_after(by, moved.held);
-        behind.push(in_order(edition, margins, Falls { held, ..moved }));
+        falls.set(at, in_order(edition, margins, Falls { held, ..moved }));
     }
-    behind
 }
 
 // What is unread is less than what was held by as much as the buffer has at the least.

@@ -1,6 +1,6 @@
 //! Lists of at most seven: at most six iterations are open, and where a seventh would begin there
 //! is one more.
-ghost use Rattle.std.specs.Prelude.{◌≡◌, ◌<◌, ◌≤◌, ◌++◌, [], ◌∷◌, length, drop};
+ghost use Rattle.std.specs.Prelude.{◌≡◌, ◌<◌, ◌≤◌, ◌++◌, [], ◌∷◌, length, drop, slice_index_or, slice_set};
 ghost use Rattle.teco_known.specs.Each.{each_met};
 
 use crate::{Meets, meet_each};
@@ -56,6 +56,14 @@ impl<T: Copy> Few<T> {
         &self.items[..self.len]
     }
 
+    /// The item at a place.
+    pub fn at(&self, at: usize) -> T
+        requires { at < length self.now }
+        ensures { result ≡ slice_index_or self.now at result }
+    {
+        self.as_slice()[at]
+    }
+
     /// Puts one at the front.
     pub fn put(&mut self, item: T)
         requires { length self.old < DEPTH }
@@ -76,6 +84,15 @@ impl<T: Copy> Few<T> {
         self.len += 1;
     }
 
+    /// Puts another item at a place, if there is one.
+    pub fn set(&mut self, at: usize, item: T)
+        ensures { self.new ≡ slice_set self.old at item }
+    {
+        if at < self.len {
+            self.items[at] = item;
+        }
+    }
+
     /// Drops so many at the front.
     pub fn drop_front(&mut self, count: usize)
         ensures value { self.new ≡ drop count self.old }
@@ -88,15 +105,11 @@ impl<T: Copy> Few<T> {
 }
 
 impl<T: Meets> Few<T> {
-    /// What two lists have in common, item by item, as far as the shorter goes.
-    pub fn met(&self, other: &Few<T>) -> Few<T>
-        ensures { result ≡ each_met T.met self.now other.now }
+    /// The list becomes what it has in common with another, item by item, as far as the shorter goes.
+    pub fn meet(&mut self, other: &Few<T>)
+        ensures { self.new ≡ each_met T.met self.old other.now }
     {
-        let mut items = self.items;
-        meet_each(&mut items, &other.items);
-        Few {
-            items,
-            len: self.len.min(other.len),
-        }
+        meet_each(&mut self.items, &other.items);
+        self.len = self.len.min(other.len);
     }
 }

@@ -1,5 +1,5 @@
 //! Where the pointer is, and how much is ahead of it.
-ghost use Rattle.std.specs.Prelude.{◌≡◌, ◌&&◌, [], IsTrue, None};
+ghost use Rattle.std.specs.Prelude.{◌≡◌, ◌&&◌, [], IsTrue, None, Ok};
 ghost use Rattle.teco_poly.specs.Polynomial.{variable};
 ghost use Rattle.teco_verifier.specs.facts.Facts as facts;
 ghost use Rattle.teco_verifier.specs.facts.Joins as joins;
@@ -107,28 +107,23 @@ impl Position {
         }
     }
 
-    /// The position behind a shift, where so much is held. Where more may be ahead than before, that
-    /// may be all that is held.
-    pub fn after(&self, rules: Rules, shift: &Shift, held: Poly) -> Position
-        requires { AreSmall self.now.falls }
-        ensures { result ≡ shifts.position_after rules shift.now held self.now }
+    /// The position becomes that behind a shift, where so much is held. Where more may be ahead than
+    /// before, that may be all that is held.
+    pub fn shift(&mut self, rules: Rules, shift: &Shift, held: &Poly)
+        requires { AreSmall self.old.falls }
+        ensures { self.new ≡ shifts.position_after rules shift.now held.now self.old }
     {
-        let margins = Margins::capped(shift.back, shift.fore);
-        Position {
-            margins,
-            falls: falls::all_behind(rules, shift, margins, &self.falls),
-            ahead: match shift.descent {
-                Descent::By(None) | Descent::InLine => held,
-                Descent::By(Some(by)) if by < 0 => held,
-                _ => self.ahead,
-            },
-            saved: if shift.ends {
-                [false; REGISTERS]
-            } else {
-                self.saved
-            },
-            digit: shift.digit,
+        self.margins = Margins::capped(shift.back, shift.fore);
+        falls::go_behind(rules, shift, self.margins, &mut self.falls);
+        match shift.descent {
+            Descent::By(None) | Descent::InLine => self.ahead = *held,
+            Descent::By(Some(by)) if by < 0 => self.ahead = *held,
+            _ => {}
         }
+        if shift.ends {
+            self.saved = [false; REGISTERS];
+        }
+        self.digit = shift.digit;
     }
 
     /// Whether more may be added to each fall.
@@ -139,24 +134,18 @@ impl Position {
         falls::are_small(&self.falls)
     }
 
-    /// What is known at two positions.
+    /// The position becomes what is known at it and at another.
     #[tactic(auto, using(crate::proofs::Meeting::falls_are, crate::proofs::Meeting::saved_are))]
-    pub fn joined(&self, other: &Position) -> Result<Position, Refusal>
-        ensures { result ≡ joins.joined_position self.now other.now }
+    pub fn join(&mut self, other: &Position)
+        ensures { joins.joined_position self.old other.now ≡ Ok self.new }
     {
-        let ahead = join_of(&self.ahead, &other.ahead)?;
-        let mut saved = self.saved;
-        meet_each(&mut saved, &other.saved);
-        let margins = Margins {
-            back: self.margins.back.min(other.margins.back),
-            fore: self.margins.fore.min(other.margins.fore),
-        };
-        Ok(Position {
-            margins,
-            falls: self.falls.met(&other.falls),
-            ahead,
-            saved,
-            digit: joined_mark(self.digit, other.digit),
-        })
+        if let Some(ahead) = self.ahead.join(&other.ahead) {
+            self.ahead = ahead;
+        }
+        self.margins.back = self.margins.back.min(other.margins.back);
+        self.margins.fore = self.margins.fore.min(other.margins.fore);
+        self.falls.meet(&other.falls);
+        meet_each(&mut self.saved, &other.saved);
+        self.digit = joined_mark(self.digit, other.digit);
     }
 }

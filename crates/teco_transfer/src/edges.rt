@@ -1,7 +1,6 @@
 //! What an element does to what is known before it.
 ghost use Rattle.std.specs.Prelude.{◌≡◌, ◌≤◌, length};
 ghost use Rattle.teco_base.specs.declared.TheConstants.{LIMIT};
-ghost use Rattle.teco_verifier.specs.facts.Facts as known;
 ghost use Rattle.teco_verifier.specs.facts.Transfer as rules;
 ghost use Rattle.teco_model.specs.declared.kind.Flow.TheVariants as flow;
 ghost use Rattle.teco_model.specs.declared.kind.Kind.TheVariants as kind;
@@ -17,7 +16,7 @@ use crate::{
 };
 use teco_base::LIMIT;
 use teco_facts::{Answer, Facts, Foreseen, stack};
-use teco_known::{Fault, Number, Position, Range, Taken, run_value};
+use teco_known::{Fault, Number, Range, Taken, run_value};
 use teco_model::Element;
 use teco_model::kind::{Argument, Command, Flow, Kind, Page, Search, Stack, Value};
 use teco_verifier::Refusal;
@@ -56,22 +55,22 @@ fn facts_after_value(value: Value, facts: Facts) -> Result<Facts, Refusal>
     }
 }
 
-// What a command does with the arguments that it took.
+// What a command does with the arguments that it took, if there is memory.
 fn execution(
     command: Command,
     placed: &Placed<'_>,
     taken: Taken,
     facts: Facts,
-) -> Result<Foreseen, Refusal>
+) -> Result<Foreseen, Fault>
     requires { AreSmall facts.position.falls }
-    ensures { result ≡ rules.execution command (seen placed.now) taken facts }
+    ensures { Gives (rules.execution command (seen placed.now) taken facts) result }
 {
     let Element { colons, text, .. } = placed.element;
     match command {
-        Command::Motion(kind) => motion::motion(kind, colons, taken, facts),
-        Command::Deletion(unit) => deletion::deletion(unit, taken, facts),
-        Command::Insertion(kind) => typing::insertion(kind, text, taken, facts),
-        Command::Typing(kind) => typing::typing(kind, taken, facts),
+        Command::Motion(kind) => Ok(motion::motion(kind, colons, taken, facts)?),
+        Command::Deletion(unit) => Ok(deletion::deletion(unit, taken, facts)?),
+        Command::Insertion(kind) => Ok(typing::insertion(kind, text, taken, facts)?),
+        Command::Typing(kind) => Ok(typing::typing(kind, taken, facts)?),
         Command::Storage(kind) => {
             storage::storage(kind, placed.library, colons, text, taken, facts)
         }
@@ -96,20 +95,14 @@ fn facts_after_argument(argument: Argument, text: &[u8], facts: Facts) -> Result
     }
 }
 
-// The edges behind a search, from the facts where it found, the position where it failed, and what
-// was known before it.
-fn search_outcomes(
-    colon: bool,
-    found: Facts,
-    failed: Position,
-    before: Facts,
-) -> Result<Edges, Refusal>
-    ensures { result ≡ rules.search_outcomes colon found (known.at_position failed before) }
+// The edges behind a search, from the facts where it found, and those where it failed, if there is
+// memory.
+fn search_outcomes(colon: bool, found: Facts, missed: Facts) -> Result<Edges, Fault>
+    ensures { Gives (rules.search_outcomes colon found missed) result }
 {
     if colon {
-        return Ok(Edges::on(found.with_answer(failed)?));
+        return Ok(Edges::on(found.with_answer(missed.position().copied())?));
     }
-    let missed = before.at_position(failed);
     Ok(Edges {
         on: Some(found),
         away: Some(missed.leaving(1)),
@@ -137,10 +130,10 @@ fn search_edges(kind: Search, placed: &Placed<'_>, facts: Facts) -> Result<Edges
     let element = &placed.element;
     let taken = search::facts_at_search(kind, facts)?;
     search_allowed(placed.inside, placed.colon)?;
-    let failed = search::position_failed(kind, element.colons, &taken);
     let before = taken.copied()?;
+    let missed = search::facts_failed(kind, element.colons, before);
     let found = search::facts_found(kind, element.text, element.second, taken)?;
-    Ok(search_outcomes(placed.colon, found, failed, before)?)
+    search_outcomes(placed.colon, found, missed)
 }
 
 // The edges behind an element of flow, if there is memory: a conditional goes on where its test holds,

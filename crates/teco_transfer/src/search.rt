@@ -11,7 +11,7 @@ ghost use Rattle.teco_transfer.specs.Searched as searched;
 use crate::count_of;
 use teco_facts::Facts;
 use teco_find::{last_part, minimum};
-use teco_known::{Descent, Margins, Position, Shift, Taken};
+use teco_known::{Descent, Margins, Shift, Taken};
 use teco_model::kind::Search;
 use teco_model::pattern::{Class, Item, Part};
 use teco_poly::Poly;
@@ -116,23 +116,20 @@ fn shift_found(search: Search, least: usize, new: usize, margins: Margins) -> Sh
     }
 }
 
-/// The position where a search failed: at the begin of the buffer, which of N and FN is another one;
-/// of others with two colons nothing moves.
-pub fn position_failed(search: Search, colons: u8, facts: &Facts) -> Position
-    requires { AreSmall facts.now.position.falls }
-    ensures { result ≡ searches.position_failed search colons facts.now }
+/// The facts where a search failed: at the begin of the buffer, which of N and FN is another one; of
+/// others with two colons nothing moves.
+pub fn facts_failed(search: Search, colons: u8, facts: Facts) -> Facts
+    requires { AreSmall facts.position.falls }
+    ensures { result ≡ searches.facts_failed search colons facts }
 {
-    let (rules, held, position) = (facts.rules(), facts.held(), facts.position());
-    let Margins { back, fore } = position.margins;
+    let Margins { back, fore } = facts.margins();
     match search {
         Search::FindInPages | Search::ReplaceInPages => {
-            let shift = Shift::moving(0, 0, Descent::By(None)).ending();
-            position.after(rules, &shift, held)
+            facts.moved(&Shift::moving(0, 0, Descent::By(None)).ending())
         }
-        Search::Find | Search::Replace if colons >= 2 => position.copied(),
+        Search::Find | Search::Replace if colons >= 2 => facts,
         Search::Find | Search::Replace => {
-            let shift = Shift::moving(0, back + fore, Descent::By(None));
-            position.after(rules, &shift, held)
+            facts.moved(&Shift::moving(0, back + fore, Descent::By(None)))
         }
     }
 }

@@ -266,8 +266,8 @@ fn position_by(
         return position_on(numbers, number, facts);
     };
     match numbers {
-        Numbers::Zero | Numbers::NotNegative => Some(answer.failed.copied()),
-        Numbers::NotZero | Numbers::Negative => Some(answer.found.copied()),
+        Numbers::Zero | Numbers::NotNegative => Some(answer.failed().copied()),
+        Numbers::NotZero | Numbers::Negative => Some(answer.found().copied()),
         Numbers::Positive => None,
         Numbers::NotPositive | Numbers::Characters | Numbers::Digits | Numbers::All => {
             Some(facts.position().copied())

@@ -91,8 +91,7 @@ impl Attempt {
 
     /// What is known at the start of the body.
     pub fn start(&self) -> Result<Facts, AllocError> {
-        let entering = self.entering.copied()?;
-        Ok(body_start(&self.choice, &self.changes, entering))
+        body_start(&self.choice, &self.changes, self.entering.copied()?)
     }
 
     // Whether the iteration has a count.

@@ -1,7 +1,8 @@
 //! Where edges meet.
 //!
 //! The pairs below those that were pushed since two ways parted are the same on both, and lie at
-//! the same place. They are not compared: so a list of many pairs takes no time where ways meet.
+//! the same place. They are not compared: so a list of many pairs takes no time where ways meet. Nor
+//! is what is known of the registers, where no way wrote one.
 //! What is found by this is checked by comparing all of them.
 
 use std::alloc::{AllocError, Global};
@@ -70,7 +71,11 @@ fn push_pair(pairs: &mut Vec<Pushed>, pair: Pushed) -> Result<(), AllocError> {
 pub fn met(alloc: Global, mut facts: Facts, mut more: Facts) -> Result<Facts, Fault> {
     let first = facts.take_pushes();
     let second = more.take_pushes();
-    let mut joined = facts.joined(&more)?;
+    let mut joined = if facts.has_registers_of(&more) {
+        facts.joined_but_registers(&more)?
+    } else {
+        facts.joined(&more)?
+    };
     joined.put_pushes(met_pairs(alloc, first.chain(), second.chain())?);
     Ok(joined)
 }

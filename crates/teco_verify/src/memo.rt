@@ -90,7 +90,7 @@ impl Body {
             written: self.others(),
             ends: false,
         };
-        let mut start = body_start(&choice, &changes, entering.copied()?);
+        let mut start = body_start(&choice, &changes, entering.copied()?)?;
         // Pairs that were pushed before it cannot be popped in it, and how many there are stands
         // with the iteration.
         let _pushes = start.take_pushes();

@@ -1,0 +1,47 @@
+-- Ways that meet: what is known of the registers comes last.
+use Rattle.std.proofs.Common.{◌≡◌, refl, ap, ◌∙◌, List, Result, Ok, Err}
+use Rattle.teco_poly.specs.Polynomial.{Polynomial}
+use Rattle.teco_verifier.specs.declared.refusal.Refusal.{Refusal}
+use Rattle.teco_verifier.specs.facts.Attempt.{◌>>=◌}
+use Rattle.teco_verifier.specs.facts.Facts.{Facts, Position, Pushed, join_of, without_arguments}
+use Rattle.teco_verifier.specs.facts.Joins.{hull, hulls, joined, joined_lengths, joined_position, joined_pushes, none_pending}
+use Rattle.teco_known.specs.declared.fault.Fault.{Fault}
+use Rattle.teco_known.specs.declared.fault.Fault.TheVariants as fault
+use Rattle.teco_facts.specs.Does.{Gives}
+use Rattle.teco_facts.specs.Joined.{joined_but_registers}
+use Rattle.teco_facts.proofs.Joins.{ok_of}
+use Rattle.teco_facts.proofs.Meeting.{hulls_are}
+use Rattle.teco_known.specs.Each.{each_met}
+use Rattle.teco_verifier.specs.declared.values.Interval.{Interval}
+
+whole : (facts others j : Facts) (one two : Unit {0}) (pushes : List Pushed) (position : Position) (held : Polynomial) → none_pending facts.arguments ≡ Ok one → none_pending others.arguments ≡ Ok two → joined_pushes facts.pushes others.pushes ≡ Ok pushes → joined_position facts.position others.position ≡ Ok position → join_of facts.held others.held ≡ Ok held → record (without_arguments facts) { position = position; held = held; pushes = pushes } ≡ j → joined facts others ≡ (joined_lengths j.texts others.texts >>= (λ texts. Ok (record j { numbers = hulls j.numbers others.numbers; texts = texts })))
+whole facts others j one two pushes position held a b c d e f = rw (a, b, c, d, e, ← f) refl
+
+then_registers : (facts others j : Facts) → joined_but_registers facts others ≡ Ok j → joined facts others ≡ (joined_lengths j.texts others.texts >>= (λ texts. Ok (record j { numbers = hulls j.numbers others.numbers; texts = texts })))
+then_registers facts others j e =
+    let one = ok_of (none_pending facts.arguments) _ _ e in
+    let two = ok_of (none_pending others.arguments) _ _ one.2 in
+    let pushes = ok_of (joined_pushes facts.pushes others.pushes) _ _ two.2 in
+    let position = ok_of (joined_position facts.position others.position) _ _ pushes.2 in
+    let held = ok_of (join_of facts.held others.held) _ _ position.2 in
+    whole facts others j _ _ _ _ _ one.1 two.1 pushes.1 position.1 held.1 (cc)
+
+fails_on : {A B C : Type 0} (r : Result A Refusal) (f : A → Result B Refusal) (g : A → Result C Refusal) (why : Refusal) → ((a : A) → f a ≡ Err why → g a ≡ Err why) → (r >>= f) ≡ Err why → (r >>= g) ≡ Err why
+fails_on (Ok a) f g why more e = more a e
+fails_on (Err other) f g why more e = let is : other ≡ why = (cc) in ap Err is
+
+refused_before : (facts others : Facts) (why : Refusal) → joined_but_registers facts others ≡ Err why → joined facts others ≡ Err why
+refused_before facts others why e =
+    fails_on (none_pending facts.arguments) _ _ why
+    (λ one a. fails_on (none_pending others.arguments) _ _ why
+    (λ two b. fails_on (joined_pushes facts.pushes others.pushes) _ _ why
+    (λ pushes c. fails_on (joined_position facts.position others.position) _ _ why
+    (λ position d. fails_on (join_of facts.held others.held) _ _ why (λ held h. absurd (cc)) d) c) b) a) e
+
+pub fails_before : (facts others : Facts) (why : Fault) → Gives (joined_but_registers facts others) (Err why) → Gives (joined facts others) (Err why)
+fails_before facts others (fault.Refused why) e = refused_before facts others why e
+fails_before facts others fault.Memory e = tt
+
+pub with_registers : (facts others j new : Facts) (numbers : List Interval) (texts : List Polynomial) → joined_but_registers facts others ≡ Ok j → numbers ≡ each_met hull j.numbers others.numbers → joined_lengths j.texts others.texts ≡ Ok texts → new ≡ record j { numbers = numbers; texts = texts } → joined facts others ≡ Ok new
+with_registers facts others j new numbers texts e n l is =
+    then_registers facts others j e ∙ rw (l, is, n, hulls_are) refl
