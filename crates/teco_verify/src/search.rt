@@ -97,12 +97,11 @@ impl Search {
         Ok(())
     }
 
-    // The try whose > is passed, if that is the innermost.
-    fn ended(&mut self, number: usize) -> Option<Attempt> {
-        if self.attempts.last()?.end == number {
-            self.attempts.pop()
-        } else {
-            None
+    // Whether the > of the innermost try has this number.
+    fn is_end(&self, number: usize) -> bool {
+        match self.attempts.last() {
+            None => false,
+            Some(attempt) => attempt.end == number,
         }
     }
 
@@ -111,7 +110,10 @@ impl Search {
     fn turn(&mut self, number: usize, known: &mut Option<Facts>) -> Result<Option<usize>, Unfit>
         ensures { IfErr result (IsAt number) }
     {
-        let Some(mut attempt) = self.ended(number) else {
+        if !self.is_end(number) {
+            return Ok(None);
+        }
+        let Some(mut attempt) = self.attempts.pop() else {
             return Ok(None);
         };
         let verdict = match known {

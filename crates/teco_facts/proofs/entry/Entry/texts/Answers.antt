@@ -1,4 +1,4 @@
-use Rattle.std.proofs.Common.{◌≡◌, ◌≤◌, refl, ap, ◌∙◌, length, take, add-one, arith}
+use Rattle.std.proofs.Common.{◌≡◌, ◌≤◌, refl, ap, ◌∙◌, length, add-one, arith}
 use Rattle.std.proofs.lemmas.List.{length-set, take_all}
 use Rattle.teco_base.specs.declared.TheConstants.{REGISTERS}
 use Rattle.teco_verifier.specs.facts.Facts.{texts_at_entry}

@@ -1,4 +1,4 @@
-use Rattle.std.proofs.Common.{◌∙◌, sym, rules}
+use Rattle.std.proofs.Common.{rules}
 use Rattle.teco_facts.proofs.Joined.{fails_before, with_registers}
 use Rattle.teco_facts.proofs.facts.Facts.joined.Goals as goal
 
