@@ -1,6 +1,5 @@
 //! Commands that insert.
 ghost use Rattle.std.specs.Prelude.{◌∷◌, true};
-ghost use Rattle.teco_model.specs.Element.{seen};
 ghost use Rattle.teco_model.specs.Insertion as model;
 ghost use Rattle.teco_editor.specs.Does.{DoesIfMemory};
 
@@ -10,7 +9,7 @@ use teco_base::Code;
 use teco_base::arithmetic::byte_of;
 use teco_base::bytes::TAB;
 use teco_model::kind::Insertion;
-use teco_model::{Element, Taken};
+use teco_model::Taken;
 use teco_text::TextStore;
 
 impl<T: TextStore> Editor<T> {
@@ -40,16 +39,16 @@ impl<T: TextStore> Editor<T> {
     pub fn insertion(
         &mut self,
         insertion: Insertion,
-        element: &Element<'_>,
+        text: &[u8],
         taken: Taken,
     ) -> Result<Option<i32>, Stuck>
         ensures { DoesIfMemory true self.old self.new
-            (model.insertion insertion (seen element.now) taken self.old) result }
+            (model.insertion_with insertion text.now taken.value self.old) result }
     {
         match (insertion, taken.value) {
-            (Insertion::Text, None) => self.insert(element.text),
-            (Insertion::Text, Some(n)) if element.text.is_empty() => self.insert(&[byte_of(n)]),
-            (Insertion::Tab, None) => self.insert_behind(TAB, element.text),
+            (Insertion::Text, None) => self.insert(text),
+            (Insertion::Text, Some(n)) if text.is_empty() => self.insert(&[byte_of(n)]),
+            (Insertion::Tab, None) => self.insert_behind(TAB, text),
             _ => Err(Stuck::Code(Code::Iia)),
         }
     }

@@ -160,6 +160,22 @@ impl Args {
         Ok(taken)
     }
 
+    /// The arguments of the innermost level, as a command takes them. Nothing changes.
+    #[inline(always)]
+    pub fn to_take(&self) -> Result<Taken, Code>
+        ensures { result ≡ model.arguments_of self.now.level }
+    {
+        level::taken(self.level)
+    }
+
+    /// Nothing is pending in the innermost level any more.
+    #[inline(always)]
+    pub fn empty_level(&mut self)
+        ensures { self.new ≡ model.levels_after_taking self.old }
+    {
+        self.level = EMPTY;
+    }
+
     /// Drops all arguments, and all open parentheses.
     #[inline(always)]
     pub fn drop_all(&mut self)

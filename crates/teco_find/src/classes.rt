@@ -8,6 +8,7 @@ use teco_base::bytes::{
 use teco_model::pattern::Class;
 
 // Is the character of the class?
+#[inline(always)]
 pub(crate) fn is_in(class: Class, c: u8) -> bool
     ensures { result ≡ model.is_in class c }
 {

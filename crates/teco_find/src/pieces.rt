@@ -6,6 +6,7 @@ ghost use Rattle.teco_find.specs.Pieces.{joined};
 pub(crate) type Pieces<'a> = (&'a [u8], &'a [u8]);
 
 // How many characters a text has.
+#[inline(always)]
 pub(crate) fn text_len(text: Pieces<'_>) -> usize
     ensures { result ≡ length (joined text.entry) }
 {
@@ -13,6 +14,7 @@ pub(crate) fn text_len(text: Pieces<'_>) -> usize
 }
 
 // The text from a place on.
+#[inline(always)]
 pub(crate) fn text_from(text: Pieces<'_>, place: usize) -> Pieces<'_>
     requires { place ≤ length (joined text) }
     ensures { joined result ≡ drop place (joined text.entry) }
@@ -38,6 +40,7 @@ pub(crate) fn text_up_to(text: Pieces<'_>, place: usize) -> Pieces<'_>
 }
 
 // The first character, and the text behind it.
+#[inline(always)]
 pub(crate) fn split_first(text: Pieces<'_>) -> Option<(u8, Pieces<'_>)>
     ensures { MatchOption result (joined text.entry ≡ [])
         (λ first. joined text.entry ≡ first.0 ∷ joined first.1) }

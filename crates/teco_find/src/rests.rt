@@ -8,6 +8,7 @@ use crate::pieces::{Pieces, split_first};
 use teco_model::pattern::Item;
 
 // The text behind the spaces and tabs at its front.
+#[inline(never)]
 fn blanks_rest(text: Pieces<'_>) -> Pieces<'_>
     ensures value { joined result ≡ model.run_rest model.is_space_or_tab (joined text.entry) }
     ensures within { length (joined result) ≤ length (joined text.entry) }
@@ -23,6 +24,7 @@ fn blanks_rest(text: Pieces<'_>) -> Pieces<'_>
 }
 
 // The text behind an element.
+#[inline(always)]
 fn item_rest(item: Item, text: Pieces<'_>) -> Option<Pieces<'_>>
     ensures value { option_map joined result ≡ model.item_rest item (joined text.entry) }
     ensures within { IfSome result (λ rest. length (joined rest) ≤ length (joined text.entry)) }

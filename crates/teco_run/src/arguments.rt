@@ -1,10 +1,11 @@
 //! Elements that change the pending arguments alone, or give a value of the machine's.
-ghost use Rattle.std.specs.Prelude.{◌≡◌, ◌≤◌, pos, neg_ℤ, false};
+ghost use Rattle.std.specs.Prelude.{◌≡◌, ◌≤◌, pos, neg_ℤ, false, OnErr};
 ghost use Rattle.teco_base.specs.declared.TheConstants.{LIMIT};
 ghost use Rattle.teco_model.specs.Step as model;
 ghost use Rattle.teco_model.specs.Arguments.{with_level, level_with, level_with_pair};
 ghost use Rattle.teco_model.specs.Memory.{argument_grows};
-ghost use Rattle.teco_run.specs.Performs.{Argues};
+ghost use Rattle.teco_model.specs.declared.arguments.Level.{Level};
+ghost use Rattle.teco_run.specs.Performs.{Argues, level_given};
 
 use teco_base::arithmetic;
 use teco_editor::{Editor, Stuck};
@@ -12,10 +13,12 @@ use teco_expr::Args;
 use teco_model::kind::{Argument, Value};
 use teco_text::TextStore;
 
-/// Changes the arguments as an element of this kind does.
+/// Changes the arguments as an element of this kind does, or leaves them as they are.
+#[inline(always)]
 pub fn argue(argument: Argument, text: &[u8], arguments: &mut Args) -> Result<(), Stuck>
-    ensures { Argues (argument_grows argument) arguments.new
+    ensures argues { Argues (argument_grows argument) arguments.new
         (model.levels_after argument text.now arguments.old) result }
+    ensures err { OnErr result (arguments.new ≡ arguments.old) }
 {
     match argument {
         Argument::DropAll => arguments.drop_all(),
@@ -64,6 +67,34 @@ fn minus(n: usize) -> i32
     -(n as i32)
 }
 
+/// What the machine gives where it is asked for a value.
+#[derive(Clone, Copy)]
+pub enum Given {
+    /// A number.
+    One(i32),
+    /// Two with a comma between them.
+    Two(i32, i32),
+}
+
+/// A value that the machine has.
+#[inline(always)]
+pub fn value_of<T: TextStore>(editor: &Editor<T>, value: Value) -> Given
+    ensures { (level : Level) → level_given result level
+        ≡ model.level_with_value value editor.now level }
+{
+    let size = number(editor.size());
+    let dot = number(editor.dot());
+    let last = minus(editor.last_length());
+    match value {
+        Value::Begin => Given::One(0),
+        Value::Size => Given::One(size),
+        Value::Pointer => Given::One(dot),
+        Value::Whole => Given::Two(0, size),
+        Value::LastLength => Given::One(last),
+        Value::LastText => Given::Two(arithmetic::add(dot, last), dot),
+    }
+}
+
 /// Gives a value that the machine has.
 #[inline(always)]
 pub fn give_value<T: TextStore>(
@@ -74,15 +105,8 @@ pub fn give_value<T: TextStore>(
     ensures { Argues false arguments.new
         (with_level arguments.old (model.level_with_value value editor.now arguments.old.level)) result }
 {
-    let size = number(editor.size());
-    let dot = number(editor.dot());
-    let last = minus(editor.last_length());
-    match value {
-        Value::Begin => give(arguments, 0),
-        Value::Size => give(arguments, size),
-        Value::Pointer => give(arguments, dot),
-        Value::Whole => give_both(arguments, 0, size),
-        Value::LastLength => give(arguments, last),
-        Value::LastText => give_both(arguments, arithmetic::add(dot, last), dot),
+    match value_of(editor, value) {
+        Given::One(number) => give(arguments, number),
+        Given::Two(first, second) => give_both(arguments, first, second),
     }
 }

@@ -66,7 +66,7 @@ pub fn perform<T: TextStore>(
     let answer = match command {
         Command::Motion(motion) => editor.motion(motion, element, taken)?,
         Command::Deletion(unit) => editor.deletion(unit, taken)?,
-        Command::Insertion(insertion) => editor.insertion(insertion, element, taken)?,
+        Command::Insertion(insertion) => editor.insertion(insertion, element.text, taken)?,
         Command::Typing(typing) => editor.typing(typing, element, taken)?,
         Command::Storage(storage) => editor.storage(storage, element, taken)?,
     };

@@ -22,7 +22,7 @@ fn execute_command(
     match command {
         Command::Motion(motion) => editor.motion(motion, element, taken).map_err(Stuck::Code),
         Command::Deletion(unit) => editor.deletion(unit, taken).map_err(Stuck::Code),
-        Command::Insertion(insertion) => editor.insertion(insertion, element, taken),
+        Command::Insertion(insertion) => editor.insertion(insertion, element.text, taken),
         Command::Typing(typing) => editor.typing(typing, element, taken),
         Command::Storage(storage) => editor.storage(storage, element, taken),
     }
