@@ -8,8 +8,8 @@ use crate::stuck::Stuck;
 use teco_base::Code;
 use teco_base::arithmetic::byte_of;
 use teco_base::bytes::TAB;
-use teco_model::kind::Insertion;
 use teco_model::Taken;
+use teco_model::kind::Insertion;
 use teco_text::TextStore;
 
 impl<T: TextStore> Editor<T> {

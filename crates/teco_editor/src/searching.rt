@@ -82,6 +82,7 @@ fn read_pattern<T: TextStore>(
 }
 
 // Goes behind the match that was found, or replaces it; the search text becomes the last one.
+#[inline(always)]
 #[tactic(auto, using(crate::proofs::Late::late))]
 fn settle<T: TextStore>(
     editor: &mut Editor<T>,
@@ -109,6 +110,7 @@ fn settle<T: TextStore>(
 /// `S` goes behind the match that it finds, and `FS` puts its second text in the place of the
 /// match; the search text is then the last one. A miss leaves all to the caller. It takes time by
 /// the text that it passes, and memory for a pattern that is not the last one.
+#[inline(always)]
 pub fn search<T: TextStore>(
     editor: &mut Editor<T>,
     last: &mut LastPattern,

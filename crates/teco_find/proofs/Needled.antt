@@ -1,22 +1,20 @@
 -- The literals that a pattern begins with stand at the start of each match; and where they are found in two pieces.
-use Rattle.std.proofs.Common.{◌≡◌, ℕ, zero, suc, ◌+◌, ◌-◌, ◌<◌, ◌≤◌, List, [], ◌∷◌, ◌++◌, length, drop, take, get_or, Option, Some, None, ⊎_elim, ap, sym, subst, ◌∙◌, arith, length-append}
+use Rattle.std.proofs.Common.{◌≡◌, ℕ, zero, suc, ◌+◌, ◌-◌, ◌<◌, ◌≤◌, List, [], ◌∷◌, ◌++◌, length, drop, take, get_or, Option, Some, None, ⊎_elim, ap, refl, sym, subst, ◌∙◌, arith, length-append}
 use Rattle.std.proofs.Math.ListN.{get_or-append}
 use Rattle.std.proofs.Math.Seq.{get_or-append_right}
-use Rattle.std.proofs.lemmas.Bool.{cases_lt, eqb-true}
-use Rattle.std.proofs.lemmas.List.{get_or-drop, length-drop, take_rest}
-use Rattle.std.specs.Prelude.{IsSome, map}
+use Rattle.std.proofs.lemmas.Bool.{cases_lt, eq-eqb, eqb-true}
+use Rattle.std.proofs.lemmas.List.{get_or-drop, length-drop, take_all, take_rest}
+use Rattle.std.specs.Borrow.{Bor}
+use Rattle.std.specs.Prelude.{IfSome, IsSome, map}
 use Rattle.memchr.specs.Find.{FindsNeedle, Nowhere, NoneBefore, OccursAt}
 use Rattle.teco_model.specs.Match as model
 use Rattle.teco_model.specs.declared.pattern.Class.TheVariants as class
 use Rattle.teco_model.specs.declared.pattern.Item.{Item}
 use Rattle.teco_model.specs.declared.pattern.Item.TheVariants as item
-use Rattle.teco_find.specs.Needles.{Begins, NoneUpTo}
+use Rattle.teco_find.specs.Needles.{Begins, IsNeedle, NoneUpTo, literal}
+use Rattle.teco_find.specs.Pieces.{joined}
 use Rattle.teco_find.specs.declared.mark.Mark.TheVariants as mark
 use Rattle.teco_find.proofs.Anchored.{GoesOn, goes_on, marked_front, matched}
-
--- a literal
-abbrev pub literal : ℕ → Item
-literal b = item.Is (class.Literal b)
 
 -- bytes stand at the front of a text
 record Leads (bytes text : List ℕ) : Type 0 where
@@ -134,3 +132,18 @@ NoneBefore-then P i j l k le front back = record {
 pub then_up_to : (needle text : List ℕ) (at later : ℕ) (next : Option ℕ) → at ≤ later → Nowhere (OccursAt text needle) at later → NoneUpTo needle text later next → NoneUpTo needle text at next
 then_up_to needle text at later None le front back = Nowhere-then (OccursAt text needle) at later (length text) front back
 then_up_to needle text at later (Some k) le front back = NoneBefore-then (OccursAt text needle) at later (length text) k le front back
+
+-- literals are matched where they stand
+literals_rest : (bytes rest : List ℕ) → model.match_rest (map literal bytes) (bytes ++ rest) ≡ Some rest
+literals_rest [] rest = refl
+literals_rest (b ∷ bytes) rest = rw (eq-eqb b b refl) (literals_rest bytes rest)
+
+-- a pattern of nothing but literals is matched where they stand
+pub needle_rest : (items : List Item) (needle text rest : List ℕ) → IsNeedle items needle → length items ≤ length needle → text ≡ needle ++ rest → model.match_rest items text ≡ Some rest
+needle_rest items needle text rest is all stands =
+    let are : map literal needle ≡ items = is.are ∙ take_all (length needle) items all in
+    subst (λ found. model.match_rest found text ≡ Some rest) are (subst (λ t. model.match_rest (map literal needle) t ≡ Some rest) (sym stands) (literals_rest needle rest))
+
+pub needle_rests : (items : List Item) (needle text : List ℕ) → IsNeedle items needle → length items ≤ length needle → (r : Option (Bor (List ℕ) × Bor (List ℕ))) → IfSome r (λ rest. text ≡ needle ++ joined rest) → IfSome r (λ rest. model.match_rest items text ≡ Some (joined rest))
+needle_rests items needle text is all None h = h
+needle_rests items needle text is all (Some rest) h = needle_rest items needle text (joined rest) is all h

@@ -1,5 +1,5 @@
 // Searches over a text in two pieces.
-ghost use Rattle.std.specs.Prelude.{◌≡◌, ◌≤◌, ◌<◌, length, IfSome};
+ghost use Rattle.std.specs.Prelude.{◌≡◌, ◌≤◌, ◌<◌, length, option_map, IfSome, Some};
 ghost use Rattle.teco_model.specs.Match as model;
 ghost use Rattle.teco_model.specs.Paging.{sought};
 ghost use Rattle.teco_find.specs.Anchors.{IsLastTried, IsNextTried};
@@ -7,11 +7,41 @@ ghost use Rattle.teco_find.specs.Pieces.{joined, IsSoughtPart};
 
 use crate::needle::next_start;
 use crate::pattern::Pattern;
-use crate::pieces::{text_from, text_len};
-use crate::rests::match_rest;
+use crate::pieces::{Pieces, text_from, text_len};
+use crate::rests::{literals_rest, match_rest};
 use teco_model::{Sought, Span};
 
 impl Pattern {
+    // The text behind a match at its front, where the pattern is nothing but literals that stand in
+    // one piece.
+    #[inline(always)]
+    fn literals_rest<'a>(&self, text: Pieces<'a>) -> Option<Pieces<'a>>
+        ensures value { IfSome result (λ rest. model.match_rest self.now (joined text.entry)
+            ≡ Some (joined rest)) }
+        ensures within { IfSome result (λ rest. length (joined rest) ≤ length (joined text.entry)) }
+    {
+        let Some(needle) = &self.needle else {
+            return None;
+        };
+        let literals = needle.needle();
+        if literals.len() < self.items.len() {
+            return None;
+        }
+        literals_rest(literals, text)
+    }
+
+    // The text behind a match at its front.
+    #[inline(always)]
+    fn rest<'a>(&self, text: Pieces<'a>) -> Option<Pieces<'a>>
+        ensures value { option_map joined result ≡ model.match_rest self.now (joined text.entry) }
+        ensures within { IfSome result (λ rest. length (joined rest) ≤ length (joined text.entry)) }
+    {
+        if let Some(rest) = self.literals_rest(text) {
+            return Some(rest);
+        }
+        match_rest(&self.items, text)
+    }
+
     /// The match that starts at a place of a text in two pieces.
     #[tactic(auto, using(crate::proofs::Matches::starts))]
     pub fn here(&self, text: (&[u8], &[u8]), at: usize) -> Option<Span>
@@ -24,7 +54,7 @@ impl Pattern {
         if self.items.is_empty() {
             return None;
         }
-        let rest = match_rest(&self.items, text_from(text, at))?;
+        let rest = self.rest(text_from(text, at))?;
         Some(Span {
             start: at,
             end: text_len(text) - text_len(rest),

@@ -1,9 +1,9 @@
 // Literals that each match begins with, looked for as a whole.
 ghost use Rattle.std.specs.Option.{ForSome};
-ghost use Rattle.std.specs.Prelude.{◌≡◌, ◌≤◌, ◌<◌, length, IfSome, IfOk, IsOk};
+ghost use Rattle.std.specs.Prelude.{◌≡◌, ◌≤◌, ◌<◌, length, map, take, IfSome, IfOk, IsOk};
 ghost use Rattle.teco_model.specs.declared.pattern.Class.TheVariants as class;
 ghost use Rattle.teco_model.specs.declared.pattern.Item.TheVariants as item;
-ghost use Rattle.teco_find.specs.Needles.{Begins, IsNeedle, NoneUpTo};
+ghost use Rattle.teco_find.specs.Needles.{Begins, IsNeedle, NoneUpTo, literal};
 ghost use Rattle.teco_find.specs.Pieces.{joined};
 
 use crate::pieces::Pieces;
@@ -32,6 +32,7 @@ fn literal_of(element: Item) -> Option<u8>
 // The literals that a pattern begins with, as many as are looked for at once.
 fn literals_of(items: &[Item]) -> Literals
     ensures begins { Begins items.now result.items }
+    ensures are { map literal result.items ≡ take (length result.items) items.now }
     ensures within { length result.items ≤ length items.now }
 {
     let mut literals = ArrayVec::new();

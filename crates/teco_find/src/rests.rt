@@ -1,5 +1,5 @@
 // What is left of a text in two pieces behind elements that are matched at its front.
-ghost use Rattle.std.specs.Prelude.{◌≡◌, ◌≤◌, length, option_map, IfSome};
+ghost use Rattle.std.specs.Prelude.{◌≡◌, ◌≤◌, ◌++◌, length, option_map, IfSome};
 ghost use Rattle.teco_model.specs.Match as model;
 ghost use Rattle.teco_find.specs.Pieces.{joined};
 
@@ -49,4 +49,14 @@ pub(crate) fn match_rest<'a>(items: &[Item], text: Pieces<'a>) -> Option<Pieces<
         rest = item_rest(*item, rest)?;
     }
     Some(rest)
+}
+
+// The text behind literals, if they stand at the front of its first piece.
+#[inline(always)]
+pub(crate) fn literals_rest<'a>(literals: &[u8], text: Pieces<'a>) -> Option<Pieces<'a>>
+    ensures value { IfSome result (λ rest. joined text.entry ≡ literals.now ++ joined rest) }
+    ensures within { IfSome result (λ rest. length (joined rest) ≤ length (joined text.entry)) }
+{
+    let rest = text.0.strip_prefix(literals)?;
+    Some((rest, text.1))
 }
