@@ -47,6 +47,7 @@ fn stuck(fault: FindFault) -> Stuck
 }
 
 // The match that is sought in a text of two pieces.
+#[inline(always)]
 fn find(pattern: &Pattern, text: (&[u8], &[u8]), dot: usize, colons: u8, n: i32) -> Option<Span>
     requires nonzero { n ≢ pos 0 }
     requires dot { dot ≤ length (joined text) }

@@ -43,6 +43,7 @@ impl Pattern {
     }
 
     /// The match that starts at a place of a text in two pieces.
+    #[inline(always)]
     #[tactic(auto, using(crate::proofs::Matches::starts))]
     pub fn here(&self, text: (&[u8], &[u8]), at: usize) -> Option<Span>
         requires { at ≤ length (joined text) }

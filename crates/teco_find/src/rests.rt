@@ -39,6 +39,7 @@ fn item_rest(item: Item, text: Pieces<'_>) -> Option<Pieces<'_>>
 }
 
 // The text behind elements, each of which is matched where the one before it ended.
+#[inline(never)]
 #[tactic(auto, using(crate::proofs::Matches::rests_more))]
 pub(crate) fn match_rest<'a>(items: &[Item], text: Pieces<'a>) -> Option<Pieces<'a>>
     ensures value { option_map joined result ≡ model.match_rest items.now (joined text.entry) }

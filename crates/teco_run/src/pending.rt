@@ -42,6 +42,7 @@ impl Pending {
     }
 
     /// Takes the arguments.
+    #[inline(always)]
     pub fn take(&mut self) -> Result<Taken, Stuck>
         ensures { Takes self.old self.new result }
     {
