@@ -1,11 +1,12 @@
 // What is read ahead of an input, and what is kept of small writes.
 use crate::faulty::{Faulty, LIMITS};
 use crate::scratch::{
-    begin_in, begin_out, host, is_file, long_text, names, reads, remove, scratch, write_pieces,
+    begin_in, begin_out, host, is_alone, is_exact, is_file, long_text, put_whole, reads, remove,
+    scratch, write_pieces,
 };
 use std::fs;
 use std::test::Fail;
-use teco_pages::{FileHost, Host, Purpose};
+use teco_pages::{Failed, FileHost, Host, Purpose};
 
 // A host of files that move few bytes at a call, and fail once when they moved so many.
 fn faulty(rt: &HostRuntime, piece: usize, whole: usize) -> FileHost<Faulty> {
@@ -24,19 +25,22 @@ fn is_told(host: &FileHost<Faulty>, purpose: Purpose) -> bool {
         .is_some_and(|trouble| trouble.purpose == purpose)
 }
 
-// Pages of 4,096 bytes, each with one byte behind it that is written alone.
+// Writes pages of 4,096 bytes, each with one byte behind it that is written alone.
+fn put_pages(host: &mut FileHost<Faulty>, path: &str, text: &[u8]) -> Result<(), Failed> {
+    begin_out(host, path, b"")?;
+    for page in text.chunks(4097) {
+        write_pieces(host, page, 4096)?;
+    }
+    host.close_out()
+}
+
 #[test]
 fn pages_of_small_writes_arrive_whole(rt: HostRuntime) -> Result<(), Fail> {
     scratch(&rt, "somleut_test_small")?;
     let path = "somleut_test_small/out";
     let text = long_text(rt.alloc(), 50 * 4097)?;
     for most in [usize::MAX, 1000] {
-        let mut host = faulty(&rt, most, usize::MAX);
-        begin_out(&mut host, path, b"")?;
-        for page in text.chunks(4097) {
-            write_pieces(&mut host, page, 4096)?;
-        }
-        host.close_out()?;
+        put_pages(&mut faulty(&rt, most, usize::MAX), path, &text)?;
         assert!(rt; is_file(&rt, path, &text)?, "by {most}");
     }
     Ok(remove(&rt, "somleut_test_small")?)
@@ -47,17 +51,11 @@ fn pages_of_small_writes_arrive_whole(rt: HostRuntime) -> Result<(), Fail> {
 fn sizes_about_the_buffers_are_exact(rt: HostRuntime) -> Result<(), Fail> {
     scratch(&rt, "somleut_test_sizes")?;
     let path = "somleut_test_sizes/file";
-    let sizes = [65_535, 65_536, 65_537];
-    for size in sizes {
+    for size in [65_535, 65_536, 65_537] {
         let text = long_text(rt.alloc(), size)?;
         for piece in [4096, 65_535, 65_536, 65_537] {
-            let mut host = host(&rt);
-            begin_out(&mut host, path, b"")?;
-            write_pieces(&mut host, &text, piece)?;
-            host.close_out()?;
-            assert!(rt; is_file(&rt, path, &text)?, "{size} by {piece}");
-            begin_in(&mut host, path)?;
-            assert!(rt; reads(&mut host, &text, piece)?, "{size} by {piece}");
+            let is_exact = is_exact(&rt, &mut host(&rt), path, &text, piece)?;
+            assert!(rt; is_exact, "{size} by {piece}");
         }
     }
     Ok(remove(&rt, "somleut_test_sizes")?)
@@ -65,26 +63,58 @@ fn sizes_about_the_buffers_are_exact(rt: HostRuntime) -> Result<(), Fail> {
 
 // The seventeenth piece is the one that does not fit any more. Where the file fails then, none of
 // that piece is taken, and what is kept of the others is sent on when it is written again.
+fn is_sent_on(host: &mut FileHost<Faulty>, path: &str, text: &[u8]) -> Result<bool, Failed> {
+    let mut is_as_wanted = true;
+    begin_out(host, path, b"")?;
+    for (n, piece) in text.chunks(4096).enumerate() {
+        let is_refused = host.write(piece).is_err();
+        if is_refused {
+            is_as_wanted &= is_told(host, Purpose::WriteOutput);
+            write_pieces(host, piece, 4096)?;
+        }
+        is_as_wanted &= is_refused == (n == 16);
+    }
+    host.close_out()?;
+    Ok(is_as_wanted)
+}
+
 #[test]
 fn a_write_that_sends_on_tells_the_fault(rt: HostRuntime) -> Result<(), Fail> {
     scratch(&rt, "somleut_test_sends")?;
     let path = "somleut_test_sends/out";
     let text = long_text(rt.alloc(), 40 * 4096)?;
     for (most, whole) in [(usize::MAX, 0), (usize::MAX, 30_000), (1000, 30_500)] {
-        let mut host = faulty(&rt, most, whole);
-        begin_out(&mut host, path, b"")?;
-        for (n, piece) in text.chunks(4096).enumerate() {
-            let written = host.write(piece);
-            assert_eq!(rt; written.is_err(), n == 16, "piece {n}");
-            if written.is_err() {
-                assert!(rt; is_told(&host, Purpose::WriteOutput));
-                write_pieces(&mut host, piece, 4096)?;
-            }
-        }
-        host.close_out()?;
-        assert!(rt; is_file(&rt, path, &text)?, "fault behind {whole}");
+        let is_as_wanted = is_sent_on(&mut faulty(&rt, most, whole), path, &text)?;
+        assert!(rt;
+            is_as_wanted && is_file(&rt, path, &text)?,
+            "fault behind {whole}"
+        );
     }
     Ok(remove(&rt, "somleut_test_sends")?)
+}
+
+// Is a fault told where an output is closed?
+fn is_close_refused(host: &mut FileHost<Faulty>, path: &str, text: &[u8]) -> Result<bool, Failed> {
+    begin_out(host, path, b"")?;
+    write_pieces(host, text, 4096)?;
+    Ok(host.close_out().is_err() && is_told(host, Purpose::CloseOutput))
+}
+
+// Begins an output and drops it.
+fn begin_and_drop(host: &mut FileHost<Faulty>, path: &str) -> Result<(), Failed> {
+    begin_out(host, path, b"")?;
+    host.drop_out()
+}
+
+// What was kept of an output that could not be closed is gone: nothing of it is in the next one.
+fn is_nothing_left(rt: &HostRuntime, text: &[u8], whole: usize) -> Result<bool, Fail> {
+    let folder = "somleut_test_close";
+    let path = "somleut_test_close/out";
+    let mut host = faulty(rt, usize::MAX, whole);
+    let is_refused = is_close_refused(&mut host, path, text)?;
+    let is_left = is_alone(rt, folder, path, b"old")?;
+    begin_and_drop(&mut host, path)?;
+    Ok(is_refused && is_left && is_alone(rt, folder, path, b"old")?)
 }
 
 #[test]
@@ -94,23 +124,22 @@ fn a_close_that_sends_on_tells_the_fault(rt: HostRuntime) -> Result<(), Fail> {
     fs::write(&rt, path, b"old")?;
     let text = long_text(rt.alloc(), 60_000)?;
     for whole in [0, 30_000, 59_999] {
-        let mut host = faulty(&rt, usize::MAX, whole);
-        begin_out(&mut host, path, b"")?;
-        write_pieces(&mut host, &text, 4096)?;
-        assert!(rt; host.close_out().is_err(), "fault behind {whole}");
-        assert!(rt; is_told(&host, Purpose::CloseOutput));
-        assert!(rt; is_file(&rt, path, b"old")?);
-        assert_eq!(rt; names(&rt, "somleut_test_close")?, 1);
-        // what was kept is gone: nothing of it is in the next output
-        begin_out(&mut host, path, b"")?;
-        host.drop_out()?;
-        assert_eq!(rt; names(&rt, "somleut_test_close")?, 1);
+        assert!(rt; is_nothing_left(&rt, &text, whole)?, "fault behind {whole}");
     }
-    let mut host = host(&rt);
-    begin_out(&mut host, path, b"new")?;
-    host.close_out()?;
+    put_whole(&mut host(&rt), path, b"new")?;
     assert!(rt; is_file(&rt, path, b"new")?);
     Ok(remove(&rt, "somleut_test_close")?)
+}
+
+// Is what the system gives of a text, in parts of 1,000 bytes, served so?
+fn is_served_at_once(host: &mut FileHost<Faulty>, text: &[u8]) -> Result<bool, Failed> {
+    let mut buf = [0; 4096];
+    let mut is_served = true;
+    for part in text.chunks(1000) {
+        let n = host.read(&mut buf)?;
+        is_served &= n == part.len() && buf.starts_with(part);
+    }
+    Ok(is_served && host.read(&mut buf)? == 0)
 }
 
 // What the system gives at once is served at once, as of a terminal.
@@ -122,16 +151,23 @@ fn a_short_read_is_served_at_once(rt: HostRuntime) -> Result<(), Fail> {
     fs::write(&rt, path, text.as_slice())?;
     let mut host = faulty(&rt, 1000, usize::MAX);
     begin_in(&mut host, path)?;
-    let mut buf = [0; 4096];
-    for part in text.chunks(1000) {
-        assert_eq!(rt; host.read(&mut buf)?, part.len());
-        assert!(rt; buf.starts_with(part));
-    }
-    assert_eq!(rt; host.read(&mut buf)?, 0);
+    assert!(rt; is_served_at_once(&mut host, &text)?);
     Ok(remove(&rt, "somleut_test_short")?)
 }
 
-// A fault of the system comes behind all bytes that were read before it, and is told once.
+// Does a fault of the system come behind all bytes that were read before it, and once?
+fn is_fault_behind(
+    host: &mut FileHost<Faulty>,
+    path: &str,
+    front: &[u8],
+    behind: &[u8],
+) -> Result<bool, Failed> {
+    begin_in(host, path)?;
+    let is_refused = reads(host, front, 4096).is_err() && is_told(host, Purpose::ReadInput);
+    let is_left = host.left_of_input() == Some(behind.len() as u64);
+    Ok(is_refused && is_left && reads(host, behind, 4096)?)
+}
+
 #[test]
 fn a_fault_of_reading_comes_behind_what_was_read(rt: HostRuntime) -> Result<(), Fail> {
     scratch(&rt, "somleut_test_ahead")?;
@@ -141,11 +177,8 @@ fn a_fault_of_reading_comes_behind_what_was_read(rt: HostRuntime) -> Result<(), 
     for whole in [5000, 65_536, 100_000] {
         let (front, behind) = text.split_at(text.len().min(whole));
         let mut host = faulty(&rt, usize::MAX, whole);
-        begin_in(&mut host, path)?;
-        assert!(rt; reads(&mut host, front, 4096).is_err());
-        assert!(rt; is_told(&host, Purpose::ReadInput));
-        assert_eq!(rt; host.left_of_input(), Some(behind.len() as u64));
-        assert!(rt; reads(&mut host, behind, 4096)?, "fault behind {whole}");
+        let is_as_wanted = is_fault_behind(&mut host, path, front, behind)?;
+        assert!(rt; is_as_wanted, "fault behind {whole}");
     }
     Ok(remove(&rt, "somleut_test_ahead")?)
 }

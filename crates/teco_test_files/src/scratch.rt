@@ -41,7 +41,7 @@ pub fn names(rt: &HostRuntime, folder: &str) -> io::Result<usize> {
 
 // The permissions of a file.
 pub fn mode(rt: &HostRuntime, path: &str) -> Result<u32, Fail> {
-    Ok(fs::metadata(rt, path)?.permissions().mode() & 0o777)
+    Ok(fs::metadata(rt, path)?.permissions().mode() & 0o7777)
 }
 
 // Has the file these bytes?
@@ -51,6 +51,11 @@ pub fn is_file(rt: &HostRuntime, path: &str, want: &[u8]) -> Result<bool, Fail> 
         Err(_) => fs::read(rt, path)?,
     };
     Ok(bytes.as_slice() == want)
+}
+
+// Is this file alone in its folder, with these bytes?
+pub fn is_alone(rt: &HostRuntime, folder: &str, path: &str, want: &[u8]) -> Result<bool, Fail> {
+    Ok(names(rt, folder)? == 1 && is_file(rt, path, want)?)
 }
 
 // A host of the files of the system.
@@ -120,6 +125,41 @@ where
         rest = &rest[n..];
     }
     Ok(())
+}
+
+// Makes a file of a text that is written in pieces of so many bytes.
+pub fn put<R>(host: &mut FileHost<R>, path: &str, text: &[u8], piece: usize) -> Result<(), Failed>
+where
+    R: Files + Clock + Drop,
+{
+    begin_out(host, path, b"")?;
+    write_pieces(host, text, piece)?;
+    host.close_out()
+}
+
+// Makes a file of some bytes that are written at once.
+pub fn put_whole<R>(host: &mut FileHost<R>, path: &str, bytes: &[u8]) -> Result<(), Failed>
+where
+    R: Files + Clock + Drop,
+{
+    begin_out(host, path, bytes)?;
+    host.close_out()
+}
+
+// Does a text arrive that is written in pieces of so many bytes, and is it read so?
+pub fn is_exact<R>(
+    rt: &HostRuntime,
+    host: &mut FileHost<R>,
+    path: &str,
+    text: &[u8],
+    piece: usize,
+) -> Result<bool, Fail>
+where
+    R: Files + Clock + Drop,
+{
+    put(host, path, text, piece)?;
+    begin_in(host, path)?;
+    Ok(is_file(rt, path, text)? && reads(host, text, piece)?)
 }
 
 // Reads an input in pieces of so many bytes: does it have this text?

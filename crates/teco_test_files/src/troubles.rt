@@ -6,44 +6,58 @@ use std::os::unix::fs::symlink;
 use std::test::Fail;
 use teco_pages::{FileHost, Host, Trouble};
 
-#[test]
-fn targets_that_are_refused(rt: HostRuntime) -> Result<(), Fail> {
-    scratch(&rt, "somleut_test_refused")?;
-    fs::create_dir(&rt, "somleut_test_refused/folder")?;
-    symlink(&rt, "nowhere", "somleut_test_refused/dangling")?;
-    let mut host = host(&rt);
+// Names that no output can have.
+const TARGETS: [&[u8]; 12] = [
+    b"somleut_test_refused/folder",
+    b"somleut_test_refused/folder/",
+    b"somleut_test_refused/missing/out",
+    b"somleut_test_refused/dangling",
+    b"/dev/full",
+    b"/dev/stdout",
+    b"/dev/fd/1",
+    b"/proc/self/../self/fd/1",
+    b"somleut_test_refused/typed",
+    b"somleut_test_refused/o\xffut",
+    b"somleut_test_refused/o\0ut",
+    b"",
+];
+
+// Names that no input can have.
+const SOURCES: [&[u8]; 3] = [
+    b"somleut_test_refused/folder",
+    b"somleut_test_refused/no",
+    b"o\xffut",
+];
+
+// A folder, and links that lead nowhere and to an open file.
+fn make_targets(rt: &HostRuntime) -> Result<(), Fail> {
+    fs::create_dir(rt, "somleut_test_refused/folder")?;
+    symlink(rt, "nowhere", "somleut_test_refused/dangling")?;
     symlink(
-        &rt,
+        rt,
         "../somleut_test_refused/again",
         "somleut_test_refused/typed",
     )?;
-    symlink(&rt, "/proc/self/fd/1", "somleut_test_refused/again")?;
-    let names_of_none: [&[u8]; 12] = [
-        b"somleut_test_refused/folder",
-        b"somleut_test_refused/folder/",
-        b"somleut_test_refused/missing/out",
-        b"somleut_test_refused/dangling",
-        b"/dev/full",
-        b"/dev/stdout",
-        b"/dev/fd/1",
-        b"/proc/self/../self/fd/1",
-        b"somleut_test_refused/typed",
-        b"somleut_test_refused/o\xffut",
-        b"somleut_test_refused/o\0ut",
-        b"",
-    ];
-    for name in names_of_none {
-        assert!(rt; host.open_out(name).is_err(), "{name:?}");
-        assert!(rt; host.write(b"a").is_err() && host.close_out().is_err());
+    Ok(symlink(rt, "/proc/self/fd/1", "somleut_test_refused/again")?)
+}
+
+// Is no output of this name opened?
+fn is_target_refused(host: &mut FileHost<HostRuntime>, name: &[u8]) -> bool {
+    host.open_out(name).is_err() && host.write(b"a").is_err() && host.close_out().is_err()
+}
+
+#[test]
+fn targets_that_are_refused(rt: HostRuntime) -> Result<(), Fail> {
+    scratch(&rt, "somleut_test_refused")?;
+    make_targets(&rt)?;
+    let mut host = host(&rt);
+    for name in TARGETS {
+        assert!(rt; is_target_refused(&mut host, name), "{name:?}");
     }
-    for name in [
-        b"somleut_test_refused/folder".as_slice(),
-        b"somleut_test_refused/no",
-        b"o\xffut",
-    ] {
+    for name in SOURCES {
         assert!(rt; host.open_in(name).is_err(), "{name:?}");
     }
-    assert_eq!(rt; names(&rt, "somleut_test_refused")?, 4);
+    assert!(rt; names(&rt, "somleut_test_refused")? == 4);
     Ok(remove(&rt, "somleut_test_refused")?)
 }
 
@@ -63,30 +77,52 @@ fn told(host: &FileHost<HostRuntime>, alloc: Global) -> Result<String, AllocErro
     }
 }
 
+// Is an input opened, or an output?
+#[derive(Clone, Copy)]
+enum Opening {
+    Input,
+    Output,
+}
+
+// What is opened, under which name, and what is told of it.
+const TROUBLES: [(Opening, &[u8], &str); 4] = [
+    (
+        Opening::Input,
+        b"somleut_test_trouble/none",
+        "open input somleut_test_trouble/none: No such file or directory (os error 2)",
+    ),
+    (
+        Opening::Input,
+        b"somleut_test_trouble",
+        "open input somleut_test_trouble: it is a folder",
+    ),
+    (
+        Opening::Output,
+        b"somleut_test_trouble/a/b",
+        "open output somleut_test_trouble/a/b: No such file or directory (os error 2)",
+    ),
+    (
+        Opening::Output,
+        b"somleut_test_trouble/\xff",
+        "open output somleut_test_trouble/\u{fffd}: its name is no UTF-8 text",
+    ),
+];
+
+// Is the opening refused?
+fn is_refused(host: &mut FileHost<HostRuntime>, opening: Opening, name: &[u8]) -> bool {
+    match opening {
+        Opening::Input => host.open_in(name).is_err(),
+        Opening::Output => host.open_out(name).is_err(),
+    }
+}
+
 #[test]
 fn troubles_name_file_and_reason(rt: HostRuntime) -> Result<(), Fail> {
     scratch(&rt, "somleut_test_trouble")?;
     let mut host = host(&rt);
-    assert!(rt; host.open_in(b"somleut_test_trouble/none").is_err());
-    assert_eq!(rt;
-        told(&host, rt.alloc())?.as_str(),
-        "open input somleut_test_trouble/none: No such file or directory (os error 2)"
-    );
-    assert!(rt; host.open_in(b"somleut_test_trouble").is_err());
-    assert_eq!(rt;
-        told(&host, rt.alloc())?.as_str(),
-        "open input somleut_test_trouble: it is a folder"
-    );
-    assert!(rt; host.open_out(b"somleut_test_trouble/a/b").is_err());
-    assert_eq!(rt;
-        told(&host, rt.alloc())?.as_str(),
-        "open output somleut_test_trouble/a/b: No such file or directory (os error 2)"
-    );
-    assert!(rt; host.open_out(b"somleut_test_trouble/\xff").is_err());
-    assert_eq!(rt;
-        told(&host, rt.alloc())?.as_str(),
-        "open output somleut_test_trouble/\u{fffd}: its name is no UTF-8 text"
-    );
-    remove(&rt, "somleut_test_trouble")?;
-    Ok(())
+    for (opening, name, wanted) in TROUBLES {
+        assert!(rt; is_refused(&mut host, opening, name), "{wanted}");
+        assert_eq!(rt; told(&host, rt.alloc())?.as_str(), wanted);
+    }
+    Ok(remove(&rt, "somleut_test_trouble")?)
 }
