@@ -1,5 +1,6 @@
 // Searches, with what each finds, and texts that are no pattern. A call that is refused memory is
 // made once more, so that the rows also hold where one allocation fails.
+use self::Step::{Found, Read, Text};
 use self::Way::{Backward, Forward, Here};
 use std::alloc::Global;
 use std::process::Abort;
@@ -71,60 +72,66 @@ fn expect_in_mode(
     }
 }
 
-// The cases of letters count.
-fn expect(
-    rt: &(impl Abort + AllocGlobal),
-    search: &[u8],
-    text: &[u8],
-    way: Way,
-    want: Option<(usize, usize)>,
-) {
-    expect_in_mode(rt, search, true, text, way, want);
+// What is searched for, whether the cases of letters count, the text, the way, and what is found.
+type Row = (
+    &'static [u8],
+    bool,
+    &'static [u8],
+    Way,
+    Option<(usize, usize)>,
+);
+
+// Asserts what each row finds.
+fn expect_rows(rt: &(impl Abort + AllocGlobal), rows: &[Row]) {
+    for (search, exact, text, way, want) in rows {
+        expect_in_mode(rt, search, *exact, text, *way, *want);
+    }
 }
 
-// They do not count.
-fn expect_alike(
-    rt: &(impl Abort + AllocGlobal),
-    search: &[u8],
-    text: &[u8],
-    way: Way,
-    want: Option<(usize, usize)>,
-) {
-    expect_in_mode(rt, search, false, text, way, want);
-}
+// A text that has the word `Xbc` twice.
+const TWICE: &[u8] = b"aXbcXbc";
+
+// Searches for that word in either direction.
+const EITHER_WAY: [Row; 15] = [
+    (b"Xbc", true, TWICE, Forward(0, 1), Some((1, 4))),
+    (b"Xbc", true, TWICE, Forward(0, 2), Some((4, 7))),
+    (b"Xbc", true, TWICE, Forward(0, 3), None),
+    (b"Xbc", true, TWICE, Forward(1, 1), Some((1, 4))),
+    (b"Xbc", true, TWICE, Forward(2, 1), Some((4, 7))),
+    (b"Xbc", true, TWICE, Forward(7, 1), None),
+    (b"Xbc", true, TWICE, Backward(7, 1), Some((4, 7))),
+    (b"Xbc", true, TWICE, Backward(7, 2), Some((1, 4))),
+    (b"Xbc", true, TWICE, Backward(7, 3), None),
+    (b"Xbc", true, TWICE, Backward(5, 1), Some((4, 7))),
+    (b"Xbc", true, TWICE, Backward(4, 1), Some((1, 4))),
+    (b"Xbc", true, TWICE, Backward(1, 1), None),
+    (b"Xbc", true, TWICE, Here(1), Some((1, 4))),
+    (b"Xbc", true, TWICE, Here(0), None),
+    (b"Xbc", true, TWICE, Here(7), None),
+];
 
 #[test]
 fn searches_in_either_direction(rt: HostRuntime) {
-    let text = b"aXbcXbc";
-    expect(&rt, b"Xbc", text, Forward(0, 1), Some((1, 4)));
-    expect(&rt, b"Xbc", text, Forward(0, 2), Some((4, 7)));
-    expect(&rt, b"Xbc", text, Forward(0, 3), None);
-    expect(&rt, b"Xbc", text, Forward(1, 1), Some((1, 4)));
-    expect(&rt, b"Xbc", text, Forward(2, 1), Some((4, 7)));
-    expect(&rt, b"Xbc", text, Forward(7, 1), None);
-    expect(&rt, b"Xbc", text, Backward(7, 1), Some((4, 7)));
-    expect(&rt, b"Xbc", text, Backward(7, 2), Some((1, 4)));
-    expect(&rt, b"Xbc", text, Backward(7, 3), None);
-    expect(&rt, b"Xbc", text, Backward(5, 1), Some((4, 7)));
-    expect(&rt, b"Xbc", text, Backward(4, 1), Some((1, 4)));
-    expect(&rt, b"Xbc", text, Backward(1, 1), None);
-    expect(&rt, b"Xbc", text, Here(1), Some((1, 4)));
-    expect(&rt, b"Xbc", text, Here(0), None);
-    expect(&rt, b"Xbc", text, Here(7), None);
+    expect_rows(&rt, &EITHER_WAY);
 }
+
+// Matches that overlap, and such as are counted from a place.
+const FROM_PLACES: [Row; 10] = [
+    (b"aa", true, b"aaaa", Forward(0, 2), Some((2, 4))),
+    (b"aa", true, b"aaaa", Forward(0, 3), None),
+    (b"aa", true, b"aaaa", Backward(3, 2), Some((1, 3))),
+    (b"aa", true, b"aaaa", Backward(3, 3), Some((0, 2))),
+    (b"aa", true, b"aaaa", Backward(3, 4), None),
+    (b"ab", true, b"abcab", Forward(0, 2), Some((3, 5))),
+    (b"ab", true, b"abcab", Forward(0, 3), None),
+    (b"ab", true, b"abab", Backward(4, 2), Some((0, 2))),
+    (b"ab", true, b"abab", Here(2), Some((2, 4))),
+    (b"b", true, b"abab", Here(0), None),
+];
 
 #[test]
 fn matches_from_a_place(rt: HostRuntime) {
-    expect(&rt, b"aa", b"aaaa", Forward(0, 2), Some((2, 4)));
-    expect(&rt, b"aa", b"aaaa", Forward(0, 3), None);
-    expect(&rt, b"aa", b"aaaa", Backward(3, 2), Some((1, 3)));
-    expect(&rt, b"aa", b"aaaa", Backward(3, 3), Some((0, 2)));
-    expect(&rt, b"aa", b"aaaa", Backward(3, 4), None);
-    expect(&rt, b"ab", b"abcab", Forward(0, 2), Some((3, 5)));
-    expect(&rt, b"ab", b"abcab", Forward(0, 3), None);
-    expect(&rt, b"ab", b"abab", Backward(4, 2), Some((0, 2)));
-    expect(&rt, b"ab", b"abab", Here(2), Some((2, 4)));
-    expect(&rt, b"b", b"abab", Here(0), None);
+    expect_rows(&rt, &FROM_PLACES);
 }
 
 // The last of so many matches, or how many more are wanted; in a text that is cut at each place.
@@ -149,103 +156,126 @@ fn expect_last(
     }
 }
 
+// What is searched for, the text, the place, the number of matches, and what is found.
+const LAST: [(&[u8], &[u8], usize, u32, Result<(usize, usize), u32>); 6] = [
+    (b"aa", b"aaaa", 0, 1, Ok((0, 2))),
+    (b"aa", b"aaaa", 0, 2, Ok((2, 4))),
+    (b"aa", b"aaaa", 0, 5, Err(3)),
+    (b"ab", b"abcab", 1, 2, Err(1)),
+    (b"ab", b"abcab", 1, 1, Ok((3, 5))),
+    (b"x", b"", 0, 7, Err(7)),
+];
+
 #[test]
 fn the_last_of_some_matches(rt: HostRuntime) {
-    expect_last(&rt, b"aa", b"aaaa", 0, 1, Ok((0, 2)));
-    expect_last(&rt, b"aa", b"aaaa", 0, 2, Ok((2, 4)));
-    expect_last(&rt, b"aa", b"aaaa", 0, 5, Err(3));
-    expect_last(&rt, b"ab", b"abcab", 1, 2, Err(1));
-    expect_last(&rt, b"ab", b"abcab", 1, 1, Ok((3, 5)));
-    expect_last(&rt, b"x", b"", 0, 7, Err(7));
+    for (search, text, from, n, want) in LAST.iter() {
+        expect_last(&rt, search, text, *from, *n, *want);
+    }
 }
 
-// The first match in a text.
-fn expect_first(
-    rt: &(impl Abort + AllocGlobal),
-    search: &[u8],
-    text: &[u8],
-    want: Option<(usize, usize)>,
-) {
-    expect_in_mode(rt, search, false, text, Forward(0, 1), want);
-}
+// What each element of a pattern matches, and in which case of letters.
+const ELEMENTS: [Row; 28] = [
+    (b"^EA^ED^ESb", false, b"ax1  b", Forward(0, 1), Some((1, 6))),
+    (
+        b"\x05A\x05D\x05Sb",
+        false,
+        b"ax1  b",
+        Forward(0, 1),
+        Some((1, 6)),
+    ),
+    (b"^ES ", false, b"  b", Forward(0, 1), None),
+    (b"^ESb", false, b"a\t b", Forward(0, 1), Some((1, 4))),
+    (b"abc", false, b"xABC", Forward(0, 1), Some((1, 4))),
+    (b"abc", true, b"xABC", Forward(0, 1), None),
+    (b"aBc", true, b"xaBc", Forward(0, 1), Some((1, 4))),
+    (b"[", false, b"{", Forward(0, 1), None),
+    (b"b^N^ED", false, b"b1bx", Forward(0, 1), Some((2, 4))),
+    (b"^Na", false, b"Aab", Forward(0, 1), Some((2, 3))),
+    (b"^Na", true, b"Aab", Forward(0, 1), Some((0, 1))),
+    (b"^N^Q^", false, b"^a", Forward(0, 1), Some((1, 2))),
+    (b"^N^ED", false, b"ab1", Forward(0, 1), Some((0, 1))),
+    (b"^N^X", false, b"abc", Forward(0, 1), None),
+    (b"^N^S", false, b".a", Forward(0, 1), Some((1, 2))),
+    (b"a^Xb", false, b"a\nb", Forward(0, 1), Some((0, 3))),
+    (b"a^Sb", false, b"a1ba.b", Forward(0, 1), Some((3, 6))),
+    (b"^ER", false, b".7", Forward(0, 1), Some((1, 2))),
+    (b"^ev", false, b"Xx", Forward(0, 1), Some((1, 2))),
+    (b"^ew", false, b"xX", Forward(0, 1), Some((1, 2))),
+    (b"^EL", false, b"\r\x0c", Forward(0, 1), Some((1, 2))),
+    (b"^Q^Q^Q^", false, b"^Q^", Forward(0, 1), Some((0, 3))),
+    (b"^A", false, b"a\x01", Forward(0, 1), Some((1, 2))),
+    (b"^EQa", false, b"ab.", Forward(0, 1), Some((1, 3))),
+    (b"^EQA", false, b"aB.", Forward(0, 1), Some((1, 3))),
+    (b"^EQA", true, b"aB.", Forward(0, 1), None),
+    (b"^EQ0", false, b"ab.", Forward(0, 1), None),
+    (b"", false, b"ab.", Forward(0, 1), None),
+];
 
 #[test]
 fn elements(rt: HostRuntime) {
-    expect_first(&rt, b"^EA^ED^ESb", b"ax1  b", Some((1, 6)));
-    expect_first(&rt, b"\x05A\x05D\x05Sb", b"ax1  b", Some((1, 6)));
-    expect_first(&rt, b"^ES ", b"  b", None);
-    expect_first(&rt, b"^ESb", b"a\t b", Some((1, 4)));
-    expect_first(&rt, b"abc", b"xABC", Some((1, 4)));
-    expect(&rt, b"abc", b"xABC", Forward(0, 1), None);
-    expect(&rt, b"aBc", b"xaBc", Forward(0, 1), Some((1, 4)));
-    expect_first(&rt, b"[", b"{", None);
-    expect_first(&rt, b"b^N^ED", b"b1bx", Some((2, 4)));
-    expect_first(&rt, b"^Na", b"Aab", Some((2, 3)));
-    expect(&rt, b"^Na", b"Aab", Forward(0, 1), Some((0, 1)));
-    expect_first(&rt, b"^N^Q^", b"^a", Some((1, 2)));
-    expect_first(&rt, b"^N^ED", b"ab1", Some((0, 1)));
-    expect_first(&rt, b"^N^X", b"abc", None);
-    expect_first(&rt, b"^N^S", b".a", Some((1, 2)));
-    expect_first(&rt, b"a^Xb", b"a\nb", Some((0, 3)));
-    expect_first(&rt, b"a^Sb", b"a1ba.b", Some((3, 6)));
-    expect_first(&rt, b"^ER", b".7", Some((1, 2)));
-    expect_first(&rt, b"^ev", b"Xx", Some((1, 2)));
-    expect_first(&rt, b"^ew", b"xX", Some((1, 2)));
-    expect_first(&rt, b"^EL", b"\r\x0c", Some((1, 2)));
-    expect_first(&rt, b"^Q^Q^Q^", b"^Q^", Some((0, 3)));
-    expect_first(&rt, b"^A", b"a\x01", Some((1, 2)));
-    expect_first(&rt, b"^EQa", b"ab.", Some((1, 3)));
-    expect_first(&rt, b"^EQA", b"aB.", Some((1, 3)));
-    expect(&rt, b"^EQA", b"aB.", Forward(0, 1), None);
-    expect_first(&rt, b"^EQ0", b"ab.", None);
-    expect_first(&rt, b"", b"ab.", None);
+    expect_rows(&rt, &ELEMENTS);
 }
+
+// Literals behind other elements.
+const BEHIND_OTHERS: [Row; 24] = [
+    (b"^X^Xz", false, b"az.zz", Forward(0, 1), Some((1, 4))),
+    (b"^X^Xz", false, b"az.zz", Backward(5, 1), Some((2, 5))),
+    (b"^X^Xz", false, b"az.zz", Backward(5, 3), None),
+    (b"^X^X^Xd", false, b"abcd", Forward(0, 1), Some((0, 4))),
+    (b"^X^X^Xd", false, b"abcd", Forward(1, 1), None),
+    (b"^X^X^Xd", false, b"dd", Forward(0, 1), None),
+    (b"^X^X^Xd", false, b"dd", Backward(2, 1), None),
+    (b"^S^EAq", false, b"aq.bQ,cq", Forward(0, 1), Some((2, 5))),
+    (b"^S^EAq", false, b"aq.bQ,cq", Backward(8, 2), Some((2, 5))),
+    (b"^S^EAq", true, b"aq.bQ,cq", Forward(0, 1), Some((5, 8))),
+    (b"^S^EAq", true, b"aq.bQ,cq", Backward(8, 2), None),
+    (b"^N^EDx", false, b"1x2xax", Forward(0, 1), Some((4, 6))),
+    (b"a^ESb", false, b"ab a  b", Forward(0, 1), Some((3, 7))),
+    (b"a^ESb", false, b"ab a  b", Backward(4, 1), Some((3, 7))),
+    (b"^ESb", false, b"b \tb", Backward(4, 1), Some((2, 4))),
+    (b"^ED^EA", false, b"12b", Forward(0, 1), Some((1, 3))),
+    (b"^X^EQA", false, b"bb.b.", Forward(0, 1), Some((0, 3))),
+    (b"^X^EQA", false, b"bb.b.", Backward(5, 1), Some((2, 5))),
+    (b"^Xk", false, b"KkK", Forward(0, 1), Some((0, 2))),
+    (b"^Xk", false, b"KkK", Backward(3, 1), Some((1, 3))),
+    (b"^X[", false, b"a{[[", Forward(0, 1), Some((1, 3))),
+    (b"eeeQ", true, b"eeeeQeeQ", Forward(0, 1), Some((1, 5))),
+    (b"eeeQ", true, b"eeeeQeeQ", Backward(8, 1), Some((1, 5))),
+    (b"eeeQ", true, b"eeeeQeeQ", Forward(5, 1), None),
+];
 
 #[test]
 fn literals_behind_other_elements(rt: HostRuntime) {
-    expect_alike(&rt, b"^X^Xz", b"az.zz", Forward(0, 1), Some((1, 4)));
-    expect_alike(&rt, b"^X^Xz", b"az.zz", Backward(5, 1), Some((2, 5)));
-    expect_alike(&rt, b"^X^Xz", b"az.zz", Backward(5, 3), None);
-    expect_alike(&rt, b"^X^X^Xd", b"abcd", Forward(0, 1), Some((0, 4)));
-    expect_alike(&rt, b"^X^X^Xd", b"abcd", Forward(1, 1), None);
-    expect_alike(&rt, b"^X^X^Xd", b"dd", Forward(0, 1), None);
-    expect_alike(&rt, b"^X^X^Xd", b"dd", Backward(2, 1), None);
-    expect_alike(&rt, b"^S^EAq", b"aq.bQ,cq", Forward(0, 1), Some((2, 5)));
-    expect_alike(&rt, b"^S^EAq", b"aq.bQ,cq", Backward(8, 2), Some((2, 5)));
-    expect(&rt, b"^S^EAq", b"aq.bQ,cq", Forward(0, 1), Some((5, 8)));
-    expect(&rt, b"^S^EAq", b"aq.bQ,cq", Backward(8, 2), None);
-    expect_alike(&rt, b"^N^EDx", b"1x2xax", Forward(0, 1), Some((4, 6)));
-    expect_alike(&rt, b"a^ESb", b"ab a  b", Forward(0, 1), Some((3, 7)));
-    expect_alike(&rt, b"a^ESb", b"ab a  b", Backward(4, 1), Some((3, 7)));
-    expect_alike(&rt, b"^ESb", b"b \tb", Backward(4, 1), Some((2, 4)));
-    expect_alike(&rt, b"^ED^EA", b"12b", Forward(0, 1), Some((1, 3)));
-    expect_alike(&rt, b"^X^EQA", b"bb.b.", Forward(0, 1), Some((0, 3)));
-    expect_alike(&rt, b"^X^EQA", b"bb.b.", Backward(5, 1), Some((2, 5)));
-    expect_alike(&rt, b"^Xk", b"KkK", Forward(0, 1), Some((0, 2)));
-    expect_alike(&rt, b"^Xk", b"KkK", Backward(3, 1), Some((1, 3)));
-    expect_alike(&rt, b"^X[", b"a{[[", Forward(0, 1), Some((1, 3)));
-    expect(&rt, b"eeeQ", b"eeeeQeeQ", Forward(0, 1), Some((1, 5)));
-    expect(&rt, b"eeeQ", b"eeeeQeeQ", Backward(8, 1), Some((1, 5)));
-    expect(&rt, b"eeeQ", b"eeeeQeeQ", Forward(5, 1), None);
+    expect_rows(&rt, &BEHIND_OTHERS);
 }
+
+// A long word, a text that has it behind another that is much like it, and one that lacks its end.
+const LONG: &[u8] = b"abcdefghijklmnopqrstuvwxyz0123456789ABCD";
+
+const TEXT: &[u8] =
+    b"abcdefghijklmnopqrstuvwxyz012345678_ abcdefghijklmnopqrstuvwxyz0123456789ABCD";
+
+const SHORT: &[u8] = b"abcdefghijklmnopqrstuvwxyz0123456789ABC";
+
+// Literals at the start, long ones too.
+const AT_START: [Row; 12] = [
+    (LONG, true, TEXT, Forward(0, 1), Some((37, 77))),
+    (LONG, true, TEXT, Backward(77, 1), Some((37, 77))),
+    (LONG, true, SHORT, Forward(0, 1), None),
+    (b"aab", true, b"aaab", Forward(0, 1), Some((1, 4))),
+    (b"aba", true, b"ababa", Forward(0, 1), Some((0, 3))),
+    (b"aba", true, b"ababa", Forward(0, 2), None),
+    (b"aba", true, b"ababa", Forward(1, 1), Some((2, 5))),
+    (b"ab^EDc", true, b"abcab1cab", Forward(0, 1), Some((3, 7))),
+    (b"ab^EDc", true, b"abcab1cab", Forward(4, 1), None),
+    (b"ab^ESb", true, b"abb ab  b", Forward(0, 1), Some((4, 9))),
+    (b"a^EQA", true, b"ab ab.", Forward(0, 1), Some((3, 6))),
+    (b"..", true, b"...", Backward(3, 2), Some((0, 2))),
+];
 
 #[test]
 fn literals_at_the_start(rt: HostRuntime) {
-    let long = b"abcdefghijklmnopqrstuvwxyz0123456789ABCD";
-    let text = b"abcdefghijklmnopqrstuvwxyz012345678_ abcdefghijklmnopqrstuvwxyz0123456789ABCD";
-    let short = b"abcdefghijklmnopqrstuvwxyz0123456789ABC";
-    expect(&rt, long, text, Forward(0, 1), Some((37, 77)));
-    expect(&rt, long, text, Backward(77, 1), Some((37, 77)));
-    expect(&rt, long, short, Forward(0, 1), None);
-    expect(&rt, b"aab", b"aaab", Forward(0, 1), Some((1, 4)));
-    expect(&rt, b"aba", b"ababa", Forward(0, 1), Some((0, 3)));
-    expect(&rt, b"aba", b"ababa", Forward(0, 2), None);
-    expect(&rt, b"aba", b"ababa", Forward(1, 1), Some((2, 5)));
-    expect(&rt, b"ab^EDc", b"abcab1cab", Forward(0, 1), Some((3, 7)));
-    expect(&rt, b"ab^EDc", b"abcab1cab", Forward(4, 1), None);
-    expect(&rt, b"ab^ESb", b"abb ab  b", Forward(0, 1), Some((4, 9)));
-    expect(&rt, b"a^EQA", b"ab ab.", Forward(0, 1), Some((3, 6)));
-    expect(&rt, b"..", b"...", Backward(3, 2), Some((0, 2)));
+    expect_rows(&rt, &AT_START);
 }
 
 fn told(fault: FindFault) -> &'static str {
@@ -257,7 +287,7 @@ fn told(fault: FindFault) -> &'static str {
 }
 
 // A text is no pattern, and has no least length, for this reason.
-fn expect_ill(rt: &(impl Abort + AllocGlobal), search: &[u8], want: &'static str) {
+fn expect_ill(rt: &(impl Abort + AllocGlobal), search: &[u8], want: &str) {
     let regs = registers(rt, rt.alloc());
     match read(rt.alloc(), search, &regs, false) {
         Err(fault) => assert!(rt; told(fault) == want),
@@ -269,37 +299,51 @@ fn expect_ill(rt: &(impl Abort + AllocGlobal), search: &[u8], want: &'static str
     }
 }
 
+// Texts that are no patterns, and why.
+const ILL_FORMED: [(&[u8], &str); 17] = [
+    (b"^N", "ICE"),
+    (b"^", "ICE"),
+    (b"^E?", "ICE"),
+    (b"^N^N", "ICE"),
+    (b"^Q", "ICE"),
+    (b"^E", "ICE"),
+    (b"^EQ", "ICE"),
+    (b"^`", "ICE"),
+    (b"^ ", "ICE"),
+    (b"^N^EQA", "ICE"),
+    (b"^N^ES", "ICE"),
+    (b"^N^Q", "ICE"),
+    (b"^N^", "ICE"),
+    (b"^EQ?", "IQN"),
+    (b"^EQ^", "IQN"),
+    (b"ab^EQ?^", "IQN"),
+    (b"ab^^N^EQ?", "IQN"),
+];
+
 #[test]
 fn ill_formed_texts(rt: HostRuntime) {
-    expect_ill(&rt, b"^N", "ICE");
-    expect_ill(&rt, b"^", "ICE");
-    expect_ill(&rt, b"^E?", "ICE");
-    expect_ill(&rt, b"^N^N", "ICE");
-    expect_ill(&rt, b"^Q", "ICE");
-    expect_ill(&rt, b"^E", "ICE");
-    expect_ill(&rt, b"^EQ", "ICE");
-    expect_ill(&rt, b"^`", "ICE");
-    expect_ill(&rt, b"^ ", "ICE");
-    expect_ill(&rt, b"^N^EQA", "ICE");
-    expect_ill(&rt, b"^N^ES", "ICE");
-    expect_ill(&rt, b"^N^Q", "ICE");
-    expect_ill(&rt, b"^N^", "ICE");
-    expect_ill(&rt, b"^EQ?", "IQN");
-    expect_ill(&rt, b"^EQ^", "IQN");
-    expect_ill(&rt, b"ab^EQ?^", "IQN");
-    expect_ill(&rt, b"ab^^N^EQ?", "IQN");
+    for (search, want) in ILL_FORMED.iter() {
+        expect_ill(&rt, search, want);
+    }
 }
 
-fn expect_least(rt: &(impl Abort + AllocGlobal), search: &[u8], want: Option<usize>) {
+fn expect_least(rt: &impl Abort, search: &[u8], want: Option<usize>) {
     assert!(rt; minimum(search).is_ok_and(|least| least == want));
 }
 
+// Texts of patterns, and the least lengths of their matches, if there are such.
+const LEAST: [(&[u8], Option<usize>); 4] = [
+    (b"", Some(0)),
+    (b"^Naa^Q^^ES", Some(4)),
+    (b"a^EQAb", None),
+    (b"^EQA", None),
+];
+
 #[test]
 fn least_lengths(rt: HostRuntime) {
-    expect_least(&rt, b"", Some(0));
-    expect_least(&rt, b"^Naa^Q^^ES", Some(4));
-    expect_least(&rt, b"a^EQAb", None);
-    expect_least(&rt, b"^EQA", None);
+    for (search, want) in LEAST.iter() {
+        expect_least(&rt, search, *want);
+    }
 }
 
 // Reads a pattern, or takes the one that was read last.
@@ -315,35 +359,54 @@ fn read_last(
     }
 }
 
+// A register gets a text; a pattern is read; or it is read, in either case of letters or not, and
+// the first match begins at a place.
+#[derive(Clone, Copy)]
+enum Step {
+    Text(u8, &'static [u8]),
+    Read(&'static [u8], bool),
+    Found(&'static [u8], bool, Option<usize>),
+}
+
 // Reads a pattern, and finds it at a place of `xBb.bc`.
 fn expect_at(
     rt: &(impl Abort + AllocGlobal),
     last: &mut LastPattern,
     regs: &Regs,
-    text: &[u8],
-    exact: bool,
-    start: usize,
+    (text, exact): (&[u8], bool),
+    start: Option<usize>,
 ) {
     read_last(rt, last, regs, text, exact);
     let found = find(last.pattern(), (b"xBb", b".bc"), Forward(0, 1));
-    assert!(rt; found.is_some_and(|span| span.start == start), "{text:?}");
+    assert!(rt; found.map(|span| span.start) == start, "{text:?}");
 }
+
+// What is done one after another, where `A` has `b.` at first.
+const KEPT: [Step; 10] = [
+    Found(b"b", false, Some(1)),
+    Found(b"b", false, Some(1)),
+    Found(b"b", true, Some(2)),
+    Found(b"\x05QA", true, Some(2)),
+    Text(b'A', b"bc"),
+    Found(b"\x05QA", true, Some(4)),
+    Text(b'A', b"bc"),
+    Read(b"\x05", true),
+    Found(b"c", true, Some(5)),
+    Read(b"", true),
+];
 
 #[test]
 fn the_pattern_that_was_read_last(rt: HostRuntime) {
     let mut regs = registers(&rt, rt.alloc());
     let mut last = LastPattern::new(rt.alloc());
     assert!(rt; find(last.pattern(), (b"xb.", b""), Here(0)).is_none());
-    expect_at(&rt, &mut last, &regs, b"b", false, 1);
-    expect_at(&rt, &mut last, &regs, b"b", false, 1);
-    expect_at(&rt, &mut last, &regs, b"b", true, 2);
-    expect_at(&rt, &mut last, &regs, b"\x05QA", true, 2);
-    set_text(&rt, &mut regs, b'A', b"bc");
-    expect_at(&rt, &mut last, &regs, b"\x05QA", true, 4);
-    set_text(&rt, &mut regs, b'A', b"bc");
-    read_last(&rt, &mut last, &regs, b"\x05", true);
-    expect_at(&rt, &mut last, &regs, b"c", true, 5);
-    read_last(&rt, &mut last, &regs, b"", true);
+    for step in KEPT.iter() {
+        match *step {
+            Text(name, text) => set_text(&rt, &mut regs, name, text),
+            Read(text, exact) => read_last(&rt, &mut last, &regs, text, exact),
+            Found(text, exact, start) => expect_at(&rt, &mut last, &regs, (text, exact), start),
+        }
+    }
 }
 
 // The pattern that was read last, and one that is read anew, are found at a place of a text.
@@ -351,13 +414,10 @@ fn expect_both(
     rt: &(impl Abort + AllocGlobal),
     last: &mut LastPattern,
     regs: &Regs,
-    text: &[u8],
-    exact: bool,
+    (text, exact): (&[u8], bool),
     start: Option<usize>,
 ) {
-    if last.read(text, regs, exact).is_err() {
-        assert!(rt; last.read(text, regs, exact).is_ok());
-    }
+    read_last(rt, last, regs, text, exact);
     let anew = read(rt.alloc(), text, regs, exact).expect(rt, "a pattern");
     for pattern in [last.pattern(), &anew] {
         let found = find(pattern, (b"b.b. b.", b"cb. B.CB."), Forward(0, 1));
@@ -365,29 +425,42 @@ fn expect_both(
     }
 }
 
+// A text that has the texts of two registers, and one of them as an element.
+const BOTH: &[u8] = b"\x05QA\x05QB^EQA";
+
+// What is done one after another, where `A` has `b.` at first.
+const OF_REGISTERS: [Step; 20] = [
+    Found(BOTH, false, Some(0)),
+    Found(BOTH, false, Some(0)),
+    Text(b'B', b"c"),
+    Found(BOTH, false, Some(5)),
+    Text(b'C', b"c"),
+    Found(BOTH, false, Some(5)),
+    Found(BOTH, true, Some(5)),
+    Text(b'A', b"B."),
+    Found(BOTH, true, None),
+    Found(BOTH, false, Some(5)),
+    Text(b'B', b"C"),
+    Found(BOTH, true, Some(11)),
+    Found(b" ", true, Some(4)),
+    Found(BOTH, true, Some(11)),
+    Found(b" ", true, Some(4)),
+    Text(b'A', b""),
+    Found(BOTH, true, Some(13)),
+    Found(BOTH, false, Some(7)),
+    Text(b'B', b"B."),
+    Found(b"^EQBC", true, Some(11)),
+];
+
 #[test]
 fn a_pattern_with_the_texts_of_registers(rt: HostRuntime) {
     let mut regs = registers(&rt, rt.alloc());
     let mut last = LastPattern::new(rt.alloc());
-    let both: &[u8] = b"\x05QA\x05QB^EQA";
-    expect_both(&rt, &mut last, &regs, both, false, Some(0));
-    expect_both(&rt, &mut last, &regs, both, false, Some(0));
-    set_text(&rt, &mut regs, b'B', b"c");
-    expect_both(&rt, &mut last, &regs, both, false, Some(5));
-    set_text(&rt, &mut regs, b'C', b"c");
-    expect_both(&rt, &mut last, &regs, both, false, Some(5));
-    expect_both(&rt, &mut last, &regs, both, true, Some(5));
-    set_text(&rt, &mut regs, b'A', b"B.");
-    expect_both(&rt, &mut last, &regs, both, true, None);
-    expect_both(&rt, &mut last, &regs, both, false, Some(5));
-    set_text(&rt, &mut regs, b'B', b"C");
-    expect_both(&rt, &mut last, &regs, both, true, Some(11));
-    expect_both(&rt, &mut last, &regs, b" ", true, Some(4));
-    expect_both(&rt, &mut last, &regs, both, true, Some(11));
-    expect_both(&rt, &mut last, &regs, b" ", true, Some(4));
-    set_text(&rt, &mut regs, b'A', b"");
-    expect_both(&rt, &mut last, &regs, both, true, Some(13));
-    expect_both(&rt, &mut last, &regs, both, false, Some(7));
-    set_text(&rt, &mut regs, b'B', b"B.");
-    expect_both(&rt, &mut last, &regs, b"^EQBC", true, Some(11));
+    for step in OF_REGISTERS.iter() {
+        match *step {
+            Text(name, text) => set_text(&rt, &mut regs, name, text),
+            Read(text, exact) => read_last(&rt, &mut last, &regs, text, exact),
+            Found(text, exact, start) => expect_both(&rt, &mut last, &regs, (text, exact), start),
+        }
+    }
 }

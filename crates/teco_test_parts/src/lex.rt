@@ -98,184 +98,219 @@ fn expect_head(
     assert!(rt; blank_end(text, at) == places.0);
 }
 
-// The element has neither modifiers nor a register, and at most one text.
-fn expect(
-    rt: &impl Abort,
-    text: &[u8],
-    at: usize,
-    label: &'static [u8],
-    argument: &[u8],
-    places: (usize, usize),
-) {
-    expect_head(
-        rt,
-        text,
-        at,
-        (label, 0, false, b' '),
-        (argument, b""),
-        places,
-    );
-}
+// A text, a place, the element that stands there, its texts, its place and the next one.
+type Row = (
+    &'static [u8],
+    usize,
+    Head,
+    (&'static [u8], &'static [u8]),
+    (usize, usize),
+);
 
-// An element with so many colons and `@` begins the text.
-fn expect_at(
-    rt: &impl Abort,
-    text: &[u8],
-    label: &'static [u8],
-    colons: u8,
-    texts: (&[u8], &[u8]),
-    next: usize,
-) {
-    expect_head(rt, text, 0, (label, colons, true, b' '), texts, (0, next));
-}
-
-#[test]
-fn elements_are_found(rt: HostRuntime) {
-    expect(&rt, b"Iab\x1b", 0, b"I", b"ab", (0, 4));
-    expect(&rt, b"\tab\x1b", 0, b"TAB", b"ab", (0, 4));
-    expect(&rt, b" \r\n^MC", 0, b"C", b"", (5, 6));
-    expect(&rt, b"^j^J c", 2, b"C", b"", (5, 6));
-    expect(&rt, b"fsa\x1b\x1b", 0, b"FS", b"a", (0, 5));
-    expect(&rt, b"\x01hi\x01C", 0, b"^A", b"hi", (0, 4));
-    expect(&rt, b"^[C", 0, b"ESC", b"", (0, 2));
-    expect(&rt, b"\x1b", 0, b"ESC", b"", (0, 1));
-    expect(&rt, b"====", 0, b"===", b"", (0, 3));
-    expect(&rt, b"====", 3, b"=", b"", (3, 4));
-    expect(&rt, b"P W", 0, b"P", b"", (0, 1));
-    expect(&rt, b"PW", 0, b"PW", b"", (0, 2));
-    expect(&rt, b"pw", 0, b"PW", b"", (0, 2));
-    expect(&rt, b"12C", 0, b"digits", b"12", (0, 2));
-    expect(&rt, b"3 12", 1, b"digits", b"12", (2, 4));
-    expect(&rt, b"!tag!C", 0, b"!", b"tag", (0, 5));
-    expect(&rt, b"\">C", 0, b"\">", b"", (0, 2));
-    expect(&rt, b"erf\x1bC", 0, b"ER", b"f", (0, 4));
-    expect(&rt, b" F>>", 0, b"F>", b"", (1, 3));
-    expect(&rt, b"F'1", 0, b"F'", b"", (0, 2));
-    expect(&rt, b"f|\x1b", 0, b"F|", b"", (0, 2));
-}
-
-#[test]
-fn elements_with_modifiers_are_found(rt: HostRuntime) {
-    expect_at(&rt, b":@:S/x/", b"S", 2, (b"x", b""), 7);
-    expect_at(&rt, b"@FS/a/b/", b"FS", 0, (b"a", b"b"), 8);
-    expect_at(&rt, b"@^A/a\x1bb/", b"^A", 0, (b"a\x1bb", b""), 8);
-    expect_at(&rt, b"@I\x1bx\x1b", b"I", 0, (b"x", b""), 5);
-    expect_at(&rt, b"@I x C", b"I", 0, (b"x", b""), 5);
-    expect_head(&rt, b":==C", 0, (b"==", 1, false, b' '), (b"", b""), (0, 3));
-    expect_head(&rt, b"uzC", 0, (b"U", 0, false, b'Z'), (b"", b""), (0, 2));
-    expect_head(
-        &rt,
-        b":@^u7/x/C",
-        0,
-        (b"^U", 1, true, b'7'),
-        (b"x", b""),
-        (0, 8),
-    );
-}
-
-// No element begins a text, and no code refuses it.
-fn expect_none(rt: &impl Abort, text: &[u8]) {
-    assert!(rt; matches!(element(text, 0), Ok(None)));
-}
-
-// A text begins with no element, but a code.
-fn expect_code(rt: &impl Abort, text: &[u8], code: Code) {
-    match element(text, 0) {
-        Err(refusal) => assert!(rt; refusal == code),
-        Ok(_) => assert!(rt; false, "no code"),
+// Asserts what stands at the place of each row.
+fn expect_rows(rt: &impl Abort, rows: &[Row]) {
+    for (text, at, head, texts, places) in rows {
+        expect_head(rt, text, *at, *head, *texts, *places);
     }
 }
 
+// Elements that have neither modifiers nor a register, and at most one text.
+const FOUND: [Row; 21] = [
+    (b"Iab\x1b", 0, (b"I", 0, false, b' '), (b"ab", b""), (0, 4)),
+    (
+        b"\tab\x1b",
+        0,
+        (b"TAB", 0, false, b' '),
+        (b"ab", b""),
+        (0, 4),
+    ),
+    (b" \r\n^MC", 0, (b"C", 0, false, b' '), (b"", b""), (5, 6)),
+    (b"^j^J c", 2, (b"C", 0, false, b' '), (b"", b""), (5, 6)),
+    (
+        b"fsa\x1b\x1b",
+        0,
+        (b"FS", 0, false, b' '),
+        (b"a", b""),
+        (0, 5),
+    ),
+    (
+        b"\x01hi\x01C",
+        0,
+        (b"^A", 0, false, b' '),
+        (b"hi", b""),
+        (0, 4),
+    ),
+    (b"^[C", 0, (b"ESC", 0, false, b' '), (b"", b""), (0, 2)),
+    (b"\x1b", 0, (b"ESC", 0, false, b' '), (b"", b""), (0, 1)),
+    (b"====", 0, (b"===", 0, false, b' '), (b"", b""), (0, 3)),
+    (b"====", 3, (b"=", 0, false, b' '), (b"", b""), (3, 4)),
+    (b"P W", 0, (b"P", 0, false, b' '), (b"", b""), (0, 1)),
+    (b"PW", 0, (b"PW", 0, false, b' '), (b"", b""), (0, 2)),
+    (b"pw", 0, (b"PW", 0, false, b' '), (b"", b""), (0, 2)),
+    (b"12C", 0, (b"digits", 0, false, b' '), (b"12", b""), (0, 2)),
+    (
+        b"3 12",
+        1,
+        (b"digits", 0, false, b' '),
+        (b"12", b""),
+        (2, 4),
+    ),
+    (b"!tag!C", 0, (b"!", 0, false, b' '), (b"tag", b""), (0, 5)),
+    (b"\">C", 0, (b"\">", 0, false, b' '), (b"", b""), (0, 2)),
+    (b"erf\x1bC", 0, (b"ER", 0, false, b' '), (b"f", b""), (0, 4)),
+    (b" F>>", 0, (b"F>", 0, false, b' '), (b"", b""), (1, 3)),
+    (b"F'1", 0, (b"F'", 0, false, b' '), (b"", b""), (0, 2)),
+    (b"f|\x1b", 0, (b"F|", 0, false, b' '), (b"", b""), (0, 2)),
+];
+
+#[test]
+fn elements_are_found(rt: HostRuntime) {
+    expect_rows(&rt, &FOUND);
+}
+
+// Elements with modifiers, a register or two texts.
+const MODIFIED: [Row; 8] = [
+    (b":@:S/x/", 0, (b"S", 2, true, b' '), (b"x", b""), (0, 7)),
+    (b"@FS/a/b/", 0, (b"FS", 0, true, b' '), (b"a", b"b"), (0, 8)),
+    (
+        b"@^A/a\x1bb/",
+        0,
+        (b"^A", 0, true, b' '),
+        (b"a\x1bb", b""),
+        (0, 8),
+    ),
+    (
+        b"@I\x1bx\x1b",
+        0,
+        (b"I", 0, true, b' '),
+        (b"x", b""),
+        (0, 5),
+    ),
+    (b"@I x C", 0, (b"I", 0, true, b' '), (b"x", b""), (0, 5)),
+    (b":==C", 0, (b"==", 1, false, b' '), (b"", b""), (0, 3)),
+    (b"uzC", 0, (b"U", 0, false, b'Z'), (b"", b""), (0, 2)),
+    (b":@^u7/x/C", 0, (b"^U", 1, true, b'7'), (b"x", b""), (0, 8)),
+];
+
+#[test]
+fn elements_with_modifiers_are_found(rt: HostRuntime) {
+    expect_rows(&rt, &MODIFIED);
+}
+
+// Does no element begin a text, but a code, if there is one?
+fn is_refused(text: &[u8], code: Option<Code>) -> bool {
+    match element(text, 0) {
+        Ok(None) => code.is_none(),
+        Ok(Some(_)) => false,
+        Err(refusal) => code == Some(refusal),
+    }
+}
+
+// Texts that begin with no element, and the code of each, unless there are blanks alone.
+const REFUSED: [(&[u8], Option<Code>); 28] = [
+    (b"", None),
+    (b" \r\n^M^j", None),
+    (b"::=", Some(Code::Ill)),
+    (b":U?", Some(Code::Ill)),
+    (b"U?", Some(Code::Iqn)),
+    (b"U", Some(Code::Utc)),
+    (b":Iabc", Some(Code::Ill)),
+    (b"Iabc", Some(Code::Utc)),
+    (b"@I", Some(Code::Utc)),
+    (b"@FS/a/b", Some(Code::Utc)),
+    (b"^", Some(Code::Utc)),
+    (b"^?", Some(Code::Ill)),
+    (b"^B", Some(Code::Ill)),
+    (b"\"x", Some(Code::Ill)),
+    (b"\"", Some(Code::Utc)),
+    (b"E", Some(Code::Utc)),
+    (b":E", Some(Code::Utc)),
+    (b":", Some(Code::Utc)),
+    (b"EZ", Some(Code::Ill)),
+    (b"FQ", Some(Code::Ill)),
+    (b": C", Some(Code::Ill)),
+    (b":^MC", Some(Code::Ill)),
+    (b"@@Sa\x1b", Some(Code::Ill)),
+    (b":::Sa\x1b", Some(Code::Ill)),
+    (b"@\ta\x1b", Some(Code::Ill)),
+    (b":F>", Some(Code::Ill)),
+    (b"@F'/a/", Some(Code::Ill)),
+    (b"F", Some(Code::Utc)),
+];
+
 #[test]
 fn others_are_refused(rt: HostRuntime) {
-    expect_none(&rt, b"");
-    expect_none(&rt, b" \r\n^M^j");
-    expect_code(&rt, b"::=", Code::Ill);
-    expect_code(&rt, b":U?", Code::Ill);
-    expect_code(&rt, b"U?", Code::Iqn);
-    expect_code(&rt, b"U", Code::Utc);
-    expect_code(&rt, b":Iabc", Code::Ill);
-    expect_code(&rt, b"Iabc", Code::Utc);
-    expect_code(&rt, b"@I", Code::Utc);
-    expect_code(&rt, b"@FS/a/b", Code::Utc);
-    expect_code(&rt, b"^", Code::Utc);
-    expect_code(&rt, b"^?", Code::Ill);
-    expect_code(&rt, b"^B", Code::Ill);
-    expect_code(&rt, b"\"x", Code::Ill);
-    expect_code(&rt, b"\"", Code::Utc);
-    expect_code(&rt, b"E", Code::Utc);
-    expect_code(&rt, b":E", Code::Utc);
-    expect_code(&rt, b":", Code::Utc);
-    expect_code(&rt, b"EZ", Code::Ill);
-    expect_code(&rt, b"FQ", Code::Ill);
-    expect_code(&rt, b": C", Code::Ill);
-    expect_code(&rt, b":^MC", Code::Ill);
-    expect_code(&rt, b"@@Sa\x1b", Code::Ill);
-    expect_code(&rt, b":::Sa\x1b", Code::Ill);
-    expect_code(&rt, b"@\ta\x1b", Code::Ill);
-    expect_code(&rt, b":F>", Code::Ill);
-    expect_code(&rt, b"@F'/a/", Code::Ill);
-    expect_code(&rt, b"F", Code::Utc);
+    for (text, code) in REFUSED.iter() {
+        assert!(rt; is_refused(text, *code), "{text:?}");
+    }
 }
 
-// The element at a place skips to another, and leaves so many iterations.
-fn expect_skip(rt: &impl Abort, text: &[u8], at: usize, to: usize, leaves: u32) {
-    assert!(rt; at <= text.len() && text.len() <= LIMIT);
-    let found = skip(text, at);
-    assert!(rt; found.to == Some(to) && found.leaves == leaves);
+// A text, a place, where its element skips to, if it does, and how many iterations it leaves.
+type Skipped = (&'static [u8], usize, Option<usize>, u32);
+
+// Asserts where the element of each row skips to.
+fn expect_skips(rt: &impl Abort, rows: &[Skipped]) {
+    for (text, at, to, leaves) in rows {
+        assert!(rt; *at <= text.len() && text.len() <= LIMIT);
+        let found = skip(text, *at);
+        assert!(rt; found.to == *to && found.leaves == *leaves, "{text:?}");
+    }
 }
 
-// It skips nowhere, but leaves so many iterations.
-fn expect_no_skip(rt: &impl Abort, text: &[u8], at: usize, leaves: u32) {
-    assert!(rt; at <= text.len() && text.len() <= LIMIT);
-    let found = skip(text, at);
-    assert!(rt; found.to.is_none() && found.leaves == leaves);
-}
+// Elements that skip to another place.
+const SKIPS: [Skipped; 27] = [
+    (b"1\"G2=|3='", 1, Some(6), 0),
+    (b"1\"G2=|3='", 5, Some(9), 0),
+    (b"0\"N(?@I/'/'3=", 1, Some(11), 0),
+    (b"0\"NF?'3=", 1, Some(6), 0),
+    (b"3<1:;2=>4=", 1, Some(8), 0),
+    (b"3<1:;2=>4=", 3, Some(8), 1),
+    (b"3<%A=Oout\x1b>!out!QA=", 5, Some(16), 1),
+    (b"2<0\"N>'", 1, Some(6), 0),
+    (b"2<0\"N>'", 3, Some(7), 0),
+    (b"<Sa\x1b;>", 1, Some(6), 1),
+    (b"<@FS/a/b/>", 1, Some(10), 1),
+    (b"<@N/a/>", 1, Some(7), 1),
+    (b"<@FN/a/>/>", 1, Some(10), 1),
+    (b"<<>1;>2=", 4, Some(6), 1),
+    (b"0\"E1\"N|'|2'", 1, Some(9), 0),
+    (b"0\"E1\"N|'|2'", 4, Some(7), 0),
+    (b"0\"E1\"N|'|2'", 6, Some(8), 0),
+    (b"|1|2'", 0, Some(5), 0),
+    (b"@O/a/<!a!>!a!", 0, Some(13), 0),
+    (b"@O/a/>>!a!", 0, Some(10), 2),
+    (b" \r<1>", 0, Some(5), 0),
+    (b"3<1=F>2= >", 4, Some(9), 0),
+    (b"<F>F?<>\"N> >", 1, Some(9), 0),
+    (b"0<F>>", 1, Some(5), 0),
+    (b"0\"EF'1\"N|'2|3'", 3, Some(14), 0),
+    (b"0\"EF|1\"N|'2|3'", 3, Some(12), 0),
+    (b"0\"EF|>'", 3, Some(7), 0),
+];
 
 #[test]
 fn skips_go_past_their_own_brackets(rt: HostRuntime) {
-    expect_skip(&rt, b"1\"G2=|3='", 1, 6, 0);
-    expect_skip(&rt, b"1\"G2=|3='", 5, 9, 0);
-    expect_skip(&rt, b"0\"N(?@I/'/'3=", 1, 11, 0);
-    expect_skip(&rt, b"0\"NF?'3=", 1, 6, 0);
-    expect_skip(&rt, b"3<1:;2=>4=", 1, 8, 0);
-    expect_skip(&rt, b"3<1:;2=>4=", 3, 8, 1);
-    expect_skip(&rt, b"3<%A=Oout\x1b>!out!QA=", 5, 16, 1);
-    expect_skip(&rt, b"2<0\"N>'", 1, 6, 0);
-    expect_skip(&rt, b"2<0\"N>'", 3, 7, 0);
-    expect_skip(&rt, b"<Sa\x1b;>", 1, 6, 1);
-    expect_skip(&rt, b"<@FS/a/b/>", 1, 10, 1);
-    expect_skip(&rt, b"<@N/a/>", 1, 7, 1);
-    expect_skip(&rt, b"<@FN/a/>/>", 1, 10, 1);
-    expect_skip(&rt, b"<<>1;>2=", 4, 6, 1);
-    expect_skip(&rt, b"0\"E1\"N|'|2'", 1, 9, 0);
-    expect_skip(&rt, b"0\"E1\"N|'|2'", 4, 7, 0);
-    expect_skip(&rt, b"0\"E1\"N|'|2'", 6, 8, 0);
-    expect_skip(&rt, b"|1|2'", 0, 5, 0);
-    expect_skip(&rt, b"@O/a/<!a!>!a!", 0, 13, 0);
-    expect_skip(&rt, b"@O/a/>>!a!", 0, 10, 2);
-    expect_skip(&rt, b" \r<1>", 0, 5, 0);
-    expect_skip(&rt, b"3<1=F>2= >", 4, 9, 0);
-    expect_skip(&rt, b"<F>F?<>\"N> >", 1, 9, 0);
-    expect_skip(&rt, b"0<F>>", 1, 5, 0);
-    expect_skip(&rt, b"0\"EF'1\"N|'2|3'", 3, 14, 0);
-    expect_skip(&rt, b"0\"EF|1\"N|'2|3'", 3, 12, 0);
-    expect_skip(&rt, b"0\"EF|>'", 3, 7, 0);
+    expect_skips(&rt, &SKIPS);
 }
+
+// Elements that skip nowhere.
+const NOWHERE: [Skipped; 11] = [
+    (b"3<1:;2=>4=", 7, None, 0),
+    (b"!a!Oa\x1b", 3, None, 0),
+    (b"<Sa\x1b", 1, None, 1),
+    (b"@O/b/>!a!", 0, None, 1),
+    (b"0<1=", 1, None, 0),
+    (b"<Ia>", 0, None, 0),
+    (b"F?>", 0, None, 0),
+    (b"  ", 0, None, 0),
+    (b"'", 0, None, 0),
+    (b"F>'", 0, None, 0),
+    (b"F'|>", 0, None, 0),
+];
 
 #[test]
 fn skips_that_lead_nowhere(rt: HostRuntime) {
-    expect_no_skip(&rt, b"3<1:;2=>4=", 7, 0);
-    expect_no_skip(&rt, b"!a!Oa\x1b", 3, 0);
-    expect_no_skip(&rt, b"<Sa\x1b", 1, 1);
-    expect_no_skip(&rt, b"@O/b/>!a!", 0, 1);
-    expect_no_skip(&rt, b"0<1=", 1, 0);
-    expect_no_skip(&rt, b"<Ia>", 0, 0);
-    expect_no_skip(&rt, b"F?>", 0, 0);
-    expect_no_skip(&rt, b"  ", 0, 0);
-    expect_no_skip(&rt, b"'", 0, 0);
-    expect_no_skip(&rt, b"F>'", 0, 0);
-    expect_no_skip(&rt, b"F'|>", 0, 0);
+    expect_skips(&rt, &NOWHERE);
 }
 
 // A run of modifiers is read in time that grows as its length does.

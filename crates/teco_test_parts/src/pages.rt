@@ -58,19 +58,19 @@ fn expect_taken(rt: &impl Abort, pages: &mut Pages, want: (&[u8], bool)) {
 fn expect_in_pieces(
     rt: &impl Abort,
     host: &mut TestHost,
-    mut pages: Pages,
+    pages: &mut Pages,
     want: &[(&[u8], bool)],
-) -> Result<(), Fail> {
-    open(&mut pages, host)?;
+) -> Result<(), Fault> {
+    open(pages, host)?;
     for page in want {
-        turn(&mut pages, host)?;
-        expect_page(rt, &pages, page.0, page.1);
-        expect_taken(rt, &mut pages, *page);
+        turn(pages, host)?;
+        expect_page(rt, pages, page.0, page.1);
+        expect_taken(rt, pages, *page);
     }
     // the end stays the end
     for _ in 0..2 {
-        turn(&mut pages, host)?;
-        expect_page(rt, &pages, b"", false);
+        turn(pages, host)?;
+        expect_page(rt, pages, b"", false);
     }
     Ok(())
 }
@@ -83,31 +83,34 @@ fn expect_pages(
 ) -> Result<(), Fail> {
     for piece in [1, 2, 4096] {
         let mut host = TestHost::new(files(alloc, bytes)?, piece, HostCall::Read, 0);
-        expect_in_pieces(rt, &mut host, Pages::new(alloc), want)?;
+        expect_in_pieces(rt, &mut host, &mut Pages::new(alloc), want)?;
     }
     Ok(())
 }
 
-#[test]
-fn pages_of_an_input(rt: HostRuntime) -> Result<(), Fail> {
-    let alloc = rt.alloc();
-    expect_pages(&rt, alloc, b"", &[])?;
-    expect_pages(&rt, alloc, b"ab", &[(b"ab", false)])?;
-    expect_pages(&rt, alloc, b"ab\x0c", &[(b"ab", true)])?;
-    expect_pages(&rt, alloc, b"\x0c", &[(b"", true)])?;
-    expect_pages(&rt, alloc, b"ab\x0ccd", &[(b"ab", true), (b"cd", false)])?;
-    expect_pages(
-        &rt,
-        alloc,
+// Inputs, and their pages.
+const INPUTS: [(&[u8], &[(&[u8], bool)]); 7] = [
+    (b"", &[]),
+    (b"ab", &[(b"ab", false)]),
+    (b"ab\x0c", &[(b"ab", true)]),
+    (b"\x0c", &[(b"", true)]),
+    (b"ab\x0ccd", &[(b"ab", true), (b"cd", false)]),
+    (
         b"a\x0c\x0cb\n",
         &[(b"a", true), (b"", true), (b"b\n", false)],
-    )?;
-    expect_pages(
-        &rt,
-        alloc,
+    ),
+    (
         b"\0\x0b\x0d\xff\x0c\n",
         &[(b"\0\x0b\x0d\xff", true), (b"\n", false)],
-    )
+    ),
+];
+
+#[test]
+fn pages_of_an_input(rt: HostRuntime) -> Result<(), Fail> {
+    for (bytes, want) in INPUTS.iter() {
+        expect_pages(&rt, rt.alloc(), bytes, want)?;
+    }
+    Ok(())
 }
 
 // n times a letter
@@ -192,7 +195,21 @@ fn is_right(got: Option<Fault>, want: Fault, nth: u64) -> bool {
     }
 }
 
-// A copy with one call that fails, the nth of its kind, in pieces of this size.
+// What a copy with one call that fails, the nth of its kind, is refused with at first, in pieces of
+// this size.
+fn fault_of(
+    rt: &impl Abort,
+    alloc: Global,
+    bytes: &[u8],
+    piece: usize,
+    call: (HostCall, u64),
+) -> Result<Option<Fault>, Fail> {
+    assert!(rt; piece > 0);
+    let host = TestHost::new(files(alloc, bytes)?, piece, call.0, call.1);
+    Ok(first_fault(rt, alloc, bytes, host))
+}
+
+// The copy is right; it is made once more, since memory may have been refused.
 fn expect_copy(
     rt: &impl Abort,
     alloc: Global,
@@ -201,33 +218,27 @@ fn expect_copy(
     call: (HostCall, u64),
     want: Fault,
 ) -> Result<(), Fail> {
-    assert!(rt; piece > 0);
-    let host = TestHost::new(files(alloc, bytes)?, piece, call.0, call.1);
-    let mut got = first_fault(rt, alloc, bytes, host);
+    let mut got = fault_of(rt, alloc, bytes, piece, call)?;
     if !is_right(got, want, call.1) {
-        // memory may have been refused
-        let host = TestHost::new(files(alloc, bytes)?, piece, call.0, call.1);
-        got = first_fault(rt, alloc, bytes, host);
+        got = fault_of(rt, alloc, bytes, piece, call)?;
     }
     assert!(rt; is_right(got, want, call.1), "{got:?}");
     Ok(())
 }
 
-fn expect_copies(rt: &impl Abort, alloc: Global, bytes: &[u8]) -> Result<(), Fail> {
-    for piece in [1, 2, 4096] {
-        for n in 0..12 {
-            expect_copy(
-                rt,
-                alloc,
-                bytes,
-                piece,
-                (HostCall::OpenIn, n),
-                Fault::NoFile,
-            )?;
-            expect_copy(rt, alloc, bytes, piece, (HostCall::Read, n), Fault::In)?;
-            expect_copy(rt, alloc, bytes, piece, (HostCall::OpenOut, n), Fault::Out)?;
-            expect_copy(rt, alloc, bytes, piece, (HostCall::Write, n), Fault::Out)?;
-            expect_copy(rt, alloc, bytes, piece, (HostCall::CloseOut, n), Fault::Out)?;
+// Calls that may fail, and the faults that they are refused with.
+const CALLS: [(HostCall, Fault); 5] = [
+    (HostCall::OpenIn, Fault::NoFile),
+    (HostCall::Read, Fault::In),
+    (HostCall::OpenOut, Fault::Out),
+    (HostCall::Write, Fault::Out),
+    (HostCall::CloseOut, Fault::Out),
+];
+
+fn expect_copies(rt: &impl Abort, alloc: Global, bytes: &[u8], piece: usize) -> Result<(), Fail> {
+    for (call, fault) in CALLS.iter() {
+        for nth in 0..12 {
+            expect_copy(rt, alloc, bytes, piece, (*call, nth), *fault)?;
         }
     }
     Ok(())
@@ -235,24 +246,33 @@ fn expect_copies(rt: &impl Abort, alloc: Global, bytes: &[u8]) -> Result<(), Fai
 
 #[test]
 fn copies_with_a_call_that_fails(rt: HostRuntime) -> Result<(), Fail> {
-    expect_copies(&rt, rt.alloc(), b"ab\x0ccd\x0cef")?;
-    expect_copies(&rt, rt.alloc(), b"ab\x0ccd\x0c")?;
-    expect_copies(&rt, rt.alloc(), b"abcd")
+    for piece in [1, 2, 4096].iter() {
+        expect_copies(&rt, rt.alloc(), b"ab\x0ccd\x0cef", *piece)?;
+        expect_copies(&rt, rt.alloc(), b"ab\x0ccd\x0c", *piece)?;
+        expect_copies(&rt, rt.alloc(), b"abcd", *piece)?;
+    }
+    Ok(())
+}
+
+// Is the first page read on, where a call of the host that reads it fails?
+fn is_read_on(pages: &mut Pages, host: &mut TestHost) -> Result<bool, Fault> {
+    open(pages, host)?;
+    let is_refused = pages.next_page(host).is_err() && pages.page().is_none();
+    // memory may be refused once, too
+    if pages.next_page(host).is_err() {
+        pages.next_page(host)?;
+    }
+    Ok(is_refused && is_page(pages, (b"ab", true)))
 }
 
 #[test]
 fn a_page_is_read_on_after_a_fault(rt: HostRuntime) -> Result<(), Fail> {
-    let alloc = rt.alloc();
     for nth in 1..4 {
-        let mut host = TestHost::new(files(alloc, b"ab\x0ccd")?, 1, HostCall::Read, nth);
-        let mut pages = Pages::new(alloc);
-        open(&mut pages, &mut host)?;
-        assert!(rt; pages.next_page(&mut host).is_err() && pages.page().is_none());
-        // memory may be refused once, too
-        if pages.next_page(&mut host).is_err() {
-            pages.next_page(&mut host)?;
-        }
-        expect_page(&rt, &pages, b"ab", true);
+        let mut host = TestHost::new(files(rt.alloc(), b"ab\x0ccd")?, 1, HostCall::Read, nth);
+        assert!(rt;
+            is_read_on(&mut Pages::new(rt.alloc()), &mut host)?,
+            "read {nth}"
+        );
     }
     Ok(())
 }
@@ -265,24 +285,32 @@ fn is_nothing_read(pages: &Pages) -> bool {
     pages.page().is_none() && pages.input_name().is_none() && pages.read_ahead() == 0
 }
 
+// Is nothing read, and the next page empty, where there is no input?
+fn is_end_without_input(pages: &mut Pages, host: &mut TestHost) -> bool {
+    is_nothing_read(pages) && pages.next_page(host).is_ok() && is_page(pages, (b"", false))
+}
+
+// Does a name that has no file leave what is open?
+fn is_left_open(pages: &mut Pages, host: &mut TestHost) -> bool {
+    pages.open_in(b"no", host).is_err() && is_input(pages, b"in") && is_page(pages, (b"ab", true))
+}
+
+// Are all five bytes held that were given at once, and two of them behind the page?
+fn is_held(pages: &mut Pages) -> bool {
+    let all = pages.read_ahead();
+    pages.accept_page();
+    all == 5 && pages.read_ahead() == 2
+}
+
 #[test]
 fn what_is_open(rt: HostRuntime) -> Result<(), Fail> {
     let mut host = TestHost::new(files(rt.alloc(), b"ab\x0ccd")?, 4096, HostCall::Read, 0);
     let mut pages = Pages::new(rt.alloc());
-    assert!(rt; is_nothing_read(&pages));
-    // without an input the next page is empty
-    assert!(rt; pages.next_page(&mut host).is_ok());
-    expect_page(&rt, &pages, b"", false);
+    assert!(rt; is_end_without_input(&mut pages, &mut host));
     open(&mut pages, &mut host)?;
     assert!(rt; pages.page().is_none());
     turn(&mut pages, &mut host)?;
-    // a name that has no file leaves what is open
-    assert!(rt; pages.open_in(b"no", &mut host).is_err() && is_input(&pages, b"in"));
-    expect_page(&rt, &pages, b"ab", true);
-    // all five bytes were given at once
-    assert!(rt; pages.read_ahead() == 5);
-    pages.accept_page();
-    assert!(rt; pages.read_ahead() == 2);
+    assert!(rt; is_left_open(&mut pages, &mut host) && is_held(&mut pages));
     pages.close_in();
     assert!(rt; is_nothing_read(&pages));
     Ok(())
@@ -296,30 +324,42 @@ fn open_out(pages: &mut Pages, host: &mut TestHost) -> Result<(), Fault> {
     Ok(())
 }
 
+// Is an output open until it is dropped?
+fn is_open_until_dropped(
+    rt: &impl Abort,
+    pages: &mut Pages,
+    host: &mut TestHost,
+) -> Result<bool, Fault> {
+    open_out(pages, host)?;
+    let is_open = pages
+        .output_name()
+        .is_some_and(|name| name == b"out".as_slice());
+    expect_dropped(rt, pages, host);
+    Ok(is_open && host.mem().file(b"no").is_none())
+}
+
 #[test]
 fn an_output_is_open_until_it_is_dropped(rt: HostRuntime) -> Result<(), Fail> {
     let mut host = TestHost::new(files(rt.alloc(), b"")?, 4096, HostCall::Read, 0);
     let mut pages = Pages::new(rt.alloc());
-    open_out(&mut pages, &mut host)?;
-    assert!(rt;
-        pages
-            .output_name()
-            .is_some_and(|name| name == b"out".as_slice())
-    );
-    expect_dropped(&rt, &mut pages, &mut host);
-    assert!(rt; host.mem().file(b"no").is_none());
+    assert!(rt; is_open_until_dropped(&rt, &mut pages, &mut host)?);
     Ok(())
+}
+
+// Is the dropping of an output refused?
+fn is_dropping_refused(pages: &mut Pages, host: &mut TestHost) -> Result<bool, Fault> {
+    open_out(pages, host)?;
+    if pages.write_page(b"a", b"b", true, host).is_err() {
+        pages.write_page(b"a", b"b", true, host)?;
+    }
+    Ok(pages.drop_out(host).is_err())
 }
 
 #[test]
 fn an_output_is_dropped_where_dropping_fails(rt: HostRuntime) -> Result<(), Fail> {
     let mut host = TestHost::new(files(rt.alloc(), b"")?, 1, HostCall::DropOut, 1);
     let mut pages = Pages::new(rt.alloc());
-    open_out(&mut pages, &mut host)?;
-    if pages.write_page(b"a", b"b", true, &mut host).is_err() {
-        pages.write_page(b"a", b"b", true, &mut host)?;
-    }
-    assert!(rt; pages.drop_out(&mut host).is_err());
+    assert!(rt; is_dropping_refused(&mut pages, &mut host)?);
     expect_dropped(&rt, &mut pages, &mut host);
     Ok(())
 }
