@@ -81,6 +81,16 @@ fn expect(
     assert!(rt; matches!(done, Ok(answer) if answer == want));
 }
 
+// An element, the argument before the comma and the other, and what it answers.
+type Row = (&'static [u8], Option<i32>, Option<i32>, Option<i32>);
+
+// Executes the elements of rows, one after another.
+fn expect_rows(rt: &impl Abort, editor: &mut Editor<VecText>, rows: &[Row]) {
+    for row in rows {
+        expect(rt, editor, row.0, (row.1, row.2), row.3);
+    }
+}
+
 // It is so.
 fn expect_so(rt: &impl Abort, is_so: bool, what: &str) {
     assert!(rt; is_so, "{what}");
@@ -122,17 +132,21 @@ fn expect_search_text(rt: &impl Abort, editor: &Editor<VecText>, text: &[u8]) {
     expect_bytes(rt, editor.search_text(), text);
 }
 
+const COMMANDS: [Row; 8] = [
+    (b"Iabc\x1b", None, None, None),
+    (b"\td\x1b", None, None, None),
+    (b":R", None, Some(5), Some(-1)),
+    (b"D", None, None, None),
+    (b"T", Some(3), Some(1), None),
+    (b"^Ax\x01", None, None, None),
+    (b"^T", None, Some(321), None),
+    (b":==", None, Some(255), None),
+];
+
 #[test]
 fn commands_in_turn(rt: HostRuntime) {
     let mut editor = empty(rt.alloc());
-    expect(&rt, &mut editor, b"Iabc\x1b", (None, None), None);
-    expect(&rt, &mut editor, b"\td\x1b", (None, None), None);
-    expect(&rt, &mut editor, b":R", (None, Some(5)), Some(-1));
-    expect(&rt, &mut editor, b"D", (None, None), None);
-    expect(&rt, &mut editor, b"T", (Some(3), Some(1)), None);
-    expect(&rt, &mut editor, b"^Ax\x01", (None, None), None);
-    expect(&rt, &mut editor, b"^T", (None, Some(321)), None);
-    expect(&rt, &mut editor, b":==", (None, Some(255)), None);
+    expect_rows(&rt, &mut editor, &COMMANDS);
     expect_text(&rt, &editor, b"bc\td", 0);
     expect_length(&rt, &editor, 2);
     expect_typed(&rt, &mut editor, b"c\txA377");
@@ -140,19 +154,25 @@ fn commands_in_turn(rt: HostRuntime) {
 }
 
 // The text is three lines, with the pointer in the second.
+const LINES: [Row; 6] = [
+    (b"Iab\ncd\nef\x1b", None, None, None),
+    (b"L", None, Some(-1), None),
+    (b"C", None, None, None),
+    (b"V", None, None, None),
+    (b"V", None, Some(2), None),
+    (b"T", None, Some(0), None),
+];
+
+// Both other lines are deleted.
+const DELETED: [Row; 2] = [(b"K", None, None, None), (b"K", None, Some(-1), None)];
+
 #[test]
 fn lines(rt: HostRuntime) {
     let mut editor = empty(rt.alloc());
-    expect(&rt, &mut editor, b"Iab\ncd\nef\x1b", (None, None), None);
-    expect(&rt, &mut editor, b"L", (None, Some(-1)), None);
-    expect(&rt, &mut editor, b"C", (None, None), None);
-    expect(&rt, &mut editor, b"V", (None, None), None);
-    expect(&rt, &mut editor, b"V", (None, Some(2)), None);
-    expect(&rt, &mut editor, b"T", (None, Some(0)), None);
+    expect_rows(&rt, &mut editor, &LINES);
     expect_text(&rt, &editor, b"ab\ncd\nef", 4);
     expect_typed(&rt, &mut editor, b"cd\nab\ncd\nefc");
-    expect(&rt, &mut editor, b"K", (None, None), None);
-    expect(&rt, &mut editor, b"K", (None, Some(-1)), None);
+    expect_rows(&rt, &mut editor, &DELETED);
     expect_text(&rt, &editor, b"ef", 0);
 }
 
@@ -171,36 +191,36 @@ fn expect_register(
 }
 
 // Parts of the text go into a register.
-fn store(rt: &impl Abort, editor: &mut Editor<VecText>) {
-    expect(rt, editor, b"Iab\ncd\x1b", (None, None), None);
-    expect(rt, editor, b"J", (None, None), None);
-    expect(rt, editor, b"XQ", (None, None), None);
-    expect(rt, editor, b":XQ", (Some(3), Some(5)), None);
-    expect(rt, editor, b"QQ", (None, Some(3)), Some(99));
-    expect(rt, editor, b"QQ", (None, Some(5)), Some(-1));
-    expect(rt, editor, b"XQ", (Some(1), Some(0)), None);
-    expect(rt, editor, b":GQ", (None, None), None);
-}
+const STORED: [Row; 8] = [
+    (b"Iab\ncd\x1b", None, None, None),
+    (b"J", None, None, None),
+    (b"XQ", None, None, None),
+    (b":XQ", Some(3), Some(5), None),
+    (b"QQ", None, Some(3), Some(99)),
+    (b"QQ", None, Some(5), Some(-1)),
+    (b"XQ", Some(1), Some(0), None),
+    (b":GQ", None, None, None),
+];
 
 // A number and a text go into it, and are pushed and popped.
-fn push_and_pop(rt: &impl Abort, editor: &mut Editor<VecText>) {
-    expect(rt, editor, b"^UQx\x1b", (None, None), None);
-    expect(rt, editor, b":^UQyz\x1b", (None, None), None);
-    expect(rt, editor, b"UQ", (None, Some(5)), None);
-    expect(rt, editor, b"%Q", (None, None), Some(6));
-    expect(rt, editor, b"[Q", (None, None), None);
-    expect(rt, editor, b"%Q", (None, Some(-8)), Some(-2));
-    expect(rt, editor, b"^UQ\x1b", (None, None), None);
-    expect(rt, editor, b"]Q", (None, None), None);
-    expect(rt, editor, b"GQ", (None, None), None);
-    expect(rt, editor, b"[Q", (None, None), None);
-}
+const PUSHED: [Row; 10] = [
+    (b"^UQx\x1b", None, None, None),
+    (b":^UQyz\x1b", None, None, None),
+    (b"UQ", None, Some(5), None),
+    (b"%Q", None, None, Some(6)),
+    (b"[Q", None, None, None),
+    (b"%Q", None, Some(-8), Some(-2)),
+    (b"^UQ\x1b", None, None, None),
+    (b"]Q", None, None, None),
+    (b"GQ", None, None, None),
+    (b"[Q", None, None, None),
+];
 
 #[test]
 fn registers(rt: HostRuntime) {
     let mut editor = empty(rt.alloc());
-    store(&rt, &mut editor);
-    push_and_pop(&rt, &mut editor);
+    expect_rows(&rt, &mut editor, &STORED);
+    expect_rows(&rt, &mut editor, &PUSHED);
     expect_text(&rt, &editor, b"xyzab\ncd", 3);
     expect_length(&rt, &editor, 3);
     expect_register(&rt, &editor, 6, b"xyz", 14);
@@ -238,21 +258,32 @@ fn expect_there(
     expect_character(rt, editor, 0, character);
 }
 
+const NUMBERS: [Row; 4] = [
+    (b"\\", None, Some(-12), None),
+    (b"J", None, None, None),
+    (b"\\", None, None, Some(-12)),
+    (b"I+7-x4294967297\x1b", None, None, None),
+];
+
+// A place, the number that stands there, where it ends, and the character.
+const THERE: [(usize, (i32, usize), i32); 7] = [
+    (0, (-12, 3), 45),
+    (1, (12, 3), 49),
+    (3, (7, 5), 43),
+    (5, (0, 5), 45),
+    (6, (0, 6), 120),
+    (7, (1, 17), 52),
+    (17, (0, 17), -1),
+];
+
 #[test]
 fn numbers_in_the_text(rt: HostRuntime) {
     let mut editor = empty(rt.alloc());
-    expect(&rt, &mut editor, b"\\", (None, Some(-12)), None);
-    expect(&rt, &mut editor, b"J", (None, None), None);
-    expect(&rt, &mut editor, b"\\", (None, None), Some(-12));
-    expect(&rt, &mut editor, b"I+7-x4294967297\x1b", (None, None), None);
+    expect_rows(&rt, &mut editor, &NUMBERS);
     expect_text(&rt, &editor, b"-12+7-x4294967297", 17);
-    expect_there(&rt, &mut editor, 0, (-12, 3), 45);
-    expect_there(&rt, &mut editor, 1, (12, 3), 49);
-    expect_there(&rt, &mut editor, 3, (7, 5), 43);
-    expect_there(&rt, &mut editor, 5, (0, 5), 45);
-    expect_there(&rt, &mut editor, 6, (0, 6), 120);
-    expect_there(&rt, &mut editor, 7, (1, 17), 52);
-    expect_there(&rt, &mut editor, 17, (0, 17), -1);
+    for (place, number, character) in THERE.iter() {
+        expect_there(&rt, &mut editor, *place, *number, *character);
+    }
     expect_character(&rt, &editor, -17, 45);
     expect_character(&rt, &editor, -18, -1);
 }

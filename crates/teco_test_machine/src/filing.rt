@@ -122,6 +122,16 @@ fn expect(rt: &impl Abort, desk: &mut Desk, deed: Deed, want: &[u8], text: &[u8]
     );
 }
 
+// What is done, what comes of it in a word, and the text that it leaves.
+type Row = (Deed, &'static [u8], &'static [u8]);
+
+// Does what the rows say, one after another.
+fn expect_rows(rt: &impl Abort, desk: &mut Desk, rows: &[Row]) {
+    for row in rows {
+        expect(rt, desk, row.0, row.1, row.2);
+    }
+}
+
 // A file has these bytes, or is not there.
 fn expect_file(rt: &impl Abort, desk: &Desk, name: &[u8], bytes: Option<&[u8]>) {
     let found = desk.host.file(name);
@@ -140,39 +150,55 @@ fn expect_typed(rt: &impl Abort, desk: &mut Desk, typed: &[u8]) {
     assert!(rt; taken.as_slice() == typed, "{typed:?}");
 }
 
+const READ: [Row; 4] = [
+    (Deed::OpenInput(b"in"), b"done", b""),
+    (Deed::OpenOutput(b"out"), b"done", b""),
+    (Deed::Yank, b"done", b"ab"),
+    (Deed::Yank, b"YCA", b"ab"),
+];
+
+const WRITTEN: [Row; 5] = [
+    (Deed::TurnPage, b"done", b"cd"),
+    (Deed::WritePage, b"done", b"cd"),
+    (Deed::WriteRange(0, 1), b"done", b"cd"),
+    (Deed::WriteRange(0, 3), b"POP", b"cd"),
+    (Deed::LookThrough, b"done", b""),
+];
+
 #[test]
 fn pages_are_read_turned_and_written(rt: HostRuntime) {
     let mut desk = new_desk(&rt, rt.alloc());
-    expect(&rt, &mut desk, Deed::OpenInput(b"in"), b"done", b"");
-    expect(&rt, &mut desk, Deed::OpenOutput(b"out"), b"done", b"");
-    expect(&rt, &mut desk, Deed::Yank, b"done", b"ab");
-    expect(&rt, &mut desk, Deed::Yank, b"YCA", b"ab");
+    expect_rows(&rt, &mut desk, &READ);
     expect_unread(&rt, &mut desk);
-    expect(&rt, &mut desk, Deed::TurnPage, b"done", b"cd");
-    expect(&rt, &mut desk, Deed::WritePage, b"done", b"cd");
-    expect(&rt, &mut desk, Deed::WriteRange(0, 1), b"done", b"cd");
-    expect(&rt, &mut desk, Deed::WriteRange(0, 3), b"POP", b"cd");
-    expect(&rt, &mut desk, Deed::LookThrough, b"done", b"");
+    expect_rows(&rt, &mut desk, &WRITTEN);
     expect_typed(&rt, &mut desk, b"!");
     expect(&rt, &mut desk, Deed::CopyAll, b"done", b"");
     expect_file(&rt, &desk, b"out", Some(b"ab\x0ccd\x0cccd"));
 }
 
+const DROPPED: [Row; 9] = [
+    (Deed::Append, b"NFI", b""),
+    (Deed::OpenInput(b"no"), b"no file", b""),
+    (Deed::OpenInput(b"in"), b"done", b""),
+    (Deed::Append, b"done", b"ab"),
+    (Deed::Append, b"done", b"abcd"),
+    (Deed::OpenOutput(b"in"), b"ARG", b"abcd"),
+    (Deed::CloseOutput, b"NFO", b"abcd"),
+    (Deed::OpenOutput(b"a"), b"done", b"abcd"),
+    (Deed::AbandonOutput, b"done", b"abcd"),
+];
+
+const CLOSED: [Row; 2] = [
+    (Deed::OpenOutput(b"b"), b"done", b"abcd"),
+    (Deed::CloseOutput, b"done", b"abcd"),
+];
+
 #[test]
 fn files_are_opened_and_let_go(rt: HostRuntime) {
     let mut desk = new_desk(&rt, rt.alloc());
-    expect(&rt, &mut desk, Deed::Append, b"NFI", b"");
-    expect(&rt, &mut desk, Deed::OpenInput(b"no"), b"no file", b"");
-    expect(&rt, &mut desk, Deed::OpenInput(b"in"), b"done", b"");
-    expect(&rt, &mut desk, Deed::Append, b"done", b"ab");
-    expect(&rt, &mut desk, Deed::Append, b"done", b"abcd");
-    expect(&rt, &mut desk, Deed::OpenOutput(b"in"), b"ARG", b"abcd");
-    expect(&rt, &mut desk, Deed::CloseOutput, b"NFO", b"abcd");
-    expect(&rt, &mut desk, Deed::OpenOutput(b"a"), b"done", b"abcd");
-    expect(&rt, &mut desk, Deed::AbandonOutput, b"done", b"abcd");
+    expect_rows(&rt, &mut desk, &DROPPED);
     expect_file(&rt, &desk, b"a", None);
-    expect(&rt, &mut desk, Deed::OpenOutput(b"b"), b"done", b"abcd");
-    expect(&rt, &mut desk, Deed::CloseOutput, b"done", b"abcd");
+    expect_rows(&rt, &mut desk, &CLOSED);
     expect_file(&rt, &desk, b"b", Some(b""));
     expect(&rt, &mut desk, Deed::Exit, b"done", b"abcd");
 }

@@ -89,11 +89,15 @@ fn has_counted(machine: &Machine<Counting>, put_in: usize) -> bool {
     store.put_in == put_in && store.slices().0 == [b'b'; 500].as_slice()
 }
 
+// Puts in 1,000 characters, and deletes each.
+fn put_in(machine: &mut Machine<Counting>, alloc: Global) -> Stop {
+    machine.run(b"1000<Ia\x1b-D>\x1b\x1b", 10_000, &mut MemHost::new(alloc))
+}
+
 // Does a run put in as many characters as it says? None where memory was refused.
 fn is_counted(rt: &impl Abort, alloc: Global) -> Option<bool> {
     let mut machine = machine_on_a_list(rt, alloc);
-    let mut host = MemHost::new(alloc);
-    match machine.run(b"1000<Ia\x1b-D>\x1b\x1b", 10_000, &mut host) {
+    match put_in(&mut machine, alloc) {
         Stop::Memory => None,
         Stop::Ended { .. } => Some(has_counted(&machine, 1000)),
         _ => Some(false),
