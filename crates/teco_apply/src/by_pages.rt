@@ -71,7 +71,8 @@ fn edit_once<T: TextStore, H: Host, W: Write, G: Guard<H>>(
 ) -> Result<Edited, SessionFault>
     requires { TakesArgument call.now }
     ensures edits { Joined (λ old new. Once call.now old new
-        (H.failures host.old) (H.failures host.new) (W.contents writer.old) (W.contents writer.new) result)
+        (H.failures host.old) (H.failures host.new)
+        (W.contents writer.old) (W.contents writer.new) result)
         machine.old machine.new (H.files host.old) (H.files host.new) }
     ensures counted { PagesCount result (H.failures host.old) (H.failures host.new) }
 {
@@ -96,7 +97,8 @@ fn edit_each<T: TextStore, H: Host, W: Write, G: Guard<H>>(
     requires { TakesArgument call.now }
     ensures edits { Joined (λ old new. EachPage
         call.now old new
-        (H.failures host.old) (H.failures host.new) (W.contents writer.old) (W.contents writer.new) result)
+        (H.failures host.old) (H.failures host.new)
+        (W.contents writer.old) (W.contents writer.new) result)
         machine.old machine.new (H.files host.old) (H.files host.new) }
     ensures counted { PagesCount result (H.failures host.old) (H.failures host.new) }
 {
@@ -126,7 +128,8 @@ fn gather<T: TextStore, H: Host, W: Write, G: Guard<H>>(
     guard: &mut G,
 ) -> Result<bool, SessionFault>
     ensures gathers { Joined (λ old new. Gathers old new
-        (H.failures host.old) (H.failures host.new) (W.contents writer.old) (W.contents writer.new) result)
+        (H.failures host.old) (H.failures host.new)
+        (W.contents writer.old) (W.contents writer.new) result)
         machine.old machine.new (H.files host.old) (H.files host.new) }
     ensures counted { LineCounts result (H.failures host.old) (H.failures host.new) }
 {
@@ -153,7 +156,8 @@ fn edit_from_start<T: TextStore, H: Host, W: Write, G: Guard<H>>(
     requires { TakesArgument call.now }
     ensures edits { Joined (λ old new. FromStart
         call.now old new
-        (H.failures host.old) (H.failures host.new) (W.contents writer.old) (W.contents writer.new) result)
+        (H.failures host.old) (H.failures host.new)
+        (W.contents writer.old) (W.contents writer.new) result)
         machine.old machine.new (H.files host.old) (H.files host.new) }
     ensures counted { PagesCount result (H.failures host.old) (H.failures host.new) }
 {
@@ -175,7 +179,8 @@ fn edit_whole<T: TextStore, H: Host, W: Write, G: Guard<H>>(
     requires { TakesArgument call.now }
     ensures edits { Joined (λ old new. AllPages
         call.now old new
-        (H.failures host.old) (H.failures host.new) (W.contents writer.old) (W.contents writer.new) result)
+        (H.failures host.old) (H.failures host.new)
+        (W.contents writer.old) (W.contents writer.new) result)
         machine.old machine.new (H.files host.old) (H.files host.new) }
     ensures counted { PagesCount result (H.failures host.old) (H.failures host.new) }
 {
@@ -186,47 +191,55 @@ fn edit_whole<T: TextStore, H: Host, W: Write, G: Guard<H>>(
     }
 }
 
+// What is run on which pages, and the command string that opens the files.
+#[derive(Clone, Copy)]
+struct Plan<'a> {
+    call: &'a Call<'a>,
+    pages: Pages,
+    opening: &'a [u8],
+}
+
 // Edits pages once the first is read.
 fn edit_pages<T: TextStore, H: Host, W: Write, G: Guard<H>>(
     machine: &mut Machine<T>,
-    call: &Call<'_>,
-    pages: Pages,
+    plan: &Plan<'_>,
     host: &mut H,
     writer: &mut W,
     guard: &mut G,
 ) -> Result<Edited, SessionFault>
-    requires { TakesArgument call.now }
-    ensures edits { Joined (λ old new. EditsPages pages call.now old new
-        (H.failures host.old) (H.failures host.new) (W.contents writer.old) (W.contents writer.new) result)
+    requires { TakesArgument plan.now.call.now }
+    ensures edits { Joined (λ old new. EditsPages plan.now.pages plan.now.call.now old new
+        (H.failures host.old) (H.failures host.new)
+        (W.contents writer.old) (W.contents writer.new) result)
         machine.old machine.new (H.files host.old) (H.files host.new) }
     ensures counted { PagesCount result (H.failures host.old) (H.failures host.new) }
 {
-    match pages {
-        Pages::First => edit_once(machine, call, host, writer, guard),
-        Pages::Each => edit_each(machine, call, host, writer, guard),
-        Pages::Whole => edit_whole(machine, call, host, writer, guard),
+    match plan.pages {
+        Pages::First => edit_once(machine, plan.call, host, writer, guard),
+        Pages::Each => edit_each(machine, plan.call, host, writer, guard),
+        Pages::Whole => edit_whole(machine, plan.call, host, writer, guard),
     }
 }
 
 // Opens the files, and edits the pages.
 fn edit_opened<T: TextStore, H: Host, W: Write, G: Guard<H>>(
     machine: &mut Machine<T>,
-    call: &Call<'_>,
-    pages: Pages,
-    opening: &[u8],
+    plan: &Plan<'_>,
     host: &mut H,
     writer: &mut W,
     guard: &mut G,
 ) -> Result<Edited, SessionFault>
-    requires taken { TakesArgument call.now }
-    requires opening { length opening.now ≤ LIMIT }
-    ensures edits { Joined (λ old new. EditsText pages call.now opening.now old new
-        (H.failures host.old) (H.failures host.new) (W.contents writer.old) (W.contents writer.new) result)
+    requires taken { TakesArgument plan.now.call.now }
+    requires opening { length plan.now.opening.now ≤ LIMIT }
+    ensures edits { Joined (λ old new. EditsText plan.now.pages plan.now.call.now
+        plan.now.opening.now old new
+        (H.failures host.old) (H.failures host.new)
+        (W.contents writer.old) (W.contents writer.new) result)
         machine.old machine.new (H.files host.old) (H.files host.new) }
     ensures counted { PagesCount result (H.failures host.old) (H.failures host.new) }
 {
-    match answer_text(machine, opening, host, writer, guard) {
-        Ok(false) => edit_pages(machine, call, pages, host, writer, guard),
+    match answer_text(machine, plan.opening, host, writer, guard) {
+        Ok(false) => edit_pages(machine, plan, host, writer, guard),
         Ok(true) => Ok(Tally::new().edited(true, false)),
         Err(fault) => Err(fault),
     }
@@ -264,7 +277,8 @@ pub fn edit_file<T: TextStore, H: Host, W: Write, G: Guard<H>>(
     ensures edits { Joined (λ old new. FileEdited edit.now.pages
         (record { found = verified.now; given = edit.now.given })
         edit.now.source.now edit.now.target.now old new
-        (H.failures host.old) (H.failures host.new) (W.contents writer.old) (W.contents writer.new) result)
+        (H.failures host.old) (H.failures host.new)
+        (W.contents writer.old) (W.contents writer.new) result)
         machine.old machine.new (H.files host.old) (H.files host.new) }
     ensures argument { (result ≡ Err fault.Argument)
         ↔ (¬ IsTaken verified.now.fields.argument edit.now.given) }
@@ -278,15 +292,12 @@ pub fn edit_file<T: TextStore, H: Host, W: Write, G: Guard<H>>(
         verified,
         given: edit.given,
     };
-    let edited = edit_opened(
-        machine,
-        &call,
-        edit.pages,
-        opening.as_slice(),
-        host,
-        writer,
-        guard,
-    );
+    let plan = Plan {
+        call: &call,
+        pages: edit.pages,
+        opening: opening.as_slice(),
+    };
+    let edited = edit_opened(machine, &plan, host, writer, guard);
     drop_if_coded(machine, dropped(edited), host);
     edited
 }

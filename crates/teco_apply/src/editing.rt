@@ -223,7 +223,8 @@ pub fn apply<T: TextStore, H: Host, W: Write>(
     requires target { length target.now ≤ NAME }
     ensures edits { Joined (λ old new. Applied (record { found = verified.now; given = given })
         source.now target.now old new
-        (H.failures host.old) (H.failures host.new) (W.contents writer.old) (W.contents writer.new) result)
+        (H.failures host.old) (H.failures host.new)
+        (W.contents writer.old) (W.contents writer.new) result)
         machine.old machine.new (H.files host.old) (H.files host.new) }
     ensures argument { (result ≡ Err fault.Argument)
         ↔ (¬ IsTaken verified.now.fields.argument given) }

@@ -168,7 +168,8 @@ pub fn run_admitted<T: TextStore, H: Host, W: Write, G: Guard<H>>(
     requires { TakesArgument call.now }
     ensures runs { Joined (λ old new. RunsAdmitted
         call.now old new
-        (H.failures host.old) (H.failures host.new) (W.contents writer.old) (W.contents writer.new) result)
+        (H.failures host.old) (H.failures host.new)
+        (W.contents writer.old) (W.contents writer.new) result)
         machine.old machine.new (H.files host.old) (H.files host.new) }
     ensures counted { RanCounts result (H.failures host.old) (H.failures host.new) }
 {
