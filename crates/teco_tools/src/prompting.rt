@@ -46,13 +46,14 @@ impl<S: Read + Drop, P: Write + Drop> Read for Prompting<S, P> {
     ghost remaining = { λ p. S.remaining p.reader };
 
     fn read(&mut self, buf: &mut [u8]) -> io::Result<usize> {
-        if self.is_on {
-            let prompt = match self.progress {
-                Progress::None => FIRST,
-                Progress::Begun | Progress::Half => FURTHER,
-            };
-            let _written = self.prompts.write_all(prompt);
+        if !self.is_on {
+            return self.reader.read(buf);
         }
+        let prompt = match self.progress {
+            Progress::None => FIRST,
+            Progress::Begun | Progress::Half => FURTHER,
+        };
+        let _written = self.prompts.write_all(prompt);
         let n = self.reader.read(buf)?;
         self.progress = self.progress.behind(&buf[..n]);
         Ok(n)
