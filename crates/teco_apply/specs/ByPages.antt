@@ -65,7 +65,7 @@ EndsWith done (Ok coded) result = result ≡ Ok (edited_with done coded false)
 EndsWith done (Err cannot) result = result ≡ Err cannot
 
 -- ---- the macro
--- it came to an end, in so many steps
+-- the macro came to an end, in this many steps
 pub record RunsOn (call : Call) (old new : World) (f g : ℕ) (sink sunk : Option (List ℕ))
     (steps : ℕ) : Type 0 where
   pub answers : AnswersMacro false call old new f g sink sunk (Ok false)
@@ -187,7 +187,7 @@ pub data EachPage (call : Call) (old new : World) (f g : ℕ) (sink sunk : Optio
       EachPage call old new f g sink sunk result
 
 -- ---- all pages as one
--- so many pages were read behind the first
+-- this many pages were read behind the first
 pub data PagesGathered (old : World) (f : ℕ) (sink : Option (List ℕ)) : ℕ → World → ℕ
     → Option (List ℕ) → Type 0 where
   none : PagesGathered old f sink 0 old f sink

@@ -6,7 +6,7 @@ use Rattle.teco_verifier.specs.table.Table.{Table}
 use Rattle.teco_check.specs.Here.{node_at}
 use Rattle.teco_check.specs.declared.printed.Rounds.{Rounds}
 
--- it is that of the node of its number, if that is one
+-- the rounds are those of the node of their number, if there is one
 pub record AreRounds (nodes : List Node) (table : Table) (rounds : Rounds) : Type 0 where
   pub last : rounds.number ≤ length nodes
   pub are : 0 < rounds.number → rounds.product

@@ -30,7 +30,7 @@ abbrev pub Prints : Result Polynomial ℕ → Result Polynomial Overflow → Typ
 Prints printed (Ok number) = printed ≡ Ok number
 Prints printed (Err at) = printed ≡ Err at.node
 
--- so is where the turns are multiplied
+-- the turns are multiplied, or the number of the node is told where that overflows
 abbrev pub Multiplies : Result (Unit {0}) ℕ → Result (Unit {0}) Overflow → Type 0
 Multiplies multiplied (Ok done) = multiplied ≡ Ok tt
 Multiplies multiplied (Err at) = multiplied ≡ Err at.node

@@ -61,7 +61,7 @@ fn arrives_on(
     begins_turn(read, way) || arrives(nodes, table, read, target, along(read, way, edges))
 }
 
-// Whether so is each way of a node.
+// Does each way of a node arrive?
 fn arrive(
     nodes: &Nodes<'_>,
     table: &Table,

@@ -215,7 +215,7 @@ fn turns_pages(nodes: &Nodes<'_>, table: &Table, number: usize) -> bool
     }
 }
 
-// So far: the sum, and whether the pages have been counted.
+// The sum of what is counted by now, and whether the pages are among it.
 #[derive(Clone, Copy)]
 struct Counted {
     total: Poly,

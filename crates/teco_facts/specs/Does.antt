@@ -6,7 +6,7 @@ use Rattle.teco_verifier.specs.facts.Facts.{Pushed, Facts}
 use Rattle.teco_known.specs.declared.fault.Fault.{Fault}
 use Rattle.teco_known.specs.declared.fault.Fault.TheVariants as fault
 
--- it is what the definition says, or its refusal, or memory was refused
+-- an answer is what the definition says, or its refusal, or memory was refused
 abbrev pub Gives : {X : Type 0} → Result X Refusal → Result X Fault → Type 0
 Gives defined (Ok x) = defined ≡ Ok x
 Gives defined (Err (fault.Refused why)) = defined ≡ Err why

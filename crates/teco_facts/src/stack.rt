@@ -60,7 +60,7 @@ impl Facts {
         self.known.pushes.pop()
     }
 
-    // Whether so many pairs are more than at the < of each open iteration.
+    // Are `count` pairs more than there were at the < of each open iteration?
     fn is_above(&self, count: usize) -> bool
         ensures { result ≡ list_all (λ (i : rules.Iteration). nat_lt i.pushes count)
             self.now.iterations }

@@ -24,7 +24,7 @@ pub record Stands (anchor : Anchor) (text : List ℕ) (at : ℕ) : Type 0 where
   pub within : at + anchor.distance < length text
   pub marked : Passes (is_marked anchor.mark) text (at + anchor.distance)
 
--- it does from the start of each match
+-- an anchor's mark stands at its distance from the start of each match
 abbrev pub Anchors : List Item → Anchor → Type 0
 Anchors items anchor = (text : List ℕ) (at : ℕ) → IsSome (here items text at) → Stands anchor text at
 

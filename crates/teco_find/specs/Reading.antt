@@ -26,14 +26,14 @@ abbrev pub Gives : {X Y : Type 0} → (X → Y) → Result X Flaw → Result Y C
 Gives view (Ok x) defined = defined ≡ Ok (view x)
 Gives view (Err f) defined = defined ≡ Err (code_of f)
 
--- the same of a public call, which may be refused memory where the text has no flaw
+-- what a public call answers is what reading gives; it may be refused memory where the text has no flaw
 abbrev pub Reads : {X : Type 0} → Result X FindFault → Result X Code → Type 0
 Reads (Ok x) defined = defined ≡ Ok x
 Reads (Err fault.Ice) defined = defined ≡ Err code.Ice
 Reads (Err fault.Iqn) defined = defined ≡ Err code.Iqn
 Reads (Err fault.Memory) defined = IsOk defined
 
--- and of one that takes no memory
+-- what a public call answers that takes no memory is what reading gives
 abbrev pub Judges : {X : Type 0} → Result X FindFault → Result X Code → Type 0
 Judges (Ok x) defined = defined ≡ Ok x
 Judges (Err fault.Ice) defined = defined ≡ Err code.Ice

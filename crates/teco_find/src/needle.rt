@@ -79,7 +79,8 @@ pub(crate) fn next_start(needle: &Needle, text: Pieces<'_>, at: usize) -> Option
     }
 }
 
-// The same from where a needle would lie across the gap or behind it. Across it each place is one.
+// Where a needle may begin next, from a place where it would lie across the gap or behind it: each
+// place where it lies across is one.
 fn next_behind(needle: &Needle, text: Pieces<'_>, at: usize) -> Option<usize>
     requires some { 0 < length needle.now }
     requires within { at ≤ length (joined text) }

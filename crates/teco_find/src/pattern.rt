@@ -74,7 +74,7 @@ impl Pattern {
 /// How many characters a match of a search text has at the least; `None` where the text of a
 /// register is part of it.
 ///
-/// It takes no memory.
+/// Takes no memory.
 pub fn minimum(text: &[u8]) -> Result<Option<usize>, FindFault>
     ensures { Judges result (model.minimum text.now) }
 {
@@ -88,7 +88,7 @@ pub fn minimum(text: &[u8]) -> Result<Option<usize>, FindFault>
 
 /// The last part of a search text, if it has one.
 ///
-/// It takes no memory.
+/// Takes no memory.
 pub fn last_part(text: &[u8]) -> Result<Option<Part>, FindFault>
     ensures { Judges result (last_part text.now) }
 {

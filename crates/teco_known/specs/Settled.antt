@@ -10,7 +10,7 @@ abbrev pub settled_by : Option Settling → KnownLevel → KnownLevel
 settled_by None level = level
 settled_by (Some settling) level = settled_level settling.margins settling.ends level
 
--- So are all that were opened before.
+-- All levels that were opened before, as they are by now.
 abbrev pub settled_since : Option Settling → List KnownLevel → List KnownLevel
 settled_since settling levels = map (settled_by settling) levels
 
@@ -20,7 +20,7 @@ abbrev pub levels_of : List Opened → List KnownLevel
 levels_of [] = []
 levels_of (opened ∷ outer) = opened.level ∷ settled_since opened.below (levels_of outer)
 
--- The same levels as they are by now.
+-- The levels outside the innermost, each as it is by now.
 abbrev pub levels_since : Option Settling → List Opened → List KnownLevel
 levels_since settling outer = settled_since settling (levels_of outer)
 

@@ -19,11 +19,11 @@ use teco_verifier::{DigitMark, Refusal, Rules, Value};
 /// How what is ahead changes.
 #[derive(Clone, Copy)]
 pub enum Descent {
-    /// It falls by so much at the least, if that is known.
+    /// What is ahead falls by so much at the least, if that is known.
     By(Option<i64>),
     /// The pointer goes to the end of its line or beyond.
     PastLine,
-    /// It goes back in its line.
+    /// The pointer goes back in its line.
     InLine,
     /// What is ahead falls by so much, and more text may come to the end of the buffer.
     Refilled(u64),

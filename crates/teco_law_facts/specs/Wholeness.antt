@@ -18,7 +18,7 @@ pub record AreWholeArguments (arguments : Arguments) : Type 0 where
   pub level : IsWholeLevel arguments.level
   pub outer : AllByRecursion IsWholeLevel arguments.outer
 
--- and so are the texts that are executed
+-- the texts that are executed are of bytes
 pub record AreWholeFrames (frames : Frames) : Type 0 where
   pub running : AreBytes frames.running.text
   pub callers : AllByRecursion (λ (frame : Frame). AreBytes frame.text) frames.callers

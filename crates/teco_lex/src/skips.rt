@@ -153,7 +153,7 @@ pub fn tag_skip(tag: &[u8], text: &[u8], at: usize) -> Skip
 
 /// Where the element at a place jumps ahead.
 ///
-/// It reads on once, as far as it skips.
+/// Reads on once, as far as is skipped.
 pub fn skip(text: &[u8], at: usize) -> Skip
     requires short { length text.now ≤ LIMIT }
     requires inside { at ≤ length text.now }

@@ -8,6 +8,6 @@ pub record IsCopied (unread held : List ℕ) (files left : HostFiles) : Type 0 w
   pub whole : unread ≡ front ++ (held ++ left.unread)
   pub written : left ≡ record (after_writing front files) { unread = left.unread }
 
--- so far as it goes, where this was held at first and that is held now
+-- copied as far as it went, where `old` was held at first and `held` is held now
 abbrev pub CopiesOn : List ℕ → List ℕ → Telling → Telling → Type 0
 CopiesOn old held = Told (λ files left. IsCopied (old ++ files.unread) held files left)

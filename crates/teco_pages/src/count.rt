@@ -27,7 +27,7 @@ impl Count {
         }
     }
 
-    /// It has happened once more.
+    /// What is counted has happened once more.
     pub fn rise(&mut self)
         ensures { self.new.value ≡ suc self.old.value }
     {}

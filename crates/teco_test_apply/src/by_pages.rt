@@ -186,7 +186,7 @@ const EDITED: [Paged; 12] = [
     ((STAYS, b"", Pages::First, 0), 1, b""),
 ];
 
-// It is edited as the row says, by a host that moves so many bytes.
+// A host that moves `piece` bytes in a call edits as the row says.
 fn expect_paged(rt: &impl Abort, alloc: Global, paged: &Paged, piece: usize) {
     let (row, pages, out) = *paged;
     let left = edited(rt, alloc, row, None, (piece, HostCall::Read, 0));

@@ -7,12 +7,12 @@ use teco_library::Library;
 use teco_pages::MemHost;
 use teco_verify::{Refusal, Verified, verify};
 
-/// It is so; what it is of is told where it is not.
+/// Fails, and says what, where this is false.
 pub fn expect(rt: &impl Abort, is_so: bool, what: &str) {
     assert!(rt; is_so, "{what}");
 }
 
-/// It is so of a row, by its number.
+/// Fails, and tells the number of the row, where this is false.
 pub fn expect_row(rt: &impl Abort, is_so: bool, number: usize) {
     assert!(rt; is_so, "row {number}");
 }

@@ -92,7 +92,7 @@ fn try_long_text(alloc: Global, len: usize) -> Result<Vec<u8>, AllocError> {
     Ok(bytes)
 }
 
-// The same, once more where memory is refused.
+// A long text, each of whose bytes tells where it stands, made once more where memory is refused.
 pub fn long_text(alloc: Global, len: usize) -> Result<Vec<u8>, AllocError> {
     match try_long_text(alloc, len) {
         Ok(text) => Ok(text),

@@ -91,7 +91,7 @@ fn expect_rows(rt: &impl Abort, editor: &mut Editor<VecText>, rows: &[Row]) {
     }
 }
 
-// It is so.
+// Fails, and says what, where this is false.
 fn expect_so(rt: &impl Abort, is_so: bool, what: &str) {
     assert!(rt; is_so, "{what}");
 }
@@ -241,7 +241,7 @@ fn expect_number(
     assert!(rt; reply.value == number && reply.dot == end);
 }
 
-// So far from the pointer stands this character.
+// At this distance from the pointer stands this character.
 fn expect_character(rt: &impl Abort, editor: &Editor<VecText>, distance: i32, character: i32) {
     assert!(rt; editor.character(distance) == character);
 }
@@ -421,7 +421,7 @@ fn writes(
     true
 }
 
-// It is written and becomes empty; says whether memory lasted for it.
+// The buffer is written and becomes empty; says whether memory lasted for it.
 fn looks_through(
     rt: &impl Abort,
     editor: &mut Editor<VecText>,

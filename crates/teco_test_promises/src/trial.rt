@@ -12,7 +12,7 @@ use teco_run::Machine;
 use teco_text::VecText;
 use teco_verify::{Refusal, Verified, check_certificate, verify};
 
-/// It is so; what it is of is told where it is not.
+/// Fails, and says what, where this is false.
 pub fn expect(rt: &impl Abort, is_so: bool, what: &str) {
     assert!(rt; is_so, "{what}");
 }

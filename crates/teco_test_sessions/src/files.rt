@@ -388,7 +388,8 @@ fn fails_as_told(alloc: Global, row: FileRow, moves: Moves) -> bool {
     }
 }
 
-// It does, or once more where a growth may have been refused.
+// The host fails as the row says, the second time at the latest: a growth may be refused the first
+// time.
 fn expect_failure(
     rt: &impl Abort,
     alloc: Global,

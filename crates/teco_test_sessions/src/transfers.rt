@@ -128,7 +128,8 @@ fn is_slow(
     found == outcome && written.as_slice() == row.written && is_left
 }
 
-// It is so at once, or where a growth was refused the second time.
+// A session over a slow reader and writer comes out as the row says, the second time at the latest:
+// a growth may be refused the first time.
 fn expect_slow(
     rt: &impl Abort,
     alloc: Global,

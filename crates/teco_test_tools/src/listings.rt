@@ -24,7 +24,7 @@ const LISTED: [(u64, &str, &str); 2] = [
     ),
 ];
 
-// So many steps are listed so.
+// The listing of this many steps is the row's.
 fn expect_listed(
     abort: &impl Abort,
     rt: &HostRuntime,

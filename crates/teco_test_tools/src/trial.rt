@@ -8,7 +8,7 @@ use teco_base::Reg;
 use teco_tools::Task;
 use teco_verdicts::{Console, Escape, Request, Rules};
 
-/// It is so; what it is of is told where it is not.
+/// Fails, and says what, where this is false.
 pub fn expect(rt: &impl Abort, is_so: bool, what: &str) {
     assert!(rt; is_so, "{what}");
 }

@@ -303,7 +303,7 @@ fn far_jumps_are_followed(rt: HostRuntime) {
     expect(&rt, told(&nodes, 2) == Some((0, 3, 1_998)), 1);
 }
 
-// So many conditionals before so many elements are gone through without reading on for each.
+// 2,000 conditionals before 100,000 elements are gone through without reading on for each.
 #[test]
 fn many_conditionals_are_followed(rt: HostRuntime) {
     let mut file = [b'J'; 100_000];
@@ -333,7 +333,7 @@ fn long_runs_of_blanks_are_passed(rt: HostRuntime) {
     }
 }
 
-// And so is a call of the macro itself.
+// A call of the macro itself is found behind long runs of blanks.
 #[test]
 fn calls_behind_blanks_are_refused(rt: HostRuntime) {
     let mut file = [b' '; 300];
@@ -344,8 +344,7 @@ fn calls_behind_blanks_are_refused(rt: HostRuntime) {
     expect(&rt, refusal == Some((3, 0, 195)), 0);
 }
 
-// So many jumps to one place before so many blanks are followed without reading the blanks for
-// each.
+// 4,000 jumps to one place before 100,000 blanks are followed without reading the blanks for each.
 #[test]
 fn many_jumps_over_blanks_are_followed(rt: HostRuntime) {
     let mut file = [b' '; 100_000];
@@ -359,7 +358,7 @@ fn many_jumps_over_blanks_are_followed(rt: HostRuntime) {
     expect(&rt, told(&nodes, 3) == Some((3, 4_003, 0)), 1);
 }
 
-// So many jumps before so many elements are followed without reading on for each.
+// 4,000 jumps before 200,000 elements are followed without reading on for each.
 #[test]
 fn many_jumps_are_followed(rt: HostRuntime) {
     let mut file = [b'J'; 200_000];

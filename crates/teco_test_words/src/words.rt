@@ -10,7 +10,7 @@ use teco_words::{
     rules_of, scripts, settings,
 };
 
-// It is so of a row, by its number.
+// Fails, and tells the number of the row, where this is false.
 fn expect_row(rt: &impl Abort, is_so: bool, number: usize) {
     assert!(rt; is_so, "row {number}");
 }

@@ -13,7 +13,7 @@ use teco_base::bytes::is_line_end;
 /// pointer, or the text's length where there are fewer; for `n` at most 0 the place after the `1 -
 /// n`th line end before the pointer, counted backwards, or 0.
 ///
-/// It takes no memory, and time by the characters that it passes.
+/// Takes no memory, and time by the characters that are passed.
 pub fn line_place<T: TextStore>(store: &T, n: i64) -> usize
     ensures value { result ≡ lines.line_place (T.list store.now) (T.pointer store.now) n }
     ensures within_text { result ≤ length (T.list store.now) }

@@ -158,7 +158,7 @@ fn verified<'l>(alloc: Global, asked: &Asked<'l>) -> Result<Verified<'l>, Refusa
 /// the library declares for it, or it is refused. Straight text, of which each element is ESC, a
 /// comment or a plain insertion, is not refused where none is declared.
 ///
-/// It takes time by the elements of the texts that are called, and for each iteration up to three
+/// Takes time by the elements of the texts that are called, and for each iteration up to three
 /// times those in its body, by the second edition four.
 pub fn verify_by<'l>(
     alloc: Global,

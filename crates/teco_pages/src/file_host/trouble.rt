@@ -10,25 +10,25 @@ pub enum Reason {
     /// The system refused.
     #[error("{0}")]
     System(io::Error),
-    /// Its name is no UTF-8.
+    /// The name is no UTF-8.
     #[error("its name is no UTF-8 text")]
     Name,
-    /// It is a folder.
+    /// The name is that of a folder.
     #[error("it is a folder")]
     Folder,
-    /// It exists and is no regular file.
+    /// The file exists and is no regular file.
     #[error("it exists and is no regular file")]
     NotRegular,
-    /// It leads to a file that a process has open, as `/dev/stdout` does.
+    /// The name leads to a file that a process has open, as `/dev/stdout` does.
     #[error("it leads to a file that a process has open")]
     InUse,
-    /// It leads through too many links, or no name beside it is free.
+    /// The name leads through too many links, or no name beside it is free.
     #[error("it has too many links, or no free name beside it")]
     NoPlace,
-    /// It has more bytes than an input may have.
+    /// The file has more bytes than an input may have.
     #[error("it has more than 268,435,456 bytes")]
     Long,
-    /// It would pass the limit that the system sets on the size of files.
+    /// The file would pass the limit that the system sets on the size of files.
     #[error("it would pass the limit on the size of files")]
     SizeLimit,
     /// Another file took the name of the unfinished output.

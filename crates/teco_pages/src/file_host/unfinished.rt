@@ -28,11 +28,11 @@ const KEPT: usize = 1 << 16;
 /// What becomes of an output that is closed.
 #[derive(Clone, Copy, Debug, PartialEq, Eq)]
 pub enum Closing {
-    /// It replaces its target.
+    /// The output replaces its target.
     Replaces,
-    /// It replaces its target, unless that has the same bytes already.
+    /// The output replaces its target, unless that has the same bytes already.
     ReplacesOther,
-    /// It is compared with its target, and dropped.
+    /// The output is compared with its target, and dropped.
     Compares,
 }
 

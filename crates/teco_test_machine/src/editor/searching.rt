@@ -192,7 +192,7 @@ const ELEMENT: Element<'static> = Element {
     next: 1,
 };
 
-// It is looked for the last of so many, and so many are wanted still.
+// A search for several matches ends in the buffer, and some are still wanted.
 fn expect_wanted(
     rt: &impl Abort,
     editor: &mut Editor<VecText>,

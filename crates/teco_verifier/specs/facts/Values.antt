@@ -160,7 +160,7 @@ abbrev pub product : Distances → Value → Value → Value
 product distances s t =
     value_in (kept_in_32_bits (interval_product (interval_of distances s) (interval_of distances t)))
 
--- and so does a quotient, where the divisor is not 0
+-- a quotient lies between the corners, too, where the divisor is not 0
 abbrev pub least_quotient : ℤ → Interval → ℤ
 least_quotient x j = int_min (int_div x j.lo) (int_div x j.hi)
 

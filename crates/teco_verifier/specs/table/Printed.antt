@@ -86,7 +86,7 @@ turns_pages node None = false
 turns_pages node (Some facts) =
     is_second facts.rules && option_map_or (λ (e : Element). turns_pages_by e.kind) node.element false
 
--- so far: the sum, and whether the pages have been counted
+-- what is counted by now: the sum, and whether the pages are among it
 pub record Counted : Type 0 where
   pub total : Polynomial
   pub pages : Bool
