@@ -113,8 +113,14 @@ O=0,P=0,Q=0,R=0,S=0,T=0,U=0,V=0,W=0,X=0,Y=0,Z=0,0=0,1=0,2=0,3=0,4=0,5=0,6=0,7=0,
 end
 ";
 
-// What stands in the place of the last of them.
-const MORE_TEXTS: [&str; 5] = ["8=0", "9=0,9=0", "9=0,A=0", "9=0,:=0", "9=0,-"];
+// The last of them, and what stands in its place.
+const MORE_TEXTS: [(&str, &str); 5] = [
+    ("9=0", "8=0"),
+    ("9=0", "9=0,9=0"),
+    ("9=0", "9=0,A=0"),
+    ("9=0", "9=0,:=0"),
+    ("9=0", "9=0,-"),
+];
 
 // What stands in the place of a part of that for marks, and the part.
 const OTHERS: [(&str, &str); 42] = [
@@ -162,15 +168,33 @@ const OTHERS: [(&str, &str); 42] = [
     ("texts -", "texts a=N"),
 ];
 
-// Lines in the place of that of the iteration.
-const LINES: [&str; 7] = [
-    "loop 3 held 2*N kept texts -\nloop 3 held 2*N kept texts -\n",
-    "loop 4 held N kept texts -\nloop 3 held 2*N kept texts -\n",
-    "loop 3 held 2*N kept texts -\r\n",
-    "loop 3 held 2*N kept texts -\n\n",
-    "loop 3 held 2*N kept texts - \n",
-    " loop 3 held 2*N kept texts -\n",
-    "loop 3 held 2*N kept texts -",
+// The line of the iteration.
+const LINE: &str = "loop 3 held 2*N kept texts -\n";
+
+// Lines in the place of that.
+const LINES: [(&str, &str); 7] = [
+    (
+        LINE,
+        "loop 3 held 2*N kept texts -\nloop 3 held 2*N kept texts -\n",
+    ),
+    (
+        LINE,
+        "loop 4 held N kept texts -\nloop 3 held 2*N kept texts -\n",
+    ),
+    (LINE, "loop 3 held 2*N kept texts -\r\n"),
+    (LINE, "loop 3 held 2*N kept texts -\n\n"),
+    (LINE, "loop 3 held 2*N kept texts - \n"),
+    (LINE, " loop 3 held 2*N kept texts -\n"),
+    (LINE, "loop 3 held 2*N kept texts -"),
+];
+
+// Certificates, and what makes each another text than one.
+const OTHER_TEXTS: [(&str, &[(&str, &str)]); 5] = [
+    (MARK, &OTHERS),
+    (MARK, &LINES),
+    (REPEAT, &OTHER_ARGUMENTS),
+    (SECOND, &OTHER_RULES),
+    (ALL_TEXTS, &MORE_TEXTS),
 ];
 
 // What is read of a text.
@@ -300,16 +324,23 @@ fn prints_the_fields(rt: HostRuntime) {
 
 #[test]
 fn reads_what_it_prints(rt: HostRuntime) {
-    expect(&rt, is_read(&rt, rt.alloc(), MARK.as_bytes()), 99);
     for (row, text) in CERTIFICATES.iter().enumerate() {
         expect(&rt, is_read(&rt, rt.alloc(), text.as_bytes()), row);
     }
 }
 
+// Asserts that a text is refused with each of these in the place of a part.
+fn refuse_others(rt: &impl Abort, alloc: Global, whole: &str, rows: &[(&str, &str)]) {
+    for (row, (part, other)) in rows.iter().enumerate() {
+        refuse_other(rt, alloc, whole, part, other, row);
+    }
+}
+
 #[test]
-fn refuses_other_spellings(rt: HostRuntime) {
-    for (row, (part, other)) in OTHERS.iter().enumerate() {
-        refuse_other(&rt, rt.alloc(), MARK, part, other, row);
+fn refuses_other_texts(rt: HostRuntime) {
+    for (whole, rows) in OTHER_TEXTS.iter() {
+        expect(&rt, is_read(&rt, rt.alloc(), whole.as_bytes()), 99);
+        refuse_others(&rt, rt.alloc(), whole, rows);
     }
 }
 
@@ -320,40 +351,6 @@ fn reads_an_argument(rt: HostRuntime) {
         .argument
         .map(|range| (range.low(), range.high()));
     expect(&rt, range == Some((1, 10)), 0);
-    expect(&rt, is_read(&rt, rt.alloc(), REPEAT.as_bytes()), 1);
-}
-
-#[test]
-fn refuses_other_arguments(rt: HostRuntime) {
-    for (row, (part, other)) in OTHER_ARGUMENTS.iter().enumerate() {
-        refuse_other(&rt, rt.alloc(), REPEAT, part, other, row);
-    }
-}
-
-#[test]
-fn refuses_other_rules(rt: HostRuntime) {
-    expect(&rt, is_read(&rt, rt.alloc(), SECOND.as_bytes()), 99);
-    for (row, (part, other)) in OTHER_RULES.iter().enumerate() {
-        refuse_other(&rt, rt.alloc(), SECOND, part, other, row);
-    }
-}
-
-#[test]
-fn reads_at_most_one_text_of_a_register(rt: HostRuntime) {
-    expect(&rt, is_read(&rt, rt.alloc(), ALL_TEXTS.as_bytes()), 99);
-    for (row, more) in MORE_TEXTS.iter().enumerate() {
-        refuse_other(&rt, rt.alloc(), ALL_TEXTS, "9=0", more, row);
-    }
-}
-
-// The line of the iteration.
-const LINE: &str = "loop 3 held 2*N kept texts -\n";
-
-#[test]
-fn refuses_other_lines(rt: HostRuntime) {
-    for (row, lines) in LINES.iter().enumerate() {
-        refuse_other(&rt, rt.alloc(), MARK, LINE, lines, row);
-    }
 }
 
 // One that has no iteration is that of another macro.

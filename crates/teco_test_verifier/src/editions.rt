@@ -46,17 +46,14 @@ fn says(alloc: Global, library: &Library, rules: Rules, wanted: &str) -> bool {
     }
 }
 
-// Asserts what both editions say of each row.
-fn expect_rows(rt: &impl Abort, alloc: Global, rows: &[Row]) {
-    for (row, [file, first, second]) in rows.iter().enumerate() {
-        let library = library_of(rt, alloc, file.as_bytes());
-        expect(rt, says(alloc, &library, Rules::First, first), row);
-        expect(rt, says(alloc, &library, Rules::Second, second), row);
-    }
+// Whether both editions say what is wanted of the macro A of a library.
+fn is_said(rt: &impl Abort, alloc: Global, file: &str, first: &str, second: &str) -> bool {
+    let library = library_of(rt, alloc, file.as_bytes());
+    says(alloc, &library, Rules::First, first) && says(alloc, &library, Rules::Second, second)
 }
 
-// Commands of lines fall to the end of a line.
-const LINES: [Row; 7] = [
+const ROWS: [Row; 26] = [
+    // Commands of lines fall to the end of a line.
     [
         "@^UA/J<I> \x1bL.-Z;>/",
         "X9 11",
@@ -79,15 +76,7 @@ const LINES: [Row; 7] = [
          loop 3 held 2*N kept back 0 fore 0 texts -\nend\n",
     ],
     ["@^UA/J<.-Z;LR>/", "X6 7", "X9 8"],
-];
-
-#[test]
-fn lines_fall(rt: HostRuntime) {
-    expect_rows(&rt, rt.alloc(), &LINES);
-}
-
-// Places that were saved begin ranges.
-const SAVED: [Row; 3] = [
+    // Places that were saved begin ranges.
     [
         "@^UA/J<SBEGIN\x1b;5R.UBSEND\x1b;QB,.K>/",
         "X6 25",
@@ -100,15 +89,7 @@ const SAVED: [Row; 3] = [
         "X6 9",
         "TECO-CERT 1\nentry A\nrules 2\nneeds -\ncommands 14\nsize N\nend\n",
     ],
-];
-
-#[test]
-fn saved_places_begin_ranges(rt: HostRuntime) {
-    expect_rows(&rt, rt.alloc(), &SAVED);
-}
-
-// Pages and deletions lessen what is held.
-const PAGES: [Row; 4] = [
+    // Pages and deletions lessen what is held.
     [
         "@^UA/J<.-Z;I# \x1bP>/",
         "X9 11",
@@ -123,15 +104,7 @@ const PAGES: [Row; 4] = [
          loop 2 held N kept back 0 fore 0 texts -\nend\n",
     ],
     ["@^UA/<-1A-32\"E-DI \x1b|1;'>/", "X7 10", "X9 18"],
-];
-
-#[test]
-fn pages_and_deletions_fall(rt: HostRuntime) {
-    expect_rows(&rt, rt.alloc(), &PAGES);
-}
-
-// Codes of characters prove places.
-const CODES: [Row; 3] = [
+    // Codes of characters prove places.
     [
         "@^UA/<0A\"RC|1;'>/",
         "X6 5",
@@ -144,29 +117,15 @@ const CODES: [Row; 3] = [
         "TECO-CERT 1\nentry A\nrules 2\nneeds -\ncommands 9\nsize N\nend\n",
     ],
     ["@^UA/0A\"R2C'/", "X6 5", "X6 5"],
-];
-
-#[test]
-fn codes_prove_places(rt: HostRuntime) {
-    expect_rows(&rt, rt.alloc(), &CODES);
-}
-
-// An inner iteration keeps distances.
-const DISTANCES: [Row; 1] = [[
-    "@^UA/<.-Z;2<Ix\x1b>C>/",
-    "X6 11",
-    "TECO-CERT 1\nentry A\nrules 2\nneeds -\ncommands 15 + 12*N\nsize 2 + 3*N\n\
-         loop 2 held 3*N kept back 0 fore 0 texts -\n\
-         loop 8 held 1 + 3*N kept back 0 fore 1 texts -\nend\n",
-]];
-
-#[test]
-fn distances_are_kept(rt: HostRuntime) {
-    expect_rows(&rt, rt.alloc(), &DISTANCES);
-}
-
-// A digit is known to stand where a number is read.
-const DIGITS: [Row; 4] = [
+    // An inner iteration keeps distances.
+    [
+        "@^UA/<.-Z;2<Ix\x1b>C>/",
+        "X6 11",
+        "TECO-CERT 1\nentry A\nrules 2\nneeds -\ncommands 15 + 12*N\nsize 2 + 3*N\n\
+             loop 2 held 3*N kept back 0 fore 0 texts -\n\
+             loop 8 held 1 + 3*N kept back 0 fore 1 texts -\nend\n",
+    ],
+    // A digit is known to stand where a number is read.
     [
         "@^UA/J0UB<S^ED\x1b;R\\+QBUB>/",
         "X9 18",
@@ -181,15 +140,7 @@ const DIGITS: [Row; 4] = [
          loop 3 held N kept back 0 fore 0 texts -\nend\n",
     ],
     ["@^UA/<-1A\"D\\=|1;'>/", "X9 12", "X9 12"],
-];
-
-#[test]
-fn digits_are_known(rt: HostRuntime) {
-    expect_rows(&rt, rt.alloc(), &DIGITS);
-}
-
-// Pages of N count once, texts of the library by their lengths, and turns at their iteration.
-const WEIGHTS: [Row; 3] = [
+    // Pages of N count once, texts of the library by their lengths, and turns at their iteration.
     [
         "@^UA/<Nfoo\x1b;I!\x1b>/",
         "",
@@ -202,24 +153,20 @@ const WEIGHTS: [Row; 3] = [
         "TECO-CERT 1\nentry A\nrules 2\nneeds -\ncommands 6\nsize 5 + N\nend\n",
     ],
     ["@^UA/Z<GB>Z<Z<Z<Z<Z<V>>>>>/", "X17 15", "X17 14"],
+    // A declared argument goes with both editions.
+    [
+        "!TECO-LIB 2 A 1 10!@^UA/<Ia\x1bL>/",
+        "",
+        "TECO-CERT 2\nentry A\nargument 1 10\nrules 2\nneeds -\ncommands 34\nsize 10 + N\n\
+             loop 2 held 9 + N kept back 0 fore 0 texts -\nend\n",
+    ],
 ];
 
 #[test]
-fn weights_are_less(rt: HostRuntime) {
-    expect_rows(&rt, rt.alloc(), &WEIGHTS);
-}
-
-// A declared argument goes with both editions.
-const DECLARED: [Row; 1] = [[
-    "!TECO-LIB 2 A 1 10!@^UA/<Ia\x1bL>/",
-    "",
-    "TECO-CERT 2\nentry A\nargument 1 10\nrules 2\nneeds -\ncommands 34\nsize 10 + N\n\
-         loop 2 held 9 + N kept back 0 fore 0 texts -\nend\n",
-]];
-
-#[test]
-fn arguments_are_declared(rt: HostRuntime) {
-    expect_rows(&rt, rt.alloc(), &DECLARED);
+fn both_editions_say_what_is_wanted(rt: HostRuntime) {
+    for (row, [file, first, second]) in ROWS.iter().enumerate() {
+        expect(&rt, is_said(&rt, rt.alloc(), file, first, second), row);
+    }
 }
 
 // Markers behind each word, and a pause after each.

@@ -244,12 +244,24 @@ pub fn is_accepted(answer: &Result<Verified<'_>, Refusal>) -> Option<bool> {
     }
 }
 
+// Whether a macro is accepted with this certificate.
+fn is_verified(rt: &impl Abort, alloc: Global, file: &[u8], text: &str) -> bool {
+    let library = library_of(rt, alloc, file);
+    is_certified(alloc, verdict(alloc, &library), text)
+}
+
+// Whether it is accepted by that certificate.
+fn is_checked(rt: &impl Abort, alloc: Global, file: &[u8], text: &str) -> bool {
+    let library = library_of(rt, alloc, file);
+    let answer = checked(rt, alloc, &library, text.as_bytes());
+    is_certified(alloc, answer, text)
+}
+
 #[test]
 fn accepts_with_its_certificate(rt: HostRuntime) {
     for (row, (file, text)) in ACCEPTED.iter().enumerate() {
-        let library = library_of(&rt, rt.alloc(), file);
-        let answer = verdict(rt.alloc(), &library);
-        expect(&rt, is_certified(rt.alloc(), answer, text), row);
+        expect(&rt, is_verified(&rt, rt.alloc(), file, text), row);
+        expect(&rt, is_checked(&rt, rt.alloc(), file, text), row);
     }
 }
 
@@ -259,15 +271,6 @@ fn refuses_at_its_place(rt: HostRuntime) {
         let library = library_of(&rt, rt.alloc(), file);
         let answer = verdict(rt.alloc(), &library);
         expect(&rt, refusal_of(&answer) == Some((*name, *text, *at)), row);
-    }
-}
-
-#[test]
-fn accepts_what_it_certifies(rt: HostRuntime) {
-    for (row, (file, text)) in ACCEPTED.iter().enumerate() {
-        let library = library_of(&rt, rt.alloc(), file);
-        let answer = checked(&rt, rt.alloc(), &library, text.as_bytes());
-        expect(&rt, is_certified(rt.alloc(), answer, text), row);
     }
 }
 
