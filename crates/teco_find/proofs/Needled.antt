@@ -3,18 +3,17 @@ use Rattle.std.proofs.Common.{◌≡◌, ℕ, zero, suc, ◌+◌, ◌-◌, ◌<�
 use Rattle.std.proofs.Math.ListN.{get_or-append}
 use Rattle.std.proofs.Math.Seq.{get_or-append_right}
 use Rattle.std.proofs.lemmas.Bool.{cases_lt, eq-eqb, eqb-true}
-use Rattle.std.proofs.lemmas.List.{get_or-drop, length-drop, take_all, take_rest}
+use Rattle.std.proofs.lemmas.List.{get_or-drop, length-drop, length-map, length-take, take_all, take_rest}
 use Rattle.std.specs.Borrow.{Bor}
 use Rattle.std.specs.Prelude.{IfSome, IsSome, map}
 use Rattle.memchr.specs.Find.{FindsNeedle, Nowhere, NoneBefore, OccursAt}
 use Rattle.teco_model.specs.Match as model
-use Rattle.teco_model.specs.declared.pattern.Class.TheVariants as class
 use Rattle.teco_model.specs.declared.pattern.Item.{Item}
-use Rattle.teco_model.specs.declared.pattern.Item.TheVariants as item
-use Rattle.teco_find.specs.Needles.{Begins, IsNeedle, NoneUpTo, literal}
+use Rattle.teco_find.specs.Needles.{AreLiterals, Begins, IsNeedle, NoneUpTo, literal}
 use Rattle.teco_find.specs.Pieces.{joined}
 use Rattle.teco_find.specs.declared.mark.Mark.TheVariants as mark
 use Rattle.teco_find.proofs.Anchored.{GoesOn, goes_on, marked_front, matched}
+use Rattle.teco_find.proofs.Matches.{here_some}
 
 -- bytes stand at the front of a text
 record Leads (bytes text : List ℕ) : Type 0 where
@@ -97,26 +96,41 @@ module _ (front back needle : List ℕ) (filled : 0 < length needle) where
       let fits = there.fits in
       h (j - at) (omega arith) (omega arith) there
 
+  out_of_back : (at k : ℕ) → length front ≤ at → at ≤ length (front ++ back) → OccursAt (drop (at - length front) back) needle k → OccursAt (front ++ back) needle (at + k)
+  out_of_back at k behind within h = record {
+    fits = omega (arith, length-drop (at - length front) back, length-append front back, h.fits);
+    reads = λ i below.
+        let place : at + k + i - length front ≡ at - length front + (k + i) = omega arith in
+        get_or-append_right front back (at + k + i) 0 (omega arith) ∙ ap (λ n. get_or back n 0) place ∙ sym (get_or-drop (at - length front) back (k + i) 0) ∙ h.reads i below;
+  }
+
   -- the first in the back, and none there
-  pub found_back : (at k : ℕ) → length front ≤ at → at ≤ length (front ++ back) → FindsNeedle (slice_from (at - length front) back) needle 0 (Some k) → NoneBefore (OccursAt (front ++ back) needle) at (length (front ++ back)) (at + k)
+  pub found_back : (at k : ℕ) → length front ≤ at → at ≤ length (front ++ back) → FindsNeedle (slice_from (at - length front) back) needle 0 (Some k) → FindsNeedle (front ++ back) needle at (Some (at + k))
   found_back at k behind within found =
       let h = subst (λ l. FindsNeedle l needle 0 (Some k)) (take_rest back (at - length front)) found in
       let fits = h.1.fits in
       let long = length-drop (at - length front) back in
-      let whole = length-append front back in
-      record {
-        low = omega arith;
-        high = omega arith;
-        before = λ j from below occurs. h.0.before (j - at) (omega arith) (omega arith) (in_back at j behind from occurs);
-      }
+      let whole = length-append front back in (
+        record {
+          low = omega arith;
+          high = omega arith;
+          before = λ j from below occurs. h.0.before (j - at) (omega arith) (omega arith) (in_back at j behind from occurs);
+        },
+        out_of_back at k behind within h.1,
+      )
 
-  pub none_back : (at : ℕ) → length front ≤ at → FindsNeedle (slice_from (at - length front) back) needle 0 None → Nowhere (OccursAt (front ++ back) needle) at (length (front ++ back))
+  pub none_back : (at : ℕ) → length front ≤ at → FindsNeedle (slice_from (at - length front) back) needle 0 None → FindsNeedle (front ++ back) needle at None
   none_back at behind none =
       λ j from below occurs.
       let h = subst (λ l. FindsNeedle l needle 0 None) (take_rest back (at - length front)) none in
       let there = in_back at j behind from occurs in
       let fits = there.fits in
       h (j - at) (omega arith) (omega arith) there
+
+-- where a needle is found first, none stands before
+pub up_to : (needle text : List ℕ) → 0 < length needle → (at : ℕ) (r : Option ℕ) → FindsNeedle text needle at r → NoneUpTo needle text at r
+up_to needle text some at None h = λ j from below. h j from (omega arith)
+up_to needle text some at (Some k) h = record { low = h.0.low; high = (let fits = h.1.fits in omega arith); before = h.0.before }
 
 Nowhere-then : (P : ℕ → Type 0) (i j l : ℕ) → Nowhere P i j → Nowhere P j l → Nowhere P i l
 Nowhere-then P i j l front back k low high = ⊎_elim (λ (below : k < j). front k low below) (λ (from : j ≤ k). back k from high) (cases_lt k j)
@@ -147,3 +161,28 @@ needle_rest items needle text rest is all stands =
 pub needle_rests : (items : List Item) (needle text : List ℕ) → IsNeedle items needle → length items ≤ length needle → (r : Option (Bor (List ℕ) × Bor (List ℕ))) → IfSome r (λ rest. text ≡ needle ++ joined rest) → IfSome r (λ rest. model.match_rest items text ≡ Some (joined rest))
 needle_rests items needle text is all None h = h
 needle_rests items needle text is all (Some rest) h = needle_rest items needle text (joined rest) is all h
+
+-- what bytes that stand at the front of a text are of it
+led : (bytes text : List ℕ) → Leads bytes text → text ≡ bytes ++ drop (length bytes) text
+led [] text h = refl
+led (b ∷ bytes) [] h = absurd (let fits = h.fits in omega arith)
+led (b ∷ bytes) (c ∷ text) h =
+    let first : c ≡ b = h.reads 0 (omega arith) in
+    let fits = h.fits in
+    let later = led bytes text (record { fits = omega arith; reads = λ j within. h.reads (suc j) (omega arith) }) in
+    ap (λ x. x ∷ text) first ∙ ap (λ t. b ∷ t) later
+
+-- where the literals stand that a pattern is, it is matched
+pub literals_here : (items : List Item) (needle text : List ℕ) (at : ℕ) → AreLiterals items needle → OccursAt text needle at → Some (record { start = at; end = at + length needle }) ≡ model.here items text at
+literals_here items needle text at are stands =
+    let fits = stands.fits in
+    let some = are.begin.some in
+    let taken = ap length are.begin.are in
+    let mapped = length-map needle literal in
+    let long = length-take (length needle) items in
+    let behind = length-drop at text in
+    let left = length-drop (length needle) (drop at text) in
+    let is = led needle (drop at text) (record { fits = omega arith; reads = λ j within. get_or-drop at text j 0 ∙ stands.reads j within }) in
+    let rest = needle_rest items needle (drop at text) (drop (length needle) (drop at text)) are.begin are.all is in
+    let end : length text - length (drop (length needle) (drop at text)) ≡ at + length needle = omega arith in
+    rw (here_some items text at (λ none. absurd (omega arith)), rest, end) refl

@@ -1,5 +1,5 @@
 -- Literals that each match of a pattern begins with.
-use Rattle.std.specs.Prelude.{ℕ, ◌≡◌, ◌<◌, List, length, map, take, Option, IsSome, MatchOption}
+use Rattle.std.specs.Prelude.{ℕ, ◌≡◌, ◌<◌, ◌≤◌, List, length, map, take, Option, IsSome, MatchOption}
 use Rattle.memchr.specs.Find.{Nowhere, NoneBefore, OccursAt}
 use Rattle.teco_model.specs.Match.{here}
 use Rattle.teco_model.specs.declared.pattern.Class.TheVariants as class
@@ -20,6 +20,11 @@ pub record IsNeedle (items : List Item) (needle : List ℕ) : Type 0 where
   pub some : 0 < length needle
   pub begins : Begins items needle
   pub are : map literal needle ≡ take (length needle) items
+
+-- a pattern is these literals, and nothing else
+pub record AreLiterals (items : List Item) (needle : List ℕ) : Type 0 where
+  pub begin : IsNeedle items needle
+  pub all : length items ≤ length needle
 
 -- a needle stands nowhere from a place up to a later one, or to the end
 abbrev pub NoneUpTo : List ℕ → List ℕ → ℕ → Option ℕ → Type 0

@@ -1,17 +1,49 @@
 // Searches over a text in two pieces.
-ghost use Rattle.std.specs.Prelude.{◌≡◌, ◌≤◌, ◌<◌, length, option_map, IfSome, Some};
+ghost use Rattle.std.specs.Prelude.{◌≡◌, ◌≤◌, ◌<◌, List, length, option_map, IfSome, Some};
 ghost use Rattle.teco_model.specs.Match as model;
 ghost use Rattle.teco_model.specs.Paging.{sought};
+ghost use Rattle.teco_model.specs.declared.pattern.Item.{Item};
 ghost use Rattle.teco_find.specs.Anchors.{IsLastTried, IsNextTried};
+ghost use Rattle.teco_find.specs.Needles.{AreLiterals};
 ghost use Rattle.teco_find.specs.Pieces.{joined, IsSoughtPart};
 
-use crate::needle::next_start;
+use crate::needle::{Needle, first_behind, next_start};
 use crate::pattern::Pattern;
 use crate::pieces::{Pieces, text_from, text_len};
 use crate::rests::{literals_rest, match_rest};
 use teco_model::{Sought, Span};
 
+// The first match of nothing but literals, from a place behind the gap on.
+#[inline(always)]
+fn literals_behind(needle: &Needle, text: (&[u8], &[u8]), at: usize) -> Option<Span>
+    requires some { 0 < length needle.now }
+    requires behind { length text.0.now ≤ at }
+    requires within { at ≤ length (joined text) }
+    ensures value { (items : List Item) → AreLiterals items needle.now → result
+        ≡ model.first_from items (joined text.entry) at }
+    ensures ordered { IfSome result (λ span. span.start ≤ span.end) }
+    ensures within { IfSome result (λ span. span.end ≤ length (joined text.entry)) }
+{
+    let start = first_behind(needle, text, at)?;
+    Some(Span {
+        start,
+        end: start + needle.needle().len(),
+    })
+}
+
 impl Pattern {
+    // What looks for the pattern, where that is nothing but literals.
+    #[inline(always)]
+    fn literals(&self) -> Option<&Needle>
+        ensures { IfSome result (λ needle. AreLiterals self.now needle.now) }
+    {
+        let needle = self.needle.as_ref()?;
+        if needle.needle().len() < self.items.len() {
+            return None;
+        }
+        Some(needle)
+    }
+
     // The text behind a match at its front, where the pattern is nothing but literals that stand in
     // one piece.
     #[inline(always)]
@@ -20,14 +52,8 @@ impl Pattern {
             ≡ Some (joined rest)) }
         ensures within { IfSome result (λ rest. length (joined rest) ≤ length (joined text.entry)) }
     {
-        let Some(needle) = &self.needle else {
-            return None;
-        };
-        let literals = needle.needle();
-        if literals.len() < self.items.len() {
-            return None;
-        }
-        literals_rest(literals, text)
+        let needle = self.literals()?;
+        literals_rest(needle.needle(), text)
     }
 
     // The text behind a match at its front.
@@ -63,7 +89,21 @@ impl Pattern {
     }
 
     // The first match that starts at a place or behind it.
+    #[inline(always)]
     fn first_from(&self, text: (&[u8], &[u8]), at: usize) -> Option<Span>
+        requires { at ≤ length (joined text) }
+        ensures value { result ≡ model.first_from self.now (joined text.entry) at }
+        ensures ordered { IfSome result (λ span. span.start ≤ span.end) }
+        ensures within { IfSome result (λ span. span.end ≤ length (joined text.entry)) }
+    {
+        match self.literals() {
+            Some(needle) if at >= text.0.len() => literals_behind(needle, text, at),
+            _ => self.first_tried(text, at),
+        }
+    }
+
+    // The first match that starts at a place or behind it, by the places where one may.
+    fn first_tried(&self, text: (&[u8], &[u8]), at: usize) -> Option<Span>
         requires { at ≤ length (joined text) }
         ensures value { result ≡ model.first_from self.now (joined text.entry) at }
         ensures ordered { IfSome result (λ span. span.start ≤ span.end) }

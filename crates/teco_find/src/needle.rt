@@ -1,6 +1,7 @@
 // Literals that each match begins with, looked for as a whole.
 ghost use Rattle.std.specs.Option.{ForSome};
 ghost use Rattle.std.specs.Prelude.{◌≡◌, ◌≤◌, ◌<◌, length, map, take, IfSome, IfOk, IsOk};
+ghost use Rattle.memchr.specs.Find.{FindsNeedle};
 ghost use Rattle.teco_model.specs.declared.pattern.Class.TheVariants as class;
 ghost use Rattle.teco_model.specs.declared.pattern.Item.TheVariants as item;
 ghost use Rattle.teco_find.specs.Needles.{Begins, IsNeedle, NoneUpTo, literal};
@@ -86,10 +87,21 @@ fn next_behind(needle: &Needle, text: Pieces<'_>, at: usize) -> Option<usize>
     requires within { at ≤ length (joined text) }
     ensures { NoneUpTo needle.now (joined text.entry) at result }
 {
-    let (front, back) = text;
-    if at < front.len() {
+    if at < text.0.len() {
         return Some(at);
     }
+    first_behind(needle, text, at)
+}
+
+// Where a needle stands first, from a place behind the gap on.
+#[inline(always)]
+pub(crate) fn first_behind(needle: &Needle, text: Pieces<'_>, at: usize) -> Option<usize>
+    requires some { 0 < length needle.now }
+    requires behind { length text.0.now ≤ at }
+    requires within { at ≤ length (joined text) }
+    ensures { FindsNeedle (joined text.entry) needle.now at result }
+{
+    let (front, back) = text;
     let place = needle.find(&back[at - front.len()..])?;
     Some(at + place)
 }

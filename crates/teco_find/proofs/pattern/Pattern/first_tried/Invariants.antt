@@ -1,7 +1,7 @@
 use Rattle.std.proofs.Common.{◌≡◌, ◌≤◌, ◌-◌, length}
 use Rattle.teco_model.specs.Match.{first_from}
 use Rattle.teco_find.specs.Pieces.{joined}
-use Rattle.teco_find.proofs.pattern.Pattern.first_from.Given as goal
+use Rattle.teco_find.proofs.pattern.Pattern.first_tried.Given as goal
 
 -- no match starts at a place that is passed
 abbrev pub invariant-loop-start : goal.invariant-loop-start

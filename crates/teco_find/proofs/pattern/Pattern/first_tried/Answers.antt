@@ -1,7 +1,7 @@
 use Rattle.std.proofs.Common.{sym, ◌∙◌, arith}
 use Rattle.teco_find.specs.Pieces.{joined}
 use Rattle.teco_find.proofs.Matches.{first_found, first_missed, first_nowhere}
-use Rattle.teco_find.proofs.pattern.Pattern.first_from.Goals as goal
+use Rattle.teco_find.proofs.pattern.Pattern.first_tried.Goals as goal
 
 pub returns-in-Some-here-clause-value : goal.returns-in-Some-here-clause-value
 returns-in-Some-here-clause-value c = first_found c.args.self.now (joined c.args.text) c.loop-start.from c.in-Some.start c.in-Some-here.span c.in-Some.ensures c.in-Some-here.ensures.value ∙ c.loop-start.invariant.same
