@@ -19,5 +19,5 @@ mod typing;
 
 pub use editor::Editor;
 pub use query::Reply;
-pub use searching::{Finding, look, search};
+pub use searching::{Finding, Wanted, look, search};
 pub use stuck::Stuck;

@@ -24,6 +24,13 @@ pub enum Finding {
     Missed,
 }
 
+/// What `N` and `FN` look for: a text, where an empty one means the last, and how many matches.
+#[derive(Clone, Copy)]
+pub struct Wanted<'a> {
+    pub text: &'a [u8],
+    pub matches: u32,
+}
+
 // How many matches are sought, and in which direction; never 0.
 fn count(taken: Taken) -> Result<i32, Code>
     ensures value { result ≡ model.count_of taken.first taken.value }
@@ -141,28 +148,32 @@ pub fn search<T: TextStore>(
     }
 }
 
-/// `N` and `FN` look for the last of `n` matches from the pointer on, by a search text, where an
-/// empty one means the last, and settle there as `S` and `FS` do. Where the buffer has fewer it
-/// says how many more are wanted, and changes nothing.
+/// `N` and `FN` look for the last of the matches that are wanted, from the pointer on, and settle
+/// there as `S` and `FS` do. Where the buffer has fewer it says how many more are wanted, and
+/// changes nothing.
 pub fn look<T: TextStore>(
     editor: &mut Editor<T>,
     last: &mut LastPattern,
     search: Search,
     element: &Element<'_>,
-    text: &[u8],
-    n: u32,
+    wanted: &Wanted<'_>,
 ) -> Result<Option<u32>, Stuck>
-    requires { 1 ≤ n }
-    ensures looks { Looks editor.old editor.new (look_here search (seen element.now) n
-        (record editor.old { search_text = model.search_text_of text.now editor.old })) result }
-    ensures some { IfOk result (λ more. IfSome more (λ wanted. 1 ≤ wanted)) }
+    requires { 1 ≤ wanted.now.matches }
+    ensures looks { Looks editor.old editor.new (look_here search (seen element.now)
+        wanted.now.matches
+        (record editor.old { search_text = model.search_text_of wanted.now.text.now editor.old }))
+        result }
+    ensures some { IfOk result (λ more. IfSome more (λ n. 1 ≤ n)) }
 {
-    if let Err(fault) = read_pattern(last, editor, text) {
+    if let Err(fault) = read_pattern(last, editor, wanted.text) {
         return Err(stuck(fault));
     }
-    match last.pattern().seek(editor.text(), editor.dot(), n) {
+    match last
+        .pattern()
+        .seek(editor.text(), editor.dot(), wanted.matches)
+    {
         Sought::Last(found) => {
-            settle(editor, search, element, text, found)?;
+            settle(editor, search, element, wanted.text, found)?;
             Ok(None)
         }
         Sought::Wanted(more) => Ok(Some(more)),

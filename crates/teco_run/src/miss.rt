@@ -36,8 +36,9 @@ fn is_leave(kind: Option<Kind>) -> bool
     matches!(kind, Some(Kind::Flow(Flow::Leave)))
 }
 
-// Whether a search counts as having a colon.
-fn has_colon(element: &Element<'_>, frames: &Frames<'_>) -> bool
+/// Whether a search counts as having a colon.
+#[inline(always)]
+pub fn has_colon(element: &Element<'_>, frames: &Frames<'_>) -> bool
     requires { IsRead element.now frames.now }
     ensures { result ≡ model.has_colon (seen element.now) frames.now.running }
 {

@@ -5,7 +5,7 @@ ghost use Rattle.std.specs.Prelude.{◌≤◌};
 use std::alloc::Global;
 use std::process::Abort;
 use teco_base::Code;
-use teco_editor::{Editor, Finding, Stuck, look, search};
+use teco_editor::{Editor, Finding, Stuck, Wanted, look, search};
 use teco_find::LastPattern;
 use teco_lex::element;
 use teco_model::kind::Search;
@@ -162,8 +162,12 @@ fn look_twice(
 ) -> Result<Option<u32>, Stuck>
     requires { 1 ≤ n }
 {
-    match look(editor, last, kind, element, element.text, n) {
-        Err(Stuck::Memory) => look(editor, last, kind, element, element.text, n),
+    let wanted = Wanted {
+        text: element.text,
+        matches: n,
+    };
+    match look(editor, last, kind, element, &wanted) {
+        Err(Stuck::Memory) => look(editor, last, kind, element, &wanted),
         answer => answer,
     }
 }
