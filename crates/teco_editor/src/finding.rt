@@ -88,6 +88,7 @@ impl<T: TextStore> Editor<T> {
 
     /// Puts a text in the place of a match, and goes behind it; the search text is kept as the last
     /// one.
+    #[inline(always)]
     pub fn replace(&mut self, found: Span, new: &[u8], text: &[u8]) -> Result<(), Stuck>
         requires { IsPart self.old.text found.start found.end }
         ensures { Replaces self.old self.new found new.now text.now result }

@@ -71,6 +71,7 @@ fn find(pattern: &Pattern, text: (&[u8], &[u8]), dot: usize, colons: u8, n: i32)
 }
 
 // Reads the pattern that a search looks for: an empty text means the last one.
+#[inline(always)]
 fn read_pattern<T: TextStore>(
     last: &mut LastPattern,
     editor: &Editor<T>,

@@ -103,6 +103,7 @@ impl Pattern {
     }
 
     // The first match that starts at a place or behind it, by the places where one may.
+    #[inline(never)]
     fn first_tried(&self, text: (&[u8], &[u8]), at: usize) -> Option<Span>
         requires { at ≤ length (joined text) }
         ensures value { result ≡ model.first_from self.now (joined text.entry) at }
@@ -164,6 +165,7 @@ impl Pattern {
 
     /// The `n`th match from a place on: the first starts at the place or behind it, each next one
     /// at the end of the last or behind it.
+    #[inline(always)]
     #[tactic(auto, using(crate::proofs::Matches::turns))]
     pub fn forward(&self, text: (&[u8], &[u8]), from: usize, n: u32) -> Option<Span>
         requires from { from ≤ length (joined text) }

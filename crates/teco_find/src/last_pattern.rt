@@ -57,6 +57,7 @@ impl LastPattern {
     }
 
     // Is it known to be what a text says in a search mode?
+    #[inline(always)]
     fn is_of(&self, text: &[u8], regs: &Regs, exact: bool) -> bool
         ensures { IsTrue result → model.pattern regs.now exact text.now ≡ Ok self.now }
     {
@@ -68,6 +69,7 @@ impl LastPattern {
 
     /// The pattern becomes the one that a search text says, as [`Pattern::read`] reads it. A
     /// refusal leaves it.
+    #[inline(always)]
     pub fn read(&mut self, text: &[u8], regs: &Regs, exact: bool) -> Result<(), FindFault>
         ensures ok { OnOk result (model.pattern regs.now exact text.now ≡ Ok self.new) }
         ensures err { IfErr result (λ fault. Reads (Err fault)
@@ -78,6 +80,18 @@ impl LastPattern {
         if self.is_of(text, regs, exact) {
             return Ok(());
         }
+        self.read_anew(text, regs, exact)
+    }
+
+    // The pattern becomes the one that a search text says.
+    #[inline(never)]
+    fn read_anew(&mut self, text: &[u8], regs: &Regs, exact: bool) -> Result<(), FindFault>
+        ensures ok { OnOk result (model.pattern regs.now exact text.now ≡ Ok self.new) }
+        ensures err { IfErr result (λ fault. Reads (Err fault)
+            (model.pattern regs.now exact text.now)) }
+        ensures kept { OnErr result (self.new ≡ self.old) }
+        ensures empty { length text.now ≡ 0 → IsOk result }
+    {
         let pattern = match Pattern::read(*self.text.allocator(), text, regs, exact) {
             Ok(pattern) => pattern,
             Err(fault) => return Err(fault),

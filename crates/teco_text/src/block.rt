@@ -87,8 +87,8 @@ impl Block {
         spare
     }
 
-    // Makes room for a text of `n` characters. Where there is less, it is doubled, up to `LIMIT`,
-    // or becomes `n` where that is more or the double is refused.
+    // Makes room for a text of `n` characters.
+    #[inline(always)]
     pub(crate) fn reserve(&mut self, n: usize) -> Result<(), AllocError>
         ensures before { self.new.before ≡ self.old.before }
         ensures behind { self.new.behind ≡ self.old.behind }
@@ -96,11 +96,22 @@ impl Block {
         ensures err { OnErr result (self.old.room < n) }
         ensures grows { self.old.room ≤ self.new.room }
     {
-        let room = self.bytes.capacity();
-        if n <= room {
+        if n <= self.bytes.capacity() {
             return Ok(());
         }
-        let doubled = room.saturating_mul(2).min(LIMIT);
+        self.grow(n)
+    }
+
+    // Doubles the room, up to `LIMIT`, or makes it `n` where that is more or the double is refused.
+    #[inline(never)]
+    fn grow(&mut self, n: usize) -> Result<(), AllocError>
+        ensures before { self.new.before ≡ self.old.before }
+        ensures behind { self.new.behind ≡ self.old.behind }
+        ensures ok { OnOk result (n ≤ self.new.room) }
+        ensures err { OnErr result (self.old.room < n) }
+        ensures grows { self.old.room ≤ self.new.room }
+    {
+        let doubled = self.bytes.capacity().saturating_mul(2).min(LIMIT);
         if n < doubled && self.grow_to(doubled).is_ok() {
             return Ok(());
         }
