@@ -24,7 +24,7 @@ use crate::history::History;
 use crate::host::Host;
 use std::alloc::{AllocError, Global};
 use std::fs::{Files, OpenFile};
-use std::io::Write;
+use std::io::{Read, Write};
 use std::time::Clock;
 use teco_base::LIMIT;
 
@@ -111,27 +111,18 @@ impl<R: Files + Clock + Drop> FileHost<R> {
         Some(length.saturating_sub(self.given as u64))
     }
 
-    // The open input could not be read.
-    fn cannot_read<T>(&mut self, reason: Reason) -> Result<T, Failed>
+    // The input or the output that was opened last could not be used.
+    fn cannot_use<T>(&mut self, purpose: Purpose, reason: Reason) -> Result<T, Failed>
         ensures failed { IsErr result }
         ensures counted { self.new.failures.value ≡ suc self.old.failures.value }
         ensures given { self.new.given ≡ self.old.given }
         ensures history { self.new.history ≡ self.old.history }
     {
-        let trouble = Trouble::of(self.alloc, Purpose::ReadInput, &self.input_name, reason);
-        self.trouble = Some(trouble);
-        self.failures.failed()
-    }
-
-    // The output could not be used.
-    fn cannot_write<T>(&mut self, purpose: Purpose, reason: Reason) -> Result<T, Failed>
-        ensures failed { IsErr result }
-        ensures counted { self.new.failures.value ≡ suc self.old.failures.value }
-        ensures given { self.new.given ≡ self.old.given }
-        ensures history { self.new.history ≡ self.old.history }
-    {
-        let trouble = Trouble::of(self.alloc, purpose, &self.output_name, reason);
-        self.trouble = Some(trouble);
+        let name = match purpose {
+            Purpose::OpenInput | Purpose::ReadInput => &self.input_name,
+            _ => &self.output_name,
+        };
+        self.trouble = Some(Trouble::of(self.alloc, purpose, name, reason));
         self.failures.failed()
     }
 
@@ -201,25 +192,13 @@ impl<R: Files + Clock + Drop> Host for FileHost<R> {
     }
 
     fn read(&mut self, buf: &mut [u8]) -> Result<usize, Failed> {
-        let Some(file) = &mut self.input else {
-            return self.cannot_read(Reason::NotOpen);
-        };
-        if self.given == LIMIT {
-            self.is_past = self.is_past || file.is_more();
-            if self.is_past {
-                return self.cannot_read(Reason::Long);
-            }
-            self.history.gave(buf, 0);
-            return Ok(0);
-        }
-        let room = buf.len().min(LIMIT - self.given);
-        match file.read(&mut buf[..room]) {
+        match read_some(&mut self.input, &mut self.is_past, LIMIT - self.given, buf) {
             Ok(n) => {
                 self.given += n;
                 self.history.gave(buf, n);
                 Ok(n)
             }
-            Err(error) => self.cannot_read(Reason::System(error)),
+            Err(reason) => self.cannot_use(Purpose::ReadInput, reason),
         }
     }
 
@@ -244,7 +223,7 @@ impl<R: Files + Clock + Drop> Host for FileHost<R> {
                 self.history.wrote(bytes, n);
                 Ok(n)
             }
-            Err(reason) => self.cannot_write(Purpose::WriteOutput, reason),
+            Err(reason) => self.cannot_use(Purpose::WriteOutput, reason),
         }
     }
 
@@ -258,7 +237,7 @@ impl<R: Files + Clock + Drop> Host for FileHost<R> {
             }
             Err(reason) => {
                 self.history.dropped();
-                self.cannot_write(Purpose::CloseOutput, reason)
+                self.cannot_use(Purpose::CloseOutput, reason)
             }
         }
     }
@@ -270,9 +249,31 @@ impl<R: Files + Clock + Drop> Host for FileHost<R> {
         };
         match output.abandon(&self.rt) {
             Ok(()) => Ok(()),
-            Err(error) => self.cannot_write(Purpose::DropOutput, Reason::System(error)),
+            Err(error) => self.cannot_use(Purpose::DropOutput, Reason::System(error)),
         }
     }
+}
+
+// Reads some bytes of the input that is open, but no more than it may still give. One that may give
+// none must be at its end, unless a byte came behind that before.
+fn read_some<F: OpenFile + Read + Drop>(
+    input: &mut Option<Source<F>>,
+    is_past: &mut bool,
+    left: usize,
+    buf: &mut [u8],
+) -> Result<usize, Reason>
+    ensures bound { IfOk result (λ n. n ≤ length buf.new) }
+    ensures left { IfOk result (λ n. n ≤ left) }
+{
+    let Some(file) = input else {
+        return Err(Reason::NotOpen);
+    };
+    if left == 0 {
+        *is_past = *is_past || file.is_more();
+        return if *is_past { Err(Reason::Long) } else { Ok(0) };
+    }
+    let room = buf.len().min(left);
+    Ok(file.read(&mut buf[..room])?)
 }
 
 // Writes some bytes to the output that is open.

@@ -1,9 +1,8 @@
 // Names that lead to files that a process has open.
-use super::target::folder_of;
+use super::target::{entry_of, folder_of};
 use super::trouble::Reason;
 use std::alloc::Global;
 use std::fs::Files;
-use std::{fs, io};
 
 // How many links the system follows before it gives up.
 const LINKS: usize = 40;
@@ -13,7 +12,7 @@ const LINKS: usize = 40;
 pub fn leads_to_open_file<R: Files>(rt: &R, alloc: Global, name: &str) -> Result<bool, Reason> {
     let mut path = String::from_str(alloc, name)?;
     for _ in 0..LINKS {
-        if is_open_files(rt.canonicalize(alloc, folder_of(&path))?.as_str()) {
+        if is_among_open_files(rt, alloc, &path)? {
             return Ok(true);
         }
         match next_of(rt, alloc, &path)? {
@@ -24,25 +23,29 @@ pub fn leads_to_open_file<R: Files>(rt: &R, alloc: Global, name: &str) -> Result
     Err(Reason::NoPlace)
 }
 
-// Does the system keep the links to a process's open files in this folder?
+// Is a name in a folder where the system keeps the links to a process's open files?
+fn is_among_open_files<R: Files>(rt: &R, alloc: Global, path: &str) -> Result<bool, Reason> {
+    let folder = rt.canonicalize(alloc, folder_of(path))?;
+    Ok(is_open_files(folder.as_str()))
+}
+
 fn is_open_files(folder: &str) -> bool {
     folder.starts_with("/proc/") && folder.ends_with("/fd")
 }
 
 // Where a link leads, or none where the path is no link.
 fn next_of<R: Files>(rt: &R, alloc: Global, path: &str) -> Result<Option<String>, Reason> {
-    match fs::symlink_metadata(rt, path) {
-        Ok(metadata) if metadata.is_symlink() => {}
-        Ok(_) => return Ok(None),
-        Err(e) if e.kind() == io::ErrorKind::NotFound => return Ok(None),
-        Err(error) => return Err(Reason::System(error)),
+    match entry_of(rt, path)? {
+        Some(metadata) if metadata.is_symlink() => Ok(Some(led_to(rt, alloc, path)?)),
+        _ => Ok(None),
     }
-    let mut next = String::new(alloc);
+}
+
+// The path that a link leads to.
+fn led_to<R: Files>(rt: &R, alloc: Global, path: &str) -> Result<String, Reason> {
     let link = rt.read_link(alloc, path)?.into_string();
-    if !link.starts_with('/') {
-        next.push_str(folder_of(path))?;
-        next.push_str("/")?;
+    if link.starts_with('/') {
+        return Ok(link);
     }
-    next.push_str(&link)?;
-    Ok(Some(next))
+    Ok(format!(in alloc; "{}/{link}", folder_of(path))?)
 }

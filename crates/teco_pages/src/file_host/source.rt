@@ -6,7 +6,7 @@ ghost use Rattle.std.specs.Io.KnownBytes.{ReadConsumes};
 use super::descriptor::above_standard;
 use super::trouble::Reason;
 use std::alloc::Global;
-use std::fs::{Files, OpenFile};
+use std::fs::{Files, Metadata, OpenFile};
 use std::io::{BufReader, Read};
 use std::{fs, io, str};
 
@@ -30,18 +30,12 @@ impl<F: OpenFile + Read + Drop> Source<F> {
         ensures none { IfOk result (λ s. reader_buffer s.reader ≡ []) }
     {
         let file = above_standard(fs::open(rt, str::from_utf8(name)?)?)?;
-        let metadata = file.metadata()?;
-        if metadata.is_dir() {
-            return Err(Reason::Folder);
-        }
-        let room = room_ahead(metadata.len());
-        match BufReader::with_capacity(alloc, room, file) {
-            Ok(reader) => Ok(Source {
-                reader,
-                length: metadata.is_file().then_some(metadata.len()),
-            }),
-            Err(_) => Err(Reason::Memory),
-        }
+        let metadata = metadata_of(&file)?;
+        let reader = BufReader::with_capacity(alloc, room_ahead(metadata.len()), file)?;
+        Ok(Source {
+            reader,
+            length: metadata.is_file().then_some(metadata.len()),
+        })
     }
 
     /// How many bytes the file had when it was opened, where it is a regular one.
@@ -68,6 +62,15 @@ impl<F: OpenFile + Read + Drop> Source<F> {
             Err(_) => true,
         }
     }
+}
+
+// What the system says of a file that is no folder.
+fn metadata_of<F: OpenFile>(file: &F) -> Result<Metadata, Reason> {
+    let metadata = file.metadata()?;
+    if metadata.is_dir() {
+        return Err(Reason::Folder);
+    }
+    Ok(metadata)
 }
 
 // How many bytes are read ahead of a file of this length. A length of 0 tells nothing: pipes,

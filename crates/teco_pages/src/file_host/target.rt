@@ -17,13 +17,21 @@ impl Target {
     /// that file's; what exists and is no regular file is refused, and what leads to a file that a
     /// process has open.
     pub fn of<R: Files>(rt: &R, alloc: Global, name: &str) -> Result<Target, Reason> {
-        let path = match fs::symlink_metadata(rt, name) {
-            Ok(_) if leads_to_open_file(rt, alloc, name)? => return Err(Reason::InUse),
-            Ok(metadata) if metadata.is_symlink() => rt.canonicalize(alloc, name)?.into_string(),
-            Ok(_) => String::from_str(alloc, name)?,
-            Err(e) if e.kind() == io::ErrorKind::NotFound => return Target::new(alloc, name),
-            Err(error) => return Err(Reason::System(error)),
+        let Some(entry) = entry_of(rt, name)? else {
+            return Target::new(alloc, name);
         };
+        if leads_to_open_file(rt, alloc, name)? {
+            return Err(Reason::InUse);
+        }
+        if entry.is_symlink() {
+            Target::existing(rt, rt.canonicalize(alloc, name)?.into_string())
+        } else {
+            Target::existing(rt, String::from_str(alloc, name)?)
+        }
+    }
+
+    // The file at a path, which is no link.
+    fn existing<R: Files>(rt: &R, path: String) -> Result<Target, Reason> {
         let metadata = fs::metadata(rt, &path)?;
         if !metadata.is_file() {
             return Err(Reason::NotRegular);
@@ -43,6 +51,15 @@ impl Target {
             path: String::from_str(alloc, name)?,
             replaced: None,
         })
+    }
+}
+
+/// What stands under a name itself, be it a link, if there is something.
+pub fn entry_of<R: Files>(rt: &R, name: &str) -> io::Result<Option<Metadata>> {
+    match fs::symlink_metadata(rt, name) {
+        Ok(metadata) => Ok(Some(metadata)),
+        Err(e) if e.kind() == io::ErrorKind::NotFound => Ok(None),
+        Err(error) => Err(error),
     }
 }
 

@@ -75,15 +75,11 @@ impl<F: OpenFile + Write + Drop> Unfinished<F> {
             let _removed = fs::remove_file(rt, &beside);
             return Err(Reason::Memory);
         };
-        let permissions = target
-            .replaced
-            .as_ref()
-            .map(|replaced| inherit_owner(rt, &beside, replaced));
         Ok(Unfinished {
             writer,
+            permissions: permissions_for(rt, &beside, &target),
             beside,
             target: target.path,
-            permissions,
             room: size_limit(rt),
         })
     }
@@ -128,16 +124,14 @@ impl<F: OpenFile + Write + Drop> Unfinished<F> {
         alloc: Global,
         closing: Closing,
     ) -> Result<Closed, Reason> {
-        match self.settle(rt, alloc, closing) {
-            Ok(Settled::Moved) => Ok(Closed::Changed),
-            Ok(Settled::Left(closed)) => {
-                self.abandon(rt)?;
-                Ok(closed)
-            }
-            Err(reason) => {
-                self.abandon(rt)?;
-                Err(reason)
-            }
+        let settled = self.settle(rt, alloc, closing);
+        if let Ok(Settled::Moved) = settled {
+            return Ok(Closed::Changed);
+        }
+        self.abandon(rt)?;
+        match settled? {
+            Settled::Moved => Ok(Closed::Changed),
+            Settled::Left(closed) => Ok(closed),
         }
     }
 
@@ -155,17 +149,27 @@ impl<F: OpenFile + Write + Drop> Unfinished<F> {
         let written = self.writer.flush();
         self.give_permissions();
         written?;
-        if closing != Closing::Replaces {
-            let is_same = is_same_file(rt, alloc, &self.beside, &self.target)?;
-            if is_same {
-                return Ok(Settled::Left(Closed::Same));
-            }
-            if closing == Closing::Compares {
-                return Ok(Settled::Left(Closed::Changed));
-            }
+        if let Some(closed) = self.compared(rt, alloc, closing)? {
+            return Ok(Settled::Left(closed));
         }
         self.move_over(rt)?;
         Ok(Settled::Moved)
+    }
+
+    // What becomes of it where it is compared with its target and then left.
+    fn compared<R: Files>(
+        &self,
+        rt: &R,
+        alloc: Global,
+        closing: Closing,
+    ) -> Result<Option<Closed>, Reason> {
+        if closing == Closing::Replaces {
+            return Ok(None);
+        }
+        if is_same_file(rt, alloc, &self.beside, &self.target)? {
+            return Ok(Some(Closed::Same));
+        }
+        Ok((closing == Closing::Compares).then_some(Closed::Changed))
     }
 
     // Moves it over its target.
@@ -225,6 +229,11 @@ fn is_same_file<R: Files>(rt: &R, alloc: Global, one: &str, other: &str) -> Resu
     }
     let mut one = BufReader::new(alloc, fs::open(rt, one)?)?;
     let mut other = BufReader::new(alloc, fs::open(rt, other)?)?;
+    Ok(have_same_bytes(&mut one, &mut other)?)
+}
+
+// Do two readers give the same bytes?
+fn have_same_bytes<R: BufRead>(one: &mut R, other: &mut R) -> io::Result<bool> {
     for _ in 0..u64::MAX {
         let used = match same_front(one.fill_buf()?, other.fill_buf()?) {
             None => return Ok(false),
@@ -266,13 +275,20 @@ fn make_beside<R: Files + Clock>(
     let first = stamp(rt);
     for n in 0..TRIES {
         let beside = name_beside(alloc, &target.path, first.wrapping_add(n))?;
-        match options.open(rt, &beside) {
-            Ok(file) => return Ok((above_standard(file)?, beside)),
-            Err(e) if e.kind() == io::ErrorKind::AlreadyExists => {}
-            Err(error) => return Err(Reason::System(error)),
+        if let Some(file) = open_free(rt, &options, &beside)? {
+            return Ok((file, beside));
         }
     }
     Err(Reason::NoPlace)
+}
+
+// The new file of a name, unless some file has it.
+fn open_free<R: Files>(rt: &R, options: &OpenOptions, name: &str) -> io::Result<Option<R::File>> {
+    match options.open(rt, name) {
+        Ok(file) => Ok(Some(above_standard(file)?)),
+        Err(e) if e.kind() == io::ErrorKind::AlreadyExists => Ok(None),
+        Err(error) => Err(error),
+    }
 }
 
 // A number that was hardly given before: the time of day.
@@ -285,10 +301,16 @@ fn stamp<R: Clock>(rt: &R) -> u64 {
 
 // The name of a number in the folder of a path.
 fn name_beside(alloc: Global, path: &str, n: u64) -> Result<String, Reason> {
-    match path.rsplit_once('/') {
-        Some((folder, _)) => Ok(format!(in alloc; "{folder}/.somleut-{n:x}")?),
-        None => Ok(format!(in alloc; ".somleut-{n:x}")?),
-    }
+    let (folder, slash) = match path.rsplit_once('/') {
+        Some((folder, _)) => (folder, "/"),
+        None => ("", ""),
+    };
+    Ok(format!(in alloc; "{folder}{slash}.somleut-{n:x}")?)
+}
+
+// The permissions that the file at a path is given of the one that its target replaces.
+fn permissions_for<R: Files>(rt: &R, path: &str, target: &Target) -> Option<Permissions> {
+    Some(inherit_owner(rt, path, target.replaced.as_ref()?))
 }
 
 // Makes the names in the folder of a path last.
