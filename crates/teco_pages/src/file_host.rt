@@ -5,6 +5,7 @@ ghost use Rattle.teco_pages.specs.Kept.{output_contents};
 ghost use Rattle.teco_base.specs.declared.TheConstants.{LIMIT};
 ghost use Rattle.std.specs.Io.KnownBytes.{WriteAppends};
 
+mod calls;
 mod descriptor;
 mod inheritance;
 mod links;
@@ -14,15 +15,14 @@ mod target;
 mod trouble;
 mod unfinished;
 
+use self::calls::Calls;
 use self::source::Source;
 pub use self::trouble::{Purpose, Reason, Trouble};
 use self::unfinished::Unfinished;
 pub use self::unfinished::{Closed, Closing};
-use crate::count::Count;
 use crate::fault::Failed;
-use crate::history::History;
 use crate::host::Host;
-use std::alloc::{AllocError, Global};
+use std::alloc::Global;
 use std::fs::{Files, OpenFile};
 use std::io::{Read, Write};
 use std::time::Clock;
@@ -56,17 +56,10 @@ pub struct FileHost<R: Files + Clock + Drop> {
     input: Option<Source<R::File>>,
     // how many bytes of the input were read
     given: usize,
-    // a byte came behind the first `LIMIT` of the input
-    is_past: bool,
     output: Option<Unfinished<R::File>>,
-    // the names that were opened last
-    input_name: Vec<u8>,
-    output_name: Vec<u8>,
-    trouble: Option<Trouble>,
     closing: Closing,
     closed: Option<Closed>,
-    failures: Count,
-    history: History,
+    calls: Calls,
     ghost within: { given ≤ LIMIT },
 }
 
@@ -78,15 +71,10 @@ impl<R: Files + Clock + Drop> FileHost<R> {
             alloc,
             input: None,
             given: 0,
-            is_past: false,
             output: None,
-            input_name: Vec::new(alloc),
-            output_name: Vec::new(alloc),
-            trouble: None,
             closing: Closing::Replaces,
             closed: None,
-            failures: Count::new(),
-            history: History::new(),
+            calls: Calls::new(alloc),
         }
     }
 
@@ -102,48 +90,13 @@ impl<R: Files + Clock + Drop> FileHost<R> {
 
     /// What could not be done in the last call that failed.
     pub fn trouble(&self) -> Option<&Trouble> {
-        self.trouble.as_ref()
+        self.calls.trouble.as_ref()
     }
 
     /// How many bytes of the open input were not given yet, where it is a regular file.
     pub fn left_of_input(&self) -> Option<u64> {
         let length = self.input.as_ref()?.length()?;
         Some(length.saturating_sub(self.given as u64))
-    }
-
-    // The input or the output that was opened last could not be used.
-    fn cannot_use<T>(&mut self, purpose: Purpose, reason: Reason) -> Result<T, Failed>
-        ensures failed { IsErr result }
-        ensures counted { self.new.failures.value ≡ suc self.old.failures.value }
-        ensures given { self.new.given ≡ self.old.given }
-        ensures history { self.new.history ≡ self.old.history }
-    {
-        let name = match purpose {
-            Purpose::OpenInput | Purpose::ReadInput => &self.input_name,
-            _ => &self.output_name,
-        };
-        self.trouble = Some(Trouble::of(self.alloc, purpose, name, reason));
-        self.failures.failed()
-    }
-
-    // A file could not be opened.
-    fn cannot_open<T>(&mut self, purpose: Purpose, name: &[u8], reason: Reason) -> Result<T, Failed>
-        ensures failed { IsErr result }
-        ensures counted { self.new.failures.value ≡ suc self.old.failures.value }
-        ensures given { self.new.given ≡ self.old.given }
-        ensures history { self.new.history ≡ self.old.history }
-    {
-        let trouble = Trouble::of(self.alloc, purpose, name, reason);
-        self.trouble = Some(trouble);
-        self.failures.failed()
-    }
-}
-
-// A name for messages: empty where memory is refused.
-fn kept_name(alloc: Global, name: &[u8]) -> Vec<u8> {
-    match name.to_vec(alloc) {
-        Ok(name) => name,
-        Err(AllocError) => Vec::new(alloc),
     }
 }
 
@@ -154,26 +107,19 @@ impl<R: Files + Clock + Drop> Drop for FileHost<R> {
             alloc: _,
             input: _,
             given: _,
-            is_past: _,
             output,
-            input_name: _,
-            output_name: _,
-            trouble: _,
             closing: _,
             closed: _,
-            failures: _,
-            history: _,
+            calls: _,
         } = self;
-        if let Some(output) = output {
-            let _removed = output.abandon(&rt);
-        }
+        let _removed = abandon(&rt, output);
     }
 }
 
 impl<R: Files + Clock + Drop> Host for FileHost<R> {
-    ghost files = { λ h. Notes h.history.events };
+    ghost files = { λ h. Notes h.calls.history.events };
 
-    ghost failures = { λ h. h.failures.value };
+    ghost failures = { λ h. h.calls.failures.value };
 
     ghost given = { λ h. h.given };
 
@@ -181,49 +127,42 @@ impl<R: Files + Clock + Drop> Host for FileHost<R> {
         match Source::open(&self.rt, self.alloc, name) {
             Ok(file) => {
                 self.input = Some(file);
-                self.input_name = kept_name(self.alloc, name);
                 self.given = 0;
-                self.is_past = false;
-                self.history.opened_input(name);
+                self.calls.opened_input(name);
                 Ok(())
             }
-            Err(reason) => self.cannot_open(Purpose::OpenInput, name, reason),
+            Err(reason) => self.calls.cannot_open(Purpose::OpenInput, name, reason),
         }
     }
 
     fn read(&mut self, buf: &mut [u8]) -> Result<usize, Failed> {
-        match read_some(&mut self.input, &mut self.is_past, LIMIT - self.given, buf) {
+        match read_some(&mut self.input, LIMIT - self.given, buf) {
             Ok(n) => {
                 self.given += n;
-                self.history.gave(buf, n);
+                self.calls.history.gave(buf, n);
                 Ok(n)
             }
-            Err(reason) => self.cannot_use(Purpose::ReadInput, reason),
+            Err(reason) => self.calls.cannot_use(Purpose::ReadInput, reason),
         }
     }
 
     fn open_out(&mut self, name: &[u8]) -> Result<(), Failed> {
-        if self.output.is_some() {
-            return self.cannot_open(Purpose::OpenOutput, name, Reason::NotOpen);
-        }
-        match Unfinished::begin(&self.rt, self.alloc, name) {
-            Ok(output) => {
-                self.output = Some(output);
-                self.output_name = kept_name(self.alloc, name);
-                self.history.opened_output(name);
+        match begin(&self.rt, self.alloc, &mut self.output, name) {
+            Ok(()) => {
+                self.calls.opened_output(name);
                 Ok(())
             }
-            Err(reason) => self.cannot_open(Purpose::OpenOutput, name, reason),
+            Err(reason) => self.calls.cannot_open(Purpose::OpenOutput, name, reason),
         }
     }
 
     fn write(&mut self, bytes: &[u8]) -> Result<usize, Failed> {
         match write_some(&mut self.output, bytes) {
             Ok(n) => {
-                self.history.wrote(bytes, n);
+                self.calls.history.wrote(bytes, n);
                 Ok(n)
             }
-            Err(reason) => self.cannot_use(Purpose::WriteOutput, reason),
+            Err(reason) => self.calls.cannot_use(Purpose::WriteOutput, reason),
         }
     }
 
@@ -232,33 +171,29 @@ impl<R: Files + Clock + Drop> Host for FileHost<R> {
         match close(&self.rt, self.alloc, output, self.closing) {
             Ok(closed) => {
                 self.closed = Some(closed);
-                self.history.closed();
+                self.calls.history.closed();
                 Ok(())
             }
             Err(reason) => {
-                self.history.dropped();
-                self.cannot_use(Purpose::CloseOutput, reason)
+                self.calls.history.dropped();
+                self.calls.cannot_use(Purpose::CloseOutput, reason)
             }
         }
     }
 
     fn drop_out(&mut self) -> Result<(), Failed> {
-        self.history.dropped();
-        let Some(output) = self.output.take() else {
-            return Ok(());
-        };
-        match output.abandon(&self.rt) {
+        self.calls.history.dropped();
+        match abandon(&self.rt, self.output.take()) {
             Ok(()) => Ok(()),
-            Err(error) => self.cannot_use(Purpose::DropOutput, Reason::System(error)),
+            Err(reason) => self.calls.cannot_use(Purpose::DropOutput, reason),
         }
     }
 }
 
-// Reads some bytes of the input that is open, but no more than it may still give. One that may give
-// none must be at its end, unless a byte came behind that before.
+// Reads some bytes of the input that is open, but no more than are left of what it may give. Where
+// none are it must be at its end.
 fn read_some<F: OpenFile + Read + Drop>(
     input: &mut Option<Source<F>>,
-    is_past: &mut bool,
     left: usize,
     buf: &mut [u8],
 ) -> Result<usize, Reason>
@@ -269,11 +204,36 @@ fn read_some<F: OpenFile + Read + Drop>(
         return Err(Reason::NotOpen);
     };
     if left == 0 {
-        *is_past = *is_past || file.is_more();
-        return if *is_past { Err(Reason::Long) } else { Ok(0) };
+        return if file.is_more() {
+            Err(Reason::Long)
+        } else {
+            Ok(0)
+        };
     }
     let room = buf.len().min(left);
     Ok(file.read(&mut buf[..room])?)
+}
+
+// Begins an output, unless one is open.
+fn begin<R: Files + Clock>(
+    rt: &R,
+    alloc: Global,
+    output: &mut Option<Unfinished<R::File>>,
+    name: &[u8],
+) -> Result<(), Reason> {
+    if output.is_some() {
+        return Err(Reason::NotOpen);
+    }
+    *output = Some(Unfinished::begin(rt, alloc, name)?);
+    Ok(())
+}
+
+// Removes what was written of an output, if one is open.
+fn abandon<R: Files>(rt: &R, output: Option<Unfinished<R::File>>) -> Result<(), Reason> {
+    match output {
+        Some(output) => Ok(output.abandon(rt)?),
+        None => Ok(()),
+    }
 }
 
 // Writes some bytes to the output that is open.

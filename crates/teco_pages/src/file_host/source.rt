@@ -21,6 +21,8 @@ pub struct Source<F: Drop> {
     reader: BufReader<F>,
     // the length that a regular file had when it was opened
     length: Option<u64>,
+    // a byte came behind all that it may give
+    is_past: bool,
 }
 
 impl<F: OpenFile + Read + Drop> Source<F> {
@@ -31,11 +33,14 @@ impl<F: OpenFile + Read + Drop> Source<F> {
     {
         let file = above_standard(fs::open(rt, str::from_utf8(name)?)?)?;
         let metadata = metadata_of(&file)?;
-        let reader = BufReader::with_capacity(alloc, room_ahead(metadata.len()), file)?;
-        Ok(Source {
-            reader,
-            length: metadata.is_file().then_some(metadata.len()),
-        })
+        match BufReader::with_capacity(alloc, room_ahead(metadata.len()), file) {
+            Ok(reader) => Ok(Source {
+                reader,
+                length: metadata.is_file().then_some(metadata.len()),
+                is_past: false,
+            }),
+            Err(_) => Err(Reason::Memory),
+        }
     }
 
     /// How many bytes the file had when it was opened, where it is a regular one.
@@ -54,13 +59,12 @@ impl<F: OpenFile + Read + Drop> Source<F> {
         self.reader.read(buf)
     }
 
-    /// Does the file go on? One that cannot be read may.
+    /// Does the file go on behind all that it may give? One that cannot be read may, and one that
+    /// went on does.
     pub fn is_more(&mut self) -> bool {
         let mut probe = [0; 1];
-        match self.read(&mut probe) {
-            Ok(n) => n > 0,
-            Err(_) => true,
-        }
+        self.is_past = self.is_past || !matches!(self.read(&mut probe), Ok(0));
+        self.is_past
     }
 }
 
