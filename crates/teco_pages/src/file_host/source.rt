@@ -6,7 +6,7 @@ ghost use Rattle.std.specs.Io.KnownBytes.{ReadConsumes};
 use super::descriptor::above_standard;
 use super::trouble::Reason;
 use std::alloc::Global;
-use std::fs::{Files, Metadata, OpenFile};
+use std::fs::{Files, OpenFile};
 use std::io::{BufReader, Read};
 use std::{fs, io, str};
 
@@ -32,7 +32,10 @@ impl<F: OpenFile + Read + Drop> Source<F> {
         ensures none { IfOk result (λ s. reader_buffer s.reader ≡ []) }
     {
         let file = above_standard(fs::open(rt, str::from_utf8(name)?)?)?;
-        let metadata = metadata_of(&file)?;
+        let metadata = file.metadata()?;
+        if metadata.is_dir() {
+            return Err(Reason::Folder);
+        }
         match BufReader::with_capacity(alloc, room_ahead(metadata.len()), file) {
             Ok(reader) => Ok(Source {
                 reader,
@@ -66,15 +69,6 @@ impl<F: OpenFile + Read + Drop> Source<F> {
         self.is_past = self.is_past || !matches!(self.read(&mut probe), Ok(0));
         self.is_past
     }
-}
-
-// What the system says of a file that is no folder.
-fn metadata_of<F: OpenFile>(file: &F) -> Result<Metadata, Reason> {
-    let metadata = file.metadata()?;
-    if metadata.is_dir() {
-        return Err(Reason::Folder);
-    }
-    Ok(metadata)
 }
 
 // How many bytes are read ahead of a file of this length. A length of 0 tells nothing: pipes,
