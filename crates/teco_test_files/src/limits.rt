@@ -3,14 +3,13 @@ use crate::faulty::Faulty;
 use crate::scratch::{begin_out, is_file, long_text, remove, scratch, write_pieces};
 use std::fs;
 use std::test::Fail;
-use teco_pages::{Failed, FileHost, Host, Reason};
+use teco_pages::{FileHost, Host, Reason};
 
 // What is written where there is no limit.
 const ALL: usize = 200_000;
 
 fn is_past_limit(host: &FileHost<Faulty>) -> bool {
-    host.trouble()
-        .is_some_and(|trouble| matches!(trouble.reason, Reason::SizeLimit))
+    matches!(host.trouble(), Some(trouble) if matches!(trouble.reason, Reason::SizeLimit))
 }
 
 // A host of files that move all at once, where a file stands in for the system's limits.
@@ -25,12 +24,11 @@ fn limited(rt: &HostRuntime) -> FileHost<Faulty> {
 }
 
 // Is so much of an output written, and a write past that refused?
-fn is_limited(host: &mut FileHost<Faulty>, text: &[u8], most: usize) -> Result<bool, Failed> {
-    begin_out(host, "somleut_test_limits/out", b"")?;
-    let is_whole = write_pieces(host, text, 4096).is_ok();
+fn is_limited(host: &mut FileHost<Faulty>, text: &[u8], most: usize) -> bool {
+    let is_open = begin_out(host, "somleut_test_limits/out", b"");
+    let is_whole = write_pieces(host, text, 4096);
     let is_as_wanted = is_whole == (most == ALL) && is_whole != is_past_limit(host);
-    host.close_out()?;
-    Ok(is_as_wanted)
+    is_open && is_as_wanted && host.close_out().is_ok()
 }
 
 // What stands for the limits, and how much is written then.
@@ -48,19 +46,22 @@ const LIMITS: [(&[u8], usize); 5] = [
     (b"", ALL),
 ];
 
+// Is so much of an output there where this stands for the limits?
+fn is_cut(rt: &HostRuntime, limits: &[u8], most: usize) -> bool {
+    let is_set = fs::write(rt, "somleut_test_limits/limits", limits).is_ok();
+    let Ok(text) = long_text(rt.alloc(), ALL) else {
+        return false;
+    };
+    let is_limited = is_set && is_limited(&mut limited(rt), &text, most);
+    let front = text.split_at(text.len().min(most)).0;
+    is_limited && front.len() == most && is_file(rt, "somleut_test_limits/out", front)
+}
+
 #[test]
 fn limits_on_sizes_are_read(rt: HostRuntime) -> Result<(), Fail> {
     scratch(&rt, "somleut_test_limits")?;
-    let text = long_text(rt.alloc(), ALL)?;
     for (limits, most) in LIMITS {
-        fs::write(&rt, "somleut_test_limits/limits", limits)?;
-        let is_limited = is_limited(&mut limited(&rt), &text, most)?;
-        let front = text.split_at(text.len().min(most)).0;
-        let is_there = is_file(&rt, "somleut_test_limits/out", front)?;
-        assert!(rt;
-            is_limited && is_there && front.len() == most,
-            "{most} bytes"
-        );
+        assert!(rt; is_cut(&rt, limits, most), "{most} bytes");
     }
-    Ok(remove(&rt, "somleut_test_limits")?)
+    remove(&rt, "somleut_test_limits")
 }

@@ -9,7 +9,11 @@ use std::{fs, io};
 use teco_pages::{Failed, FileHost, Host};
 
 // Removes a folder with all that it has.
-pub fn remove(rt: &HostRuntime, folder: &str) -> io::Result<()> {
+pub fn remove(rt: &HostRuntime, folder: &str) -> Result<(), Fail> {
+    Ok(try_remove(rt, folder)?)
+}
+
+fn try_remove(rt: &HostRuntime, folder: &str) -> io::Result<()> {
     if fs::remove_dir_all(rt, folder).is_err() {
         fs::remove_dir_all(rt, folder)?;
     }
@@ -17,9 +21,9 @@ pub fn remove(rt: &HostRuntime, folder: &str) -> io::Result<()> {
 }
 
 // An empty folder.
-pub fn scratch(rt: &HostRuntime, folder: &str) -> io::Result<()> {
-    let _gone = remove(rt, folder);
-    fs::create_dir(rt, folder)
+pub fn scratch(rt: &HostRuntime, folder: &str) -> Result<(), Fail> {
+    let _gone = try_remove(rt, folder);
+    Ok(fs::create_dir(rt, folder)?)
 }
 
 fn count_names(rt: &HostRuntime, folder: &str) -> io::Result<usize> {
@@ -31,31 +35,30 @@ fn count_names(rt: &HostRuntime, folder: &str) -> io::Result<usize> {
     Ok(count)
 }
 
-// How many names a folder has.
-pub fn names(rt: &HostRuntime, folder: &str) -> io::Result<usize> {
+// Has a folder so many names?
+pub fn has_names(rt: &HostRuntime, folder: &str, want: usize) -> bool {
     match count_names(rt, folder) {
-        Ok(count) => Ok(count),
-        Err(_) => count_names(rt, folder),
+        Ok(count) => count == want,
+        Err(_) => matches!(count_names(rt, folder), Ok(count) if count == want),
     }
 }
 
 // The permissions of a file.
-pub fn mode(rt: &HostRuntime, path: &str) -> Result<u32, Fail> {
+pub fn mode(rt: &HostRuntime, path: &str) -> io::Result<u32> {
     Ok(fs::metadata(rt, path)?.permissions().mode() & 0o7777)
 }
 
 // Has the file these bytes?
-pub fn is_file(rt: &HostRuntime, path: &str, want: &[u8]) -> Result<bool, Fail> {
-    let bytes = match fs::read(rt, path) {
-        Ok(bytes) => bytes,
-        Err(_) => fs::read(rt, path)?,
-    };
-    Ok(bytes.as_slice() == want)
+pub fn is_file(rt: &HostRuntime, path: &str, want: &[u8]) -> bool {
+    match fs::read(rt, path) {
+        Ok(bytes) => bytes.as_slice() == want,
+        Err(_) => matches!(fs::read(rt, path), Ok(bytes) if bytes.as_slice() == want),
+    }
 }
 
 // Is this file alone in its folder, with these bytes?
-pub fn is_alone(rt: &HostRuntime, folder: &str, path: &str, want: &[u8]) -> Result<bool, Fail> {
-    Ok(names(rt, folder)? == 1 && is_file(rt, path, want)?)
+pub fn is_alone(rt: &HostRuntime, folder: &str, path: &str, want: &[u8]) -> bool {
+    has_names(rt, folder, 1) && is_file(rt, path, want)
 }
 
 // A host of the files of the system.
@@ -63,19 +66,14 @@ pub fn host(rt: &HostRuntime) -> FileHost<HostRuntime> {
     FileHost::new(rt.alloc(), *rt)
 }
 
-// Opens an output and writes some bytes to it.
-pub fn begin_out<R>(host: &mut FileHost<R>, path: &str, bytes: &[u8]) -> Result<(), Failed>
+// Opens an output and writes some bytes to it; answers whether it could.
+pub fn begin_out<R>(host: &mut FileHost<R>, path: &str, bytes: &[u8]) -> bool
 where
     R: Files + Clock + Drop,
 {
-    if host.open_out(path.as_bytes()).is_err() {
-        host.open_out(path.as_bytes())?;
-    }
-    let written = host.write(bytes)?;
-    if written < bytes.len() {
-        return Err(Failed);
-    }
-    Ok(())
+    let name = path.as_bytes();
+    let is_open = host.open_out(name).is_ok() || host.open_out(name).is_ok();
+    is_open && matches!(host.write(bytes), Ok(n) if n == bytes.len())
 }
 
 // The nth byte of a long file.
@@ -100,19 +98,16 @@ pub fn long_text(alloc: Global, len: usize) -> Result<Vec<u8>, AllocError> {
     }
 }
 
-// Opens an input, once more where memory is refused.
-pub fn begin_in<R>(host: &mut FileHost<R>, path: &str) -> Result<(), Failed>
+// Opens an input, once more where memory is refused; answers whether it could.
+pub fn begin_in<R>(host: &mut FileHost<R>, path: &str) -> bool
 where
     R: Files + Clock + Drop,
 {
-    if host.open_in(path.as_bytes()).is_err() {
-        host.open_in(path.as_bytes())?;
-    }
-    Ok(())
+    host.open_in(path.as_bytes()).is_ok() || host.open_in(path.as_bytes()).is_ok()
 }
 
-// Writes a text in pieces of so many bytes.
-pub fn write_pieces<R>(host: &mut FileHost<R>, text: &[u8], piece: usize) -> Result<(), Failed>
+// Writes a text in pieces of so many bytes; answers whether it could.
+pub fn write_pieces<R>(host: &mut FileHost<R>, text: &[u8], piece: usize) -> bool
 where
     R: Files + Clock + Drop,
 {
@@ -121,45 +116,40 @@ where
         if rest.is_empty() {
             break;
         }
-        let n = host.write(&rest[..rest.len().min(piece)])?;
+        let Ok(n) = host.write(&rest[..rest.len().min(piece)]) else {
+            return false;
+        };
         rest = &rest[n..];
     }
-    Ok(())
+    true
 }
 
-// Makes a file of a text that is written in pieces of so many bytes.
-pub fn put<R>(host: &mut FileHost<R>, path: &str, text: &[u8], piece: usize) -> Result<(), Failed>
+// Makes a file of some bytes that are written at once; answers whether it could.
+pub fn put_whole<R>(host: &mut FileHost<R>, path: &str, bytes: &[u8]) -> bool
 where
     R: Files + Clock + Drop,
 {
-    begin_out(host, path, b"")?;
-    write_pieces(host, text, piece)?;
-    host.close_out()
+    begin_out(host, path, bytes) && host.close_out().is_ok()
 }
 
-// Makes a file of some bytes that are written at once.
-pub fn put_whole<R>(host: &mut FileHost<R>, path: &str, bytes: &[u8]) -> Result<(), Failed>
+// Does a text of so many bytes arrive that is written in pieces of so many, and is it read so?
+pub fn is_exact(rt: &HostRuntime, path: &str, size: usize, piece: usize) -> bool {
+    let Ok(text) = long_text(rt.alloc(), size) else {
+        return false;
+    };
+    is_served(&mut host(rt), path, &text, piece) && is_file(rt, path, &text)
+}
+
+// Is a text that is written in pieces of so many bytes read so?
+fn is_served<R>(host: &mut FileHost<R>, path: &str, text: &[u8], piece: usize) -> bool
 where
     R: Files + Clock + Drop,
 {
-    begin_out(host, path, bytes)?;
-    host.close_out()
-}
-
-// Does a text arrive that is written in pieces of so many bytes, and is it read so?
-pub fn is_exact<R>(
-    rt: &HostRuntime,
-    host: &mut FileHost<R>,
-    path: &str,
-    text: &[u8],
-    piece: usize,
-) -> Result<bool, Fail>
-where
-    R: Files + Clock + Drop,
-{
-    put(host, path, text, piece)?;
-    begin_in(host, path)?;
-    Ok(is_file(rt, path, text)? && reads(host, text, piece)?)
+    begin_out(host, path, b"")
+        && write_pieces(host, text, piece)
+        && host.close_out().is_ok()
+        && begin_in(host, path)
+        && matches!(reads(host, text, piece), Ok(true))
 }
 
 // Reads an input in pieces of so many bytes: does it have this text?
