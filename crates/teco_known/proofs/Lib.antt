@@ -3,6 +3,7 @@ pub mod Ends
 pub mod Lengths
 pub mod Linear
 pub mod Places
+pub mod Shares
 pub mod Wholes
 pub mod Shifted
 pub mod Sides

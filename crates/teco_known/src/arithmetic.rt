@@ -192,17 +192,34 @@ impl Range {
         )
     }
 
-    /// The bits that the least numbers of two ranges both have.
-    pub(crate) fn and(self, other: Range) -> i32
-        ensures { result ≡ bits.and self.lo other.lo }
+    // The least number.
+    fn least(self) -> i32
+        ensures { result ≡ self.lo }
     {
-        arithmetic::and(self.lo as i32, other.lo as i32)
+        self.lo as i32
     }
 
-    /// The bits that the least number of either of two ranges has.
-    pub(crate) fn or(self, other: Range) -> i32
-        ensures { result ≡ bits.or self.lo other.lo }
+    /// The bits that both have, where each is a single number.
+    #[tactic(auto, using(crate::proofs::Wholes::wholes))]
+    pub(crate) fn and(self, other: Range) -> Range
+        ensures { values.value_in result ≡ values.bitwise bits.and self other }
     {
-        arithmetic::or(self.lo as i32, other.lo as i32)
+        if self.is_single() && other.is_single() {
+            Range::single(arithmetic::and(self.least(), other.least()))
+        } else {
+            Range::any()
+        }
+    }
+
+    /// The bits that either has, where each is a single number.
+    #[tactic(auto, using(crate::proofs::Wholes::wholes))]
+    pub(crate) fn or(self, other: Range) -> Range
+        ensures { values.value_in result ≡ values.bitwise bits.or self other }
+    {
+        if self.is_single() && other.is_single() {
+            Range::single(arithmetic::or(self.least(), other.least()))
+        } else {
+            Range::any()
+        }
     }
 }

@@ -162,7 +162,7 @@ impl Level {
         let Some(first) = finished(self.value, self.operator)? else {
             return Err(Refusal::Argument);
         };
-        if first.range(margins).lo < 0 {
+        if !first.range(margins).is_natural() {
             return Err(Refusal::Argument);
         }
         Ok(Level {

@@ -38,8 +38,7 @@ impl Number {
     pub fn single(k: i32) -> Number
         ensures { result ≡ values.single k }
     {
-        let k = i64::from(k);
-        Number::within(Range { lo: k, hi: k })
+        Number::within(Range::single(k))
     }
 
     /// A number of a range.
@@ -203,32 +202,18 @@ impl Number {
     }
 
     /// The bits that both have, where each is a single number.
-    #[tactic(auto, using(crate::proofs::Wholes::wholes))]
     pub fn and(self, other: Number, margins: Margins) -> Number
         ensures { result ≡ values.bitwise bits.and (values.interval_of margins self)
             (values.interval_of margins other) }
     {
-        let one = self.range(margins);
-        let two = other.range(margins);
-        if one.is_single() && two.is_single() {
-            Number::single(one.and(two))
-        } else {
-            Number::within(Range::any())
-        }
+        Number::within(self.range(margins).and(other.range(margins)))
     }
 
     /// The bits that either has, where each is a single number.
-    #[tactic(auto, using(crate::proofs::Wholes::wholes))]
     pub fn or(self, other: Number, margins: Margins) -> Number
         ensures { result ≡ values.bitwise bits.or (values.interval_of margins self)
             (values.interval_of margins other) }
     {
-        let one = self.range(margins);
-        let two = other.range(margins);
-        if one.is_single() && two.is_single() {
-            Number::single(one.or(two))
-        } else {
-            Number::within(Range::any())
-        }
+        Number::within(self.range(margins).or(other.range(margins)))
     }
 }

@@ -1,5 +1,5 @@
 //! Ranges of 32-bit numbers.
-ghost use Rattle.std.specs.Prelude.{◌≡◌, ◌≤ℤ◌, int_lt, pos, IsTrue};
+ghost use Rattle.std.specs.Prelude.{◌≡◌, ◌≤ℤ◌, int_le, int_lt, pos, IsTrue};
 ghost use Rattle.teco_verifier.specs.facts.Joins as joins;
 ghost use Rattle.teco_verifier.specs.facts.Values as values;
 ghost use Rattle.teco_known.specs.Numbers.{IsRange};
@@ -33,6 +33,14 @@ impl Model for Range {
 }
 
 impl Range {
+    /// A single number.
+    pub(crate) fn single(k: i32) -> Range
+        ensures { result ≡ record { lo = k; hi = k } }
+    {
+        let k = i64::from(k);
+        Range { lo: k, hi: k }
+    }
+
     /// All 32-bit numbers.
     pub fn any() -> Range
         ensures { result ≡ values.any_number }
@@ -75,6 +83,13 @@ impl Range {
         ensures range { IsRange self.lo self.hi }
     {
         self.lo > 0
+    }
+
+    /// Whether no number is below 0.
+    pub(crate) fn is_natural(self) -> bool
+        ensures { result ≡ int_le (pos 0) self.lo }
+    {
+        0 <= self.lo
     }
 
     /// Whether all numbers are below 0.

@@ -1,23 +1,23 @@
-use Rattle.std.proofs.Common.{arith}
-use Rattle.std.proofs.lemmas.Int.{ints}
-use Rattle.teco_known.proofs.Places.{added}
+use Rattle.std.proofs.Common.{sym, subst}
+use Rattle.teco_verifier.specs.declared.values.Value.{Value}
+use Rattle.teco_known.specs.Numbers.{IsPlace}
+use Rattle.teco_known.proofs.Places.{added, number_is_place, sum_is_place}
+use Rattle.teco_known.proofs.Wholes.{place_whole, sum_whole}
 use Rattle.teco_known.proofs.place.plus.Goals as goal
 
 pub returns-clause-value : goal.returns-clause-value
 returns-clause-value c =
+    let s = place_whole _ _ _ _ (number_is_place _ _ _ _ c.s.invariant.0) in
+    let t = place_whole _ _ _ _ (number_is_place _ _ _ _ c.t.invariant.0) in
     rw (← c.s.view_is, ← c.t.view_is)
     (added c.s.inside.value c.t.inside.value _ _ _ _ _
-    (omega (arith, ints, c.add.ensures)) (omega (arith, ints, c.add-2.ensures)) c.code_of_one.ensures
-    (omega (arith, ints, c.add-3.ensures)) (omega (arith, ints, c.add-4.ensures)))
+    (sum_whole s.ahead t.ahead (record { sfits = c.add.type_inv }) c.add.ensures)
+    (sum_whole s.behind t.behind (record { sfits = c.add-2.type_inv }) c.add-2.ensures)
+    c.code_of_one.ensures
+    (sum_whole s.lo t.lo (record { sfits = c.add-3.type_inv }) c.add-3.ensures)
+    (sum_whole s.hi t.hi (record { sfits = c.add-4.type_inv }) c.add-4.ensures))
 
 pub returns-clause-place : goal.returns-clause-place
 returns-clause-place c =
-    record {
-      ahead_low = omega (arith, ints, c.add.ensures);
-      ahead_high = omega (arith, ints, c.add.ensures);
-      behind_low = omega (arith, ints, c.add-2.ensures);
-      behind_high = omega (arith, ints, c.add-2.ensures);
-      ordered = omega (arith, ints, c.add-3.ensures, c.add-4.ensures, c.s.invariant.0.range, c.t.invariant.0.range);
-      low = omega (arith, ints, c.add-3.ensures, c.s.invariant.0.range, c.t.invariant.0.range);
-      high = omega (arith, ints, c.add-4.ensures, c.s.invariant.0.range, c.t.invariant.0.range);
-    }
+    subst (λ (n : Value). IsPlace n.ahead n.behind n.lo n.hi) (sym (returns-clause-value c))
+    (rw (← c.s.view_is, ← c.t.view_is) (sum_is_place _ _ _ _ _ _ _ _ c.s.invariant.0 c.t.invariant.0))

@@ -1,19 +1,18 @@
-use Rattle.std.proofs.Common.{◌≡◌, refl, w64, to_z, of_z, arith}
-use Rattle.std.proofs.lemmas.Int.{ints}
+use Rattle.std.proofs.Common.{refl, w64}
+use Rattle.std.proofs.lemmas.Int.{to_z-of_z}
+use Rattle.teco_known.proofs.Wholes.{low_whole, high_whole}
 use Rattle.teco_known.proofs.range.Range.quotient.Goals as goal
 
 pub returns : goal.returns
 returns c =
-    let i = c.self.inside in
-    let j = c.other.inside in
-    let i_lo : to_z w64 (of_z w64 i.lo) ≡ i.lo = omega (arith, ints, c.self.invariant) in
-    let i_hi : to_z w64 (of_z w64 i.hi) ≡ i.hi = omega (arith, ints, c.self.invariant) in
-    let j_lo : to_z w64 (of_z w64 j.lo) ≡ j.lo = omega (arith, ints, c.other.invariant) in
-    let j_hi : to_z w64 (of_z w64 j.hi) ≡ j.hi = omega (arith, ints, c.other.invariant) in
-    let one : to_z w64 (of_z w64 c.quotient.result) ≡ c.quotient.result = omega (arith, ints) in
-    let two : to_z w64 (of_z w64 c.quotient-2.result) ≡ c.quotient-2.result = omega (arith, ints) in
-    let three : to_z w64 (of_z w64 c.quotient-3.result) ≡ c.quotient-3.result = omega (arith, ints) in
-    let four : to_z w64 (of_z w64 c.quotient-4.result) ≡ c.quotient-4.result = omega (arith, ints) in
+    let i_lo = low_whole c.self.invariant in
+    let i_hi = high_whole c.self.invariant in
+    let j_lo = low_whole c.other.invariant in
+    let j_hi = high_whole c.other.invariant in
+    let one = to_z-of_z w64 c.quotient.result (record { sfits = c.quotient.type_inv }) in
+    let two = to_z-of_z w64 c.quotient-2.result (record { sfits = c.quotient-2.type_inv }) in
+    let three = to_z-of_z w64 c.quotient-3.result (record { sfits = c.quotient-3.type_inv }) in
+    let four = to_z-of_z w64 c.quotient-4.result (record { sfits = c.quotient-4.type_inv }) in
     let low_low = rw (i_lo, j_lo) at c.quotient.ensures in
     let low_high = rw (i_lo, j_hi) at c.quotient-2.ensures in
     let high_low = rw (i_hi, j_lo) at c.quotient-3.ensures in
