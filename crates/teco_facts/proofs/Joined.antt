@@ -4,15 +4,12 @@ use Rattle.teco_poly.specs.Polynomial.{Polynomial}
 use Rattle.teco_verifier.specs.declared.refusal.Refusal.{Refusal}
 use Rattle.teco_verifier.specs.facts.Attempt.{◌>>=◌}
 use Rattle.teco_verifier.specs.facts.Facts.{Facts, Position, Pushed, join_of, without_arguments}
-use Rattle.teco_verifier.specs.facts.Joins.{hull, hulls, joined, joined_lengths, joined_position, joined_pushes, none_pending}
+use Rattle.teco_verifier.specs.facts.Joins.{hulls, joined, joined_lengths, joined_position, joined_pushes, none_pending}
 use Rattle.teco_known.specs.declared.fault.Fault.{Fault}
 use Rattle.teco_known.specs.declared.fault.Fault.TheVariants as fault
-use Rattle.teco_facts.specs.Does.{Gives}
-use Rattle.teco_facts.specs.Joined.{joined_but_registers}
+use Rattle.teco_facts.specs.Does.{Gives, Leaves}
+use Rattle.teco_facts.specs.Joined.{joined_but_registers, with_registers_joined}
 use Rattle.teco_facts.proofs.Joins.{ok_of}
-use Rattle.teco_facts.proofs.Meeting.{hulls_are}
-use Rattle.teco_known.specs.Each.{each_met}
-use Rattle.teco_verifier.specs.declared.values.Interval.{Interval}
 
 whole : (facts others j : Facts) (one two : Unit {0}) (pushes : List Pushed) (position : Position) (held : Polynomial) → none_pending facts.arguments ≡ Ok one → none_pending others.arguments ≡ Ok two → joined_pushes facts.pushes others.pushes ≡ Ok pushes → joined_position facts.position others.position ≡ Ok position → join_of facts.held others.held ≡ Ok held → record (without_arguments facts) { position = position; held = held; pushes = pushes } ≡ j → joined facts others ≡ (joined_lengths j.texts others.texts >>= (λ texts. Ok (record j { numbers = hulls j.numbers others.numbers; texts = texts })))
 whole facts others j one two pushes position held a b c d e f = rw (a, b, c, d, e, ← f) refl
@@ -42,6 +39,9 @@ pub fails_before : (facts others : Facts) (why : Fault) → Gives (joined_but_re
 fails_before facts others (fault.Refused why) e = refused_before facts others why e
 fails_before facts others fault.Memory e = tt
 
-pub with_registers : (facts others j new : Facts) (numbers : List Interval) (texts : List Polynomial) → joined_but_registers facts others ≡ Ok j → numbers ≡ each_met hull j.numbers others.numbers → joined_lengths j.texts others.texts ≡ Ok texts → new ≡ record j { numbers = numbers; texts = texts } → joined facts others ≡ Ok new
-with_registers facts others j new numbers texts e n l is =
-    then_registers facts others j e ∙ rw (l, is, n, hulls_are) refl
+pub registers_fail : (facts others j new : Facts) (why : Fault) → joined_but_registers facts others ≡ Ok j → Leaves (with_registers_joined j others) new (Err why) → Gives (joined facts others) (Err why)
+registers_fail facts others j new (fault.Refused why) e l = then_registers facts others j e ∙ l
+registers_fail facts others j new fault.Memory e l = tt
+
+pub with_registers : (facts others j new : Facts) → joined_but_registers facts others ≡ Ok j → with_registers_joined j others ≡ Ok new → joined facts others ≡ Ok new
+with_registers facts others j new e l = then_registers facts others j e ∙ l

@@ -12,6 +12,12 @@ Gives defined (Ok x) = defined ≡ Ok x
 Gives defined (Err (fault.Refused why)) = defined ≡ Err why
 Gives defined (Err fault.Memory) = Unit {0}
 
+-- a call left what the definition says, or answers its refusal, or memory was refused
+abbrev pub Leaves : Result Facts Refusal → Facts → Result (Unit {0}) Fault → Type 0
+Leaves defined new (Ok done) = defined ≡ Ok new
+Leaves defined new (Err (fault.Refused why)) = defined ≡ Err why
+Leaves defined new (Err fault.Memory) = Unit {0}
+
 -- the pair that was pushed last is gone, or there was none, or memory was refused
 abbrev pub Pops : Facts → Facts → Result (Option Pushed) AllocError → Type 0
 Pops old new (Ok None) = old.pushes ≡ []

@@ -1,9 +1,12 @@
--- What is known where two ways meet, but of the registers.
-use Rattle.std.specs.Prelude.{Result, Ok}
+-- What is known where two ways meet, but of the registers, and then of those.
+use Rattle.std.specs.Borrow.{Bor}
+use Rattle.std.specs.Prelude.{◌≡◌, ◌≤◌, ℕ, List, length, take, ◌++◌, Result, Ok, Err}
+use Rattle.teco_known.specs.declared.fault.Fault.{Fault}
+use Rattle.teco_known.specs.declared.fault.Fault.TheVariants as fault
 use Rattle.teco_verifier.specs.declared.refusal.Refusal.{Refusal}
 use Rattle.teco_verifier.specs.facts.Attempt.{◌>>=◌}
-use Rattle.teco_verifier.specs.facts.Facts.{Facts, join_of, without_arguments}
-use Rattle.teco_verifier.specs.facts.Joins.{joined_position, joined_pushes, none_pending}
+use Rattle.teco_verifier.specs.facts.Facts.{Facts, Pushed, join_of, without_arguments}
+use Rattle.teco_verifier.specs.facts.Joins.{hulls, joined_lengths, joined_position, joined_pushes, none_pending}
 
 -- of these what is known on the first way
 abbrev pub joined_but_registers : Facts → Facts → Result Facts Refusal
@@ -14,3 +17,21 @@ joined_but_registers facts others = do
   position ← joined_position facts.position others.position
   held ← join_of facts.held others.held
   Ok (record (without_arguments facts) { position = position; held = held; pushes = pushes })
+
+-- of the registers on both
+abbrev pub with_registers_joined : Facts → Facts → Result Facts Refusal
+with_registers_joined facts others = do
+  texts ← joined_lengths facts.texts others.texts
+  Ok (record facts { numbers = hulls facts.numbers others.numbers; texts = texts })
+
+-- The pairs of two ways are joined, or refused, or memory was refused. Behind the last that is changed they are those
+-- of the first way that are shared.
+pub record AreShared (pairs shared : List Pushed) (changed : ℕ) : Type 0 where
+  pub within : changed ≤ length pairs
+  pub same : pairs ≡ take changed pairs ++ shared
+
+abbrev pub JoinsPairs : List Pushed → List Pushed → List Pushed → Result (ℕ × Bor (List Pushed)) Fault → Type 0
+JoinsPairs first second pairs (Ok found) =
+    (joined_pushes first second ≡ Ok pairs) × AreShared pairs found.1.now found.0
+JoinsPairs first second pairs (Err (fault.Refused why)) = joined_pushes first second ≡ Err why
+JoinsPairs first second pairs (Err fault.Memory) = Unit {0}

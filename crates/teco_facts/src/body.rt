@@ -145,10 +145,11 @@ impl Choice {
     pub fn begins(&self, entering: &Facts) -> bool
         ensures { result ≡ bodies.begins self.now entering.now }
     {
-        entering.known.held.le(&self.held)
-            && each_covers(&self.texts, &entering.known.registers.texts)
-            && self.margins.covers(entering.margins())
-            && match entering.known.rules {
+        let known = &*entering.known;
+        known.held.le(&self.held)
+            && each_covers(&self.texts, &known.registers.texts)
+            && self.margins.covers(known.position.margins)
+            && match known.rules {
                 Rules::First => self.margins.covers(Margins::nowhere()),
                 Rules::Second => true,
             }
@@ -174,7 +175,8 @@ pub fn body_start(
 ) -> Result<Facts, AllocError>
     ensures { IfOk result (λ facts. facts ≡ bodies.body_start choice.now changes.now entering) }
 {
-    let (rules, here) = (entering.known.rules, &entering.known.position);
+    let known = &mut *entering.known;
+    let (rules, here) = (known.rules, &known.position);
     let position = Position {
         margins: choice.margins,
         falls: falls_at_start(rules, choice.kept, choice.margins, &here.falls),
@@ -183,11 +185,11 @@ pub fn body_start(
         digit: None,
     };
     let registers = Registers {
-        numbers: unknown_where(&changes.written, &entering.known.registers.numbers),
+        numbers: unknown_where(&changes.written, &known.registers.numbers),
         texts: choice.texts,
     };
-    entering.known.position = position;
-    entering.known.held = choice.held;
+    known.position = position;
+    known.held = choice.held;
     entering.put_registers(registers)?;
     Ok(entering)
 }
@@ -197,13 +199,15 @@ fn begins_again(choice: &Choice, changes: &Changes, entering: &Facts, end: &Fact
     ensures { result ≡ bodies.begins_again (bodies.body_start choice.now changes.now
         entering.now) end.now }
 {
-    let numbers = unknown_where(&changes.written, &entering.known.registers.numbers);
-    let saved = saved_at_start(&entering.known.position, changes);
-    each_covers(&numbers, &end.known.registers.numbers)
-        && each_covers(&choice.texts, &end.known.registers.texts)
-        && covers_pairs(entering.known.pushes.chain(), end.known.pushes.chain())
-        && each_covers(&saved, &end.known.position.saved)
-        && choice.margins.covers(end.margins())
+    let (known, end) = (&*entering.known, &*end.known);
+    let registers = &*end.registers;
+    let numbers = unknown_where(&changes.written, &known.registers.numbers);
+    let saved = saved_at_start(&known.position, changes);
+    each_covers(&numbers, &registers.numbers)
+        && each_covers(&choice.texts, &registers.texts)
+        && covers_pairs(known.pushes.chain(), end.pushes.chain())
+        && each_covers(&saved, &end.position.saved)
+        && choice.margins.covers(end.position.margins)
 }
 
 impl Choice {

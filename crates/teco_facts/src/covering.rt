@@ -73,18 +73,21 @@ impl Facts {
     pub fn covers(&self, edge: &Facts) -> bool
         ensures { result ≡ covers.covers self.now edge.now }
     {
-        let (known, arriving) = (&self.known, &edge.known);
+        let (known, arriving) = (&*self.known, &*edge.known);
+        let (registers, others) = (&*known.registers, &*arriving.registers);
         let editions = (known.rules, arriving.rules);
         matches!(
             editions,
             (Rules::First, Rules::First) | (Rules::Second, Rules::Second)
-        ) && known.arguments.covers(&arriving.arguments, edge.margins())
+        ) && known
+            .arguments
+            .covers(&arriving.arguments, arriving.position.margins)
             && covers_answer(&known.answer, &arriving.answer)
             && known.position.covers(&arriving.position)
             && self.has_iterations_of(edge)
             && arriving.held.le(&known.held)
-            && each_covers(&known.registers.numbers, &arriving.registers.numbers)
-            && each_covers(&known.registers.texts, &arriving.registers.texts)
+            && each_covers(&registers.numbers, &others.numbers)
+            && each_covers(&registers.texts, &others.texts)
             && covers_pairs(known.pushes.chain(), arriving.pushes.chain())
     }
 }

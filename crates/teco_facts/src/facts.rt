@@ -182,6 +182,7 @@ impl Facts {
             numbers: [Range::any(); REGISTERS],
             texts: entry.texts(),
         };
+        let registers = Rc::new(alloc, registers)?;
         let known = Known {
             rules: entry.rules,
             arguments: Arguments::declared(alloc, entry.argument),
@@ -192,7 +193,7 @@ impl Facts {
                 pushes: 0,
             }),
             held: Poly::variable(),
-            registers: Rc::new(alloc, registers)?,
+            registers,
             pushes: Stack::new(alloc),
         };
         let known = Box::new(alloc, known)?;
@@ -203,17 +204,22 @@ impl Facts {
     pub fn copied(&self) -> Result<Facts, AllocError>
         ensures { IfOk result (λ copy. copy ≡ self.now) }
     {
-        let known = Known {
-            rules: self.known.rules,
-            arguments: self.known.arguments.copied()?,
-            answer: answer_copied(self.alloc, &self.known.answer)?,
-            position: self.known.position.copied(),
-            iterations: self.known.iterations.copied(),
-            held: self.known.held,
-            registers: self.known.registers.clone()?,
-            pushes: self.known.pushes.copied()?,
+        let known = &*self.known;
+        let registers = known.registers.clone()?;
+        let pushes = known.pushes.copied()?;
+        let arguments = known.arguments.copied()?;
+        let answer = answer_copied(self.alloc, &known.answer)?;
+        let copy = Known {
+            rules: known.rules,
+            arguments,
+            answer,
+            position: known.position.copied(),
+            iterations: known.iterations.copied(),
+            held: known.held,
+            registers,
+            pushes,
         };
-        let known = Box::new(self.alloc, known)?;
+        let known = Box::new(self.alloc, copy)?;
         Ok(Facts {
             alloc: self.alloc,
             known,
@@ -353,27 +359,27 @@ impl Facts {
     pub fn without_arguments(mut self) -> Facts
         ensures { result ≡ rules.without_arguments self }
     {
-        self.known.arguments.drop_all();
-        self.known.answer = None;
+        let known = &mut *self.known;
+        known.arguments.drop_all();
+        known.answer = None;
         self
     }
 
     /// The facts where the innermost level is taken.
-    pub fn taking(mut self) -> Facts
+    pub fn taking(self) -> Facts
         ensures { result ≡ rules.with_arguments (arguments.levels_after_taking self.arguments)
             self }
     {
-        self.known.arguments.put_level(Level::empty());
-        self.known.answer = None;
-        self
+        self.with_level(Level::empty())
     }
 
     /// The facts with another innermost level.
     pub fn with_level(mut self, level: Level) -> Facts
         ensures { result ≡ rules.with_arguments (record self.arguments { level = level }) self }
     {
-        self.known.arguments.put_level(level);
-        self.known.answer = None;
+        let known = &mut *self.known;
+        known.arguments.put_level(level);
+        known.answer = None;
         self
     }
 
@@ -382,8 +388,9 @@ impl Facts {
         ensures { IfOk result (λ facts. facts ≡ rules.with_arguments (arguments.levels_after_open
             self.arguments) self) }
     {
-        self.known.arguments.open()?;
-        self.known.answer = None;
+        let known = &mut *self.known;
+        known.arguments.open()?;
+        known.answer = None;
         Ok(self)
     }
 
@@ -392,9 +399,9 @@ impl Facts {
         ensures { Gives (transfer.facts_after_levels (arguments.levels_closed_onto
             self.position.distances self.arguments.level self.arguments.outer) self) result }
     {
-        let margins = self.margins();
-        self.known.arguments.close(margins)?;
-        self.known.answer = None;
+        let known = &mut *self.known;
+        known.arguments.close(known.position.margins)?;
+        known.answer = None;
         Ok(self)
     }
 
@@ -418,11 +425,11 @@ impl Facts {
     pub fn with_answer(mut self, failed: Position) -> Result<Facts, AllocError>
         ensures { IfOk result (λ facts. searched.facts_of_answer self failed ≡ Ok facts) }
     {
-        let found = self.known.position.copied();
-        self.known.position.join(&failed);
-        let answer = Number::within(success());
-        self.known.arguments.answer(Some(answer));
-        self.known.answer = Some(Answer::of(self.alloc, found, failed)?);
+        let known = &mut *self.known;
+        let found = known.position.copied();
+        known.position.join(&failed);
+        known.arguments.answer(Some(Number::within(success())));
+        known.answer = Some(Answer::of(self.alloc, found, failed)?);
         Ok(self)
     }
 
@@ -435,9 +442,10 @@ impl Facts {
     ) -> Result<Facts, AllocError>
         ensures { IfOk result (λ facts. facts ≡ storages.with_number register number saved self) }
     {
-        let registers = Rc::make_mut(&mut self.known.registers)?;
+        let known = &mut *self.known;
+        let registers = Rc::make_mut(&mut known.registers)?;
         registers.numbers[register.index()] = number;
-        self.known.position.saved[register.index()] = saved;
+        known.position.saved[register.index()] = saved;
         Ok(self)
     }
 
@@ -474,8 +482,8 @@ impl Facts {
         requires { AreSmall self.position.falls }
         ensures { result ≡ shifts.shifted shift.now self }
     {
-        self.known.held = sum_of(&self.known.held, &shift.growth)?;
         let known = &mut *self.known;
+        known.held = sum_of(&known.held, &shift.growth)?;
         known.arguments.settle(known.position.margins, shift.ends);
         known.position.shift(known.rules, shift, &known.held);
         Ok(self)

@@ -14,11 +14,10 @@ impl Facts {
     pub fn leaving(mut self, count: usize) -> Facts
         ensures { result ≡ flows.leaving count self }
     {
-        self.known.arguments.drop_all();
-        self.known.answer = None;
-        self.known.position.falls.drop_front(count);
-        self.known.iterations.drop_front(count);
-        self
+        let known = &mut *self.known;
+        known.position.falls.drop_front(count);
+        known.iterations.drop_front(count);
+        self.without_arguments()
     }
 
     /// How many iterations are open.
@@ -41,7 +40,8 @@ impl Facts {
         ensures yes { IsTrue result → HasRoom self.now }
         ensures no { HasRoom self.now → IsTrue result }
     {
-        self.known.position.falls.as_slice().len() < DEPTH && self.open() < DEPTH
+        let known = &*self.known;
+        known.position.falls.as_slice().len() < DEPTH && known.iterations.as_slice().len() < DEPTH
     }
 
     /// The facts where another turn begins: nothing has fallen in it.
@@ -49,9 +49,9 @@ impl Facts {
         ensures { result ≡ rules.at_position (flows.begun self.rules (drop 1 self.position.falls)
             self.position) (rules.without_arguments self) }
     {
-        let own = falls_at_turn(self.known.rules);
-        self.known.position.falls.drop_front(1);
-        self.known.position.falls.put(own);
+        let known = &mut *self.known;
+        known.position.falls.drop_front(1);
+        known.position.falls.put(falls_at_turn(known.rules));
         self.without_arguments()
     }
 
@@ -61,10 +61,10 @@ impl Facts {
         requires iterations { length self.iterations < DEPTH }
         ensures { result ≡ flows.entering counted self }
     {
-        let pushes = self.known.pushes.len();
-        let own = falls_at_turn(self.known.rules);
-        self.known.position.falls.put(own);
-        self.known.iterations.put(Iteration { counted, pushes });
+        let known = &mut *self.known;
+        let pushes = known.pushes.len();
+        known.position.falls.put(falls_at_turn(known.rules));
+        known.iterations.put(Iteration { counted, pushes });
         self
     }
 }

@@ -1,8 +1,8 @@
 //! Where ways meet: what is known on both.
-ghost use Rattle.std.specs.Prelude.{◌≡◌, ◌++◌, IfOk};
+ghost use Rattle.std.specs.Prelude.{◌≡◌, ◌++◌, [], IfOk};
 ghost use Rattle.teco_verifier.specs.facts.Joins as joins;
-ghost use Rattle.teco_facts.specs.Does.{Gives};
-ghost use Rattle.teco_facts.specs.Joined.{joined_but_registers};
+ghost use Rattle.teco_facts.specs.Does.{Gives, Leaves};
+ghost use Rattle.teco_facts.specs.Joined.{JoinsPairs, joined_but_registers, with_registers_joined};
 
 use crate::registers::Registers;
 use crate::{Facts, Pushed};
@@ -48,16 +48,16 @@ fn stacked(pairs: &[Pushed], below: Stack<Pushed>) -> Result<Stack<Pushed>, Allo
     Ok(stack)
 }
 
-// What is known of each pair of two ways, which meet with as many. What lies below the last pair
-// that is known less well than on the first way is shared with that.
-fn joined_pairs(
-    alloc: Global,
-    first: &Chain<Pushed>,
+// Gathers what is known of each pair of two ways, which meet with as many: how many pairs there are
+// up to the last that is known less well than on the first way, and what lies below that there.
+fn join_pairs<'a>(
+    first: &'a Chain<Pushed>,
     second: &Chain<Pushed>,
-) -> Result<Stack<Pushed>, Fault>
-    ensures { Gives (joins.joined_pushes first.now second.now) result }
+    pairs: &mut Vec<Pushed>,
+) -> Result<(usize, &'a Chain<Pushed>), Fault>
+    requires { pairs.old.items ≡ [] }
+    ensures { JoinsPairs first.now second.now pairs.new.items result }
 {
-    let mut pairs = Vec::new(alloc);
     let mut changed = 0;
     let (mut one, mut two, mut shared) = (first, second, first);
     while let Some((of_one, one_below)) = one.parts() {
@@ -78,6 +78,19 @@ fn joined_pairs(
     if two.parts().is_some() {
         return Err(Fault::Refused(Refusal::Pop));
     }
+    Ok((changed, shared))
+}
+
+// What is known of each pair of two ways. What the first way knows as well is shared with it.
+fn joined_pairs(
+    alloc: Global,
+    first: &Chain<Pushed>,
+    second: &Chain<Pushed>,
+) -> Result<Stack<Pushed>, Fault>
+    ensures { Gives (joins.joined_pushes first.now second.now) result }
+{
+    let mut pairs = Vec::new(alloc);
+    let (changed, shared) = join_pairs(first, second, &mut pairs)?;
     let below = Stack::of(alloc, shared)?;
     Ok(stacked(&pairs[..changed], below)?)
 }
@@ -87,16 +100,12 @@ impl Facts {
     pub fn joined_but_registers(mut self, other: &Facts) -> Result<Facts, Fault>
         ensures { Gives (joined_but_registers self other.now) result }
     {
-        self.known.arguments.none_pending()?;
-        other.known.arguments.none_pending()?;
-        let pushes = joined_pairs(
-            self.alloc,
-            self.known.pushes.chain(),
-            other.known.pushes.chain(),
-        )?;
-        self.known.pushes = pushes;
-        self.known.position.join(&other.known.position);
-        self.known.held = join_of(&self.known.held, &other.known.held)?;
+        let (known, other) = (&mut *self.known, &*other.known);
+        known.arguments.none_pending()?;
+        other.arguments.none_pending()?;
+        known.pushes = joined_pairs(self.alloc, known.pushes.chain(), other.pushes.chain())?;
+        known.position.join(&other.position);
+        known.held = join_of(&known.held, &other.held)?;
         Ok(self.without_arguments())
     }
 
@@ -106,17 +115,25 @@ impl Facts {
         Rc::ptr_eq(&self.known.registers, &other.known.registers)
     }
 
-    /// What is known where two ways meet: on both, with nothing pending.
+    // Puts what is known of the registers on both ways in the place of what is known on this one.
     #[tactic(auto, using(crate::proofs::Meeting::hulls_are))]
+    fn join_registers(&mut self, other: &Facts) -> Result<(), Fault>
+        ensures { Leaves (with_registers_joined self.old other.now) self.new result }
+    {
+        let (one, two) = (&*self.known.registers, &*other.known.registers);
+        let mut numbers = one.numbers;
+        meet_each(&mut numbers, &two.numbers);
+        let texts = joined_lengths(&one.texts, &two.texts)?;
+        self.put_registers(Registers { numbers, texts })?;
+        Ok(())
+    }
+
+    /// What is known where two ways meet: on both, with nothing pending.
     pub fn joined(self, other: &Facts) -> Result<Facts, Fault>
         ensures { Gives (joins.joined self other.now) result }
     {
         let mut joined = self.joined_but_registers(other)?;
-        let (one, two) = (&joined.known.registers, &other.known.registers);
-        let mut numbers = one.numbers;
-        meet_each(&mut numbers, &two.numbers);
-        let texts = joined_lengths(&one.texts, &two.texts)?;
-        joined.put_registers(Registers { numbers, texts })?;
+        joined.join_registers(other)?;
         Ok(joined)
     }
 }

@@ -1,7 +1,7 @@
 use Rattle.std.proofs.Common.{◌≡◌, ◌≤◌, ◌++◌, length, take}
 use Rattle.teco_verifier.specs.facts.Joins.{joined_pushes}
 use Rattle.teco_facts.proofs.Pairs.{behind}
-use Rattle.teco_facts.proofs.joining.joined_pairs.Given as goal
+use Rattle.teco_facts.proofs.joining.join_pairs.Given as goal
 
 -- all pairs are joined if those from here on are; behind the last that is changed they are those of the first way
 abbrev pub invariant-loop-of_one : goal.invariant-loop-of_one
