@@ -3,3 +3,5 @@ pub mod Offsets
 pub mod Seen
 pub mod Searched
 pub mod Placed
+pub mod Allowed
+pub mod Shifts

@@ -1,16 +1,20 @@
 //! Iterations, conditionals and tags.
-ghost use Rattle.std.specs.Prelude.{◌≡◌, ◌↔◌, ◌<◌, IsTrue, length};
+ghost use Rattle.std.specs.Prelude.{◌≡◌, ◌↔◌, ◌<◌, IfOk, IsTrue, Some, length};
 ghost use Rattle.teco_verifier.specs.facts.Flows as flows;
+ghost use Rattle.teco_verifier.specs.facts.Ways as ways;
 ghost use Rattle.teco_facts.specs.Does.{Gives};
 ghost use Rattle.teco_transfer.specs.Seen.{seen};
+ghost use Rattle.teco_transfer.specs.Allowed as allowed;
 ghost use Rattle.teco_known.specs.declared.few.TheConstants.{DEPTH};
 
 use crate::deletion::positive;
 use crate::ways::both_ways;
 use crate::{Numbers, needed_value};
+use std::alloc::AllocError;
 use std::marker::Model;
 use teco_facts::{Answer, Facts};
 use teco_known::{Fault, Number, sum_of};
+use teco_model::kind::Test;
 use teco_poly::Poly;
 use teco_verifier::{Rank, Refusal};
 
@@ -121,13 +125,23 @@ pub fn iterate(facts: Facts) -> Result<Edges, Fault>
     ensures { Gives (flows.iterate facts) result }
 {
     let taken = facts.level().taken()?;
+    let most = turns_of(None, taken.value, &facts);
     let facts = facts.taking();
     facts.none_pending()?;
-    let _most = turns_of(None, taken.value, &facts)?;
+    let _most = most?;
     let facts = facts.without_arguments();
-    let Some(count) = taken.value else {
-        return Ok(Edges::on(facts.entering(false)));
-    };
+    match taken.value {
+        None => Ok(Edges::on(facts.entering(false))),
+        Some(count) => Ok(counted(count, facts)?),
+    }
+}
+
+// Where turns are counted, the body is entered or skipped, as the count may be; if there is memory.
+fn counted(count: Number, facts: Facts) -> Result<Edges, AllocError>
+    requires falls { length facts.position.falls < DEPTH }
+    requires iterations { length facts.iterations < DEPTH }
+    ensures { IfOk result (λ edges. edges ≡ flows.iteration (Some count) facts) }
+{
     let range = count.range(facts.margins());
     let away = if Numbers::NotPositive.may_take(range) {
         Some(facts.copied()?)
@@ -170,11 +184,47 @@ fn leaving_numbers(colons: u8) -> Numbers
     }
 }
 
+// The number that a test asks.
+fn tested(facts: &Facts) -> Result<Number, Refusal>
+    ensures { result ≡ flows.needed_taken facts.now }
+{
+    let taken = facts.level().taken()?;
+    needed_value(taken.value)
+}
+
+/// A conditional goes on where its test holds.
+pub fn test(test: Test, answer: &Option<Answer>, facts: Facts) -> Result<Edges, Fault>
+    ensures { Gives (flows.conditional (ways.holding test) answer.now facts) result }
+{
+    let n = tested(&facts)?;
+    let (on, away) = both_ways(Numbers::holding(test), answer, n, facts.taking())?;
+    Ok(Edges { on, away })
+}
+
+// Whether no argument is pending.
+fn no_value(facts: &Facts) -> Result<(), Refusal>
+    ensures { result ≡ allowed.needs_no_value facts.now }
+{
+    let taken = facts.level().taken()?;
+    match taken.value {
+        None => Ok(()),
+        Some(_) => Err(Refusal::Argument),
+    }
+}
+
+/// O goes to its tag, and leaves as many iterations as lie between.
+pub fn go_to(leaves: usize, facts: Facts) -> Result<Edges, Refusal>
+    ensures { result ≡ flows.go_to leaves facts }
+{
+    no_value(&facts)?;
+    Ok(Edges::away(facts.leaving(leaves)))
+}
+
 /// Semicolons leave their iteration, or go on: with a colon on a negative number.
 pub fn leave(colons: u8, answer: &Option<Answer>, facts: Facts) -> Result<Edges, Fault>
     ensures { Gives (flows.leave colons answer.now facts) result }
 {
-    let n = needed_value(facts.level().taken()?.value)?;
+    let n = tested(&facts)?;
     let (leaving, on) = both_ways(leaving_numbers(colons), answer, n, facts.taking())?;
     let away = match leaving {
         None => None,

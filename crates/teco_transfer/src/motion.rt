@@ -98,6 +98,42 @@ fn digit_after(motion: Motion, n: Range, digit: Option<DigitMark>) -> Option<Dig
     }
 }
 
+// The shift to a place, where a digit may stand.
+fn shift_to(place: KnownPlace, digit: Option<DigitMark>) -> Shift
+    ensures { result ≡ record (shifts.shift_to place) { digit = digit } }
+{
+    Shift::moving(place.back, place.fore, Descent::By(place.beyond)).marking(digit)
+}
+
+// The shift to anywhere, where nothing more may be ahead if it goes forward.
+fn perhaps_forward(forward: bool) -> Shift
+    ensures { result ≡ motions.perhaps_forward forward }
+{
+    let fall = if forward { Some(0) } else { None };
+    Shift::moving(0, 0, Descent::By(fall))
+}
+
+// With no colon it is a place that is known to lie in the buffer.
+fn motion_to_place(motion: Motion, n: Option<Number>, facts: Facts) -> Result<Foreseen, Refusal>
+    requires { AreSmall facts.position.falls }
+    ensures { result ≡ motions.motion_to motion 0 n facts }
+{
+    let margins = facts.margins();
+    let digit = digit_after(motion, count_of(n, margins), facts.position().digit);
+    let place = place_for(motion, &n, margins)?;
+    Foreseen::behind(&shift_to(place, digit), facts)
+}
+
+// With a colon it may fail.
+fn motion_with_colon(motion: Motion, n: Option<Number>, facts: Facts) -> Result<Foreseen, Refusal>
+    requires { AreSmall facts.position.falls }
+    ensures { result ≡ motions.motion_to motion 1 n facts }
+{
+    let shift = perhaps_forward(goes_forward(motion, count_of(n, facts.margins())));
+    let facts = facts.shifted(&shift)?;
+    Ok(Foreseen::giving(Number::within(success()), facts))
+}
+
 // To the place that the argument names; with a colon it may fail.
 fn motion_to(
     motion: Motion,
@@ -108,22 +144,10 @@ fn motion_to(
     requires { AreSmall facts.position.falls }
     ensures { result ≡ motions.motion_to motion colons n facts }
 {
-    let margins = facts.margins();
-    let place = place_for(motion, &n, margins);
-    let count = count_of(n, margins);
     if colons == 0 {
-        let place = place?;
-        let digit = digit_after(motion, count, facts.position().digit);
-        let shift = Shift::moving(place.back, place.fore, Descent::By(place.beyond));
-        Foreseen::behind(&shift.marking(digit), facts)
+        motion_to_place(motion, n, facts)
     } else {
-        let fall = if goes_forward(motion, count) {
-            Some(0)
-        } else {
-            None
-        };
-        let facts = facts.shifted(&Shift::moving(0, 0, Descent::By(fall)))?;
-        Ok(Foreseen::giving(Number::within(success()), facts))
+        motion_with_colon(motion, n, facts)
     }
 }
 

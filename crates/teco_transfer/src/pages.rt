@@ -1,14 +1,14 @@
 //! A, P, PW and Y.
-ghost use Rattle.std.specs.Prelude.{◌≡◌, if◌then◌else◌};
+ghost use Rattle.std.specs.Prelude.{◌≡◌, None, Some, if◌then◌else◌};
 ghost use Rattle.teco_verifier.specs.facts.Pages as pages;
 ghost use Rattle.teco_known.specs.Numbers.{AreSmall};
 ghost use Rattle.teco_transfer.specs.Offsets as offsets;
 
 use crate::query::character;
-use crate::{count_of, part_named};
+use crate::{Numbers, count_of, part_named};
 use teco_base::LIMIT;
 use teco_facts::{Facts, Foreseen};
-use teco_known::{Descent, Margins, Number, Shift, Taken, has_no_distance};
+use teco_known::{Descent, Margins, Number, Range, Shift, Taken, has_no_distance};
 use teco_model::kind::Page;
 use teco_verifier::{Refusal, Rules, Value};
 
@@ -34,25 +34,54 @@ fn code_asked(rules: Rules, n: Number) -> Number
     }
 }
 
-// To the begin of another page, where nothing is saved; or pages are written, or a part, which leaves
-// all as it is.
+// A count of pages is at least 1.
+fn some_pages(n: Range) -> Result<(), Refusal>
+    ensures { result ≡ pages.some_pages n }
+{
+    if Numbers::NotPositive.may_take(n) {
+        Err(Refusal::Argument)
+    } else {
+        Ok(())
+    }
+}
+
+// A part is written, which leaves all as it is.
+fn part_written(m: Number, n: Number, facts: Facts) -> Result<Foreseen, Refusal>
+    ensures { result ≡ pages.writing (Some m) (Some n) facts }
+{
+    let (first, value) = (Some(m), Some(n));
+    part_named(facts.rules(), Taken { first, value }, facts.margins())?;
+    Ok(Foreseen::silent(facts.without_digit()))
+}
+
+// Pages are written, which leaves all as it is.
+fn pages_written(n: Option<Number>, facts: Facts) -> Result<Foreseen, Refusal>
+    ensures { result ≡ pages.writing None n facts }
+{
+    some_pages(count_of(n, facts.margins()))?;
+    Ok(Foreseen::silent(facts.without_digit()))
+}
+
+// To the begin of another page, where nothing is saved.
+fn pages_turned(n: Option<Number>, facts: Facts) -> Result<Foreseen, Refusal>
+    requires { AreSmall facts.position.falls }
+    ensures { result ≡ pages.turning None n facts }
+{
+    some_pages(count_of(n, facts.margins()))?;
+    Foreseen::behind(&Shift::moving(0, 0, Descent::NextPage).ending(), facts)
+}
+
+// To the begin of another page, or pages are written, or a part.
 fn turning(goes_on: bool, taken: Taken, facts: Facts) -> Result<Foreseen, Refusal>
     requires { AreSmall facts.position.falls }
     ensures { result ≡ (if goes_on then pages.turning taken.first taken.value facts else
         pages.writing taken.first taken.value facts) }
 {
-    let margins = facts.margins();
-    if taken.first.is_some() && taken.value.is_some() {
-        part_named(facts.rules(), taken, margins)?;
-    } else {
-        if count_of(taken.value, margins).lo < 1 {
-            return Err(Refusal::Argument);
-        }
-        if goes_on {
-            return Foreseen::behind(&Shift::moving(0, 0, Descent::NextPage).ending(), facts);
-        }
+    match (taken.first, taken.value) {
+        (Some(m), Some(n)) => part_written(m, n, facts),
+        (_, n) if goes_on => pages_turned(n, facts),
+        (_, n) => pages_written(n, facts),
     }
-    Ok(Foreseen::silent(facts.without_digit()))
 }
 
 /// What is done with pages: A gives the code of a character, or adds a page behind the buffer, where a

@@ -1,5 +1,5 @@
 //! Q, ^X and \.
-ghost use Rattle.std.specs.Prelude.{◌≡◌};
+ghost use Rattle.std.specs.Prelude.{◌≡◌, None};
 ghost use Rattle.teco_verifier.specs.facts.Queries as queries;
 ghost use Rattle.teco_verifier.specs.facts.Values as values;
 ghost use Rattle.teco_known.specs.Numbers.{AreSmall};
@@ -60,6 +60,32 @@ fn value_for(query: &Query, colons: u8, level: Level) -> Option<Number>
     if gives { None } else { level.standing() }
 }
 
+// A query gives a value.
+fn facts_given(query: Query, colons: u8, facts: Facts) -> Result<Facts, Refusal>
+    requires { AreSmall facts.position.falls }
+    ensures { result ≡ queries.facts_after_query query colons None facts }
+{
+    let given = queried(&query, colons, &facts);
+    let known = facts_at_query(query, facts)?;
+    let level = known.level().given(given, known.margins())?;
+    Ok(known.with_level(level))
+}
+
+// What is done with the value that stands.
+fn query_with(query: Query, facts: Facts) -> Result<Foreseen, Refusal>
+    requires { AreSmall facts.position.falls }
+    ensures { result ≡ queries.query_with query facts }
+{
+    match query {
+        Query::Number(_) => Ok(Foreseen::giving(Number::within(character()), facts)),
+        Query::Mode => Ok(Foreseen::silent(facts)),
+        Query::Conversion => {
+            let shift = Shift::inserting(1, Poly::number(11), facts.margins());
+            Foreseen::behind(&shift, facts)
+        }
+    }
+}
+
 /// A query gives a value, or takes one.
 pub fn facts_after_query(query: Query, colons: u8, facts: Facts) -> Result<Facts, Refusal>
     requires { AreSmall facts.position.falls }
@@ -67,25 +93,10 @@ pub fn facts_after_query(query: Query, colons: u8, facts: Facts) -> Result<Facts
         facts.arguments.level) facts }
 {
     match value_for(&query, colons, facts.level()) {
-        None => {
-            let given = queried(&query, colons, &facts);
-            let known = facts_at_query(query, facts)?;
-            let level = known.level().given(given, known.margins())?;
-            Ok(known.with_level(level))
-        }
+        None => facts_given(query, colons, facts),
         Some(_) => {
-            let facts = facts.taking();
-            match query {
-                Query::Number(_) => {
-                    let character = Number::within(character());
-                    Ok(Foreseen::giving(character, facts).answered())
-                }
-                Query::Mode => Ok(Foreseen::silent(facts).answered()),
-                Query::Conversion => {
-                    let shift = Shift::inserting(1, Poly::number(11), facts.margins());
-                    Ok(Foreseen::behind(&shift, facts)?.answered())
-                }
-            }
+            let known = query_with(query, facts.taking())?;
+            Ok(known.answered())
         }
     }
 }

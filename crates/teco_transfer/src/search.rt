@@ -8,17 +8,40 @@ ghost use Rattle.teco_verifier.specs.facts.Searches as searches;
 ghost use Rattle.teco_known.specs.Numbers.{AreSmall};
 ghost use Rattle.teco_transfer.specs.Searched as searched;
 
-use crate::count_of;
+use crate::{Numbers, count_of};
 use teco_facts::Facts;
 use teco_find::{last_part, minimum};
-use teco_known::{Descent, Margins, Shift, Taken};
+use teco_known::{Descent, Margins, Range, Shift, Taken};
 use teco_model::kind::Search;
 use teco_model::pattern::{Class, Item, Part};
 use teco_poly::Poly;
 use teco_verifier::{DigitMark, Refusal, Rules};
 
-// The count, and no first value. Of S and FS a count that may be 0 may be refused, and one that may
-// be negative is not verified; of N and FN one that may be below 1 may be refused.
+// Of S and FS a count that may be 0 may be refused, and one that may be negative is not verified.
+fn count_in_buffer(n: Range) -> Result<(), Refusal>
+    ensures { result ≡ searches.count_in_buffer n }
+{
+    if Numbers::Zero.may_take(n) {
+        Err(Refusal::Argument)
+    } else if Numbers::NotPositive.may_take(n) {
+        Err(Refusal::Unverified)
+    } else {
+        Ok(())
+    }
+}
+
+// Of N and FN one that may be below 1 may be refused.
+fn count_in_pages(n: Range) -> Result<(), Refusal>
+    ensures { result ≡ searches.count_in_pages n }
+{
+    if Numbers::NotPositive.may_take(n) {
+        Err(Refusal::Argument)
+    } else {
+        Ok(())
+    }
+}
+
+// The count, and no first value.
 fn count_checked(search: Search, taken: Taken, margins: Margins) -> Result<(), Refusal>
     ensures { result ≡ searches.count_checked search taken.first taken.value margins }
 {
@@ -26,17 +49,9 @@ fn count_checked(search: Search, taken: Taken, margins: Margins) -> Result<(), R
         return Err(Refusal::Argument);
     }
     let n = count_of(taken.value, margins);
-    let in_pages = matches!(search, Search::FindInPages | Search::ReplaceInPages);
-    if !in_pages && n.lo <= 0 && 0 <= n.hi {
-        Err(Refusal::Argument)
-    } else if n.lo < 1 {
-        Err(if in_pages {
-            Refusal::Argument
-        } else {
-            Refusal::Unverified
-        })
-    } else {
-        Ok(())
+    match search {
+        Search::Find | Search::Replace => count_in_buffer(n),
+        Search::FindInPages | Search::ReplaceInPages => count_in_pages(n),
     }
 }
 

@@ -1,10 +1,13 @@
 //! Registers and the push-down list.
-ghost use Rattle.std.specs.Prelude.{◌≡◌};
+ghost use Rattle.std.specs.Prelude.{◌≡◌, [], IfOk, false};
+ghost use Rattle.teco_model.specs.declared.kind.Storage.TheVariants as kind;
 ghost use Rattle.teco_verifier.specs.facts.Storages as storages;
 ghost use Rattle.teco_facts.specs.Does.{Gives};
 ghost use Rattle.teco_known.specs.Numbers.{AreSmall};
+ghost use Rattle.teco_transfer.specs.Allowed as allowed;
 
 use crate::{count_of, needed_value, part_named};
+use std::alloc::AllocError;
 use teco_base::Reg;
 use teco_facts::{Facts, Foreseen};
 use teco_known::{Fault, KnownPlace, Number, Shift, Taken, sum_of};
@@ -34,6 +37,57 @@ fn text_storage(colons: u8, register: Reg, length: Poly, facts: Facts) -> Result
     Ok(Foreseen::silent(facts.with_text(register, sum)?))
 }
 
+// A number is set, and saved where it is a place of the buffer.
+fn set_number(register: Reg, taken: Taken, facts: Facts) -> Result<Foreseen, Fault>
+    ensures { Gives (storages.storage (kind.SetNumber register) false 0 [] taken facts) result }
+{
+    let n = needed_value(taken.value)?;
+    let margins = facts.margins();
+    let saved = n.value.saved || KnownPlace::of(n.place(), margins).is_ok();
+    Ok(Foreseen::silent(facts.with_number(register, n.range(margins), saved)?))
+}
+
+// A number is added, and the sum answered.
+fn add(register: Reg, value: Option<Number>, facts: Facts) -> Result<Foreseen, AllocError>
+    ensures { IfOk result (λ known. known ≡ storages.addition register value facts) }
+{
+    let n = count_of(value, facts.margins());
+    let sum = facts.number_of(register).sum(n);
+    let facts = facts.with_number(register, sum, false)?;
+    Ok(Foreseen::giving(Number::within(sum), facts))
+}
+
+// A part of the buffer is named, and the register's text is none of the library's.
+fn may_copy(library: bool, taken: Taken, facts: &Facts) -> Result<(), Refusal>
+    ensures { result ≡ allowed.may_copy library taken facts.now }
+{
+    part_named(facts.rules(), taken, facts.margins())?;
+    not_of_library(library)
+}
+
+// There is no argument, and the register's text is none of the library's.
+fn may_store(library: bool, value: Option<Number>) -> Result<(), Refusal>
+    ensures { result ≡ allowed.may_store library value }
+{
+    match value {
+        None => not_of_library(library),
+        Some(_) => Err(Refusal::Argument),
+    }
+}
+
+// A text is inserted, or with a colon typed.
+fn retrieval(colons: u8, register: Reg, facts: Facts) -> Result<Foreseen, Refusal>
+    requires { AreSmall facts.position.falls }
+    ensures { result ≡ storages.retrieval colons register facts }
+{
+    if colons == 0 {
+        let shift = Shift::inserting(0, facts.text_of(register), facts.margins());
+        Foreseen::behind(&shift, facts)
+    } else {
+        Ok(Foreseen::silent(facts.without_digit()))
+    }
+}
+
 /// What is done with a register: its number is set, or a number added to it; a part of the buffer is
 /// copied to it, or its own text stored; its text is inserted, or with a colon typed. It is done if
 /// there is memory.
@@ -48,36 +102,17 @@ pub fn storage(
     requires { AreSmall facts.position.falls }
     ensures { Gives (storages.storage storage library colons text.now taken facts) result }
 {
-    let margins = facts.margins();
     match storage {
-        Storage::SetNumber(register) => {
-            let n = needed_value(taken.value)?;
-            let saved = n.value.saved || KnownPlace::of(n.place(), margins).is_ok();
-            Ok(Foreseen::silent(facts.with_number(register, n.range(margins), saved)?))
-        }
-        Storage::Add(register) => {
-            let n = count_of(taken.value, margins);
-            let sum = facts.number_of(register).sum(n);
-            let facts = facts.with_number(register, sum, false)?;
-            Ok(Foreseen::giving(Number::within(sum), facts))
-        }
+        Storage::SetNumber(register) => set_number(register, taken, facts),
+        Storage::Add(register) => Ok(add(register, taken.value, facts)?),
         Storage::Copy(register) => {
-            part_named(facts.rules(), taken, margins)?;
-            not_of_library(library)?;
-            let held = facts.held();
-            text_storage(colons, register, held, facts)
+            may_copy(library, taken, &facts)?;
+            text_storage(colons, register, facts.held(), facts)
         }
         Storage::SetText(register) => {
-            if taken.value.is_some() {
-                return Err(Fault::Refused(Refusal::Argument));
-            }
-            not_of_library(library)?;
+            may_store(library, taken.value)?;
             text_storage(colons, register, Poly::number(text.len() as u64), facts)
         }
-        Storage::Get(register) if colons == 0 => {
-            let shift = Shift::inserting(0, facts.text_of(register), margins);
-            Ok(Foreseen::behind(&shift, facts)?)
-        }
-        Storage::Get(_) => Ok(Foreseen::silent(facts.without_digit())),
+        Storage::Get(register) => Ok(retrieval(colons, register, facts)?),
     }
 }

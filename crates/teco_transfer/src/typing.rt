@@ -1,9 +1,10 @@
 //! T, V, ^A, ^T and =, and I and TAB.
-ghost use Rattle.std.specs.Prelude.{◌≡◌};
+ghost use Rattle.std.specs.Prelude.{◌≡◌, ◌≤◌, ◌^◌, IfOk};
 ghost use Rattle.teco_verifier.specs.facts.Arguments as arguments;
 ghost use Rattle.teco_verifier.specs.facts.Insertions as insertions;
 ghost use Rattle.teco_verifier.specs.facts.Typings as typings;
 ghost use Rattle.teco_known.specs.Numbers.{AreSmall};
+ghost use Rattle.teco_transfer.specs.Shifts as shifts;
 
 use teco_facts::{Facts, Foreseen};
 use teco_known::{KnownPlace, Margins, Number, Shift, Taken};
@@ -43,6 +44,19 @@ pub fn typing(typing: Typing, taken: Taken, facts: Facts) -> Result<Foreseen, Re
     Ok(Foreseen::silent(facts))
 }
 
+// How much is inserted: its text, or a byte.
+fn inserted(insertion: Insertion, text: &[u8], value: Option<Number>) -> Result<usize, Refusal>
+    ensures value { result ≡ shifts.inserted insertion text.now value }
+    ensures within { IfOk result (λ n. n ≤ 2 ^ 63) }
+{
+    match (insertion, value) {
+        (Insertion::Text, None) => Ok(text.len()),
+        (Insertion::Text, Some(_)) if text.is_empty() => Ok(1),
+        (Insertion::Tab, None) => Ok(text.len() + 1),
+        _ => Err(Refusal::Argument),
+    }
+}
+
 /// An insertion of its text, or of a byte.
 pub fn insertion(
     insertion: Insertion,
@@ -53,12 +67,7 @@ pub fn insertion(
     requires { AreSmall facts.position.falls }
     ensures { result ≡ insertions.insertion insertion text.now taken facts }
 {
-    let length = match (insertion, taken.value) {
-        (Insertion::Text, None) => text.len(),
-        (Insertion::Text, Some(_)) if text.is_empty() => 1,
-        (Insertion::Tab, None) => text.len() + 1,
-        _ => return Err(Refusal::Argument),
-    };
+    let length = inserted(insertion, text, taken.value)?;
     let shift = Shift::inserting(length, Poly::number(length as u64), facts.margins());
     Foreseen::behind(&shift, facts)
 }

@@ -1,5 +1,5 @@
 //! The two ways of a test, and what is known on each.
-ghost use Rattle.std.specs.Prelude.{◌≡◌, ◌≤◌, ◌≤ℤ◌, ◌*◌, ◌^◌, ◌-◌, FitsSigned, IfOk, IfSome, neg_ℤ, negsuc, pos};
+ghost use Rattle.std.specs.Prelude.{◌≡◌, ◌≤◌, ◌≤ℤ◌, ◌*◌, ◌^◌, ◌-◌, FitsSigned, IfOk, IfSome, neg_ℤ, negsuc, option_map, pos};
 ghost use Rattle.std.specs.Int.{w64};
 ghost use Rattle.teco_base.specs.declared.TheConstants.{LIMIT};
 ghost use Rattle.teco_known.specs.Numbers.{HasRoomForCode, IsBesideCode, IsNear, IsRange};
@@ -114,23 +114,39 @@ fn negated(n: i64) -> i64
     -n
 }
 
+// The distance from the end is at least what takes the way.
+fn with_fore_taking(numbers: Numbers, k: i64, margins: Margins) -> Option<Margins>
+    requires { IsNear k }
+    ensures { result ≡ option_map (ways.with_fore margins) (ways.least_taking (seen numbers)
+        margins.fore k) }
+{
+    let least = numbers.least_taking(margins.fore, k)?;
+    Some(Margins::capped(margins.back, least))
+}
+
+// The distance from the begin is at least what takes the way.
+fn with_back_taking(numbers: Numbers, k: i64, margins: Margins) -> Option<Margins>
+    requires { IsNear k }
+    ensures { result ≡ option_map (ways.with_back margins) (ways.least_taking (seen numbers)
+        margins.back k) }
+{
+    let least = numbers.least_taking(margins.back, k)?;
+    Some(Margins::capped(least, margins.fore))
+}
+
 // The least of the distance that a number is, plus or minus, is raised.
 fn raised_by(numbers: Numbers, ahead: i64, behind: i64, k: i64, margins: Margins) -> Option<Margins>
     requires { IsNear k }
     ensures { result ≡ ways.raised_by (seen numbers) ahead behind k margins }
 {
     if ahead == 1 && behind == 0 {
-        let least = numbers.least_taking(margins.fore, k)?;
-        Some(Margins::capped(margins.back, least))
+        with_fore_taking(numbers, k, margins)
     } else if ahead == -1 && behind == 0 {
-        let least = numbers.opposite().least_taking(margins.fore, negated(k))?;
-        Some(Margins::capped(margins.back, least))
+        with_fore_taking(numbers.opposite(), negated(k), margins)
     } else if ahead == 0 && behind == 1 {
-        let least = numbers.least_taking(margins.back, k)?;
-        Some(Margins::capped(least, margins.fore))
+        with_back_taking(numbers, k, margins)
     } else if ahead == 0 && behind == -1 {
-        let least = numbers.opposite().least_taking(margins.back, negated(k))?;
-        Some(Margins::capped(least, margins.fore))
+        with_back_taking(numbers.opposite(), negated(k), margins)
     } else {
         Some(margins)
     }
