@@ -1,5 +1,5 @@
 -- Definitions that go through the nodes, or through a node's ways and iterations, one step further.
-use Rattle.std.proofs.Common.{◌≡◌, refl, sym, ◌∙◌, ap, ℕ, zero, suc, ◌+◌, ◌-◌, ◌<◌, ◌≤◌, true, false, ◌||◌, List, [], ◌∷◌, length, drop, slice_get, slice_index_or, Option, Some, None, unwrap_or, Ok, Err, add-one, arith, if◌then◌else◌}
+use Rattle.std.proofs.Common.{◌≡◌, refl, sym, ◌∙◌, ap, ℕ, zero, suc, ◌+◌, ◌-◌, ◌<◌, ◌≤◌, Bool, true, false, ◌||◌, List, [], ◌∷◌, length, drop, slice_get, slice_index_or, Option, Some, None, unwrap_or, Ok, Err, add-one, arith, if◌then◌else◌}
 use Rattle.std.specs.Option.{option_map_or}
 use Rattle.std.proofs.Math.Seq.{drop-nil}
 use Rattle.std.proofs.lemmas.List.{drop_all}
@@ -25,6 +25,7 @@ use Rattle.teco_verifier.specs.facts.Bodies.{Choice, Changes}
 use Rattle.teco_verifier.specs.table.Deriving.{arriving, arrivals_behind}
 use Rattle.teco_check.specs.Derived.{Slots, arrived_at, arrived_all}
 use Rattle.teco_check.specs.Here.{no_node, node_at}
+use Rattle.teco_check.specs.Onward.{onward}
 use Rattle.teco_check.specs.Says.{Says, SaysAt}
 
 front : {X : Type 0} (xs : List X) (k : ℕ) (x : X) → k < length xs → drop k xs ≡ unwrap_or (slice_get xs k) x ∷ drop (suc k) xs
@@ -59,6 +60,14 @@ pub none_behind : {X : Type 0} (xs : List X) (k : ℕ) → slice_get xs k ≡ No
 none_behind [] k e = omega arith
 none_behind (y ∷ xs) zero e = absurd (cc)
 none_behind (y ∷ xs) (suc k) e = let less = none_behind xs k e in omega arith
+
+-- a way that begins a turn, or whose edge is covered
+pub onward_arrives : (nodes : List Node) (table : Table) (read : Option Element) (k target : ℕ) (edges : Edges) → (begins_turn read k || arrives nodes table read target (along read k edges)) ≡ arrives nodes table read target (onward read k edges)
+onward_arrives nodes table read k target edges = among (begins_turn read k) (along read k edges)
+  where
+    among : (begins : Bool) (edge : Option Facts) → (begins || arrives nodes table read target edge) ≡ arrives nodes table read target (if begins then None else edge)
+    among true edge = refl
+    among false edge = refl
 
 -- ways
 module _ (nodes : List Node) (table : Table) (read : Option Element) (edges : Edges) (k target : ℕ) (ways : List ℕ) (is : slice_get ways k ≡ Some target) where

@@ -7,3 +7,4 @@ pub mod Writes
 pub mod Ways
 pub mod Known
 pub mod Derived
+pub mod Onward

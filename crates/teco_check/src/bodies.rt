@@ -38,21 +38,28 @@ fn is_counted(facts: &Facts) -> bool
     }
 }
 
+// What an iteration's body changes, and what is known at its end.
+#[derive(Clone, Copy)]
+struct Body<'a> {
+    changes: &'a Changes,
+    end: Option<&'a Facts>,
+}
+
 // Whether the start of a body is what a choice makes of what enters it, and the choice stands; told
 // if there is memory.
 fn start_stands(
-    changes: &Changes,
-    end: Option<&Facts>,
+    body: &Body<'_>,
     entering: Facts,
     start: &Facts,
     choice: &Choice,
     most: &Poly,
 ) -> Result<bool, AllocError>
-    ensures { IfOk result (λ yes. yes ≡ rules.body_stands changes.now (option_copied end.entry)
-        entering (Some start.now) (Some choice.now) (Ok most.now)) }
+    ensures { IfOk result (λ yes. yes ≡ rules.body_stands body.now.changes.now
+        (option_copied body.now.end) entering (Some start.now) (Some choice.now) (Ok most.now)) }
 {
-    let stands = choice.stands(changes, is_counted(&entering), most, &entering, end);
-    let begun = body_start(choice, changes, entering)?;
+    let counted = is_counted(&entering);
+    let stands = choice.stands(body.changes, counted, most, &entering, body.end);
+    let begun = body_start(choice, body.changes, entering)?;
     Ok(say_same(start, &begun) && stands)
 }
 
@@ -69,20 +76,19 @@ pub fn rank_at(end: Option<&Facts>) -> Option<Rank>
 // Whether the body stands, where the choice or one of the facts may be absent; told if there is
 // memory.
 fn body_stands(
-    changes: &Changes,
-    end: Option<&Facts>,
+    body: &Body<'_>,
     entering: Facts,
     start: Option<&Facts>,
     choice: &Option<Choice>,
     most: &Result<Poly, Refusal>,
 ) -> Result<bool, AllocError>
-    ensures { IfOk result (λ yes. yes ≡ rules.body_stands changes.now (option_copied end.entry)
-        entering (option_copied start.entry) choice.now most.now) }
+    ensures { IfOk result (λ yes. yes ≡ rules.body_stands body.now.changes.now
+        (option_copied body.now.end) entering (option_copied start.entry) choice.now most.now) }
 {
     match (start, choice, most) {
-        (Some(start), Some(choice), Ok(most)) => start_stands(
-            changes, end, entering, start, choice, most,
-        ),
+        (Some(start), Some(choice), Ok(most)) => {
+            start_stands(body, entering, start, choice, most)
+        }
         _ => Ok(false),
     }
 }
@@ -105,14 +111,12 @@ pub fn is_entered(
         Some(entering) => {
             let end = table.facts(end_of(nodes, number));
             let changes = changes_in(nodes, number);
-            body_stands(
-                &changes,
+            let body = Body {
+                changes: &changes,
                 end,
-                entering,
-                start,
-                &table.choice(number),
-                &turns(rank_at(end), facts),
-            )
+            };
+            let most = turns(rank_at(end), facts);
+            body_stands(&body, entering, start, &table.choice(number), &most)
         }
     }
 }

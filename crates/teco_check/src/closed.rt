@@ -6,6 +6,7 @@ ghost use Rattle.teco_verifier.specs.table.Closed as rules;
 ghost use Rattle.teco_check.specs.Here.{node_at};
 ghost use Rattle.teco_check.specs.Kept.{AreKept};
 ghost use Rattle.teco_check.specs.Known.{known_since};
+ghost use Rattle.teco_check.specs.Onward.{onward};
 ghost use Rattle.teco_check.specs.Says.{IsBadAt, Says, SaysAt};
 
 use crate::bad::Bad;
@@ -45,20 +46,15 @@ fn arrives(
     }
 }
 
-// Whether a way begins a turn, or its edge is covered where it leads.
-fn arrives_on(
-    nodes: &Nodes<'_>,
-    table: &Table,
-    read: &Option<Element<'_>>,
-    way: usize,
-    target: usize,
-    edges: &Edges,
-) -> bool
-    ensures { let element = option_map elements.seen read.now in
-        result ≡ (behind.begins_turn element way || rules.arrives nodes.now table.now element target
-        (behind.along element way edges.now)) }
+// What is known on a way that begins no turn.
+fn onward<'e>(read: &Option<Element<'_>>, way: usize, edges: &'e Edges) -> Option<&'e Facts>
+    ensures { option_copied result ≡ onward (option_map elements.seen read.now) way edges.now }
 {
-    begins_turn(read, way) || arrives(nodes, table, read, target, along(read, way, edges))
+    if begins_turn(read, way) {
+        None
+    } else {
+        along(read, way, edges)
+    }
 }
 
 // Does each way of a node arrive?
@@ -76,7 +72,7 @@ fn arrive(
 {
     for at in 0..ways(nodes, number) {
         if let Some(target) = way(nodes, number, at) {
-            if !arrives_on(nodes, table, read, at, target, edges) {
+            if !arrives(nodes, table, read, target, onward(read, at, edges)) {
                 return false;
             }
         }

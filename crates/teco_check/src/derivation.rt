@@ -66,24 +66,30 @@ fn copied(facts: Option<&Facts>) -> Result<Option<Facts>, AllocError>
     }
 }
 
+// What is chosen for the node of a number, if it begins an iteration.
+#[derive(Drop)]
+struct Chosen {
+    number: usize,
+    choice: Option<Choice>,
+}
+
 // The facts at the start of a body, where there is a choice for it and it is entered, if there is
 // memory.
 fn start_of_body(
     nodes: &Nodes<'_>,
-    number: usize,
-    choice: &Option<Choice>,
+    chosen: &Chosen,
     entering: Option<Facts>,
 ) -> Result<Option<Facts>, AllocError>
     ensures { IfOk result (λ start. start ≡ rules.start_of_body
-        (writing.changes_in nodes.now number) choice.now entering) }
+        (writing.changes_in nodes.now chosen.now.number) chosen.now.choice entering) }
 {
-    let Some(choice) = choice else {
+    let Some(choice) = &chosen.choice else {
         return Ok(None);
     };
     match entering {
         None => Ok(None),
         Some(entering) => {
-            let start = body_start(choice, &changes_in(nodes, number), entering)?;
+            let start = body_start(choice, &changes_in(nodes, chosen.number), entering)?;
             Ok(Some(start))
         }
     }
@@ -94,14 +100,13 @@ fn start_of_body(
 #[tactic(auto, using(crate::proofs::Ways::arriving_is))]
 fn arriving(
     nodes: &Nodes<'_>,
-    number: usize,
-    choice: &Option<Choice>,
+    chosen: &Chosen,
     read: &Option<Element<'_>>,
     way: usize,
     edges: &Edges,
 ) -> Result<Option<Facts>, AllocError>
     ensures { IfOk result (λ facts. facts
-        ≡ rules.arriving (writing.changes_in nodes.now number) choice.now
+        ≡ rules.arriving (writing.changes_in nodes.now chosen.now.number) chosen.now.choice
         (option_map elements.seen read.now) way edges.now) }
 {
     let begins = begins_turn(read, way);
@@ -110,7 +115,7 @@ fn arriving(
     }
     let facts = copied(along(read, way, edges))?;
     if begins {
-        start_of_body(nodes, number, choice, facts)
+        start_of_body(nodes, chosen, facts)
     } else {
         Ok(facts)
     }
@@ -119,23 +124,23 @@ fn arriving(
 // The edges behind a node arrive, if there is memory.
 fn arrive_behind(
     nodes: &Nodes<'_>,
-    number: usize,
-    choice: &Option<Choice>,
+    chosen: &Chosen,
     edges: &Edges,
     arrived: &mut Arrived,
 ) -> Result<(), AllocError>
-    requires one { 0 < number }
-    requires last { number ≤ length nodes.now }
-    ensures { let node = node_at nodes.now number in
+    requires one { 0 < chosen.now.number }
+    requires last { chosen.now.number ≤ length nodes.now }
+    ensures { let node = node_at nodes.now chosen.now.number in
         OnOk result (arrived.new ≡ arrived_all
-        (rules.arrivals_behind (writing.changes_in nodes.now number) choice.now node.element 0
-        node.ways edges.now)
+        (rules.arrivals_behind (writing.changes_in nodes.now chosen.now.number)
+        chosen.now.choice node.element 0 node.ways edges.now)
         arrived.old) }
 {
+    let number = chosen.number;
     let read = element(nodes, number);
     for at in 0..ways(nodes, number) {
         if let Some(target) = way(nodes, number, at) {
-            if let Some(facts) = arriving(nodes, number, choice, &read, at, edges)? {
+            if let Some(facts) = arriving(nodes, chosen, &read, at, edges)? {
                 arrived.put(target, facts)?;
             }
         }
@@ -146,14 +151,14 @@ fn arrive_behind(
 // The row of a node that is reached.
 fn row_reached(
     nodes: &Nodes<'_>,
-    chosen: &[LoopLine],
+    lines: &[LoopLine],
     number: usize,
     facts: Facts,
     arrived: &mut Arrived,
 ) -> Result<Row, NotDerived>
     requires one { 0 < number }
     requires last { number ≤ length nodes.now }
-    ensures value { DerivesRow number (rules.derived_at nodes.now chosen.now number
+    ensures value { DerivesRow number (rules.derived_at nodes.now lines.now number
         (node_at nodes.now number) (Some facts)) arrived.old arrived.new result }
     ensures large { IsLargeBy (Some facts) result }
 {
@@ -165,9 +170,10 @@ fn row_reached(
         Err(Fault::Refused(why)) => return Err(NotDerived::Refused { why, node: number }),
         Err(Fault::Memory) => return Err(NotDerived::Memory),
     };
-    let choice = choice_for(number, chosen, &facts);
-    match arrive_behind(nodes, number, &choice, &edges, arrived) {
-        Ok(()) => Ok(Row::of(Some(facts), choice)),
+    let choice = choice_for(number, lines, &facts);
+    let chosen = Chosen { number, choice };
+    match arrive_behind(nodes, &chosen, &edges, arrived) {
+        Ok(()) => Ok(Row::of(Some(facts), chosen.choice)),
         Err(_) => Err(NotDerived::Memory),
     }
 }
