@@ -83,7 +83,7 @@ fn execution(
         Command::Insertion(kind) => typing::insertion(kind, text, taken, facts),
         Command::Typing(kind) => typing::typing(kind, taken, facts),
         Command::Storage(kind) => {
-            return storage::storage(kind, placed.library, colons, text, taken, facts);
+            return storage::storage(kind, placed, taken, facts);
         }
     };
     Ok(known?)
@@ -240,7 +240,8 @@ fn edges_of(placed: &Placed<'_>, answer: &Option<Answer>, facts: Facts) -> Resul
     requires room { placed.now.element.kind ≡ kind.Flow flow.Iterate → HasRoom facts }
     requires within { length placed.now.element.text.now ≤ LIMIT }
     requires second_within { length placed.now.element.second.now ≤ LIMIT }
-    ensures { Gives (rules.edges_of placed.now.element.kind (seen placed.now) answer.now facts) result }
+    ensures { Gives (rules.edges_of placed.now.element.kind (seen placed.now) answer.now facts)
+        result }
 {
     let element = &placed.element;
     match element.kind {

@@ -84,8 +84,8 @@ fn turning(goes_on: bool, taken: Taken, facts: Facts) -> Result<Foreseen, Refusa
     }
 }
 
-/// What is done with pages: A gives the code of a character, or adds a page behind the buffer, where a
-/// digit stays.
+/// What is done with pages: A gives the code of a character, or adds a page behind the buffer,
+/// where a digit stays.
 pub fn page(page: Page, taken: Taken, facts: Facts) -> Result<Foreseen, Refusal>
     requires { AreSmall facts.position.falls }
     ensures { result ≡ pages.pages page taken facts }

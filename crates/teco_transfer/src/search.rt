@@ -131,8 +131,8 @@ fn shift_found(search: Search, least: usize, new: usize, margins: Margins) -> Sh
     }
 }
 
-/// The facts where a search failed: at the begin of the buffer, which of N and FN is another one; of
-/// others with two colons nothing moves.
+/// The facts where a search failed: at the begin of the buffer, which of N and FN is another one;
+/// of others with two colons nothing moves.
 pub fn facts_failed(search: Search, colons: u8, facts: Facts) -> Facts
     requires { AreSmall facts.position.falls }
     ensures { result ≡ searches.facts_failed search colons facts }

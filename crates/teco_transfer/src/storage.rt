@@ -6,11 +6,12 @@ ghost use Rattle.teco_facts.specs.Does.{Gives};
 ghost use Rattle.teco_known.specs.Numbers.{AreSmall};
 ghost use Rattle.teco_transfer.specs.Allowed as allowed;
 
-use crate::{count_of, needed_value, part_named};
+use crate::{Placed, count_of, needed_value, part_named};
 use std::alloc::AllocError;
 use teco_base::Reg;
 use teco_facts::{Facts, Foreseen};
 use teco_known::{Fault, KnownPlace, Number, Shift, Taken, sum_of};
+use teco_model::Element;
 use teco_model::kind::Storage;
 use teco_poly::Poly;
 use teco_verifier::Refusal;
@@ -88,29 +89,30 @@ fn retrieval(colons: u8, register: Reg, facts: Facts) -> Result<Foreseen, Refusa
     }
 }
 
-/// What is done with a register: its number is set, or a number added to it; a part of the buffer is
-/// copied to it, or its own text stored; its text is inserted, or with a colon typed. It is done if
-/// there is memory.
+/// What is done with a register: its number is set, or a number added to it; a part of the buffer
+/// is copied to it, or its own text stored; its text is inserted, or with a colon typed. It is done
+/// if there is memory.
 pub fn storage(
     storage: Storage,
-    library: bool,
-    colons: u8,
-    text: &[u8],
+    placed: &Placed<'_>,
     taken: Taken,
     facts: Facts,
 ) -> Result<Foreseen, Fault>
     requires { AreSmall facts.position.falls }
-    ensures { Gives (storages.storage storage library colons text.now taken facts) result }
+    ensures { let element = placed.now.element in
+        Gives (storages.storage storage placed.now.library element.colons element.text.now taken
+        facts) result }
 {
+    let Element { colons, text, .. } = placed.element;
     match storage {
         Storage::SetNumber(register) => set_number(register, taken, facts),
         Storage::Add(register) => Ok(add(register, taken.value, facts)?),
         Storage::Copy(register) => {
-            may_copy(library, taken, &facts)?;
+            may_copy(placed.library, taken, &facts)?;
             text_storage(colons, register, facts.held(), facts)
         }
         Storage::SetText(register) => {
-            may_store(library, taken.value)?;
+            may_store(placed.library, taken.value)?;
             text_storage(colons, register, Poly::number(text.len() as u64), facts)
         }
         Storage::Get(register) => Ok(retrieval(colons, register, facts)?),

@@ -13,8 +13,8 @@ use teco_known::{Margins, Number, Position, Range, all_near};
 use teco_model::kind::Test;
 use teco_verifier::{CharacterCode, DigitMark, Value};
 
-/// Which numbers take a way: the codes of characters where their class is asked, those of digits, and
-/// all on the other way.
+/// Which numbers take a way: the codes of characters where their class is asked, those of digits,
+/// and all on the other way.
 #[derive(Clone, Copy)]
 pub enum Numbers {
     Zero,
