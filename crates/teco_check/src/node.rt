@@ -88,7 +88,8 @@ pub fn colon(nodes: &Nodes<'_>, number: usize) -> bool
     requires one { 0 < number }
     requires last { number ≤ length nodes.now }
     ensures { (e : elements.Element) → (node_at nodes.now number).element ≡ Some e
-        → result ≡ searching.has_colon e (frame_of (node_at nodes.now number).stand.position.running.text) }
+        → result ≡ searching.has_colon e
+        (frame_of (node_at nodes.now number).stand.position.running.text) }
 {
     nodes.colon(number)
 }

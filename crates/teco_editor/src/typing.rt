@@ -63,7 +63,8 @@ impl<T: TextStore> Editor<T> {
     // Types a number and, without a colon, the end of its line.
     fn type_number(&mut self, radix: Radix, n: i32, colons: u8) -> Result<Option<i32>, Stuck>
         ensures { DoesIfMemory true self.old self.new
-            (Ok (model.typing_of (model.number_text radix n ++ model.line_end colons) self.old)) result }
+            (Ok (model.typing_of (model.number_text radix n ++ model.line_end colons) self.old))
+            result }
     {
         let text = number_text(radix, n);
         let end: &[u8] = if colons == 0 { b"\r\n" } else { b"" };

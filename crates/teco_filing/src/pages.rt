@@ -132,7 +132,8 @@ pub fn look_through<T: TextStore, H: Host>(
 ) -> Result<(), Halt>
     requires { IsSome pages.now.output }
     ensures looks { Together (λ old new. Turns old new
-        (Ok (with_typed message.now (model.looked_through (model.world_seeking text.now old)))) result)
+        (Ok (with_typed message.now (model.looked_through (model.world_seeking text.now old))))
+        result)
         editor.old pages.now editor.new pages.now (H.files host.old) (H.files host.new) }
     ensures counted { Counts result (H.failures host.old) (H.failures host.new) }
 {

@@ -103,7 +103,8 @@ pub fn give_value<T: TextStore>(
     arguments: &mut Args,
 ) -> Result<(), Stuck>
     ensures { Argues false arguments.new
-        (with_level arguments.old (model.level_with_value value editor.now arguments.old.level)) result }
+        (with_level arguments.old (model.level_with_value value editor.now arguments.old.level))
+        result }
 {
     match value_of(editor, value) {
         Given::One(number) => give(arguments, number),

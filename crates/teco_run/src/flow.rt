@@ -121,7 +121,8 @@ fn leave_iteration(
 ) -> Result<Way, Stuck>
     requires { IsRead element.now frames.now }
     ensures way { Turns frames.now.running arguments.new
-        (model.leaving (seen element.now) frames.now.running.loops arguments.old frames.now.running) result }
+        (model.leaving (seen element.now) frames.now.running.loops arguments.old
+        frames.now.running) result }
     ensures fits { IfOk result (FitsIn frames.now.running) }
     ensures out { IfOk result (λ way. is_into way ≡ false) }
 {
@@ -147,7 +148,8 @@ fn decide(
 ) -> Result<Way, Stuck>
     requires { IsRead element.now frames.now }
     ensures way { Turns frames.now.running arguments.new
-        (model.turn_of (flow_kind.Test test) (seen element.now) arguments.old frames.now.running) result }
+        (model.turn_of (flow_kind.Test test) (seen element.now) arguments.old
+        frames.now.running) result }
     ensures fits { IfOk result (FitsIn frames.now.running) }
     ensures out { IfOk result (λ way. is_into way ≡ false) }
 {
@@ -164,7 +166,8 @@ fn decide(
 fn to_turn_end(element: &Element<'_>, frames: &Frames<'_>) -> Result<Way, Code>
     requires { IsRead element.now frames.now }
     ensures way { GoesAlways frames.now.running (λ arguments.
-        model.to_turn_end (seen element.now) frames.now.running.loops arguments frames.now.running) result }
+        model.to_turn_end (seen element.now) frames.now.running.loops arguments
+        frames.now.running) result }
     ensures fits { IfOk result (FitsIn frames.now.running) }
     ensures out { IfOk result (λ way. is_into way ≡ false) }
 {

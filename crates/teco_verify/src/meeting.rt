@@ -1,9 +1,9 @@
 //! Where edges meet.
 //!
 //! The pairs below those that were pushed since two ways parted are the same on both, and lie at
-//! the same place. They are not compared: so a list of many pairs takes no time where ways meet. Nor
-//! is what is known of the registers, where no way wrote one.
-//! What is found by this is checked by comparing all of them.
+//! the same place. They are not compared: so a list of many pairs takes no time where ways meet.
+//! Nor is what is known of the registers, where no way wrote one. What is found by this is checked
+//! by comparing all of them.
 
 use std::alloc::{AllocError, Global};
 use teco_facts::{Facts, Pushed, joined_pair};

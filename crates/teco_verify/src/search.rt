@@ -18,8 +18,8 @@ use teco_poly::Poly;
 use teco_transfer::{Edges, turns};
 use teco_verifier::{LoopLine, Refusal, Rules};
 
-/// How often the body of the innermost of six iterations may be passed: as often for each of them as
-/// its choice is tried.
+/// How often the body of the innermost of six iterations may be passed: as often for each of them
+/// as its choice is tried.
 pub fn passes(rules: Rules) -> u64 {
     match rules {
         Rules::First => 729,
