@@ -7,6 +7,7 @@ use crate::promise::Promise;
 use crate::reporting::Reporting;
 use crate::setting::{Setting, check_settings, set_texts};
 use crate::streams::told_name;
+use crate::subject::{Subject, machine_with, read_subject, refuse_subject};
 use crate::watching::{Seen, Warden};
 use std::io::{Input, Write};
 use std::rt::Files;
@@ -14,13 +15,11 @@ use teco_apply::{Edit, Edited, Pages, edit_file};
 use teco_base::Reg;
 use teco_pages::Host;
 use teco_run::Machine;
+use teco_session::SessionFault;
 use teco_source::Shown;
 use teco_text::GapText;
-use teco_verdicts::{
-    AnswerFault, Claim, Console, Grouped, Known, Outcome, Request, Sourced, accepted, read_claim,
-    read_library, refuse_claim, refuse_macro, tell_second_edition,
-};
-use teco_verify::{Refusal, Verified, account_by};
+use teco_verdicts::{Console, Grouped, Known, Outcome, Request};
+use teco_verify::Verified;
 
 /// A macro of a library, and how it is run on files.
 #[derive(Clone, Copy)]
@@ -73,58 +72,96 @@ fn tell_counts<O: Write + Drop, E: Write + Drop>(
 fn tell_unedited<O: Write + Drop, E: Write + Drop>(
     console: &mut Console<O, E>,
     name: &[u8],
-    unread: Option<u64>,
+    unread: u64,
 ) {
-    let name = Shown(told_name(name));
-    match unread {
-        Some(0) => {}
-        Some(count) => {
-            let count = Grouped(count);
-            console.say(format_args!(
-                "{name}: {count} bytes behind the first page were copied unedited; --pages each \
-                    or --pages whole edits them too"
-            ));
-        }
-        None => {}
+    if unread == 0 {
+        return;
     }
+    let name = Shown(told_name(name));
+    let count = Grouped(unread);
+    console.say(format_args!(
+        "{name}: {count} bytes behind the first page were copied unedited; --pages each \
+            or --pages whole edits them too"
+    ));
+}
+
+/// A macro that was accepted, and how files are edited by it.
+#[derive(Clone, Copy)]
+pub struct Job<'a> {
+    pub task: &'a Task<'a, 'a>,
+    pub verified: &'a Verified<'a>,
+}
+
+// What came of an edit, and what was seen of its runs.
+#[derive(Clone, Copy)]
+struct Watched {
+    edited: Edited,
+    seen: Seen,
+}
+
+// What came of an edit that was watched, if it came to its end.
+fn with_seen(edited: Result<Edited, SessionFault>, seen: Seen) -> Result<Watched, ToolFault> {
+    Ok(Watched {
+        edited: edited?,
+        seen,
+    })
+}
+
+// Edits a file on a machine, and watches the runs.
+fn watch_edit<H: Host + Reporting, O: Write + Drop, E: Write + Drop>(
+    console: &mut Console<O, E>,
+    machine: &mut Machine<GapText>,
+    job: Job<'_>,
+    names: Names<'_>,
+    host: &mut H,
+) -> Result<Watched, ToolFault> {
+    let edit = Edit {
+        source: names.source,
+        target: names.target,
+        given: job.task.argument,
+        pages: job.task.pages,
+    };
+    let mut warden = Warden::new(
+        &mut console.voice,
+        names.source,
+        Promise::of(job.verified),
+        job.task.is_strict,
+    );
+    let edited = edit_file(
+        console.alloc,
+        machine,
+        job.verified,
+        &edit,
+        host,
+        &mut console.out,
+        &mut warden,
+    );
+    with_seen(edited, warden.seen())
+}
+
+// Edits a file on a machine, and says what there is to be said of it.
+fn edit_on<H: Host + Reporting, O: Write + Drop, E: Write + Drop>(
+    console: &mut Console<O, E>,
+    machine: &mut Machine<GapText>,
+    job: Job<'_>,
+    names: Names<'_>,
+    host: &mut H,
+) -> Result<Outcome, ToolFault> {
+    set_texts(machine, job.task.settings)?;
+    let watched = watch_edit(console, machine, job, names, host)?;
+    conclude(console, job.task, names.source, watched)
 }
 
 /// Edits a file by a verified macro over the files of a host, and says what there is to be said of
 /// it.
 pub fn edit_by<H: Host + Reporting, O: Write + Drop, E: Write + Drop>(
     console: &mut Console<O, E>,
-    task: &Task<'_, '_>,
+    job: Job<'_>,
     names: Names<'_>,
-    verified: &Verified<'_>,
     host: &mut H,
 ) -> Result<Outcome, ToolFault> {
-    let alloc = console.alloc;
-    let mut machine = Machine::new(alloc, GapText::new(alloc));
-    machine.set_cap(task.cap);
-    set_texts(&mut machine, task.settings)?;
-    let edit = Edit {
-        source: names.source,
-        target: names.target,
-        given: task.argument,
-        pages: task.pages,
-    };
-    let mut warden = Warden::new(
-        &mut console.voice,
-        names.source,
-        Promise::of(verified),
-        task.is_strict,
-    );
-    let edited = edit_file(
-        alloc,
-        &mut machine,
-        verified,
-        &edit,
-        host,
-        &mut console.out,
-        &mut warden,
-    )?;
-    let seen = warden.seen();
-    conclude(console, task, names.source, edited, seen)
+    let mut machine = machine_with(console.alloc, job.task.cap);
+    edit_on(console, &mut machine, job, names, host)
 }
 
 // Says what came of an edit.
@@ -132,43 +169,50 @@ fn conclude<O: Write + Drop, E: Write + Drop>(
     console: &mut Console<O, E>,
     task: &Task<'_, '_>,
     name: &[u8],
-    edited: Edited,
-    seen: Seen,
+    watched: Watched,
 ) -> Result<Outcome, ToolFault> {
+    let Watched { edited, seen } = watched;
     if task.tells_counts {
         tell_counts(console, name, edited, seen);
     }
-    if edited.refused && seen.most.is_none() {
-        return Err(ToolFault::Unsized);
-    }
     if edited.refused {
-        return Ok(Outcome::Refused);
+        return refused(seen);
     }
     if edited.coded {
         return Ok(Outcome::Coded);
     }
     if let Pages::First = task.pages {
-        tell_unedited(console, name, seen.unread);
+        tell_unedited(console, name, seen.unread.unwrap_or(0));
     }
     Ok(Outcome::Done)
 }
 
-/// Says why a macro is refused, by its certificate if there is one.
-pub fn refuse_task<O: Write + Drop, E: Write + Drop>(
+// What comes of an edit that was refused a run.
+fn refused(seen: Seen) -> Result<Outcome, ToolFault> {
+    match seen.most {
+        None => Err(ToolFault::Unsized),
+        Some(_) => Ok(Outcome::Refused),
+    }
+}
+
+// Edits a file by the macro that a task is about, if it is accepted.
+fn apply_subject<H: Host + Reporting, O: Write + Drop, E: Write + Drop>(
     console: &mut Console<O, E>,
-    sourced: &Sourced,
-    entry: Reg,
-    claim: Option<&Claim<'_>>,
-    refusal: Refusal,
-) -> Result<Outcome, AnswerFault> {
-    match claim {
-        None => {
-            let account = account_by(console.alloc, &sourced.library, entry, sourced.rules)?;
-            let outcome = refuse_macro(console, &sourced.source, &account, refusal)?;
-            tell_second_edition(console, &sourced.library, entry, sourced.rules);
-            Ok(outcome)
+    task: &Task<'_, '_>,
+    names: Names<'_>,
+    subject: &Subject<'_>,
+    host: &mut H,
+) -> Result<Outcome, ToolFault> {
+    check_settings(&subject.sourced.library, task.settings)?;
+    match subject.accepted(console.alloc, task.entry) {
+        Ok(verified) => {
+            let job = Job {
+                task,
+                verified: &verified,
+            };
+            edit_by(console, job, names, host)
         }
-        Some(claim) => refuse_claim(console, sourced, entry, claim, refusal),
+        Err(refusal) => refuse_subject(console, subject, task.entry, refusal),
     }
 }
 
@@ -181,20 +225,8 @@ pub fn apply_macro<R: Files + Input, H: Host + Reporting, O: Write + Drop, E: Wr
     names: Names<'_>,
     host: &mut H,
 ) -> Result<Outcome, ToolFault> {
-    let claim = read_claim(rt, console.alloc, task.certificate)?;
-    let Some(sourced) = read_library(rt, console, task.library)? else {
-        return Ok(Outcome::Refused);
-    };
-    check_settings(&sourced.library, task.settings)?;
-    let entry = task.entry;
-    match accepted(
-        console.alloc,
-        &sourced.library,
-        entry,
-        sourced.rules,
-        claim.as_ref(),
-    ) {
-        Ok(verified) => edit_by(console, task, names, &verified, host),
-        Err(refusal) => Ok(refuse_task(console, &sourced, entry, claim.as_ref(), refusal)?),
+    match read_subject(rt, console, task)? {
+        Some(subject) => apply_subject(console, task, names, &subject, host),
+        None => Ok(Outcome::Refused),
     }
 }

@@ -2,10 +2,11 @@
 ghost use Rattle.std.specs.Prelude.{◌≤◌, length, IsTrue};
 ghost use Rattle.teco_apply.specs.declared.editing.TheConstants.{NAME};
 
-use crate::applying::{Names, Task, edit_by, refuse_task};
+use crate::applying::{Job, Names, Task, edit_by};
 use crate::fault::ToolFault;
 use crate::keeping::keep;
 use crate::setting::check_settings;
+use crate::subject::{Subject, read_subject, refuse_subject};
 use std::alloc::{AllocError, Global};
 use std::fs::Files;
 use std::io::{Input, Write};
@@ -14,8 +15,7 @@ use teco_apply::NAME;
 use teco_base::bytes::ESC;
 use teco_pages::{Closed, Closing, FileHost};
 use teco_source::Shown;
-use teco_verdicts::{Console, Outcome, accepted, read_claim, read_library};
-use teco_verify::Verified;
+use teco_verdicts::{Console, Outcome};
 
 /// Files that are edited in place, each by itself.
 #[derive(Clone, Copy)]
@@ -44,14 +44,26 @@ const NONE: Tally = Tally {
     outcome: Outcome::Done,
 };
 
+impl Tally {
+    // These files, and one more.
+    fn with(self, ended: Ended) -> Tally {
+        Tally {
+            files: self.files.saturating_add(1),
+            changed: self.changed.saturating_add(usize::from(ended.is_change())),
+            failed: self.failed.saturating_add(usize::from(!ended.is_done())),
+            outcome: self.outcome.worse(ended.outcome),
+        }
+    }
+}
+
 // The name that a file's new text is written to: another name of the same file, since an edit can't
 // read and write one name.
 fn target_of(alloc: Global, name: &str) -> Result<String, AllocError> {
-    if name.starts_with('/') {
-        format!(in alloc; "/.{name}")
-    } else {
-        format!(in alloc; "./{name}")
-    }
+    let front = match name.as_bytes() {
+        [b'/', ..] => "/.",
+        _ => "./",
+    };
+    format!(in alloc; "{front}{name}")
 }
 
 // Can a file be edited by this name? It has no ESC and is not too long.
@@ -78,15 +90,7 @@ fn tell_name<O: Write + Drop, E: Write + Drop>(console: &mut Console<O, E>, name
     ));
 }
 
-// A macro that was accepted, and how files are edited by it.
-#[derive(Clone, Copy)]
-struct Job<'a> {
-    task: &'a Task<'a, 'a>,
-    verified: &'a Verified<'a>,
-}
-
-// Edits a file, and says what became of it; none where it is left as it was because the edit
-// failed.
+// Edits a file, and says what became of it.
 fn edit_with<R, O, E>(
     rt: R,
     console: &mut Console<O, E>,
@@ -101,11 +105,19 @@ where
 {
     let mut host = FileHost::new(console.alloc, rt);
     host.set_closing(closing);
-    let outcome = edit_by(console, job.task, names, job.verified, &mut host)?;
-    Ok(Ended {
-        outcome,
-        closed: host.closed(),
-    })
+    let outcome = edit_by(console, job, names, &mut host);
+    with_closed(outcome, host.closed())
+}
+
+// What came of the edit of a file, and of the file.
+fn with_closed(
+    outcome: Result<Outcome, ToolFault>,
+    closed: Option<Closed>,
+) -> Result<Ended, ToolFault> {
+    match outcome {
+        Ok(outcome) => Ok(Ended { outcome, closed }),
+        Err(fault) => Err(fault),
+    }
 }
 
 // What came of the edit of a file.
@@ -116,9 +128,14 @@ struct Ended {
 }
 
 impl Ended {
+    // Did all runs on the file come to their end?
+    fn is_done(self) -> bool {
+        matches!(self.outcome, Outcome::Done)
+    }
+
     // Would the file change?
     fn is_change(self) -> bool {
-        matches!(self.outcome, Outcome::Done) && matches!(self.closed, Some(Closed::Changed))
+        self.is_done() && matches!(self.closed, Some(Closed::Changed))
     }
 }
 
@@ -127,6 +144,36 @@ const FAILED: Ended = Ended {
     outcome: Outcome::Coded,
     closed: None,
 };
+
+// Says what a try has said, unless the file would change by it, and what came of it then.
+fn repeat_tried<O: Write + Drop, E: Write + Drop>(
+    console: &mut Console<O, E>,
+    apart: Console<Vec<u8>, Vec<u8>>,
+    tried: Ended,
+) -> Result<Option<Ended>, ToolFault> {
+    if tried.is_change() {
+        return Ok(None);
+    }
+    console.repeat(apart)?;
+    Ok(Some(tried))
+}
+
+// What came of the edit of a file that would not change.
+fn try_edit<R, O, E>(
+    rt: &R,
+    console: &mut Console<O, E>,
+    job: Job<'_>,
+    names: Names<'_>,
+) -> Result<Option<Ended>, ToolFault>
+where
+    R: Files + Clock + Copy + Drop,
+    O: Write + Drop,
+    E: Write + Drop,
+{
+    let mut apart = console.apart();
+    let tried = edit_with(*rt, &mut apart, job, names, Closing::Compares)?;
+    repeat_tried(console, apart, tried)
+}
 
 // Edits a file in place, once a file that would change is kept under its other name.
 fn edit_kept<R, O, E>(
@@ -141,16 +188,33 @@ where
     O: Write + Drop,
     E: Write + Drop,
 {
-    let mut apart = console.apart();
-    let tried = edit_with(*rt, &mut apart, job, names, Closing::Compares)?;
-    if !tried.is_change() {
-        console.repeat(apart)?;
-        return Ok(tried);
+    if let Some(unchanged) = try_edit(rt, console, job, names)? {
+        return Ok(unchanged);
     }
     if !keep(rt, console, names.source, suffix)? {
         return Ok(FAILED);
     }
     edit_with(*rt, console, job, names, Closing::ReplacesOther)
+}
+
+// Edits a file in place under its names.
+fn edit_named<R, O, E>(
+    rt: &R,
+    console: &mut Console<O, E>,
+    job: Job<'_>,
+    given: &InPlace<'_>,
+    names: Names<'_>,
+) -> Result<Ended, ToolFault>
+where
+    R: Files + Clock + Copy + Drop,
+    O: Write + Drop,
+    E: Write + Drop,
+{
+    match given.suffix {
+        _ if given.is_dry => edit_with(*rt, console, job, names, Closing::Compares),
+        None => edit_with(*rt, console, job, names, Closing::ReplacesOther),
+        Some(suffix) => edit_kept(rt, console, job, names, suffix),
+    }
 }
 
 // Edits a file in place, and says what became of it.
@@ -167,39 +231,44 @@ where
     E: Write + Drop,
 {
     let beside = target_of(console.alloc, name)?;
-    let Some(names) = names_of(name.as_bytes(), beside.as_bytes()) else {
-        tell_name(console, name);
-        return Ok(FAILED);
-    };
-    match given.suffix {
-        _ if given.is_dry => edit_with(*rt, console, job, names, Closing::Compares),
-        None => edit_with(*rt, console, job, names, Closing::ReplacesOther),
-        Some(suffix) => edit_kept(rt, console, job, names, suffix),
+    match names_of(name.as_bytes(), beside.as_bytes()) {
+        Some(names) => edit_named(rt, console, job, given, names),
+        None => {
+            tell_name(console, name);
+            Ok(FAILED)
+        }
     }
 }
 
-// Says what became of a file, and counts it.
-fn count<O: Write + Drop, E: Write + Drop>(
+// Says what became of a file.
+fn tell_ended<O: Write + Drop, E: Write + Drop>(
     console: &mut Console<O, E>,
-    tally: &mut Tally,
     name: &str,
     ended: Ended,
     is_dry: bool,
 ) {
     let shown = Shown(name.as_bytes());
-    tally.files = tally.files.saturating_add(1);
-    tally.outcome = tally.outcome.worse(ended.outcome);
-    if let Outcome::Done = ended.outcome {
-        if ended.is_change() {
-            tally.changed = tally.changed.saturating_add(1);
-            if is_dry {
-                console.say(format_args!("{shown}: would change"));
-            }
-        }
-    } else {
-        tally.failed = tally.failed.saturating_add(1);
+    if !ended.is_done() {
         console.complain(format_args!("{shown} is left as it was"));
+    } else if is_dry && ended.is_change() {
+        console.say(format_args!("{shown}: would change"));
     }
+}
+
+// Says how many files were edited.
+fn tell_tally<O: Write + Drop, E: Write + Drop>(
+    console: &mut Console<O, E>,
+    tally: Tally,
+    is_dry: bool,
+) {
+    let Tally {
+        files,
+        changed,
+        failed,
+        outcome: _,
+    } = tally;
+    let word = if is_dry { "would change" } else { "changed" };
+    console.say(format_args!("files: {files}, {word}: {changed}, failed: {failed}"));
 }
 
 // Edits each file in turn; one that fails is left as it was, and the others go on.
@@ -217,21 +286,37 @@ where
     let mut tally = NONE;
     for name in given.files {
         let ended = edit_one(rt, console, job, given, *name)?;
-        count(console, &mut tally, *name, ended, given.is_dry);
+        tally = tally.with(ended);
+        tell_ended(console, *name, ended, given.is_dry);
     }
-    let Tally {
-        files,
-        changed,
-        failed,
-        outcome,
-    } = tally;
-    let changed_word = if given.is_dry {
-        "would change"
-    } else {
-        "changed"
-    };
-    console.say(format_args!("files: {files}, {changed_word}: {changed}, failed: {failed}"));
-    Ok(outcome)
+    tell_tally(console, tally, given.is_dry);
+    Ok(tally.outcome)
+}
+
+// Edits files by the macro that a task is about, if it is accepted.
+fn edit_by_subject<R, O, E>(
+    rt: &R,
+    console: &mut Console<O, E>,
+    task: &Task<'_, '_>,
+    given: &InPlace<'_>,
+    subject: &Subject<'_>,
+) -> Result<Outcome, ToolFault>
+where
+    R: Files + Clock + Copy + Drop,
+    O: Write + Drop,
+    E: Write + Drop,
+{
+    check_settings(&subject.sourced.library, task.settings)?;
+    match subject.accepted(console.alloc, task.entry) {
+        Ok(verified) => {
+            let job = Job {
+                task,
+                verified: &verified,
+            };
+            edit_each(rt, console, job, given)
+        }
+        Err(refusal) => refuse_subject(console, subject, task.entry, refusal),
+    }
 }
 
 /// Accepts a macro of a library once, and edits each file by it in place, with a new machine for
@@ -248,26 +333,8 @@ where
     O: Write + Drop,
     E: Write + Drop,
 {
-    let claim = read_claim(rt, console.alloc, task.certificate)?;
-    let Some(sourced) = read_library(rt, console, task.library)? else {
-        return Ok(Outcome::Refused);
-    };
-    check_settings(&sourced.library, task.settings)?;
-    let entry = task.entry;
-    match accepted(
-        console.alloc,
-        &sourced.library,
-        entry,
-        sourced.rules,
-        claim.as_ref(),
-    ) {
-        Ok(verified) => {
-            let job = Job {
-                task,
-                verified: &verified,
-            };
-            edit_each(rt, console, job, given)
-        }
-        Err(refusal) => Ok(refuse_task(console, &sourced, entry, claim.as_ref(), refusal)?),
+    match read_subject(rt, console, task)? {
+        Some(subject) => edit_by_subject(rt, console, task, given, &subject),
+        None => Ok(Outcome::Refused),
     }
 }

@@ -1,6 +1,7 @@
 //! Files that are kept as they were.
 use crate::fault::ToolFault;
 use crate::reporting::tell_trouble;
+use std::alloc::Global;
 use std::fs::Files;
 use std::io::Write;
 use std::time::Clock;
@@ -42,6 +43,50 @@ fn copy<H: Host>(
     host.close_out()
 }
 
+// The name that a file is kept under.
+fn kept_name(alloc: Global, name: &[u8], suffix: &str) -> Result<Vec<u8>, ToolFault> {
+    let mut target = name.to_vec(alloc)?;
+    target.extend_from_slice(suffix.as_bytes())?;
+    Ok(target)
+}
+
+// Copies a file over files of its own, and says why where that could not be done.
+fn copy_by<R, O, E>(
+    rt: &R,
+    console: &mut Console<O, E>,
+    piece: &mut [u8],
+    source: &[u8],
+    target: &[u8],
+) -> bool
+where
+    R: Files + Clock + Copy + Drop,
+    O: Write + Drop,
+    E: Write + Drop,
+{
+    let mut host = FileHost::new(console.alloc, *rt);
+    let is_copied = copy(&mut host, piece, source, target).is_ok();
+    if !is_copied {
+        tell_trouble(&mut console.voice, &host);
+    }
+    is_copied
+}
+
+// Keeps a file as it is under another name.
+fn keep_as<R, O, E>(
+    rt: &R,
+    console: &mut Console<O, E>,
+    source: &[u8],
+    target: &[u8],
+) -> Result<bool, ToolFault>
+where
+    R: Files + Clock + Copy + Drop,
+    O: Write + Drop,
+    E: Write + Drop,
+{
+    let mut piece = vec![in console.alloc; 0; PIECE]?;
+    Ok(copy_by(rt, console, &mut piece, source, target))
+}
+
 /// Keeps a file as it is under its name with a suffix behind it, in the place of one that has it,
 /// and says whether that could be done. It says why not.
 pub fn keep<R, O, E>(
@@ -55,16 +100,6 @@ where
     O: Write + Drop,
     E: Write + Drop,
 {
-    let alloc = console.alloc;
-    let mut target = name.to_vec(alloc)?;
-    target.extend_from_slice(suffix.as_bytes())?;
-    let mut piece = vec![in alloc; 0; PIECE]?;
-    let mut host = FileHost::new(alloc, *rt);
-    match copy(&mut host, &mut piece, name, &target) {
-        Ok(()) => Ok(true),
-        Err(Failed) => {
-            tell_trouble(&mut console.voice, &host);
-            Ok(false)
-        }
-    }
+    let target = kept_name(console.alloc, name, suffix)?;
+    keep_as(rt, console, name, &target)
 }

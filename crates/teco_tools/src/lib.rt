@@ -13,6 +13,7 @@ mod running;
 mod setting;
 mod streams;
 mod strings;
+mod subject;
 mod telling;
 mod tracing;
 mod watching;

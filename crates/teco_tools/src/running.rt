@@ -6,22 +6,20 @@ use crate::fault::ToolFault;
 use crate::reporting::tell_trouble;
 use crate::setting::{Setting, set_texts};
 use crate::strings::Progress;
-use crate::telling::{code_of, size_of, tell_macro};
+use crate::subject::machine_with;
+use crate::telling::{Scene, code_of, size_of, tell_macro};
 use std::alloc::{AllocError, Global};
 use std::fs::Files;
 use std::io::{Input, Read, Write};
 use std::time::Clock;
 use teco_base::{Code, LIMIT};
-use teco_explain::note_of_code;
 use teco_model::Limits;
 use teco_pages::FileHost;
 use teco_run::{Machine, Stop, Stopped};
-use teco_session::{Conduct, Done, Listener, session_heard};
-use teco_source::{Shown, Source};
+use teco_session::{Conduct, Done, Listener, SessionFault, session_heard};
+use teco_source::{Position, Shown, Source};
 use teco_text::{GapText, TextStore};
-use teco_verdicts::{
-    Console, Escape, Outcome, Voice, element_at, form_of, form_of_word, letters, read_file,
-};
+use teco_verdicts::{Console, Escape, Outcome, Voice, form_of, form_of_word, letters, read_file};
 
 /// What command strings are read from.
 #[derive(Clone, Copy)]
@@ -80,8 +78,25 @@ impl<'a, E: Write + Drop> Teller<'a, E> {
         }
     }
 
-    // Says where in a command string it stopped.
-    fn tell_string<T: TextStore>(
+    // Says where in a command string of a stream it stopped.
+    fn tell_in_stream(&mut self, place: usize, scene: Scene<'_>) {
+        let name = scene.letters();
+        let number = self.number;
+        self.voice.say(format_args!("?{name} in command string {number} at byte {place}: {scene}"));
+    }
+
+    // Says where in a source it stopped.
+    fn tell_in_source(&mut self, source: &Source, place: usize, scene: Scene<'_>) {
+        let name = scene.letters();
+        let at = self.begin.saturating_add(place);
+        let file = Shown(source.name().as_bytes());
+        let Position { line, column } = source.position(at);
+        let excerpt = source.excerpt(at);
+        self.voice.say(format_args!("{file}:{line}:{column}: ?{name} at {scene}\n{excerpt}"));
+    }
+
+    // Says where it stopped with a code: in a command string, or in a macro.
+    fn tell_code<T: TextStore>(
         &mut self,
         text: &[u8],
         stopped: &Stopped,
@@ -89,31 +104,33 @@ impl<'a, E: Write + Drop> Teller<'a, E> {
         code: Code,
     ) {
         let place = stopped.site.place;
-        let found = Shown(element_at(text, place));
-        let name = letters(code);
-        let summary = note_of_code(code).summary;
-        let (pointer, length) = size_of(machine);
-        match self.source {
-            None => {
-                let number = self.number;
-                self.voice.say(format_args!(
-                    "?{name} in command string {number} at byte {place}: {found} (pointer \
-                        {pointer}, length {length}): {summary}"
-                ));
-            }
-            Some(source) => {
-                let at = self.begin.saturating_add(place);
-                let position = source.position(at);
-                let file = Shown(source.name().as_bytes());
-                let line = position.line;
-                let column = position.column;
-                let excerpt = source.excerpt(at);
-                self.voice.say(format_args!(
-                    "{file}:{line}:{column}: ?{name} at {found} (pointer {pointer}, length \
-                        {length}): {summary}\n{excerpt}"
-                ));
-            }
+        if let Some(register) = stopped.site.register {
+            tell_macro(self.voice, stopped, register, machine, code);
+            return;
         }
+        let scene = Scene::of(text, place, machine, code);
+        match self.source {
+            None => self.tell_in_stream(place, scene),
+            Some(source) => self.tell_in_source(source, place, scene),
+        }
+    }
+
+    // Says that the last command string of a stream has no end.
+    fn tell_open_stream(&mut self, name: &str) {
+        let number = self.number.saturating_add(1);
+        self.voice.say(format_args!(
+            "?{name} in command string {number}: it has no end, which is two ESC"
+        ));
+    }
+
+    // Says that the last command string of a source has no end.
+    fn tell_open_source(&mut self, source: &Source, name: &str) {
+        let file = Shown(source.name().as_bytes());
+        let Position { line, column } = source.position(self.begin);
+        self.voice.say(format_args!(
+            "{file}:{line}:{column}: ?{name}: the command string that begins here has no end, \
+                which is two ESC"
+        ));
     }
 }
 
@@ -131,10 +148,7 @@ where
     ) {
         self.number = self.number.saturating_add(1);
         if let Some(code) = code_of(stopped.stop) {
-            match stopped.site.register {
-                None => self.tell_string(text, stopped, machine, code),
-                Some(register) => tell_macro(self.voice, stopped, register, machine, code),
-            }
+            self.tell_code(text, stopped, machine, code);
             if let Stop::HostFault(_) = stopped.stop {
                 tell_trouble(self.voice, host);
             }
@@ -144,20 +158,9 @@ where
 
     fn rest(&mut self, code: Option<Code>) {
         let name = code.map_or("", letters);
-        let number = self.number.saturating_add(1);
         match self.source {
-            None => self.voice.say(format_args!(
-                "?{name} in command string {number}: it has no end, which is two ESC"
-            )),
-            Some(source) => {
-                let position = source.position(self.begin);
-                let file = Shown(source.name().as_bytes());
-                let line = position.line;
-                let column = position.column;
-                self.voice.say(format_args!(
-                    "{file}:{line}:{column}: ?{name}: the command string that begins here has no end, which is two ESC"
-                ));
-            }
+            None => self.tell_open_stream(name),
+            Some(source) => self.tell_open_source(source, name),
         }
     }
 }
@@ -171,6 +174,17 @@ fn word_source(alloc: Global, word: &str, escape: Escape) -> Result<Source, Allo
     source.ended(count)
 }
 
+// The source of a script that is a file.
+fn file_source<R: Files + Input>(
+    rt: &R,
+    alloc: Global,
+    name: &str,
+    escape: Escape,
+) -> Result<Source, ToolFault> {
+    let bytes = read_file(rt, alloc, name)?;
+    Ok(Source::script(alloc, name, bytes, form_of(name, escape))?)
+}
+
 // The source of a script that is none of standard input.
 fn source_of<R: Files + Input>(
     rt: &R,
@@ -181,11 +195,7 @@ fn source_of<R: Files + Input>(
     match script {
         Script::Stream => Ok(None),
         Script::Word(word) => Ok(Some(word_source(alloc, word, escape)?)),
-        Script::File(name) => {
-            let bytes = read_file(rt, alloc, name)?;
-            let form = form_of(name, escape);
-            Ok(Some(Source::script(alloc, name, bytes, form)?))
-        }
+        Script::File(name) => Ok(Some(file_source(rt, alloc, name, escape)?)),
     }
 }
 
@@ -208,20 +218,20 @@ impl Run<'_, '_> {
 fn run_stream<S, F, O, E>(
     console: &mut Console<O, E>,
     machine: &mut Machine<GapText>,
-    run: &Run<'_, '_>,
+    conduct: Conduct,
     reader: &mut S,
     host: &mut FileHost<F>,
-) -> Result<Done, ToolFault>
+) -> Result<Done, SessionFault>
 where
     S: Read,
     F: Files + Clock + Drop,
     O: Write + Drop,
     E: Write + Drop,
+    requires { conduct.limits.length ≤ LIMIT }
 {
     let mut teller = Teller::of_stream(&mut console.voice);
     let out = &mut console.out;
-    let conduct = run.conduct();
-    Ok(session_heard(
+    session_heard(
         console.alloc,
         machine,
         reader,
@@ -229,27 +239,27 @@ where
         host,
         conduct,
         &mut teller,
-    )?)
+    )
 }
 
 // Runs what a source says.
 fn run_source<F, O, E>(
     console: &mut Console<O, E>,
     machine: &mut Machine<GapText>,
-    run: &Run<'_, '_>,
+    conduct: Conduct,
     source: &Source,
     host: &mut FileHost<F>,
-) -> Result<Done, ToolFault>
+) -> Result<Done, SessionFault>
 where
     F: Files + Clock + Drop,
     O: Write + Drop,
     E: Write + Drop,
+    requires { conduct.limits.length ≤ LIMIT }
 {
     let mut text = source.text();
     let mut teller = Teller::of_source(&mut console.voice, source);
     let out = &mut console.out;
-    let conduct = run.conduct();
-    Ok(session_heard(
+    session_heard(
         console.alloc,
         machine,
         &mut text,
@@ -257,7 +267,78 @@ where
         host,
         conduct,
         &mut teller,
-    )?)
+    )
+}
+
+// A machine that runs scripts, with where it types to, and its files.
+#[derive(Drop)]
+struct Desk<'c, 'h, O: Write + Drop, E: Write + Drop, F: Files + Clock + Drop> {
+    console: &'c mut Console<O, E>,
+    machine: Machine<GapText>,
+    host: &'h mut FileHost<F>,
+}
+
+impl<O: Write + Drop, E: Write + Drop, F: Files + Clock + Drop> Desk<'_, '_, O, E, F> {
+    // Runs what a source says, or what a reader gives where there is none.
+    fn run_script<S: Read>(
+        &mut self,
+        conduct: Conduct,
+        source: Option<Source>,
+        reader: &mut S,
+    ) -> Result<Done, SessionFault>
+        requires { conduct.limits.length ≤ LIMIT }
+    {
+        match source {
+            None => run_stream(self.console, &mut self.machine, conduct, reader, self.host),
+            Some(source) => run_source(
+                self.console,
+                &mut self.machine,
+                conduct,
+                &source,
+                self.host,
+            ),
+        }
+    }
+
+    // Runs scripts in turn, and says what came of them, and whether the session was ended.
+    fn run_each<R: Files + Input, S: Read>(
+        &mut self,
+        rt: &R,
+        run: &Run<'_, '_>,
+        reader: &mut S,
+    ) -> Result<Done, ToolFault> {
+        let mut all = Done {
+            coded: false,
+            exit: false,
+        };
+        for script in run.scripts {
+            let source = source_of(rt, self.console.alloc, *script, run.escape)?;
+            let done = self.run_script(run.conduct(), source, reader)?;
+            all.coded |= done.coded;
+            all.exit = done.exit;
+            if done.exit || (done.coded && run.until_code) {
+                break;
+            }
+        }
+        Ok(all)
+    }
+
+    // Gives registers their texts, and runs scripts in turn.
+    fn run_all<R: Files + Input, S: Read>(
+        &mut self,
+        rt: &R,
+        run: &Run<'_, '_>,
+        reader: &mut S,
+    ) -> Result<Outcome, ToolFault> {
+        set_texts(&mut self.machine, run.settings)?;
+        let done = self.run_each(rt, run, reader)?;
+        tell_left(self.console, &self.machine, done.exit);
+        Ok(if done.coded {
+            Outcome::Coded
+        } else {
+            Outcome::Done
+        })
+    }
 }
 
 // Says what a run leaves that is lost: an output that isn't closed, and text that the end of the
@@ -270,11 +351,13 @@ fn tell_left<O: Write + Drop, E: Write + Drop>(
     let (_, length) = size_of(machine);
     if machine.has_output() {
         console.complain(
-            "an output is still open, and what was written to it is dropped: close it with EC or EF",
+            "an output is still open, and what was written to it is dropped: \
+                close it with EC or EF",
         );
     } else if is_exit && length > 0 {
         console.complain(format_args!(
-            "EX ended the session with {length} characters in the buffer and no output, and they are dropped"
+            "EX ended the session with {length} characters in the buffer and no output, \
+                and they are dropped"
         ));
     }
 }
@@ -296,25 +379,11 @@ where
     O: Write + Drop,
     E: Write + Drop,
 {
-    let alloc = console.alloc;
-    let mut machine = Machine::new(alloc, GapText::new(alloc));
-    machine.set_cap(run.cap);
-    set_texts(&mut machine, run.settings)?;
-    let mut outcome = Outcome::Done;
-    let mut is_exit = false;
-    for script in run.scripts {
-        let done = match source_of(rt, alloc, *script, run.escape)? {
-            None => run_stream(console, &mut machine, run, reader, host)?,
-            Some(source) => run_source(console, &mut machine, run, &source, host)?,
-        };
-        if done.coded {
-            outcome = Outcome::Coded;
-        }
-        is_exit = done.exit;
-        if done.exit || (done.coded && run.until_code) {
-            break;
-        }
-    }
-    tell_left(console, &machine, is_exit);
-    Ok(outcome)
+    let machine = machine_with(console.alloc, run.cap);
+    let mut desk = Desk {
+        console,
+        machine,
+        host,
+    };
+    desk.run_all(rt, run, reader)
 }

@@ -25,20 +25,32 @@ impl Setting {
     /// Reads a word, whose text is in the form of words; none where it is no such word, or its text
     /// is too long.
     pub fn read(alloc: Global, word: &str, escape: Escape) -> Result<Option<Setting>, AllocError> {
-        let Some((name, text)) = word.split_once('=') else {
+        let Some((register, text)) = parts_of(word) else {
             return Ok(None);
         };
-        let Some(register) = register_named(name.as_bytes()) else {
-            return Ok(None);
-        };
-        let bytes = text.as_bytes().to_vec(alloc)?;
-        let source = Source::new(alloc, word, bytes, form_of_word(escape))?;
-        let text = source.text().to_vec(alloc)?;
-        if text.len() > LIMIT {
-            return Ok(None);
-        }
-        Ok(Some(Setting { register, text }))
+        Ok(Setting::of(register, text_of(alloc, text, escape)?))
     }
+
+    // The text of a register; none where it is too long.
+    fn of(register: Reg, text: Vec<u8>) -> Option<Setting> {
+        if text.len() > LIMIT {
+            None
+        } else {
+            Some(Setting { register, text })
+        }
+    }
+}
+
+// The register and the text of a word.
+fn parts_of(word: &str) -> Option<(Reg, &str)> {
+    let (name, text) = word.split_once('=')?;
+    let register = register_named(name.as_bytes())?;
+    Some((register, text))
+}
+
+// What a text in the form of words says.
+fn text_of(alloc: Global, text: &str, escape: Escape) -> Result<Vec<u8>, AllocError> {
+    form_of_word(escape).read(alloc, text.as_bytes())
 }
 
 // The register of a name.

@@ -1,4 +1,5 @@
 //! What is said of stops: the code, where it was met, and what it means.
+use std::fmt;
 use std::io::Write;
 use teco_base::{Code, Reg};
 use teco_explain::note_of_code;
@@ -27,6 +28,51 @@ pub fn size_of<T: TextStore>(machine: &Machine<T>) -> (usize, usize) {
     (machine.dot(), first.len().saturating_add(second.len()))
 }
 
+/// What a run met where it stopped: the element, what is edited, and the code.
+#[derive(Clone, Copy)]
+pub struct Scene<'a> {
+    element: &'a [u8],
+    pointer: usize,
+    length: usize,
+    code: Code,
+}
+
+impl<'a> Scene<'a> {
+    /// What a run met at a place of a text.
+    pub fn of<T: TextStore>(
+        text: &'a [u8],
+        place: usize,
+        machine: &Machine<T>,
+        code: Code,
+    ) -> Scene<'a> {
+        let (pointer, length) = size_of(machine);
+        Scene {
+            element: element_at(text, place),
+            pointer,
+            length,
+            code,
+        }
+    }
+
+    /// The letters of the code.
+    pub fn letters(self) -> &'static str {
+        letters(self.code)
+    }
+}
+
+impl fmt::Display for Scene<'_> {
+    fn fmt<W: fmt::Write>(&self, f: &mut fmt::Formatter<W>) -> fmt::Result {
+        let element = Shown(self.element);
+        let pointer = self.pointer;
+        let length = self.length;
+        let summary = note_of_code(self.code).summary;
+        write!(
+            f,
+            "{element} (pointer {pointer}, length {length}): {summary}"
+        )
+    }
+}
+
 /// Says where in a macro a run stopped.
 pub fn tell_macro<T: TextStore, E: Write + Drop>(
     voice: &mut Voice<E>,
@@ -37,15 +83,9 @@ pub fn tell_macro<T: TextStore, E: Write + Drop>(
 ) {
     let place = stopped.site.place;
     let text = machine.regs().text(register);
-    let found = Shown(element_at(text, place));
-    let position = Position::of(text, place);
-    let name = letters(code);
-    let summary = note_of_code(code).summary;
-    let (pointer, length) = size_of(machine);
-    let line = position.line;
-    let column = position.column;
+    let scene = Scene::of(text, place, machine, code);
+    let name = scene.letters();
+    let Position { line, column } = Position::of(text, place);
     let register = char::from(register.name());
-    voice.say(format_args!(
-        "?{name} at {line}:{column} in macro {register}: {found} (pointer {pointer}, length {length}): {summary}"
-    ));
+    voice.say(format_args!("?{name} at {line}:{column} in macro {register}: {scene}"));
 }

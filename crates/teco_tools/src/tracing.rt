@@ -6,16 +6,19 @@ use crate::applying::{Names, Task};
 use crate::fault::ToolFault;
 use crate::reporting::{Reporting, tell_trouble};
 use crate::setting::{check_settings, set_texts};
+use crate::subject::machine_with;
 use crate::telling::{code_of, size_of, tell_macro};
-use std::alloc::Global;
+use std::alloc::{AllocError, Global};
 use std::io::{Input, Write};
 use std::rt::Files;
+use std::{fmt, io};
 use teco_base::bytes::ESC;
 use teco_base::{Code, LIMIT, Reg};
 use teco_explain::note_of_code;
+use teco_library::Library;
 use teco_model::Stop;
 use teco_pages::Host;
-use teco_run::{Machine, Progress, Site, Stopped};
+use teco_run::{Execution, Machine, Progress, Site, Stopped};
 use teco_source::{Position, Shown};
 use teco_text::{GapText, TextStore};
 use teco_verdicts::{AnswerFault, Console, Outcome, element_at, letters, read_library};
@@ -23,14 +26,20 @@ use teco_verdicts::{AnswerFault, Console, Outcome, element_at, letters, read_lib
 /// What stands over the steps.
 const HEAD: &str = "step\tplace\telement\tpointer\tlength\tanswer\ttyped\n";
 
-// The command string that opens the files and reads the first page.
-fn opening(alloc: Global, names: &Names<'_>) -> Result<Vec<u8>, ToolFault> {
-    let mut text = Vec::new(alloc);
+// Adds the command string that opens files and reads the first page.
+fn push_opening(text: &mut Vec<u8>, names: &Names<'_>) -> Result<(), ToolFault> {
     text.extend_from_slice(b"ER")?;
     text.extend_from_slice(names.source)?;
     text.extend_from_slice(&[ESC, b'E', b'W'])?;
     text.extend_from_slice(names.target)?;
     text.extend_from_slice(&[ESC, b'Y'])?;
+    Ok(())
+}
+
+// The command string that opens files and reads the first page.
+fn opening(alloc: Global, names: &Names<'_>) -> Result<Vec<u8>, ToolFault> {
+    let mut text = Vec::new(alloc);
+    push_opening(&mut text, names)?;
     Ok(text)
 }
 
@@ -45,12 +54,12 @@ fn within_limit(text: &[u8]) -> Result<&[u8], ToolFault>
 }
 
 // The command string that calls a macro.
-fn call(alloc: Global, entry: Reg, argument: Option<i32>) -> Result<String, ToolFault> {
+fn call(alloc: Global, entry: Reg, argument: Option<i32>) -> Result<String, AllocError> {
     let name = char::from(entry.name());
-    Ok(match argument {
-        None => format!(in alloc; "M{name}")?,
-        Some(n) => format!(in alloc; "{n}M{name}")?,
-    })
+    match argument {
+        None => format!(in alloc; "M{name}"),
+        Some(n) => format!(in alloc; "{n}M{name}"),
+    }
 }
 
 // Where a run stands, and the element there, as they are listed.
@@ -58,15 +67,18 @@ fn shown_site<T: TextStore>(
     alloc: Global,
     machine: &Machine<T>,
     command: &[u8],
-    site: &Site,
-) -> Result<String, ToolFault> {
-    let (name, text) = match &site.register {
-        None => ('-', command),
-        Some(register) => (char::from(register.name()), machine.regs().text(*register)),
+    site: Site,
+) -> Result<String, AllocError> {
+    let name = site
+        .register
+        .map_or('-', |register| char::from(register.name()));
+    let text = match site.register {
+        None => command,
+        Some(register) => machine.regs().text(register),
     };
     let Position { line, column } = Position::of(text, site.place);
     let found = Shown(element_at(text, site.place));
-    Ok(format!(in alloc; "{name}:{line}:{column}\t{found}")?)
+    format!(in alloc; "{name}:{line}:{column}\t{found}")
 }
 
 // What a run has come to behind a step that was not done.
@@ -81,48 +93,17 @@ fn stop_of(progress: Progress, steps: u64) -> Option<Stop> {
     }
 }
 
-// Lists a step that was done.
-fn list_step<T: TextStore, O: Write + Drop, E: Write + Drop>(
-    console: &mut Console<O, E>,
-    machine: &mut Machine<T>,
-    number: u64,
-    site: &str,
-    answer: Option<i32>,
-) -> Result<(), ToolFault> {
-    let (pointer, length) = size_of(machine);
-    let typed = machine.take_typed();
-    let typed = Shown(&typed);
-    match answer {
-        None => console.answer(format_args!(
-            "{number}\t{site}\t{pointer}\t{length}\t-\t{typed}\n"
-        ))?,
-        Some(answer) => console.answer(format_args!(
-            "{number}\t{site}\t{pointer}\t{length}\t{answer}\t{typed}\n"
-        ))?,
-    }
-    Ok(())
-}
+// The value that is pending behind a step, if there is one.
+#[derive(Clone, Copy)]
+struct Answer(Option<i32>);
 
-// Says what a run came to.
-fn conclude<T: TextStore, H: Reporting, O: Write + Drop, E: Write + Drop>(
-    console: &mut Console<O, E>,
-    machine: &Machine<T>,
-    stopped: &Stopped,
-    host: &H,
-) -> Outcome {
-    let steps = stopped.steps;
-    let Some(code) = code_of(stopped.stop) else {
-        console.say(format_args!("it came to its end in {steps} steps"));
-        return Outcome::Done;
-    };
-    match stopped.site.register {
-        Some(register) => tell_macro(&mut console.voice, stopped, register, machine, code),
-        None => tell_code(console, code),
+impl fmt::Display for Answer {
+    fn fmt<W: fmt::Write>(&self, f: &mut fmt::Formatter<W>) -> fmt::Result {
+        match self.0 {
+            None => write!(f, "-"),
+            Some(answer) => write!(f, "{answer}"),
+        }
     }
-    if let Stop::HostFault(_) = stopped.stop {
-        tell_trouble(&mut console.voice, host);
-    }
-    Outcome::Coded
 }
 
 // Says a code that is met in no macro.
@@ -132,29 +113,144 @@ fn tell_code<O: Write + Drop, E: Write + Drop>(console: &mut Console<O, E>, code
     console.say(format_args!("?{name}: {summary}"));
 }
 
-// Does the steps of a command string one by one, and lists them.
-fn follow<T: TextStore, H: Host + Reporting, O: Write + Drop, E: Write + Drop>(
-    console: &mut Console<O, E>,
-    machine: &mut Machine<T>,
-    text: &[u8],
-    most: u64,
-    host: &mut H,
-) -> Result<Outcome, ToolFault> {
-    let command = within_limit(text)?;
-    let mut execution = machine.begin(command)?;
-    for steps in 0..most {
-        let site = execution.site();
-        let shown = shown_site(console.alloc, machine, command, &site)?;
-        let progress = machine.step(&mut execution, host);
-        if let Some(stop) = stop_of(progress, steps) {
-            let stopped = Stopped { stop, steps, site };
-            return Ok(conclude(console, machine, &stopped, host));
-        }
-        let number = steps.saturating_add(1);
-        list_step(console, machine, number, &shown, execution.value())?;
+// A machine whose steps are listed, with its files.
+#[derive(Drop)]
+struct Tracer<'c, 'h, O: Write + Drop, E: Write + Drop, H: Host + Reporting> {
+    console: &'c mut Console<O, E>,
+    machine: Machine<GapText>,
+    host: &'h mut H,
+}
+
+impl<O: Write + Drop, E: Write + Drop, H: Host + Reporting> Tracer<'_, '_, O, E, H> {
+    // Opens the files, and reads the first page.
+    fn open(&mut self, opening: &[u8]) -> Result<Stopped, ToolFault> {
+        let command = within_limit(opening)?;
+        Ok(self.machine.run_to_stop(command, u64::MAX, self.host))
     }
-    console.say(format_args!("{most} steps are listed, and it goes on; --limit lists more"));
-    Ok(Outcome::Done)
+
+    // Says what a run came to that stopped with a code.
+    fn tell_stop(&mut self, stopped: &Stopped, code: Code) {
+        match stopped.site.register {
+            Some(register) => {
+                let voice = &mut self.console.voice;
+                tell_macro(voice, stopped, register, &self.machine, code);
+            }
+            None => tell_code(self.console, code),
+        }
+        if let Stop::HostFault(_) = stopped.stop {
+            tell_trouble(&mut self.console.voice, self.host);
+        }
+    }
+
+    // Says what a run came to.
+    fn conclude(&mut self, stopped: &Stopped) -> Outcome {
+        if let Some(code) = code_of(stopped.stop) {
+            self.tell_stop(stopped, code);
+            return Outcome::Coded;
+        }
+        let steps = stopped.steps;
+        self.console
+            .say(format_args!("it came to its end in {steps} steps"));
+        Outcome::Done
+    }
+
+    // Lists a step that was done.
+    fn list(&mut self, number: u64, site: &str, answer: Answer) -> io::Result<()> {
+        let (pointer, length) = size_of(&self.machine);
+        let typed = self.machine.take_typed();
+        let typed = Shown(&typed);
+        self.console.answer(format_args!(
+            "{number}\t{site}\t{pointer}\t{length}\t{answer}\t{typed}\n"
+        ))
+    }
+
+    // Does the step of a number, which begins at a site, and lists it; what the run came to if it
+    // was not done.
+    fn step(
+        &mut self,
+        execution: &mut Execution<'_>,
+        number: u64,
+        site: &str,
+    ) -> Result<Option<Stop>, ToolFault> {
+        let progress = self.machine.step(execution, self.host);
+        let stop = stop_of(progress, number.saturating_sub(1));
+        if stop.is_none() {
+            self.list(number, site, Answer(execution.value()))?;
+        }
+        Ok(stop)
+    }
+
+    // Does the next step behind so many, and lists it.
+    fn advance(
+        &mut self,
+        execution: &mut Execution<'_>,
+        command: &[u8],
+        steps: u64,
+    ) -> Result<Option<Stop>, ToolFault> {
+        let site = execution.site();
+        let shown = shown_site(self.console.alloc, &self.machine, command, site)?;
+        self.step(execution, steps.saturating_add(1), shown.as_str())
+    }
+
+    // Does the steps of a run one by one, and lists them.
+    fn follow(
+        &mut self,
+        execution: &mut Execution<'_>,
+        command: &[u8],
+        most: u64,
+    ) -> Result<Outcome, ToolFault> {
+        for steps in 0..most {
+            let site = execution.site();
+            if let Some(stop) = self.advance(execution, command, steps)? {
+                return Ok(self.conclude(&Stopped { stop, steps, site }));
+            }
+        }
+        self.console.say(format_args!(
+            "{most} steps are listed, and it goes on; --limit lists more"
+        ));
+        Ok(Outcome::Done)
+    }
+
+    // Does the steps of a command string one by one, and lists them.
+    fn follow_command(&mut self, text: &[u8], most: u64) -> Result<Outcome, ToolFault> {
+        let command = within_limit(text)?;
+        let mut execution = self.machine.begin(command)?;
+        self.follow(&mut execution, command, most)
+    }
+
+    // Does the steps of a macro of a library one by one, and lists them.
+    fn follow_macro(
+        &mut self,
+        task: &Task<'_, '_>,
+        library: &Library,
+        most: u64,
+    ) -> Result<Outcome, ToolFault> {
+        self.machine.load(library.texts())?;
+        self.console.answer(HEAD)?;
+        let command = call(self.console.alloc, task.entry, task.argument)?;
+        self.follow_command(command.as_bytes(), most)
+    }
+
+    // Opens the files, and lists the steps of a macro of a library on them.
+    fn trace(
+        &mut self,
+        task: &Task<'_, '_>,
+        library: &Library,
+        listing: Listing<'_>,
+    ) -> Result<Outcome, ToolFault> {
+        set_texts(&mut self.machine, task.settings)?;
+        let stopped = self.open_names(&listing.names)?;
+        if code_of(stopped.stop).is_some() {
+            return Ok(self.conclude(&stopped));
+        }
+        self.follow_macro(task, library, listing.most)
+    }
+
+    // Opens files of these names, and reads the first page.
+    fn open_names(&mut self, names: &Names<'_>) -> Result<Stopped, ToolFault> {
+        let opening = opening(self.console.alloc, names)?;
+        self.open(&opening)
+    }
 }
 
 /// The file whose steps are listed, and how many are at most.
@@ -162,6 +258,24 @@ fn follow<T: TextStore, H: Host + Reporting, O: Write + Drop, E: Write + Drop>(
 pub struct Listing<'a> {
     pub names: Names<'a>,
     pub most: u64,
+}
+
+// Lists the steps of a macro of a library.
+fn trace_library<H: Host + Reporting, O: Write + Drop, E: Write + Drop>(
+    console: &mut Console<O, E>,
+    task: &Task<'_, '_>,
+    library: &Library,
+    listing: Listing<'_>,
+    host: &mut H,
+) -> Result<Outcome, ToolFault> {
+    check_settings(library, task.settings)?;
+    let machine = machine_with(console.alloc, task.cap);
+    let mut tracer = Tracer {
+        console,
+        machine,
+        host,
+    };
+    tracer.trace(task, library, listing)
 }
 
 /// Lists the steps of a macro of a library on a file, up to the most: the number of each, the
@@ -175,27 +289,8 @@ pub fn trace_macro<R: Files + Input, H: Host + Reporting, O: Write + Drop, E: Wr
     listing: Listing<'_>,
     host: &mut H,
 ) -> Result<Outcome, ToolFault> {
-    let Some(sourced) = read_library(rt, console, task.library)? else {
-        return Ok(Outcome::Refused);
-    };
-    check_settings(&sourced.library, task.settings)?;
-    let alloc = console.alloc;
-    let mut machine = Machine::new(alloc, GapText::new(alloc));
-    machine.set_cap(task.cap);
-    set_texts(&mut machine, task.settings)?;
-    let opening = opening(alloc, &listing.names)?;
-    let stopped = machine.run_to_stop(within_limit(&opening)?, u64::MAX, host);
-    if code_of(stopped.stop).is_some() {
-        return Ok(conclude(console, &machine, &stopped, host));
+    match read_library(rt, console, task.library)? {
+        Some(sourced) => trace_library(console, task, &sourced.library, listing, host),
+        None => Ok(Outcome::Refused),
     }
-    machine.load(sourced.library.texts())?;
-    console.answer(HEAD)?;
-    let command = call(alloc, task.entry, task.argument)?;
-    follow(
-        console,
-        &mut machine,
-        command.as_bytes(),
-        listing.most,
-        host,
-    )
 }

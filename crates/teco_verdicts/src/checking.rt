@@ -15,9 +15,9 @@ use std::io::{Input, Write};
 use std::rt::Files;
 use teco_base::Reg;
 use teco_base::bytes::LF;
-use teco_source::Shown;
+use teco_source::{Shown, Source};
 use teco_verifier::Rules;
-use teco_verify::{Refusal, verify_by};
+use teco_verify::{Refusal, Verified, verify_by};
 
 // The first line of a text, and what comes behind its end.
 fn split_line(text: &[u8]) -> (&[u8], &[u8]) {
@@ -120,8 +120,31 @@ fn tell_edition<O: Write + Drop, E: Write + Drop>(
         Rules::Second => ("second", 2),
     };
     console.say(format_args!(
-        "{name}: refused X18: the certificate is of the {edition} edition of the rules, which --rules {option} checks"
+        "{name}: refused X18: the certificate is of the {edition} edition of the rules, \
+            which --rules {option} checks"
     ));
+}
+
+// Says in which line a certificate is another than that of the macro.
+fn tell_wanted<O: Write + Drop, E: Write + Drop>(
+    console: &mut Console<O, E>,
+    claim: &Claim<'_>,
+    verified: &Verified<'_>,
+) -> Result<(), AnswerFault> {
+    let wanted = verified.certificate(console.alloc)?;
+    tell_difference(console, claim.name, &claim.bytes, &wanted);
+    Ok(())
+}
+
+// Says why a macro of a source is refused.
+fn tell_refusal<O: Write + Drop, E: Write + Drop>(
+    console: &mut Console<O, E>,
+    source: &Source,
+    refusal: &Refusal,
+) {
+    if let Some(told) = explained(source, refusal) {
+        console.say(told);
+    }
 }
 
 // Says why a certificate is refused: the macro is, or a line is another.
@@ -132,17 +155,12 @@ fn tell_why<O: Write + Drop, E: Write + Drop>(
     claim: &Claim<'_>,
 ) -> Result<(), AnswerFault> {
     match verify_by(console.alloc, &sourced.library, entry, sourced.rules) {
-        Ok(verified) => {
-            let wanted = verified.certificate(console.alloc)?;
-            tell_difference(console, claim.name, &claim.bytes, &wanted);
-        }
+        Ok(verified) => tell_wanted(console, claim, &verified),
         Err(refusal) => {
-            if let Some(told) = explained(&sourced.source, &refusal) {
-                console.say(told);
-            }
+            tell_refusal(console, &sourced.source, &refusal);
+            Ok(())
         }
     }
-    Ok(())
 }
 
 /// Prints why a certificate is refused, and says in which line it is another.
@@ -166,6 +184,16 @@ pub fn refuse_claim<O: Write + Drop, E: Write + Drop>(
     Ok(Outcome::Refused)
 }
 
+// Says that a certificate is accepted.
+fn tell_accepted<O: Write + Drop, E: Write + Drop>(
+    console: &mut Console<O, E>,
+    verified: &Verified<'_>,
+) -> Result<Outcome, AnswerFault> {
+    console.answer("accepted\n")?;
+    tell_premise(&mut console.voice, verified);
+    Ok(Outcome::Done)
+}
+
 // Accepts a certificate, or says why not.
 fn check_claim<O: Write + Drop, E: Write + Drop>(
     console: &mut Console<O, E>,
@@ -179,11 +207,23 @@ fn check_claim<O: Write + Drop, E: Write + Drop>(
     match claim.accept(console.alloc, &sourced.library, entry, sourced.rules) {
         Ok(verified) => {
             verified.is_certified();
-            console.answer("accepted\n")?;
-            tell_premise(&mut console.voice, &verified);
-            Ok(Outcome::Done)
+            tell_accepted(console, &verified)
         }
         Err(refusal) => refuse_claim(console, sourced, entry, claim, refusal),
+    }
+}
+
+// Checks a certificate of a macro of the library that a request names.
+fn check_in<R: Files + Input, O: Write + Drop, E: Write + Drop>(
+    rt: &R,
+    console: &mut Console<O, E>,
+    request: Request<'_>,
+    entry: Reg,
+    claim: &Claim<'_>,
+) -> Result<Outcome, AnswerFault> {
+    match read_library(rt, console, request)? {
+        Some(sourced) => check_claim(console, &sourced, entry, claim),
+        None => Ok(Outcome::Refused),
     }
 }
 
@@ -196,8 +236,5 @@ pub fn check_macro<R: Files + Input, O: Write + Drop, E: Write + Drop>(
     name: &str,
 ) -> Result<Outcome, AnswerFault> {
     let claim = Claim::read(rt, console.alloc, name)?;
-    let Some(sourced) = read_library(rt, console, request)? else {
-        return Ok(Outcome::Refused);
-    };
-    check_claim(console, &sourced, entry, &claim)
+    check_in(rt, console, request, entry, &claim)
 }

@@ -1,14 +1,14 @@
 //! `explain` of a macro: its elements, and what is known before each.
 use crate::console::Console;
-use crate::fault::AnswerFault;
+use crate::fault::{AnswerFault, written};
 use crate::known::{words_of, words_of_choice};
-use crate::library::read_library;
+use crate::library::{Sourced, read_library};
 use crate::naming::element_at;
 use crate::outcome::Outcome;
 use crate::request::Request;
 use crate::verdict::Verdict;
 use crate::verifying::{refuse, tell_premise, tell_second_edition};
-use std::alloc::Global;
+use std::alloc::{AllocError, Global};
 use std::io::{Input, Write};
 use std::rt::Files;
 use teco_base::Reg;
@@ -16,14 +16,12 @@ use teco_library::Library;
 use teco_source::{Position, Shown, Source};
 use teco_verify::{Account, account_by};
 
-// The text of an element: the call that the macro is begun by, an element of a text, or nothing at
-// the end of one.
-fn text_of<'l>(library: &'l Library, account: &Account<'l>, number: usize) -> (&'l [u8], usize) {
-    let Some(register) = account.register(number) else {
-        return (&[], 0);
-    };
-    let place = account.begin(number).unwrap_or(0);
-    (library.text(register).unwrap_or(&[]), place)
+// The text in which an element stands, or none.
+fn text_of<'l>(library: &'l Library, account: &Account<'_>, number: usize) -> &'l [u8] {
+    match account.register(number) {
+        None => &[],
+        Some(register) => library.text(register).unwrap_or(&[]),
+    }
 }
 
 // An element as it is listed: where it stands, and what it is.
@@ -32,20 +30,53 @@ fn shown_element(
     library: &Library,
     account: &Account<'_>,
     number: usize,
-) -> Result<String, AnswerFault> {
+) -> Result<String, AllocError> {
     let name = account
         .register(number)
         .map_or('-', |register| char::from(register.name()));
     if number == 1 {
-        return Ok(format!(in alloc; "-:1:1\tM{name}")?);
+        return format!(in alloc; "-:1:1\tM{name}");
     }
-    let (text, place) = text_of(library, account, number);
+    let text = text_of(library, account, number);
+    let place = account.begin(number).unwrap_or(0);
     let Position { line, column } = Position::of(text, place);
     if account.element(number).is_none() {
-        return Ok(format!(in alloc; "{name}:{line}:{column}\t(return)")?);
+        return format!(in alloc; "{name}:{line}:{column}\t(return)");
     }
     let found = Shown(element_at(text, place));
-    Ok(format!(in alloc; "{name}:{line}:{column}\t{found}")?)
+    format!(in alloc; "{name}:{line}:{column}\t{found}")
+}
+
+// What is known before an element, in words, or a hyphen.
+fn words_at(alloc: Global, account: &Account<'_>, number: usize) -> Result<String, AllocError> {
+    match account.known(number) {
+        None => String::from_str(alloc, "-"),
+        Some(known) => words_of(alloc, &known),
+    }
+}
+
+// Lists what is known before an element, behind what it is.
+fn list_known<O: Write + Drop, E: Write + Drop>(
+    console: &mut Console<O, E>,
+    account: &Account<'_>,
+    number: usize,
+    shown: &str,
+) -> Result<(), AnswerFault> {
+    let words = words_at(console.alloc, account, number)?;
+    written(console.answer(format_args!("{number}\t{shown}\t{words}\n")))
+}
+
+// Lists what is chosen for the iteration that an element begins, if it begins one.
+fn list_choice<O: Write + Drop, E: Write + Drop>(
+    console: &mut Console<O, E>,
+    account: &Account<'_>,
+    number: usize,
+) -> Result<(), AnswerFault> {
+    let Some(choice) = account.choice(number) else {
+        return Ok(());
+    };
+    let words = words_of_choice(console.alloc, &choice, account.turns(number))?;
+    written(console.answer(format_args!("\t\t\t{words}\n")))
 }
 
 // Lists an element, and what is known before it.
@@ -55,18 +86,21 @@ fn list_element<O: Write + Drop, E: Write + Drop>(
     account: &Account<'_>,
     number: usize,
 ) -> Result<(), AnswerFault> {
-    let alloc = console.alloc;
-    let shown = shown_element(alloc, library, account, number)?;
-    match account.known(number) {
-        None => console.answer(format_args!("{number}\t{shown}\t-\n"))?,
-        Some(known) => {
-            let words = words_of(alloc, &known)?;
-            console.answer(format_args!("{number}\t{shown}\t{words}\n"))?;
-        }
-    }
-    if let Some(choice) = account.choice(number) {
-        let words = words_of_choice(alloc, &choice, account.turns(number))?;
-        console.answer(format_args!("\t\t\t{words}\n"))?;
+    let shown = shown_element(console.alloc, library, account, number)?;
+    list_known(console, account, number, shown.as_str())
+}
+
+// Lists the elements of a macro in turn.
+fn list_elements<O: Write + Drop, E: Write + Drop>(
+    console: &mut Console<O, E>,
+    library: &Library,
+    account: &Account<'_>,
+) -> Result<(), AnswerFault> {
+    let last = account.stop().unwrap_or(account.len());
+    for before in 0..last {
+        let number = before.saturating_add(1);
+        list_element(console, library, account, number)?;
+        list_choice(console, account, number)?;
     }
     Ok(())
 }
@@ -102,6 +136,40 @@ fn conclude<O: Write + Drop, E: Write + Drop>(
     }
 }
 
+// Lists what an account tells, and the verdict behind it.
+fn list_account<O: Write + Drop, E: Write + Drop>(
+    console: &mut Console<O, E>,
+    sourced: &Sourced,
+    account: &Account<'_>,
+) -> Result<Outcome, AnswerFault> {
+    console.answer("number\tplace\telement\tknown before it\n")?;
+    list_elements(console, &sourced.library, account)?;
+    conclude(console, &sourced.source, account)
+}
+
+// Explains a macro of a library.
+fn explain_entry<O: Write + Drop, E: Write + Drop>(
+    console: &mut Console<O, E>,
+    sourced: &Sourced,
+    entry: Reg,
+) -> Result<Outcome, AnswerFault> {
+    let account = account_by(console.alloc, &sourced.library, entry, sourced.rules)?;
+    list_account(console, sourced, &account)
+}
+
+// Explains a macro of a library, and says whether the second edition accepts it.
+fn explain_by_both<O: Write + Drop, E: Write + Drop>(
+    console: &mut Console<O, E>,
+    sourced: &Sourced,
+    entry: Reg,
+) -> Result<Outcome, AnswerFault> {
+    let outcome = explain_entry(console, sourced, entry)?;
+    if let Outcome::Refused = outcome {
+        tell_second_edition(console, &sourced.library, entry, sourced.rules);
+    }
+    Ok(outcome)
+}
+
 /// Lists the elements that a macro of a library comes to, up to the one at which it is refused,
 /// with what is known before each, what is chosen for each iteration, and the verdict.
 pub fn explain_macro<R: Files + Input, O: Write + Drop, E: Write + Drop>(
@@ -110,19 +178,8 @@ pub fn explain_macro<R: Files + Input, O: Write + Drop, E: Write + Drop>(
     request: Request<'_>,
     entry: Reg,
 ) -> Result<Outcome, AnswerFault> {
-    let Some(sourced) = read_library(rt, console, request)? else {
-        return Ok(Outcome::Refused);
-    };
-    let account = account_by(console.alloc, &sourced.library, entry, sourced.rules)?;
-    console.answer("number\tplace\telement\tknown before it\n")?;
-    let last = account.stop().unwrap_or(account.len());
-    for before in 0..last {
-        let number = before.saturating_add(1);
-        list_element(console, &sourced.library, &account, number)?;
+    match read_library(rt, console, request)? {
+        Some(sourced) => explain_by_both(console, &sourced, entry),
+        None => Ok(Outcome::Refused),
     }
-    let outcome = conclude(console, &sourced.source, &account)?;
-    if let Outcome::Refused = outcome {
-        tell_second_edition(console, &sourced.library, entry, sourced.rules);
-    }
-    Ok(outcome)
 }

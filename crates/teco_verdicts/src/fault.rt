@@ -28,6 +28,11 @@ pub enum AnswerFault {
     Memory,
 }
 
+/// What came of writing an answer.
+pub fn written(wrote: io::Result<()>) -> Result<(), AnswerFault> {
+    Ok(wrote?)
+}
+
 impl From<AllocError> for AnswerFault {
     fn from(_refused: AllocError) -> AnswerFault {
         AnswerFault::Memory

@@ -26,6 +26,14 @@ fn unread(alloc: Global, name: &str, reason: io::Error) -> AnswerFault {
     }
 }
 
+// Why a file is not read that has too many bytes.
+fn too_long(alloc: Global, name: &str) -> AnswerFault {
+    match shown(alloc, name) {
+        Ok(name) => AnswerFault::Long { name },
+        Err(AllocError) => AnswerFault::Memory,
+    }
+}
+
 // Reads what a reader has, at most a byte more than `LIMIT`.
 fn read_all<F: Read + Drop>(alloc: Global, reader: F) -> io::Result<Vec<u8>> {
     let mut bytes = Vec::new(alloc);
@@ -42,6 +50,17 @@ fn read_named<R: Files + Input>(rt: &R, alloc: Global, name: &str) -> io::Result
     }
 }
 
+// The bytes of a file, if they are not too many.
+fn within_limit(alloc: Global, name: &str, bytes: Vec<u8>) -> Result<Vec<u8>, AnswerFault>
+    ensures { IfOk result (λ bytes. vec_len bytes ≤ LIMIT) }
+{
+    if bytes.len() > LIMIT {
+        Err(too_long(alloc, name))
+    } else {
+        Ok(bytes)
+    }
+}
+
 /// Reads a file of at most `LIMIT` bytes; `-` is standard input.
 pub fn read_file<R: Files + Input>(
     rt: &R,
@@ -52,9 +71,6 @@ pub fn read_file<R: Files + Input>(
 {
     match read_named(rt, alloc, name) {
         Err(reason) => Err(unread(alloc, name, reason)),
-        Ok(bytes) if bytes.len() > LIMIT => Err(AnswerFault::Long {
-            name: shown(alloc, name)?,
-        }),
-        Ok(bytes) => Ok(bytes),
+        Ok(bytes) => within_limit(alloc, name, bytes),
     }
 }

@@ -1,11 +1,11 @@
 //! Verdicts for machines: an object of JSON in each line.
 use crate::console::Console;
 use crate::fault::AnswerFault;
-use crate::library::{explained, library_of, macros_of, read_source};
+use crate::library::{NAMES, explained, library_of, macro_named, read_source};
 use crate::outcome::Outcome;
-use crate::premise::Premise;
 use crate::request::Request;
 use crate::verdict::Verdict;
+use crate::verifying::premise_of;
 use std::alloc::{AllocError, Global};
 use std::fmt;
 use std::io::{Input, Write};
@@ -27,15 +27,19 @@ struct Coefficients([u64; COEFFICIENTS]);
 
 impl Coefficients {
     fn of(alloc: Global, poly: &Poly) -> Result<Coefficients, AllocError> {
-        let text = poly.print(alloc)?;
+        Ok(Coefficients::read(poly.print(alloc)?.as_str()))
+    }
+
+    // Those of the text of a polynomial.
+    fn read(text: &str) -> Coefficients {
         let mut coefficients = [0; COEFFICIENTS];
-        for term in text.as_str().split(" + ") {
+        for term in text.split(" + ") {
             let (factor, power) = parts_of(term);
             if power < COEFFICIENTS {
                 coefficients[power] = factor;
             }
         }
-        Ok(Coefficients(coefficients))
+        Coefficients(coefficients)
     }
 
     // The greatest power with a coefficient.
@@ -97,7 +101,7 @@ fn answer_accepted<O: Write + Drop, E: Write + Drop>(
     let needs = verified.needs();
     let input = needs.input;
     let output = needs.output;
-    let premise = Nullable(Premise::of(&verified.size(), &verified.commands()).last);
+    let premise = Nullable(premise_of(verified).last);
     console.answer(format_args!(
         "{{\"macro\": \"{name}\", \"accepted\": true, \"commands\": {commands}, \"size\": {size}, \"needs_input\": {input}, \"needs_output\": {output}, \"greatest_n\": {premise}}}\n"
     ))?;
@@ -171,6 +175,19 @@ fn answer_verdict<O: Write + Drop, E: Write + Drop>(
     }
 }
 
+// Prints the verdict on a macro of the library that a source says.
+fn answer_macro<O: Write + Drop, E: Write + Drop>(
+    console: &mut Console<O, E>,
+    source: &Source,
+    entry: Reg,
+    rules: Rules,
+) -> Result<Outcome, AnswerFault> {
+    match library_of(console.alloc, source) {
+        Ok(library) => answer_verdict(console, source, &library, entry, rules),
+        Err(refusal) => answer_refused(console, source, None, &refusal),
+    }
+}
+
 /// Verifies a macro of a library, and prints the verdict as an object of JSON.
 pub fn verify_macro_as_json<R: Files + Input, O: Write + Drop, E: Write + Drop>(
     rt: &R,
@@ -179,9 +196,34 @@ pub fn verify_macro_as_json<R: Files + Input, O: Write + Drop, E: Write + Drop>(
     entry: Reg,
 ) -> Result<Outcome, AnswerFault> {
     let source = read_source(rt, console.alloc, request.library, request.escape)?;
-    match library_of(console.alloc, &source) {
-        Ok(library) => answer_verdict(console, &source, &library, entry, request.rules),
-        Err(refusal) => answer_refused(console, &source, None, &refusal),
+    answer_macro(console, &source, entry, request.rules)
+}
+
+// Prints the verdict on each macro of a library.
+fn answer_each<O: Write + Drop, E: Write + Drop>(
+    console: &mut Console<O, E>,
+    source: &Source,
+    library: &Library,
+    rules: Rules,
+) -> Result<Outcome, AnswerFault> {
+    let mut outcome = Outcome::Done;
+    for name in NAMES {
+        if let Some(entry) = macro_named(library, *name) {
+            outcome = outcome.worse(answer_verdict(console, source, library, entry, rules)?);
+        }
+    }
+    Ok(outcome)
+}
+
+// Prints the verdict on each macro of the library that a source says.
+fn answer_library<O: Write + Drop, E: Write + Drop>(
+    console: &mut Console<O, E>,
+    source: &Source,
+    rules: Rules,
+) -> Result<Outcome, AnswerFault> {
+    match library_of(console.alloc, source) {
+        Ok(library) => answer_each(console, source, &library, rules),
+        Err(refusal) => answer_refused(console, source, None, &refusal),
     }
 }
 
@@ -193,14 +235,5 @@ pub fn verify_library_as_json<R: Files + Input, O: Write + Drop, E: Write + Drop
     request: Request<'_>,
 ) -> Result<Outcome, AnswerFault> {
     let source = read_source(rt, console.alloc, request.library, request.escape)?;
-    let library = match library_of(console.alloc, &source) {
-        Ok(library) => library,
-        Err(refusal) => return answer_refused(console, &source, None, &refusal),
-    };
-    let macros = macros_of(console.alloc, &library)?;
-    let mut outcome = Outcome::Done;
-    for entry in &macros {
-        outcome = outcome.worse(answer_verdict(console, &source, &library, *entry, request.rules)?);
-    }
-    Ok(outcome)
+    answer_library(console, &source, request.rules)
 }

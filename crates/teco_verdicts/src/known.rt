@@ -99,13 +99,44 @@ impl fmt::Display for Pending {
     }
 }
 
+// Words behind others.
+fn push<D: fmt::Display + Drop>(
+    alloc: Global,
+    text: &mut String,
+    words: D,
+) -> Result<(), AllocError> {
+    text.push_str(format!(in alloc; "{words}")?.as_str())
+}
+
+// A polynomial behind words.
+fn push_poly(alloc: Global, text: &mut String, poly: &Poly) -> Result<(), AllocError> {
+    text.push_str(poly.print(alloc)?.as_str())
+}
+
+// The characters behind and ahead of the pointer, and what is held at most.
+fn push_room(alloc: Global, text: &mut String, known: &Known<'_>) -> Result<(), AllocError> {
+    let Distances { back, fore } = known.room();
+    push(
+        alloc,
+        text,
+        format_args!("behind at least {back}; ahead at least {fore}, at most "),
+    )?;
+    push_poly(alloc, text, &known.ahead())?;
+    text.push_str("; held at most ")?;
+    push_poly(alloc, text, &known.held())
+}
+
 // The values that are pending.
 fn push_pending(alloc: Global, text: &mut String, known: &Known<'_>) -> Result<(), AllocError> {
     if let Some(first) = known.first() {
-        text.push_str(&format!(in alloc; "; in front of the comma {}", Pending(first))?)?;
+        push(
+            alloc,
+            text,
+            format_args!("; in front of the comma {}", Pending(first)),
+        )?;
     }
     if let Some(value) = known.value() {
-        text.push_str(&format!(in alloc; "; value {}", Pending(value))?)?;
+        push(alloc, text, format_args!("; value {}", Pending(value)))?;
     }
     if known.found().is_some() {
         text.push_str(", the answer of a search")?;
@@ -113,21 +144,29 @@ fn push_pending(alloc: Global, text: &mut String, known: &Known<'_>) -> Result<(
     Ok(())
 }
 
-// What is used up of what is ahead, in the turns of the open iterations, the innermost first.
+// What is used up of what is ahead in the turn of an open iteration.
+#[derive(Clone, Copy)]
+struct Fall(Option<i64>);
+
+impl fmt::Display for Fall {
+    fn fmt<W: fmt::Write>(&self, f: &mut fmt::Formatter<W>) -> fmt::Result {
+        match self.0 {
+            None => write!(f, "; used up in the turn: not known"),
+            Some(fall) => write!(f, "; used up in the turn: at least {fall}"),
+        }
+    }
+}
+
+// What is used up in the turns of the open iterations, the innermost first.
 fn push_falls(alloc: Global, text: &mut String, known: &Known<'_>) -> Result<(), AllocError> {
     for at in 0..known.open() {
-        match known.fall(at) {
-            None => text.push_str("; used up in the turn: not known")?,
-            Some(fall) => {
-                text.push_str(&format!(in alloc; "; used up in the turn: at least {fall}")?)?;
-            }
-        }
+        push(alloc, text, Fall(known.fall(at)))?;
     }
     Ok(())
 }
 
-// What a register holds, where that is known.
-fn push_register(
+// The number that a register has, where that is known.
+fn push_number(
     alloc: Global,
     text: &mut String,
     known: &Known<'_>,
@@ -137,15 +176,50 @@ fn push_register(
     let Interval { lo, hi } = known.number(register);
     let numbers = Numbers { lo, hi };
     if !numbers.is_any() {
-        text.push_str(&format!(in alloc; "; Q{name} {numbers}")?)?;
+        push(alloc, text, format_args!("; Q{name} {numbers}"))?;
     }
     if known.is_place(register) {
-        text.push_str(&format!(in alloc; "; Q{name} a place")?)?;
+        push(alloc, text, format_args!("; Q{name} a place"))?;
     }
+    Ok(())
+}
+
+// How long the text of a register is at most, where that is known.
+fn push_length(
+    alloc: Global,
+    text: &mut String,
+    known: &Known<'_>,
+    register: Reg,
+) -> Result<(), AllocError> {
     let most = known.text(register);
-    if most != Poly::variable() {
-        let most = most.print(alloc)?;
-        text.push_str(&format!(in alloc; "; text of {name} at most {most}")?)?;
+    if most == Poly::variable() {
+        return Ok(());
+    }
+    let name = char::from(register.name());
+    push(alloc, text, format_args!("; text of {name} at most "))?;
+    push_poly(alloc, text, &most)
+}
+
+// What registers hold, where that is known.
+fn push_registers(alloc: Global, text: &mut String, known: &Known<'_>) -> Result<(), AllocError> {
+    for name in NAMES {
+        if let Some(register) = Reg::of(*name) {
+            push_number(alloc, text, known, register)?;
+            push_length(alloc, text, known, register)?;
+        }
+    }
+    Ok(())
+}
+
+// All that is known.
+fn push_known(alloc: Global, text: &mut String, known: &Known<'_>) -> Result<(), AllocError> {
+    push_room(alloc, text, known)?;
+    push_pending(alloc, text, known)?;
+    push_falls(alloc, text, known)?;
+    push_registers(alloc, text, known)?;
+    let pushed = known.pushed();
+    if pushed > 0 {
+        push(alloc, text, format_args!("; pushed {pushed}"))?;
     }
     Ok(())
 }
@@ -154,24 +228,43 @@ fn push_register(
 /// is held at most, what is pending, what was used up in the turns of the open iterations, and what
 /// registers hold where that is known.
 pub fn words_of(alloc: Global, known: &Known<'_>) -> Result<String, AllocError> {
-    let Distances { back, fore } = known.room();
-    let ahead = known.ahead().print(alloc)?;
-    let held = known.held().print(alloc)?;
-    let mut text = format!(in alloc;
-        "behind at least {back}; ahead at least {fore}, at most {ahead}; held at most {held}"
-    )?;
-    push_pending(alloc, &mut text, known)?;
-    push_falls(alloc, &mut text, known)?;
-    for name in NAMES {
-        if let Some(register) = Reg::of(*name) {
-            push_register(alloc, &mut text, known, register)?;
-        }
-    }
-    let pushed = known.pushed();
-    if pushed > 0 {
-        text.push_str(&format!(in alloc; "; pushed {pushed}")?)?;
-    }
+    let mut text = String::new(alloc);
+    push_known(alloc, &mut text, known)?;
     Ok(text)
+}
+
+// How often an iteration is passed at most, and as what begins something is held.
+fn push_turns(
+    alloc: Global,
+    text: &mut String,
+    turns: Option<Poly>,
+) -> Result<&'static str, AllocError> {
+    let Some(turns) = turns else {
+        text.push_str("no count")?;
+        return Ok("a turn");
+    };
+    text.push_str("at most ")?;
+    push_poly(alloc, text, &turns)?;
+    text.push_str(" turns")?;
+    Ok("one")
+}
+
+// All that is chosen for an iteration.
+fn push_choice(
+    alloc: Global,
+    text: &mut String,
+    choice: &Choice,
+    turns: Option<Poly>,
+) -> Result<(), AllocError> {
+    let beginning = push_turns(alloc, text, turns)?;
+    text.push_str("; held at most ")?;
+    push_poly(alloc, text, &choice.held)?;
+    let kept = if choice.kept { "kept" } else { "lost" };
+    push(
+        alloc,
+        text,
+        format_args!(" as {beginning} begins; what is ahead is {kept}"),
+    )
 }
 
 /// What is chosen for an iteration, in words: its turns, and what is held as each begins.
@@ -180,17 +273,7 @@ pub fn words_of_choice(
     choice: &Choice,
     turns: Option<Poly>,
 ) -> Result<String, AllocError> {
-    let held = choice.held.print(alloc)?;
-    let kept = if choice.kept { "kept" } else { "lost" };
-    match turns {
-        None => format!(in alloc;
-            "no count; held at most {held} as a turn begins; what is ahead is {kept}"
-        ),
-        Some(turns) => {
-            let turns = turns.print(alloc)?;
-            format!(in alloc;
-                "at most {turns} turns; held at most {held} as one begins; what is ahead is {kept}"
-            )
-        }
-    }
+    let mut text = String::new(alloc);
+    push_choice(alloc, &mut text, choice, turns)?;
+    Ok(text)
 }

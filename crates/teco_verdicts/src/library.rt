@@ -56,6 +56,16 @@ pub struct Sourced {
     pub rules: Rules,
 }
 
+// Prints why a source says no library.
+fn refuse_source<O: Write + Drop, E: Write + Drop>(
+    console: &mut Console<O, E>,
+    source: &Source,
+    refusal: Refusal,
+) -> Result<Option<Sourced>, AnswerFault> {
+    refuse(console, source, refusal)?;
+    Ok(None)
+}
+
 /// Reads a library. Where the file is none, the refusal is printed, and there is none.
 pub fn read_library<R: Files + Input, O: Write + Drop, E: Write + Drop>(
     rt: &R,
@@ -69,10 +79,7 @@ pub fn read_library<R: Files + Input, O: Write + Drop, E: Write + Drop>(
             library,
             rules: request.rules,
         })),
-        Err(refusal) => {
-            refuse(console, &source, refusal)?;
-            Ok(None)
-        }
+        Err(refusal) => refuse_source(console, &source, refusal),
     }
 }
 
@@ -96,15 +103,10 @@ pub fn explained<'a>(source: &'a Source, refusal: &Refusal) -> Option<Explained<
 /// The registers in the order of their names: A to Z, and then 0 to 9.
 pub const NAMES: &[u8; 36] = b"ABCDEFGHIJKLMNOPQRSTUVWXYZ0123456789";
 
-/// The registers that a library gives a text.
-pub fn macros_of(alloc: Global, library: &Library) -> Result<Vec<Reg>, AnswerFault> {
-    let mut macros = Vec::new(alloc);
-    for name in NAMES {
-        if let Some(register) = Reg::of(*name) {
-            if library.contains(register) {
-                macros.push(register)?;
-            }
-        }
+/// The register of a name, if a library gives it a text.
+pub fn macro_named(library: &Library, name: u8) -> Option<Reg> {
+    match Reg::of(name) {
+        Some(register) if library.contains(register) => Some(register),
+        _ => None,
     }
-    Ok(macros)
 }

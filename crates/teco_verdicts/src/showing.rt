@@ -7,7 +7,7 @@ use crate::outcome::Outcome;
 use std::io::{Input, Write};
 use std::rt::Files;
 use teco_explain::{Outline, code_named, note_of_code, note_of_refusal, refusal_numbered};
-use teco_source::{Form, Shown};
+use teco_source::{Form, Shown, Source};
 
 /// Prints the text of a file as its elements, safe for a terminal, with a character for ESC.
 pub fn show<R: Files + Input, O: Write + Drop, E: Write + Drop>(
@@ -17,12 +17,50 @@ pub fn show<R: Files + Input, O: Write + Drop, E: Write + Drop>(
     mark: u8,
 ) -> Result<Outcome, AnswerFault> {
     let source = read_source(rt, console.alloc, name, Escape::ByName)?;
-    let outline = Outline {
-        text: source.text(),
-        mark,
-    };
-    console.answer(outline)?;
+    outline(console, source.text(), mark)
+}
+
+// Prints the elements of a text.
+fn outline<O: Write + Drop, E: Write + Drop>(
+    console: &mut Console<O, E>,
+    text: &[u8],
+    mark: u8,
+) -> Result<Outcome, AnswerFault> {
+    console.answer(Outline { text, mark })?;
     Ok(Outcome::Done)
+}
+
+// Prints a source.
+fn print<O: Write + Drop, E: Write + Drop>(
+    console: &mut Console<O, E>,
+    text: &[u8],
+) -> Result<Outcome, AnswerFault> {
+    console.out.write_all(text)?;
+    Ok(Outcome::Done)
+}
+
+// Says that a source has no such form.
+fn tell_unwritten<O: Write + Drop, E: Write + Drop>(
+    console: &mut Console<O, E>,
+    source: &Source,
+) -> Outcome {
+    let name = Shown(source.name().as_bytes());
+    console.complain(format_args!(
+        "{name} can't be written so: choose a character for ESC that isn't in it, with --esc"
+    ));
+    Outcome::Refused
+}
+
+// Prints a source in a form, if it has that form.
+fn print_in<O: Write + Drop, E: Write + Drop>(
+    console: &mut Console<O, E>,
+    source: &Source,
+    form: Form,
+) -> Result<Outcome, AnswerFault> {
+    match form.write(console.alloc, source.text())? {
+        Some(text) => print(console, text.as_slice()),
+        None => Ok(tell_unwritten(console, source)),
+    }
 }
 
 /// Prints the source that says a text in a form, which reads as the same bytes. Where the text has
@@ -35,19 +73,7 @@ pub fn show_source<R: Files + Input, O: Write + Drop, E: Write + Drop>(
     form: Form,
 ) -> Result<Outcome, AnswerFault> {
     let source = read_source(rt, console.alloc, name, Escape::ByName)?;
-    match form.write(console.alloc, source.text())? {
-        Some(text) => {
-            console.out.write_all(text.as_slice())?;
-            Ok(Outcome::Done)
-        }
-        None => {
-            let name = Shown(source.name().as_bytes());
-            console.complain(format_args!(
-                "{name} can't be written so: choose a character for ESC that isn't in it, with --esc"
-            ));
-            Ok(Outcome::Refused)
-        }
-    }
+    print_in(console, &source, form)
 }
 
 /// Prints what a code or a refusal means, or none where the word is neither.

@@ -8,7 +8,9 @@ ghost use Rattle.teco_verdicts.specs.declared.outcome.Outcome.TheVariants.{Done,
 use crate::console::{Console, Voice};
 use crate::explaining::tell_known;
 use crate::fault::AnswerFault;
-use crate::library::{Sourced, explained, library_of, macros_of, read_library, read_source};
+use crate::library::{
+    NAMES, Sourced, explained, library_of, macro_named, read_library, read_source,
+};
 use crate::outcome::Outcome;
 use crate::premise::Premise;
 use crate::request::Request;
@@ -39,9 +41,38 @@ pub fn refuse<O: Write + Drop, E: Write + Drop>(
     Ok(Outcome::Refused)
 }
 
+/// Up to which N the promise of a verified macro holds.
+pub fn premise_of(verified: &Verified<'_>) -> Premise {
+    Premise::of(&verified.size(), &verified.commands())
+}
+
 /// Says up to which N the promise of a verified macro holds.
 pub fn tell_premise<E: Write + Drop>(voice: &mut Voice<E>, verified: &Verified<'_>) {
-    voice.say(Premise::of(&verified.size(), &verified.commands()));
+    voice.say(premise_of(verified));
+}
+
+// Prints bytes as they are.
+fn print<O: Write + Drop, E: Write + Drop>(
+    console: &mut Console<O, E>,
+    bytes: &[u8],
+) -> Result<(), AnswerFault>
+    ensures { OnOk result (Appends (O.contents console.old.out) (O.contents console.new.out)
+        bytes.now) }
+{
+    console.out.write_all(bytes)?;
+    Ok(())
+}
+
+// Prints the certificate of a macro.
+fn print_certificate<O: Write + Drop, E: Write + Drop>(
+    console: &mut Console<O, E>,
+    verified: &Verified<'_>,
+) -> Result<(), AnswerFault>
+    ensures { OnOk result (Appends (O.contents console.old.out) (O.contents console.new.out)
+        (certificate_text verified.now.fields)) }
+{
+    let text = verified.certificate(console.alloc)?;
+    print(console, text.as_slice())
 }
 
 // Prints the certificate of a macro, and up to which N its promise holds.
@@ -52,8 +83,7 @@ fn certify<O: Write + Drop, E: Write + Drop>(
     ensures { OnOk result (Appends (O.contents console.old.out) (O.contents console.new.out)
         (certificate_text verified.now.fields)) }
 {
-    let text = verified.certificate(console.alloc)?;
-    console.out.write_all(text.as_slice())?;
+    print_certificate(console, verified)?;
     tell_premise(&mut console.voice, verified);
     Ok(Outcome::Done)
 }
@@ -139,6 +169,35 @@ pub fn verify_macro<R: Files + Input, O: Write + Drop, E: Write + Drop>(
     verify_source(console, &source, entry, request.rules)
 }
 
+// Prints that one macro of several is accepted.
+fn tell_accepted<O: Write + Drop, E: Write + Drop>(
+    console: &mut Console<O, E>,
+    name: char,
+    verified: &Verified<'_>,
+) -> Result<Outcome, AnswerFault> {
+    console.answer(format_args!("{name}: accepted\n"))?;
+    let premise = premise_of(verified);
+    console.say(format_args!("{name}: {premise}"));
+    Ok(Outcome::Done)
+}
+
+// Prints why one macro of several is refused.
+fn tell_refused<O: Write + Drop, E: Write + Drop>(
+    console: &mut Console<O, E>,
+    source: &Source,
+    name: char,
+    refusal: Refusal,
+) -> Result<Outcome, AnswerFault> {
+    let Some(verdict) = Verdict::of(&refusal) else {
+        return Err(AnswerFault::Memory);
+    };
+    console.answer(format_args!("{name}: {verdict}\n"))?;
+    if let Some(told) = explained(source, &refusal) {
+        console.say(told);
+    }
+    Ok(Outcome::Refused)
+}
+
 // Prints what comes of one macro of several.
 fn verify_one<O: Write + Drop, E: Write + Drop>(
     console: &mut Console<O, E>,
@@ -147,24 +206,27 @@ fn verify_one<O: Write + Drop, E: Write + Drop>(
 ) -> Result<Outcome, AnswerFault> {
     let name = char::from(entry.name());
     match verify_by(console.alloc, &sourced.library, entry, sourced.rules) {
-        Ok(verified) => {
-            console.answer(format_args!("{name}: accepted\n"))?;
-            let premise = Premise::of(&verified.size(), &verified.commands());
-            console.say(format_args!("{name}: {premise}"));
-            Ok(Outcome::Done)
-        }
+        Ok(verified) => tell_accepted(console, name, &verified),
         Err(refusal) => {
-            let Some(verdict) = Verdict::of(&refusal) else {
-                return Err(AnswerFault::Memory);
-            };
-            console.answer(format_args!("{name}: {verdict}\n"))?;
-            if let Some(told) = explained(&sourced.source, &refusal) {
-                console.say(told);
-            }
+            let outcome = tell_refused(console, &sourced.source, name, refusal)?;
             tell_second_edition(console, &sourced.library, entry, sourced.rules);
-            Ok(Outcome::Refused)
+            Ok(outcome)
         }
     }
+}
+
+// Prints what comes of each macro of a library.
+fn verify_each<O: Write + Drop, E: Write + Drop>(
+    console: &mut Console<O, E>,
+    sourced: &Sourced,
+) -> Result<Outcome, AnswerFault> {
+    let mut outcome = Outcome::Done;
+    for name in NAMES {
+        if let Some(entry) = macro_named(&sourced.library, *name) {
+            outcome = outcome.worse(verify_one(console, sourced, entry)?);
+        }
+    }
+    Ok(outcome)
 }
 
 /// Verifies each macro of a library, A to Z and then 0 to 9, and prints a line for each.
@@ -173,13 +235,8 @@ pub fn verify_library<R: Files + Input, O: Write + Drop, E: Write + Drop>(
     console: &mut Console<O, E>,
     request: Request<'_>,
 ) -> Result<Outcome, AnswerFault> {
-    let Some(sourced) = read_library(rt, console, request)? else {
-        return Ok(Outcome::Refused);
-    };
-    let macros = macros_of(console.alloc, &sourced.library)?;
-    let mut outcome = Outcome::Done;
-    for entry in &macros {
-        outcome = outcome.worse(verify_one(console, &sourced, *entry)?);
+    match read_library(rt, console, request)? {
+        Some(sourced) => verify_each(console, &sourced),
+        None => Ok(Outcome::Refused),
     }
-    Ok(outcome)
 }

@@ -66,25 +66,51 @@ fn read_bytes<R: Env + AllocGlobal>(rt: &R) -> io::Result<Arguments> {
         texts: Vec::new(rt.alloc()),
         others: Vec::new(rt.alloc()),
     };
-    for number in 0..usize::MAX {
-        let Some(bytes) = word_at(rt, number)? else {
-            break;
-        };
-        arguments.push(rt.alloc(), number, bytes)?;
-    }
+    arguments.push_all(rt)?;
     Ok(arguments)
 }
 
 impl Arguments {
+    // Adds all words.
+    fn push_all<R: Env + AllocGlobal>(&mut self, rt: &R) -> io::Result<()> {
+        for number in 0..usize::MAX {
+            match word_at(rt, number)? {
+                Some(bytes) => self.push(rt.alloc(), number, bytes)?,
+                None => break,
+            }
+        }
+        Ok(())
+    }
+
     // Adds the word of a number.
     fn push(&mut self, alloc: Global, number: usize, bytes: Vec<u8>) -> io::Result<()> {
         if let Ok(text) = str::from_utf8(&bytes) {
-            self.texts.push(String::from_str(alloc, text)?)?;
-            return Ok(());
+            return self.push_text(alloc, text);
         }
-        let stand_in = format!(in alloc; "\u{fffd}{number}")?;
-        self.texts.push(stand_in.clone()?)?;
-        self.others.push(Other { stand_in, bytes })?;
+        self.push_other(alloc, number, bytes)
+    }
+
+    // Adds a word that is a text.
+    fn push_text(&mut self, alloc: Global, text: &str) -> io::Result<()> {
+        self.texts.push(String::from_str(alloc, text)?)?;
         Ok(())
+    }
+
+    // Adds a word that is no text, and what stands for it.
+    fn push_other(&mut self, alloc: Global, number: usize, bytes: Vec<u8>) -> io::Result<()> {
+        let other = Other::new(alloc, number, bytes)?;
+        self.push_text(alloc, other.stand_in.as_str())?;
+        self.others.push(other)?;
+        Ok(())
+    }
+}
+
+impl Other {
+    // A word that is no text.
+    fn new(alloc: Global, number: usize, bytes: Vec<u8>) -> io::Result<Other> {
+        Ok(Other {
+            stand_in: format!(in alloc; "\u{fffd}{number}")?,
+            bytes,
+        })
     }
 }

@@ -4,6 +4,8 @@
 mod arguments;
 mod commands;
 mod fault;
+mod rows;
+mod tables;
 mod words;
 
 pub use arguments::Arguments;

@@ -18,28 +18,39 @@ const DEFAULT_MARK: u8 = b'$';
 
 /// The scripts that are run, in the order of the words.
 pub fn scripts<'a>(alloc: Global, words: &ArgMatches<'a>) -> Result<Vec<Script<'a>>, AllocError> {
-    let files = words.get_strs("FILE").unwrap_or(&[]);
-    let texts = words.get_strs("text").unwrap_or(&[]);
-    let file_places = words.indices_of("FILE").unwrap_or(&[]);
-    let text_places = words.indices_of("text").unwrap_or(&[]);
     let mut scripts = Vec::new(alloc);
-    let mut file = 0usize;
-    let mut text = 0usize;
-    for _ in 0..files.len().saturating_add(texts.len()) {
-        let file_place = file_places.get(file).copied().unwrap_or(usize::MAX);
-        let text_place = text_places.get(text).copied().unwrap_or(usize::MAX);
-        if file_place < text_place {
-            scripts.push(Script::File(files.get(file).copied().unwrap_or("")))?;
-            file = file.saturating_add(1);
-        } else {
-            scripts.push(Script::Word(texts.get(text).copied().unwrap_or("")))?;
-            text = text.saturating_add(1);
-        }
-    }
+    push_scripts(words, &mut scripts)?;
     if scripts.is_empty() {
         scripts.push(Script::Stream)?;
     }
     Ok(scripts)
+}
+
+// The place of a number among places, behind all others where there is none.
+fn place_at(places: &[usize], number: usize) -> usize {
+    places.get(number).copied().unwrap_or(usize::MAX)
+}
+
+// Adds the files and the texts in the order of their places.
+fn push_scripts<'a>(
+    words: &ArgMatches<'a>,
+    scripts: &mut Vec<Script<'a>>,
+) -> Result<(), AllocError> {
+    let files = words.get_strs("FILE").unwrap_or(&[]);
+    let texts = words.get_strs("text").unwrap_or(&[]);
+    let file_places = words.indices_of("FILE").unwrap_or(&[]);
+    let text_places = words.indices_of("text").unwrap_or(&[]);
+    let mut file = 0usize;
+    for number in 0..files.len().saturating_add(texts.len()) {
+        let text = number.saturating_sub(file);
+        if place_at(file_places, file) < place_at(text_places, text) {
+            scripts.push(Script::File(files.get(file).copied().unwrap_or("")))?;
+            file = file.saturating_add(1);
+        } else {
+            scripts.push(Script::Word(texts.get(text).copied().unwrap_or("")))?;
+        }
+    }
+    Ok(())
 }
 
 /// The step limit.
@@ -139,13 +150,27 @@ pub fn settings(
     escape: Escape,
 ) -> Result<Vec<Setting>, WordsFault> {
     let mut settings = Vec::new(alloc);
-    for word in words.get_strs("set").unwrap_or(&[]) {
-        match Setting::read(alloc, *word, escape)? {
-            Some(setting) => settings.push(setting)?,
-            None => return Err(WordsFault::Setting),
-        }
-    }
+    let texts = words.get_strs("set").unwrap_or(&[]);
+    push_settings(alloc, texts, escape, &mut settings)?;
     Ok(settings)
+}
+
+// The text that a word gives a register.
+fn setting(alloc: Global, word: &str, escape: Escape) -> Result<Setting, WordsFault> {
+    Setting::read(alloc, word, escape)?.ok_or(WordsFault::Setting)
+}
+
+// Adds the texts that words give to registers.
+fn push_settings(
+    alloc: Global,
+    words: &[&str],
+    escape: Escape,
+    settings: &mut Vec<Setting>,
+) -> Result<(), WordsFault> {
+    for word in words {
+        settings.push(setting(alloc, *word, escape)?)?;
+    }
+    Ok(())
 }
 
 // Is a word the name of a standard stream?

@@ -1,0 +1,105 @@
+//! Arguments of commands, as rows of a table.
+use clap::{Arg, ArgAction, value_parser};
+use std::alloc::Global;
+
+/// An argument of a command.
+#[derive(Clone, Copy)]
+pub struct Row {
+    pub id: &'static str,
+    pub kind: Kind,
+    pub help: &'static str,
+}
+
+/// How an argument is given.
+#[derive(Clone, Copy)]
+pub enum Kind {
+    /// By a word at its place.
+    Word(Word),
+    /// By an option of its name, which has no value.
+    Flag,
+    /// By an option of its name, whose value is called this.
+    Value(&'static str, Values),
+    /// By an option of one letter with a text, any number of times.
+    Letter(char),
+}
+
+/// Which words stand at a place.
+#[derive(Clone, Copy)]
+pub enum Word {
+    /// One.
+    Required,
+    /// One, which is called this.
+    Named(&'static str),
+    /// One or none.
+    Optional,
+    /// So many at least.
+    AtLeast(usize),
+}
+
+/// Which values an option has.
+#[derive(Clone, Copy)]
+pub enum Values {
+    /// A text.
+    Text,
+    /// Any number of texts.
+    Texts,
+    /// A text, which is this where the option is left out.
+    Default(&'static str),
+    /// A number of 32 bits from 1 on, which is this where the option is left out.
+    Count(&'static str),
+    /// A number of 64 bits, which is this where the option is left out.
+    Bytes(&'static str),
+}
+
+impl Row {
+    /// The argument of this row.
+    pub fn arg<'a>(&self, alloc: Global) -> Arg<'a> {
+        let arg = Arg::new(alloc, self.id).help(self.help);
+        match self.kind {
+            Kind::Word(word) => word.asked(arg),
+            Kind::Flag => arg.long(self.id).action(ArgAction::SetTrue),
+            Kind::Value(name, values) => values.asked(arg.long(self.id).value_name(name)),
+            Kind::Letter(letter) => repeated(arg.short(letter).value_name("TEXT")),
+        }
+    }
+}
+
+// An argument that may be given more than once.
+fn repeated<'a>(arg: Arg<'a>) -> Arg<'a> {
+    arg.action(ArgAction::Append)
+}
+
+// An argument of several words.
+fn counted<'a>(arg: Arg<'a>, least: usize) -> Arg<'a> {
+    repeated(arg.num_args(least..)).required(least > 0)
+}
+
+impl Word {
+    // An argument that asks for these words.
+    fn asked<'a>(self, arg: Arg<'a>) -> Arg<'a> {
+        match self {
+            Word::Required => arg.required(true),
+            Word::Named(name) => arg.value_name(name).required(true),
+            Word::Optional => arg,
+            Word::AtLeast(least) => counted(arg, least),
+        }
+    }
+}
+
+// An argument that is a number of 32 bits from 1 on.
+fn from_one<'a>(arg: Arg<'a>) -> Arg<'a> {
+    arg.value_parser(value_parser!(u32).range(1..))
+}
+
+impl Values {
+    // An argument that asks for these values.
+    fn asked<'a>(self, arg: Arg<'a>) -> Arg<'a> {
+        match self {
+            Values::Text => arg,
+            Values::Texts => repeated(arg),
+            Values::Default(value) => arg.default_value(value),
+            Values::Count(value) => from_one(arg).default_value(value),
+            Values::Bytes(value) => arg.value_parser(value_parser!(u64)).default_value(value),
+        }
+    }
+}
