@@ -5,6 +5,7 @@ use std::fs::{File, Files, Metadata, OpenFile, OpenOptions, Permissions};
 use std::io::{self, Read, Seek, SeekFrom, Write};
 use std::path::PathBuf;
 use std::time::{Clock, Duration};
+use teco_pages::FileHost;
 
 /// Where a process reads its limits.
 pub const LIMITS: &str = "/proc/self/limits";
@@ -19,6 +20,22 @@ pub struct Faulty {
     pub whole: usize,
     // the file that stands in for the limits
     pub limits: &'static str,
+}
+
+/// A host of such files.
+pub fn faulty_host(
+    rt: &HostRuntime,
+    piece: usize,
+    whole: usize,
+    limits: &'static str,
+) -> FileHost<Faulty> {
+    let files = Faulty {
+        rt: *rt,
+        piece,
+        whole,
+        limits,
+    };
+    FileHost::new(rt.alloc(), files)
 }
 
 /// A file that fails once.

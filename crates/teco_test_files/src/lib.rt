@@ -14,4 +14,6 @@ mod outputs;
 #[cfg(test)]
 mod scratch;
 #[cfg(test)]
+mod steps;
+#[cfg(test)]
 mod troubles;

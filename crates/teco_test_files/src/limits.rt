@@ -1,8 +1,7 @@
 // The limit that the system sets on the size of files, as a file that stands in for its limits says.
-use crate::faulty::Faulty;
+use crate::faulty::{Faulty, faulty_host};
 use crate::scratch::{begin_out, is_file, long_text, remove, scratch, write_pieces};
 use std::fs;
-use std::test::Fail;
 use teco_pages::{FileHost, Host, Reason};
 
 // What is written where there is no limit.
@@ -14,13 +13,7 @@ fn is_past_limit(host: &FileHost<Faulty>) -> bool {
 
 // A host of files that move all at once, where a file stands in for the system's limits.
 fn limited(rt: &HostRuntime) -> FileHost<Faulty> {
-    let files = Faulty {
-        rt: *rt,
-        piece: usize::MAX,
-        whole: usize::MAX,
-        limits: "somleut_test_limits/limits",
-    };
-    FileHost::new(rt.alloc(), files)
+    faulty_host(rt, usize::MAX, usize::MAX, "somleut_test_limits/limits")
 }
 
 // Is so much of an output written, and a write past that refused?
@@ -58,10 +51,10 @@ fn is_cut(rt: &HostRuntime, limits: &[u8], most: usize) -> bool {
 }
 
 #[test]
-fn limits_on_sizes_are_read(rt: HostRuntime) -> Result<(), Fail> {
-    scratch(&rt, "somleut_test_limits")?;
+fn limits_on_sizes_are_read(rt: HostRuntime) {
+    assert!(rt; scratch(&rt, "somleut_test_limits"));
     for (limits, most) in LIMITS {
         assert!(rt; is_cut(&rt, limits, most), "{most} bytes");
     }
-    remove(&rt, "somleut_test_limits")
+    assert!(rt; remove(&rt, "somleut_test_limits"));
 }

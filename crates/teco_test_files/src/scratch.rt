@@ -1,29 +1,19 @@
 // A scratch folder, and what tests do with a host there. A call that is refused memory is made once
 // more, so that each test also holds where one allocation fails.
 use std::alloc::{AllocError, Global};
-use std::fs::Files;
 use std::os::unix::fs::PermissionsExt;
-use std::test::Fail;
-use std::time::Clock;
 use std::{fs, io};
 use teco_pages::{Failed, FileHost, Host};
 
-// Removes a folder with all that it has.
-pub fn remove(rt: &HostRuntime, folder: &str) -> Result<(), Fail> {
-    Ok(try_remove(rt, folder)?)
+// Removes a folder with all that it has; answers whether it could.
+pub fn remove(rt: &HostRuntime, folder: &str) -> bool {
+    fs::remove_dir_all(rt, folder).is_ok() || fs::remove_dir_all(rt, folder).is_ok()
 }
 
-fn try_remove(rt: &HostRuntime, folder: &str) -> io::Result<()> {
-    if fs::remove_dir_all(rt, folder).is_err() {
-        fs::remove_dir_all(rt, folder)?;
-    }
-    Ok(())
-}
-
-// An empty folder.
-pub fn scratch(rt: &HostRuntime, folder: &str) -> Result<(), Fail> {
-    let _gone = try_remove(rt, folder);
-    Ok(fs::create_dir(rt, folder)?)
+// Makes an empty folder; answers whether it could.
+pub fn scratch(rt: &HostRuntime, folder: &str) -> bool {
+    let _is_gone = remove(rt, folder);
+    fs::create_dir(rt, folder).is_ok()
 }
 
 fn count_names(rt: &HostRuntime, folder: &str) -> io::Result<usize> {
@@ -35,25 +25,35 @@ fn count_names(rt: &HostRuntime, folder: &str) -> io::Result<usize> {
     Ok(count)
 }
 
+fn counts(rt: &HostRuntime, folder: &str, want: usize) -> bool {
+    matches!(count_names(rt, folder), Ok(count) if count == want)
+}
+
 // Has a folder so many names?
 pub fn has_names(rt: &HostRuntime, folder: &str, want: usize) -> bool {
-    match count_names(rt, folder) {
-        Ok(count) => count == want,
-        Err(_) => matches!(count_names(rt, folder), Ok(count) if count == want),
-    }
+    counts(rt, folder, want) || counts(rt, folder, want)
 }
 
 // The permissions of a file.
-pub fn mode(rt: &HostRuntime, path: &str) -> io::Result<u32> {
-    Ok(fs::metadata(rt, path)?.permissions().mode() & 0o7777)
+pub fn mode(rt: &HostRuntime, path: &str) -> Option<u32> {
+    match fs::metadata(rt, path) {
+        Ok(metadata) => Some(metadata.permissions().mode() & 0o7777),
+        Err(_) => None,
+    }
+}
+
+fn reads_as(rt: &HostRuntime, path: &str, want: &[u8]) -> bool {
+    matches!(fs::read(rt, path), Ok(bytes) if bytes.as_slice() == want)
 }
 
 // Has the file these bytes?
 pub fn is_file(rt: &HostRuntime, path: &str, want: &[u8]) -> bool {
-    match fs::read(rt, path) {
-        Ok(bytes) => bytes.as_slice() == want,
-        Err(_) => matches!(fs::read(rt, path), Ok(bytes) if bytes.as_slice() == want),
-    }
+    reads_as(rt, path, want) || reads_as(rt, path, want)
+}
+
+// Is there no such file?
+pub fn is_missing(rt: &HostRuntime, path: &str) -> bool {
+    matches!(fs::exists(rt, path), Ok(false))
 }
 
 // Is this file alone in its folder, with these bytes?
@@ -67,10 +67,7 @@ pub fn host(rt: &HostRuntime) -> FileHost<HostRuntime> {
 }
 
 // Opens an output and writes some bytes to it; answers whether it could.
-pub fn begin_out<R>(host: &mut FileHost<R>, path: &str, bytes: &[u8]) -> bool
-where
-    R: Files + Clock + Drop,
-{
+pub fn begin_out(host: &mut impl Host, path: &str, bytes: &[u8]) -> bool {
     let name = path.as_bytes();
     let is_open = host.open_out(name).is_ok() || host.open_out(name).is_ok();
     is_open && matches!(host.write(bytes), Ok(n) if n == bytes.len())
@@ -99,18 +96,12 @@ pub fn long_text(alloc: Global, len: usize) -> Result<Vec<u8>, AllocError> {
 }
 
 // Opens an input, once more where memory is refused; answers whether it could.
-pub fn begin_in<R>(host: &mut FileHost<R>, path: &str) -> bool
-where
-    R: Files + Clock + Drop,
-{
+pub fn begin_in(host: &mut impl Host, path: &str) -> bool {
     host.open_in(path.as_bytes()).is_ok() || host.open_in(path.as_bytes()).is_ok()
 }
 
 // Writes a text in pieces of so many bytes; answers whether it could.
-pub fn write_pieces<R>(host: &mut FileHost<R>, text: &[u8], piece: usize) -> bool
-where
-    R: Files + Clock + Drop,
-{
+pub fn write_pieces(host: &mut impl Host, text: &[u8], piece: usize) -> bool {
     let mut rest = text;
     for _ in 0..text.len() {
         if rest.is_empty() {
@@ -119,44 +110,21 @@ where
         let Ok(n) = host.write(&rest[..rest.len().min(piece)]) else {
             return false;
         };
-        rest = &rest[n..];
+        let Some(behind) = rest.get(n..) else {
+            return false;
+        };
+        rest = behind;
     }
     true
 }
 
 // Makes a file of some bytes that are written at once; answers whether it could.
-pub fn put_whole<R>(host: &mut FileHost<R>, path: &str, bytes: &[u8]) -> bool
-where
-    R: Files + Clock + Drop,
-{
+pub fn put_whole(host: &mut impl Host, path: &str, bytes: &[u8]) -> bool {
     begin_out(host, path, bytes) && host.close_out().is_ok()
 }
 
-// Does a text of so many bytes arrive that is written in pieces of so many, and is it read so?
-pub fn is_exact(rt: &HostRuntime, path: &str, size: usize, piece: usize) -> bool {
-    let Ok(text) = long_text(rt.alloc(), size) else {
-        return false;
-    };
-    is_served(&mut host(rt), path, &text, piece) && is_file(rt, path, &text)
-}
-
-// Is a text that is written in pieces of so many bytes read so?
-fn is_served<R>(host: &mut FileHost<R>, path: &str, text: &[u8], piece: usize) -> bool
-where
-    R: Files + Clock + Drop,
-{
-    begin_out(host, path, b"")
-        && write_pieces(host, text, piece)
-        && host.close_out().is_ok()
-        && begin_in(host, path)
-        && matches!(reads(host, text, piece), Ok(true))
-}
-
 // Reads an input in pieces of so many bytes: does it have this text?
-pub fn reads<R>(host: &mut FileHost<R>, text: &[u8], piece: usize) -> Result<bool, Failed>
-where
-    R: Files + Clock + Drop,
-{
+pub fn reads(host: &mut impl Host, text: &[u8], piece: usize) -> Result<bool, Failed> {
     let mut buf = [0; 70_000];
     let room = piece.min(70_000);
     let mut rest = text;
@@ -171,4 +139,21 @@ where
         }
     }
     Ok(rest.is_empty())
+}
+
+// Does a text of so many bytes arrive that is written in pieces of so many, and is it read so?
+pub fn is_exact(rt: &HostRuntime, path: &str, size: usize, piece: usize) -> bool {
+    let Ok(text) = long_text(rt.alloc(), size) else {
+        return false;
+    };
+    is_served(&mut host(rt), path, &text, piece) && is_file(rt, path, &text)
+}
+
+// Is a text that is written in pieces of so many bytes read so?
+fn is_served(host: &mut impl Host, path: &str, text: &[u8], piece: usize) -> bool {
+    begin_out(host, path, b"")
+        && write_pieces(host, text, piece)
+        && host.close_out().is_ok()
+        && begin_in(host, path)
+        && matches!(reads(host, text, piece), Ok(true))
 }

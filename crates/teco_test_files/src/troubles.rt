@@ -3,62 +3,67 @@ use crate::scratch::{has_names, host, remove, scratch};
 use std::alloc::{AllocError, Global};
 use std::fs;
 use std::os::unix::fs::symlink;
-use std::test::Fail;
 use teco_pages::{FileHost, Host, Trouble};
 
-// Names that no output can have.
-const TARGETS: [&[u8]; 12] = [
-    b"somleut_test_refused/folder",
-    b"somleut_test_refused/folder/",
-    b"somleut_test_refused/missing/out",
-    b"somleut_test_refused/dangling",
-    b"/dev/full",
-    b"/dev/stdout",
-    b"/dev/fd/1",
-    b"/proc/self/../self/fd/1",
-    b"somleut_test_refused/typed",
-    b"somleut_test_refused/o\xffut",
-    b"somleut_test_refused/o\0ut",
-    b"",
-];
-
-// Names that no input can have.
-const SOURCES: [&[u8]; 3] = [
-    b"somleut_test_refused/folder",
-    b"somleut_test_refused/no",
-    b"o\xffut",
-];
-
-// A folder, and links that lead nowhere and to an open file.
-fn make_targets(rt: &HostRuntime) -> Result<(), Fail> {
-    fs::create_dir(rt, "somleut_test_refused/folder")?;
-    symlink(rt, "nowhere", "somleut_test_refused/dangling")?;
-    symlink(
-        rt,
-        "../somleut_test_refused/again",
-        "somleut_test_refused/typed",
-    )?;
-    Ok(symlink(rt, "/proc/self/fd/1", "somleut_test_refused/again")?)
+// Is an input opened, or an output?
+#[derive(Clone, Copy)]
+enum Opening {
+    Input,
+    Output,
 }
 
-// Is no output of this name opened?
-fn is_target_refused(rt: &HostRuntime, name: &[u8]) -> bool {
-    let mut host = host(rt);
-    host.open_out(name).is_err() && host.write(b"a").is_err() && host.close_out().is_err()
+// Names that no output can have, and those that no input can have.
+const REFUSED: [(Opening, &[u8]); 15] = [
+    (Opening::Output, b"somleut_test_refused/folder"),
+    (Opening::Output, b"somleut_test_refused/folder/"),
+    (Opening::Output, b"somleut_test_refused/missing/out"),
+    (Opening::Output, b"somleut_test_refused/dangling"),
+    (Opening::Output, b"/dev/full"),
+    (Opening::Output, b"/dev/stdout"),
+    (Opening::Output, b"/dev/fd/1"),
+    (Opening::Output, b"/proc/self/../self/fd/1"),
+    (Opening::Output, b"somleut_test_refused/typed"),
+    (Opening::Output, b"somleut_test_refused/o\xffut"),
+    (Opening::Output, b"somleut_test_refused/o\0ut"),
+    (Opening::Output, b""),
+    (Opening::Input, b"somleut_test_refused/folder"),
+    (Opening::Input, b"somleut_test_refused/no"),
+    (Opening::Input, b"o\xffut"),
+];
+
+// Makes a folder, and links that lead nowhere and to an open file.
+fn make_targets(rt: &HostRuntime) -> bool {
+    let again = "../somleut_test_refused/again";
+    fs::create_dir(rt, "somleut_test_refused/folder").is_ok()
+        && symlink(rt, "nowhere", "somleut_test_refused/dangling").is_ok()
+        && symlink(rt, again, "somleut_test_refused/typed").is_ok()
+        && symlink(rt, "/proc/self/fd/1", "somleut_test_refused/again").is_ok()
+}
+
+// Is the opening refused?
+fn is_refused(host: &mut impl Host, opening: Opening, name: &[u8]) -> bool {
+    match opening {
+        Opening::Input => host.open_in(name).is_err(),
+        Opening::Output => host.open_out(name).is_err(),
+    }
+}
+
+// Is it refused, and no output open then?
+fn is_nothing_open(host: &mut impl Host, opening: Opening, name: &[u8]) -> bool {
+    is_refused(host, opening, name) && host.write(b"a").is_err() && host.close_out().is_err()
 }
 
 #[test]
-fn targets_that_are_refused(rt: HostRuntime) -> Result<(), Fail> {
-    scratch(&rt, "somleut_test_refused")?;
-    make_targets(&rt)?;
-    for name in TARGETS {
-        assert!(rt; is_target_refused(&rt, name), "{name:?}");
-    }
-    for name in SOURCES {
-        assert!(rt; host(&rt).open_in(name).is_err(), "{name:?}");
+fn names_that_are_refused(rt: HostRuntime) {
+    assert!(rt; scratch(&rt, "somleut_test_refused") && make_targets(&rt));
+    for (number, (opening, name)) in REFUSED.iter().enumerate() {
+        assert!(rt;
+            is_nothing_open(&mut host(&rt), *opening, name),
+            "row {number}"
+        );
     }
     assert!(rt; has_names(&rt, "somleut_test_refused", 4));
-    remove(&rt, "somleut_test_refused")
+    assert!(rt; remove(&rt, "somleut_test_refused"));
 }
 
 // What could not be done last, in words.
@@ -77,15 +82,10 @@ fn told(host: &FileHost<HostRuntime>, alloc: Global) -> Result<String, AllocErro
     }
 }
 
-// Is an input opened, or an output?
-#[derive(Clone, Copy)]
-enum Opening {
-    Input,
-    Output,
-}
-
 // What is opened, under which name, and what is told of it.
-const TROUBLES: [(Opening, &[u8], &str); 4] = [
+type Row = (Opening, &'static [u8], &'static str);
+
+const TROUBLES: [Row; 4] = [
     (
         Opening::Input,
         b"somleut_test_trouble/none",
@@ -108,26 +108,18 @@ const TROUBLES: [(Opening, &[u8], &str); 4] = [
     ),
 ];
 
-// Is the opening refused?
-fn is_refused(host: &mut FileHost<HostRuntime>, opening: Opening, name: &[u8]) -> bool {
-    match opening {
-        Opening::Input => host.open_in(name).is_err(),
-        Opening::Output => host.open_out(name).is_err(),
-    }
-}
-
 // Is the opening refused, and this told of it?
-fn is_told(rt: &HostRuntime, opening: Opening, name: &[u8], wanted: &str) -> bool {
-    let mut host = host(rt);
-    let is_refused = is_refused(&mut host, opening, name);
-    is_refused && matches!(told(&host, rt.alloc()), Ok(told) if told.as_str() == wanted)
+fn is_told(host: &mut FileHost<HostRuntime>, alloc: Global, row: Row) -> bool {
+    let (opening, name, wanted) = row;
+    is_refused(host, opening, name)
+        && matches!(told(host, alloc), Ok(told) if told.as_str() == wanted)
 }
 
 #[test]
-fn troubles_name_file_and_reason(rt: HostRuntime) -> Result<(), Fail> {
-    scratch(&rt, "somleut_test_trouble")?;
-    for (opening, name, wanted) in TROUBLES {
-        assert!(rt; is_told(&rt, opening, name, wanted), "{wanted}");
+fn troubles_name_file_and_reason(rt: HostRuntime) {
+    assert!(rt; scratch(&rt, "somleut_test_trouble"));
+    for (number, row) in TROUBLES.iter().enumerate() {
+        assert!(rt; is_told(&mut host(&rt), rt.alloc(), *row), "row {number}");
     }
-    remove(&rt, "somleut_test_trouble")
+    assert!(rt; remove(&rt, "somleut_test_trouble"));
 }
