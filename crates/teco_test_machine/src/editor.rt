@@ -348,9 +348,9 @@ fn page(rt: &impl Abort, alloc: Global, text: &[u8]) -> Vec<u8> {
     }
 }
 
-// A page of two characters that a form feed ended becomes the buffer.
-fn take_page(rt: &impl Abort, alloc: Global, editor: &mut Editor<VecText>) {
-    let page = page(rt, alloc, b"ab");
+// A page that a form feed ended becomes the buffer.
+fn take_page(rt: &impl Abort, alloc: Global, editor: &mut Editor<VecText>, text: &[u8]) {
+    let page = page(rt, alloc, text);
     assert!(rt; page.len() <= LIMIT);
     assert!(rt; editor.take_page(page, true).is_empty());
 }
@@ -373,21 +373,21 @@ fn expect_form_feed(rt: &impl Abort, editor: &Editor<VecText>, is_ended: bool) {
 fn pages_come_into_the_buffer(rt: HostRuntime) {
     let mut editor = empty(rt.alloc());
     expect_form_feed(&rt, &editor, false);
-    take_page(&rt, rt.alloc(), &mut editor);
+    take_page(&rt, rt.alloc(), &mut editor, b"ab");
     expect_text(&rt, &editor, b"ab", 0);
     expect_form_feed(&rt, &editor, true);
     expect(&rt, &mut editor, b"C", (None, None), None);
     add_page(&rt, &mut editor);
     expect_text(&rt, &editor, b"abcd", 1);
     expect_form_feed(&rt, &editor, false);
-    take_page(&rt, rt.alloc(), &mut editor);
+    take_page(&rt, rt.alloc(), &mut editor, b"ab");
     expect_text(&rt, &editor, b"ab", 0);
 }
 
 #[test]
 fn ranges_are_told(rt: HostRuntime) {
     let mut editor = empty(rt.alloc());
-    take_page(&rt, rt.alloc(), &mut editor);
+    take_page(&rt, rt.alloc(), &mut editor, b"ab");
     let range = editor.range_text(2, 1);
     let is_told = range == Ok((b"b".as_slice(), b"".as_slice()));
     expect_so(&rt, is_told, "the second character");
@@ -453,7 +453,7 @@ fn pages_go_out_of_the_buffer(rt: HostRuntime) {
     let mut editor = empty(rt.alloc());
     let mut pages = Pages::new(rt.alloc());
     let mut host = open_host(&rt, rt.alloc(), &mut pages);
-    take_page(&rt, rt.alloc(), &mut editor);
+    take_page(&rt, rt.alloc(), &mut editor, b"ab");
     if writes(&rt, &mut editor, &pages, &mut host)
         && looks_through(&rt, &mut editor, &pages, &mut host)
     {
@@ -464,7 +464,7 @@ fn pages_go_out_of_the_buffer(rt: HostRuntime) {
 #[test]
 fn the_buffer_is_left(rt: HostRuntime) {
     let mut editor = empty(rt.alloc());
-    take_page(&rt, rt.alloc(), &mut editor);
+    take_page(&rt, rt.alloc(), &mut editor, b"ab");
     editor.leave_page();
     expect_text(&rt, &editor, b"", 0);
     expect_form_feed(&rt, &editor, false);
