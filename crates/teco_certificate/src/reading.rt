@@ -128,7 +128,8 @@ fn register_at(text: &[u8]) -> (Reg, &[u8])
 // What comes behind the first words and the version.
 fn behind_version(text: &[u8]) -> &[u8]
     ensures { (argument : Option RangeOf) (rest : List ℕ)
-        → text.now ≡ codes "TECO-CERT " ++ (version_text argument ++ LF ∷ rest) → result.now ≡ LF ∷ rest }
+        → text.now ≡ codes "TECO-CERT " ++ (version_text argument ++ LF ∷ rest)
+        → result.now ≡ LF ∷ rest }
 {
     let version = behind(text, b"TECO-CERT ");
     let rest = behind(version, b"1");

@@ -171,8 +171,10 @@ fn search_ways(
     requires { element_at (text_of texts.now position.now.running.register)
         position.now.running.place ≡ Ok (Some (seen element.now)) }
     ensures { Gives (ways_seen texts.now) result (model.search_ways
-        (searching.has_colon (seen element.now) (frame_of (text_of texts.now position.now.running.register)))
-        (listed position.now.running.starts) (seen element.now) (position_seen texts.now position.now)) }
+        (searching.has_colon (seen element.now)
+        (frame_of (text_of texts.now position.now.running.register)))
+        (listed position.now.running.starts) (seen element.now)
+        (position_seen texts.now position.now)) }
 {
     let spot = &position.running;
     let behind = texts.behind_blanks(spot.register, element.next);
@@ -222,7 +224,8 @@ fn call_ways(
 // The end of a text goes back to the text that waits, if there is one.
 fn return_ways(position: &Position) -> Result<Ways, Reason>
     ensures { (texts : Texts) → Gives (ways_seen texts) result
-        (model.return_ways (listed position.now.running.starts) (map (spot_seen texts) (listed position.now.callers))) }
+        (model.return_ways (listed position.now.running.starts)
+        (map (spot_seen texts) (listed position.now.callers))) }
 {
     if position.running.starts.len() > 0 {
         return Err(Reason::Unpaired);

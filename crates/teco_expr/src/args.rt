@@ -51,7 +51,8 @@ impl Args {
     /// Gives the number that a run of digits is.
     pub fn digit_run(&mut self, digits: &[u8]) -> Result<(), ArgFault>
         ensures { Does self.old self.new
-            (with_level self.old (model.level_with (model.run_value digits.now) self.old.level)) result }
+            (with_level self.old (model.level_with (model.run_value digits.now) self.old.level))
+            result }
     {
         self.value(level::run_value(digits))
     }

@@ -33,9 +33,19 @@ impl Model for Choice {
 
     ghost Value = { bodies.Choice };
 
-    ghost view = { λ c. record { held = c.held; kept = c.kept; distances = c.margins; texts = c.texts } };
+    ghost view = { λ c. record {
+      held = c.held;
+      kept = c.kept;
+      distances = c.margins;
+      texts = c.texts;
+    } };
 
-    ghost inverse = { λ c. record { held = c.held; kept = c.kept; margins = c.distances; texts = c.texts } };
+    ghost inverse = { λ c. record {
+      held = c.held;
+      kept = c.kept;
+      margins = c.distances;
+      texts = c.texts;
+    } };
 
     ghost invariant = { λ c. length c.texts ≡ REGISTERS };
 }

@@ -433,7 +433,8 @@ impl Facts {
         Ok(self)
     }
 
-    /// The facts where the number of a register is of a range, and saved or not, if there is memory.
+    /// The facts where the number of a register is of a range, and saved or not. Refused where
+    /// memory is.
     pub fn with_number(
         mut self,
         register: Reg,

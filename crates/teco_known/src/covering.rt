@@ -17,7 +17,8 @@ fn are_equal(one: i64, two: i64) -> bool
 
 // Whether each distance counts as often in both numbers.
 fn counts_as_often(one: Value, edge: Value) -> bool
-    ensures { result ≡ (values.are_equal one.ahead edge.ahead && values.are_equal one.behind edge.behind) }
+    ensures { result ≡ (values.are_equal one.ahead edge.ahead
+        && values.are_equal one.behind edge.behind) }
 {
     are_equal(one.ahead, edge.ahead) && are_equal(one.behind, edge.behind)
 }

@@ -87,8 +87,8 @@ fn grown(by: u64, fall: Option<i64>) -> Option<i64>
     Some(if fall > MOST - by { MOST } else { fall + by })
 }
 
-// The falls in order by the second edition: each is at least what follows from the others. The first
-// knows the fall alone.
+// The falls in order by the second edition: each is at least what follows from the others. The
+// first edition knows the fall alone.
 fn in_order(edition: Rules, margins: Margins, falls: Falls) -> Falls
     ensures { result ≡ rules.in_order edition margins falls }
 {

@@ -105,7 +105,8 @@ impl<T: Copy> Few<T> {
 }
 
 impl<T: Meets> Few<T> {
-    /// The list becomes what it has in common with another, item by item, as far as the shorter goes.
+    /// The list becomes what it has in common with another, item by item, as far as the shorter
+    /// goes.
     pub fn meet(&mut self, other: &Few<T>)
         ensures { self.new ≡ each_met T.met self.old other.now }
     {

@@ -154,7 +154,8 @@ impl Number {
     // range.
     fn linear_or(range: Range, codes: bool, exact: Value) -> Number
         requires { IsPlace exact.ahead exact.behind exact.lo exact.hi }
-        ensures { result ≡ (if not codes && values.is_linear exact then exact else values.value_in range) }
+        ensures { result ≡ (if not codes && values.is_linear exact then exact
+            else values.value_in range) }
     {
         if !codes && is_linear(exact) {
             Number { value: exact }

@@ -107,8 +107,8 @@ impl Position {
         }
     }
 
-    /// The position becomes that behind a shift, where so much is held. Where more may be ahead than
-    /// before, that may be all that is held.
+    /// The position becomes that behind a shift, where so much is held. Where more may be ahead
+    /// than before, that may be all that is held.
     pub fn shift(&mut self, rules: Rules, shift: &Shift, held: &Poly)
         requires { AreSmall self.old.falls }
         ensures { self.new ≡ shifts.position_after rules shift.now held.now self.old }

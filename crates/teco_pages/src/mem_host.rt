@@ -49,7 +49,11 @@ impl Model for MemHost {
     ghost Value = { MemFiles };
 
     ghost view = { λ m. record {
-      told = record { named = m.files.items; unread = drop m.place m.input.items; output = output_in m.output };
+      told = record {
+        named = m.files.items;
+        unread = drop m.place m.input.items;
+        output = output_in m.output;
+      };
       given = m.place;
       failures = m.failures.value;
     } };

@@ -303,7 +303,8 @@ fn read_page<H: Host>(into: &mut Vec<u8>, ahead: &mut Ahead, host: &mut H) -> Re
     requires plain { has_form_feed into.old.items ≡ false }
     requires short { length into.old.items ≤ LIMIT }
     ensures ends { EndsPage (into.old.items ++ ahead.old) (H.files host.old)
-        into.new.items ahead.new (H.files host.new) (H.failures host.old) (H.failures host.new) result }
+        into.new.items ahead.new (H.files host.new)
+        (H.failures host.old) (H.failures host.new) result }
     ensures plain { has_form_feed into.new.items ≡ false }
     ensures short { length into.new.items ≤ LIMIT }
 {

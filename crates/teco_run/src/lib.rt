@@ -4,6 +4,7 @@
 mod arguments;
 mod at_once;
 mod body;
+mod call;
 mod course;
 mod desk;
 mod execution;

@@ -1,2 +1,3 @@
+pub mod LineEnds
 pub mod LinePlaces
 mod Gaps

@@ -2,7 +2,7 @@
 use Rattle.std.proofs.Common.{◌≡◌, ℕ, zero, suc, ◌+◌, ◌-◌, ◌<◌, ◌≤◌, Bool, true, false, cond, ℤ, pos, negsuc, ◌≤ℤ◌, ◌<ℤ◌, unsigned_abs, List, [], ◌∷◌, ◌++◌, length, take, drop, get_or, reverse, Some, Result, Ok, Err, sym, ap, refl, ◌∙◌, arith, add-zero, append_assoc, length-append, length-take, take-append-drop}
 use Rattle.std.proofs.lemmas.Bool.{lt-ltb, le-ltb, le-leb, lt-leb}
 use Rattle.std.proofs.lemmas.Int.{ints}
-use Rattle.std.proofs.lemmas.List.{reverse-append, append-nil, length-reverse, drop_more, take_more, get_or_past}
+use Rattle.std.proofs.lemmas.List.{reverse-append, append-nil, get_or_past}
 use Rattle.std.proofs.lemmas.List.Elements.{filter-append}
 use Rattle.std.proofs.lemmas.Option.{get_or_from_slice_get}
 use Rattle.std.specs.Prelude.{slice_get, filter, nat_lt, nat_le}
@@ -29,81 +29,6 @@ places-append at (x ∷ xs) ys =
     ∙ ap (λ t. place_of at x ++ t) (deeper ∙ ap (λ n. line_places_from (at + 1) xs ++ line_places_from n ys) same)
     ∙ sym (append_assoc (place_of at x) (line_places_from (at + 1) xs) (line_places_from (at + length (x ∷ xs)) ys))
     ∙ ap (λ t. t ++ line_places_from (at + length (x ∷ xs)) ys) (sym (places_cons at x xs))
-
-length_front : (xs : List ℕ) (i : ℕ) → i ≤ length xs → length (take i xs) ≡ i
-length_front xs i within = omega (arith, length-take i xs)
-
-module _ (at : ℕ) (xs : List ℕ) (i : ℕ) (within : i < length xs) where
-  places_from : line_places_from (at + i) (drop i xs) ≡ place_of (at + i) (get_or xs i 0) ++ line_places_from (at + (i + 1)) (drop (i + 1) xs)
-  places_from =
-      let next : at + i + 1 ≡ at + (i + 1) = omega arith in
-      ap (line_places_from (at + i)) (drop_more xs i 0 within)
-      ∙ places_cons (at + i) (get_or xs i 0) (drop (i + 1) xs)
-      ∙ ap (λ n. place_of (at + i) (get_or xs i 0) ++ line_places_from n (drop (i + 1) xs)) next
-
-  places_up_to : line_places_from at (take (i + 1) xs) ≡ line_places_from at (take i xs) ++ place_of (at + i) (get_or xs i 0)
-  places_up_to =
-      ap (line_places_from at) (take_more xs i 0 within)
-      ∙ places-append at (take i xs) (get_or xs i 0 ∷ [])
-      ∙ ap (λ n. line_places_from at (take i xs) ++ place_of (at + n) (get_or xs i 0)) (length_front xs i (omega arith))
-
-  places_around : line_places_from at xs ≡ line_places_from at (take i xs) ++ (place_of (at + i) (get_or xs i 0) ++ line_places_from (at + (i + 1)) (drop (i + 1) xs))
-  places_around =
-      ap (line_places_from at) (sym (take-append-drop i xs))
-      ∙ places-append at (take i xs) (drop i xs)
-      ∙ ap (λ n. line_places_from at (take i xs) ++ line_places_from (at + n) (drop i xs)) (length_front xs i (omega arith))
-      ∙ ap (λ t. line_places_from at (take i xs) ++ t) places_from
-
--- the entry between two lists
-slice_get_seam : (xs : List ℕ) (y : ℕ) (ys : List ℕ) → slice_get (xs ++ y ∷ ys) (length xs) ≡ Some y
-slice_get_seam [] y ys = refl
-slice_get_seam (x ∷ xs) y ys = slice_get_seam xs y ys
-
-module _ (at : ℕ) (xs : List ℕ) (i : ℕ) (within : i < length xs) where
-  -- a character that is no line end has no place
-  pub none_up_to : is_line_end (get_or xs i 0) ≡ false → length (line_places_from at (take (i + 1) xs)) ≡ length (line_places_from at (take i xs))
-  none_up_to plain =
-      let own : place_of (at + i) (get_or xs i 0) ≡ [] = ap (λ v. cond v ((at + i + 1) ∷ []) []) plain in
-      rw (places_up_to at xs i within, own, length-append) (omega arith)
-
-  pub none_from : is_line_end (get_or xs i 0) ≡ false → length (line_places_from (at + i) (drop i xs)) ≡ length (line_places_from (at + (i + 1)) (drop (i + 1) xs))
-  none_from plain =
-      let own : place_of (at + i) (get_or xs i 0) ≡ [] = ap (λ v. cond v ((at + i + 1) ∷ []) []) plain in
-      rw (places_from at xs i within, own) refl
-
-  -- a line end has one
-  pub one_up_to : is_line_end (get_or xs i 0) ≡ true → length (line_places_from at (take (i + 1) xs)) ≡ length (line_places_from at (take i xs)) + 1
-  one_up_to ends =
-      let own : place_of (at + i) (get_or xs i 0) ≡ (at + i + 1) ∷ [] = ap (λ v. cond v ((at + i + 1) ∷ []) []) ends in
-      rw (places_up_to at xs i within, own, length-append) (omega arith)
-
-  pub one_from : is_line_end (get_or xs i 0) ≡ true → length (line_places_from (at + i) (drop i xs)) ≡ length (line_places_from (at + (i + 1)) (drop (i + 1) xs)) + 1
-  one_from ends =
-      let own : place_of (at + i) (get_or xs i 0) ≡ (at + i + 1) ∷ [] = ap (λ v. cond v ((at + i + 1) ∷ []) []) ends in
-      rw (places_from at xs i within, own) (omega arith)
-
-  -- the last that is counted, from the front and from the end
-  pub counted_up_to : is_line_end (get_or xs i 0) ≡ true → (count : ℕ) → length (line_places_from at (take i xs)) + 1 ≡ count → slice_get (line_places_from at xs) (count - 1) ≡ Some (at + i + 1)
-  counted_up_to ends count e =
-      let front = line_places_from at (take i xs) in
-      let back = line_places_from (at + (i + 1)) (drop (i + 1) xs) in
-      let own : place_of (at + i) (get_or xs i 0) ≡ (at + i + 1) ∷ [] = ap (λ v. cond v ((at + i + 1) ∷ []) []) ends in
-      let all : line_places_from at xs ≡ front ++ (at + i + 1) ∷ back = places_around at xs i within ∙ ap (λ t. front ++ (t ++ back)) own in
-      let last : count - 1 ≡ length front = omega arith in
-      rw (all, last) (slice_get_seam front (at + i + 1) back)
-
-  pub counted_from : is_line_end (get_or xs i 0) ≡ true → (count : ℕ) → length (line_places_from (at + (i + 1)) (drop (i + 1) xs)) + 1 ≡ count → slice_get (reverse (line_places_from at xs)) (count - 1) ≡ Some (at + i + 1)
-  counted_from ends count e =
-      let front = line_places_from at (take i xs) in
-      let back = line_places_from (at + (i + 1)) (drop (i + 1) xs) in
-      let own : place_of (at + i) (get_or xs i 0) ≡ (at + i + 1) ∷ [] = ap (λ v. cond v ((at + i + 1) ∷ []) []) ends in
-      let all : line_places_from at xs ≡ front ++ ((at + i + 1) ∷ [] ++ back) = places_around at xs i within ∙ ap (λ t. front ++ (t ++ back)) own in
-      let turned : reverse (line_places_from at xs) ≡ reverse back ++ (at + i + 1) ∷ reverse front =
-      ap reverse all ∙ reverse-append front ((at + i + 1) ∷ [] ++ back)
-      ∙ ap (λ t. t ++ reverse front) (reverse-append ((at + i + 1) ∷ []) back)
-      ∙ append_assoc (reverse back) ((at + i + 1) ∷ []) (reverse front) in
-      let last : count - 1 ≡ length (reverse back) = omega (arith, length-reverse back) in
-      rw (turned, last) (slice_get_seam (reverse back) (at + i + 1) (reverse front))
 
 -- how a count goes on from one list into the next
 slice_get_left : (xs ys : List ℕ) (k y : ℕ) → slice_get xs k ≡ Some y → slice_get (xs ++ ys) k ≡ Some y
@@ -215,6 +140,3 @@ place_back_is text pointer (pos zero) count r within low e found =
 place_back_is text pointer (pos (suc k)) count r within low e found = absurd (omega (arith, ints))
 place_back_is text pointer (negsuc k) count r within low e found =
     rw (back_are text pointer within) (counted_or (reverse (line_places_from 0 (take pointer text))) count (suc k) r 0 (omega arith) (omega arith) found)
-
--- what a loop over the characters of a piece needs
-pub ruleset counting = (none_up_to, one_up_to, counted_up_to, none_from, one_from, counted_from)

@@ -7,7 +7,8 @@ ghost use Rattle.teco_text.specs.Counted.{Counted};
 
 use crate::parts::{pieces_after, pieces_before};
 use crate::store::TextStore;
-use teco_base::bytes::is_line_end;
+use memchr::{memchr3_iter, memrchr3_iter};
+use teco_base::bytes::{FF, LF, VT};
 
 /// The line place of `n`: for `n` at least 1 the place after the `n`th line end at or after the
 /// pointer, or the text's length where there are fewer; for `n` at most 0 the place after the `1 -
@@ -62,7 +63,6 @@ fn place_back(first: &[u8], second: &[u8], count: u64) -> Result<usize, u64>
 
 // The place after the `count`th line end of a piece that begins at a place; or how many are
 // missing.
-#[tactic(auto, using(crate::proofs::LinePlaces::counting))]
 fn nth_place(piece: &[u8], at: usize, count: u64) -> Result<usize, u64>
     requires some { 0 < count }
     requires fits { at + length piece.now < 2 ^ 63 }
@@ -70,19 +70,16 @@ fn nth_place(piece: &[u8], at: usize, count: u64) -> Result<usize, u64>
     ensures within { IfOk result (λ place. place ≤ at + length piece.now) }
 {
     let mut left = count;
-    for (i, b) in piece.iter().enumerate() {
-        if is_line_end(*b) {
-            left -= 1;
-            if left == 0 {
-                return Ok(at + i + 1);
-            }
+    for i in memchr3_iter(LF, VT, FF, piece) {
+        left -= 1;
+        if left == 0 {
+            return Ok(at + i + 1);
         }
     }
     Err(left)
 }
 
 // The place of a line end as counted from the piece's end.
-#[tactic(auto, using(crate::proofs::LinePlaces::counting))]
 fn nth_place_from_end(piece: &[u8], at: usize, count: u64) -> Result<usize, u64>
     requires some { 0 < count }
     requires fits { at + length piece.now < 2 ^ 63 }
@@ -90,12 +87,10 @@ fn nth_place_from_end(piece: &[u8], at: usize, count: u64) -> Result<usize, u64>
     ensures within { IfOk result (λ place. place ≤ at + length piece.now) }
 {
     let mut left = count;
-    for i in (0..piece.len()).rev() {
-        if is_line_end(piece[i]) {
-            left -= 1;
-            if left == 0 {
-                return Ok(at + i + 1);
-            }
+    for i in memrchr3_iter(LF, VT, FF, piece) {
+        left -= 1;
+        if left == 0 {
+            return Ok(at + i + 1);
         }
     }
     Err(left)

@@ -49,7 +49,8 @@ pub trait TextStore {
     /// Puts `bytes` in before the pointer, which moves past them.
     fn insert(&mut self, bytes: &[u8]) -> Result<(), TextFault>
         ensures answer { OkWithin result
-            (length (text_after_insertion (list self.old) (pointer self.old) bytes.now)) (room self.old) }
+            (length (text_after_insertion (list self.old) (pointer self.old) bytes.now))
+            (room self.old) }
         ensures list { OnOk result (list self.new ≡
             text_after_insertion (list self.old) (pointer self.old) bytes.now) }
         ensures pointer { OnOk result (pointer self.new ≡ pointer self.old + length bytes.now) }

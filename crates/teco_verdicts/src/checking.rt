@@ -108,7 +108,8 @@ fn other_edition(text: &[u8], rules: Rules) -> Option<Rules> {
     }
 }
 
-// Says that a certificate is of the other edition of the rules, and with which option it is checked.
+// Says that a certificate is of the other edition of the rules, and with which option it is
+// checked.
 fn tell_edition<O: Write + Drop, E: Write + Drop>(
     console: &mut Console<O, E>,
     name: &str,

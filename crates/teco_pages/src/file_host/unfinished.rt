@@ -124,15 +124,13 @@ impl<F: OpenFile + Write + Drop> Unfinished<F> {
         alloc: Global,
         closing: Closing,
     ) -> Result<Closed, Reason> {
-        let settled = self.settle(rt, alloc, closing);
-        if let Ok(Settled::Moved) = settled {
-            return Ok(Closed::Changed);
-        }
+        let left = match self.settle(rt, alloc, closing) {
+            Ok(Settled::Moved) => return Ok(Closed::Changed),
+            Ok(Settled::Left(closed)) => Ok(closed),
+            Err(reason) => Err(reason),
+        };
         self.abandon(rt)?;
-        match settled? {
-            Settled::Moved => Ok(Closed::Changed),
-            Settled::Left(closed) => Ok(closed),
-        }
+        left
     }
 
     // Sends on what was kept, and moves it over its target where that is asked for.
