@@ -1,6 +1,7 @@
 // Arguments as they are written, with what a command takes, or the code. Only a ninth parenthesis
 // may want memory; a call that is refused memory is made once more, so that the rows also hold
 // where that allocation fails.
+use std::process::Abort;
 use teco_base::Code;
 use teco_expr::{ArgFault, Args};
 use teco_model::Operator;
@@ -96,13 +97,17 @@ fn takes_answer(arguments: &mut Args) -> bool {
     is_pending && is_taken(arguments, b"", Ok((None, Some(-1))))
 }
 
+fn expect_rows(rt: &impl Abort, arguments: &mut Args) {
+    for (number, (text, want)) in ARGUMENTS.iter().enumerate() {
+        arguments.drop_all();
+        assert!(rt; is_taken(arguments, text, *want), "row {number}");
+    }
+}
+
 #[test]
 fn rows_of_arguments(rt: HostRuntime) {
     let mut arguments = Args::new(rt.alloc());
-    for (number, (text, want)) in ARGUMENTS.iter().enumerate() {
-        arguments.drop_all();
-        assert!(rt; is_taken(&mut arguments, text, *want), "row {number}");
-    }
+    expect_rows(&rt, &mut arguments);
     arguments.drop_all();
     assert!(rt; takes_standing(&mut arguments));
     assert!(rt; keeps_operand(&mut arguments) && takes_answer(&mut arguments));

@@ -205,12 +205,21 @@ fn readable(alloc: Global, bytes: &[u8]) -> Result<Source, AllocError> {
     Source::new(alloc, "in.tes", copy, Form::Readable)
 }
 
+// Whether a source of `Ia$`, a line end and `I^$$5C` knows its name, its text and its places.
+fn knows_places(alloc: Global, source: &Source) -> Result<bool, Fail> {
+    let is_marked = is_printed(alloc, source.excerpt(7), "    I^$$5C\n        ^")?;
+    Ok(
+        is_marked
+            && source.name() == "in.tes"
+            && source.text() == b"Ia\x1b\nI$\x1b5C".as_slice()
+            && source.position(5) == Position { line: 2, column: 3 },
+    )
+}
+
 #[test]
 fn sources_know_their_places(rt: HostRuntime) -> Result<(), Fail> {
     let source = readable(rt.alloc(), b"Ia$\nI^$$5C")?;
-    assert!(rt; source.name() == "in.tes" && source.text() == b"Ia\x1b\nI$\x1b5C".as_slice());
-    assert!(rt; source.position(5) == Position { line: 2, column: 3 });
-    assert!(rt; is_printed(rt.alloc(), source.excerpt(7), "    I^$$5C\n        ^")?);
+    assert!(rt; knows_places(rt.alloc(), &source)?);
     Ok(())
 }
 
