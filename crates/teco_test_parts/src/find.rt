@@ -56,22 +56,6 @@ fn is_span(found: Option<Span>, want: Option<(usize, usize)>) -> bool {
     }
 }
 
-// Looks in a text that is cut at each of its places.
-fn expect_in_mode(
-    rt: &(impl Abort + AllocGlobal),
-    search: &[u8],
-    exact: bool,
-    text: &[u8],
-    way: Way,
-    want: Option<(usize, usize)>,
-) {
-    let regs = registers(rt, rt.alloc());
-    let pattern = read(rt.alloc(), search, &regs, exact).expect(rt, "a pattern");
-    for cut in 0..text.len() + 1 {
-        assert!(rt; is_span(find(&pattern, text.split_at(cut), way), want));
-    }
-}
-
 // What is searched for, whether the cases of letters count, the text, the way, and what is found.
 type Row = (
     &'static [u8],
@@ -81,10 +65,30 @@ type Row = (
     Option<(usize, usize)>,
 );
 
+// Whether a pattern is found so in a text that is cut at each of its places.
+fn is_found(pattern: &Pattern, text: &[u8], way: Way, want: Option<(usize, usize)>) -> bool {
+    for cut in 0..text.len() + 1 {
+        if !is_span(find(pattern, text.split_at(cut), way), want) {
+            return false;
+        }
+    }
+    true
+}
+
+fn holds(
+    rt: &(impl Abort + AllocGlobal),
+    regs: &Regs,
+    (search, exact, text, way, want): &Row,
+) -> bool {
+    let pattern = read(rt.alloc(), search, regs, *exact).expect(rt, "a pattern");
+    is_found(&pattern, text, *way, *want)
+}
+
 // Asserts what each row finds.
 fn expect_rows(rt: &(impl Abort + AllocGlobal), rows: &[Row]) {
-    for (search, exact, text, way, want) in rows {
-        expect_in_mode(rt, search, *exact, text, *way, *want);
+    let regs = registers(rt, rt.alloc());
+    for (number, row) in rows.iter().enumerate() {
+        assert!(rt; holds(rt, &regs, row), "row {number}");
     }
 }
 
@@ -92,7 +96,7 @@ fn expect_rows(rt: &(impl Abort + AllocGlobal), rows: &[Row]) {
 const TWICE: &[u8] = b"aXbcXbc";
 
 // Searches for that word in either direction.
-const EITHER_WAY: [Row; 15] = [
+const EITHER_WAY: &[Row] = &[
     (b"Xbc", true, TWICE, Forward(0, 1), Some((1, 4))),
     (b"Xbc", true, TWICE, Forward(0, 2), Some((4, 7))),
     (b"Xbc", true, TWICE, Forward(0, 3), None),
@@ -112,11 +116,11 @@ const EITHER_WAY: [Row; 15] = [
 
 #[test]
 fn searches_in_either_direction(rt: HostRuntime) {
-    expect_rows(&rt, &EITHER_WAY);
+    expect_rows(&rt, EITHER_WAY);
 }
 
 // Matches that overlap, and such as are counted from a place.
-const FROM_PLACES: [Row; 10] = [
+const FROM_PLACES: &[Row] = &[
     (b"aa", true, b"aaaa", Forward(0, 2), Some((2, 4))),
     (b"aa", true, b"aaaa", Forward(0, 3), None),
     (b"aa", true, b"aaaa", Backward(3, 2), Some((1, 3))),
@@ -131,33 +135,38 @@ const FROM_PLACES: [Row; 10] = [
 
 #[test]
 fn matches_from_a_place(rt: HostRuntime) {
-    expect_rows(&rt, &FROM_PLACES);
+    expect_rows(&rt, FROM_PLACES);
 }
 
-// The last of so many matches, or how many more are wanted; in a text that is cut at each place.
-fn expect_last(
-    rt: &(impl Abort + AllocGlobal),
-    search: &[u8],
-    text: &[u8],
-    from: usize,
-    n: u32,
-    want: Result<(usize, usize), u32>,
-) {
-    let regs = registers(rt, rt.alloc());
-    let pattern = read(rt.alloc(), search, &regs, true).expect(rt, "a pattern");
-    assert!(rt; from <= text.len() && n > 0);
+// What is searched for, the text, the place, the number of matches, and the last one, or how many
+// more are wanted.
+type Last = (
+    &'static [u8],
+    &'static [u8],
+    usize,
+    u32,
+    Result<(usize, usize), u32>,
+);
+
+// Whether the last of so many matches is found in a text that is cut at each of its places.
+fn is_last(pattern: &Pattern, (_, text, from, n, want): &Last) -> bool {
     for cut in 0..=text.len() {
-        let is_right = match (pattern.seek(text.split_at(cut), from, n), want) {
-            (Sought::Last(span), Ok(want)) => is_span(Some(span), Some(want)),
-            (Sought::Wanted(more), Err(want)) => more == want,
+        if *from > text.len() || *n == 0 {
+            return false;
+        }
+        let is_right = match (pattern.seek(text.split_at(cut), *from, *n), want) {
+            (Sought::Last(span), Ok(want)) => is_span(Some(span), Some(*want)),
+            (Sought::Wanted(more), Err(want)) => more == *want,
             _ => false,
         };
-        assert!(rt; is_right);
+        if !is_right {
+            return false;
+        }
     }
+    true
 }
 
-// What is searched for, the text, the place, the number of matches, and what is found.
-const LAST: [(&[u8], &[u8], usize, u32, Result<(usize, usize), u32>); 6] = [
+const LAST: &[Last] = &[
     (b"aa", b"aaaa", 0, 1, Ok((0, 2))),
     (b"aa", b"aaaa", 0, 2, Ok((2, 4))),
     (b"aa", b"aaaa", 0, 5, Err(3)),
@@ -168,13 +177,15 @@ const LAST: [(&[u8], &[u8], usize, u32, Result<(usize, usize), u32>); 6] = [
 
 #[test]
 fn the_last_of_some_matches(rt: HostRuntime) {
-    for (search, text, from, n, want) in LAST.iter() {
-        expect_last(&rt, search, text, *from, *n, *want);
+    let regs = registers(&rt, rt.alloc());
+    for (number, row) in LAST.iter().enumerate() {
+        let pattern = read(rt.alloc(), row.0, &regs, true).expect(&rt, "a pattern");
+        assert!(rt; is_last(&pattern, row), "row {number}");
     }
 }
 
 // What each element of a pattern matches, and in which case of letters.
-const ELEMENTS: [Row; 28] = [
+const ELEMENTS: &[Row] = &[
     (b"^EA^ED^ESb", false, b"ax1  b", Forward(0, 1), Some((1, 6))),
     (
         b"\x05A\x05D\x05Sb",
@@ -213,11 +224,11 @@ const ELEMENTS: [Row; 28] = [
 
 #[test]
 fn elements(rt: HostRuntime) {
-    expect_rows(&rt, &ELEMENTS);
+    expect_rows(&rt, ELEMENTS);
 }
 
 // Literals behind other elements.
-const BEHIND_OTHERS: [Row; 24] = [
+const BEHIND_OTHERS: &[Row] = &[
     (b"^X^Xz", false, b"az.zz", Forward(0, 1), Some((1, 4))),
     (b"^X^Xz", false, b"az.zz", Backward(5, 1), Some((2, 5))),
     (b"^X^Xz", false, b"az.zz", Backward(5, 3), None),
@@ -246,7 +257,7 @@ const BEHIND_OTHERS: [Row; 24] = [
 
 #[test]
 fn literals_behind_other_elements(rt: HostRuntime) {
-    expect_rows(&rt, &BEHIND_OTHERS);
+    expect_rows(&rt, BEHIND_OTHERS);
 }
 
 // A long word, a text that has it behind another that is much like it, and one that lacks its end.
@@ -258,7 +269,7 @@ const TEXT: &[u8] =
 const SHORT: &[u8] = b"abcdefghijklmnopqrstuvwxyz0123456789ABC";
 
 // Literals at the start, long ones too.
-const AT_START: [Row; 12] = [
+const AT_START: &[Row] = &[
     (LONG, true, TEXT, Forward(0, 1), Some((37, 77))),
     (LONG, true, TEXT, Backward(77, 1), Some((37, 77))),
     (LONG, true, SHORT, Forward(0, 1), None),
@@ -275,7 +286,7 @@ const AT_START: [Row; 12] = [
 
 #[test]
 fn literals_at_the_start(rt: HostRuntime) {
-    expect_rows(&rt, &AT_START);
+    expect_rows(&rt, AT_START);
 }
 
 fn told(fault: FindFault) -> &'static str {
@@ -286,21 +297,16 @@ fn told(fault: FindFault) -> &'static str {
     }
 }
 
-// A text is no pattern, and has no least length, for this reason.
-fn expect_ill(rt: &(impl Abort + AllocGlobal), search: &[u8], want: &str) {
-    let regs = registers(rt, rt.alloc());
-    match read(rt.alloc(), search, &regs, false) {
-        Err(fault) => assert!(rt; told(fault) == want),
-        Ok(_) => assert!(rt; false, "a pattern"),
-    }
-    match minimum(search) {
-        Err(fault) => assert!(rt; told(fault) == want),
-        Ok(_) => assert!(rt; false, "a length"),
+// Whether a text is no pattern, and has no least length, for this reason.
+fn is_ill(alloc: Global, regs: &Regs, search: &[u8], want: &str) -> bool {
+    match (read(alloc, search, regs, false), minimum(search)) {
+        (Err(fault), Err(least)) => told(fault) == want && told(least) == want,
+        _ => false,
     }
 }
 
 // Texts that are no patterns, and why.
-const ILL_FORMED: [(&[u8], &str); 17] = [
+const ILL_FORMED: &[(&[u8], &str)] = &[
     (b"^N", "ICE"),
     (b"^", "ICE"),
     (b"^E?", "ICE"),
@@ -322,17 +328,14 @@ const ILL_FORMED: [(&[u8], &str); 17] = [
 
 #[test]
 fn ill_formed_texts(rt: HostRuntime) {
-    for (search, want) in ILL_FORMED.iter() {
-        expect_ill(&rt, search, want);
+    let regs = registers(&rt, rt.alloc());
+    for (search, want) in ILL_FORMED {
+        assert!(rt; is_ill(rt.alloc(), &regs, search, want), "{search:?}");
     }
 }
 
-fn expect_least(rt: &impl Abort, search: &[u8], want: Option<usize>) {
-    assert!(rt; minimum(search).is_ok_and(|least| least == want));
-}
-
 // Texts of patterns, and the least lengths of their matches, if there are such.
-const LEAST: [(&[u8], Option<usize>); 4] = [
+const LEAST: &[(&[u8], Option<usize>)] = &[
     (b"", Some(0)),
     (b"^Naa^Q^^ES", Some(4)),
     (b"a^EQAb", None),
@@ -341,8 +344,8 @@ const LEAST: [(&[u8], Option<usize>); 4] = [
 
 #[test]
 fn least_lengths(rt: HostRuntime) {
-    for (search, want) in LEAST.iter() {
-        expect_least(&rt, search, *want);
+    for (search, want) in LEAST {
+        assert!(rt; minimum(search).ok() == Some(*want), "{search:?}");
     }
 }
 
@@ -368,21 +371,67 @@ enum Step {
     Found(&'static [u8], bool, Option<usize>),
 }
 
-// Reads a pattern, and finds it at a place of `xBb.bc`.
-fn expect_at(
-    rt: &(impl Abort + AllocGlobal),
-    last: &mut LastPattern,
-    regs: &Regs,
-    (text, exact): (&[u8], bool),
-    start: Option<usize>,
-) {
-    read_last(rt, last, regs, text, exact);
-    let found = find(last.pattern(), (b"xBb", b".bc"), Forward(0, 1));
-    assert!(rt; found.map(|span| span.start) == start, "{text:?}");
+// Whether the first match of a pattern begins at a place.
+fn begins(pattern: &Pattern, text: (&[u8], &[u8]), want: Option<usize>) -> bool {
+    match (find(pattern, text, Forward(0, 1)), want) {
+        (Some(span), Some(start)) => span.start == start,
+        (None, None) => true,
+        _ => false,
+    }
 }
 
-// What is done one after another, where `A` has `b.` at first.
-const KEPT: [Step; 10] = [
+fn begins_anew(
+    rt: &(impl Abort + AllocGlobal),
+    regs: &Regs,
+    (search, exact): (&[u8], bool),
+    text: (&[u8], &[u8]),
+    want: Option<usize>,
+) -> bool {
+    let pattern = read(rt.alloc(), search, regs, exact).expect(rt, "a pattern");
+    begins(&pattern, text, want)
+}
+
+// Does a step; the pattern that was read last, and one that is read anew, are found alike.
+fn is_done(
+    rt: &(impl Abort + AllocGlobal),
+    last: &mut LastPattern,
+    regs: &mut Regs,
+    text: (&[u8], &[u8]),
+    step: Step,
+) -> bool {
+    match step {
+        Text(name, text) => set_text(rt, regs, name, text),
+        Read(search, exact) => read_last(rt, last, regs, search, exact),
+        Found(search, exact, start) => {
+            read_last(rt, last, regs, search, exact);
+            return begins(last.pattern(), text, start)
+                && begins_anew(rt, regs, (search, exact), text, start);
+        }
+    }
+    true
+}
+
+fn expect_each(
+    rt: &(impl Abort + AllocGlobal),
+    last: &mut LastPattern,
+    regs: &mut Regs,
+    text: (&[u8], &[u8]),
+    steps: &[Step],
+) {
+    for (number, step) in steps.iter().enumerate() {
+        assert!(rt; is_done(rt, last, regs, text, *step), "step {number}");
+    }
+}
+
+// Asserts steps, where `A` has `b.` at first.
+fn expect_steps(rt: &(impl Abort + AllocGlobal), text: (&[u8], &[u8]), steps: &[Step]) {
+    let mut regs = registers(rt, rt.alloc());
+    let mut last = LastPattern::new(rt.alloc());
+    assert!(rt; find(last.pattern(), (b"xb.", b""), Here(0)).is_none());
+    expect_each(rt, &mut last, &mut regs, text, steps);
+}
+
+const KEPT: &[Step] = &[
     Found(b"b", false, Some(1)),
     Found(b"b", false, Some(1)),
     Found(b"b", true, Some(2)),
@@ -397,39 +446,13 @@ const KEPT: [Step; 10] = [
 
 #[test]
 fn the_pattern_that_was_read_last(rt: HostRuntime) {
-    let mut regs = registers(&rt, rt.alloc());
-    let mut last = LastPattern::new(rt.alloc());
-    assert!(rt; find(last.pattern(), (b"xb.", b""), Here(0)).is_none());
-    for step in KEPT.iter() {
-        match *step {
-            Text(name, text) => set_text(&rt, &mut regs, name, text),
-            Read(text, exact) => read_last(&rt, &mut last, &regs, text, exact),
-            Found(text, exact, start) => expect_at(&rt, &mut last, &regs, (text, exact), start),
-        }
-    }
-}
-
-// The pattern that was read last, and one that is read anew, are found at a place of a text.
-fn expect_both(
-    rt: &(impl Abort + AllocGlobal),
-    last: &mut LastPattern,
-    regs: &Regs,
-    (text, exact): (&[u8], bool),
-    start: Option<usize>,
-) {
-    read_last(rt, last, regs, text, exact);
-    let anew = read(rt.alloc(), text, regs, exact).expect(rt, "a pattern");
-    for pattern in [last.pattern(), &anew] {
-        let found = find(pattern, (b"b.b. b.", b"cb. B.CB."), Forward(0, 1));
-        assert!(rt; found.map(|span| span.start) == start);
-    }
+    expect_steps(&rt, (b"xBb", b".bc"), KEPT);
 }
 
 // A text that has the texts of two registers, and one of them as an element.
 const BOTH: &[u8] = b"\x05QA\x05QB^EQA";
 
-// What is done one after another, where `A` has `b.` at first.
-const OF_REGISTERS: [Step; 20] = [
+const OF_REGISTERS: &[Step] = &[
     Found(BOTH, false, Some(0)),
     Found(BOTH, false, Some(0)),
     Text(b'B', b"c"),
@@ -454,13 +477,5 @@ const OF_REGISTERS: [Step; 20] = [
 
 #[test]
 fn a_pattern_with_the_texts_of_registers(rt: HostRuntime) {
-    let mut regs = registers(&rt, rt.alloc());
-    let mut last = LastPattern::new(rt.alloc());
-    for step in OF_REGISTERS.iter() {
-        match *step {
-            Text(name, text) => set_text(&rt, &mut regs, name, text),
-            Read(text, exact) => read_last(&rt, &mut last, &regs, text, exact),
-            Found(text, exact, start) => expect_both(&rt, &mut last, &regs, (text, exact), start),
-        }
-    }
+    expect_steps(&rt, (b"b.b. b.", b"cb. B.CB."), OF_REGISTERS);
 }

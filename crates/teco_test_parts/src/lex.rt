@@ -107,69 +107,41 @@ type Row = (
     (usize, usize),
 );
 
-// Asserts what stands at the place of each row.
-fn expect_rows(rt: &impl Abort, rows: &[Row]) {
-    for (text, at, head, texts, places) in rows {
-        expect_head(rt, text, *at, *head, *texts, *places);
-    }
-}
-
-// Elements that have neither modifiers nor a register, and at most one text.
-const FOUND: [Row; 21] = [
-    (b"Iab\x1b", 0, (b"I", 0, false, b' '), (b"ab", b""), (0, 4)),
-    (
-        b"\tab\x1b",
-        0,
-        (b"TAB", 0, false, b' '),
-        (b"ab", b""),
-        (0, 4),
-    ),
-    (b" \r\n^MC", 0, (b"C", 0, false, b' '), (b"", b""), (5, 6)),
-    (b"^j^J c", 2, (b"C", 0, false, b' '), (b"", b""), (5, 6)),
-    (
-        b"fsa\x1b\x1b",
-        0,
-        (b"FS", 0, false, b' '),
-        (b"a", b""),
-        (0, 5),
-    ),
-    (
-        b"\x01hi\x01C",
-        0,
-        (b"^A", 0, false, b' '),
-        (b"hi", b""),
-        (0, 4),
-    ),
-    (b"^[C", 0, (b"ESC", 0, false, b' '), (b"", b""), (0, 2)),
-    (b"\x1b", 0, (b"ESC", 0, false, b' '), (b"", b""), (0, 1)),
-    (b"====", 0, (b"===", 0, false, b' '), (b"", b""), (0, 3)),
-    (b"====", 3, (b"=", 0, false, b' '), (b"", b""), (3, 4)),
-    (b"P W", 0, (b"P", 0, false, b' '), (b"", b""), (0, 1)),
-    (b"PW", 0, (b"PW", 0, false, b' '), (b"", b""), (0, 2)),
-    (b"pw", 0, (b"PW", 0, false, b' '), (b"", b""), (0, 2)),
-    (b"12C", 0, (b"digits", 0, false, b' '), (b"12", b""), (0, 2)),
-    (
-        b"3 12",
-        1,
-        (b"digits", 0, false, b' '),
-        (b"12", b""),
-        (2, 4),
-    ),
-    (b"!tag!C", 0, (b"!", 0, false, b' '), (b"tag", b""), (0, 5)),
-    (b"\">C", 0, (b"\">", 0, false, b' '), (b"", b""), (0, 2)),
-    (b"erf\x1bC", 0, (b"ER", 0, false, b' '), (b"f", b""), (0, 4)),
-    (b" F>>", 0, (b"F>", 0, false, b' '), (b"", b""), (1, 3)),
-    (b"F'1", 0, (b"F'", 0, false, b' '), (b"", b""), (0, 2)),
-    (b"f|\x1b", 0, (b"F|", 0, false, b' '), (b"", b""), (0, 2)),
+// Elements that have neither modifiers nor a register, and at most one text: a text, a place, what
+// stands there, its text, its place and the next one.
+const FOUND: &[(&[u8], usize, &[u8], &[u8], (usize, usize))] = &[
+    (b"Iab\x1b", 0, b"I", b"ab", (0, 4)),
+    (b"\tab\x1b", 0, b"TAB", b"ab", (0, 4)),
+    (b" \r\n^MC", 0, b"C", b"", (5, 6)),
+    (b"^j^J c", 2, b"C", b"", (5, 6)),
+    (b"fsa\x1b\x1b", 0, b"FS", b"a", (0, 5)),
+    (b"\x01hi\x01C", 0, b"^A", b"hi", (0, 4)),
+    (b"^[C", 0, b"ESC", b"", (0, 2)),
+    (b"\x1b", 0, b"ESC", b"", (0, 1)),
+    (b"====", 0, b"===", b"", (0, 3)),
+    (b"====", 3, b"=", b"", (3, 4)),
+    (b"P W", 0, b"P", b"", (0, 1)),
+    (b"PW", 0, b"PW", b"", (0, 2)),
+    (b"pw", 0, b"PW", b"", (0, 2)),
+    (b"12C", 0, b"digits", b"12", (0, 2)),
+    (b"3 12", 1, b"digits", b"12", (2, 4)),
+    (b"!tag!C", 0, b"!", b"tag", (0, 5)),
+    (b"\">C", 0, b"\">", b"", (0, 2)),
+    (b"erf\x1bC", 0, b"ER", b"f", (0, 4)),
+    (b" F>>", 0, b"F>", b"", (1, 3)),
+    (b"F'1", 0, b"F'", b"", (0, 2)),
+    (b"f|\x1b", 0, b"F|", b"", (0, 2)),
 ];
 
 #[test]
 fn elements_are_found(rt: HostRuntime) {
-    expect_rows(&rt, &FOUND);
+    for (text, at, label, own, places) in FOUND {
+        expect_head(&rt, text, *at, (label, 0, false, b' '), (own, b""), *places);
+    }
 }
 
 // Elements with modifiers, a register or two texts.
-const MODIFIED: [Row; 8] = [
+const MODIFIED: &[Row] = &[
     (b":@:S/x/", 0, (b"S", 2, true, b' '), (b"x", b""), (0, 7)),
     (b"@FS/a/b/", 0, (b"FS", 0, true, b' '), (b"a", b"b"), (0, 8)),
     (
@@ -194,7 +166,9 @@ const MODIFIED: [Row; 8] = [
 
 #[test]
 fn elements_with_modifiers_are_found(rt: HostRuntime) {
-    expect_rows(&rt, &MODIFIED);
+    for (text, at, head, texts, places) in MODIFIED {
+        expect_head(&rt, text, *at, *head, *texts, *places);
+    }
 }
 
 // Does no element begin a text, but a code, if there is one?
@@ -207,7 +181,7 @@ fn is_refused(text: &[u8], code: Option<Code>) -> bool {
 }
 
 // Texts that begin with no element, and the code of each, unless there are blanks alone.
-const REFUSED: [(&[u8], Option<Code>); 28] = [
+const REFUSED: &[(&[u8], Option<Code>)] = &[
     (b"", None),
     (b" \r\n^M^j", None),
     (b"::=", Some(Code::Ill)),
@@ -258,7 +232,7 @@ fn expect_skips(rt: &impl Abort, rows: &[Skipped]) {
 }
 
 // Elements that skip to another place.
-const SKIPS: [Skipped; 27] = [
+const SKIPS: &[Skipped] = &[
     (b"1\"G2=|3='", 1, Some(6), 0),
     (b"1\"G2=|3='", 5, Some(9), 0),
     (b"0\"N(?@I/'/'3=", 1, Some(11), 0),
@@ -290,11 +264,11 @@ const SKIPS: [Skipped; 27] = [
 
 #[test]
 fn skips_go_past_their_own_brackets(rt: HostRuntime) {
-    expect_skips(&rt, &SKIPS);
+    expect_skips(&rt, SKIPS);
 }
 
 // Elements that skip nowhere.
-const NOWHERE: [Skipped; 11] = [
+const NOWHERE: &[Skipped] = &[
     (b"3<1:;2=>4=", 7, None, 0),
     (b"!a!Oa\x1b", 3, None, 0),
     (b"<Sa\x1b", 1, None, 1),
@@ -310,7 +284,7 @@ const NOWHERE: [Skipped; 11] = [
 
 #[test]
 fn skips_that_lead_nowhere(rt: HostRuntime) {
-    expect_skips(&rt, &NOWHERE);
+    expect_skips(&rt, NOWHERE);
 }
 
 // A run of modifiers is read in time that grows as its length does.

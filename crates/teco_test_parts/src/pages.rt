@@ -6,15 +6,18 @@ use std::test::Fail;
 use teco_base::bytes::FF;
 use teco_pages::{Fault, HostCall, MemHost, Pages, TestHost};
 
+fn put(mem: &mut MemHost, name: &[u8], bytes: &[u8]) -> Result<(), Fail> {
+    if mem.put(name, bytes).is_err() {
+        mem.put(name, bytes)?;
+    }
+    Ok(())
+}
+
 // Files `in`, with these bytes, and `out`.
 fn files(alloc: Global, bytes: &[u8]) -> Result<MemHost, Fail> {
     let mut mem = MemHost::new(alloc);
-    if mem.put(b"in", bytes).is_err() {
-        mem.put(b"in", bytes)?;
-    }
-    if mem.put(b"out", b"old").is_err() {
-        mem.put(b"out", b"old")?;
-    }
+    put(&mut mem, b"in", bytes)?;
+    put(&mut mem, b"out", b"old")?;
     Ok(mem)
 }
 
@@ -89,7 +92,7 @@ fn expect_pages(
 }
 
 // Inputs, and their pages.
-const INPUTS: [(&[u8], &[(&[u8], bool)]); 7] = [
+const INPUTS: &[(&[u8], &[(&[u8], bool)])] = &[
     (b"", &[]),
     (b"ab", &[(b"ab", false)]),
     (b"ab\x0c", &[(b"ab", true)]),
@@ -167,19 +170,32 @@ fn expect_dropped(rt: &impl Abort, pages: &mut Pages, host: &mut TestHost) {
     assert!(rt; pages.output_name().is_none() && is_file(host, b"out", b"old"));
 }
 
+// Copies, and answers what that is refused with; then the output is dropped.
+fn copy_fault(
+    rt: &impl Abort,
+    pages: &mut Pages,
+    host: &mut TestHost,
+    bytes: &[u8],
+) -> Option<Fault> {
+    let Err(fault) = copy(pages, host) else {
+        let is_closed = pages.output_name().is_none() && pages.input_name().is_none();
+        assert!(rt; is_closed && is_file(host, b"out", bytes));
+        return None;
+    };
+    assert!(rt; is_file(host, b"out", b"old"));
+    expect_dropped(rt, pages, host);
+    Some(fault)
+}
+
 // Copies until it is done; answers what the first try was refused with.
 fn first_fault(rt: &impl Abort, alloc: Global, bytes: &[u8], mut host: TestHost) -> Option<Fault> {
     let mut pages = Pages::new(alloc);
     let mut first = None;
     for _ in 0..3 {
-        let Err(fault) = copy(&mut pages, &mut host) else {
-            let is_closed = pages.output_name().is_none() && pages.input_name().is_none();
-            assert!(rt; is_closed && is_file(&host, b"out", bytes));
+        let Some(fault) = copy_fault(rt, &mut pages, &mut host, bytes) else {
             return first;
         };
         first = first.or(Some(fault));
-        assert!(rt; is_file(&host, b"out", b"old"));
-        expect_dropped(rt, &mut pages, &mut host);
     }
     panic!(rt; "a call failed twice")
 }
@@ -227,7 +243,7 @@ fn expect_copy(
 }
 
 // Calls that may fail, and the faults that they are refused with.
-const CALLS: [(HostCall, Fault); 5] = [
+const CALLS: &[(HostCall, Fault)] = &[
     (HostCall::OpenIn, Fault::NoFile),
     (HostCall::Read, Fault::In),
     (HostCall::OpenOut, Fault::Out),
@@ -302,17 +318,21 @@ fn is_held(pages: &mut Pages) -> bool {
     all == 5 && pages.read_ahead() == 2
 }
 
+// Is nothing read before an input is open, one page of it then, and nothing once it is closed?
+fn is_read_while_open(pages: &mut Pages, host: &mut TestHost) -> Result<bool, Fault> {
+    let is_end = is_end_without_input(pages, host);
+    open(pages, host)?;
+    let is_unread = pages.page().is_none();
+    turn(pages, host)?;
+    let is_read = is_left_open(pages, host) && is_held(pages);
+    pages.close_in();
+    Ok(is_end && is_unread && is_read && is_nothing_read(pages))
+}
+
 #[test]
 fn what_is_open(rt: HostRuntime) -> Result<(), Fail> {
     let mut host = TestHost::new(files(rt.alloc(), b"ab\x0ccd")?, 4096, HostCall::Read, 0);
-    let mut pages = Pages::new(rt.alloc());
-    assert!(rt; is_end_without_input(&mut pages, &mut host));
-    open(&mut pages, &mut host)?;
-    assert!(rt; pages.page().is_none());
-    turn(&mut pages, &mut host)?;
-    assert!(rt; is_left_open(&mut pages, &mut host) && is_held(&mut pages));
-    pages.close_in();
-    assert!(rt; is_nothing_read(&pages));
+    assert!(rt; is_read_while_open(&mut Pages::new(rt.alloc()), &mut host)?);
     Ok(())
 }
 
@@ -346,20 +366,25 @@ fn an_output_is_open_until_it_is_dropped(rt: HostRuntime) -> Result<(), Fail> {
     Ok(())
 }
 
-// Is the dropping of an output refused?
-fn is_dropping_refused(pages: &mut Pages, host: &mut TestHost) -> Result<bool, Fault> {
+// Is the dropping of an output refused, and it goes all the same?
+fn is_dropping_refused(
+    rt: &impl Abort,
+    pages: &mut Pages,
+    host: &mut TestHost,
+) -> Result<bool, Fault> {
     open_out(pages, host)?;
     if pages.write_page(b"a", b"b", true, host).is_err() {
         pages.write_page(b"a", b"b", true, host)?;
     }
-    Ok(pages.drop_out(host).is_err())
+    let is_refused = pages.drop_out(host).is_err();
+    expect_dropped(rt, pages, host);
+    Ok(is_refused)
 }
 
 #[test]
 fn an_output_is_dropped_where_dropping_fails(rt: HostRuntime) -> Result<(), Fail> {
     let mut host = TestHost::new(files(rt.alloc(), b"")?, 1, HostCall::DropOut, 1);
     let mut pages = Pages::new(rt.alloc());
-    assert!(rt; is_dropping_refused(&mut pages, &mut host)?);
-    expect_dropped(&rt, &mut pages, &mut host);
+    assert!(rt; is_dropping_refused(&rt, &mut pages, &mut host)?);
     Ok(())
 }

@@ -21,72 +21,86 @@ fn is_same(found: &[u8], wanted: &[u8]) -> bool {
 }
 
 // Whether a number is typed so, in decimal, octal and hexadecimal.
-fn is_typed(n: i32, in_decimal: &str, in_octal: &str, in_hex: &str) -> bool {
-    is_same(decimal(n).as_bytes(), in_decimal.as_bytes())
-        && is_same(octal(n).as_bytes(), in_octal.as_bytes())
-        && is_same(hex(n).as_bytes(), in_hex.as_bytes())
+fn is_typed(n: i32, in_decimal: &[u8], in_octal: &[u8], in_hex: &[u8]) -> bool {
+    is_same(decimal(n).as_bytes(), in_decimal)
+        && is_same(octal(n).as_bytes(), in_octal)
+        && is_same(hex(n).as_bytes(), in_hex)
 }
+
+// Numbers, and how each is typed.
+const TYPED: [(i32, &[u8], &[u8], &[u8]); 5] = [
+    (0, b"0", b"0", b"0"),
+    (255, b"255", b"377", b"FF"),
+    (-1, b"-1", b"37777777777", b"FFFFFFFF"),
+    (i32::MAX, b"2147483647", b"17777777777", b"7FFFFFFF"),
+    (i32::MIN, b"-2147483648", b"20000000000", b"80000000"),
+];
 
 #[test]
 fn types_numbers(rt: HostRuntime) {
-    for (n, in_decimal, in_octal, in_hex) in [
-        (0, "0", "0", "0"),
-        (255, "255", "377", "FF"),
-        (-1, "-1", "37777777777", "FFFFFFFF"),
-        (i32::MAX, "2147483647", "17777777777", "7FFFFFFF"),
-        (i32::MIN, "-2147483648", "20000000000", "80000000"),
-    ] {
-        assert!(rt; is_typed(n, in_decimal, in_octal, in_hex), "{n}");
+    for (n, in_decimal, in_octal, in_hex) in TYPED.iter() {
+        assert!(rt; is_typed(*n, in_decimal, in_octal, in_hex), "{n}");
     }
 }
+
+// The number and the name of the register that a letter names.
+fn named(letter: u8) -> Option<(usize, u8)> {
+    let register = Reg::of(letter)?;
+    Some((register.index(), register.name()))
+}
+
+// Letters, and the number and the name of the register of each.
+const NAMED: [(u8, Option<(usize, u8)>); 6] = [
+    (b'A', Some((0, b'A'))),
+    (b'a', Some((0, b'A'))),
+    (b'Z', Some((25, b'Z'))),
+    (b'0', Some((26, b'0'))),
+    (b'9', Some((35, b'9'))),
+    (b'?', None),
+];
 
 #[test]
 fn names_registers(rt: HostRuntime) {
-    for (name, want) in [
-        (b'A', Some((0, b'A'))),
-        (b'a', Some((0, b'A'))),
-        (b'Z', Some((25, b'Z'))),
-        (b'0', Some((26, b'0'))),
-        (b'9', Some((35, b'9'))),
-        (b'?', None),
-    ] {
-        let named = Reg::of(name).map(|reg| (reg.index(), reg.name()));
-        assert_eq!(rt; named, want);
+    for (letter, want) in NAMED.iter() {
+        assert!(rt; named(*letter) == *want, "{letter}");
     }
 }
 
+// Codes, and their names.
+const CODES: [(Code, &[u8]); 27] = [
+    (Code::Arg, b"ARG"),
+    (Code::Nac, b"NAC"),
+    (Code::Nca, b"NCA"),
+    (Code::Div, b"DIV"),
+    (Code::Pop, b"POP"),
+    (Code::Dtb, b"DTB"),
+    (Code::Iia, b"IIA"),
+    (Code::Ill, b"ILL"),
+    (Code::Iqn, b"IQN"),
+    (Code::Ice, b"ICE"),
+    (Code::Srh, b"SRH"),
+    (Code::Tag, b"TAG"),
+    (Code::Sni, b"SNI"),
+    (Code::Bni, b"BNI"),
+    (Code::Pes, b"PES"),
+    (Code::Utc, b"UTC"),
+    (Code::Utm, b"UTM"),
+    (Code::Nfi, b"NFI"),
+    (Code::Nfo, b"NFO"),
+    (Code::Yca, b"YCA"),
+    (Code::Ofo, b"OFO"),
+    (Code::Ful, b"FUL"),
+    (Code::Lim, b"LIM"),
+    (Code::Mem, b"MEM"),
+    (Code::Fnf, b"FNF"),
+    (Code::Inp, b"INP"),
+    (Code::Out, b"OUT"),
+];
+
 #[test]
 fn names_codes(rt: HostRuntime) {
-    for (code, want) in [
-        (Code::Arg, "ARG"),
-        (Code::Nac, "NAC"),
-        (Code::Nca, "NCA"),
-        (Code::Div, "DIV"),
-        (Code::Pop, "POP"),
-        (Code::Dtb, "DTB"),
-        (Code::Iia, "IIA"),
-        (Code::Ill, "ILL"),
-        (Code::Iqn, "IQN"),
-        (Code::Ice, "ICE"),
-        (Code::Srh, "SRH"),
-        (Code::Tag, "TAG"),
-        (Code::Sni, "SNI"),
-        (Code::Bni, "BNI"),
-        (Code::Pes, "PES"),
-        (Code::Utc, "UTC"),
-        (Code::Utm, "UTM"),
-        (Code::Nfi, "NFI"),
-        (Code::Nfo, "NFO"),
-        (Code::Yca, "YCA"),
-        (Code::Ofo, "OFO"),
-        (Code::Ful, "FUL"),
-        (Code::Lim, "LIM"),
-        (Code::Mem, "MEM"),
-        (Code::Fnf, "FNF"),
-        (Code::Inp, "INP"),
-        (Code::Out, "OUT"),
-    ] {
-        assert!(rt; is_same(code.name(), want.as_bytes()), "{want}");
+    for (code, want) in CODES.iter() {
+        assert!(rt; is_same(code.name(), want), "{want:?}");
     }
 }
 
@@ -131,18 +145,21 @@ fn tells_classes_of_bytes(rt: HostRuntime) {
     assert!(rt; tells_blanks() && tells_letters() && tells_cases());
 }
 
+// Characters behind a caret, and the control that each pair stands for.
+const CONTROLS: [(u8, Option<u8>); 8] = [
+    (b'A', Some(1)),
+    (b'a', Some(1)),
+    (b'@', Some(0)),
+    (b'[', Some(bytes::ESC)),
+    (b'_', Some(31)),
+    (b'`', None),
+    (b'{', None),
+    (b'?', None),
+];
+
 #[test]
 fn names_controls(rt: HostRuntime) {
-    for (caret, want) in [
-        (b'A', Some(1)),
-        (b'a', Some(1)),
-        (b'@', Some(0)),
-        (b'[', Some(bytes::ESC)),
-        (b'_', Some(31)),
-        (b'`', None),
-        (b'{', None),
-        (b'?', None),
-    ] {
-        assert_eq!(rt; bytes::control(caret), want);
+    for (caret, want) in CONTROLS.iter() {
+        assert!(rt; bytes::control(*caret) == *want, "{caret}");
     }
 }

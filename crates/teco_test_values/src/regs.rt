@@ -8,25 +8,27 @@ use std::process::Abort;
 use teco_base::{LIMIT, REGISTERS, Reg};
 use teco_regs::{RegFault, Regs};
 
+// A register is called by its name.
 #[derive(Clone, Copy)]
 enum Call {
-    SetNumber(Reg, i32),
-    SetText(Reg, &'static [u8]),
-    AppendText(Reg, &'static [u8]),
-    PutText(Reg, &'static [u8]),
+    SetNumber(u8, i32),
+    SetText(u8, &'static [u8]),
+    AppendText(u8, &'static [u8]),
+    PutText(u8, &'static [u8]),
     // the texts of the first and of the last register
     Load(Option<&'static [u8]>, Option<&'static [u8]>),
-    Push(Reg),
-    Pop(Reg),
+    Push(u8),
+    Pop(u8),
 }
 
-// What two registers hold, and all together.
-#[derive(Clone, Copy)]
-struct State {
-    a: (i32, &'static [u8]),
-    nine: (i32, &'static [u8]),
-    held: u128,
-}
+// The number and the text of a register.
+type Held = (i32, &'static [u8]);
+
+// What `A` holds and what `9` holds, and how many characters are held in all.
+type State = (Held, Held, u128);
+
+// A call, its answer, and what is held then.
+type Row = (Call, &'static str, State);
 
 fn put(regs: &mut Regs, alloc: Global, reg: Reg, text: &[u8]) -> Result<(), RegFault> {
     let text = Vec::from_slice(alloc, text)?;
@@ -63,18 +65,22 @@ fn load_ends<'a>(
     load(regs, &texts)
 }
 
-fn answer(regs: &mut Regs, alloc: Global, call: &Call) -> &'static str {
-    let done = match *call {
-        Call::SetNumber(reg, n) => {
-            regs.set_number(reg, n);
+fn register(rt: &impl Abort, name: u8) -> Reg {
+    Reg::of(name).expect(rt, "the name of a register")
+}
+
+fn answer(rt: &impl Abort, alloc: Global, regs: &mut Regs, call: Call) -> &'static str {
+    let done = match call {
+        Call::SetNumber(name, n) => {
+            regs.set_number(register(rt, name), n);
             Ok(())
         }
-        Call::SetText(reg, text) => regs.set_text(reg, text),
-        Call::AppendText(reg, text) => regs.append_text(reg, text),
-        Call::PutText(reg, text) => put(regs, alloc, reg, text),
+        Call::SetText(name, text) => regs.set_text(register(rt, name), text),
+        Call::AppendText(name, text) => regs.append_text(register(rt, name), text),
+        Call::PutText(name, text) => put(regs, alloc, register(rt, name), text),
         Call::Load(first, last) => load_ends(regs, first, last),
-        Call::Push(reg) => regs.push(reg),
-        Call::Pop(reg) => regs.pop(reg),
+        Call::Push(name) => regs.push(register(rt, name)),
+        Call::Pop(name) => regs.pop(register(rt, name)),
     };
     match done {
         Ok(()) => "ok",
@@ -84,227 +90,101 @@ fn answer(regs: &mut Regs, alloc: Global, call: &Call) -> &'static str {
     }
 }
 
-fn register(rt: &impl Abort, name: u8) -> Reg {
-    Reg::of(name).expect(rt, "the name of a register")
+fn holds(rt: &impl Abort, regs: &Regs, name: u8, (number, text): Held) -> bool {
+    let reg = register(rt, name);
+    regs.number(reg) == number && regs.text(reg) == text
 }
 
-fn expect_state(rt: &impl Abort, regs: &Regs, state: State) {
-    for (name, (number, text)) in [(b'A', state.a), (b'9', state.nine), (b'B', (0, b""))] {
-        let reg = register(rt, name);
-        assert_eq!(rt; regs.number(reg), number);
-        assert_eq!(rt; regs.text(reg), text);
-    }
-    assert_eq!(rt; regs.held(), state.held);
+fn is_state(rt: &impl Abort, regs: &Regs, (a, nine, held): State) -> bool {
+    holds(rt, regs, b'A', a)
+        && holds(rt, regs, b'9', nine)
+        && holds(rt, regs, b'B', (0, b""))
+        && regs.held() == held
 }
 
-fn expect_rows(
+// Whether a call answers and leaves what its row says; one that is refused memory leaves what was.
+fn is_row(
     rt: &impl Abort,
     alloc: Global,
     regs: &mut Regs,
-    mut before: State,
-    rows: &[(Call, &'static str, State)],
-) {
-    for (call, want, after) in rows {
-        let mut got = answer(regs, alloc, call);
-        if got == "memory" {
-            expect_state(rt, regs, before);
-            got = answer(regs, alloc, call);
-        }
-        assert_eq!(rt; got, *want);
-        expect_state(rt, regs, *after);
-        before = *after;
+    before: State,
+    (call, want, after): &Row,
+) -> bool {
+    let mut got = answer(rt, alloc, regs, *call);
+    if got == "memory" && is_state(rt, regs, before) {
+        got = answer(rt, alloc, regs, *call);
+    }
+    got == *want && is_state(rt, regs, *after)
+}
+
+// Nothing is held.
+const EMPTY: State = ((0, b""), (0, b""), 0);
+
+fn expect_rows(rt: &impl Abort, alloc: Global, rows: &[Row]) {
+    let mut regs = Regs::new(alloc);
+    assert!(rt; is_state(rt, &regs, EMPTY));
+    let mut before = EMPTY;
+    for (number, row) in rows.iter().enumerate() {
+        assert!(rt; is_row(rt, alloc, &mut regs, before, row), "row {number}");
+        before = row.2;
     }
 }
 
+const IN_TURN: &[Row] = &[
+    (Call::Pop(b'a'), "empty", EMPTY),
+    (Call::SetNumber(b'a', 5), "ok", ((5, b""), (0, b""), 0)),
+    (Call::SetText(b'a', b"xy"), "ok", ((5, b"xy"), (0, b""), 2)),
+    (Call::Push(b'a'), "ok", ((5, b"xy"), (0, b""), 4)),
+    (
+        Call::AppendText(b'a', b"z"),
+        "ok",
+        ((5, b"xyz"), (0, b""), 5),
+    ),
+    (Call::SetNumber(b'a', -7), "ok", ((-7, b"xyz"), (0, b""), 5)),
+    (Call::Push(b'a'), "ok", ((-7, b"xyz"), (0, b""), 8)),
+    (Call::SetText(b'a', b""), "ok", ((-7, b""), (0, b""), 5)),
+    (Call::Pop(b'9'), "ok", ((-7, b""), (-7, b"xyz"), 5)),
+    (Call::Pop(b'a'), "ok", ((5, b"xy"), (-7, b"xyz"), 5)),
+    (Call::Pop(b'a'), "empty", ((5, b"xy"), (-7, b"xyz"), 5)),
+    (
+        Call::PutText(b'9', b"moved"),
+        "ok",
+        ((5, b"xy"), (-7, b"moved"), 7),
+    ),
+    (
+        Call::AppendText(b'9', b""),
+        "ok",
+        ((5, b"xy"), (-7, b"moved"), 7),
+    ),
+];
+
 #[test]
 fn calls_in_turn(rt: HostRuntime) {
-    let mut regs = Regs::new(rt.alloc());
-    let a = register(&rt, b'a');
-    let nine = register(&rt, b'9');
-    let before = State {
-        a: (0, b""),
-        nine: (0, b""),
-        held: 0,
-    };
-    expect_state(&rt, &regs, before);
-    let rows: [(Call, &'static str, State); 13] = [
-        (Call::Pop(a), "empty", before),
-        (
-            Call::SetNumber(a, 5),
-            "ok",
-            State {
-                a: (5, b""),
-                nine: (0, b""),
-                held: 0,
-            },
-        ),
-        (
-            Call::SetText(a, b"xy"),
-            "ok",
-            State {
-                a: (5, b"xy"),
-                nine: (0, b""),
-                held: 2,
-            },
-        ),
-        (
-            Call::Push(a),
-            "ok",
-            State {
-                a: (5, b"xy"),
-                nine: (0, b""),
-                held: 4,
-            },
-        ),
-        (
-            Call::AppendText(a, b"z"),
-            "ok",
-            State {
-                a: (5, b"xyz"),
-                nine: (0, b""),
-                held: 5,
-            },
-        ),
-        (
-            Call::SetNumber(a, -7),
-            "ok",
-            State {
-                a: (-7, b"xyz"),
-                nine: (0, b""),
-                held: 5,
-            },
-        ),
-        (
-            Call::Push(a),
-            "ok",
-            State {
-                a: (-7, b"xyz"),
-                nine: (0, b""),
-                held: 8,
-            },
-        ),
-        (
-            Call::SetText(a, b""),
-            "ok",
-            State {
-                a: (-7, b""),
-                nine: (0, b""),
-                held: 5,
-            },
-        ),
-        (
-            Call::Pop(nine),
-            "ok",
-            State {
-                a: (-7, b""),
-                nine: (-7, b"xyz"),
-                held: 5,
-            },
-        ),
-        (
-            Call::Pop(a),
-            "ok",
-            State {
-                a: (5, b"xy"),
-                nine: (-7, b"xyz"),
-                held: 5,
-            },
-        ),
-        (
-            Call::Pop(a),
-            "empty",
-            State {
-                a: (5, b"xy"),
-                nine: (-7, b"xyz"),
-                held: 5,
-            },
-        ),
-        (
-            Call::PutText(nine, b"moved"),
-            "ok",
-            State {
-                a: (5, b"xy"),
-                nine: (-7, b"moved"),
-                held: 7,
-            },
-        ),
-        (
-            Call::AppendText(nine, b""),
-            "ok",
-            State {
-                a: (5, b"xy"),
-                nine: (-7, b"moved"),
-                held: 7,
-            },
-        ),
-    ];
-    expect_rows(&rt, rt.alloc(), &mut regs, before, &rows);
+    expect_rows(&rt, rt.alloc(), IN_TURN);
 }
+
+const LOADED: &[Row] = &[
+    (Call::SetNumber(b'a', 5), "ok", ((5, b""), (0, b""), 0)),
+    (
+        Call::Load(Some(b"first"), Some(b"last")),
+        "ok",
+        ((5, b"first"), (0, b"last"), 9),
+    ),
+    (Call::Push(b'a'), "ok", ((5, b"first"), (0, b"last"), 14)),
+    (
+        Call::Load(Some(b""), None),
+        "ok",
+        ((5, b""), (0, b"last"), 9),
+    ),
+    (
+        Call::Load(None, Some(b"longer")),
+        "ok",
+        ((5, b""), (0, b"longer"), 11),
+    ),
+    (Call::Pop(b'a'), "ok", ((5, b"first"), (0, b"longer"), 11)),
+];
 
 #[test]
 fn texts_are_loaded(rt: HostRuntime) {
-    let mut regs = Regs::new(rt.alloc());
-    let a = register(&rt, b'a');
-    let before = State {
-        a: (0, b""),
-        nine: (0, b""),
-        held: 0,
-    };
-    let rows: [(Call, &'static str, State); 6] = [
-        (
-            Call::SetNumber(a, 5),
-            "ok",
-            State {
-                a: (5, b""),
-                nine: (0, b""),
-                held: 0,
-            },
-        ),
-        (
-            Call::Load(Some(b"first"), Some(b"last")),
-            "ok",
-            State {
-                a: (5, b"first"),
-                nine: (0, b"last"),
-                held: 9,
-            },
-        ),
-        (
-            Call::Push(a),
-            "ok",
-            State {
-                a: (5, b"first"),
-                nine: (0, b"last"),
-                held: 14,
-            },
-        ),
-        (
-            Call::Load(Some(b""), None),
-            "ok",
-            State {
-                a: (5, b""),
-                nine: (0, b"last"),
-                held: 9,
-            },
-        ),
-        (
-            Call::Load(None, Some(b"longer")),
-            "ok",
-            State {
-                a: (5, b""),
-                nine: (0, b"longer"),
-                held: 11,
-            },
-        ),
-        (
-            Call::Pop(a),
-            "ok",
-            State {
-                a: (5, b"first"),
-                nine: (0, b"longer"),
-                held: 11,
-            },
-        ),
-    ];
-    expect_rows(&rt, rt.alloc(), &mut regs, before, &rows);
+    expect_rows(&rt, rt.alloc(), LOADED);
 }

@@ -2,8 +2,7 @@
 // where one allocation fails.
 use std::alloc::{AllocError, Global};
 use std::process::Abort;
-use std::test::*;
-use teco_stack::{Chain, Stack};
+use teco_stack::Stack;
 
 // A stack of the numbers below one, the greatest on top.
 fn numbers(alloc: Global, count: u32) -> Result<Stack<u32>, AllocError> {
@@ -34,21 +33,30 @@ fn taken(stack: &Stack<u32>) -> Result<usize, AllocError> {
     Ok(stack.len())
 }
 
+// The number on top, and how many are below it.
+fn top(stack: &Stack<u32>) -> Option<(u32, usize)> {
+    let (number, below) = stack.chain().parts()?;
+    Some((*number, below.len()))
+}
+
+// Whether the numbers below 100 are taken off a copy, and stay in the stack.
+fn has_all(stack: &Stack<u32>) -> bool {
+    stack.len() == 100
+        && taken(stack).ok() == Some(100)
+        && stack.len() == 100
+        && top(stack) == Some((99, 99))
+}
+
 #[test]
 fn items_come_off_as_they_went_on(rt: HostRuntime) {
-    let stack = stack_of(&rt, rt.alloc(), 100);
-    assert!(rt; stack.len() == 100);
-    assert!(rt; taken(&stack).ok() == Some(100));
-    assert!(rt; stack.len() == 100);
-    let top = stack.chain().parts().map(|parts| (*parts.0, parts.1.len()));
-    assert!(rt; top == Some((99, 99)));
+    assert!(rt; has_all(&stack_of(&rt, rt.alloc(), 100)));
 }
 
 #[test]
 fn a_cleared_stack_is_empty(rt: HostRuntime) {
     let mut stack = stack_of(&rt, rt.alloc(), 3);
     stack.clear();
-    assert!(rt; stack.len() == 0 && stack.chain().parts().is_none());
+    assert!(rt; stack.len() == 0 && top(&stack).is_none());
 }
 
 // The stack packed, once more where memory was refused.
@@ -64,7 +72,5 @@ fn a_packed_stack_lies_elsewhere(rt: HostRuntime) {
     let stack = stack_of(&rt, rt.alloc(), 100);
     let packed = packed_of(&rt, &stack);
     assert!(rt; !packed.chain().is_at(stack.chain()));
-    assert!(rt; packed.len() == 100);
-    assert!(rt; taken(&packed).ok() == Some(100));
-    assert!(rt; stack.len() == 100);
+    assert!(rt; has_all(&packed) && stack.len() == 100);
 }

@@ -2,7 +2,6 @@
 // is made once more, so that the rows also hold where one allocation fails.
 use std::alloc::Global;
 use std::process::Abort;
-use std::test::Fail;
 use teco_base::LIMIT;
 use teco_text::{GapText, TextFault, TextStore, VecText};
 
@@ -13,15 +12,26 @@ enum Call {
     Delete(usize, usize),
     Replace(usize, usize, &'static [u8]),
     Reserve(usize),
+    // a vector becomes the text, and an empty one comes back
+    Exchange(&'static [u8]),
 }
 
-fn answer<T: TextStore>(store: &mut T, call: Call) -> &'static str {
+fn exchange<T: TextStore>(store: &mut T, alloc: Global, bytes: &[u8]) -> Result<(), TextFault> {
+    let text = Vec::from_slice(alloc, bytes)?;
+    if text.len() <= LIMIT && store.exchange(text).is_empty() {
+        return Ok(());
+    }
+    Err(TextFault::Full)
+}
+
+fn answer<T: TextStore>(store: &mut T, alloc: Global, call: Call) -> &'static str {
     let done = match call {
         Call::SetDot(i) => store.set_dot(i),
         Call::Insert(bytes) => store.insert(bytes),
         Call::Delete(a, b) => store.delete(a, b),
         Call::Replace(a, b, bytes) => store.replace(a, b, bytes),
         Call::Reserve(n) => store.reserve(n),
+        Call::Exchange(bytes) => exchange(store, alloc, bytes),
     };
     match done {
         Ok(()) => "ok",
@@ -49,123 +59,110 @@ fn is_shown<T: TextStore>(store: &T, text: &[u8]) -> bool {
 }
 
 // Whether the store copies this text; a copy that is refused memory is made once more.
-fn is_copied<T: TextStore>(store: &T, text: &[u8], out: &mut Vec<u8>) -> bool {
-    out.clear();
-    let mut copied = store.copy_range(0, text.len(), out);
+fn is_copied<T: TextStore>(store: &T, alloc: Global, text: &[u8]) -> bool {
+    let mut out = Vec::new(alloc);
+    let mut copied = store.copy_range(0, text.len(), &mut out);
     if copied.is_err() && out.is_empty() {
-        copied = store.copy_range(0, text.len(), out);
+        copied = store.copy_range(0, text.len(), &mut out);
     }
     copied.is_ok() && out.as_slice() == text
 }
 
-// The store has this text, by each method that shows it, and this pointer.
-fn expect_state<T: TextStore>(
-    rt: &impl Abort,
-    store: &T,
-    text: &[u8],
-    dot: usize,
-    out: &mut Vec<u8>,
-) {
-    let holds = is_at(store, text, dot) && is_shown(store, text) && is_copied(store, text, out);
-    assert!(rt; holds);
+// Whether the store has this text, by each method that shows it, and this pointer.
+fn is_state<T: TextStore>(store: &T, alloc: Global, (text, dot): (&[u8], usize)) -> bool {
+    is_at(store, text, dot) && is_shown(store, text) && is_copied(store, alloc, text)
 }
 
-fn expect_rows<T: TextStore>(
-    rt: &impl Abort,
+// A call, its answer, and the text and the pointer then.
+type Row = (Call, &'static str, (&'static [u8], usize));
+
+// Whether a call answers and leaves what its row says; one that is refused memory leaves what was.
+fn holds<T: TextStore>(
     store: &mut T,
-    rows: &[(Call, &'static str, &'static [u8], usize)],
-    out: &mut Vec<u8>,
-) {
-    let mut before: (&[u8], usize) = (&[], 0);
-    for (call, want, text, dot) in rows {
-        let mut got = answer(store, *call);
-        if got == "memory" {
-            expect_state(rt, store, before.0, before.1, out);
-            got = answer(store, *call);
-        }
-        assert_eq!(rt; got, *want);
-        expect_state(rt, store, text, *dot, out);
-        before = (*text, *dot);
+    alloc: Global,
+    before: (&[u8], usize),
+    (call, want, after): &Row,
+) -> bool {
+    let mut got = answer(store, alloc, *call);
+    if got == "memory" && is_state(store, alloc, before) {
+        got = answer(store, alloc, *call);
+    }
+    got == *want && is_state(store, alloc, *after)
+}
+
+// Asserts the rows of calls on a store, which is empty at first.
+fn expect_rows<T: TextStore>(rt: &impl Abort, alloc: Global, store: &mut T, rows: &[Row]) {
+    let mut before: (&[u8], usize) = (b"", 0);
+    for (number, row) in rows.iter().enumerate() {
+        assert!(rt; holds(store, alloc, before, row), "row {number}");
+        before = row.2;
     }
 }
+
+fn expect_in_both(rt: &impl Abort, alloc: Global, rows: &[Row]) {
+    expect_rows(rt, alloc, &mut VecText::new(alloc), rows);
+    expect_rows(rt, alloc, &mut GapText::new(alloc), rows);
+}
+
+const IN_TURN: &[Row] = &[
+    (Call::Insert(b"ab"), "ok", (b"ab", 2)),
+    (Call::Delete(1, 3), "off", (b"ab", 2)),
+    (Call::Delete(2, 1), "off", (b"ab", 2)),
+    (Call::Replace(1, 3, b"x"), "off", (b"ab", 2)),
+    (Call::SetDot(3), "off", (b"ab", 2)),
+    (Call::Reserve(268_435_457), "full", (b"ab", 2)),
+    (Call::Reserve(64), "ok", (b"ab", 2)),
+    (Call::SetDot(1), "ok", (b"ab", 1)),
+    (Call::Insert(b"cdef"), "ok", (b"acdefb", 5)),
+    (Call::Replace(1, 5, b"--"), "ok", (b"a--b", 3)),
+    (Call::Replace(1, 2, b"12345"), "ok", (b"a12345-b", 6)),
+    (Call::Delete(2, 4), "ok", (b"a145-b", 4)),
+    (Call::Delete(3, 5), "ok", (b"a14b", 3)),
+    (Call::Delete(3, 4), "ok", (b"a14", 3)),
+];
 
 #[test]
-fn calls_in_turn(rt: HostRuntime) -> Result<(), Fail> {
-    let rows: [(Call, &'static str, &'static [u8], usize); 14] = [
-        (Call::Insert(b"ab"), "ok", b"ab", 2),
-        (Call::Delete(1, 3), "off", b"ab", 2),
-        (Call::Delete(2, 1), "off", b"ab", 2),
-        (Call::Replace(1, 3, b"x"), "off", b"ab", 2),
-        (Call::SetDot(3), "off", b"ab", 2),
-        (Call::Reserve(268_435_457), "full", b"ab", 2),
-        (Call::Reserve(64), "ok", b"ab", 2),
-        (Call::SetDot(1), "ok", b"ab", 1),
-        (Call::Insert(b"cdef"), "ok", b"acdefb", 5),
-        (Call::Replace(1, 5, b"--"), "ok", b"a--b", 3),
-        (Call::Replace(1, 2, b"12345"), "ok", b"a12345-b", 6),
-        (Call::Delete(2, 4), "ok", b"a145-b", 4),
-        (Call::Delete(3, 5), "ok", b"a14b", 3),
-        (Call::Delete(3, 4), "ok", b"a14", 3),
-    ];
-    let mut out = Vec::new(rt.alloc());
-    expect_rows(&rt, &mut VecText::new(rt.alloc()), &rows, &mut out);
-    expect_rows(&rt, &mut GapText::new(rt.alloc()), &rows, &mut out);
-    Ok(())
+fn calls_in_turn(rt: HostRuntime) {
+    expect_in_both(&rt, rt.alloc(), IN_TURN);
 }
 
-// A vector becomes the text, and takes what is put in then.
-fn expect_exchange<T: TextStore>(rt: &impl Abort, alloc: Global, store: &mut T, out: &mut Vec<u8>) {
-    let text = match Vec::from_slice(alloc, b"xyz") {
-        Ok(text) => text,
-        Err(_) => Vec::from_slice(alloc, b"xyz").expect(rt, "memory"),
-    };
-    assert!(rt; text.len() <= LIMIT);
-    assert!(rt; store.exchange(text).is_empty());
-    expect_state(rt, store, b"xyz", 0, out);
-    if answer(store, Call::Insert(b"--")) == "memory" {
-        assert_eq!(rt; answer(store, Call::Insert(b"--")), "ok");
+// A vector becomes the text, twice, and takes what is put in then.
+const EXCHANGES: &[Row] = &[
+    (Call::Exchange(b"xyz"), "ok", (b"xyz", 0)),
+    (Call::Insert(b"--"), "ok", (b"--xyz", 2)),
+    (Call::Exchange(b"xyz"), "ok", (b"xyz", 0)),
+    (Call::Insert(b"--"), "ok", (b"--xyz", 2)),
+];
+
+#[test]
+fn vectors_become_the_text(rt: HostRuntime) {
+    expect_in_both(&rt, rt.alloc(), EXCHANGES);
+}
+
+// A vector with less memory than is reserved becomes the text.
+const RESERVED: &[Row] = &[
+    (Call::Reserve(64), "ok", (b"", 0)),
+    (Call::Exchange(b"xyz"), "ok", (b"xyz", 0)),
+];
+
+// Whether 60 characters are put in and taken out without more memory.
+fn has_room<T: TextStore>(store: &mut T) -> bool {
+    for _ in 0..20 {
+        if store.insert(b"+-*").is_err() {
+            return false;
+        }
     }
-    expect_state(rt, store, b"--xyz", 2, out);
+    store.len() == 63 && store.delete(0, 60).is_ok()
 }
 
 // What was reserved stays though a vector with less memory becomes the text.
-fn expect_room_kept<T: TextStore>(
-    rt: &impl Abort,
-    alloc: Global,
-    store: &mut T,
-    out: &mut Vec<u8>,
-) {
-    if store.reserve(64).is_err() {
-        assert!(rt; store.reserve(64).is_ok());
-    }
-    let text = match Vec::from_slice(alloc, b"xyz") {
-        Ok(text) => text,
-        Err(_) => Vec::from_slice(alloc, b"xyz").expect(rt, "memory"),
-    };
-    assert!(rt; text.len() <= LIMIT);
-    assert!(rt; store.exchange(text).is_empty());
-    for _ in 0..20 {
-        assert!(rt; store.insert(b"+-*").is_ok());
-    }
-    assert_eq!(rt; store.len(), 63);
-    assert!(rt; store.delete(0, 60).is_ok());
-    expect_state(rt, store, b"xyz", 0, out);
+fn expect_room_kept<T: TextStore>(rt: &impl Abort, alloc: Global, store: &mut T) {
+    expect_rows(rt, alloc, store, RESERVED);
+    assert!(rt; has_room(store) && is_state(store, alloc, (b"xyz", 0)));
 }
 
 #[test]
 fn room_stays_where_vectors_become_the_text(rt: HostRuntime) {
-    let mut out = Vec::new(rt.alloc());
-    expect_room_kept(&rt, rt.alloc(), &mut VecText::new(rt.alloc()), &mut out);
-    expect_room_kept(&rt, rt.alloc(), &mut GapText::new(rt.alloc()), &mut out);
-}
-
-#[test]
-fn vectors_become_the_text(rt: HostRuntime) {
-    let mut out = Vec::new(rt.alloc());
-    let mut plain = VecText::new(rt.alloc());
-    let mut gap = GapText::new(rt.alloc());
-    for _ in 0..2 {
-        expect_exchange(&rt, rt.alloc(), &mut plain, &mut out);
-        expect_exchange(&rt, rt.alloc(), &mut gap, &mut out);
-    }
+    expect_room_kept(&rt, rt.alloc(), &mut VecText::new(rt.alloc()));
+    expect_room_kept(&rt, rt.alloc(), &mut GapText::new(rt.alloc()));
 }
