@@ -159,7 +159,7 @@ fn edited(rt: &impl Abort, alloc: Global, row: Row, given: Option<i32>, failing:
 /// What is edited, on how many pages the macro came to its end, and what the file `out` has then.
 type Paged = (Row, u64, &'static [u8]);
 
-const EDITED: [Paged; 12] = [
+const EDITED: &[Paged] = &[
     ((MARKS, b"xfoo\x0cfoo", Pages::First, 0), 1, b"xfoo!\x0cfoo"),
     ((MARKS, b"xfoo\x0cfoo", Pages::Each, 0), 2, b"xfoo!\x0cfoo!"),
     (
@@ -203,7 +203,7 @@ fn pages_are_edited(rt: HostRuntime) {
 }
 
 /// Files that an edit of the whole leaves as they are.
-const WHOLES: [&[u8]; 10] = [
+const WHOLES: &[&[u8]] = &[
     b"",
     b"a",
     b"\x0c",
@@ -263,7 +263,7 @@ fn a_guard_hears(rt: HostRuntime) {
 /// Which call fails, what is written, and the pages and the steps that were done before.
 type Dropped = (Failing, Pages, &'static [u8], u64, u64);
 
-const DROPPED: [Dropped; 6] = [
+const DROPPED: &[Dropped] = &[
     ((4096, HostCall::OpenIn, 1), Pages::Each, b"?FNF\r\n", 0, 0),
     ((1, HostCall::Read, 6), Pages::Each, b"?INP\r\n", 1, 3),
     ((4096, HostCall::Write, 1), Pages::Each, b"?OUT\r\n", 1, 3),

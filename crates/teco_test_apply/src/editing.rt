@@ -98,7 +98,7 @@ fn edited(
 /// A library, which call fails, what is written, and what the file `out` has then.
 type Row = (&'static [u8], Failing, &'static [u8], Option<&'static [u8]>);
 
-const ROWS: [Row; 9] = [
+const ROWS: &[Row] = &[
     (MARKS, (4096, HostCall::Read, 0), b"", Some(b"xfoo!\x0cfoo")),
     (MARKS, (1, HostCall::Read, 0), b"", Some(b"xfoo!\x0cfoo")),
     (b"@^UA/HT/", (4096, HostCall::Read, 0), b"xfoo", Some(INPUT)),
@@ -145,7 +145,7 @@ const REPEAT: &[u8] = b"!TECO-LIB 2 A 1 10!@^UA/<Ia\x1b>/";
 /// that is not taken.
 type Given = (&'static [u8], Option<i32>, Option<&'static [u8]>);
 
-const GIVEN: [Given; 10] = [
+const GIVEN: &[Given] = &[
     (REPEAT, Some(1), Some(b"axfoo\x0cfoo")),
     (REPEAT, Some(3), Some(b"aaaxfoo\x0cfoo")),
     (REPEAT, Some(10), Some(b"aaaaaaaaaaxfoo\x0cfoo")),

@@ -16,7 +16,7 @@ use teco_verify::Verified;
 // leaves.
 type Row = (&'static [u8], &'static [u8], u64, &'static [u8]);
 
-const RUNS: [Row; 8] = [
+const RUNS: &[Row] = &[
     (
         b"@^UA/J<Sfoo\x1b;I!\x1b>/",
         b"Ifoofoo\x1b\x1b\x1b",
@@ -122,7 +122,7 @@ fn repeats(alloc: Global, verified: &Verified<'_>, n: i32, steps: u64, text: &st
 }
 
 /// An argument, the steps that its run takes, and the text that it leaves.
-const REPEATED: [(i32, u64, &str); 3] = [(1, 6, "a"), (3, 10, "aaa"), (10, 24, "aaaaaaaaaa")];
+const REPEATED: &[(i32, u64, &str)] = &[(1, 6, "a"), (3, 10, "aaa"), (10, 24, "aaaaaaaaaa")];
 
 #[test]
 fn never_ready(rt: HostRuntime) {
@@ -174,7 +174,7 @@ fn other_arguments_are_refused(rt: HostRuntime) {
 }
 
 /// Libraries whose macro A asks for no argument.
-const UNASKED: [&[u8]; 2] = [b"@^UA/3<Ia\x1b>/", b"!TECO-LIB 2 B 1 10!@^UA/3<Ia\x1b>/"];
+const UNASKED: &[&[u8]] = &[b"@^UA/3<Ia\x1b>/", b"!TECO-LIB 2 B 1 10!@^UA/3<Ia\x1b>/"];
 
 #[test]
 fn unasked_arguments_are_refused(rt: HostRuntime) {
@@ -186,7 +186,7 @@ fn unasked_arguments_are_refused(rt: HostRuntime) {
 }
 
 /// A library, an argument, and whether its macro asks for an input first, or for an output.
-const ASKING: [(&[u8], Option<i32>, bool); 5] = [
+const ASKING: &[(&[u8], Option<i32>, bool)] = &[
     (b"!TECO-LIB 2 A 1 10!@^UA/<A>/", Some(0), true),
     (b"!TECO-LIB 2 A 1 10!@^UA/<P>/", Some(0), false),
     (b"@^UA/A/", None, true),

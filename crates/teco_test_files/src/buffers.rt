@@ -116,7 +116,7 @@ enum Trial {
 // moves before it fails once.
 type Row = (Trial, usize, usize, usize);
 
-const ROWS: [Row; 12] = [
+const ROWS: &[Row] = &[
     (Trial::Pages, 50 * 4097, usize::MAX, usize::MAX),
     (Trial::Pages, 50 * 4097, 1000, usize::MAX),
     (Trial::SentOn, 40 * 4096, usize::MAX, 0),

@@ -12,7 +12,7 @@ use teco_pages::{Closed, Closing, Host};
 
 // An output takes its name when it is closed. A file that is replaced keeps its permissions, and its
 // bytes until then.
-const CLOSED: [Step; 10] = [
+const CLOSED: &[Step] = &[
     Begin(b"new"),
     IsMissing,
     Close,
@@ -26,7 +26,7 @@ const CLOSED: [Step; 10] = [
 ];
 
 // A dropped output leaves no trace, nor does the last one, which is open where the host goes.
-const DROPPED: [Step; 6] = [
+const DROPPED: &[Step] = &[
     Put(b"old"),
     Begin(b"new"),
     HasNames(2),
@@ -36,7 +36,7 @@ const DROPPED: [Step; 6] = [
 ];
 
 // An output that cannot be closed, since a folder takes the name first, is gone. The next is made.
-const FAILED: [Step; 7] = [
+const FAILED: &[Step] = &[
     Begin(b"new"),
     MakeFolder,
     CannotClose,
@@ -47,7 +47,7 @@ const FAILED: [Step; 7] = [
 ];
 
 // What is done, and the bytes that the file has when the host is gone.
-const CASES: [(&[Step], &[u8]); 3] = [(&CLOSED, b"newer"), (&DROPPED, b"old"), (&FAILED, b"new")];
+const CASES: &[(&[Step], &[u8])] = &[(CLOSED, b"newer"), (DROPPED, b"old"), (FAILED, b"new")];
 
 #[test]
 fn outputs_are_closed_and_dropped(rt: HostRuntime) {
@@ -153,7 +153,7 @@ fn a_link_is_followed(rt: HostRuntime) {
 // before and then.
 type Row = (Closing, &'static [u8], Closed, &'static [u8], &'static [u8]);
 
-const CLOSINGS: [Row; 5] = [
+const CLOSINGS: &[Row] = &[
     (
         Closing::ReplacesOther,
         b"same",

@@ -13,7 +13,7 @@ enum Opening {
 }
 
 // Names that no output can have, and those that no input can have.
-const REFUSED: [(Opening, &[u8]); 15] = [
+const REFUSED: &[(Opening, &[u8])] = &[
     (Opening::Output, b"somleut_test_refused/folder"),
     (Opening::Output, b"somleut_test_refused/folder/"),
     (Opening::Output, b"somleut_test_refused/missing/out"),
@@ -85,7 +85,7 @@ fn told(host: &FileHost<HostRuntime>, alloc: Global) -> Result<String, AllocErro
 // What is opened, under which name, and what is told of it.
 type Row = (Opening, &'static [u8], &'static str);
 
-const TROUBLES: [Row; 4] = [
+const TROUBLES: &[Row] = &[
     (
         Opening::Input,
         b"somleut_test_trouble/none",

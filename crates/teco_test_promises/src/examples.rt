@@ -21,7 +21,7 @@ type Example = (
     &'static [u8],
 );
 
-const EXAMPLES: [Example; 18] = [
+const EXAMPLES: &[Example] = &[
     (
         b"!count `foo` and put the number on a line at the end!\n@^UA~J0UA<Sfoo\x1b;%A>ZJQA\\I\n\
           \x1b~\n",

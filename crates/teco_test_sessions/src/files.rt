@@ -23,7 +23,7 @@ const TWO_PAGES: &[u8] = b"ab\x0ccd";
 const THREE_PAGES: &[u8] = b"ab\x0ccd\x0cef";
 
 /// Pages are read, turned, written and copied.
-const PAGES: [FileRow; 9] = [
+const PAGES: &[FileRow] = &[
     (
         TWO_PAGES,
         "ERin\x1bEWout\x1bYHTPHTEC\x1b\x1b",
@@ -86,7 +86,7 @@ const PAGES: [FileRow; 9] = [
 ];
 
 /// Files are opened and closed.
-const NAMES: [FileRow; 6] = [
+const NAMES: &[FileRow] = &[
     (b"", "ERno\x1b\x1b", b"?FNF\r\n", "coded", None),
     (b"", "EWout\x1bEWb\x1b\x1b", b"?OFO\r\n", "coded", None),
     (b"", "ERin\x1bEWin\x1b\x1b", b"?ARG\r\n", "coded", None),
@@ -108,7 +108,7 @@ const NAMES: [FileRow; 6] = [
 ];
 
 /// The examples that edit files.
-const EXAMPLES: [FileRow; 3] = [
+const EXAMPLES: &[FileRow] = &[
     (
         b"one fish\ntwo fish\n\x0cred fish\nblue cow\n",
         "!Every fish in the file in becomes a cat, in the file out!\nERin\x1b EWout\x1b Y\n\
@@ -231,21 +231,21 @@ fn expect_in_pieces(rt: &impl Abort, alloc: Global, rows: &[FileRow]) -> Result<
 
 #[test]
 fn pages(rt: HostRuntime) -> Result<(), Fail> {
-    Ok(expect_in_pieces(&rt, rt.alloc(), &PAGES)?)
+    Ok(expect_in_pieces(&rt, rt.alloc(), PAGES)?)
 }
 
 #[test]
 fn examples_with_files(rt: HostRuntime) -> Result<(), Fail> {
-    Ok(expect_in_pieces(&rt, rt.alloc(), &EXAMPLES)?)
+    Ok(expect_in_pieces(&rt, rt.alloc(), EXAMPLES)?)
 }
 
 #[test]
 fn names(rt: HostRuntime) -> Result<(), Fail> {
-    Ok(expect_in_pieces(&rt, rt.alloc(), &NAMES)?)
+    Ok(expect_in_pieces(&rt, rt.alloc(), NAMES)?)
 }
 
 /// Which call of a host fails, what is written then, and what the file `out` has.
-const FAILING: [(HostCall, &[u8], Option<&[u8]>); 6] = [
+const FAILING: &[(HostCall, &[u8], Option<&[u8]>)] = &[
     (HostCall::OpenIn, b"?FNF\r\n?NFO\r\n", None),
     (HostCall::Read, b"?INP\r\n", Some(b"")),
     (HostCall::OpenOut, b"?OUT\r\n?NFO\r\n", None),
@@ -406,7 +406,7 @@ fn expect_failure(
 }
 
 /// All kinds of calls.
-const CALLS: [HostCall; 6] = [
+const CALLS: &[HostCall] = &[
     HostCall::OpenIn,
     HostCall::Read,
     HostCall::OpenOut,

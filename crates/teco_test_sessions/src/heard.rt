@@ -103,7 +103,7 @@ type Heard = (
     Option<Code>,
 );
 
-const HEARD: [Heard; 10] = [
+const HEARD: &[Heard] = &[
     (
         "1=\x1b\x1b9C\x1b\x1b 2=\x1b\x1b",
         false,

@@ -102,7 +102,7 @@ const CODED: &[&str] = &[
 ];
 
 /// Sessions with bytes that are no ASCII: an input, what is written and left, and the pointer.
-const BYTES: [(&[u8], &[u8], usize); 2] = [
+const BYTES: &[(&[u8], &[u8], usize)] = &[
     (b"-1I\x1bHT\x1b\x1b", b"\xff", 1),
     (b"Iab\x80\xff\x1bHT\x1b\x1b", b"ab\x80\xff", 4),
 ];

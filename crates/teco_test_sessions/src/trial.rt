@@ -31,7 +31,7 @@ impl Store {
 }
 
 /// Every row runs over each.
-pub const STORES: [Store; 2] = [Store::Flat, Store::Gap];
+pub const STORES: &[Store] = &[Store::Flat, Store::Gap];
 
 /// What a session is given.
 #[derive(Clone, Copy)]
@@ -89,7 +89,7 @@ pub fn has<T: TextStore>(machine: &Machine<T>, text: &[u8], pointer: usize) -> b
 }
 
 /// The codes that are typed where a growth is refused to the machine or to its host.
-const REFUSALS: [&[u8]; 4] = [b"?MEM", b"?FNF", b"?INP", b"?OUT"];
+const REFUSALS: &[&[u8]] = &[b"?MEM", b"?FNF", b"?INP", b"?OUT"];
 
 impl Ran {
     /// Did it come to this, and was this written?

@@ -20,7 +20,7 @@ const THREE: &[u8] = b"a foo\x0cfoo\x0c\x0cfoo";
 // How an edit is asked for, what it makes, its outcome, and what is said of it.
 type Row = (Pages, bool, bool, &'static [u8], Outcome, &'static str);
 
-const ROWS: [Row; 5] = [
+const ROWS: &[Row] = &[
     (
         Pages::First,
         false,
@@ -272,7 +272,7 @@ type InPlaceRow = (
     bool,
 );
 
-const IN_PLACE: [InPlaceRow; 3] = [
+const IN_PLACE: &[InPlaceRow] = &[
     (
         true,
         None,
@@ -297,7 +297,7 @@ const IN_PLACE: [InPlaceRow; 3] = [
 ];
 
 // The files that are edited in place.
-const FILES: [&str; 3] = [
+const FILES: &[&str] = &[
     "somleut_tools_one",
     "somleut_tools_none",
     "somleut_tools_two",
@@ -307,7 +307,7 @@ const FILES: [&str; 3] = [
 fn expect_said(abort: &impl Abort, rt: &HostRuntime, task: &Task<'_, '_>, row: &InPlaceRow) {
     let (is_dry, suffix, said, _, _) = *row;
     let given = InPlace {
-        files: &FILES,
+        files: FILES,
         is_dry,
         suffix,
     };

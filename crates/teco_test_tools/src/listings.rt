@@ -9,7 +9,7 @@ use teco_tools::{Listing, Names, OUTPUT, Prompting, Streams, trace_macro};
 use teco_verdicts::{Outcome, Request};
 
 /// How many steps are listed at most, the list, and what is said.
-const LISTED: [(u64, &str, &str); 2] = [
+const LISTED: &[(u64, &str, &str)] = &[
     (
         100,
         "step\tplace\telement\tpointer\tlength\tanswer\ttyped\n1\t-:1:1\tMA\t0\t4\t-\t\n\
@@ -60,7 +60,7 @@ fn steps_are_listed(rt: HostRuntime) -> Result<(), Fail> {
 }
 
 /// How many bytes the reads of a session take at most.
-const READS: [usize; 5] = [3, 3, 4, 8, 8];
+const READS: &[usize] = &[3, 3, 4, 8, 8];
 
 // What is prompted for while a session is read.
 fn prompts(rt: &HostRuntime, is_on: bool) -> Result<Vec<u8>, Fail> {

@@ -29,7 +29,7 @@ fn run_over<'a>(
 /// Words that are run, whether the first code ends it, what is typed, and what is said.
 type Words = (&'static [Script<'static>], bool, &'static str, &'static str);
 
-const WORDS: [Words; 8] = [
+const WORDS: &[Words] = &[
     (&[Word("1+2*3=")], false, "9\r\n", ""),
     (&[Word("Iabc$HT"), Word("Z=")], false, "abc3\r\n", ""),
     (
@@ -96,7 +96,7 @@ fn words_are_run(rt: HostRuntime) {
 }
 
 // A word, and what it types: where it got an ESC too few, its end would be missed.
-const ENDED: [(&str, &str); 10] = [
+const ENDED: &[(&str, &str)] = &[
     ("", ""),
     ("\r\n ", ""),
     ("1=$$\n", "1\r\n"),

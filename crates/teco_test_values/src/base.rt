@@ -28,7 +28,7 @@ fn is_typed(n: i32, in_decimal: &[u8], in_octal: &[u8], in_hex: &[u8]) -> bool {
 }
 
 // Numbers, and how each is typed.
-const TYPED: [(i32, &[u8], &[u8], &[u8]); 5] = [
+const TYPED: &[(i32, &[u8], &[u8], &[u8])] = &[
     (0, b"0", b"0", b"0"),
     (255, b"255", b"377", b"FF"),
     (-1, b"-1", b"37777777777", b"FFFFFFFF"),
@@ -50,7 +50,7 @@ fn named(letter: u8) -> Option<(usize, u8)> {
 }
 
 // Letters, and the number and the name of the register of each.
-const NAMED: [(u8, Option<(usize, u8)>); 6] = [
+const NAMED: &[(u8, Option<(usize, u8)>)] = &[
     (b'A', Some((0, b'A'))),
     (b'a', Some((0, b'A'))),
     (b'Z', Some((25, b'Z'))),
@@ -67,7 +67,7 @@ fn names_registers(rt: HostRuntime) {
 }
 
 // Codes, and their names.
-const CODES: [(Code, &[u8]); 27] = [
+const CODES: &[(Code, &[u8])] = &[
     (Code::Arg, b"ARG"),
     (Code::Nac, b"NAC"),
     (Code::Nca, b"NCA"),
@@ -146,7 +146,7 @@ fn tells_classes_of_bytes(rt: HostRuntime) {
 }
 
 // Characters behind a caret, and the control that each pair stands for.
-const CONTROLS: [(u8, Option<u8>); 8] = [
+const CONTROLS: &[(u8, Option<u8>)] = &[
     (b'A', Some(1)),
     (b'a', Some(1)),
     (b'@', Some(0)),

@@ -32,7 +32,7 @@ const JUMPS: &[u8] = b"@^UA/3<J>/";
 type Choice = (&'static [u8], &'static [u8], bool);
 
 /// Choices that the verifier does not make.
-const CHOICES: [Choice; 16] = [
+const CHOICES: &[Choice] = &[
     (
         MARK,
         b"commands 8 + 4*N\nsize 1 + 2*N + N^8\nloop 3 held 2*N + N^8 kept texts -\n",

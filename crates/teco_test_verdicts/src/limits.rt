@@ -9,7 +9,7 @@ use teco_verify::Refusal;
 /// As many motions as an expansion may have beside the call and its return.
 const MOTIONS: usize = 4094;
 
-const ACCEPTED: [(&[u8], &str); 8] = [
+const ACCEPTED: &[(&[u8], &str)] = &[
     (
         b"@^UA//",
         "TECO-CERT 1\nentry A\nneeds -\ncommands 2\nsize N\nend\n",
@@ -51,7 +51,7 @@ const ACCEPTED: [(&[u8], &str); 8] = [
 ];
 
 /// A library, the reason, and the register and the place of the element.
-const REFUSED: [(&[u8], &str, u8, usize); 19] = [
+const REFUSED: &[(&[u8], &str, u8, usize)] = &[
     (b"@^UA/J?/", "X2", b'A', 1),
     (b"@^UA/Ifoo/", "X2", b'A', 0),
     (b"@^UA/5U?/", "X2", b'A', 1),

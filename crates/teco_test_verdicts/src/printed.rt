@@ -41,7 +41,7 @@ fn register(rt: &impl Abort, name: u8) -> Reg {
 }
 
 /// A size and commands, and what is said of the texts that they hold for.
-const PREMISES: [(&[u8], &[u8], &str); 4] = [
+const PREMISES: &[(&[u8], &[u8], &str)] = &[
     (
         b"1 + 2*N",
         b"8 + 4*N",
@@ -106,7 +106,7 @@ fn a_macro_is_verified(rt: HostRuntime) -> Result<(), Fail> {
 }
 
 /// A reason, the name of a register and a place, and the line of the refusal.
-const LINES: [(Why, Option<u8>, usize, &str); 5] = [
+const LINES: &[(Why, Option<u8>, usize, &str)] = &[
     (Why::Place, Some(b'a'), 1, "refused X6 in A at 1"),
     (Why::Bound, Some(b'0'), 12, "refused X10 in 0 at 12"),
     (Why::Overflow, Some(b'Z'), 0, "refused X17 in Z at 0"),

@@ -46,7 +46,7 @@ fn limit_of(alloc: Global, words: &[&str]) -> (u32, i32) {
 }
 
 /// Words, the step limit and the status.
-const LIMITS: [(&[&str], u32, i32); 9] = [
+const LIMITS: &[(&[&str], u32, i32)] = &[
     (&["teco", "run"], 100_000_000, 0),
     (&["teco", "run", "--limit", "1"], 1, 0),
     (&["teco", "run", "--limit", "4294967295"], 4_294_967_295, 0),
@@ -77,7 +77,7 @@ fn entry_of(alloc: Global, words: &[&str]) -> Option<u8> {
     }
 }
 
-const ENTRIES: [(&[&str], u8); 9] = [
+const ENTRIES: &[(&[&str], u8)] = &[
     (&["teco", "verify", "LIB", "A"], b'A'),
     (&["teco", "verify", "LIB", "q"], b'Q'),
     (&["teco", "check", "LIB", "9", "CERT"], b'9'),
@@ -108,7 +108,7 @@ fn edition_of(alloc: Global, words: &[&str]) -> Option<u8> {
     }
 }
 
-const EDITIONS: [(&[&str], u8); 8] = [
+const EDITIONS: &[(&[&str], u8)] = &[
     (&["teco", "verify", "LIB", "A"], 1),
     (&["teco", "verify", "--rules", "1", "LIB"], 1),
     (&["teco", "verify", "--rules", "2", "LIB", "A"], 2),
@@ -129,7 +129,7 @@ fn rules_are_named(rt: HostRuntime) {
     }
 }
 
-const LACKING: [&[&str]; 6] = [
+const LACKING: &[&[&str]] = &[
     &["teco", "verify"],
     &["teco", "explain"],
     &["teco", "verify", "LIB", "A", "CERT"],
@@ -210,7 +210,7 @@ fn is_name(alloc: Global, name: &[u8], is_good: bool) -> bool {
 }
 
 /// A name of the file that is read, and whether it may be one.
-const NAMES: [(&[u8], bool); 5] = [
+const NAMES: &[(&[u8], bool)] = &[
     (b"in", true),
     (b"", true),
     (b"a\x1bb", false),
@@ -233,7 +233,7 @@ fn cap_of(alloc: Global, words: &[&str]) -> Option<usize> {
     Some(cap(given_of(&matches)?))
 }
 
-const CAPS: [(&[&str], usize); 4] = [
+const CAPS: &[(&[&str], usize)] = &[
     (&["teco", "run"], 1 << 30),
     (&["teco", "run", "--memory", "0"], 0),
     (&["teco", "run", "--limit", "7", "--memory", "4096"], 4096),
@@ -265,7 +265,7 @@ fn argument_of(alloc: Global, word: &str) -> Option<i32> {
 }
 
 /// A word, and what it says of the argument; the last word is about something else.
-const ARGUMENTS: [(&str, i32); 13] = [
+const ARGUMENTS: &[(&str, i32)] = &[
     ("--arg=0", 0),
     ("--arg=3", 3),
     ("--arg=2147483647", 2_147_483_647),
@@ -319,7 +319,7 @@ fn names_scripts(alloc: Global, words: &[&str], names: &[&str]) -> Option<bool> 
 }
 
 /// Words, and the scripts that they name.
-const SCRIPTS: [(&[&str], &[&str]); 4] = [
+const SCRIPTS: &[(&[&str], &[&str])] = &[
     (&["teco", "run"], &["stream"]),
     (&["teco", "run", "a", "-e", "1=", "b"], &["a", "1=", "b"]),
     (
@@ -367,7 +367,7 @@ fn is_edit(alloc: Global, word: &str, names: &[&str; 3]) -> Option<bool> {
 }
 
 /// A word, LIB, IN and OUT, and whether they are good.
-const EDITS: [(&str, [&str; 3], bool); 15] = [
+const EDITS: &[(&str, [&str; 3], bool)] = &[
     (PLAIN, ["lib", "in", "out"], true),
     ("--pages=first", ["lib", "in", "out"], true),
     ("--pages=each", ["lib", "in", "out"], true),

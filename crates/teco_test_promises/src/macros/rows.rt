@@ -2,7 +2,7 @@
 // tools/examples writes this file.
 use super::{Example, expect_examples};
 
-const FROM_BALANCE: [Example; 6] = [
+const FROM_BALANCE: &[Example] = &[
     Example {
         name: "balance",
         library: b"!Type how many `(` are not closed.!\n\
@@ -73,10 +73,10 @@ const FROM_BALANCE: [Example; 6] = [
 
 #[test]
 fn from_balance(rt: HostRuntime) {
-    expect_examples(&rt, rt.alloc(), &FROM_BALANCE);
+    expect_examples(&rt, rt.alloc(), FROM_BALANCE);
 }
 
-const FROM_COUNT_WORDS: [Example; 6] = [
+const FROM_COUNT_WORDS: &[Example] = &[
     Example {
         name: "count-words",
         library: b"!Put the number of words on a line at the end.!\n\
@@ -139,10 +139,10 @@ const FROM_COUNT_WORDS: [Example; 6] = [
 
 #[test]
 fn from_count_words(rt: HostRuntime) {
-    expect_examples(&rt, rt.alloc(), &FROM_COUNT_WORDS);
+    expect_examples(&rt, rt.alloc(), FROM_COUNT_WORDS);
 }
 
-const FROM_DELETE_LINES_FILE: [Example; 6] = [
+const FROM_DELETE_LINES_FILE: &[Example] = &[
     Example {
         name: "delete-lines-file",
         library: b"!Delete each line with `foo` on all pages of a file. It goes through all page\
@@ -221,10 +221,10 @@ const FROM_DELETE_LINES_FILE: [Example; 6] = [
 
 #[test]
 fn from_delete_lines_file(rt: HostRuntime) {
-    expect_examples(&rt, rt.alloc(), &FROM_DELETE_LINES_FILE);
+    expect_examples(&rt, rt.alloc(), FROM_DELETE_LINES_FILE);
 }
 
-const FROM_JOIN_HYPHENS: [Example; 6] = [
+const FROM_JOIN_HYPHENS: &[Example] = &[
     Example {
         name: "join-hyphens",
         library: b"!Join words that are parted by a hyphen at a line end.!\n@^UA~J<S^EA-\n\
@@ -289,10 +289,10 @@ const FROM_JOIN_HYPHENS: [Example; 6] = [
 
 #[test]
 fn from_join_hyphens(rt: HostRuntime) {
-    expect_examples(&rt, rt.alloc(), &FROM_JOIN_HYPHENS);
+    expect_examples(&rt, rt.alloc(), FROM_JOIN_HYPHENS);
 }
 
-const FROM_MASK: [Example; 6] = [
+const FROM_MASK: &[Example] = &[
     Example {
         name: "mask",
         library: b"!Put `***` for the rest of the line after `password=`.!\n\
@@ -358,10 +358,10 @@ const FROM_MASK: [Example; 6] = [
 
 #[test]
 fn from_mask(rt: HostRuntime) {
-    expect_examples(&rt, rt.alloc(), &FROM_MASK);
+    expect_examples(&rt, rt.alloc(), FROM_MASK);
 }
 
-const FROM_REPLACE_FILE: [Example; 6] = [
+const FROM_REPLACE_FILE: &[Example] = &[
     Example {
         name: "replace-file",
         library: b"!Replace `foo` by `bar` on all pages of a file. Either case is found. It goes\
@@ -425,10 +425,10 @@ const FROM_REPLACE_FILE: [Example; 6] = [
 
 #[test]
 fn from_replace_file(rt: HostRuntime) {
-    expect_examples(&rt, rt.alloc(), &FROM_REPLACE_FILE);
+    expect_examples(&rt, rt.alloc(), FROM_REPLACE_FILE);
 }
 
-const FROM_SQUEEZE_BLANKS: [Example; 6] = [
+const FROM_SQUEEZE_BLANKS: &[Example] = &[
     Example {
         name: "squeeze-blanks",
         library: b"!One blank for each run of blanks and tabs.!\n@^UA~J<FS^ES$ $;>~\n",
@@ -493,10 +493,10 @@ const FROM_SQUEEZE_BLANKS: [Example; 6] = [
 
 #[test]
 fn from_squeeze_blanks(rt: HostRuntime) {
-    expect_examples(&rt, rt.alloc(), &FROM_SQUEEZE_BLANKS);
+    expect_examples(&rt, rt.alloc(), FROM_SQUEEZE_BLANKS);
 }
 
-const FROM_TAIL: [Example; 6] = [
+const FROM_TAIL: &[Example] = &[
     Example {
         name: "tail",
         library: b"!Keep the last ten lines. A last line without an end isn't counted.!\n\
@@ -570,10 +570,10 @@ const FROM_TAIL: [Example; 6] = [
 
 #[test]
 fn from_tail(rt: HostRuntime) {
-    expect_examples(&rt, rt.alloc(), &FROM_TAIL);
+    expect_examples(&rt, rt.alloc(), FROM_TAIL);
 }
 
-const FROM_UNINDENT: [Example; 3] = [
+const FROM_UNINDENT: &[Example] = &[
     Example {
         name: "unindent",
         library: b"!Take four blanks from the start of each line that has them.!\n\
@@ -609,5 +609,5 @@ const FROM_UNINDENT: [Example; 3] = [
 
 #[test]
 fn from_unindent(rt: HostRuntime) {
-    expect_examples(&rt, rt.alloc(), &FROM_UNINDENT);
+    expect_examples(&rt, rt.alloc(), FROM_UNINDENT);
 }
