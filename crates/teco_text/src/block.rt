@@ -156,8 +156,26 @@ impl Block {
         ensures behind { self.new.behind ≡ self.old.behind }
         ensures grows { self.old.room ≤ self.new.room }
     {
-        self.open(new.len());
-        self.fill(new);
+        if self.gap_end == self.bytes.len() {
+            self.append(new);
+        } else {
+            self.open(new.len());
+            self.fill(new);
+        }
+    }
+
+    // Appends `new`; the gap, which nothing is behind, closes.
+    fn append(&mut self, new: &[u8])
+        requires last { self.old.behind ≡ [] }
+        requires fits { length self.old.before + length new.now ≤ self.old.room }
+        ensures before { self.new.before ≡ self.old.before ++ new.now }
+        ensures behind { self.new.behind ≡ [] }
+        ensures grows { self.old.room ≤ self.new.room }
+    {
+        self.bytes.truncate(self.gap_start);
+        self.bytes.extend_from_slice(new).unwrap();
+        self.gap_start = self.bytes.len();
+        self.gap_end = self.gap_start;
     }
 
     // Makes the gap at least `n` characters long. Where it is shorter, it grows by a quarter of
