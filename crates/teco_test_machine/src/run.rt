@@ -43,148 +43,132 @@ fn is_text(machine: &Machine<VecText>, text: &[u8]) -> bool {
         .is_some_and(|behind| behind == back)
 }
 
-// Runs a command string of at most so many steps on a machine; once more, on another, where memory
-// was refused.
-fn answer_of(
-    machine: &mut Machine<VecText>,
-    alloc: Global,
-    command: &[u8],
-    limit: u64,
-) -> Result<u64, Code> {
-    let mut host = MemHost::new(alloc);
-    let got = answer(run(machine, &mut host, command, limit));
-    if got != Err(Code::Mem) {
-        return got;
-    }
-    *machine = Machine::new(alloc, VecText::new(alloc));
-    answer(run(machine, &mut host, command, limit))
-}
-
 // Has a machine typed this?
 fn has_typed(machine: &mut Machine<VecText>, typed: &[u8]) -> bool {
     let taken = machine.take_typed();
     taken.as_slice() == typed
 }
 
-// Runs a command string of at most so many steps on a new machine: what it comes to, and whether it
-// types this and leaves this text and this pointer.
-fn run_anew(
+// A machine with no text.
+fn new_machine(alloc: Global) -> Machine<VecText> {
+    Machine::new(alloc, VecText::new(alloc))
+}
+
+// What a command string of at most so many steps comes to on a machine, beside no file.
+fn answer_on(
+    machine: &mut Machine<VecText>,
     alloc: Global,
     command: &[u8],
     limit: u64,
-    typed: &[u8],
-    left: (&[u8], usize),
-) -> (Result<u64, Code>, bool) {
-    let mut machine = Machine::new(alloc, VecText::new(alloc));
+) -> Result<u64, Code> {
     let mut host = MemHost::new(alloc);
-    let got = answer(run(&mut machine, &mut host, command, limit));
-    let is_left = is_text(&machine, left.0) && machine.dot() == left.1;
-    let is_typed = has_typed(&mut machine, typed);
-    let is_taken = has_typed(&mut machine, b"");
-    (got, is_left && is_typed && is_taken)
+    answer(run(machine, &mut host, command, limit))
 }
 
-// Runs a command string of at most so many steps on a new machine. It comes to this, types this,
-// and leaves this text and this pointer.
-fn expect(
-    rt: &(impl Abort + AllocGlobal),
-    command: &[u8],
-    limit: u64,
-    want: Result<u64, Code>,
-    typed: &[u8],
-    left: (&[u8], usize),
-) {
-    let mut found = run_anew(rt.alloc(), command, limit, typed, left);
-    if found.0 == Err(Code::Mem) {
-        found = run_anew(rt.alloc(), command, limit, typed, left);
+// A command string, the limit on its steps, what it comes to and types, and the text and the
+// pointer that it leaves.
+type Row = (
+    &'static [u8],
+    u64,
+    Result<u64, Code>,
+    &'static [u8],
+    &'static [u8],
+    usize,
+);
+
+// Has a machine typed what a row says, and is that left?
+fn is_left(machine: &mut Machine<VecText>, row: &Row) -> bool {
+    let is_there = is_text(machine, row.4) && machine.dot() == row.5;
+    is_there && has_typed(machine, row.3) && has_typed(machine, b"")
+}
+
+// What the command string of a row comes to on a new machine, and whether it leaves what the row
+// says.
+fn run_anew(alloc: Global, row: &Row) -> (Result<u64, Code>, bool) {
+    let mut machine = new_machine(alloc);
+    let got = answer_on(&mut machine, alloc, row.0, row.1);
+    (got, is_left(&mut machine, row))
+}
+
+// Each row holds on a new machine.
+fn expect_rows(rt: &(impl Abort + AllocGlobal), rows: &[Row]) {
+    for row in rows {
+        let mut found = run_anew(rt.alloc(), row);
+        if found.0 == Err(Code::Mem) {
+            found = run_anew(rt.alloc(), row);
+        }
+        assert!(rt; found.0 == row.2 && found.1, "{:?}", row.0);
     }
-    assert!(rt; found.0 == want && found.1, "{command:?}");
 }
 
-#[test]
-fn rows_of_commands(rt: HostRuntime) {
-    expect(
-        &rt,
+const COMMANDS: [Row; 4] = [
+    (
         b"Iabc\x1bJ1D2+3*4=HT\x1b\x1b",
         100,
         Ok(14),
         b"20\r\nbc",
-        (b"bc", 0),
-    );
-    expect(
-        &rt,
+        b"bc",
+        0,
+    ),
+    (
         b"\tab\x1b33I\x1b0,1T(((((((((1)))))))))=\x1b\x1b",
         100,
         Ok(29),
         b"\t1\r\n",
-        (b"\tab!", 4),
-    );
-    expect(
-        &rt,
+        b"\tab!",
+        4,
+    ),
+    (
         b"@^A/a\x1bb/33^T255:===\x1b\x1b",
         100,
         Ok(7),
         b"a\x1bb!FF",
-        (b"", 0),
-    );
-    expect(
-        &rt,
-        b"Iab\x1b-3D\x1b\x1b",
-        100,
-        Err(Code::Dtb),
         b"",
-        (b"ab", 2),
-    );
-}
+        0,
+    ),
+    (b"Iab\x1b-3D\x1b\x1b", 100, Err(Code::Dtb), b"", b"ab", 2),
+];
 
 #[test]
-fn rows_of_macros_and_searches(rt: HostRuntime) {
-    expect(
-        &rt,
-        b"@^UA/+1/2MA=Q0-1\x1b\x1b",
-        100,
-        Ok(12),
-        b"3\r\n",
-        (b"", 0),
-    );
-    expect(
-        &rt,
-        b"@^UA/MA/MA\x1b\x1b",
-        50,
-        Err(Code::Lim),
-        b"",
-        (b"", 0),
-    );
-    expect(
-        &rt,
+fn rows_of_commands(rt: HostRuntime) {
+    expect_rows(&rt, &COMMANDS);
+}
+
+const MACROS_AND_SEARCHES: [Row; 4] = [
+    (b"@^UA/+1/2MA=Q0-1\x1b\x1b", 100, Ok(12), b"3\r\n", b"", 0),
+    (b"@^UA/MA/MA\x1b\x1b", 50, Err(Code::Lim), b"", b"", 0),
+    (
         b"Iabcabc\x1bJ<FSb\x1bXX\x1b;>HT\x1b\x1b",
         100,
         Ok(15),
         b"aXXcaXXc",
-        (b"aXXcaXXc", 0),
-    );
-    expect(
-        &rt,
+        b"aXXcaXXc",
+        0,
+    ),
+    (
         b"Iab\x1bSb\x1bSa\x1b\x1b",
         100,
         Err(Code::Srh),
         b"",
-        (b"ab", 0),
-    );
+        b"ab",
+        0,
+    ),
+];
+
+#[test]
+fn rows_of_macros_and_searches(rt: HostRuntime) {
+    expect_rows(&rt, &MACROS_AND_SEARCHES);
 }
+
+const ENDED_EARLY: [Row; 3] = [
+    (b"<1=\x1b\x1b", 10, Err(Code::Utc), b"1\r\n", b"", 0),
+    (b"1=2=\x1b\x1b", 5, Err(Code::Lim), b"1\r\n2\r\n", b"", 0),
+    (b"1=2=\x1b\x1b", 6, Ok(6), b"1\r\n2\r\n", b"", 0),
+];
 
 #[test]
 fn rows_that_end_early(rt: HostRuntime) {
-    expect(&rt, b"<1=\x1b\x1b", 10, Err(Code::Utc), b"1\r\n", (b"", 0));
-    expect(
-        &rt,
-        b"1=2=\x1b\x1b",
-        5,
-        Err(Code::Lim),
-        b"1\r\n2\r\n",
-        (b"", 0),
-    );
-    expect(&rt, b"1=2=\x1b\x1b", 6, Ok(6), b"1\r\n2\r\n", (b"", 0));
+    expect_rows(&rt, &ENDED_EARLY);
 }
 
 // The register of a name, or else the first.
@@ -208,30 +192,28 @@ fn load(machine: &mut Machine<VecText>, texts: &[Option<&[u8]>; 36]) -> Result<(
     Ok(())
 }
 
-// A register has this number and this text.
-fn expect_register(
-    rt: &impl Abort,
-    machine: &Machine<VecText>,
-    name: u8,
-    number: i32,
-    text: &[u8],
-) {
+// Has a register this number and this text?
+fn has_register(machine: &Machine<VecText>, name: u8, number: i32, text: &[u8]) -> bool {
     let regs = machine.regs();
-    assert!(rt; regs.number(register(name)) == number && regs.text(register(name)) == text);
+    regs.number(register(name)) == number && regs.text(register(name)) == text
 }
 
-// The buffer and all texts have so many characters.
-fn expect_held(rt: &impl Abort, machine: &Machine<VecText>, held: u128) {
-    assert!(rt; machine.held() == held);
+// Puts a number into a register, and a text into another, which is pushed. A machine that is
+// refused memory is made anew.
+fn fill(machine: &mut Machine<VecText>, alloc: Global) -> Result<u64, Code> {
+    let command = b"Iab\x1b5U9^UBcde\x1b[B\x1b\x1b";
+    let got = answer_on(machine, alloc, command, 100);
+    if got != Err(Code::Mem) {
+        return got;
+    }
+    *machine = new_machine(alloc);
+    answer_on(machine, alloc, command, 100)
 }
 
-// A number goes into a register, and a text into another, which is pushed.
-fn expect_shown(rt: &impl Abort, machine: &mut Machine<VecText>, alloc: Global) {
-    let done = answer_of(machine, alloc, b"Iab\x1b5U9^UBcde\x1b[B\x1b\x1b", 100);
-    assert!(rt; done.is_ok());
-    expect_register(rt, machine, b'9', 5, b"");
-    expect_register(rt, machine, b'B', 0, b"cde");
-    expect_held(rt, machine, 8);
+// They are there, and the buffer and all texts have so many characters.
+fn expect_filled(rt: &impl Abort, machine: &Machine<VecText>) {
+    assert!(rt; has_register(machine, b'9', 5, b"") && has_register(machine, b'B', 0, b"cde"));
+    assert!(rt; machine.held() == 8);
 }
 
 // Two texts are loaded, or nothing changes.
@@ -240,92 +222,68 @@ fn expect_loaded(rt: &impl Abort, machine: &mut Machine<VecText>) {
     texts[0] = Some(b"%9=");
     texts[35] = Some(b"ninth");
     if load(machine, &texts).is_err() {
-        expect_held(rt, machine, 8);
-        let again = load(machine, &texts);
-        assert!(rt; again.is_ok());
+        assert!(rt; machine.held() == 8);
+        assert!(rt; load(machine, &texts).is_ok());
     }
+    assert!(rt; machine.held() == 16);
+    assert!(rt; has_register(machine, b'B', 0, b"cde") && has_register(machine, b'9', 5, b"ninth"));
 }
 
 // The macro that was loaded types a number.
 fn expect_macro(rt: &impl Abort, machine: &mut Machine<VecText>, alloc: Global) {
-    let mut host = MemHost::new(alloc);
-    let mut stop = run(machine, &mut host, b"MA", 100);
-    if let Stop::Memory = stop {
-        stop = run(machine, &mut host, b"MA", 100);
+    let mut got = answer_on(machine, alloc, b"MA", 100);
+    if got == Err(Code::Mem) {
+        got = answer_on(machine, alloc, b"MA", 100);
     }
-    let is_typed = has_typed(machine, b"6\r\n");
-    assert!(rt; is_typed && answer(stop).is_ok());
+    assert!(rt; got.is_ok() && has_typed(machine, b"6\r\n"));
 }
 
 #[test]
 fn registers_are_shown_and_loaded(rt: HostRuntime) {
-    let mut machine = Machine::new(rt.alloc(), VecText::new(rt.alloc()));
-    expect_shown(&rt, &mut machine, rt.alloc());
+    let mut machine = new_machine(rt.alloc());
+    assert!(rt; fill(&mut machine, rt.alloc()).is_ok());
+    expect_filled(&rt, &machine);
     expect_loaded(&rt, &mut machine);
-    expect_held(&rt, &machine, 16);
-    expect_register(&rt, &machine, b'B', 0, b"cde");
-    expect_register(&rt, &machine, b'9', 5, b"ninth");
     expect_macro(&rt, &mut machine, rt.alloc());
 }
 
-// Runs a command string on a new machine that may type so many bytes, and whose texts may take as
-// many.
-fn run_capped(alloc: Global, cap: usize, command: &[u8]) -> (Machine<VecText>, Stop) {
-    let mut machine = Machine::new(alloc, VecText::new(alloc));
-    let mut host = MemHost::new(alloc);
-    machine.set_cap(cap);
-    let stop = run(&mut machine, &mut host, command, 100_000);
-    (machine, stop)
-}
+// How many bytes a machine may type, and how many its texts may take, a command string, what it
+// types then, and what it comes to.
+type Capped = (usize, &'static [u8], &'static [u8], Result<u64, Code>);
 
-// What a command string types under a cap, and how it stops.
-fn typed_under(alloc: Global, cap: usize, command: &[u8]) -> (Vec<u8>, Stop) {
-    let (mut machine, stop) = run_capped(alloc, cap, command);
-    (machine.take_typed(), stop)
-}
+const CAPPED: [Capped; 7] = [
+    (10, b"<1=>", b"1\r\n1\r\n1\r\n", Err(Code::Mem)),
+    (3, b"1=", b"1\r\n", Ok(2)),
+    (2, b"1=", b"", Err(Code::Mem)),
+    (3, b"Iabcd\x1bHT", b"", Err(Code::Mem)),
+    (3, b"@^UA/abcd/:GA", b"", Err(Code::Mem)),
+    (5, b"@I/ab/<Sx\x1b>", b"", Err(Code::Mem)),
+    (100_000, b"@^UA/MA/MA", b"", Err(Code::Mem)),
+];
 
-// Under a cap a command string may type these bytes, and comes to this where no allocation fails.
-fn expect_capped(
-    rt: &(impl Abort + AllocGlobal),
-    cap: usize,
-    command: &[u8],
-    typed: &[u8],
-    want: Result<u64, Code>,
-) {
-    let (bytes, stop) = typed_under(rt.alloc(), cap, command);
-    let is_begun = typed.starts_with(&bytes);
-    let is_all = bytes.len() == typed.len();
-    let got = answer(stop);
-    let is_so = got == Err(Code::Mem) || (got == want && is_all);
-    assert!(rt; is_begun && is_so, "{command:?}");
+// Does a row hold? Where an allocation fails, what is typed is only begun.
+fn is_capped(alloc: Global, row: &Capped) -> bool {
+    let mut machine = new_machine(alloc);
+    machine.set_cap(row.0);
+    let got = answer_on(&mut machine, alloc, row.1, 100_000);
+    let typed = machine.take_typed();
+    let is_as_wanted = got == row.3 && typed.len() == row.2.len();
+    row.2.starts_with(&typed) && (got == Err(Code::Mem) || is_as_wanted)
 }
 
 #[test]
 fn caps_are_refused_growths(rt: HostRuntime) {
-    expect_capped(&rt, 10, b"<1=>", b"1\r\n1\r\n1\r\n", Err(Code::Mem));
-    expect_capped(&rt, 3, b"1=", b"1\r\n", Ok(2));
-    expect_capped(&rt, 2, b"1=", b"", Err(Code::Mem));
-    expect_capped(&rt, 3, b"Iabcd\x1bHT", b"", Err(Code::Mem));
-    expect_capped(&rt, 3, b"@^UA/abcd/:GA", b"", Err(Code::Mem));
-    expect_capped(&rt, 5, b"@I/ab/<Sx\x1b>", b"", Err(Code::Mem));
-    expect_capped(&rt, 100_000, b"@^UA/MA/MA", b"", Err(Code::Mem));
+    for row in CAPPED {
+        assert!(rt; is_capped(rt.alloc(), &row), "{:?}", row.1);
+    }
 }
 
-// A machine goes on as if nothing had been: no limit is met.
-fn expect_runs(rt: &impl Abort, machine: &mut Machine<VecText>, alloc: Global) {
-    let mut host = MemHost::new(alloc);
-    let got = answer(run(machine, &mut host, b"1U0", 10));
-    assert!(rt; got != Err(Code::Lim));
-}
-
-// Macros call one another as deep as the cap lets, and the next string runs.
+// Macros call one another as deep as the cap lets, and the next string runs: no limit is met.
 #[test]
 fn calls_are_as_deep_as_a_cap_lets(rt: HostRuntime) {
-    let (mut machine, stop) = run_capped(rt.alloc(), 1_000_000, b"@^UA/%B-1000\"LMA'/MA");
-    if let Stop::Memory = stop {
-        machine.set_cap(1_000_000);
-    } else {
-        expect_register(&rt, &machine, b'B', 1000, b"");
-    }
-    expect_runs(&rt, &mut machine, rt.alloc());
+    let mut machine = new_machine(rt.alloc());
+    machine.set_cap(1_000_000);
+    let got = answer_on(&mut machine, rt.alloc(), b"@^UA/%B-1000\"LMA'/MA", 100_000);
+    assert!(rt; got == Err(Code::Mem) || has_register(&machine, b'B', 1000, b""));
+    assert!(rt; answer_on(&mut machine, rt.alloc(), b"1U0", 10) != Err(Code::Lim));
 }
