@@ -8,7 +8,7 @@ use std::io::{ErrorKind, Read};
 use std::marker::Model;
 
 /// How many bytes are read at a time, at most.
-pub const CHUNK: usize = 4096;
+pub const CHUNK: usize = 16_384;
 
 /// Bytes that were read and not yet used.
 #[derive(Drop)]

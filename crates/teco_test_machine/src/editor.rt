@@ -132,7 +132,7 @@ fn expect_search_text(rt: &impl Abort, editor: &Editor<VecText>, text: &[u8]) {
     expect_bytes(rt, editor.search_text(), text);
 }
 
-const COMMANDS: [Row; 8] = [
+const COMMANDS: &[Row] = &[
     (b"Iabc\x1b", None, None, None),
     (b"\td\x1b", None, None, None),
     (b":R", None, Some(5), Some(-1)),
@@ -146,7 +146,7 @@ const COMMANDS: [Row; 8] = [
 #[test]
 fn commands_in_turn(rt: HostRuntime) {
     let mut editor = empty(rt.alloc());
-    expect_rows(&rt, &mut editor, &COMMANDS);
+    expect_rows(&rt, &mut editor, COMMANDS);
     expect_text(&rt, &editor, b"bc\td", 0);
     expect_length(&rt, &editor, 2);
     expect_typed(&rt, &mut editor, b"c\txA377");
@@ -154,7 +154,7 @@ fn commands_in_turn(rt: HostRuntime) {
 }
 
 // The text is three lines, with the pointer in the second.
-const LINES: [Row; 6] = [
+const LINES: &[Row] = &[
     (b"Iab\ncd\nef\x1b", None, None, None),
     (b"L", None, Some(-1), None),
     (b"C", None, None, None),
@@ -164,15 +164,15 @@ const LINES: [Row; 6] = [
 ];
 
 // Both other lines are deleted.
-const DELETED: [Row; 2] = [(b"K", None, None, None), (b"K", None, Some(-1), None)];
+const DELETED: &[Row] = &[(b"K", None, None, None), (b"K", None, Some(-1), None)];
 
 #[test]
 fn lines(rt: HostRuntime) {
     let mut editor = empty(rt.alloc());
-    expect_rows(&rt, &mut editor, &LINES);
+    expect_rows(&rt, &mut editor, LINES);
     expect_text(&rt, &editor, b"ab\ncd\nef", 4);
     expect_typed(&rt, &mut editor, b"cd\nab\ncd\nefc");
-    expect_rows(&rt, &mut editor, &DELETED);
+    expect_rows(&rt, &mut editor, DELETED);
     expect_text(&rt, &editor, b"ef", 0);
 }
 
@@ -191,7 +191,7 @@ fn expect_register(
 }
 
 // Parts of the text go into a register.
-const STORED: [Row; 8] = [
+const STORED: &[Row] = &[
     (b"Iab\ncd\x1b", None, None, None),
     (b"J", None, None, None),
     (b"XQ", None, None, None),
@@ -203,7 +203,7 @@ const STORED: [Row; 8] = [
 ];
 
 // A number and a text go into it, and are pushed and popped.
-const PUSHED: [Row; 10] = [
+const PUSHED: &[Row] = &[
     (b"^UQx\x1b", None, None, None),
     (b":^UQyz\x1b", None, None, None),
     (b"UQ", None, Some(5), None),
@@ -219,8 +219,8 @@ const PUSHED: [Row; 10] = [
 #[test]
 fn registers(rt: HostRuntime) {
     let mut editor = empty(rt.alloc());
-    expect_rows(&rt, &mut editor, &STORED);
-    expect_rows(&rt, &mut editor, &PUSHED);
+    expect_rows(&rt, &mut editor, STORED);
+    expect_rows(&rt, &mut editor, PUSHED);
     expect_text(&rt, &editor, b"xyzab\ncd", 3);
     expect_length(&rt, &editor, 3);
     expect_register(&rt, &editor, 6, b"xyz", 14);
@@ -258,7 +258,7 @@ fn expect_there(
     expect_character(rt, editor, 0, character);
 }
 
-const NUMBERS: [Row; 4] = [
+const NUMBERS: &[Row] = &[
     (b"\\", None, Some(-12), None),
     (b"J", None, None, None),
     (b"\\", None, None, Some(-12)),
@@ -266,7 +266,7 @@ const NUMBERS: [Row; 4] = [
 ];
 
 // A place, the number that stands there, where it ends, and the character.
-const THERE: [(usize, (i32, usize), i32); 7] = [
+const THERE: &[(usize, (i32, usize), i32)] = &[
     (0, (-12, 3), 45),
     (1, (12, 3), 49),
     (3, (7, 5), 43),
@@ -279,7 +279,7 @@ const THERE: [(usize, (i32, usize), i32); 7] = [
 #[test]
 fn numbers_in_the_text(rt: HostRuntime) {
     let mut editor = empty(rt.alloc());
-    expect_rows(&rt, &mut editor, &NUMBERS);
+    expect_rows(&rt, &mut editor, NUMBERS);
     expect_text(&rt, &editor, b"-12+7-x4294967297", 17);
     for (place, number, character) in THERE.iter() {
         expect_there(&rt, &mut editor, *place, *number, *character);

@@ -150,14 +150,14 @@ fn expect_typed(rt: &impl Abort, desk: &mut Desk, typed: &[u8]) {
     assert!(rt; taken.as_slice() == typed, "{typed:?}");
 }
 
-const READ: [Row; 4] = [
+const READ: &[Row] = &[
     (Deed::OpenInput(b"in"), b"done", b""),
     (Deed::OpenOutput(b"out"), b"done", b""),
     (Deed::Yank, b"done", b"ab"),
     (Deed::Yank, b"YCA", b"ab"),
 ];
 
-const WRITTEN: [Row; 5] = [
+const WRITTEN: &[Row] = &[
     (Deed::TurnPage, b"done", b"cd"),
     (Deed::WritePage, b"done", b"cd"),
     (Deed::WriteRange(0, 1), b"done", b"cd"),
@@ -168,15 +168,15 @@ const WRITTEN: [Row; 5] = [
 #[test]
 fn pages_are_read_turned_and_written(rt: HostRuntime) {
     let mut desk = new_desk(&rt, rt.alloc());
-    expect_rows(&rt, &mut desk, &READ);
+    expect_rows(&rt, &mut desk, READ);
     expect_unread(&rt, &mut desk);
-    expect_rows(&rt, &mut desk, &WRITTEN);
+    expect_rows(&rt, &mut desk, WRITTEN);
     expect_typed(&rt, &mut desk, b"!");
     expect(&rt, &mut desk, Deed::CopyAll, b"done", b"");
     expect_file(&rt, &desk, b"out", Some(b"ab\x0ccd\x0cccd"));
 }
 
-const DROPPED: [Row; 9] = [
+const DROPPED: &[Row] = &[
     (Deed::Append, b"NFI", b""),
     (Deed::OpenInput(b"no"), b"no file", b""),
     (Deed::OpenInput(b"in"), b"done", b""),
@@ -188,7 +188,7 @@ const DROPPED: [Row; 9] = [
     (Deed::AbandonOutput, b"done", b"abcd"),
 ];
 
-const CLOSED: [Row; 2] = [
+const CLOSED: &[Row] = &[
     (Deed::OpenOutput(b"b"), b"done", b"abcd"),
     (Deed::CloseOutput, b"done", b"abcd"),
 ];
@@ -196,9 +196,9 @@ const CLOSED: [Row; 2] = [
 #[test]
 fn files_are_opened_and_let_go(rt: HostRuntime) {
     let mut desk = new_desk(&rt, rt.alloc());
-    expect_rows(&rt, &mut desk, &DROPPED);
+    expect_rows(&rt, &mut desk, DROPPED);
     expect_file(&rt, &desk, b"a", None);
-    expect_rows(&rt, &mut desk, &CLOSED);
+    expect_rows(&rt, &mut desk, CLOSED);
     expect_file(&rt, &desk, b"b", Some(b""));
     expect(&rt, &mut desk, Deed::Exit, b"done", b"abcd");
 }

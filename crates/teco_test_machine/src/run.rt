@@ -101,7 +101,7 @@ fn expect_rows(rt: &(impl Abort + AllocGlobal), rows: &[Row]) {
     }
 }
 
-const COMMANDS: [Row; 4] = [
+const COMMANDS: &[Row] = &[
     (
         b"Iabc\x1bJ1D2+3*4=HT\x1b\x1b",
         100,
@@ -131,10 +131,10 @@ const COMMANDS: [Row; 4] = [
 
 #[test]
 fn rows_of_commands(rt: HostRuntime) {
-    expect_rows(&rt, &COMMANDS);
+    expect_rows(&rt, COMMANDS);
 }
 
-const MACROS_AND_SEARCHES: [Row; 4] = [
+const MACROS_AND_SEARCHES: &[Row] = &[
     (b"@^UA/+1/2MA=Q0-1\x1b\x1b", 100, Ok(12), b"3\r\n", b"", 0),
     (b"@^UA/MA/MA\x1b\x1b", 50, Err(Code::Lim), b"", b"", 0),
     (
@@ -157,10 +157,10 @@ const MACROS_AND_SEARCHES: [Row; 4] = [
 
 #[test]
 fn rows_of_macros_and_searches(rt: HostRuntime) {
-    expect_rows(&rt, &MACROS_AND_SEARCHES);
+    expect_rows(&rt, MACROS_AND_SEARCHES);
 }
 
-const ENDED_EARLY: [Row; 3] = [
+const ENDED_EARLY: &[Row] = &[
     (b"<1=\x1b\x1b", 10, Err(Code::Utc), b"1\r\n", b"", 0),
     (b"1=2=\x1b\x1b", 5, Err(Code::Lim), b"1\r\n2\r\n", b"", 0),
     (b"1=2=\x1b\x1b", 6, Ok(6), b"1\r\n2\r\n", b"", 0),
@@ -168,7 +168,7 @@ const ENDED_EARLY: [Row; 3] = [
 
 #[test]
 fn rows_that_end_early(rt: HostRuntime) {
-    expect_rows(&rt, &ENDED_EARLY);
+    expect_rows(&rt, ENDED_EARLY);
 }
 
 // The register of a name, or else the first.
@@ -251,7 +251,7 @@ fn registers_are_shown_and_loaded(rt: HostRuntime) {
 // types then, and what it comes to.
 type Capped = (usize, &'static [u8], &'static [u8], Result<u64, Code>);
 
-const CAPPED: [Capped; 7] = [
+const CAPPED: &[Capped] = &[
     (10, b"<1=>", b"1\r\n1\r\n1\r\n", Err(Code::Mem)),
     (3, b"1=", b"1\r\n", Ok(2)),
     (2, b"1=", b"", Err(Code::Mem)),

@@ -82,7 +82,7 @@ fn expect_rows(rt: &(impl Abort + AllocGlobal), rows: &[Row]) {
     }
 }
 
-const FOUND: [Row; 4] = [
+const FOUND: &[Row] = &[
     (
         b"abab",
         4,
@@ -123,10 +123,10 @@ const FOUND: [Row; 4] = [
 
 #[test]
 fn texts_are_found_or_missed(rt: HostRuntime) {
-    expect_rows(&rt, &FOUND);
+    expect_rows(&rt, FOUND);
 }
 
-const MISSED: [Row; 4] = [
+const MISSED: &[Row] = &[
     (
         b"abab",
         1,
@@ -143,10 +143,10 @@ const MISSED: [Row; 4] = [
 
 #[test]
 fn texts_are_missed_or_refused(rt: HostRuntime) {
-    expect_rows(&rt, &MISSED);
+    expect_rows(&rt, MISSED);
 }
 
-const REPLACED: [Row; 1] = [(
+const REPLACED: &[Row] = &[(
     b"abcab",
     2,
     b"FSab\x1bXYZ\x1b",
@@ -158,7 +158,7 @@ const REPLACED: [Row; 1] = [(
 
 #[test]
 fn a_match_is_replaced(rt: HostRuntime) {
-    expect_rows(&rt, &REPLACED);
+    expect_rows(&rt, REPLACED);
 }
 
 fn look_twice(

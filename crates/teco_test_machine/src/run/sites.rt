@@ -60,7 +60,7 @@ fn expect_stops(rt: &(impl Abort + AllocGlobal), rows: &[Row]) {
     }
 }
 
-const IN_COMMAND: [Row; 11] = [
+const IN_COMMAND: &[Row] = &[
     (b"", 9, 0, Ok(0), None, 0),
     (b"1=2=", 0, 0, Err(Code::Lim), None, 0),
     (b"1=2=", 3, 3, Err(Code::Lim), None, 3),
@@ -76,10 +76,10 @@ const IN_COMMAND: [Row; 11] = [
 
 #[test]
 fn runs_stop_at_sites(rt: HostRuntime) {
-    expect_stops(&rt, &IN_COMMAND);
+    expect_stops(&rt, IN_COMMAND);
 }
 
-const IN_TEXTS: [Row; 5] = [
+const IN_TEXTS: &[Row] = &[
     (b"@^UA/9C/MA", 9, 3, Err(Code::Pop), Some(b'A'), 1),
     (b"@^UA/ <1=/ MA", 9, 5, Err(Code::Utm), Some(b'A'), 4),
     (b"@^UA/1=  2=/ MA 3=", 4, 4, Err(Code::Lim), Some(b'A'), 4),
@@ -96,7 +96,7 @@ const IN_TEXTS: [Row; 5] = [
 
 #[test]
 fn runs_stop_in_texts_of_registers(rt: HostRuntime) {
-    expect_stops(&rt, &IN_TEXTS);
+    expect_stops(&rt, IN_TEXTS);
 }
 
 // A run under a cap that lets nothing be typed stops at its second element.
@@ -183,7 +183,7 @@ fn are_steps_a_run(alloc: Global, command: &[u8], limit: u64) -> Option<bool> {
     Some(is_agreed && are_alike(&mut ran, &mut stepped))
 }
 
-const STEPPED: [&[u8]; 6] = [
+const STEPPED: &[&[u8]] = &[
     b"Iabc\x1b J 2C HT",
     b"@^UA/1=  2=/MA MA 3=",
     b"3<1=> EX",
@@ -195,7 +195,7 @@ const STEPPED: [&[u8]; 6] = [
 // They are, up to each of some limits.
 #[test]
 fn steps_are_a_run(rt: HostRuntime) {
-    for command in STEPPED {
+    for command in STEPPED.iter() {
         for limit in 0..16 {
             let mut is_so = are_steps_a_run(rt.alloc(), command, limit);
             if is_so.is_none() {
@@ -207,7 +207,7 @@ fn steps_are_a_run(rt: HostRuntime) {
 }
 
 // What is pending before a string's first step, and behind each of some steps.
-const PENDING: [Option<i32>; 8] = [
+const PENDING: &[Option<i32>] = &[
     Some(1),
     None,
     Some(2),
@@ -223,9 +223,9 @@ const PENDING: [Option<i32>; 8] = [
 fn are_pending(machine: &mut Machine<VecText>, host: &mut MemHost) -> Option<bool> {
     let mut execution = machine.begin(b"1,2+3*(4").ok()?;
     let mut is_so = execution.value().is_none();
-    for value in PENDING {
+    for value in PENDING.iter() {
         let is_on = matches!(machine.step(&mut execution, host), Progress::On);
-        is_so = is_so && is_on && execution.value() == value;
+        is_so = is_so && is_on && execution.value() == *value;
     }
     Some(is_so)
 }
@@ -277,7 +277,7 @@ fn host_of(rt: &impl Abort, alloc: Global) -> MemHost {
 }
 
 // A command string, whether some of the input is unread then, and how many bytes are held.
-const UNREAD: [(&[u8], bool, usize); 3] = [
+const UNREAD: &[(&[u8], bool, usize)] = &[
     (b"ERin\x1b", true, 5),
     (b"Y", true, 2),
     (b"A", false, 0),
