@@ -1,16 +1,13 @@
-// What is known of three macros, element by element, worked out by hand from the rules. A call that
-// is refused memory is made once more, so that the rows also hold where one allocation fails.
-use crate::subjects::{expect, library_of, name_of};
+// What is known of macros, element by element, worked out by hand from the rules.
+use crate::subjects::{Case, expect_all, library_of, name_of};
 use std::alloc::Global;
-use std::process::Abort;
 use std::test::*;
 use teco_base::Reg;
-use teco_library::Library;
 use teco_poly::Poly;
 use teco_verify::{Account, Choice, Known, Refusal, account_of};
 
 // Marks are put behind each occurrence of a word.
-const MARK: &[u8] = b"@^UA/J<Sfoo\x1b;I!\x1b>/";
+const MARK: &str = "@^UA/J<Sfoo\x1b;I!\x1b>/";
 
 // What is known before an element: its place, the characters behind and ahead of the pointer at the
 // least, how often N and how many more are held at the most, and are ahead, how many iterations are
@@ -36,14 +33,6 @@ const MARKED: [Expected; 8] = [
     (11, (4, 0), (2, 1), (1, 0), 1, Some(3)),
     (12, (0, 0), (2, 0), (2, 0), 0, None),
 ];
-
-// What is known of its macro A.
-fn account_in<'l>(rt: &impl Abort, alloc: Global, library: &'l Library) -> Account<'l> {
-    match account_of(alloc, library, Reg::default()) {
-        Ok(account) => account,
-        Err(_) => account_of(alloc, library, Reg::default()).expect(rt, "an account"),
-    }
-}
 
 // Whether a polynomial is so often N, and so many more.
 fn is_linear(polynomial: &Poly, times: u32, more: u32) -> bool {
@@ -108,20 +97,24 @@ fn is_of_entry(account: &Account<'_>, number: usize) -> bool {
     account.register(number).map(|register| register.name()) == Some(b'A')
 }
 
-#[test]
-fn tells_of_an_iteration(rt: HostRuntime) {
-    let library = library_of(&rt, rt.alloc(), MARK);
-    let account = account_in(&rt, rt.alloc(), &library);
-    expect(&rt, account.verdict().is_ok(), 0);
-    expect(&rt, ends(&account, None, 8), 0);
+// Whether the elements of the macro for marks are known as expected.
+fn are_known(account: &Account<'_>) -> bool {
     for (place, expected) in MARKED.iter().enumerate() {
-        expect(&rt, is_known(&account, place + 1, expected), place);
-        expect(&rt, is_of_entry(&account, place + 1), place);
+        if !is_known(account, place + 1, expected) || !is_of_entry(account, place + 1) {
+            return false;
+        }
     }
-    for number in [0, 9] {
-        expect(&rt, is_unknown(&account, number), number);
-        expect(&rt, account.begin(number).is_none(), number);
-    }
+    true
+}
+
+fn tells_of_iteration(account: &Account<'_>) -> bool {
+    account.verdict().is_ok()
+        && ends(account, None, 8)
+        && are_known(account)
+        && is_unknown(account, 0)
+        && account.begin(0).is_none()
+        && is_unknown(account, 9)
+        && account.begin(9).is_none()
 }
 
 // Whether what is chosen is kept, and so many times N are held.
@@ -129,75 +122,113 @@ fn is_kept(choice: &Choice, times: u32) -> bool {
     choice.kept && is_linear(&choice.held, times, 0)
 }
 
-#[test]
-fn tells_what_is_chosen(rt: HostRuntime) {
-    let library = library_of(&rt, rt.alloc(), MARK);
-    let account = account_in(&rt, rt.alloc(), &library);
-    let turns = account.turns(3);
-    expect(&rt, turns.is_some_and(|turns| is_linear(&turns, 1, 1)), 3);
-    expect(&rt, account.turns(4).is_none(), 4);
-    expect(&rt, account.choice(4).is_none(), 4);
+// Whether there are at most N turns, and one more.
+fn has_turns(account: &Account<'_>, number: usize) -> bool {
+    match account.turns(number) {
+        Some(turns) => is_linear(&turns, 1, 1),
+        None => false,
+    }
+}
+
+fn tells_of_choice(account: &Account<'_>) -> bool {
     let Some(choice) = account.choice(3) else {
-        panic!(rt; "a choice");
+        return false;
     };
-    expect(&rt, is_kept(&choice, 2), 5);
-    expect(&rt, is_linear(&choice.texts[0], 1, 0), 6);
+    has_turns(account, 3)
+        && account.turns(4).is_none()
+        && account.choice(4).is_none()
+        && is_kept(&choice, 2)
+        && is_linear(&choice.texts[0], 1, 0)
 }
 
-#[test]
-fn tells_of_a_search(rt: HostRuntime) {
-    let library = library_of(&rt, rt.alloc(), MARK);
-    let account = account_in(&rt, rt.alloc(), &library);
-    expect(&rt, value_at(&account, 5) == Some((-1, 0)), 5);
-    expect(&rt, value_at(&account, 6).is_none(), 6);
+fn tells_of_search(account: &Account<'_>) -> bool {
     let Some(known) = account.known(5) else {
-        panic!(rt; "reached");
+        return false;
     };
-    let found = known.found().map(|room| (room.back, room.fore));
-    let failed = known.failed().map(|room| (room.back, room.fore));
-    expect(&rt, found == Some((3, 0)), 0);
-    expect(&rt, failed == Some((0, 0)), 1);
+    value_at(account, 5) == Some((-1, 0))
+        && value_at(account, 6).is_none()
+        && known.found().map(|room| (room.back, room.fore)) == Some((3, 0))
+        && known.failed().map(|room| (room.back, room.fore)) == Some((0, 0))
 }
 
-#[test]
-fn tells_of_a_refused_motion(rt: HostRuntime) {
-    let library = library_of(&rt, rt.alloc(), b"@^UA/5C/");
-    let account = account_in(&rt, rt.alloc(), &library);
-    expect(&rt, refusal_of(&account) == Some(("X6", 1)), 0);
-    expect(&rt, ends(&account, Some(3), 4), 1);
-    expect(&rt, value_at(&account, 3) == Some((5, 5)), 2);
+fn tells_of_refused_motion(account: &Account<'_>) -> bool {
     let Some(known) = account.known(3) else {
-        panic!(rt; "reached");
+        return false;
     };
-    expect(&rt, has_room(&known, 0, 0), 3);
-    expect(&rt, is_linear(&known.held(), 1, 0), 4);
-    expect(&rt, is_linear(&known.ahead(), 1, 0), 5);
-    expect(&rt, is_unknown(&account, 4), 6);
+    refusal_of(account) == Some(("X6", 1))
+        && ends(account, Some(3), 4)
+        && value_at(account, 3) == Some((5, 5))
+        && has_room(&known, 0, 0)
+        && is_linear(&known.held(), 1, 0)
+        && is_linear(&known.ahead(), 1, 0)
+        && is_unknown(account, 4)
 }
 
-// Nothing falls from turn to turn.
-#[test]
-fn tells_of_a_refused_iteration(rt: HostRuntime) {
-    let library = library_of(&rt, rt.alloc(), b"@^UA/<Ix\x1b>/");
-    let account = account_in(&rt, rt.alloc(), &library);
-    expect(&rt, refusal_of(&account) == Some(("X9", 4)), 0);
-    expect(&rt, ends(&account, Some(4), 5), 1);
-    let expected = (4, (1, 0), (1, 1), (1, 0), 1, Some(0));
-    expect(&rt, is_known(&account, 4, &expected), 2);
-    expect(&rt, is_unknown(&account, 5), 3);
-    let choice = account.choice(2);
-    expect(&rt, choice.is_some_and(|choice| is_kept(&choice, 1)), 4);
-    let turns = account.turns(2);
-    expect(&rt, turns.is_some_and(|turns| is_linear(&turns, 1, 1)), 5);
+// Before the end of the iteration in which nothing falls from turn to turn.
+const ENDLESS: Expected = (4, (1, 0), (1, 1), (1, 0), 1, Some(0));
+
+fn tells_of_refused_iteration(account: &Account<'_>) -> bool {
+    let Some(choice) = account.choice(2) else {
+        return false;
+    };
+    refusal_of(account) == Some(("X9", 4))
+        && ends(account, Some(4), 5)
+        && is_known(account, 4, &ENDLESS)
+        && is_unknown(account, 5)
+        && is_kept(&choice, 1)
+        && has_turns(account, 2)
+}
+
+fn tells_of_no_expansion(account: &Account<'_>) -> bool {
+    refusal_of(account).map(|refusal| refusal.0) == Some("X12")
+        && ends(account, None, 0)
+        && is_unknown(account, 1)
+        && account.element(1).is_none()
+}
+
+// What is told.
+enum What {
+    Iteration,
+    Choice,
+    Search,
+    RefusedMotion,
+    RefusedIteration,
+    NoExpansion,
+}
+
+// A library, and what is told of its macro A.
+struct Told(&'static str, What);
+
+const TOLD: [Told; 6] = [
+    Told(MARK, What::Iteration),
+    Told(MARK, What::Choice),
+    Told(MARK, What::Search),
+    Told("@^UA/5C/", What::RefusedMotion),
+    Told("@^UA/<Ix\x1b>/", What::RefusedIteration),
+    Told("@^UA/MA/", What::NoExpansion),
+];
+
+// Whether it is told.
+fn is_told(account: &Account<'_>, what: &What) -> bool {
+    match what {
+        What::Iteration => tells_of_iteration(account),
+        What::Choice => tells_of_choice(account),
+        What::Search => tells_of_search(account),
+        What::RefusedMotion => tells_of_refused_motion(account),
+        What::RefusedIteration => tells_of_refused_iteration(account),
+        What::NoExpansion => tells_of_no_expansion(account),
+    }
+}
+
+impl Case for Told {
+    fn holds(&self, alloc: Global) -> Option<bool> {
+        let library = library_of(alloc, self.0.as_bytes())?;
+        let account = account_of(alloc, &library, Reg::default()).ok()?;
+        Some(is_told(&account, &self.1))
+    }
 }
 
 #[test]
-fn tells_of_no_expansion(rt: HostRuntime) {
-    let library = library_of(&rt, rt.alloc(), b"@^UA/MA/");
-    let account = account_in(&rt, rt.alloc(), &library);
-    let name = refusal_of(&account).map(|refusal| refusal.0);
-    expect(&rt, name == Some("X12"), 0);
-    expect(&rt, ends(&account, None, 0), 1);
-    expect(&rt, is_unknown(&account, 1), 2);
-    expect(&rt, account.element(1).is_none(), 3);
+fn accounts_tell_what_is_known(rt: HostRuntime) {
+    expect_all(&rt, rt.alloc(), &TOLD);
 }

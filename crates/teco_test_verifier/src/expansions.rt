@@ -1,209 +1,105 @@
 // Libraries of A, and of A and others: of each node its place, and where its ways lead, or why
 // there is none.
-use crate::subjects::{expanded, expect, library_of, nodes_of};
-use std::alloc::Global;
-use std::process::Abort;
+use crate::subjects::{Case, expect_all, library_of};
+use std::alloc::{AllocError, Global};
 use std::test::*;
-use teco_expansion::{ExpandFault, Nodes, Reason};
+use teco_base::Reg;
+use teco_expansion::Reason::{Fault, NoMacro, Recursion, TooLarge, Unpaired};
+use teco_expansion::{ExpandFault, Nodes, Reason, expand};
 use teco_library::Library;
 
-/// Place, first way, second way; 0 for none.
-type Told = (usize, usize, usize);
+/// A library, and of each node its place and where its ways lead.
+struct Expanded(&'static str, &'static str);
 
-const EXPANSIONS: [(&[u8], &[Told]); 10] = [
-    (
-        b"@^UA/Oa\x1bJMC2<1;>!a!/@^UB/JJJ/@^UC/1\"E3='/",
-        &[
-            (0, 2, 0),
-            (0, 17, 0),
-            (3, 4, 0),
-            (4, 5, 0),
-            (0, 6, 0),
-            (1, 7, 10),
-            (3, 8, 0),
-            (4, 9, 0),
-            (5, 10, 0),
-            (6, 11, 0),
-            (6, 12, 0),
-            (7, 13, 16),
-            (8, 14, 0),
-            (9, 15, 16),
-            (10, 13, 16),
-            (11, 17, 0),
-            (14, 18, 0),
-        ],
+const EXPANSIONS: [Expanded; 10] = [
+    Expanded(
+        "@^UA/Oa\x1bJMC2<1;>!a!/@^UB/JJJ/@^UC/1\"E3='/",
+        "0>2 0>17 3>4 4>5 0>6 1>7,10 3>8 4>9 5>10 6>11 6>12 7>13,16 8>14 9>15,16 \
+         10>13,16 11>17 14>18",
     ),
-    (
-        b"@^UA/J<Sfoo\x1b;I!\x1b>/",
-        &[
-            (0, 2, 0),
-            (0, 3, 0),
-            (1, 4, 8),
-            (2, 5, 0),
-            (7, 6, 8),
-            (8, 7, 0),
-            (11, 4, 8),
-            (12, 9, 0),
-        ],
+    Expanded(
+        "@^UA/J<Sfoo\x1b;I!\x1b>/",
+        "0>2 0>3 1>4,8 2>5 7>6,8 8>7 11>4,8 12>9",
     ),
-    (
-        b"@^UA/3<.=>/",
-        &[
-            (0, 2, 0),
-            (0, 3, 0),
-            (1, 4, 7),
-            (2, 5, 0),
-            (3, 6, 0),
-            (4, 4, 7),
-            (5, 8, 0),
-        ],
+    Expanded("@^UA/3<.=>/", "0>2 0>3 1>4,7 2>5 3>6 4>4,7 5>8"),
+    Expanded(
+        "@^UA/1\"G2=|3='/",
+        "0>2 0>3 1>4,7 3>5 4>6 5>10 6>8 7>9 8>10 9>11",
     ),
-    (
-        b"@^UA/1\"G2=|3='/",
-        &[
-            (0, 2, 0),
-            (0, 3, 0),
-            (1, 4, 7),
-            (3, 5, 0),
-            (4, 6, 0),
-            (5, 10, 0),
-            (6, 8, 0),
-            (7, 9, 0),
-            (8, 10, 0),
-            (9, 11, 0),
-        ],
+    Expanded(
+        "@^UA/3<MBMB1;>/@^UB/B/",
+        "0>2 0>3 1>4,13 2>5 0>6 1>7 4>8 0>9 1>10 6>11 7>12,13 8>4,13 9>14",
     ),
-    (
-        b"@^UA/3<MBMB1;>/@^UB/B/",
-        &[
-            (0, 2, 0),
-            (0, 3, 0),
-            (1, 4, 13),
-            (2, 5, 0),
-            (0, 6, 0),
-            (1, 7, 0),
-            (4, 8, 0),
-            (0, 9, 0),
-            (1, 10, 0),
-            (6, 11, 0),
-            (7, 12, 13),
-            (8, 4, 13),
-            (9, 14, 0),
-        ],
+    Expanded(
+        "@^UA/<%AOout\x1b>!out!/",
+        "0>2 0>3,6 1>4 3>7 8>3,6 9>7 14>8",
     ),
-    (
-        b"@^UA/<%AOout\x1b>!out!/",
-        &[
-            (0, 2, 0),
-            (0, 3, 6),
-            (1, 4, 0),
-            (3, 7, 0),
-            (8, 3, 6),
-            (9, 7, 0),
-            (14, 8, 0),
-        ],
+    Expanded("@^UA/<Sa\x1b>/", "0>2 0>3,5 1>4,5 4>3,5 5>6"),
+    Expanded("@^UA/3<F>= \r >/", "0>2 0>3 1>4,7 2>6 4>6 8>4,7 9>8"),
+    Expanded(
+        "@^UA/0\"EF|F'| ='/",
+        "0>2 0>3 1>4,7 3>7 5>9 7>9 9>8 10>9 11>10",
     ),
-    (
-        b"@^UA/<Sa\x1b>/",
-        &[(0, 2, 0), (0, 3, 5), (1, 4, 5), (4, 3, 5), (5, 6, 0)],
-    ),
-    (
-        b"@^UA/3<F>= \r >/",
-        &[
-            (0, 2, 0),
-            (0, 3, 0),
-            (1, 4, 7),
-            (2, 6, 0),
-            (4, 6, 0),
-            (8, 4, 7),
-            (9, 8, 0),
-        ],
-    ),
-    (
-        b"@^UA/0\"EF|F'| ='/",
-        &[
-            (0, 2, 0),
-            (0, 3, 0),
-            (1, 4, 7),
-            (3, 7, 0),
-            (5, 9, 0),
-            (7, 9, 0),
-            (9, 8, 0),
-            (10, 9, 0),
-            (11, 10, 0),
-        ],
-    ),
-    (
-        b"@^UA/J<Sfoo\x1b;0A-33\"EF>'I!\x1b>/",
-        &[
-            (0, 2, 0),
-            (0, 3, 0),
-            (1, 4, 15),
-            (2, 5, 0),
-            (7, 6, 15),
-            (8, 7, 0),
-            (9, 8, 0),
-            (10, 9, 0),
-            (11, 10, 0),
-            (13, 11, 13),
-            (15, 14, 0),
-            (17, 13, 0),
-            (18, 14, 0),
-            (21, 4, 15),
-            (22, 16, 0),
-        ],
+    Expanded(
+        "@^UA/J<Sfoo\x1b;0A-33\"EF>'I!\x1b>/",
+        "0>2 0>3 1>4,15 2>5 7>6,15 8>7 9>8 10>9 11>10 13>11,13 15>14 17>13 18>14 21>4,15 22>16",
     ),
 ];
 
-/// The reason by its number, the place of the register, and the place in its text.
-const REFUSALS: [(&[u8], u8, usize, usize); 41] = [
-    (b"@^UA/Oa\x1b?MC2<1;>!a!/@^UC/J/", 0, 0, 3),
-    (b"@^UA/MC/@^UC/1\"EOb\x1b'/", 1, 2, 3),
-    (b"@^UA/2<1\"E3>2<|'1>/", 1, 0, 3),
-    (b"@^UA/1=?/", 0, 0, 2),
-    (b"@^UA/1= ?/", 0, 0, 3),
-    (b"@^UA/1Ia/", 0, 0, 1),
-    (b"@^UA/1S^N\x1b/", 0, 0, 1),
-    (b"@^UA/5\"N1=/", 1, 0, 1),
-    (b"@^UA/1\"N<'/", 1, 0, 3),
-    (b"@^UA/1=>/", 1, 0, 2),
-    (b"@^UA/3<MB>/@^UB/1;/", 1, 1, 1),
-    (b"@^UA/1=Oa\x1b/", 1, 0, 2),
-    (b"@^UA/2<0\"N>'/", 1, 0, 3),
-    (b"@^UA/1\"N2<'>/", 1, 0, 1),
-    (b"@^UA/2<0\"N>'?/", 1, 0, 3),
-    (b"@^UA/1\"E2<?'>/", 1, 0, 1),
-    (b"@^UA/1\"E2<MC'>/", 1, 0, 1),
-    (b"@^UA/1\"E2<<'>/", 1, 0, 1),
-    (b"@^UA/2<1\"E?>'/", 1, 0, 3),
-    (b"@^UA/1\"E2<Ox\x1b'>/", 1, 0, 1),
-    (b"@^UA/1\"E2<Sx^N\x1b'>/", 1, 0, 1),
-    (b"@^UA/1\"E;2<'>/", 1, 0, 1),
-    (b"@^UA/2<1\"E>2<|?'>/", 1, 0, 3),
-    (b"@^UA/1\"E|2<F''>/", 1, 0, 3),
-    (b"@^UA/0\"E2<F>0\"E''>/", 1, 0, 1),
-    (b"@^UA/1\"E>'>/", 1, 0, 3),
-    (b"@^UA/1\"E?'/", 0, 0, 3),
-    (b"@^UA/F>/", 1, 0, 0),
-    (b"@^UA/1=F>>/", 1, 0, 2),
-    (b"@^UA/1<F'>/", 1, 0, 2),
-    (b"@^UA/0\"E1<F'>'/", 1, 0, 5),
-    (b"@^UA/1<?>/", 0, 0, 2),
-    (b"", 2, 0, 0),
-    (b"@^UA/1=MB/", 2, 0, 2),
-    (b"@^UA/MA/", 3, 0, 0),
-    (b"@^UA/1=MB/@^UB/2MA/", 3, 1, 1),
-    (b"@^UA/MB/@^UB/MC/@^UC/MB/", 3, 2, 0),
-    (b"@^UA/<<<<<<<>>>>>>>/", 4, 0, 6),
-    (b"@^UA/<<<MB>>>/@^UB/<<<<>>>>/", 4, 1, 3),
-    (
-        b"@^UA/MB/@^UB/MC/@^UC/MD/@^UD/ME/@^UE/MF/@^UF/MG/@^UG/MH/",
-        4,
+/// A library that is refused: the reason, the place of the register, and the place in its text.
+struct Refused(&'static str, Reason, usize, usize);
+
+const REFUSALS: [Refused; 41] = [
+    Refused("@^UA/Oa\x1b?MC2<1;>!a!/@^UC/J/", Fault, 0, 3),
+    Refused("@^UA/MC/@^UC/1\"EOb\x1b'/", Unpaired, 2, 3),
+    Refused("@^UA/2<1\"E3>2<|'1>/", Unpaired, 0, 3),
+    Refused("@^UA/1=?/", Fault, 0, 2),
+    Refused("@^UA/1= ?/", Fault, 0, 3),
+    Refused("@^UA/1Ia/", Fault, 0, 1),
+    Refused("@^UA/1S^N\x1b/", Fault, 0, 1),
+    Refused("@^UA/5\"N1=/", Unpaired, 0, 1),
+    Refused("@^UA/1\"N<'/", Unpaired, 0, 3),
+    Refused("@^UA/1=>/", Unpaired, 0, 2),
+    Refused("@^UA/3<MB>/@^UB/1;/", Unpaired, 1, 1),
+    Refused("@^UA/1=Oa\x1b/", Unpaired, 0, 2),
+    Refused("@^UA/2<0\"N>'/", Unpaired, 0, 3),
+    Refused("@^UA/1\"N2<'>/", Unpaired, 0, 1),
+    Refused("@^UA/2<0\"N>'?/", Unpaired, 0, 3),
+    Refused("@^UA/1\"E2<?'>/", Unpaired, 0, 1),
+    Refused("@^UA/1\"E2<MC'>/", Unpaired, 0, 1),
+    Refused("@^UA/1\"E2<<'>/", Unpaired, 0, 1),
+    Refused("@^UA/2<1\"E?>'/", Unpaired, 0, 3),
+    Refused("@^UA/1\"E2<Ox\x1b'>/", Unpaired, 0, 1),
+    Refused("@^UA/1\"E2<Sx^N\x1b'>/", Unpaired, 0, 1),
+    Refused("@^UA/1\"E;2<'>/", Unpaired, 0, 1),
+    Refused("@^UA/2<1\"E>2<|?'>/", Unpaired, 0, 3),
+    Refused("@^UA/1\"E|2<F''>/", Unpaired, 0, 3),
+    Refused("@^UA/0\"E2<F>0\"E''>/", Unpaired, 0, 1),
+    Refused("@^UA/1\"E>'>/", Unpaired, 0, 3),
+    Refused("@^UA/1\"E?'/", Fault, 0, 3),
+    Refused("@^UA/F>/", Unpaired, 0, 0),
+    Refused("@^UA/1=F>>/", Unpaired, 0, 2),
+    Refused("@^UA/1<F'>/", Unpaired, 0, 2),
+    Refused("@^UA/0\"E1<F'>'/", Unpaired, 0, 5),
+    Refused("@^UA/1<?>/", Fault, 0, 2),
+    Refused("", NoMacro, 0, 0),
+    Refused("@^UA/1=MB/", NoMacro, 0, 2),
+    Refused("@^UA/MA/", Recursion, 0, 0),
+    Refused("@^UA/1=MB/@^UB/2MA/", Recursion, 1, 1),
+    Refused("@^UA/MB/@^UB/MC/@^UC/MB/", Recursion, 2, 0),
+    Refused("@^UA/<<<<<<<>>>>>>>/", TooLarge, 0, 6),
+    Refused("@^UA/<<<MB>>>/@^UB/<<<<>>>>/", TooLarge, 1, 3),
+    Refused(
+        "@^UA/MB/@^UB/MC/@^UC/MD/@^UD/ME/@^UE/MF/@^UF/MG/@^UG/MH/",
+        TooLarge,
         5,
         0,
     ),
-    (b"@^UA/ <\r>|/", 1, 0, 4),
+    Refused("@^UA/ <\r>|/", Unpaired, 0, 4),
 ];
+
+/// Place, first way, second way; 0 for none.
+type Told = (usize, usize, usize);
 
 // What a node tells, where there is one.
 fn told(nodes: &Nodes, number: usize) -> Option<Told> {
@@ -215,16 +111,39 @@ fn told(nodes: &Nodes, number: usize) -> Option<Told> {
     Some((nodes.place(number), first, second))
 }
 
-#[test]
-fn libraries_are_expanded(rt: HostRuntime) {
-    for (row, (file, wanted)) in EXPANSIONS.iter().enumerate() {
-        let library = library_of(&rt, rt.alloc(), file);
-        let nodes = nodes_of(&rt, rt.alloc(), &library);
-        expect(&rt, nodes.len() == wanted.len(), row);
-        for (place, wanted) in wanted.iter().enumerate() {
-            expect(&rt, told(&nodes, place + 1) == Some(*wanted), row);
+// What is written of a node.
+fn written(node: &str) -> Option<Told> {
+    let (place, ways) = node.split_once(">")?;
+    let (first, second) = ways.split_once(",").unwrap_or((ways, "0"));
+    Some((
+        place.parse().ok()?,
+        first.parse().ok()?,
+        second.parse().ok()?,
+    ))
+}
+
+// Whether nodes, from one on, are as is written.
+fn are_written(nodes: &Nodes, first: usize, text: &str) -> bool {
+    for (place, node) in text.split(" ").enumerate() {
+        if told(nodes, first.saturating_add(place)) != written(node) {
+            return false;
         }
     }
+    true
+}
+
+impl Case for Expanded {
+    fn holds(&self, alloc: Global) -> Option<bool> {
+        let library = library_of(alloc, self.0.as_bytes())?;
+        let nodes = expand(alloc, &library, Reg::default()).ok()?;
+        let is_whole = nodes.len() == self.1.split(" ").count();
+        Some(is_whole && are_written(&nodes, 1, self.1))
+    }
+}
+
+#[test]
+fn libraries_are_expanded(rt: HostRuntime) {
+    expect_all(&rt, rt.alloc(), &EXPANSIONS);
 }
 
 fn number_of(reason: Reason) -> u8 {
@@ -237,24 +156,101 @@ fn number_of(reason: Reason) -> u8 {
     }
 }
 
-// Why the macro A of a library is refused, the place of the register, and the place in its text.
-fn refusal_of(alloc: Global, library: &Library) -> Option<(u8, usize, usize)> {
-    match expanded(alloc, library) {
-        Err(ExpandFault::Refused(refusal)) => {
-            Some((number_of(refusal.reason), refusal.register, refusal.place))
-        }
-        _ => None,
+// Whether the macro A of a library is refused so. None where memory was refused.
+fn is_refused(
+    alloc: Global,
+    library: &Library,
+    reason: Reason,
+    at: (usize, usize),
+) -> Option<bool> {
+    match expand(alloc, library, Reg::default()) {
+        Err(ExpandFault::Refused(refusal)) => Some(
+            number_of(refusal.reason) == number_of(reason)
+                && (refusal.register, refusal.place) == at,
+        ),
+        Err(ExpandFault::Memory) => None,
+        Ok(_) => Some(false),
+    }
+}
+
+impl Case for Refused {
+    fn holds(&self, alloc: Global) -> Option<bool> {
+        let library = library_of(alloc, self.0.as_bytes())?;
+        is_refused(alloc, &library, self.1, (self.2, self.3))
     }
 }
 
 #[test]
 fn libraries_are_refused(rt: HostRuntime) {
-    for (row, (file, reason, register, place)) in REFUSALS.iter().enumerate() {
-        let library = library_of(&rt, rt.alloc(), file);
-        let refusal = refusal_of(rt.alloc(), &library);
-        expect(&rt, refusal == Some((*reason, *register, *place)), row);
-    }
+    expect_all(&rt, rt.alloc(), &REFUSALS);
 }
+
+/// A place of a file, a text that stands there, and how often.
+pub type Run = (usize, &'static str, usize);
+
+/// A file with a text of A: what fills it, its length, and what stands in it.
+pub struct Long(pub u8, pub usize, pub Run, pub Run);
+
+/// A long text, how many nodes it has, and of some nodes what they tell, from one on.
+struct LongExpanded(Long, usize, usize, &'static str);
+
+const LONG_EXPANSIONS: [LongExpanded; 4] = [
+    // as many elements as there may be
+    LongExpanded(
+        Long(b'C', 4_100, (5, "C", 1), (6, "C", 1)),
+        4_096,
+        1,
+        "0>2 0>3",
+    ),
+    // each of the tests is far from its end
+    LongExpanded(
+        Long(b'\'', 4_000, (5, "\"N", 998), (2_001, "'", 1)),
+        2_998,
+        2,
+        "0>3,1998",
+    ),
+    // elements are found behind long runs of blanks
+    LongExpanded(
+        Long(b' ', 300, (100, "J", 1), (230, "J", 1)),
+        4,
+        1,
+        "0>2 95>3 225>4 294>5",
+    ),
+    // jumps to one place before many blanks are followed without reading the blanks for each
+    LongExpanded(
+        Long(b' ', 100_000, (5, "Ox\x1b", 4_000), (12_005, "!x!", 1)),
+        4_003,
+        3,
+        "3>4003",
+    ),
+];
+
+/// A long text, why it is refused, and the place in it.
+struct LongRefused(Long, Reason, usize);
+
+const LONG_REFUSALS: [LongRefused; 3] = [
+    // one element more than there may be
+    LongRefused(Long(b'C', 4_101, (5, "C", 1), (6, "C", 1)), TooLarge, 4_095),
+    // conditionals before many elements are gone through without reading on for each
+    LongRefused(
+        Long(b'J', 100_000, (5, "1\"E", 2_000), (97_999, "'", 2_000)),
+        TooLarge,
+        6_095,
+    ),
+    // a call of the macro itself is found behind long runs of blanks
+    LongRefused(
+        Long(b' ', 300, (100, "J", 1), (200, "MA", 1)),
+        Recursion,
+        195,
+    ),
+];
+
+// Jumps before many elements are followed without reading on for each.
+const LONGEST: [LongRefused; 1] = [LongRefused(
+    Long(b'J', 200_000, (5, "Ox\x1b", 4_000), (199_996, "!x!", 1)),
+    TooLarge,
+    12_095,
+)];
 
 // Writes bytes at a place.
 fn put(file: &mut [u8], place: usize, bytes: &[u8]) {
@@ -266,109 +262,61 @@ fn put(file: &mut [u8], place: usize, bytes: &[u8]) {
     }
 }
 
-// A library whose text of A has as many bytes as the file has room for.
-fn of_length(rt: &impl Abort, alloc: Global, file: &mut [u8]) -> Library {
-    put(file, 0, b"@^UA/");
-    let last = file.len().wrapping_sub(1);
-    put(file, last, b"/");
-    library_of(rt, alloc, file)
+// Writes a text at its place, as often as it stands there.
+fn put_run(alloc: Global, file: &mut [u8], run: Run) -> Result<(), AllocError> {
+    let (place, text, count) = run;
+    let bytes = text.repeat(alloc, count)?;
+    put(file, place, bytes.as_bytes());
+    Ok(())
 }
 
-#[test]
-fn as_many_elements_as_there_may_be(rt: HostRuntime) {
-    let mut file = [b'C'; 4_100];
-    let library = of_length(&rt, rt.alloc(), &mut file);
-    let nodes = nodes_of(&rt, rt.alloc(), &library);
-    expect(&rt, nodes.len() == 4_096, 0);
-}
-
-#[test]
-fn one_element_more_is_refused(rt: HostRuntime) {
-    let mut file = [b'C'; 4_101];
-    let library = of_length(&rt, rt.alloc(), &mut file);
-    let refusal = refusal_of(rt.alloc(), &library);
-    expect(&rt, refusal == Some((4, 0, 4_095)), 0);
-}
-
-// Each of the tests is far from its end.
-#[test]
-fn far_jumps_are_followed(rt: HostRuntime) {
-    let mut file = [b'\''; 4_000];
-    for i in 0..998 {
-        put(&mut file, 2 * i + 5, b"\"N");
+impl Long {
+    // The bytes of the file.
+    fn bytes(&self, alloc: Global) -> Result<Vec<u8>, AllocError> {
+        let Long(filler, length, first, second) = *self;
+        let mut file = vec![in alloc; filler; length]?;
+        put_run(alloc, &mut file, first)?;
+        put_run(alloc, &mut file, second)?;
+        put(&mut file, 0, b"@^UA/");
+        put(&mut file, length.wrapping_sub(1), b"/");
+        Ok(file)
     }
-    let library = of_length(&rt, rt.alloc(), &mut file);
-    let nodes = nodes_of(&rt, rt.alloc(), &library);
-    expect(&rt, nodes.len() == 2_998, 0);
-    expect(&rt, told(&nodes, 2) == Some((0, 3, 1_998)), 1);
-}
 
-// 2,000 conditionals before 100,000 elements are gone through without reading on for each.
-#[test]
-fn many_conditionals_are_followed(rt: HostRuntime) {
-    let mut file = [b'J'; 100_000];
-    for i in 0..2_000 {
-        put(&mut file, 3 * i + 5, b"1\"E");
-    }
-    for i in 97_999..99_999 {
-        put(&mut file, i, b"'");
-    }
-    let library = of_length(&rt, rt.alloc(), &mut file);
-    let refusal = refusal_of(rt.alloc(), &library);
-    expect(&rt, refusal == Some((4, 0, 6_095)), 0);
-}
-
-// Elements behind long runs of blanks are found.
-#[test]
-fn long_runs_of_blanks_are_passed(rt: HostRuntime) {
-    let mut file = [b' '; 300];
-    put(&mut file, 100, b"J");
-    put(&mut file, 230, b"J");
-    let library = of_length(&rt, rt.alloc(), &mut file);
-    let nodes = nodes_of(&rt, rt.alloc(), &library);
-    let wanted = [(0, 2, 0), (95, 3, 0), (225, 4, 0), (294, 5, 0)];
-    expect(&rt, nodes.len() == wanted.len(), 0);
-    for (place, wanted) in wanted.iter().enumerate() {
-        expect(&rt, told(&nodes, place + 1) == Some(*wanted), place);
+    // The library.
+    pub fn library(&self, alloc: Global) -> Option<Library> {
+        let file = self.bytes(alloc).ok()?;
+        library_of(alloc, &file)
     }
 }
 
-// A call of the macro itself is found behind long runs of blanks.
-#[test]
-fn calls_behind_blanks_are_refused(rt: HostRuntime) {
-    let mut file = [b' '; 300];
-    put(&mut file, 100, b"J");
-    put(&mut file, 200, b"MA");
-    let library = of_length(&rt, rt.alloc(), &mut file);
-    let refusal = refusal_of(rt.alloc(), &library);
-    expect(&rt, refusal == Some((3, 0, 195)), 0);
-}
-
-// 4,000 jumps to one place before 100,000 blanks are followed without reading the blanks for each.
-#[test]
-fn many_jumps_over_blanks_are_followed(rt: HostRuntime) {
-    let mut file = [b' '; 100_000];
-    for i in 0..4_000 {
-        put(&mut file, 3 * i + 5, b"Ox\x1b");
+impl Case for LongExpanded {
+    fn holds(&self, alloc: Global) -> Option<bool> {
+        let library = self.0.library(alloc)?;
+        let nodes = expand(alloc, &library, Reg::default()).ok()?;
+        Some(nodes.len() == self.1 && are_written(&nodes, self.2, self.3))
     }
-    put(&mut file, 12_005, b"!x!");
-    let library = of_length(&rt, rt.alloc(), &mut file);
-    let nodes = nodes_of(&rt, rt.alloc(), &library);
-    expect(&rt, nodes.len() == 4_003, 0);
-    expect(&rt, told(&nodes, 3) == Some((3, 4_003, 0)), 1);
 }
 
-// 4,000 jumps before 200,000 elements are followed without reading on for each.
+#[test]
+fn long_texts_are_expanded(rt: HostRuntime) {
+    expect_all(&rt, rt.alloc(), &LONG_EXPANSIONS);
+}
+
+impl Case for LongRefused {
+    fn holds(&self, alloc: Global) -> Option<bool> {
+        let library = self.0.library(alloc)?;
+        is_refused(alloc, &library, self.1, (0, self.2))
+    }
+}
+
+#[test]
+fn long_texts_are_refused(rt: HostRuntime) {
+    expect_all(&rt, rt.alloc(), &LONG_REFUSALS);
+}
+
 #[test]
 fn many_jumps_are_followed(rt: HostRuntime) {
-    let mut file = [b'J'; 200_000];
-    for i in 0..4_000 {
-        put(&mut file, 3 * i + 5, b"Ox\x1b");
-    }
-    put(&mut file, 199_996, b"!x!");
-    let library = of_length(&rt, rt.alloc(), &mut file);
-    let refusal = refusal_of(rt.alloc(), &library);
-    expect(&rt, refusal == Some((4, 0, 12_095)), 0);
+    expect_all(&rt, rt.alloc(), &LONGEST);
 }
 
 // What the nodes tell of a call in an iteration.
@@ -392,10 +340,20 @@ fn tells_of_search(nodes: &Nodes) -> bool {
         && nodes.element(9).is_none()
 }
 
+/// A library with a call in an iteration, and with a search.
+struct Iterating(&'static str);
+
+const ITERATING: [Iterating; 1] = [Iterating("@^UA/<5UA :Sa\x1b;>MB/@^UB//")];
+
+impl Case for Iterating {
+    fn holds(&self, alloc: Global) -> Option<bool> {
+        let library = library_of(alloc, self.0.as_bytes())?;
+        let nodes = expand(alloc, &library, Reg::default()).ok()?;
+        Some(tells_of_call(&nodes) && tells_of_search(&nodes))
+    }
+}
+
 #[test]
 fn nodes_tell_of_their_iterations(rt: HostRuntime) {
-    let library = library_of(&rt, rt.alloc(), b"@^UA/<5UA :Sa\x1b;>MB/@^UB//");
-    let nodes = nodes_of(&rt, rt.alloc(), &library);
-    expect(&rt, tells_of_call(&nodes), 0);
-    expect(&rt, tells_of_search(&nodes), 1);
+    expect_all(&rt, rt.alloc(), &ITERATING);
 }

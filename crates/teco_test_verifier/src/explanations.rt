@@ -1,5 +1,5 @@
 // Names of codes and refusals, their notes, and hints.
-use crate::subjects::expect;
+use crate::subjects::{Case, expect_all};
 use std::alloc::{AllocError, Global};
 use std::process::Abort;
 use std::test::*;
@@ -11,47 +11,56 @@ use teco_explain::{
 use teco_source::{Form, Source};
 use teco_verifier::Refusal;
 
-// Names, and the codes that they name.
-const CODES: [(&str, Option<Code>); 6] = [
-    ("POP", Some(Code::Pop)),
-    ("?pop", Some(Code::Pop)),
-    ("Out", Some(Code::Out)),
-    ("PO", None),
-    ("POPS", None),
-    ("", None),
+// A name, and the code that it names.
+struct Named(&'static str, Option<Code>);
+
+const CODES: [Named; 6] = [
+    Named("POP", Some(Code::Pop)),
+    Named("?pop", Some(Code::Pop)),
+    Named("Out", Some(Code::Out)),
+    Named("PO", None),
+    Named("POPS", None),
+    Named("", None),
 ];
+
+impl Case for Named {
+    fn holds(&self, _alloc: Global) -> Option<bool> {
+        Some(code_named(self.0) == self.1)
+    }
+}
 
 #[test]
 fn codes_have_names(rt: HostRuntime) {
-    for (row, (name, code)) in CODES.iter().enumerate() {
-        expect(&rt, code_named(name) == *code, row);
-    }
+    expect_all(&rt, rt.alloc(), &CODES);
 }
 
-// The names of all refusals, in the order of their numbers.
-const REFUSALS: [&str; 18] = [
-    "x1", "x2", "x3", "x4", "x5", "x6", "x7", "x8", "x9", "x10", "x11", "x12", "x13", "x14", "x15",
-    "x16", "x17", "x18",
-];
+// Names of refusals, by their numbers, and names of none; one of them is empty.
+const REFUSALS: &str = "x1 x2 x3 x4 x5 x6 x7 x8 x9 x10 x11 x12 x13 x14 x15 x16 x17 x18";
 
-const NO_REFUSALS: [&str; 7] = ["X0", "X19", "X", "7", "", "Y1", "X-1"];
+const NO_REFUSALS: &str = "X0 X19 X 7  Y1 X-1";
+
+// The number of the refusal of a name.
+fn number_named(name: &str) -> Option<usize> {
+    refusal_numbered(name).map(number_of).map(usize::from)
+}
 
 #[test]
 fn refusals_have_numbers(rt: HostRuntime) {
-    for (row, name) in REFUSALS.iter().enumerate() {
-        let number = refusal_numbered(name).map(number_of);
-        expect(&rt, number.map(usize::from) == Some(row + 1), row);
-    }
-    for (row, name) in NO_REFUSALS.iter().enumerate() {
-        expect(&rt, refusal_numbered(name).is_none(), row);
+    for (place, name) in REFUSALS.split(" ").enumerate() {
+        assert!(rt; number_named(name) == place.checked_add(1), "{name}");
     }
 }
 
-const NAMES: [&str; 27] = [
-    "ARG", "NAC", "NCA", "DIV", "POP", "DTB", "IIA", "ILL", "IQN", "ICE", "SRH", "TAG", "SNI",
-    "BNI", "PES", "UTC", "UTM", "NFI", "NFO", "YCA", "OFO", "FUL", "LIM", "MEM", "FNF", "INP",
-    "OUT",
-];
+#[test]
+fn other_names_are_no_refusals(rt: HostRuntime) {
+    for name in NO_REFUSALS.split(" ") {
+        assert!(rt; number_named(name).is_none(), "{name}");
+    }
+}
+
+// The names of codes that have notes.
+const NOTED: &str = "ARG NAC NCA DIV POP DTB IIA ILL IQN ICE SRH TAG SNI BNI PES UTC UTM NFI NFO \
+                     YCA OFO FUL LIM MEM FNF INP OUT";
 
 // Whether a note says something, but for examples.
 fn is_whole(note: &Note) -> bool {
@@ -60,136 +69,127 @@ fn is_whole(note: &Note) -> bool {
 
 #[test]
 fn notes_are_whole(rt: HostRuntime) {
-    for (row, name) in NAMES.iter().enumerate() {
+    for name in NOTED.split(" ") {
         let note = code_named(name).map(note_of_code);
-        expect(&rt, note.is_some_and(|note| is_whole(&note)), row);
+        assert!(rt; note.is_some_and(|note| is_whole(&note)), "{name}");
     }
 }
 
-// The text of a note.
-fn printed(alloc: Global, note: Note) -> Result<String, AllocError> {
-    Ok(format!(in alloc; "{note}")?)
+// What a note is of.
+enum Of {
+    Code(Code),
+    Refusal(Refusal),
 }
 
-// Asserts that a note is printed so.
-fn expect_note(rt: &impl Abort, alloc: Global, note: Note, wanted: &str) {
-    match printed(alloc, note) {
-        Ok(text) => expect(rt, text.as_str() == wanted, 0),
-        Err(_) => panic!(rt; "memory"),
+// What a note is of, and how it is printed.
+struct Printed(Of, &'static str);
+
+const PRINTED: [Printed; 2] = [
+    Printed(
+        Of::Code(Code::Pes),
+        "the push-down list is empty\n\n\
+         ]q takes back what [q pushed last, and nothing is there.\n\n    ]A$$\n\n\
+         Push with [q before, once for each ]q.\n",
+    ),
+    Printed(
+        Of::Refusal(Refusal::Certificate),
+        "this is not the certificate of the macro\n\n\
+         A certificate holds for one macro of one library, and each byte of it counts, \
+         line ends included.\n\n\
+         Make it anew: teco verify LIB q > CERT.\n",
+    ),
+];
+
+impl Of {
+    fn note(&self) -> Note {
+        match self {
+            Of::Code(code) => note_of_code(*code),
+            Of::Refusal(refusal) => note_of_refusal(*refusal),
+        }
+    }
+}
+
+impl Case for Printed {
+    fn holds(&self, alloc: Global) -> Option<bool> {
+        let text = format!(in alloc; "{}", self.0.note()).ok()?;
+        Some(text.as_str() == self.1)
     }
 }
 
 #[test]
 fn notes_are_printed(rt: HostRuntime) {
-    expect_note(
-        &rt,
-        rt.alloc(),
-        note_of_code(Code::Pes),
-        "the push-down list is empty\n\n\
-         ]q takes back what [q pushed last, and nothing is there.\n\n    ]A$$\n\n\
-         Push with [q before, once for each ]q.\n",
-    );
-    expect_note(
-        &rt,
-        rt.alloc(),
-        note_of_refusal(Refusal::Certificate),
-        "this is not the certificate of the macro\n\n\
-         A certificate holds for one macro of one library, and each byte of it counts, \
-         line ends included.\n\n\
-         Make it anew: teco verify LIB q > CERT.\n",
-    );
+    expect_all(&rt, rt.alloc(), &PRINTED);
 }
 
-// A reason, a text, a place, and the front of the hint.
-const HINTS: [(Refusal, &[u8], usize, Option<&str>); 10] = [
-    (Refusal::Fall, b"J<I> \x1bL.-Z;>", 11, Some("L and K")),
-    (
-        Refusal::Fall,
-        b"J<Sfoo\x1b;0LK>",
-        11,
-        Some("The search moves on"),
-    ),
-    (
-        Refusal::Fall,
-        b"J<.-Z;I# \x1bP>",
-        11,
-        Some("P is not known"),
-    ),
-    (Refusal::Fall, b"<Ix\x1b>", 4, None),
-    (
-        Refusal::Place,
-        b".UBQB,.K",
-        7,
-        Some("A place that a register"),
-    ),
-    (Refusal::Place, b".UB0KQBJ", 7, Some("A place that .UQ")),
-    (
-        Refusal::Deletion,
-        b"0A-32\"ED'",
-        7,
-        Some("A test of a character"),
-    ),
-    (Refusal::Bound, b"3<HXBGB>", 7, Some("X and G")),
-    (Refusal::Pending, b".-Z\"L%A'", 7, Some("%, :C")),
-    (
-        Refusal::Unverified,
-        b"Sfoo\x1b",
-        0,
-        Some("Outside an iteration"),
-    ),
+// A reason, a text, a place, and the front of the hint; none where there is no hint.
+struct Hinted(Refusal, &'static str, usize, &'static str);
+
+const HINTS: [Hinted; 10] = [
+    Hinted(Refusal::Fall, "J<I> \x1bL.-Z;>", 11, "L and K"),
+    Hinted(Refusal::Fall, "J<Sfoo\x1b;0LK>", 11, "The search moves on"),
+    Hinted(Refusal::Fall, "J<.-Z;I# \x1bP>", 11, "P is not known"),
+    Hinted(Refusal::Fall, "<Ix\x1b>", 4, ""),
+    Hinted(Refusal::Place, ".UBQB,.K", 7, "A place that a register"),
+    Hinted(Refusal::Place, ".UB0KQBJ", 7, "A place that .UQ"),
+    Hinted(Refusal::Deletion, "0A-32\"ED'", 7, "A test of a character"),
+    Hinted(Refusal::Bound, "3<HXBGB>", 7, "X and G"),
+    Hinted(Refusal::Pending, ".-Z\"L%A'", 7, "%, :C"),
+    Hinted(Refusal::Unverified, "Sfoo\x1b", 0, "Outside an iteration"),
 ];
 
-// Whether there is a hint with such a front, or none.
-fn is_hinted(found: Option<&str>, front: Option<&str>) -> bool {
-    match (found, front) {
-        (None, None) => true,
-        (Some(found), Some(front)) => found.starts_with(front),
-        _ => false,
+impl Case for Hinted {
+    fn holds(&self, _alloc: Global) -> Option<bool> {
+        let Hinted(why, text, place, front) = *self;
+        let found = hint(why, text.as_bytes(), place).unwrap_or("");
+        Some(found.starts_with(front) && found.is_empty() == front.is_empty())
     }
 }
 
 #[test]
 fn common_forms_have_hints(rt: HostRuntime) {
-    for (row, (why, text, place, front)) in HINTS.iter().enumerate() {
-        expect(&rt, is_hinted(hint(*why, text, *place), *front), row);
-    }
+    expect_all(&rt, rt.alloc(), &HINTS);
 }
 
 // A text, and its elements line by line.
-const OUTLINES: [(&[u8], &str); 4] = [
-    (
-        b"J<.-Z;0A-32\"ED|C'>",
+struct Outlined(&'static str, &'static str);
+
+const OUTLINES: [Outlined; 4] = [
+    Outlined(
+        "J<.-Z;0A-32\"ED|C'>",
         "J\n<\n  .-Z;\n  0A-32\"E\n    D\n  |\n    C\n  '\n>\n",
     ),
-    (
-        b"!each foo!\n@^UA~J<Sfoo\x1b;0KK>~\n",
+    Outlined(
+        "!each foo!\n@^UA~J<Sfoo\x1b;0KK>~\n",
         "!each foo!\nA:\n  J\n  <\n    Sfoo$\n    ;\n    0K\n    K\n  >\n",
     ),
-    (b"@^UB~Example Ltd~5=", "@^UB~Example Ltd~\n5=\n"),
-    (b"3>?5", "3>\n?5\n"),
+    Outlined("@^UB~Example Ltd~5=", "@^UB~Example Ltd~\n5=\n"),
+    Outlined("3>?5", "3>\n?5\n"),
 ];
 
-// The lines of a text.
-fn outlined(alloc: Global, text: &[u8]) -> Result<String, AllocError> {
-    Ok(format!(in alloc; "{}", Outline { text, mark: b'$' })?)
+impl Case for Outlined {
+    fn holds(&self, alloc: Global) -> Option<bool> {
+        let outline = Outline {
+            text: self.0.as_bytes(),
+            mark: b'$',
+        };
+        let lines = format!(in alloc; "{outline}").ok()?;
+        Some(lines.as_str() == self.1)
+    }
 }
 
 #[test]
 fn texts_are_laid_out(rt: HostRuntime) {
-    for (row, (text, lines)) in OUTLINES.iter().enumerate() {
-        match outlined(rt.alloc(), text) {
-            Ok(printed) => expect(&rt, printed.as_str() == *lines, row),
-            Err(_) => panic!(rt; "memory"),
-        }
-    }
+    expect_all(&rt, rt.alloc(), &OUTLINES);
 }
 
-// A library, a reason, a register, a place, and what is said.
-const EXPLAINED: [(&[u8], Refusal, Option<u8>, usize, &str); 5] = [
-    (
-        b"@^UB//\n@^UA/J\n5D/",
+// A library, a reason, the name of a register, or none, a place, and what is said.
+struct Said(&'static str, Refusal, &'static str, usize, &'static str);
+
+const EXPLAINED: [Said; 5] = [
+    Said(
+        "@^UB//\n@^UA/J\n5D/",
         Refusal::Deletion,
-        Some(b'A'),
+        "A",
         3,
         "lib.tec:3:2: refused X7: a deletion may reach beyond the text\n\
          \x20   5D/\n\
@@ -197,10 +197,10 @@ const EXPLAINED: [(&[u8], Refusal, Option<u8>, usize, &str); 5] = [
          \x20 Test before you delete, as in .-Z\"LD' or .\"G-D', delete what a search found by \
          its length, or delete lines with K.",
     ),
-    (
-        b"5C",
+    Said(
+        "5C",
         Refusal::Library,
-        None,
+        "",
         0,
         "lib.tec:1:1: refused X1: this is no macro library\n\
          \x20   5C\n\
@@ -209,10 +209,10 @@ const EXPLAINED: [(&[u8], Refusal, Option<u8>, usize, &str); 5] = [
          \x20 Put the macro into a register, close each text by the character that opened it, and \
          write ESC as the byte 27 or name the file .tes and write $.",
     ),
-    (
-        b"@^UA/?/",
+    Said(
+        "@^UA/?/",
         Refusal::Fault,
-        Some(b'A'),
+        "A",
         0,
         "lib.tec:1:6: refused X2: this is no command, or a search text that can't be read\n\
          \x20   @^UA/?/\n\
@@ -220,10 +220,10 @@ const EXPLAINED: [(&[u8], Refusal, Option<u8>, usize, &str); 5] = [
          \x20 ?ILL: no command begins here, or a : or @ doesn't fit it\n\
          \x20 See what the code says, and mend the command.",
     ),
-    (
-        b"@^UA/J<I> $L.-Z;>/",
+    Said(
+        "@^UA/J<I> $L.-Z;>/",
         Refusal::Fall,
-        Some(b'A'),
+        "A",
         11,
         "lib.tec:1:17: refused X9: nothing is known to shrink from turn to turn\n\
          \x20   @^UA/J<I> $L.-Z;>/\n\
@@ -231,40 +231,43 @@ const EXPLAINED: [(&[u8], Refusal, Option<u8>, usize, &str); 5] = [
          \x20 L and K are not known to move on, since they may stay at the end. Give a count that \
          is surely enough and test first, as in JZ<.-Z;..L>.",
     ),
-    (
-        b"@^UA//",
+    Said(
+        "@^UA//",
         Refusal::Missing,
-        Some(b'B'),
+        "B",
         0,
         "lib.tec: refused X11: the library has no such macro",
     ),
 ];
 
-// What is said of a refusal in a library.
-fn explained(
-    alloc: Global,
-    file: &[u8],
-    why: Refusal,
-    register: Option<Reg>,
-    place: usize,
-) -> Result<String, AllocError> {
-    let source = Source::new(alloc, "lib.tec", file.to_vec(alloc)?, Form::Readable)?;
-    let explained = Explained {
-        source: &source,
-        why,
-        register,
-        place,
-    };
-    Ok(format!(in alloc; "{explained}")?)
+impl Said {
+    // The register whose text it is.
+    fn register(&self) -> Option<Reg> {
+        Reg::of(*self.2.as_bytes().first()?)
+    }
+
+    // What is said of the refusal.
+    fn text(&self, alloc: Global) -> Result<String, AllocError> {
+        let file = self.0.as_bytes().to_vec(alloc)?;
+        let source = Source::new(alloc, "lib.tec", file, Form::Readable)?;
+        let explained = Explained {
+            source: &source,
+            why: self.1,
+            register: self.register(),
+            place: self.3,
+        };
+        Ok(format!(in alloc; "{explained}")?)
+    }
+}
+
+impl Case for Said {
+    fn holds(&self, alloc: Global) -> Option<bool> {
+        let text = self.text(alloc).ok()?;
+        Some(text.as_str() == self.4)
+    }
 }
 
 #[test]
 fn refusals_are_explained(rt: HostRuntime) {
-    for (row, (file, why, name, place, said)) in EXPLAINED.iter().enumerate() {
-        let register = name.and_then(Reg::of);
-        match explained(rt.alloc(), file, *why, register, *place) {
-            Ok(printed) => expect(&rt, printed.as_str() == *said, row),
-            Err(_) => panic!(rt; "memory"),
-        }
-    }
+    expect_all(&rt, rt.alloc(), &EXPLAINED);
 }

@@ -7,8 +7,6 @@ mod accounts;
 #[cfg(test)]
 mod certificates;
 #[cfg(test)]
-mod choices;
-#[cfg(test)]
 mod editions;
 #[cfg(test)]
 mod expansions;

@@ -1,21 +1,49 @@
-// Libraries and their nodes, made once more where memory was refused, so that tests also hold where
-// one allocation fails.
+// Tables of cases, and what the tests share of libraries and reasons.
 use std::alloc::Global;
 use std::process::Abort;
 use std::test::*;
-use teco_base::{LIMIT, REGISTERS, Reg};
-use teco_expansion::{ExpandFault, Nodes, expand};
+use teco_base::{LIMIT, REGISTERS};
 use teco_facts::Entry;
-use teco_library::{Library, LibraryFault};
+use teco_library::Library;
 use teco_model::ArgumentRange;
 use teco_verifier::{Refusal, Rules};
 
-// Asserts it of a row.
-pub fn expect(rt: &impl Abort, holds: bool, row: usize) {
-    assert!(rt; holds, "row {row}");
+/// A row of a table.
+pub trait Case {
+    /// Is what the row says so? None where memory was refused.
+    fn holds(&self, alloc: Global) -> Option<bool>;
 }
 
-// An entry of the first edition, with no library.
+// Is a row so? It is tried once more where memory was refused, so that tests also hold where one
+// allocation fails.
+fn is_so<C: Case>(case: &C, alloc: Global) -> bool {
+    match case.holds(alloc) {
+        Some(holds) => holds,
+        None => case.holds(alloc) == Some(true),
+    }
+}
+
+/// Asserts a row.
+pub fn expect<C: Case>(rt: &impl Abort, alloc: Global, case: &C, row: usize) {
+    assert!(rt; is_so(case, alloc), "row {row}");
+}
+
+/// Asserts each row.
+pub fn expect_all<C: Case>(rt: &impl Abort, alloc: Global, rows: &[C]) {
+    for (row, case) in rows.iter().enumerate() {
+        expect(rt, alloc, case, row);
+    }
+}
+
+/// The library of a file, if it is one.
+pub fn library_of(alloc: Global, file: &[u8]) -> Option<Library> {
+    if file.len() > LIMIT {
+        return None;
+    }
+    Library::read(alloc, file).ok()
+}
+
+/// An entry of the first edition, with no library.
 pub fn entry_of(argument: Option<ArgumentRange>) -> Entry {
     Entry {
         rules: Rules::First,
@@ -24,40 +52,7 @@ pub fn entry_of(argument: Option<ArgumentRange>) -> Entry {
     }
 }
 
-// What is read of a file.
-pub fn read(rt: &impl Abort, alloc: Global, file: &[u8]) -> Result<Library, LibraryFault> {
-    assert!(rt; file.len() <= LIMIT);
-    match Library::read(alloc, file) {
-        Err(LibraryFault::Memory) => Library::read(alloc, file),
-        answer => answer,
-    }
-}
-
-// The library of a file.
-pub fn library_of(rt: &impl Abort, alloc: Global, file: &[u8]) -> Library {
-    match read(rt, alloc, file) {
-        Ok(library) => library,
-        Err(_) => panic!(rt; "no library"),
-    }
-}
-
-// What the macro A of a library is expanded to.
-pub fn expanded<'l>(alloc: Global, library: &'l Library) -> Result<Nodes<'l>, ExpandFault> {
-    match expand(alloc, library, Reg::default()) {
-        Err(ExpandFault::Memory) => expand(alloc, library, Reg::default()),
-        answer => answer,
-    }
-}
-
-// The nodes of the macro A of a library.
-pub fn nodes_of<'l>(rt: &impl Abort, alloc: Global, library: &'l Library) -> Nodes<'l> {
-    match expanded(alloc, library) {
-        Ok(nodes) => nodes,
-        Err(_) => panic!(rt; "it is not expanded"),
-    }
-}
-
-// A reason as it is printed.
+/// A reason as it is printed.
 pub fn name_of(why: Refusal) -> &'static str {
     match why {
         Refusal::Library => "X1",

@@ -1,180 +1,167 @@
-// Small macros: a table is derived from a choice for their iteration, checked, and printed. A call
-// that is refused memory is made once more, so that the rows also hold where one allocation fails.
-use crate::subjects::{entry_of, expect, library_of, nodes_of};
-use std::alloc::{AllocError, Global};
-use std::process::Abort;
+// Small macros: a table is derived from a choice for their iteration, checked, and printed.
+use crate::expansions::Long;
+use crate::subjects::{Case, entry_of, expect_all, library_of};
+use std::alloc::Global;
 use std::test::*;
-use teco_check::{Bad, NotDerived, Table, check, commands, derive, loops_of, needs_in, size};
-use teco_expansion::Nodes;
+use teco_base::Reg;
+use teco_check::{Bad, Table, check, commands, derive, loops_of, needs_in, size};
+use teco_expansion::{Nodes, expand};
 use teco_facts::Entry;
 use teco_model::ArgumentRange;
 use teco_poly::Poly;
 use teco_verifier::{Distances, LoopLine};
 
-// A library, the number of its `<` and what is held there at the start of a turn, or 0, commands
+// A library, the number of its `<`, or 0, and what is held there at the start of a turn; commands
 // and size.
-type Row = (
-    &'static [u8],
+struct Closed(
+    &'static str,
     usize,
-    &'static [u8],
-    &'static [u8],
-    &'static [u8],
+    &'static str,
+    &'static str,
+    &'static str,
 );
 
-const ROWS: [Row; 5] = [
-    (b"@^UA/.-Z\"LC'/", 0, b"0", b"8", b"N"),
-    (b"@^UA/HXBGB/", 0, b"0", b"5", b"2*N"),
-    (b"@^UA/10<Ia\x1b>/", 3, b"9 + N", b"24", b"10 + N"),
-    (
-        b"@^UA/J<Sfoo\x1b;I!\x1b>/",
-        3,
-        b"2*N",
-        b"8 + 4*N",
-        b"1 + 2*N",
-    ),
-    (b"@^UA/HXB2<GB>/", 5, b"2*N", b"10", b"3*N"),
+const CLOSED: [Closed; 5] = [
+    Closed("@^UA/.-Z\"LC'/", 0, "0", "8", "N"),
+    Closed("@^UA/HXBGB/", 0, "0", "5", "2*N"),
+    Closed("@^UA/10<Ia\x1b>/", 3, "9 + N", "24", "10 + N"),
+    Closed("@^UA/J<Sfoo\x1b;I!\x1b>/", 3, "2*N", "8 + 4*N", "1 + 2*N"),
+    Closed("@^UA/HXB2<GB>/", 5, "2*N", "10", "3*N"),
 ];
 
-// One choice, or none.
-fn choices(rt: &impl Abort, alloc: Global, number: usize, held: &[u8]) -> Vec<LoopLine> {
-    let mut lines = Vec::new(alloc);
-    if number > 0 {
-        let line = LoopLine {
-            number,
-            held: Poly::read(held).expect(rt, "a polynomial"),
-            kept: true,
-            distances: Distances { back: 0, fore: 0 },
-            longer: Vec::new(alloc),
-        };
-        if let Err(refused) = lines.push(line) {
-            assert!(rt; lines.push(refused.value).is_ok());
-        }
-    }
-    lines
+// A library, and the number of its `<`. The table is not closed there if no more than N is held.
+struct Open(&'static str, usize);
+
+const OPEN: [Open; 3] = [
+    Open("@^UA/10<Ia\x1b>/", 3),
+    Open("@^UA/J<Sfoo\x1b;I!\x1b>/", 3),
+    Open("@^UA/HXB2<GB>/", 5),
+];
+
+// A choice for an iteration.
+fn choice(alloc: Global, number: usize, held: &str) -> Option<LoopLine> {
+    Some(LoopLine {
+        number,
+        held: Poly::read(held.as_bytes())?,
+        kept: true,
+        distances: Distances { back: 0, fore: 0 },
+        longer: Vec::new(alloc),
+    })
 }
 
-// The table of such choices.
+// One choice, or none.
+fn choices(alloc: Global, number: usize, held: &str) -> Option<Vec<LoopLine>> {
+    let mut lines = Vec::new(alloc);
+    if number > 0 {
+        lines.push(choice(alloc, number, held)?).ok()?;
+    }
+    Some(lines)
+}
+
+// The table of such a choice.
 fn table_of(
-    rt: &impl Abort,
     alloc: Global,
     entry: &Entry,
     nodes: &Nodes<'_>,
-    lines: &[LoopLine],
-) -> Table {
-    let answer = match derive(alloc, entry, nodes, lines) {
-        Err(NotDerived::Memory) => derive(alloc, entry, nodes, lines),
-        answer => answer,
-    };
-    match answer {
-        Ok(table) => table,
-        Err(_) => panic!(rt; "it is derived"),
-    }
+    number: usize,
+    held: &str,
+) -> Option<Table> {
+    let lines = choices(alloc, number, held)?;
+    derive(alloc, entry, nodes, &lines).ok()
 }
 
-// What the checker says of a table.
-fn checked(alloc: Global, entry: &Entry, nodes: &Nodes<'_>, table: &Table) -> Result<(), Bad> {
+// The number of the node where a table is not closed; 0 where it is closed.
+fn open_at(alloc: Global, entry: &Entry, nodes: &Nodes<'_>, table: &Table) -> Option<usize> {
     match check(alloc, entry, nodes, table) {
-        Err(Bad::Memory) => check(alloc, entry, nodes, table),
-        answer => answer,
+        Ok(()) => Some(0),
+        Err(Bad::Edge { node }) => Some(node),
+        Err(Bad::Memory) => None,
     }
 }
 
 // Whether these polynomials are printed of a table, and no need.
-fn prints(entry: &Entry, nodes: &Nodes<'_>, table: &Table, wanted: [&[u8]; 2]) -> bool {
+fn prints(entry: &Entry, nodes: &Nodes<'_>, table: &Table, most: &str, held: &str) -> bool {
     let needs = needs_in(nodes, table);
-    commands(entry, nodes, table).ok() == Poly::read(wanted[0])
-        && size(entry, nodes, table).ok() == Poly::read(wanted[1])
+    commands(entry, nodes, table).ok() == Poly::read(most.as_bytes())
+        && size(entry, nodes, table).ok() == Poly::read(held.as_bytes())
         && !needs.input
         && !needs.output
 }
 
 // How many loop lines a table has.
 fn lines_in(alloc: Global, nodes: &Nodes<'_>, table: &Table) -> Option<usize> {
-    match loops_of(alloc, nodes, table) {
-        Ok(lines) => Some(lines.len()),
-        Err(_) => loops_of(alloc, nodes, table).ok().map(|lines| lines.len()),
+    let lines = loops_of(alloc, nodes, table).ok()?;
+    Some(lines.len())
+}
+
+impl Closed {
+    // Whether a table is closed, and what is wanted is printed of it.
+    fn is_met(&self, alloc: Global, nodes: &Nodes<'_>, table: &Table) -> Option<bool> {
+        let Closed(_, number, _, most, held) = *self;
+        let entry = entry_of(None);
+        let is_closed = open_at(alloc, &entry, nodes, table)? == 0;
+        let has_lines = lines_in(alloc, nodes, table)? == usize::from(number > 0);
+        let is_whole = table.len() == nodes.len();
+        Some(is_closed && has_lines && is_whole && prints(&entry, nodes, table, most, held))
     }
 }
 
-// Whether the table of a row is closed, and what is wanted is printed of it.
-fn is_closed(rt: &impl Abort, alloc: Global, row: &Row) -> bool {
-    let (file, number, held, commands, size) = *row;
-    let entry = entry_of(None);
-    let library = library_of(rt, alloc, file);
-    let nodes = nodes_of(rt, alloc, &library);
-    let lines = choices(rt, alloc, number, held);
-    let table = table_of(rt, alloc, &entry, &nodes, &lines);
-    table.len() == nodes.len()
-        && checked(alloc, &entry, &nodes, &table).is_ok()
-        && prints(&entry, &nodes, &table, [commands, size])
-        && lines_in(alloc, &nodes, &table) == Some(lines.len())
+impl Case for Closed {
+    fn holds(&self, alloc: Global) -> Option<bool> {
+        let library = library_of(alloc, self.0.as_bytes())?;
+        let nodes = expand(alloc, &library, Reg::default()).ok()?;
+        let table = table_of(alloc, &entry_of(None), &nodes, self.1, self.2)?;
+        self.is_met(alloc, &nodes, &table)
+    }
 }
 
 #[test]
 fn prints_what_is_closed(rt: HostRuntime) {
-    for (place, row) in ROWS.iter().enumerate() {
-        expect(&rt, is_closed(&rt, rt.alloc(), row), place);
-    }
+    expect_all(&rt, rt.alloc(), &CLOSED);
 }
 
-// Where the table of a row is not closed if no more than N is held.
-fn open_at(rt: &impl Abort, alloc: Global, row: &Row) -> Option<usize> {
-    let entry = entry_of(None);
-    let library = library_of(rt, alloc, row.0);
-    let nodes = nodes_of(rt, alloc, &library);
-    let lines = choices(rt, alloc, row.1, b"N");
-    let table = table_of(rt, alloc, &entry, &nodes, &lines);
-    match checked(alloc, &entry, &nodes, &table) {
-        Err(Bad::Edge { node }) => Some(node),
-        _ => None,
+impl Case for Open {
+    fn holds(&self, alloc: Global) -> Option<bool> {
+        let entry = entry_of(None);
+        let library = library_of(alloc, self.0.as_bytes())?;
+        let nodes = expand(alloc, &library, Reg::default()).ok()?;
+        let table = table_of(alloc, &entry, &nodes, self.1, "N")?;
+        open_at(alloc, &entry, &nodes, &table).map(|node| node == self.1)
     }
 }
 
 #[test]
 fn refuses_too_small_a_choice(rt: HostRuntime) {
-    for (place, row) in ROWS.iter().enumerate() {
-        if row.1 > 0 {
-            expect(&rt, open_at(&rt, rt.alloc(), row) == Some(row.1), place);
-        }
+    expect_all(&rt, rt.alloc(), &OPEN);
+}
+
+// A library whose iteration runs as often as an argument says, from 1 to 10.
+struct Counted(&'static str);
+
+const COUNTED: [Counted; 1] = [Counted("@^UA/<Ia\x1b>/")];
+
+// Whether the digits of the argument count, and the table is that of no other argument.
+fn counts_digits(alloc: Global, entry: &Entry, nodes: &Nodes<'_>, table: &Table) -> Option<bool> {
+    let larger = entry_of(ArgumentRange::between(1, 11));
+    let is_closed = open_at(alloc, entry, nodes, table)? == 0;
+    let is_own = open_at(alloc, &larger, nodes, table)? == 1
+        && open_at(alloc, &entry_of(None), nodes, table)? == 1;
+    Some(is_closed && is_own && prints(entry, nodes, table, "24", "10 + N"))
+}
+
+impl Case for Counted {
+    fn holds(&self, alloc: Global) -> Option<bool> {
+        let entry = entry_of(ArgumentRange::between(1, 10));
+        let library = library_of(alloc, self.0.as_bytes())?;
+        let nodes = expand(alloc, &library, Reg::default()).ok()?;
+        let table = table_of(alloc, &entry, &nodes, 2, "9 + N")?;
+        counts_digits(alloc, &entry, &nodes, &table)
     }
 }
 
 #[test]
 fn counts_the_digits_of_an_argument(rt: HostRuntime) {
-    let library = library_of(&rt, rt.alloc(), b"@^UA/<Ia\x1b>/");
-    let nodes = nodes_of(&rt, rt.alloc(), &library);
-    let lines = choices(&rt, rt.alloc(), 2, b"9 + N");
-    let entry = entry_of(ArgumentRange::between(1, 10));
-    let table = table_of(&rt, rt.alloc(), &entry, &nodes, &lines);
-    expect(&rt, checked(rt.alloc(), &entry, &nodes, &table).is_ok(), 0);
-    expect(&rt, prints(&entry, &nodes, &table, [b"24", b"10 + N"]), 0);
-    let wanted = Bad::Edge { node: 1 };
-    for (row, other) in [ArgumentRange::between(1, 11), None].iter().enumerate() {
-        let entry = entry_of(*other);
-        expect(
-            &rt,
-            checked(rt.alloc(), &entry, &nodes, &table) == Err(wanted),
-            row,
-        );
-    }
-}
-
-// A text of A that pushes one pair, and then goes to the begin so often.
-fn pushing(alloc: Global, jumps: usize) -> Result<Vec<u8>, AllocError> {
-    let mut file = Vec::from_slice(alloc, b"@^UA/[B")?;
-    for _ in 0..jumps {
-        file.push(b'J')?;
-    }
-    file.push(b'/')?;
-    Ok(file)
-}
-
-// The file; made once more where memory was refused.
-fn pushing_file(rt: &impl Abort, alloc: Global, jumps: usize) -> Vec<u8> {
-    match pushing(alloc, jumps) {
-        Ok(file) => file,
-        Err(_) => pushing(alloc, jumps).expect(rt, "a file"),
-    }
+    expect_all(&rt, rt.alloc(), &COUNTED);
 }
 
 // Whether the pairs that were pushed before two nodes lie at the same place.
@@ -185,16 +172,25 @@ fn lie_together(table: &Table, one: usize, other: usize) -> bool {
     }
 }
 
+// A text of A that pushes one pair, and then goes to the begin 140 times. The pair is pushed at the
+// node 2, and packed at 128.
+struct Packed(Long);
+
+const PACKED: [Packed; 1] = [Packed(Long(b'J', 148, (5, "[B", 1), (7, "J", 1)))];
+
+impl Case for Packed {
+    fn holds(&self, alloc: Global) -> Option<bool> {
+        let library = self.0.library(alloc)?;
+        let nodes = expand(alloc, &library, Reg::default()).ok()?;
+        let table = table_of(alloc, &entry_of(None), &nodes, 0, "0")?;
+        let is_packed = lie_together(&table, 3, 127)
+            && !lie_together(&table, 127, 128)
+            && lie_together(&table, 128, 140);
+        open_at(alloc, &entry_of(None), &nodes, &table).map(|node| node == 0 && is_packed)
+    }
+}
+
 #[test]
 fn packs_what_was_pushed(rt: HostRuntime) {
-    // The pair is pushed at the node 2, and packed at 128.
-    let file = pushing_file(&rt, rt.alloc(), 140);
-    let library = library_of(&rt, rt.alloc(), &file);
-    let nodes = nodes_of(&rt, rt.alloc(), &library);
-    let table = table_of(&rt, rt.alloc(), &entry_of(None), &nodes, &[]);
-    let checked = checked(rt.alloc(), &entry_of(None), &nodes, &table);
-    expect(&rt, checked.is_ok(), 0);
-    expect(&rt, lie_together(&table, 3, 127), 1);
-    expect(&rt, !lie_together(&table, 127, 128), 2);
-    expect(&rt, lie_together(&table, 128, 140), 3);
+    expect_all(&rt, rt.alloc(), &PACKED);
 }

@@ -1,15 +1,13 @@
 // Libraries, with the certificate of their macro A or the reason and the place of its refusal, and
-// certificates that are checked. A call that is refused memory is made once more, so that the rows
-// also hold where one allocation fails.
-use crate::subjects::{expect, library_of, name_of};
+// certificates that are checked.
+use crate::subjects::{Case, expect_all, library_of, name_of};
 use std::alloc::Global;
-use std::process::Abort;
 use std::test::*;
 use teco_base::{LIMIT, Reg};
 use teco_verify::{Library, Refusal, Verified, check_certificate, verify};
 
 // Marks are put behind each occurrence of a word.
-const MARK: &[u8] = b"@^UA/J<Sfoo\x1b;I!\x1b>/";
+const MARK: &str = "@^UA/J<Sfoo\x1b;I!\x1b>/";
 
 const MARK_CERTIFICATE: &str = "TECO-CERT 1
 entry A
@@ -20,12 +18,12 @@ loop 3 held 2*N kept texts -
 end
 ";
 
-const TWICE: &[u8] = b"@^UA/HXB2<GB>/";
+const TWICE: &str = "@^UA/HXB2<GB>/";
 
-const FILL: &[u8] = b"@^UA/<Ia\x1b1;>/";
+const FILL: &str = "@^UA/<Ia\x1b1;>/";
 
 // Inserts as many characters as its argument says.
-const ASKED: &[u8] = b"!TECO-LIB 2 A 1 10!@^UA/<Ia\x1b>/";
+const ASKED: &str = "!TECO-LIB 2 A 1 10!@^UA/<Ia\x1b>/";
 
 const ASKED_CERTIFICATE: &str = "TECO-CERT 2
 entry A
@@ -37,142 +35,149 @@ loop 2 held 9 + N kept texts -
 end
 ";
 
-const ACCEPTED: [(&[u8], &str); 12] = [
-    (MARK, MARK_CERTIFICATE),
-    (ASKED, ASKED_CERTIFICATE),
-    (
-        b"!TECO-LIB 2 B 1 10!@^UA/10<Ia\x1b>/",
+// A library, and the certificate of its macro A.
+struct Accepted(&'static str, &'static str);
+
+const ACCEPTED: [Accepted; 12] = [
+    Accepted(MARK, MARK_CERTIFICATE),
+    Accepted(ASKED, ASKED_CERTIFICATE),
+    Accepted(
+        "!TECO-LIB 2 B 1 10!@^UA/10<Ia\x1b>/",
         "TECO-CERT 1\nentry A\nneeds -\ncommands 24\nsize 10 + N\n\
          loop 3 held 9 + N kept texts -\nend\n",
     ),
-    (
-        b"@^UA/!a! Iab\x1b\x1bIc\x1b/",
+    Accepted(
+        "@^UA/!a! Iab\x1b\x1bIc\x1b/",
         "TECO-CERT 1\nentry A\nneeds -\ncommands 6\nsize 3 + N\nend\n",
     ),
-    (
-        b"@^UA/10<Ia\x1b>/",
+    Accepted(
+        "@^UA/10<Ia\x1b>/",
         "TECO-CERT 1\nentry A\nneeds -\ncommands 24\nsize 10 + N\n\
          loop 3 held 9 + N kept texts -\nend\n",
     ),
-    (
-        b"@^UA/.-Z\"LC'/",
+    Accepted(
+        "@^UA/.-Z\"LC'/",
         "TECO-CERT 1\nentry A\nneeds -\ncommands 8\nsize N\nend\n",
     ),
-    (
+    Accepted(
         TWICE,
         "TECO-CERT 1\nentry A\nneeds -\ncommands 10\nsize 3*N\nloop 5 held 2*N kept texts -\nend\n",
     ),
-    (
+    Accepted(
         FILL,
         "TECO-CERT 1\nentry A\nneeds -\ncommands 6 + 3*N\nsize 1 + N\n\
          loop 2 held N kept texts -\nend\n",
     ),
-    (
-        b"@^UA/3<.=>/",
+    Accepted(
+        "@^UA/3<.=>/",
         "TECO-CERT 1\nentry A\nneeds -\ncommands 13\nsize N\nloop 3 held N kept texts -\nend\n",
     ),
-    (
-        b"@^UA/HXBGB/",
+    Accepted(
+        "@^UA/HXBGB/",
         "TECO-CERT 1\nentry A\nneeds -\ncommands 5\nsize 2*N\nend\n",
     ),
-    (
-        b"@^UA/A/",
+    Accepted(
+        "@^UA/A/",
         "TECO-CERT 1\nentry A\nneeds I\ncommands 3\nsize N\nend\n",
     ),
-    (
-        b"@^UA/3P/",
+    Accepted(
+        "@^UA/3P/",
         "TECO-CERT 1\nentry A\nneeds O\ncommands 6\nsize N\nend\n",
     ),
 ];
 
-const REFUSED: [(&[u8], &str, u8, usize); 18] = [
-    (b"", "X11", b'A', 0),
-    (b"@^UB//", "X11", b'A', 0),
-    (b"@^UA/MB/", "X11", b'A', 0),
-    (b"@^UA/5C/", "X6", b'A', 1),
-    (b"@^UA/<Ix\x1b>/", "X9", b'A', 4),
-    (b"@^UA/MA/", "X12", b'A', 0),
-    (b"@^UA/3<HXBGB>/", "X10", b'A', 7),
-    (b"@^UA/J<Sfoo\x1b;3R>/", "X9", b'A', 10),
-    (b"@^UA/[A]A/", "X13", b'A', 2),
-    (b"@^UA.1/0=.", "X8", b'A', 2),
-    (b"@^UA/=/", "X4", b'A', 0),
-    (b"@^UA/]B/", "X14", b'A', 0),
-    (b"@^UA/3<[B>/", "X14", b'A', 4),
-    (b"@^UA/5\"N1=/", "X3", b'A', 1),
-    (
-        b"@^UA/2147483647<2147483647<2147483647<>>>/",
+// A library, why its macro A is refused, and in which text and at which place.
+struct Refused(&'static str, &'static str, u8, usize);
+
+const REFUSED: [Refused; 18] = [
+    Refused("", "X11", b'A', 0),
+    Refused("@^UB//", "X11", b'A', 0),
+    Refused("@^UA/MB/", "X11", b'A', 0),
+    Refused("@^UA/5C/", "X6", b'A', 1),
+    Refused("@^UA/<Ix\x1b>/", "X9", b'A', 4),
+    Refused("@^UA/MA/", "X12", b'A', 0),
+    Refused("@^UA/3<HXBGB>/", "X10", b'A', 7),
+    Refused("@^UA/J<Sfoo\x1b;3R>/", "X9", b'A', 10),
+    Refused("@^UA/[A]A/", "X13", b'A', 2),
+    Refused("@^UA.1/0=.", "X8", b'A', 2),
+    Refused("@^UA/=/", "X4", b'A', 0),
+    Refused("@^UA/]B/", "X14", b'A', 0),
+    Refused("@^UA/3<[B>/", "X14", b'A', 4),
+    Refused("@^UA/5\"N1=/", "X3", b'A', 1),
+    Refused(
+        "@^UA/2147483647<2147483647<2147483647<>>>/",
         "X17",
         b'A',
         33,
     ),
-    (b"@^UA/3<MB>/@^UB/Sx\x1b/", "X15", b'B', 0),
-    (b"@^UA/-1:Nfoo\x1b=/", "X4", b'A', 2),
-    (b"@^UA/-1:Sfoo\x1b=/", "X15", b'A', 2),
+    Refused("@^UA/3<MB>/@^UB/Sx\x1b/", "X15", b'B', 0),
+    Refused("@^UA/-1:Nfoo\x1b=/", "X4", b'A', 2),
+    Refused("@^UA/-1:Sfoo\x1b=/", "X15", b'A', 2),
 ];
 
-// A library, what stands in the place of a part of the certificate of its macro A, and whether that
-// is accepted.
-const CHECKED: [(&[u8], &str, bool); 11] = [
-    (
+// A library, a text, and whether that is a certificate of its macro A.
+struct Checked(&'static str, &'static str, bool);
+
+const CHECKED: [Checked; 11] = [
+    Checked(
         ASKED,
         "TECO-CERT 1\nentry A\nneeds -\ncommands 24\nsize 10 + N\n\
          loop 2 held 9 + N kept texts -\nend\n",
         false,
     ),
-    (
+    Checked(
         ASKED,
         "TECO-CERT 2\nentry A\nargument 1 9\nneeds -\ncommands 24\nsize 10 + N\n\
          loop 2 held 9 + N kept texts -\nend\n",
         false,
     ),
-    (
+    Checked(
         MARK,
         "TECO-CERT 1\nentry A\nneeds -\ncommands 7 + 4*N\nsize 1 + 2*N\n\
          loop 3 held 2*N kept texts -\nend\n",
         false,
     ),
-    (
+    Checked(
         MARK,
         "TECO-CERT 1\nentry A\nneeds -\ncommands 8 + 4*N\nsize 1 + 2*N\n\
          loop 3 held N kept texts -\nend\n",
         false,
     ),
-    (
+    Checked(
         MARK,
         "TECO-CERT 1\nentry A\nneeds -\ncommands 8 + 4*N\nsize 1 + 2*N\n\
          loop 3 held 2*N kept texts -\nend",
         false,
     ),
-    (
+    Checked(
         MARK,
         "TECO-CERT 1\nentry A\nneeds -\ncommands 8 + 4*N\nsize 1 + 3*N\n\
          loop 3 held 3*N kept texts -\nend\n",
         true,
     ),
-    (
+    Checked(
         MARK,
         "TECO-CERT 1\nentry A\nneeds -\ncommands 8 + 4*N\nsize 1 + 2*N\n\
          loop 3 held 3*N kept texts -\nend\n",
         false,
     ),
-    (
+    Checked(
         MARK,
         "TECO-CERT 1\nentry A\nneeds -\ncommands 8 + 4*N\nsize 1 + 2*N\nend\n",
         false,
     ),
-    (
+    Checked(
         MARK,
         "TECO-CERT 2\nentry A\nargument 1 10\nneeds -\ncommands 8 + 4*N\nsize 1 + 2*N\n\
          loop 3 held 2*N kept texts -\nend\n",
         false,
     ),
-    (
+    Checked(
         TWICE,
         "TECO-CERT 1\nentry A\nneeds -\ncommands 10\nsize N\nloop 5 held N kept texts B=0\nend\n",
         false,
     ),
-    (
+    Checked(
         FILL,
         "TECO-CERT 1\nentry A\nneeds -\ncommands 6 + 3*N\nsize 1 + N\n\
          loop 2 held 0 kept texts -\nend\n",
@@ -180,122 +185,190 @@ const CHECKED: [(&[u8], &str, bool); 11] = [
     ),
 ];
 
-// What the verifier says of its macro A.
-fn verdict<'l>(alloc: Global, library: &'l Library) -> Result<Verified<'l>, Refusal> {
-    match verify(alloc, library, Reg::default()) {
-        Err(Refusal::Memory) => verify(alloc, library, Reg::default()),
-        answer => answer,
+// What is wanted of an answer.
+#[derive(Clone, Copy)]
+pub enum Wanted {
+    // Accepted.
+    Accepted,
+    // Accepted with this certificate.
+    Certified(&'static str),
+    // Accepted with so many iterations.
+    Iterations(usize),
+    // Refused for this reason, in this text and at this place.
+    Refused(&'static str, u8, usize),
+    // Refused as no certificate.
+    NoCertificate,
+}
+
+impl Wanted {
+    // What is wanted of a text that is a certificate, or is none.
+    pub fn of_text(is_certificate: bool) -> Wanted {
+        if is_certificate {
+            Wanted::Accepted
+        } else {
+            Wanted::NoCertificate
+        }
     }
 }
 
-// What the checker says of a certificate.
-fn checked<'l>(
-    rt: &impl Abort,
+// How many lines of a certificate tell of an iteration.
+fn iterations_in(certificate: &[u8]) -> usize {
+    certificate
+        .split(|byte| *byte == b'\n')
+        .filter(|line| line.starts_with(b"loop "))
+        .count()
+}
+
+// Whether a macro is accepted as is wanted. None where memory was refused.
+fn is_accepted(alloc: Global, verified: &Verified<'_>, wanted: Wanted) -> Option<bool> {
+    let certificate = verified.certificate(alloc).ok()?;
+    Some(match wanted {
+        Wanted::Accepted => true,
+        Wanted::Certified(text) => certificate.as_slice() == text.as_bytes(),
+        Wanted::Iterations(count) => iterations_in(&certificate) == count,
+        _ => false,
+    })
+}
+
+// Whether it is wanted to be refused so.
+fn is_refused(name: &str, register: Option<Reg>, place: usize, wanted: Wanted) -> bool {
+    match (wanted, register) {
+        (Wanted::Refused(why, text, at), Some(register)) => {
+            name == why && (register.name(), place) == (text, at)
+        }
+        (Wanted::NoCertificate, _) => name == "X18",
+        _ => false,
+    }
+}
+
+// Whether an answer is as is wanted. None where memory was refused.
+pub fn is_wanted(
     alloc: Global,
-    library: &'l Library,
-    text: &[u8],
-) -> Result<Verified<'l>, Refusal> {
-    assert!(rt; text.len() <= LIMIT);
-    match check_certificate(alloc, library, text) {
-        Err(Refusal::Memory) => check_certificate(alloc, library, text),
-        answer => answer,
-    }
-}
-
-// Whether a macro has this certificate.
-fn has_text(alloc: Global, verified: &Verified<'_>, text: &str) -> bool {
-    match verified.certificate(alloc) {
-        Ok(printed) => printed.as_slice() == text.as_bytes(),
-        Err(_) => match verified.certificate(alloc) {
-            Ok(printed) => printed.as_slice() == text.as_bytes(),
-            Err(_) => false,
-        },
-    }
-}
-
-// Whether the answer is that the macro has this certificate.
-pub fn is_certified(alloc: Global, answer: Result<Verified<'_>, Refusal>, text: &str) -> bool {
+    answer: Result<Verified<'_>, Refusal>,
+    wanted: Wanted,
+) -> Option<bool> {
     match answer {
-        Ok(verified) => has_text(alloc, &verified, text),
-        Err(_) => false,
-    }
-}
-
-// Why, in which text, and where it is refused.
-pub fn refusal_of(answer: &Result<Verified<'_>, Refusal>) -> Option<(&'static str, u8, usize)> {
-    match answer {
+        Ok(verified) => is_accepted(alloc, &verified, wanted),
         Err(
             Refusal::No {
                 why,
-                register: Some(register),
+                register,
                 place,
             },
-        ) => Some((name_of(*why), register.name(), *place)),
-        _ => None,
+        ) => Some(is_refused(name_of(why), register, place, wanted)),
+        Err(Refusal::Memory) => None,
     }
 }
 
-// Whether a certificate is accepted; none where it is refused as something else.
-pub fn is_accepted(answer: &Result<Verified<'_>, Refusal>) -> Option<bool> {
-    match answer {
-        Ok(_) => Some(true),
-        Err(Refusal::No { why, .. }) if name_of(*why) == "X18" => Some(false),
-        _ => None,
+// Whether the verifier says what is wanted of the macro A of a library.
+fn is_found(alloc: Global, library: &Library, wanted: Wanted) -> Option<bool> {
+    is_wanted(alloc, verify(alloc, library, Reg::default()), wanted)
+}
+
+// Whether the checker says what is wanted of a certificate.
+fn is_checked(alloc: Global, library: &Library, text: &str, wanted: Wanted) -> Option<bool> {
+    let text = text.as_bytes();
+    if text.len() > LIMIT {
+        return None;
     }
+    is_wanted(alloc, check_certificate(alloc, library, text), wanted)
 }
 
-// Whether a macro is accepted with this certificate.
-fn is_verified(rt: &impl Abort, alloc: Global, file: &[u8], text: &str) -> bool {
-    let library = library_of(rt, alloc, file);
-    is_certified(alloc, verdict(alloc, &library), text)
-}
-
-// Whether it is accepted by that certificate.
-fn is_checked(rt: &impl Abort, alloc: Global, file: &[u8], text: &str) -> bool {
-    let library = library_of(rt, alloc, file);
-    let answer = checked(rt, alloc, &library, text.as_bytes());
-    is_certified(alloc, answer, text)
+impl Case for Accepted {
+    fn holds(&self, alloc: Global) -> Option<bool> {
+        let Accepted(file, text) = *self;
+        let wanted = Wanted::Certified(text);
+        let library = library_of(alloc, file.as_bytes())?;
+        let found = is_found(alloc, &library, wanted)?;
+        Some(found && is_checked(alloc, &library, text, wanted)?)
+    }
 }
 
 #[test]
 fn accepts_with_its_certificate(rt: HostRuntime) {
-    for (row, (file, text)) in ACCEPTED.iter().enumerate() {
-        expect(&rt, is_verified(&rt, rt.alloc(), file, text), row);
-        expect(&rt, is_checked(&rt, rt.alloc(), file, text), row);
+    expect_all(&rt, rt.alloc(), &ACCEPTED);
+}
+
+impl Case for Refused {
+    fn holds(&self, alloc: Global) -> Option<bool> {
+        let Refused(file, why, text, at) = *self;
+        let library = library_of(alloc, file.as_bytes())?;
+        is_found(alloc, &library, Wanted::Refused(why, text, at))
     }
 }
 
 #[test]
 fn refuses_at_its_place(rt: HostRuntime) {
-    for (row, (file, name, text, at)) in REFUSED.iter().enumerate() {
-        let library = library_of(&rt, rt.alloc(), file);
-        let answer = verdict(rt.alloc(), &library);
-        expect(&rt, refusal_of(&answer) == Some((*name, *text, *at)), row);
+    expect_all(&rt, rt.alloc(), &REFUSED);
+}
+
+impl Case for Checked {
+    fn holds(&self, alloc: Global) -> Option<bool> {
+        let library = library_of(alloc, self.0.as_bytes())?;
+        is_checked(alloc, &library, self.1, Wanted::of_text(self.2))
     }
 }
 
 #[test]
 fn checks_other_certificates(rt: HostRuntime) {
-    for (row, (file, text, accepted)) in CHECKED.iter().enumerate() {
-        let library = library_of(&rt, rt.alloc(), file);
-        let answer = checked(&rt, rt.alloc(), &library, text.as_bytes());
-        expect(&rt, is_accepted(&answer) == Some(*accepted), row);
+    expect_all(&rt, rt.alloc(), &CHECKED);
+}
+
+// Iterations in each other, for each of which a choice is found.
+struct Nested(&'static str, usize);
+
+const NESTED: [Nested; 2] = [
+    // each needs three tries, with registers of its own
+    Nested(
+        "@^UA~^UB\x1b^UC\x1b2<[B]CHXB^UD\x1b^UE\x1b2<[D]EHXD\
+         ^UF\x1b^UG\x1b2<[F]GHXF^UH\x1b^UI\x1b2<[H]IHXH\
+         ^UJ\x1b^UK\x1b2<[J]KHXJ^UL\x1b^UM\x1b2<[L]MHXL>>>>>>~",
+        6,
+    ),
+    // none needs a second try
+    Nested("@^UA/2<2<2<2<2<2<5UB>>>>>>/", 6),
+];
+
+impl Case for Nested {
+    fn holds(&self, alloc: Global) -> Option<bool> {
+        let library = library_of(alloc, self.0.as_bytes())?;
+        is_found(alloc, &library, Wanted::Iterations(self.1))
+    }
+}
+
+#[test]
+fn choices_are_found(rt: HostRuntime) {
+    expect_all(&rt, rt.alloc(), &NESTED);
+}
+
+// Whether what is told of the macro for marks is what was found.
+fn tells_of_marks(verified: &Verified<'_>) -> bool {
+    let entry = verified.entry();
+    let needs = verified.needs();
+    entry.name() == b'A'
+        && verified.text(entry).map(|text| text.len()) == Some(12)
+        && verified.argument().is_none()
+        && verified.commands().at(18) == Some(80)
+        && verified.size().at(18) == Some(37)
+        && !needs.input
+        && !needs.output
+        && verified.library().contains(entry)
+}
+
+// A library whose macro A puts marks.
+struct Marking(&'static str);
+
+const MARKING: [Marking; 1] = [Marking(MARK)];
+
+impl Case for Marking {
+    fn holds(&self, alloc: Global) -> Option<bool> {
+        let library = library_of(alloc, self.0.as_bytes())?;
+        let verified = verify(alloc, &library, Reg::default()).ok()?;
+        Some(tells_of_marks(&verified))
     }
 }
 
 #[test]
 fn tells_what_it_found(rt: HostRuntime) {
-    let library = library_of(&rt, rt.alloc(), MARK);
-    let Ok(verified) = verdict(rt.alloc(), &library) else {
-        panic!(rt; "accepted");
-    };
-    let entry = verified.entry();
-    let length = verified.text(entry).map(|text| text.len());
-    let needs = verified.needs();
-    expect(&rt, entry.name() == b'A' && length == Some(12), 0);
-    expect(&rt, verified.argument().is_none(), 1);
-    expect(&rt, verified.commands().at(18) == Some(80), 2);
-    expect(&rt, verified.size().at(18) == Some(37), 3);
-    expect(&rt, !needs.input && !needs.output, 4);
-    expect(&rt, verified.library().contains(entry), 5);
+    expect_all(&rt, rt.alloc(), &MARKING);
 }
