@@ -288,8 +288,8 @@ fn unread_input_is_told(rt: HostRuntime) {
     let mut machine = new_machine(rt.alloc());
     let mut host = host_of(&rt, rt.alloc());
     expect_unread(&rt, &mut machine, &mut host, false, 0);
-    for (command, is_some, held) in UNREAD {
+    for (command, is_some, held) in UNREAD.iter() {
         run_again(&rt, &mut machine, &mut host, command);
-        expect_unread(&rt, &mut machine, &mut host, is_some, held);
+        expect_unread(&rt, &mut machine, &mut host, *is_some, *held);
     }
 }
