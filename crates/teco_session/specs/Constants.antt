@@ -8,5 +8,5 @@ pub strings : STRINGS ≡ 4294967296
 strings = refl
 
 -- how many bytes are read at a time, at most
-pub chunk : CHUNK ≡ 4096
+pub chunk : CHUNK ≡ 16384
 chunk = refl
