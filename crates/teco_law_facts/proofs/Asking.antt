@@ -17,8 +17,8 @@ use Rattle.teco_model.specs.declared.kind.Query.{Query}
 use Rattle.teco_model.specs.declared.kind.Query.TheVariants.{Number, Mode, Conversion}
 use Rattle.teco_poly.specs.Polynomial.{number}
 use Rattle.teco_law_facts.proofs.Each.{all_at}
-use Rattle.teco_law_facts.proofs.Editing.{inserted_foretold}
-use Rattle.teco_law_facts.proofs.Moving.{moved_by}
+use Rattle.teco_law_facts.proofs.Insertion.{inserted_foretold}
+use Rattle.teco_law_facts.proofs.Motion.{moved_by}
 use Rattle.teco_law_facts.proofs.Near.{empty_whole, code_within}
 use Rattle.teco_law_facts.proofs.Numbers.{value_in_in, any_within}
 use Rattle.teco_law_facts.proofs.Registers.{number_at as known_number_at, untouched}

@@ -16,8 +16,10 @@ pub mod Leading
 pub mod Lines
 pub mod Beyond
 pub mod Shapes
-pub mod Moving
-pub mod Editing
+pub mod Motion
+pub mod Deletion
+pub mod Insertion
+pub mod Parts
 pub mod Registers
 pub mod Asking
 pub mod Transfers

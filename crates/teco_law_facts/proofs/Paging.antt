@@ -12,7 +12,7 @@ use Rattle.teco_model.specs.Arguments as arguments
 use Rattle.teco_model.specs.declared.arguments.Taken.{Taken}
 use Rattle.teco_model.specs.Places.{part_named, characters_of}
 use Rattle.teco_model.specs.declared.pattern.Span.{Span as Part}
-use Rattle.teco_law_facts.proofs.Editing as Editing
+use Rattle.teco_law_facts.proofs.Parts as Parts
 use Rattle.teco_law_facts.proofs.Searching.{succeeds_then, of_count}
 use Rattle.teco_verifier.specs.facts.Pages as row
 use Rattle.teco_verifier.specs.facts.Transfer.{transfer}
@@ -240,7 +240,7 @@ module _ (run : Run) (facts : Facts) (world : World) (pending : arguments.Argume
   stays files e = search (pending_again, forgotten, taking_holds, own_is, arith)
 
   -- a part that is written
-  part_written : (P : model.Progress → Type 0) (r : Result Part Code) → Editing.Comes r → ((part : Part) → P (record { world = model.world_after_writing (characters_of part world.kept) world; left = 0 })) → Succeeds P (((r >>>= λ part. Ok (characters_of part world.kept)) >>>= λ text. Ok (model.world_after_writing text world)) >>>= λ done. Ok (record { world = done; left = 0 }))
+  part_written : (P : model.Progress → Type 0) (r : Result Part Code) → Parts.Comes r → ((part : Part) → P (record { world = model.world_after_writing (characters_of part world.kept) world; left = 0 })) → Succeeds P (((r >>>= λ part. Ok (characters_of part world.kept)) >>>= λ text. Ok (model.world_after_writing text world)) >>>= λ done. Ok (record { world = done; left = 0 }))
   part_written P (Ok part) c h = h part
   part_written P (Err e) c h = absurd c
 
@@ -252,7 +252,7 @@ module _ (run : Run) (facts : Facts) (world : World) (pending : arguments.Argume
     with_output P None f e h = absurd (cc)
     with_output P (Some q) f e h = h q
 
-    range_turns : (r : Result (Unit {0}) Refusal) (v w : ℤ) → IfOk r (λ u. Editing.Comes (part_named (Some v) (Some w) world.kept)) → FitsThen (Turns (Some v) (Some w)) (transfers.on ((r >>= λ named. Ok (silent (without_digit taking))) >>= λ known. Ok (facts_answered known)))
+    range_turns : (r : Result (Unit {0}) Refusal) (v w : ℤ) → IfOk r (λ u. Parts.Comes (part_named (Some v) (Some w) world.kept)) → FitsThen (Turns (Some v) (Some w)) (transfers.on ((r >>= λ named. Ok (silent (without_digit taking))) >>= λ known. Ok (facts_answered known)))
     range_turns (Err why) v w h = tt
     range_turns (Ok u) v w h = λ l. record {
       begins = with_output (λ p. ComesTo run facts.held world unchanged (arguments.levels_after_taking pending) p.world) _ _ out (λ q. part_written (λ p. ComesTo run facts.held world unchanged (arguments.levels_after_taking pending) p.world) _ h (λ part. stays _ refl));
@@ -268,7 +268,7 @@ module _ (run : Run) (facts : Facts) (world : World) (pending : arguments.Argume
     }
 
     turning_turns : (f o : Option Value) (m v : Option ℤ) → IsOptional (IsValue (around_of world.kept)) f m → IsOptional (IsValue (around_of world.kept)) o v → FitsThen (Turns m v) (transfers.on (row.turning f o taking >>= λ known. Ok (facts_answered known)))
-    turning_turns (Some s) (Some t) (Some v) (Some w) i j = range_turns _ v w (Editing.both_named run taking (unread_of world) world.kept whole taking_holds s t v w i j)
+    turning_turns (Some s) (Some t) (Some v) (Some w) i j = range_turns _ v w (Parts.both_named run taking (unread_of world) world.kept whole taking_holds s t v w i j)
     turning_turns None o None v i j = counted_turns None v (λ P h. h) _ (some_known _ o v refl (of_count run taking (unread_of world) world.kept whole taking_holds o v j)) _ (value-sum_of run.n facts.held (number 0))
     turning_turns (Some s) None (Some v) None i j = counted_turns (Some v) None (λ P h. h) _ (some_known _ None None refl (of_count run taking (unread_of world) world.kept whole taking_holds None None tt)) _ (value-sum_of run.n facts.held (number 0))
     turning_turns f o m v i j = absurd (grind arith)
@@ -277,7 +277,7 @@ module _ (run : Run) (facts : Facts) (world : World) (pending : arguments.Argume
     abbrev Writes : Option ℤ → Option ℤ → Edges → Type 0
     Writes m v edges = Succeeds (λ (p : model.Progress). Comes run facts.held world (arguments.levels_after_taking pending) edges p.world) (model.pages model.page_written (record { first = m; value = v }) world)
 
-    range_writes : (r : Result (Unit {0}) Refusal) (v w : ℤ) → IfOk r (λ u. Editing.Comes (part_named (Some v) (Some w) world.kept)) → FitsThen (Writes (Some v) (Some w)) (transfers.on ((r >>= λ named. Ok (silent (without_digit taking))) >>= λ known. Ok (facts_answered known)))
+    range_writes : (r : Result (Unit {0}) Refusal) (v w : ℤ) → IfOk r (λ u. Parts.Comes (part_named (Some v) (Some w) world.kept)) → FitsThen (Writes (Some v) (Some w)) (transfers.on ((r >>= λ named. Ok (silent (without_digit taking))) >>= λ known. Ok (facts_answered known)))
     range_writes (Err why) v w h = tt
     range_writes (Ok u) v w h = λ l. with_output (λ p. ComesTo run facts.held world unchanged (arguments.levels_after_taking pending) p.world) _ _ out (λ q. part_written (λ p. ComesTo run facts.held world unchanged (arguments.levels_after_taking pending) p.world) _ h (λ part. stays _ refl))
 
@@ -286,7 +286,7 @@ module _ (run : Run) (facts : Facts) (world : World) (pending : arguments.Argume
     counted_writes m v c (Ok u) h = λ l. with_output (λ p. ComesTo run facts.held world unchanged (arguments.levels_after_taking pending) p.world) _ _ out (λ q. c _ (counted_pages model.page_written (unwrap_or v (pos 1)) (λ p. ComesTo run facts.held world unchanged (arguments.levels_after_taking pending) p.world) h (λ k. with_output (λ p. ComesTo run facts.held world unchanged (arguments.levels_after_taking pending) p.world) _ _ out (λ opened. stays _ refl))))
 
     writing_writes : (f o : Option Value) (m v : Option ℤ) → IsOptional (IsValue (around_of world.kept)) f m → IsOptional (IsValue (around_of world.kept)) o v → FitsThen (Writes m v) (transfers.on (row.writing f o taking >>= λ known. Ok (facts_answered known)))
-    writing_writes (Some s) (Some t) (Some v) (Some w) i j = range_writes _ v w (Editing.both_named run taking (unread_of world) world.kept whole taking_holds s t v w i j)
+    writing_writes (Some s) (Some t) (Some v) (Some w) i j = range_writes _ v w (Parts.both_named run taking (unread_of world) world.kept whole taking_holds s t v w i j)
     writing_writes None o None v i j = counted_writes None v (λ P h. h) _ (some_known _ o v refl (of_count run taking (unread_of world) world.kept whole taking_holds o v j))
     writing_writes (Some s) None (Some v) None i j = counted_writes (Some v) None (λ P h. h) _ (some_known _ None None refl (of_count run taking (unread_of world) world.kept whole taking_holds None None tt))
     writing_writes f o m v i j = absurd (grind arith)

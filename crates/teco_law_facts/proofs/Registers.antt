@@ -23,8 +23,9 @@ use Rattle.teco_model.specs.declared.pattern.Span.{Span as Part}
 use Rattle.teco_poly.specs.Polynomial.{Polynomial, value}
 use Rattle.teco_law_facts.proofs.Saved.{IsSaved, saved_at}
 use Rattle.teco_law_facts.proofs.Each.{IsNumber, IsText, each_at, each_set, each_kept, each_length}
-use Rattle.teco_law_facts.proofs.Editing.{inserted_foretold, parts_lead}
-use Rattle.teco_law_facts.proofs.Moving.{place_known, count_within}
+use Rattle.teco_law_facts.proofs.Insertion.{inserted_foretold}
+use Rattle.teco_law_facts.proofs.Parts.{parts_lead}
+use Rattle.teco_law_facts.proofs.Motion.{place_known, count_within}
 use Rattle.teco_law_facts.proofs.Numbers.{interval_of_in, value_in_in, kept_in_32_bits_in}
 use Rattle.teco_law_facts.proofs.Near.{distances}
 use Rattle.teco_law_facts.proofs.Shapes.{IsDone, Foretells, value-sum_of, value-number, done_with}

@@ -25,11 +25,11 @@ use Rattle.teco_model.specs.declared.kind.Search.{Search}
 use Rattle.teco_model.specs.declared.kind.Search.TheVariants.{Find, Replace, FindInPages, ReplaceInPages}
 use Rattle.teco_model.specs.declared.pattern.Span.{Span}
 use Rattle.teco_poly.specs.Polynomial.{Polynomial, value}
-use Rattle.teco_law_facts.proofs.Editing.{replaced_at, replaced_within}
+use Rattle.teco_law_facts.proofs.Insertion.{replaced_at, replaced_within}
 use Rattle.teco_law_facts.proofs.Flowing.{each_dropped, taken_are}
 use Rattle.teco_law_facts.proofs.Matching.{HasPattern, pattern_with, LiesAhead, match_lies, EndsSo, EndsInDigit}
 use Rattle.teco_law_facts.proofs.Meeting.{IsJoin, position_joined}
-use Rattle.teco_law_facts.proofs.Moving.{or_single, moved_by}
+use Rattle.teco_law_facts.proofs.Motion.{or_single, moved_by}
 use Rattle.teco_law_facts.proofs.Numbers.{AreDistances, interval_of_in}
 use Rattle.teco_law_facts.proofs.Pending.{settled_are, taken_covers}
 use Rattle.teco_law_facts.proofs.Near.{distances}

@@ -9,7 +9,7 @@ use Rattle.teco_model.specs.declared.kind.Page.{Page}
 use Rattle.teco_model.specs.declared.kind.Page.TheVariants as page
 use Rattle.teco_poly.specs.Polynomial.{Polynomial, value}
 use Rattle.teco_law_facts.proofs.Flowing.{tells_then, taking_is, bound_is}
-use Rattle.teco_law_facts.proofs.Moving.{or_single}
+use Rattle.teco_law_facts.proofs.Motion.{or_single}
 use Rattle.teco_law_facts.proofs.Shapes.{value-number}
 use Rattle.teco_verifier.specs.facts.Arguments.{KnownTaken}
 use Rattle.teco_law_facts.specs.Describes.{Run, IsWhole, Describes, IsTaken, IsOptional, around_of}

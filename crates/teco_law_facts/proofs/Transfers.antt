@@ -26,8 +26,9 @@ use Rattle.teco_model.specs.declared.kind.Value.{Value as Given}
 use Rattle.teco_model.specs.declared.kind.Value.TheVariants.{Begin, Size, Pointer, Whole, LastLength, LastText}
 use Rattle.teco_poly.specs.Polynomial.{Polynomial, value}
 use Rattle.teco_law_facts.proofs.Asking.{interval_value, query_foretold, number_is, length_is, mode_is, past, number_fits}
-use Rattle.teco_law_facts.proofs.Editing.{deletion_foretold, insertion_foretold}
-use Rattle.teco_law_facts.proofs.Moving.{motion_foretold, size_in, pointer_in}
+use Rattle.teco_law_facts.proofs.Deletion.{deletion_foretold}
+use Rattle.teco_law_facts.proofs.Insertion.{insertion_foretold}
+use Rattle.teco_law_facts.proofs.Motion.{motion_foretold, size_in, pointer_in}
 use Rattle.teco_law_facts.proofs.Numbers.{AreDistances, any_within}
 use Rattle.teco_law_facts.proofs.Pending.{settled_are, give_covers, give_both_covers, operate_covers, comma_covers, closed_covers, at_level_covers, taken_covers, nothing_is, opened_is, single_in, empty_is}
 use Rattle.teco_law_facts.proofs.Registers.{storage_foretold, typing_foretold, pushed_holds, popped_holds}

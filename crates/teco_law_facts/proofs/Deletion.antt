@@ -1,30 +1,18 @@
--- D, K, I and TAB.
-use Rattle.std.proofs.Common.{◌≡◌, ℕ, suc, ◌+◌, ◌-◌, ◌≤◌, min, max, arith, refl, ap, ◌∙◌, ℤ, pos, negsuc, neg_ℤ, ◌+ℤ◌, ◌≤ℤ◌, int_le, List, [], ◌∷◌, take, drop, length, length-append, length-take, length-drop, Option, Some, None, Result, Ok, Err, IfSome, IfOk, Bool, true, false, ◌&&◌, cond, nat_le, ◌++◌, zero}
-use Rattle.std.specs.Prelude.{unwrap_or, ⊤}
+-- D and K.
+use Rattle.std.proofs.Common.{◌≡◌, ℕ, suc, ◌+◌, ◌-◌, ◌≤◌, min, max, arith, refl, ap, ◌∙◌, ℤ, pos, negsuc, neg_ℤ, ◌+ℤ◌, ◌≤ℤ◌, int_le, take, drop, length, length-append, length-take, length-drop, Option, Some, None, Ok, Err, IfSome, IfOk, Bool, true, false, ◌&&◌, cond, nat_le, zero}
+use Rattle.std.specs.Prelude.{unwrap_or}
 use Rattle.std.proofs.lemmas.Int.{ints, clamps}
 use Rattle.std.proofs.lemmas.Bool.Decides.{nat_tests}
-use Rattle.teco_base.specs.declared.TheConstants.{LIMIT}
-use Rattle.teco_base.specs.declared.code.Code.{Code}
 use Rattle.teco_base.specs.declared.code.Code.TheVariants as code
-use Rattle.teco_base.specs.Arithmetic.{byte_of}
-use Rattle.teco_base.specs.declared.bytes.TheConstants.{TAB}
-use Rattle.teco_base.specs.Text.{text_after_deletion, text_after_insertion, text_after_replacement}
-use Rattle.teco_model.specs.Checked.{◌>>=◌ as ◌>>>=◌}
+use Rattle.teco_base.specs.Text.{text_after_deletion}
 use Rattle.teco_model.specs.Deletion as model
-use Rattle.teco_model.specs.Effect.{Effect, no_answer}
-use Rattle.teco_model.specs.Element.{Element}
-use Rattle.teco_model.specs.Insertion as model_insertion
-use Rattle.teco_model.specs.Places.{place_in, line_span, part_named}
+use Rattle.teco_model.specs.Places.{line_span}
 use Rattle.teco_model.specs.State.{Kept}
 use Rattle.teco_model.specs.declared.arguments.Taken.{Taken}
-use Rattle.teco_model.specs.declared.kind.Insertion.{Insertion}
-use Rattle.teco_model.specs.declared.kind.Insertion.TheVariants.{Text, Tab}
 use Rattle.teco_model.specs.declared.kind.Unit.{Unit as Counted}
 use Rattle.teco_model.specs.declared.kind.Unit.TheVariants.{Characters, Lines}
-use Rattle.teco_model.specs.declared.pattern.Span.{Span as Part}
-use Rattle.teco_poly.specs.Polynomial.{Polynomial, value, number}
-use Rattle.teco_law_facts.proofs.Moving.{IsPlaced, count_within, line_within, line_on, line_back, line_past, bound_is_placed}
-use Rattle.teco_law_facts.proofs.Shapes.{Shifts, Moves, IsDone, Foretells, shift_leads, value-number}
+use Rattle.teco_law_facts.proofs.Motion.{IsPlaced, count_within, line_within, line_on, line_back, line_past, bound_is_placed}
+use Rattle.teco_law_facts.proofs.Shapes.{Shifts, Moves, IsDone, Foretells, shift_leads}
 use Rattle.teco_law_facts.proofs.Steps.{given_then}
 use Rattle.teco_law_facts.proofs.Leading.{leads_given}
 use Rattle.teco_verifier.specs.facts.Arguments.{KnownTaken}
@@ -32,12 +20,9 @@ use Rattle.teco_verifier.specs.facts.Attempt.{◌>>=◌}
 use Rattle.teco_verifier.specs.facts.Deletions as row
 use Rattle.teco_law_facts.specs.Describes.{Run, IsWhole, Holds, IsTaken, IsOptional, fore_of, back_of, around_of, beyond_of, IsMarked}
 use Rattle.teco_verifier.specs.facts.Facts.{Facts, nowhere}
-use Rattle.teco_verifier.specs.facts.Insertions as insertions
 use Rattle.teco_verifier.specs.facts.Motions.{count_of}
-use Rattle.teco_verifier.specs.facts.Shifts.{Shift, moving, ending, Foreseen, silent_behind, KnownPlace}
-use Rattle.teco_verifier.specs.facts.Typings as typings
+use Rattle.teco_verifier.specs.facts.Shifts.{Shift, moving, ending, silent_behind, KnownPlace}
 use Rattle.teco_verifier.specs.facts.Values.{IsWithin, IsValue, Surroundings}
-use Rattle.teco_verifier.specs.declared.refusal.Refusal.{Refusal}
 use Rattle.teco_verifier.specs.declared.refusal.Refusal.TheVariants as refusal
 use Rattle.teco_verifier.specs.declared.values.Interval.{Interval}
 use Rattle.teco_verifier.specs.declared.values.Value.{Value}
@@ -47,6 +32,7 @@ use Rattle.teco_law_facts.proofs.Falls.{Descends, held_before}
 use Rattle.teco_law_facts.proofs.Beyond.{behind_line, beyond_later, drop_joined}
 use Rattle.teco_law_facts.proofs.Near.{beyond_is, line_of}
 use Rattle.teco_verifier.specs.declared.values.Distances.{Distances}
+use Rattle.teco_law_facts.proofs.Parts.{in_text, within_text}
 
 -- the positive part keeps the order
 positive_more : (z w : ℤ) → z ≤ℤ w → row.positive z ≤ row.positive w
@@ -58,13 +44,10 @@ positive_more (negsuc a) w h = omega arith
 positive_none : (z : ℤ) → pos 0 ≤ℤ z → row.positive (neg_ℤ z) ≤ 0
 positive_none z h = positive_more (neg_ℤ z) (pos 0) (omega (arith, ints))
 
-nat_le_true : (a b : ℕ) → a ≤ b → nat_le a b ≡ true
-nat_le_true a b h = grind (arith, nat_tests)
-
--- there is something
-abbrev pub Comes : {X : Type 0} → Result X Code → Type 0
-Comes (Ok x) = ⊤
-Comes (Err c) = ⊥
+-- no digit is known
+pub unmarked : (around : Surroundings) (mark : Option DigitMark) → mark ≡ None → IsMarked around mark
+unmarked around None e = tt
+unmarked around (Some m) e = absurd (cc)
 
 module _ (run : Run) (facts : Facts) (unread : ℕ) (kept : Kept) (whole : IsWhole kept) (h : Holds run facts unread kept) where
   -- what is left behind the pointer
@@ -76,10 +59,6 @@ module _ (run : Run) (facts : Facts) (unread : ℕ) (kept : Kept) (whole : IsWho
 
   cut_beyond : (a b : ℕ) → a ≤ b → b ≤ length kept.text → beyond_of (cut a b) ≡ behind_line (drop b kept.text)
   cut_beyond a b ordered inside = beyond_is (cut a b) (omega (arith, cut_long a b ordered inside)) ∙ ap behind_line (drop_joined a (take a kept.text) (drop b kept.text) (omega (arith, length-take a kept.text)))
-
-  unmarked : (around : Surroundings) (mark : Option DigitMark) → mark ≡ None → IsMarked around mark
-  unmarked around None e = tt
-  unmarked around (Some m) e = absurd (cc)
 
   -- the shape of all that deletes
   cut_with : (shift : Shift) (a b : ℕ) → a ≤ b → b ≤ length kept.text → shift.distances.back ≤ a → shift.distances.fore + b ≤ length kept.text → shift.loss ≤ b - a → shift.digit ≡ None → ((u : ℕ) → held_before shift.descent (around_of kept) u ≡ fore_of kept + back_of kept + u) → ((u : ℕ) → Descends shift.descent (around_of kept) u (around_of (cut a b)) u) → Shifts run.n (ending shift) kept (cut a b)
@@ -145,17 +124,11 @@ module _ (run : Run) (facts : Facts) (unread : ℕ) (kept : Kept) (whole : IsWho
   greater_fall a b (Some v) None k l i j = omega (arith, ints, whole.inside)
   greater_fall a b None None k l i j = tt
 
-  within_text : (m : ℕ) (place : KnownPlace) → IsPlaced run facts unread kept whole h (pos m) place → m ≤ length kept.text
-  within_text m place p = omega (arith, ints, p.end)
-
-  in_text : (m : ℕ) → m ≤ length kept.text → place_in kept.text (pos m) ≡ Some m
-  in_text m w = ap (λ b. cond b (Some m) None) (nat_le_true m (length kept.text) w)
-
   part_cut : (v w : ℤ) (from to : KnownPlace) → IsPlaced run facts unread kept whole h v from → IsPlaced run facts unread kept whole h w to → Moves run.n (ending (row.nearer from to)) kept None (model.part_deletion (Some v) (Some w) kept)
   part_cut (pos a) (pos b) from to p q =
-      let k = within_text a from p in
-      let l = within_text b to q in
-      rw (in_text a k, in_text b l)
+      let k = within_text run facts unread kept whole h a from p in
+      let l = within_text run facts unread kept whole h b to q in
+      rw (in_text kept a k, in_text kept b l)
       (cut_at (row.nearer from to).distances (greater_known from.beyond to.beyond) 0 (min a b) (max a b) (omega arith) (omega arith) (omega (arith, ints, p.begin, q.begin)) (omega (arith, ints, p.end, q.end)) (omega arith) (greater_fall a b from.beyond to.beyond k l p.fall q.fall), tt)
   part_cut (negsuc a) w from to p q = absurd (omega (arith, ints, p.begin))
   part_cut (pos a) (negsuc b) from to p q = absurd (omega (arith, ints, q.begin))
@@ -190,75 +163,3 @@ module _ (run : Run) (facts : Facts) (unread : ℕ) (kept : Kept) (whole : IsWho
 
   pub deletion_foretold : (unit : Counted) (known : KnownTaken) (taken : Taken) → IsTaken (around_of kept) known taken → Foretells run facts unread kept (row.deletion unit known facts) (model.deletion unit taken kept)
   deletion_foretold unit known taken i = deletion_known unit known.first known.value taken.first taken.value i.first i.value
-
-  -- the shape of all that puts a text in the place of the characters from a up to b
-  abbrev put : ℕ → ℕ → List ℕ → Kept
-  put a b new = record kept { text = text_after_replacement kept.text a b new; pointer = a + length new; last_length = length new }
-
-  pub put_long : (a b : ℕ) (new : List ℕ) → a ≤ b → b ≤ length kept.text → length (text_after_replacement kept.text a b new) ≡ a + (length new + (length kept.text - b))
-  put_long a b new ordered inside = omega (arith, length-append {A = ℕ}, length-take a kept.text, length-drop b kept.text)
-
-  pub put_beyond : (a b : ℕ) (new : List ℕ) → a ≤ b → b ≤ length kept.text → beyond_of (put a b new) ≡ behind_line (drop b kept.text)
-  put_beyond a b new ordered inside =
-      beyond_is (put a b new) (omega (arith, put_long a b new ordered inside))
-      ∙ ap behind_line (drop_joined (a + length new) (take a kept.text ++ new) (drop b kept.text) (omega (arith, length-append (take a kept.text) new, length-take a kept.text)))
-
-  put_by : (by : Option ℤ) (a b u : ℕ) (new : List ℕ) → a ≤ b → b ≤ length kept.text → IfSome by (λ v. (pos (length kept.text - b) +ℤ v) ≤ℤ pos (fore_of kept)) → Descends (By by) (around_of kept) u (around_of (put a b new)) u
-  put_by None a b u new ordered inside i = tt
-  put_by (Some (pos v)) a b u new ordered inside i = (omega (arith, ints, i, put_long a b new ordered inside), omega (arith, put_beyond a b new ordered inside, beyond_is kept whole.inside, beyond_later kept.pointer b kept.text (omega (arith, ints, i, whole.inside))))
-  put_by (Some (negsuc v)) a b u new ordered inside i = omega (arith, ints, i, put_long a b new ordered inside)
-
-  pub replaced_at : (shift : Shift) (by : Option ℤ) (a b : ℕ) (new : List ℕ) → shift.descent ≡ By by → shift.digit ≡ None → a ≤ b → b ≤ length kept.text → shift.distances.back ≤ a + length new → shift.distances.fore + b ≤ length kept.text → length new + shift.loss ≤ b - a + value shift.growth run.n → IfSome by (λ v. (pos (length kept.text - b) +ℤ v) ≤ℤ pos (fore_of kept)) → (shift.ends ≡ false → b - a ≤ length new) → Shifts run.n shift kept (put a b new)
-  replaced_at shift by a b new descent digit ordered inside behind ahead grown fallen longer = search (put_long, put_by, unmarked, arith)
-
-  -- such a text fits where what is held does
-  pub replaced_within : (a b growth : ℕ) (new : List ℕ) → a ≤ b → b ≤ length kept.text → length new ≤ b - a + growth → value facts.held run.n + growth ≤ LIMIT → length (text_after_replacement kept.text a b new) ≤ LIMIT
-  replaced_within a b growth new ordered inside grown f = search (length-append, length-take, length-drop, arith)
-
-  put_at : (m : ℕ) (growth : Polynomial) (new : List ℕ) (b : Bool) → nat_le (length (text_after_insertion kept.text kept.pointer new)) LIMIT ≡ b → m ≤ length new → length new ≤ value growth run.n → value facts.held run.n + value growth run.n ≤ LIMIT → Moves run.n (insertions.insertion_of m growth facts.position.distances) kept None (cond b (Ok (no_answer (record kept { text = text_after_insertion kept.text kept.pointer new; pointer = kept.pointer + length new; last_length = length new }))) (Err code.Ful))
-  put_at m growth new true e k l f =
-      (replaced_at (insertions.insertion_of m growth facts.position.distances) (Some (pos 0)) kept.pointer kept.pointer new refl refl (omega arith) whole.inside (omega (arith, h.position.begin)) (omega (arith, h.position.end, whole.inside)) (omega arith) (omega (arith, ints)) (λ e. omega arith), tt)
-  put_at m growth new false e k l f =
-      let within = replaced_within kept.pointer kept.pointer (value growth run.n) new (omega arith) whole.inside (omega arith) f in
-      absurd (grind (arith, nat_tests, within))
-
-  pub inserted_foretold : (m : ℕ) (growth : Polynomial) (new : List ℕ) → m ≤ length new → length new ≤ value growth run.n → Foretells run facts unread kept (silent_behind (insertions.insertion_of m growth facts.position.distances) facts) (model_insertion.insertion_of new kept)
-  inserted_foretold m growth new k l = shift_leads run facts unread kept whole h (insertions.insertion_of m growth facts.position.distances) None _ (λ f. put_at m growth new _ refl k l f)
-
-  -- of as many as are known
-  length_foretold : (new : List ℕ) → Foretells run facts unread kept (insertions.insertion_of_length (length new) facts) (model_insertion.insertion_of new kept)
-  length_foretold new = inserted_foretold (length new) (number (length new)) new (omega arith) (omega (arith, value-number (length new) run.n))
-
-  insertion_known : (i : Insertion) (text : List ℕ) (o : Option Value) (v : Option ℤ) → IsOptional (IsValue (around_of kept)) o v → Foretells run facts unread kept (insertions.insertion_with i text o facts) (model_insertion.insertion_with i text v kept)
-  insertion_known Text text None None j = length_foretold text
-  insertion_known Text [] (Some s) (Some v) j = length_foretold (byte_of v ∷ [])
-  insertion_known Text (c ∷ text) (Some s) (Some v) j = tt
-  insertion_known Tab text None None j = length_foretold (TAB ∷ text)
-  insertion_known Tab text (Some s) (Some v) j = tt
-  insertion_known i text o v j = absurd (grind arith)
-
-  pub insertion_foretold : (i : Insertion) (e : Element) (known : KnownTaken) (taken : Taken) → IsTaken (around_of kept) known taken → Foretells run facts unread kept (insertions.insertion i e.text known facts) (model_insertion.insertion i e taken kept)
-  insertion_foretold i e known taken j = insertion_known i e.text known.value taken.value j.value
-
-  -- ---- parts of the buffer
-  both_in : (v w : ℤ) (from to : KnownPlace) → IsPlaced run facts unread kept whole h v from → IsPlaced run facts unread kept whole h w to → Comes (part_named (Some v) (Some w) kept)
-  both_in (pos a) (pos b) from to p q = rw (in_text a (within_text a from p), in_text b (within_text b to q)) tt
-  both_in (negsuc a) w from to p q = absurd (omega (arith, ints, p.begin))
-  both_in (pos a) (negsuc b) from to p q = absurd (omega (arith, ints, q.begin))
-
-  pub both_named : (s t : Value) (v w : ℤ) → IsValue (around_of kept) s v → IsValue (around_of kept) t w → IfOk (typings.part_named facts.rules (Some s) (Some t) facts.position.distances) (λ u. Comes (part_named (Some v) (Some w) kept))
-  both_named s t v w i j =
-      given_then (IsPlaced run facts unread kept whole h v) (λ u. Comes (part_named (Some v) (Some w) kept)) _ _ (bound_is_placed run facts unread kept whole h facts.rules s v i) (λ from p.
-      given_then (IsPlaced run facts unread kept whole h w) (λ u. Comes (part_named (Some v) (Some w) kept)) _ _ (bound_is_placed run facts unread kept whole h facts.rules t w j) (λ to q. both_in v w from to p q))
-
-  part_leads : (known : Result Foreseen Refusal) (go_on : Part → Result Effect Code) → ((part : Part) → Foretells run facts unread kept known (go_on part)) → (part : Result Part Code) → Comes part → Foretells run facts unread kept known (part >>>= go_on)
-  part_leads known go_on k (Ok part) c = k part
-  part_leads known go_on k (Err e) c = absurd c
-
-  -- a part that is named leads on
-  pub parts_lead : (f o : Option Value) (m v : Option ℤ) → IsOptional (IsValue (around_of kept)) f m → IsOptional (IsValue (around_of kept)) o v → (known : Result Foreseen Refusal) (go_on : Part → Result Effect Code) → ((part : Part) → Foretells run facts unread kept known (go_on part)) → Foretells run facts unread kept (typings.part_named facts.rules f o facts.position.distances >>= λ named. known) (part_named m v kept >>>= go_on)
-  parts_lead (Some s) (Some t) (Some v) (Some w) i j known go_on k =
-      leads_given (λ u. Comes (part_named (Some v) (Some w) kept)) _ (IsDone run facts unread kept) _ _ _ (both_named s t v w i j) (λ u ok. part_leads known go_on k _ ok)
-  parts_lead None o None v i j known go_on k = k _
-  parts_lead (Some s) None (Some v) None i j known go_on k = k _
-  parts_lead f o m v i j known go_on k = absurd (grind arith)
