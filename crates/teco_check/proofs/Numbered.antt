@@ -5,9 +5,8 @@ use Rattle.std.specs.Option.{option_map_or}
 use Rattle.std.proofs.lemmas.Bool.Decides.{nat_tests}
 use Rattle.teco_verifier.specs.expansion.Ends.{is_innermost}
 use Rattle.teco_verifier.specs.facts.Facts.{Iteration, Facts}
-use Rattle.teco_facts.specs.Room.{innermost}
 use Rattle.teco_verifier.specs.table.Behind.{is_inside, open_at}
-use Rattle.teco_verifier.specs.table.Closed.{has_none, is_known_in, is_counted}
+use Rattle.teco_verifier.specs.table.Closed.{has_none, is_known_in}
 use Rattle.teco_verifier.specs.table.Table.{Table}
 use Rattle.teco_check.specs.Here.{no_node, node_at}
 use Rattle.teco_check.specs.Known.{known_since}
@@ -70,7 +69,3 @@ known_none table (begin ∷ outer) facts e = absurd (cc)
 pub known_some : (table : Table) (iterations : List ℕ) (facts : Facts) (begin : ℕ) → slice_get iterations 0 ≡ Some begin → is_known_in table iterations facts ≡ known_since table begin facts
 known_some table [] facts begin e = absurd (cc)
 known_some table (number ∷ outer) facts begin e = let is : number ≡ begin = cc in rw is refl
-
-pub counted_is : (iterations : List Iteration) → is_counted iterations ≡ option_map_or (λ (i : Iteration). i.counted) (innermost iterations) false
-counted_is [] = refl
-counted_is (i ∷ outer) = refl

@@ -3,19 +3,19 @@ ghost use Rattle.std.specs.Prelude.{◌≡◌, ◌<◌, ◌≤◌, length, get_o
 ghost use Rattle.teco_model.specs.Element as elements;
 ghost use Rattle.teco_verifier.specs.facts.Flows as flows;
 ghost use Rattle.teco_facts.specs.Does.{Gives};
-ghost use Rattle.teco_transfer.specs.Placed.{seen};
 ghost use Rattle.teco_verifier.specs.table.Behind as rules;
 ghost use Rattle.teco_check.specs.Here.{node_at};
 ghost use Rattle.teco_check.specs.Kept.{AreKept};
 ghost use Rattle.teco_check.specs.Ways as ways;
 
-use crate::node::{colon, depth, element, inside, names_macro, way};
+use crate::here::Here;
+use crate::node::{depth, way};
 use teco_expansion::Nodes;
 use teco_facts::Facts;
 use teco_known::Fault;
 use teco_model::Element;
 use teco_model::kind::{Flow, Kind};
-use teco_transfer::{Edges, Placed, return_from, transfer_from};
+use teco_transfer::Edges;
 
 // How many iterations are open at a number; behind all nodes there is none.
 #[tactic(auto, using(crate::proofs::Numbered::open_is, crate::proofs::Numbered::open_outside))]
@@ -39,36 +39,14 @@ fn first_way(nodes: &Nodes<'_>, number: usize) -> usize
     way(nodes, number, 0).unwrap_or(0)
 }
 
-// How many iterations a jump there leaves.
-fn left_by(nodes: &Nodes<'_>, number: usize) -> usize
+/// How many iterations a jump there leaves.
+pub fn left_by(nodes: &Nodes<'_>, number: usize) -> usize
     requires one { 0 < number }
     requires last { number ≤ length nodes.now }
     ensures { result ≡ rules.left_by nodes.now (node_at nodes.now number) }
 {
     let after = open_at(nodes, first_way(nodes, number));
     depth(nodes, number).saturating_sub(after)
-}
-
-/// What is known behind it, from what is known there, which is taken; if there is memory.
-pub fn edges_from(nodes: &Nodes<'_>, number: usize, facts: Facts) -> Result<Edges, Fault>
-    requires one { 0 < number }
-    requires last { number ≤ length nodes.now }
-    requires kept { AreKept facts }
-    ensures { Gives (rules.edges_at nodes.now (node_at nodes.now number) facts) result }
-{
-    match element(nodes, number) {
-        None => Ok(return_from(facts)),
-        Some(element) => {
-            let placed = Placed {
-                element,
-                library: names_macro(nodes, number),
-                inside: inside(nodes, number),
-                colon: colon(nodes, number),
-                leaves: left_by(nodes, number),
-            };
-            transfer_from(&placed, facts)
-        }
-    }
 }
 
 /// What is known behind it, if there is memory.
@@ -78,8 +56,8 @@ pub fn edges_at(nodes: &Nodes<'_>, number: usize, facts: &Facts) -> Result<Edges
     requires kept { AreKept facts.now }
     ensures { Gives (rules.edges_at nodes.now (node_at nodes.now number) facts.now) result }
 {
-    let here = facts.copied().map_err(|_| Fault::Memory)?;
-    edges_from(nodes, number, here)
+    let known = facts.copied().map_err(|_| Fault::Memory)?;
+    Here::at(nodes, number).edges(known)
 }
 
 // Whether a way of an element of flow takes the edge that goes on.
@@ -93,8 +71,8 @@ fn goes_on_by_flow(flow: Flow, first: bool) -> bool
     }
 }
 
-// Whether execution may go on behind an element of this kind.
-fn goes_on(kind: Kind, first: bool) -> bool
+/// Whether execution may go on behind an element of this kind.
+pub fn goes_on(kind: Kind, first: bool) -> bool
     ensures { result ≡ ways.goes_on kind first }
 {
     match kind {
@@ -126,19 +104,8 @@ pub fn along<'e>(read: &Option<Element<'_>>, way: usize, edges: &'e Edges) -> Op
     }
 }
 
-/// Takes out what is known on a way.
-pub fn take_along(read: &Option<Element<'_>>, way: usize, edges: &mut Edges) -> Option<Facts>
-    ensures { result ≡ rules.along (option_map elements.seen read.now) way edges.old }
-{
-    if takes_on(read, way) {
-        edges.on.take()
-    } else {
-        edges.away.take()
-    }
-}
-
-// Whether an element begins turns: < and > do.
-fn turns(kind: Kind) -> bool
+/// Whether an element begins turns: < and > do.
+pub fn turns(kind: Kind) -> bool
     ensures { result ≡ ways.turns kind }
 {
     matches!(kind, Kind::Flow(Flow::Iterate | Flow::EndTurn))

@@ -27,17 +27,6 @@ pub fn begins_iteration(read: &Option<Element<'_>>) -> bool
     }
 }
 
-// Whether the innermost iteration has a count.
-#[tactic(auto, using(crate::proofs::Numbered::counted_is))]
-fn is_counted(facts: &Facts) -> bool
-    ensures { result ≡ rules.is_counted facts.now.iterations }
-{
-    match facts.innermost() {
-        None => false,
-        Some(iteration) => iteration.counted,
-    }
-}
-
 // What an iteration's body changes, and what is known at its end.
 #[derive(Clone, Copy)]
 struct Body<'a> {
@@ -57,8 +46,7 @@ fn start_stands(
     ensures { IfOk result (λ yes. yes ≡ rules.body_stands body.now.changes.now
         (option_copied body.now.end) entering (Some start.now) (Some choice.now) (Ok most.now)) }
 {
-    let counted = is_counted(&entering);
-    let stands = choice.stands(body.changes, counted, most, &entering, body.end);
+    let stands = choice.stands(body.changes, most, &entering, body.end);
     let begun = body_start(choice, body.changes, entering)?;
     Ok(say_same(start, &begun) && stands)
 }

@@ -4,6 +4,7 @@ ghost use Rattle.teco_base.specs.declared.TheConstants.{REGISTERS};
 ghost use Rattle.teco_verifier.specs.facts.Bodies as bodies;
 ghost use Rattle.teco_verifier.specs.facts.Ranks as ranks;
 ghost use Rattle.teco_verifier.specs.facts.Shifts as shifts;
+ghost use Rattle.teco_verifier.specs.table.Closed as closed;
 
 use crate::Facts;
 use crate::covering::covers_pairs;
@@ -227,19 +228,18 @@ impl Choice {
     pub fn stands(
         &self,
         changes: &Changes,
-        counted: bool,
         turns: &Poly,
         entering: &Facts,
         end: Option<&Facts>,
     ) -> bool
-        ensures { result ≡ bodies.stands self.now changes.now counted turns.now entering.now
-            (option_copied end.entry) }
+        ensures { result ≡ bodies.stands self.now changes.now (closed.is_counted
+            entering.now.iterations) turns.now entering.now (option_copied end.entry) }
     {
         match end {
             None => self.begins(entering),
             Some(end) => {
                 self.begins(entering)
-                    && (counted || end.rank().is_some())
+                    && (entering.is_counted() || end.rank().is_some())
                     && (!self.kept || end.has_fallen(0))
                     && has_room(self, turns, entering, end)
                     && begins_again(self, changes, entering, end)

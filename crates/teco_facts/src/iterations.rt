@@ -2,6 +2,7 @@
 ghost use Rattle.std.specs.Prelude.{◌≡◌, ◌<◌, drop, length, IsTrue};
 ghost use Rattle.teco_verifier.specs.facts.Facts as rules;
 ghost use Rattle.teco_verifier.specs.facts.Flows as flows;
+ghost use Rattle.teco_verifier.specs.table.Closed as closed;
 ghost use Rattle.teco_known.specs.Numbers.{AreSmall};
 ghost use Rattle.teco_facts.specs.Room.{HasRoom};
 ghost use Rattle.teco_known.specs.declared.few.TheConstants.{DEPTH};
@@ -25,6 +26,16 @@ impl Facts {
         ensures { result ≡ length self.now.iterations }
     {
         self.known.iterations.as_slice().len()
+    }
+
+    /// Whether the innermost iteration has a count.
+    pub fn is_counted(&self) -> bool
+        ensures { result ≡ closed.is_counted self.now.iterations }
+    {
+        match self.known.iterations.as_slice() {
+            [] => false,
+            [innermost, ..] => innermost.counted,
+        }
     }
 
     /// Whether more may be added to each fall.

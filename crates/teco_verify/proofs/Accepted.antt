@@ -25,7 +25,6 @@ use Rattle.teco_law_tables.specs.straight_text.Accepted.{BeginsNoIteration, Prin
 use Rattle.teco_verifier.specs.table.Closed.{check}
 use Rattle.teco_verifier.specs.table.Choices.{Chosen}
 use Rattle.teco_verifier.specs.table.Deriving.{derive}
-use Rattle.teco_verifier.specs.table.Printed.{commands}
 use Rattle.teco_verifier.specs.table.Table.{Table, facts_at}
 use Rattle.teco_verify.specs.Certifying.{AreFieldsOf}
 use Rattle.teco_verify.specs.Straight.{plain_fields}

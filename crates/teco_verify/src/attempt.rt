@@ -94,18 +94,10 @@ impl Attempt {
         body_start(&self.choice, &self.changes, self.entering.copied()?)
     }
 
-    // Whether the iteration has a count.
-    fn is_counted(&self) -> bool {
-        match self.entering.innermost() {
-            None => false,
-            Some(iteration) => iteration.counted,
-        }
-    }
-
     // The turns, where this is known at the `>`.
     fn turns_by(&self, end: &Facts) -> Result<Poly, Refusal> {
         match end.rank() {
-            Some(Rank::Held) if !self.is_counted() => {
+            Some(Rank::Held) if !self.entering.is_counted() => {
                 let held = self.entering.held();
                 held.add(&Poly::number(1)).ok_or(Refusal::Overflow)
             }
@@ -126,7 +118,7 @@ impl Attempt {
 
     // What is wrong for any choice.
     fn fault(&self, end: &Facts) -> Option<Refusal> {
-        if !self.is_counted() && end.rank().is_none() {
+        if !self.entering.is_counted() && end.rank().is_none() {
             Some(Refusal::Fall)
         } else if end.pushed() != self.entering.pushed() {
             Some(Refusal::Pop)
@@ -137,9 +129,8 @@ impl Attempt {
 
     // Whether the choice stands.
     fn stands(&self, turns: &Poly, end: &Facts) -> bool {
-        let counted = self.is_counted();
         self.choice
-            .stands(&self.changes, counted, turns, &self.entering, Some(end))
+            .stands(&self.changes, turns, &self.entering, Some(end))
     }
 
     // Whether the choice stands with this end of a turn. Where all pairs that were pushed lie at

@@ -5,6 +5,7 @@ mod account;
 mod asked;
 mod attempt;
 mod certifying;
+mod course;
 mod known;
 mod meeting;
 mod memo;

@@ -67,6 +67,11 @@ fn push_pair(pairs: &mut Vec<Pushed>, pair: Pushed) -> Result<(), AllocError> {
     Ok(())
 }
 
+/// Whether two edges may meet: nothing is pending on either, and on both as many pairs were pushed.
+pub fn may_meet(facts: &Facts, more: &Facts) -> bool {
+    facts.none_pending().is_ok() && more.none_pending().is_ok() && facts.pushed() == more.pushed()
+}
+
 /// What is known where two edges meet.
 pub fn met(alloc: Global, mut facts: Facts, mut more: Facts) -> Result<Facts, Fault> {
     let first = facts.take_pushes();

@@ -1,5 +1,6 @@
 //! The edges that lead to nodes ahead, by these nodes.
 
+use crate::meeting::may_meet;
 use std::alloc::{AllocError, Global};
 use teco_facts::Facts;
 
@@ -7,7 +8,7 @@ use teco_facts::Facts;
 #[derive(Drop)]
 struct Arrival {
     target: usize,
-    // until its node is passed
+    // until its node is passed, or others meet it
     facts: Option<Facts>,
     // the place of the one before it that leads to the same node
     before: Option<usize>,
@@ -69,6 +70,23 @@ impl Pending {
         })?;
         self.set_newest(target, Some(place));
         Ok(())
+    }
+
+    /// Takes out what is known on the last edges that wait at a node, if they came behind so many,
+    /// and others may meet them.
+    pub fn take_newest(&mut self, target: usize, since: usize, others: &Facts) -> Option<Facts> {
+        let place = self.newest_at(target)?;
+        if place < since {
+            return None;
+        }
+        let arrival = self.arrivals.get_mut(place)?;
+        match &arrival.facts {
+            Some(facts) if may_meet(facts, others) => {}
+            _ => return None,
+        }
+        let (facts, before) = (arrival.facts.take(), arrival.before);
+        self.set_newest(target, before);
+        facts
     }
 
     /// Takes out what is known on the edges to a node, from the last that came to the first.

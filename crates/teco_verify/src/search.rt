@@ -5,15 +5,15 @@ ghost use Rattle.teco_check.specs.Kept.{AreKept};
 ghost use Rattle.teco_verify.specs.Unfit.{IsAt, IsIn};
 
 use crate::attempt::{Attempt, Verdict};
+use crate::course::Course;
 use crate::meeting::met;
 use crate::memo::Memo;
 use crate::pending::Pending;
 use crate::unfit::Unfit;
 use std::alloc::{AllocError, Global};
-use teco_check::{are_kept, begins_iteration, begins_turn, edges_from, take_along};
+use teco_check::are_kept;
 use teco_expansion::Nodes;
 use teco_facts::{Entry, Facts};
-use teco_model::Element;
 use teco_poly::Poly;
 use teco_transfer::{Edges, turns};
 use teco_verifier::{LoopLine, Refusal, Rules};
@@ -69,17 +69,36 @@ impl Search {
         }
     }
 
-    // An edge leads to a node ahead.
-    fn arrive(&mut self, number: usize, target: usize, facts: Facts) -> Result<(), AllocError> {
+    // How many edges had come as the innermost try began; the later ones are dropped with it.
+    fn since(&self) -> usize {
+        match self.attempts.last() {
+            None => 0,
+            Some(attempt) => attempt.pending,
+        }
+    }
+
+    // An edge leads to a node ahead. Where one of this try waits there, they meet at once, unless
+    // that is refused: then it is where the node is passed.
+    fn arrive(&mut self, number: usize, target: usize, facts: Facts) -> Result<(), Unfit>
+        ensures { IfErr result (IsAt number) }
+    {
         if number < target && target - number == 1 && self.carried.is_none() {
             self.carried = Some(facts);
-        } else {
-            self.pending.put(target, facts)?;
+            return Ok(());
+        }
+        let since = self.since();
+        match self.pending.take_newest(target, since, &facts) {
+            None => self.pending.put(target, facts)?,
+            Some(others) => {
+                let both = joined(self.alloc, Some(facts), others, number)?;
+                self.pending.put(target, both)?;
+            }
         }
         Ok(())
     }
 
-    // The body of an iteration is entered.
+    // The body of an iteration is entered. Out of line, as `turn` is.
+    #[inline(never)]
     fn begin(
         &mut self,
         nodes: &Nodes<'_>,
@@ -106,13 +125,11 @@ impl Search {
     }
 
     // The > of the innermost try is passed: the choice stands, or the body is passed again, from
-    // the number that is answered.
+    // the number that is answered. Out of line, since each call clears room for an attempt.
+    #[inline(never)]
     fn turn(&mut self, number: usize, known: &mut Option<Facts>) -> Result<Option<usize>, Unfit>
         ensures { IfErr result (IsAt number) }
     {
-        if !self.is_end(number) {
-            return Ok(None);
-        }
         let Some(mut attempt) = self.attempts.pop() else {
             return Ok(None);
         };
@@ -157,22 +174,23 @@ impl Search {
     // Follows the ways of a node that is reached, but for those that begin a turn.
     fn depart(
         &mut self,
-        nodes: &Nodes<'_>,
+        course: &Course<'_, '_>,
         number: usize,
-        read: &Option<Element<'_>>,
         edges: &mut Edges,
-    ) -> Result<(), AllocError>
+    ) -> Result<(), Unfit>
         requires one { 0 < number }
-        requires last { number ≤ length nodes.now }
+        requires last { number ≤ length course.now }
+        ensures { IfErr result (IsAt number) }
     {
+        let (nodes, here) = (course.nodes, course.here(number));
         for at in 0..nodes.ways(number) {
-            if begins_turn(read, at) {
+            if here.begins_turn(at) {
                 continue;
             }
             let Some(target) = nodes.way(number, at) else {
                 continue;
             };
-            if let Some(edge) = take_along(read, at, edges) {
+            if let Some(edge) = here.take_along(at, edges) {
                 self.arrive(number, target, edge)?;
             }
         }
@@ -180,61 +198,63 @@ impl Search {
     }
 
     // Goes on from a node that is reached.
-    fn go_on(&mut self, nodes: &Nodes<'_>, number: usize, facts: Facts) -> Result<(), Unfit>
+    fn go_on(&mut self, course: &Course<'_, '_>, number: usize, facts: Facts) -> Result<(), Unfit>
         requires one { 0 < number }
-        requires last { number ≤ length nodes.now }
+        requires last { number ≤ length course.now }
         requires kept { AreKept facts }
         ensures { IfErr result (IsAt number) }
     {
-        let read = nodes.element(number);
-        let turns = if begins_iteration(&read) {
+        let here = course.here(number);
+        let turns = if here.begins_iteration() {
             Some(turns(None, &facts))
         } else {
             None
         };
-        let mut edges = edges_from(nodes, number, facts).map_err(|fault| Unfit::by(fault, number))?;
-        self.depart(nodes, number, &read, &mut edges)?;
+        let mut edges = here.edges(facts).map_err(|fault| Unfit::by(fault, number))?;
+        self.depart(course, number, &mut edges)?;
         match (edges.on.take(), turns) {
             (Some(entering), Some(turns)) => {
                 let turns = turns.map_err(|why| Unfit::at(why, number))?;
-                Ok(self.begin(nodes, number, turns, entering)?)
+                Ok(self.begin(course.nodes, number, turns, entering)?)
             }
             _ => Ok(()),
         }
     }
 
     // Passes a node, and answers the number of the next.
-    fn pass(&mut self, nodes: &Nodes<'_>, number: usize) -> Result<usize, Unfit>
+    fn pass(&mut self, course: &Course<'_, '_>, number: usize) -> Result<usize, Unfit>
         requires one { 0 < number }
-        requires last { number ≤ length nodes.now }
+        requires last { number ≤ length course.now }
         ensures next { IfOk result (λ next. 0 < next) }
         ensures told { IfErr result (IsAt number) }
     {
         let known = self.met(number)?;
-        self.leave(nodes, number, known)
+        self.leave(course, number, known)
     }
 
     /// Goes on from a node at which this is known, if it is reached, and answers the number of the
     /// next.
     pub fn leave(
         &mut self,
-        nodes: &Nodes<'_>,
+        course: &Course<'_, '_>,
         number: usize,
         mut known: Option<Facts>,
     ) -> Result<usize, Unfit>
         requires one { 0 < number }
-        requires last { number ≤ length nodes.now }
+        requires last { number ≤ length course.now }
         ensures next { IfOk result (λ next. 0 < next) }
         ensures told { IfErr result (IsAt number) }
     {
-        if let Some(next) = self.turn(number, &mut known)? {
-            return Ok(next.max(1));
+        if self.is_end(number) {
+            if let Some(next) = self.turn(number, &mut known)? {
+                return Ok(next.max(1));
+            }
         }
         if let Some(facts) = known {
             if !are_kept(&facts) {
                 return Err(Unfit::at(Refusal::Bound, number));
             }
-            self.go_on(nodes, number, facts)?;
+            self.go_on(course, number, facts)?;
         }
         Ok(number.saturating_add(1))
     }
@@ -257,13 +277,14 @@ fn joined(alloc: Global, known: Option<Facts>, more: Facts, number: usize) -> Re
 pub fn choose(alloc: Global, entry: &Entry, nodes: &Nodes<'_>) -> Result<Vec<LoopLine>, Unfit>
     ensures { IfErr result (IsIn nodes.now) }
 {
+    let course = Course::new(alloc, nodes)?;
     let mut search = Search::new(alloc, entry, nodes.len())?;
     let mut number = 1;
     for _ in 0..passes(entry.rules).saturating_mul(nodes.len() as u64) {
         if number > nodes.len() {
             return Ok(search.found);
         }
-        number = search.pass(nodes, number)?;
+        number = search.pass(&course, number)?;
     }
     if number > nodes.len() {
         return Ok(search.found);

@@ -1,6 +1,7 @@
 //! What is known at the nodes, as far as the pass that finds the choices comes.
 ghost use Rattle.std.specs.Prelude.{◌<◌, ◌≤◌, length, IfOk};
 
+use crate::course::Course;
 use crate::search::{Search, passes};
 use crate::unfit::Unfit;
 use std::alloc::{AllocError, Global};
@@ -61,28 +62,34 @@ impl Search {
     // Passes a node, and keeps what is known there.
     fn pass_seen(
         &mut self,
-        nodes: &Nodes<'_>,
+        course: &Course<'_, '_>,
         number: usize,
         trail: &mut Trail,
     ) -> Result<usize, Unfit>
         requires one { 0 < number }
-        requires last { number ≤ length nodes.now }
+        requires last { number ≤ length course.now }
         ensures { IfOk result (λ next. 0 < next) }
     {
         trail.forget_from(number);
         let known = self.met(number)?;
         trail.put(&known)?;
-        self.leave(nodes, number, known)
+        self.leave(course, number, known)
     }
 
     // Passes the nodes up to the end or the first refusal, and keeps what is known.
-    fn follow(&mut self, nodes: &Nodes<'_>, rules: Rules, trail: &mut Trail) -> Result<(), Unfit> {
+    fn follow(
+        &mut self,
+        course: &Course<'_, '_>,
+        rules: Rules,
+        trail: &mut Trail,
+    ) -> Result<(), Unfit> {
+        let count = course.nodes.len();
         let mut number = 1;
-        for _ in 0..passes(rules).saturating_mul(nodes.len() as u64) {
-            if number > nodes.len() {
+        for _ in 0..passes(rules).saturating_mul(count as u64) {
+            if number > count {
                 return Ok(());
             }
-            number = self.pass_seen(nodes, number, trail)?;
+            number = self.pass_seen(course, number, trail)?;
         }
         Ok(())
     }
@@ -99,11 +106,12 @@ impl Search {
 
 // Follows the pass to its end, or to the refusal that ends it.
 fn followed(alloc: Global, entry: &Entry, nodes: &Nodes<'_>) -> Result<Table, Unfit> {
+    let course = Course::new(alloc, nodes)?;
     let mut search = Search::new(alloc, entry, nodes.len())?;
     let mut trail = Trail {
         known: Vec::new(alloc),
     };
-    if let Err(Unfit::Memory) = search.follow(nodes, entry.rules, &mut trail) {
+    if let Err(Unfit::Memory) = search.follow(&course, entry.rules, &mut trail) {
         return Err(Unfit::Memory);
     }
     let chosen = search.into_chosen()?;
