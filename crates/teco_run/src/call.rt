@@ -9,8 +9,8 @@ use teco_base::Reg;
 use teco_editor::{Editor, Stuck};
 use teco_text::TextStore;
 
-/// Goes on in the text of a register, and behind its end at a place of the running text. It is
-/// called, so that the loop of steps stays small.
+/// Goes on in the text of a register, and behind its end at a place of the running text. Out of
+/// line, so that the loop of steps stays small.
 #[inline(never)]
 pub fn call<T: TextStore>(
     editor: &Editor<T>,
