@@ -65,12 +65,20 @@ fn register_name(kind: &Kind) -> u8 {
 // What an element is: the label of its kind, its colons and whether it has `@`, and its register.
 type Head = (&'static [u8], u8, bool, u8);
 
-fn is_found(
-    found: &Element<'_>,
+// What is expected of a place in a text: an element, its texts, its place and the next one.
+#[derive(Clone, Copy)]
+struct Expected<'a> {
     head: Head,
-    texts: (&[u8], &[u8]),
+    texts: (&'a [u8], &'a [u8]),
     places: (usize, usize),
-) -> bool {
+}
+
+fn is_found(found: &Element<'_>, expected: Expected<'_>) -> bool {
+    let Expected {
+        head,
+        texts,
+        places,
+    } = expected;
     label(&found.kind) == head.0
         && found.colons == head.1
         && found.at == head.2
@@ -81,21 +89,14 @@ fn is_found(
         && found.next == places.1
 }
 
-// At a place of a text stands this element, with these texts, its place and the next one.
-fn expect_head(
-    rt: &impl Abort,
-    text: &[u8],
-    at: usize,
-    head: Head,
-    texts: (&[u8], &[u8]),
-    places: (usize, usize),
-) {
+// At a place of a text stands what is expected.
+fn expect_head(rt: &impl Abort, text: &[u8], at: usize, expected: Expected<'_>) {
     assert!(rt; at <= text.len());
     match element(text, at) {
-        Ok(Some(found)) => assert!(rt; is_found(&found, head, texts, places)),
+        Ok(Some(found)) => assert!(rt; is_found(&found, expected)),
         _ => assert!(rt; false, "no element"),
     }
-    assert!(rt; blank_end(text, at) == places.0);
+    assert!(rt; blank_end(text, at) == expected.places.0);
 }
 
 // A text, a place, the element that stands there, its texts, its place and the next one.
@@ -136,7 +137,12 @@ const FOUND: &[(&[u8], usize, &[u8], &[u8], (usize, usize))] = &[
 #[test]
 fn elements_are_found(rt: HostRuntime) {
     for (text, at, label, own, places) in FOUND {
-        expect_head(&rt, text, *at, (label, 0, false, b' '), (own, b""), *places);
+        let expected = Expected {
+            head: (label, 0, false, b' '),
+            texts: (own, b""),
+            places: *places,
+        };
+        expect_head(&rt, text, *at, expected);
     }
 }
 
@@ -167,7 +173,12 @@ const MODIFIED: &[Row] = &[
 #[test]
 fn elements_with_modifiers_are_found(rt: HostRuntime) {
     for (text, at, head, texts, places) in MODIFIED {
-        expect_head(&rt, text, *at, *head, *texts, *places);
+        let expected = Expected {
+            head: *head,
+            texts: *texts,
+            places: *places,
+        };
+        expect_head(&rt, text, *at, expected);
     }
 }
 

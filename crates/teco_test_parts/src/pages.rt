@@ -200,28 +200,36 @@ fn first_fault(rt: &impl Abort, alloc: Global, bytes: &[u8], mut host: TestHost)
     panic!(rt; "a call failed twice")
 }
 
+// A call that fails, the nth of its kind, and the fault that a copy is refused with by it. No call
+// is the 0th.
+#[derive(Clone, Copy)]
+struct Failure {
+    call: HostCall,
+    nth: u64,
+    fault: Fault,
+}
+
 // A copy of an input that is not empty makes a call of each kind.
-fn is_right(got: Option<Fault>, want: Fault, nth: u64) -> bool {
-    match (got, want) {
-        (None, _) => nth != 1,
-        (Some(Fault::NoFile), Fault::NoFile) => nth > 0,
-        (Some(Fault::In), Fault::In) => nth > 0,
-        (Some(Fault::Out), Fault::Out) => nth > 0,
+fn is_right(got: Option<Fault>, failure: Failure) -> bool {
+    match (got, failure.fault) {
+        (None, _) => failure.nth != 1,
+        (Some(Fault::NoFile), Fault::NoFile) => failure.nth > 0,
+        (Some(Fault::In), Fault::In) => failure.nth > 0,
+        (Some(Fault::Out), Fault::Out) => failure.nth > 0,
         _ => false,
     }
 }
 
-// What a copy with one call that fails, the nth of its kind, is refused with at first, in pieces of
-// this size.
+// What a copy with a call that fails is refused with at first, in pieces of this size.
 fn fault_of(
     rt: &impl Abort,
     alloc: Global,
     bytes: &[u8],
     piece: usize,
-    call: (HostCall, u64),
+    failure: Failure,
 ) -> Result<Option<Fault>, Fail> {
     assert!(rt; piece > 0);
-    let host = TestHost::new(files(alloc, bytes)?, piece, call.0, call.1);
+    let host = TestHost::new(files(alloc, bytes)?, piece, failure.call, failure.nth);
     Ok(first_fault(rt, alloc, bytes, host))
 }
 
@@ -231,14 +239,13 @@ fn expect_copy(
     alloc: Global,
     bytes: &[u8],
     piece: usize,
-    call: (HostCall, u64),
-    want: Fault,
+    failure: Failure,
 ) -> Result<(), Fail> {
-    let mut got = fault_of(rt, alloc, bytes, piece, call)?;
-    if !is_right(got, want, call.1) {
-        got = fault_of(rt, alloc, bytes, piece, call)?;
+    let mut got = fault_of(rt, alloc, bytes, piece, failure)?;
+    if !is_right(got, failure) {
+        got = fault_of(rt, alloc, bytes, piece, failure)?;
     }
-    assert!(rt; is_right(got, want, call.1), "{got:?}");
+    assert!(rt; is_right(got, failure), "{got:?}");
     Ok(())
 }
 
@@ -254,7 +261,12 @@ const CALLS: &[(HostCall, Fault)] = &[
 fn expect_copies(rt: &impl Abort, alloc: Global, bytes: &[u8], piece: usize) -> Result<(), Fail> {
     for (call, fault) in CALLS.iter() {
         for nth in 0..12 {
-            expect_copy(rt, alloc, bytes, piece, (*call, nth), *fault)?;
+            let failure = Failure {
+                call: *call,
+                nth,
+                fault: *fault,
+            };
+            expect_copy(rt, alloc, bytes, piece, failure)?;
         }
     }
     Ok(())
