@@ -175,12 +175,16 @@ const LAST: &[Last] = &[
     (b"x", b"", 0, 7, Err(7)),
 ];
 
+fn is_last_found(rt: &(impl Abort + AllocGlobal), regs: &Regs, row: &Last) -> bool {
+    let pattern = read(rt.alloc(), row.0, regs, true).expect(rt, "a pattern");
+    is_last(&pattern, row)
+}
+
 #[test]
 fn the_last_of_some_matches(rt: HostRuntime) {
     let regs = registers(&rt, rt.alloc());
     for (number, row) in LAST.iter().enumerate() {
-        let pattern = read(rt.alloc(), row.0, &regs, true).expect(&rt, "a pattern");
-        assert!(rt; is_last(&pattern, row), "row {number}");
+        assert!(rt; is_last_found(&rt, &regs, row), "row {number}");
     }
 }
 
@@ -423,11 +427,16 @@ fn expect_each(
     }
 }
 
+// Is no pattern read yet?
+fn is_new(last: &LastPattern) -> bool {
+    find(last.pattern(), (b"xb.", b""), Here(0)).is_none()
+}
+
 // Asserts steps, where `A` has `b.` at first.
 fn expect_steps(rt: &(impl Abort + AllocGlobal), text: (&[u8], &[u8]), steps: &[Step]) {
     let mut regs = registers(rt, rt.alloc());
     let mut last = LastPattern::new(rt.alloc());
-    assert!(rt; find(last.pattern(), (b"xb.", b""), Here(0)).is_none());
+    assert!(rt; is_new(&last));
     expect_each(rt, &mut last, &mut regs, text, steps);
 }
 

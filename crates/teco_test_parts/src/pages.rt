@@ -2,23 +2,27 @@
 // once more, so that each test also holds where one allocation fails.
 use std::alloc::Global;
 use std::process::Abort;
-use std::test::Fail;
 use teco_base::bytes::FF;
 use teco_pages::{Fault, HostCall, MemHost, Pages, TestHost};
 
-fn put(mem: &mut MemHost, name: &[u8], bytes: &[u8]) -> Result<(), Fail> {
+fn put(rt: &impl Abort, mem: &mut MemHost, name: &[u8], bytes: &[u8]) {
     if mem.put(name, bytes).is_err() {
-        mem.put(name, bytes)?;
+        mem.put(name, bytes).expect(rt, "memory");
     }
-    Ok(())
 }
 
 // Files `in`, with these bytes, and `out`.
-fn files(alloc: Global, bytes: &[u8]) -> Result<MemHost, Fail> {
+fn files(rt: &impl Abort, alloc: Global, bytes: &[u8]) -> MemHost {
     let mut mem = MemHost::new(alloc);
-    put(&mut mem, b"in", bytes)?;
-    put(&mut mem, b"out", b"old")?;
-    Ok(mem)
+    put(rt, &mut mem, b"in", bytes);
+    put(rt, &mut mem, b"out", b"old");
+    mem
+}
+
+// A host of these files that moves so many bytes in a call, where no call fails.
+fn host_of(rt: &impl Abort, alloc: Global, bytes: &[u8], piece: usize) -> TestHost {
+    assert!(rt; piece > 0);
+    TestHost::new(files(rt, alloc, bytes), piece, HostCall::Read, 0)
 }
 
 fn open(pages: &mut Pages, host: &mut TestHost) -> Result<(), Fault> {
@@ -78,17 +82,29 @@ fn expect_in_pieces(
     Ok(())
 }
 
-fn expect_pages(
+// Has an input these pages, in pieces of this size?
+fn has_pages(
     rt: &impl Abort,
     alloc: Global,
     bytes: &[u8],
+    piece: usize,
     want: &[(&[u8], bool)],
-) -> Result<(), Fail> {
-    for piece in [1, 2, 4096] {
-        let mut host = TestHost::new(files(alloc, bytes)?, piece, HostCall::Read, 0);
-        expect_in_pieces(rt, &mut host, &mut Pages::new(alloc), want)?;
+) -> bool {
+    let mut host = host_of(rt, alloc, bytes, piece);
+    let mut pages = Pages::new(alloc);
+    expect_in_pieces(rt, &mut host, &mut pages, want).is_ok()
+}
+
+// How many bytes a host moves in a call.
+const PIECES: &[usize] = &[1, 2, 4096];
+
+fn expect_pages(rt: &impl Abort, alloc: Global, bytes: &[u8], want: &[(&[u8], bool)]) {
+    for piece in PIECES.iter() {
+        assert!(rt;
+            has_pages(rt, alloc, bytes, *piece, want),
+            "in pieces of {piece}"
+        );
     }
-    Ok(())
 }
 
 // Inputs, and their pages.
@@ -109,38 +125,49 @@ const INPUTS: &[(&[u8], &[(&[u8], bool)])] = &[
 ];
 
 #[test]
-fn pages_of_an_input(rt: HostRuntime) -> Result<(), Fail> {
+fn pages_of_an_input(rt: HostRuntime) {
     for (bytes, want) in INPUTS.iter() {
-        expect_pages(&rt, rt.alloc(), bytes, want)?;
+        expect_pages(&rt, rt.alloc(), bytes, want);
     }
-    Ok(())
 }
 
 // n times a letter
-fn letters(alloc: Global, n: usize) -> Result<Vec<u8>, Fail> {
+fn letters(rt: &impl Abort, alloc: Global, n: usize) -> Vec<u8> {
     match vec![in alloc; b'a'; n] {
-        Ok(letters) => Ok(letters),
-        Err(_) => Ok(vec![in alloc; b'a'; n]?),
+        Ok(letters) => letters,
+        Err(_) => vec![in alloc; b'a'; n].expect(rt, "memory"),
     }
 }
+
+// So many letters, with a form feed and one letter more behind them, are two pages.
+fn expect_two_pages(rt: &impl Abort, alloc: Global, n: usize) {
+    let text = letters(rt, alloc, n);
+    let mut bytes = letters(rt, alloc, n.saturating_add(2));
+    if let Some(end) = bytes.get_mut(n) {
+        *end = FF;
+    }
+    expect_pages(rt, alloc, &bytes, &[(&text, true), (b"a", false)]);
+}
+
+// So many letters are a page.
+fn expect_one_page(rt: &impl Abort, alloc: Global, n: usize) {
+    let text = letters(rt, alloc, n);
+    expect_pages(rt, alloc, &text, &[(&text, false)]);
+}
+
+// How many letters are about as long as what is read ahead, or longer.
+const LENGTHS: &[usize] = &[4095, 4096, 4097, 10_000];
 
 #[test]
-fn pages_at_the_end_of_the_read_ahead(rt: HostRuntime) -> Result<(), Fail> {
-    let alloc = rt.alloc();
-    for n in [4095, 4096, 4097, 10_000] {
-        let text = letters(alloc, n)?;
-        let mut bytes = letters(alloc, n + 2)?;
-        if let Some(end) = bytes.get_mut(n) {
-            *end = FF;
-        }
-        expect_pages(&rt, alloc, &bytes, &[(&text, true), (b"a", false)])?;
-        expect_pages(&rt, alloc, &text, &[(&text, false)])?;
+fn pages_at_the_end_of_the_read_ahead(rt: HostRuntime) {
+    for n in LENGTHS.iter() {
+        expect_two_pages(&rt, rt.alloc(), *n);
+        expect_one_page(&rt, rt.alloc(), *n);
     }
-    Ok(())
 }
 
-// The first page, and then the rest.
-fn copy(pages: &mut Pages, host: &mut TestHost) -> Result<(), Fault> {
+// Both files are opened, and the first page is written.
+fn copy_first(pages: &mut Pages, host: &mut TestHost) -> Result<(), Fault> {
     pages.open_in(b"in", host)?;
     pages.open_out(b"out", host)?;
     pages.next_page(host)?;
@@ -149,6 +176,12 @@ fn copy(pages: &mut Pages, host: &mut TestHost) -> Result<(), Fault> {
         pages.write_page(first, second, ff, host)?;
     }
     pages.accept_page();
+    Ok(())
+}
+
+// The first page, and then the rest.
+fn copy(pages: &mut Pages, host: &mut TestHost) -> Result<(), Fault> {
+    copy_first(pages, host)?;
     // one page more is held ready
     pages.next_page(host)?;
     pages.write_rest(host)?;
@@ -227,26 +260,19 @@ fn fault_of(
     bytes: &[u8],
     piece: usize,
     failure: Failure,
-) -> Result<Option<Fault>, Fail> {
+) -> Option<Fault> {
     assert!(rt; piece > 0);
-    let host = TestHost::new(files(alloc, bytes)?, piece, failure.call, failure.nth);
-    Ok(first_fault(rt, alloc, bytes, host))
+    let host = TestHost::new(files(rt, alloc, bytes), piece, failure.call, failure.nth);
+    first_fault(rt, alloc, bytes, host)
 }
 
 // The copy is right; it is made once more, since memory may have been refused.
-fn expect_copy(
-    rt: &impl Abort,
-    alloc: Global,
-    bytes: &[u8],
-    piece: usize,
-    failure: Failure,
-) -> Result<(), Fail> {
-    let mut got = fault_of(rt, alloc, bytes, piece, failure)?;
+fn expect_copy(rt: &impl Abort, alloc: Global, bytes: &[u8], piece: usize, failure: Failure) {
+    let mut got = fault_of(rt, alloc, bytes, piece, failure);
     if !is_right(got, failure) {
-        got = fault_of(rt, alloc, bytes, piece, failure)?;
+        got = fault_of(rt, alloc, bytes, piece, failure);
     }
     assert!(rt; is_right(got, failure), "{got:?}");
-    Ok(())
 }
 
 // Calls that may fail, and the faults that they are refused with.
@@ -258,7 +284,7 @@ const CALLS: &[(HostCall, Fault)] = &[
     (HostCall::CloseOut, Fault::Out),
 ];
 
-fn expect_copies(rt: &impl Abort, alloc: Global, bytes: &[u8], piece: usize) -> Result<(), Fail> {
+fn expect_copies(rt: &impl Abort, alloc: Global, bytes: &[u8], piece: usize) {
     for (call, fault) in CALLS.iter() {
         for nth in 0..12 {
             let failure = Failure {
@@ -266,20 +292,18 @@ fn expect_copies(rt: &impl Abort, alloc: Global, bytes: &[u8], piece: usize) -> 
                 nth,
                 fault: *fault,
             };
-            expect_copy(rt, alloc, bytes, piece, failure)?;
+            expect_copy(rt, alloc, bytes, piece, failure);
         }
     }
-    Ok(())
 }
 
 #[test]
-fn copies_with_a_call_that_fails(rt: HostRuntime) -> Result<(), Fail> {
-    for piece in [1, 2, 4096].iter() {
-        expect_copies(&rt, rt.alloc(), b"ab\x0ccd\x0cef", *piece)?;
-        expect_copies(&rt, rt.alloc(), b"ab\x0ccd\x0c", *piece)?;
-        expect_copies(&rt, rt.alloc(), b"abcd", *piece)?;
+fn copies_with_a_call_that_fails(rt: HostRuntime) {
+    for piece in PIECES.iter() {
+        expect_copies(&rt, rt.alloc(), b"ab\x0ccd\x0cef", *piece);
+        expect_copies(&rt, rt.alloc(), b"ab\x0ccd\x0c", *piece);
+        expect_copies(&rt, rt.alloc(), b"abcd", *piece);
     }
-    Ok(())
 }
 
 // Is the first page read on, where a call of the host that reads it fails?
@@ -293,16 +317,18 @@ fn is_read_on(pages: &mut Pages, host: &mut TestHost) -> Result<bool, Fault> {
     Ok(is_refused && is_page(pages, (b"ab", true)))
 }
 
+// Is it, where this read fails?
+fn is_read_on_behind(rt: &impl Abort, alloc: Global, nth: u64) -> bool {
+    let mut host = TestHost::new(files(rt, alloc, b"ab\x0ccd"), 1, HostCall::Read, nth);
+    let mut pages = Pages::new(alloc);
+    matches!(is_read_on(&mut pages, &mut host), Ok(true))
+}
+
 #[test]
-fn a_page_is_read_on_after_a_fault(rt: HostRuntime) -> Result<(), Fail> {
+fn a_page_is_read_on_after_a_fault(rt: HostRuntime) {
     for nth in 1..4 {
-        let mut host = TestHost::new(files(rt.alloc(), b"ab\x0ccd")?, 1, HostCall::Read, nth);
-        assert!(rt;
-            is_read_on(&mut Pages::new(rt.alloc()), &mut host)?,
-            "read {nth}"
-        );
+        assert!(rt; is_read_on_behind(&rt, rt.alloc(), nth), "read {nth}");
     }
-    Ok(())
 }
 
 fn is_input(pages: &Pages, name: &[u8]) -> bool {
@@ -342,10 +368,10 @@ fn is_read_while_open(pages: &mut Pages, host: &mut TestHost) -> Result<bool, Fa
 }
 
 #[test]
-fn what_is_open(rt: HostRuntime) -> Result<(), Fail> {
-    let mut host = TestHost::new(files(rt.alloc(), b"ab\x0ccd")?, 4096, HostCall::Read, 0);
-    assert!(rt; is_read_while_open(&mut Pages::new(rt.alloc()), &mut host)?);
-    Ok(())
+fn what_is_open(rt: HostRuntime) {
+    let mut host = host_of(&rt, rt.alloc(), b"ab\x0ccd", 4096);
+    let mut pages = Pages::new(rt.alloc());
+    assert!(rt; matches!(is_read_while_open(&mut pages, &mut host), Ok(true)));
 }
 
 // An output is open.
@@ -371,11 +397,11 @@ fn is_open_until_dropped(
 }
 
 #[test]
-fn an_output_is_open_until_it_is_dropped(rt: HostRuntime) -> Result<(), Fail> {
-    let mut host = TestHost::new(files(rt.alloc(), b"")?, 4096, HostCall::Read, 0);
+fn an_output_is_open_until_it_is_dropped(rt: HostRuntime) {
+    let mut host = host_of(&rt, rt.alloc(), b"", 4096);
     let mut pages = Pages::new(rt.alloc());
-    assert!(rt; is_open_until_dropped(&rt, &mut pages, &mut host)?);
-    Ok(())
+    let is_so = is_open_until_dropped(&rt, &mut pages, &mut host);
+    assert!(rt; matches!(is_so, Ok(true)));
 }
 
 // Is the dropping of an output refused, and it goes all the same?
@@ -394,9 +420,9 @@ fn is_dropping_refused(
 }
 
 #[test]
-fn an_output_is_dropped_where_dropping_fails(rt: HostRuntime) -> Result<(), Fail> {
-    let mut host = TestHost::new(files(rt.alloc(), b"")?, 1, HostCall::DropOut, 1);
+fn an_output_is_dropped_where_dropping_fails(rt: HostRuntime) {
+    let mut host = TestHost::new(files(&rt, rt.alloc(), b""), 1, HostCall::DropOut, 1);
     let mut pages = Pages::new(rt.alloc());
-    assert!(rt; is_dropping_refused(&rt, &mut pages, &mut host)?);
-    Ok(())
+    let is_so = is_dropping_refused(&rt, &mut pages, &mut host);
+    assert!(rt; matches!(is_so, Ok(true)));
 }
