@@ -7,7 +7,7 @@ ghost use Rattle.teco_base.specs.declared.TheConstants.{LIMIT};
 ghost use Rattle.teco_run.specs.Holdings.{Joined};
 ghost use Rattle.teco_session.specs.declared.fault.SessionFault.TheVariants as fault;
 
-use crate::editing::{NAME, answer_text, drop_if_coded, opening, tell};
+use crate::editing::{Heard, NAME, answer_text, drop_if_coded, opening, tell};
 use crate::guard::Guard;
 use crate::run::{Call, takes};
 use crate::stages::{Ran, Tally, Turned, close, not_begun, run_admitted, turn};
@@ -38,6 +38,10 @@ pub enum Pages {
 /// How a file is edited.
 #[derive(Clone, Copy)]
 pub struct Edit<'a> {
+    /// What the memory of its first command string comes from.
+    pub alloc: Global,
+    /// The macro that edits it.
+    pub verified: &'a Verified<'a>,
     /// The name of the file.
     pub source: &'a [u8],
     /// The name of the file that is made.
@@ -117,7 +121,12 @@ fn edit_each<T: TextStore, H: Host, W: Write, G: Guard<H>>(
             Err(fault) => return Err(fault),
         }
     }
-    done.ended(tell(machine, b"P", &not_begun(Stop::Limit), host, writer, guard))
+    let stopped = not_begun(Stop::Limit);
+    let heard = Heard {
+        text: b"P",
+        stopped: &stopped,
+    };
+    done.ended(tell(machine, &heard, host, writer, guard))
 }
 
 // Reads all pages behind the first, as long as bytes are unread. Says whether there is a code.
@@ -142,7 +151,12 @@ fn gather<T: TextStore, H: Host, W: Write, G: Guard<H>>(
             Err(fault) => return Err(fault),
         }
     }
-    tell(machine, next, &not_begun(Stop::Limit), host, writer, guard)
+    let stopped = not_begun(Stop::Limit);
+    let heard = Heard {
+        text: next,
+        stopped: &stopped,
+    };
+    tell(machine, &heard, host, writer, guard)
 }
 
 // Goes to the start of what is read, runs the macro, and closes the output.
@@ -264,9 +278,7 @@ fn dropped(edited: Result<Edited, SessionFault>) -> Result<bool, SessionFault>
 ///
 /// An argument, the first command string's memory, and a fault of writing are as with `apply`.
 pub fn edit_file<T: TextStore, H: Host, W: Write, G: Guard<H>>(
-    alloc: Global,
     machine: &mut Machine<T>,
-    verified: &Verified<'_>,
     edit: &Edit<'_>,
     host: &mut H,
     writer: &mut W,
@@ -275,21 +287,21 @@ pub fn edit_file<T: TextStore, H: Host, W: Write, G: Guard<H>>(
     requires source { length edit.now.source.now ≤ NAME }
     requires target { length edit.now.target.now ≤ NAME }
     ensures edits { Joined (λ old new. FileEdited edit.now.pages
-        (record { found = verified.now; given = edit.now.given })
+        (record { found = edit.now.verified.now; given = edit.now.given })
         edit.now.source.now edit.now.target.now old new
         (H.failures host.old) (H.failures host.new)
         (W.contents writer.old) (W.contents writer.new) result)
         machine.old machine.new (H.files host.old) (H.files host.new) }
     ensures argument { (result ≡ Err fault.Argument)
-        ↔ (¬ IsTaken verified.now.fields.argument edit.now.given) }
+        ↔ (¬ IsTaken edit.now.verified.now.fields.argument edit.now.given) }
     ensures counted { FileCounts result (H.failures host.old) (H.failures host.new) }
 {
-    if !takes(verified, edit.given) {
+    if !takes(edit.verified, edit.given) {
         return Err(SessionFault::Argument);
     }
-    let opening = opening(alloc, edit.source, edit.target)?;
+    let opening = opening(edit.alloc, edit.source, edit.target)?;
     let call = Call {
-        verified,
+        verified: edit.verified,
         given: edit.given,
     };
     let plan = Plan {

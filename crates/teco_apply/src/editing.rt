@@ -86,24 +86,30 @@ fn answer_macro<T: TextStore, H: Host, W: Write>(
     write_stop(machine, stop, writer)
 }
 
+/// What a listener hears of a run: its command string, and how it stopped.
+#[derive(Clone, Copy)]
+pub struct Heard<'a> {
+    pub text: &'a [u8],
+    pub stopped: &'a Stopped,
+}
+
 /// Writes what a run typed and its code line, which a listener hears. Says whether there is such a
 /// line.
 pub fn tell<T: TextStore, H: Host, W: Write, L: Listener<H>>(
     machine: &mut Machine<T>,
-    text: &[u8],
-    stopped: &Stopped,
+    heard: &Heard<'_>,
     host: &H,
     writer: &mut W,
     listener: &mut L,
 ) -> Result<bool, SessionFault>
     ensures lines { Writes (W.contents writer.old) (W.contents writer.new)
-        (machine.old.kept.typed ++ code_line (code_of stopped.now.stop)) result }
-    ensures told { IfOk result (λ line. line ≡ is_code (code_of stopped.now.stop)) }
+        (machine.old.kept.typed ++ code_line (code_of heard.now.stopped.now.stop)) result }
+    ensures told { IfOk result (λ line. line ≡ is_code (code_of heard.now.stopped.now.stop)) }
     ensures taken { machine.new ≡ record
         machine.old { kept = record machine.old.kept { typed = [] } } }
 {
-    let line = write_stop(machine, stopped.stop, writer);
-    listener.stopped(text, stopped, machine, host);
+    let line = write_stop(machine, heard.stopped.stop, writer);
+    listener.stopped(heard.text, heard.stopped, machine, host);
     line
 }
 
@@ -124,7 +130,11 @@ pub fn answer_text<T: TextStore, H: Host, W: Write, L: Listener<H>>(
     ensures counted { LineCounts result (H.failures host.old) (H.failures host.new) }
 {
     let stopped = machine.run_to_stop(text, u64::MAX, host);
-    tell(machine, text, &stopped, host, writer, listener)
+    let heard = Heard {
+        text,
+        stopped: &stopped,
+    };
+    tell(machine, &heard, host, writer, listener)
 }
 
 // Runs the macro and then, but behind a code, what closes the output; what they type is written.

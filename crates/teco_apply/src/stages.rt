@@ -10,7 +10,7 @@ ghost use Rattle.teco_model.specs.Run.{StopCounts};
 ghost use Rattle.teco_run.specs.Holdings.{Joined};
 
 use crate::by_pages::Edited;
-use crate::editing::{answer_text, stop_of, tell};
+use crate::editing::{Heard, answer_text, stop_of, tell};
 use crate::guard::Guard;
 use crate::run::{Call, call_text, call_verified, make_ready};
 use std::io::Write;
@@ -177,8 +177,13 @@ pub fn run_admitted<T: TextStore, H: Host, W: Write, G: Guard<H>>(
         return Ok(Ran::Refused);
     };
     let text = call_text(call.verified.entry(), call.given);
-    let line = tell(machine, text.as_slice(), &stopped, host, writer, guard);
-    ran_by(line, stopped.stop)
+    let stop = stopped.stop;
+    let heard = Heard {
+        text: text.as_slice(),
+        stopped: &stopped,
+    };
+    let line = tell(machine, &heard, host, writer, guard);
+    ran_by(line, stop)
 }
 
 // What came of a command string that was run, by whether a code was written.
@@ -210,7 +215,14 @@ pub fn turn<T: TextStore, H: Host, W: Write, G: Guard<H>>(
     match machine.has_unread(host) {
         Ok(false) => Ok(Turned::Through),
         Ok(true) => turned_by(answer_text(machine, text, host, writer, guard)),
-        Err(why) => turned_by(tell(machine, text, &not_begun(why), host, writer, guard)),
+        Err(why) => {
+            let stopped = not_begun(why);
+            let heard = Heard {
+                text,
+                stopped: &stopped,
+            };
+            turned_by(tell(machine, &heard, host, writer, guard))
+        }
     }
 }
 

@@ -127,8 +127,8 @@ returns-clause-edits g c =
     let now = c.loop in
     let call : Call = c.args.call.now in
     let all : now.done.pages ≡ PAGES = omega arith in
-    let lines = rw c.not_begun.ensures at c.tell.ensures.lines in
-    let told = rw c.not_begun.ensures at c.tell.ensures.told in
+    let lines = rw c.not_begun-stopped.ensures at c.tell.ensures.lines in
+    let told = rw c.not_begun-stopped.ensures at c.tell.ensures.told in
     each-full call now.done c.args.machine.now now.machine c.tell.new.machine
     (g.H.Host.files c.args.host.now) (g.H.Host.files now.host) (g.H.Host.files now.host)
     (g.H.Host.failures c.args.host.now) (g.H.Host.failures now.host) (g.H.Host.failures now.host)

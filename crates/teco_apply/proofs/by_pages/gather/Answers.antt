@@ -58,8 +58,8 @@ pub returns-clause-gathers : goal.returns-clause-gathers
 returns-clause-gathers g c =
     let now = c.loop in
     let all : now.counter ≡ PAGES = omega arith in
-    let lines = rw c.not_begun.ensures at c.tell.ensures.lines in
-    let told = rw c.not_begun.ensures at c.tell.ensures.told in
+    let lines = rw c.not_begun-stopped.ensures at c.tell.ensures.lines in
+    let told = rw c.not_begun-stopped.ensures at c.tell.ensures.told in
     gathers-full now.counter c.args.machine.now now.machine c.tell.new.machine
     (g.H.Host.files c.args.host.now) (g.H.Host.files now.host) (g.H.Host.files now.host)
     (g.H.Host.failures c.args.host.now) (g.H.Host.failures now.host) (g.H.Host.failures now.host)

@@ -3,8 +3,8 @@ use Rattle.teco_apply.proofs.stages.turn.Goals as goal
 
 pub returns-in-Err-clause-turns : goal.returns-in-Err-clause-turns
 returns-in-Err-clause-turns g c =
-    let lines = rw c.not_begun.ensures at c.tell.ensures.lines in
-    let told = rw c.not_begun.ensures at c.tell.ensures.told in
+    let lines = rw c.not_begun-stopped.ensures at c.tell.ensures.lines in
+    let told = rw c.not_begun-stopped.ensures at c.tell.ensures.told in
     Joined-untold c.args.text.now c.args.machine.now c.has_unread.new.self c.tell.new.machine
     (g.H.Host.files c.args.host.now) (g.H.Host.files c.has_unread.new.host)
     (g.H.Host.failures c.args.host.now) (g.H.Host.failures c.has_unread.new.host)
