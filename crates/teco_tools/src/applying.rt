@@ -116,6 +116,8 @@ fn watch_edit<H: Host + Reporting, O: Write + Drop, E: Write + Drop>(
     host: &mut H,
 ) -> Result<Watched, ToolFault> {
     let edit = Edit {
+        alloc: console.alloc,
+        verified: job.verified,
         source: names.source,
         target: names.target,
         given: job.task.argument,
@@ -127,15 +129,7 @@ fn watch_edit<H: Host + Reporting, O: Write + Drop, E: Write + Drop>(
         Promise::of(job.verified),
         job.task.is_strict,
     );
-    let edited = edit_file(
-        console.alloc,
-        machine,
-        job.verified,
-        &edit,
-        host,
-        &mut console.out,
-        &mut warden,
-    );
+    let edited = edit_file(machine, &edit, host, &mut console.out, &mut warden);
     with_seen(edited, warden.seen())
 }
 
