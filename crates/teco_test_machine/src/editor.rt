@@ -384,15 +384,22 @@ fn pages_come_into_the_buffer(rt: HostRuntime) {
     expect_text(&rt, &editor, b"ab", 0);
 }
 
+// Is the second character told?
+fn is_second_told(editor: &Editor<VecText>) -> bool {
+    editor.range_text(2, 1) == Ok((b"b".as_slice(), b"".as_slice()))
+}
+
+// Is a range refused that goes past the end?
+fn is_range_refused(editor: &Editor<VecText>) -> bool {
+    matches!(editor.range_text(0, 3), Err(Code::Pop))
+}
+
 #[test]
 fn ranges_are_told(rt: HostRuntime) {
     let mut editor = empty(rt.alloc());
     take_page(&rt, rt.alloc(), &mut editor, b"ab");
-    let range = editor.range_text(2, 1);
-    let is_told = range == Ok((b"b".as_slice(), b"".as_slice()));
-    expect_so(&rt, is_told, "the second character");
-    let refused = editor.range_text(0, 3);
-    expect_so(&rt, matches!(refused, Err(Code::Pop)), "no range");
+    expect_so(&rt, is_second_told(&editor), "the second character");
+    expect_so(&rt, is_range_refused(&editor), "no range");
 }
 
 // A host with an open output.
@@ -448,17 +455,25 @@ fn expect_closed(rt: &impl Abort, pages: &mut Pages, host: &mut MemHost) {
     }
 }
 
+// The buffer goes out twice, unless memory is refused.
+fn expect_written(
+    rt: &impl Abort,
+    editor: &mut Editor<VecText>,
+    pages: &mut Pages,
+    host: &mut MemHost,
+) {
+    if writes(rt, editor, pages, host) && looks_through(rt, editor, pages, host) {
+        expect_closed(rt, pages, host);
+    }
+}
+
 #[test]
 fn pages_go_out_of_the_buffer(rt: HostRuntime) {
     let mut editor = empty(rt.alloc());
     let mut pages = Pages::new(rt.alloc());
     let mut host = open_host(&rt, rt.alloc(), &mut pages);
     take_page(&rt, rt.alloc(), &mut editor, b"ab");
-    if writes(&rt, &mut editor, &pages, &mut host)
-        && looks_through(&rt, &mut editor, &pages, &mut host)
-    {
-        expect_closed(&rt, &mut pages, &mut host);
-    }
+    expect_written(&rt, &mut editor, &mut pages, &mut host);
 }
 
 #[test]

@@ -216,15 +216,25 @@ fn expect_filled(rt: &impl Abort, machine: &Machine<VecText>) {
     assert!(rt; machine.held() == 8);
 }
 
-// Two texts are loaded, or nothing changes.
-fn expect_loaded(rt: &impl Abort, machine: &mut Machine<VecText>) {
-    let mut texts: [Option<&[u8]>; 36] = [None; 36];
+// A text for the first register, and one for the last.
+fn two_texts() -> [Option<&'static [u8]>; 36] {
+    let mut texts: [Option<&'static [u8]>; 36] = [None; 36];
     texts[0] = Some(b"%9=");
     texts[35] = Some(b"ninth");
-    if load(machine, &texts).is_err() {
+    texts
+}
+
+// Two texts are loaded, or nothing changes.
+fn load_two(rt: &impl Abort, machine: &mut Machine<VecText>) {
+    if load(machine, &two_texts()).is_err() {
         assert!(rt; machine.held() == 8);
-        assert!(rt; load(machine, &texts).is_ok());
+        assert!(rt; load(machine, &two_texts()).is_ok());
     }
+}
+
+// Both texts are there once they are loaded.
+fn expect_loaded(rt: &impl Abort, machine: &mut Machine<VecText>) {
+    load_two(rt, machine);
     assert!(rt; machine.held() == 16);
     assert!(rt; has_register(machine, b'B', 0, b"cde") && has_register(machine, b'9', 5, b"ninth"));
 }

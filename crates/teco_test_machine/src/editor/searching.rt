@@ -68,17 +68,19 @@ fn answer(
     }
 }
 
-// Each row holds on a buffer of its own; each search may find what those before it left.
+// A row holds on a buffer of its own.
+fn expect_row(rt: &impl Abort, alloc: Global, last: &mut LastPattern, row: &Row) {
+    let mut editor = editor(rt, alloc, row.0, row.1);
+    let found = answer(rt, &mut editor, last, row);
+    assert!(rt; found == row.4, "{:?}", row.2);
+    expect_text(rt, &editor, row.5, row.6);
+}
+
+// Each row holds; each search may find what those before it left.
 fn expect_rows(rt: &(impl Abort + AllocGlobal), rows: &[Row]) {
     let mut last = LastPattern::new(rt.alloc());
     for row in rows {
-        let mut editor = editor(rt, rt.alloc(), row.0, row.1);
-        assert!(rt;
-            answer(rt, &mut editor, &mut last, row) == row.4,
-            "{:?}",
-            row.2
-        );
-        expect_text(rt, &editor, row.5, row.6);
+        expect_row(rt, rt.alloc(), &mut last, row);
     }
 }
 

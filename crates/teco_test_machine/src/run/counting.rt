@@ -94,14 +94,19 @@ fn put_in(machine: &mut Machine<Counting>, alloc: Global) -> Stop {
     machine.run(b"1000<Ia\x1b-D>\x1b\x1b", 10_000, &mut MemHost::new(alloc))
 }
 
-// Does a run put in as many characters as it says? None where memory was refused.
-fn is_counted(rt: &impl Abort, alloc: Global) -> Option<bool> {
-    let mut machine = machine_on_a_list(rt, alloc);
-    match put_in(&mut machine, alloc) {
+// Does a run on a machine put in as many characters as it says? None where memory was refused.
+fn is_counted_on(machine: &mut Machine<Counting>, alloc: Global) -> Option<bool> {
+    match put_in(machine, alloc) {
         Stop::Memory => None,
-        Stop::Ended { .. } => Some(has_counted(&machine, 1000)),
+        Stop::Ended { .. } => Some(has_counted(machine, 1000)),
         _ => Some(false),
     }
+}
+
+// Does a run on a new machine put in as many characters as it says? None where memory was refused.
+fn is_counted(rt: &impl Abort, alloc: Global) -> Option<bool> {
+    let mut machine = machine_on_a_list(rt, alloc);
+    is_counted_on(&mut machine, alloc)
 }
 
 #[test]

@@ -22,7 +22,8 @@ fn run_to_stop(
 
 // How a command string stops on a new machine. None where memory was refused.
 fn stopped_anew(alloc: Global, command: &[u8], limit: u64) -> Option<Stopped> {
-    run_to_stop(&mut new_machine(alloc), alloc, command, limit)
+    let mut machine = new_machine(alloc);
+    run_to_stop(&mut machine, alloc, command, limit)
 }
 
 // A command string, the limit on its steps, how many it does, what it comes to, and where: the
@@ -102,16 +103,22 @@ fn runs_stop_in_texts_of_registers(rt: HostRuntime) {
 // A run under a cap that lets nothing be typed stops at its second element.
 const CAPPED: Row = (b"1 =", 9, 1, Err(Code::Mem), None, 2);
 
+// How that run stops. Where it stops at its first element an allocation failed, and it is made once
+// more.
+fn stopped_under_cap(machine: &mut Machine<VecText>, host: &mut MemHost) -> Stopped {
+    machine.set_cap(2);
+    let stopped = machine.run_to_stop(b"1 =", 9, host);
+    if stopped.steps > 0 {
+        return stopped;
+    }
+    machine.run_to_stop(b"1 =", 9, host)
+}
+
 #[test]
 fn want_of_memory_has_a_site(rt: HostRuntime) {
     let mut machine = new_machine(rt.alloc());
     let mut host = MemHost::new(rt.alloc());
-    machine.set_cap(2);
-    let mut stopped = machine.run_to_stop(b"1 =", 9, &mut host);
-    if stopped.steps == 0 {
-        // an allocation failed
-        stopped = machine.run_to_stop(b"1 =", 9, &mut host);
-    }
+    let stopped = stopped_under_cap(&mut machine, &mut host);
     assert!(rt; stops_so(stopped, &CAPPED));
 }
 
@@ -144,6 +151,23 @@ fn step_on(
     (limit, Progress::On)
 }
 
+// Do steps of a command string that is begun come to what a run of it with that limit came to,
+// there? None where memory was refused.
+fn steps_lead_there(
+    machine: &mut Machine<VecText>,
+    execution: &mut Execution<'_>,
+    limit: u64,
+    host: &mut MemHost,
+    stopped: Stopped,
+) -> Option<bool> {
+    let (steps, progress) = step_on(machine, execution, limit, host);
+    if let Progress::Memory = progress {
+        return None;
+    }
+    let is_there = steps == stopped.steps && execution.site() == stopped.site;
+    Some(is_there && agrees(stopped.stop, progress))
+}
+
 // Do steps of a command string come to what a run of it with that limit came to, there? None where
 // memory was refused.
 fn steps_agree(
@@ -157,13 +181,12 @@ fn steps_agree(
         return None;
     }
     let mut host = MemHost::new(alloc);
-    let mut execution = machine.begin(command).ok()?;
-    let (steps, progress) = step_on(machine, &mut execution, limit, &mut host);
-    if let Progress::Memory = progress {
-        return None;
+    match machine.begin(command) {
+        Ok(mut execution) => {
+            steps_lead_there(machine, &mut execution, limit, &mut host, stopped)
+        }
+        Err(_) => None,
     }
-    let is_there = steps == stopped.steps && execution.site() == stopped.site;
-    Some(is_there && agrees(stopped.stop, progress))
 }
 
 // Have two machines typed the same, and do their pointers agree?
@@ -172,15 +195,27 @@ fn are_alike(one: &mut Machine<VecText>, other: &mut Machine<VecText>) -> bool {
     has_typed(other, &typed) && one.dot() == other.dot()
 }
 
-// Are the steps of a command string a run of that limit? None where memory was refused.
-fn are_steps_a_run(alloc: Global, command: &[u8], limit: u64) -> Option<bool> {
-    let mut ran = new_machine(alloc);
-    let Some(stopped) = run_to_stop(&mut ran, alloc, command, limit) else {
+// Are the steps of a command string on one machine a run of that limit on another? None where
+// memory was refused.
+fn step_as_run(
+    stepped: &mut Machine<VecText>,
+    ran: &mut Machine<VecText>,
+    alloc: Global,
+    command: &[u8],
+    limit: u64,
+) -> Option<bool> {
+    let Some(stopped) = run_to_stop(ran, alloc, command, limit) else {
         return None;
     };
+    let is_agreed = steps_agree(stepped, alloc, command, limit, stopped)?;
+    Some(is_agreed && are_alike(ran, stepped))
+}
+
+// Are the steps of a command string a run of that limit? None where memory was refused.
+fn are_steps_a_run(alloc: Global, command: &[u8], limit: u64) -> Option<bool> {
     let mut stepped = new_machine(alloc);
-    let is_agreed = steps_agree(&mut stepped, alloc, command, limit, stopped)?;
-    Some(is_agreed && are_alike(&mut ran, &mut stepped))
+    let mut ran = new_machine(alloc);
+    step_as_run(&mut stepped, &mut ran, alloc, command, limit)
 }
 
 const STEPPED: &[&[u8]] = &[
@@ -218,25 +253,35 @@ const PENDING: &[Option<i32>] = &[
     Some(4),
 ];
 
-// Is this pending behind each step of a command string, and nothing before? None where memory was
-// refused.
-fn are_pending(machine: &mut Machine<VecText>, host: &mut MemHost) -> Option<bool> {
-    let mut execution = machine.begin(b"1,2+3*(4").ok()?;
+// Is this pending behind each step of an execution, and nothing before?
+fn are_pending(
+    machine: &mut Machine<VecText>,
+    execution: &mut Execution<'_>,
+    host: &mut MemHost,
+) -> bool {
     let mut is_so = execution.value().is_none();
     for value in PENDING.iter() {
-        let is_on = matches!(machine.step(&mut execution, host), Progress::On);
+        let is_on = matches!(machine.step(execution, host), Progress::On);
         is_so = is_so && is_on && execution.value() == *value;
     }
-    Some(is_so)
+    is_so
+}
+
+// Is this pending behind each step of a command string? None where memory was refused.
+fn are_values_pending(machine: &mut Machine<VecText>, host: &mut MemHost) -> Option<bool> {
+    match machine.begin(b"1,2+3*(4") {
+        Ok(mut execution) => Some(are_pending(machine, &mut execution, host)),
+        Err(_) => None,
+    }
 }
 
 #[test]
 fn values_are_pending(rt: HostRuntime) {
     let mut machine = new_machine(rt.alloc());
     let mut host = MemHost::new(rt.alloc());
-    let mut is_so = are_pending(&mut machine, &mut host);
+    let mut is_so = are_values_pending(&mut machine, &mut host);
     if is_so.is_none() {
-        is_so = are_pending(&mut machine, &mut host);
+        is_so = are_values_pending(&mut machine, &mut host);
     }
     assert!(rt; is_so == Some(true));
 }
