@@ -7,6 +7,7 @@ use teco_pages::{Host, HostCall, TestHost};
 use teco_run::{Machine, Stopped};
 use teco_session::{Listener, SessionFault};
 use teco_text::{TextStore, VecText};
+use teco_verify::Verified;
 
 /// Puts a mark behind each `foo`.
 const MARKS: &[u8] = b"@^UA/J<Sfoo\x1b;I!\x1b>/";
@@ -114,6 +115,34 @@ impl Left {
     fn out(&self) -> Option<&[u8]> {
         self.host.mem().file(b"out")
     }
+
+    // Were so many pages edited, each once the guard was asked, into this?
+    fn is_paged(&self, pages: u64, out: &[u8]) -> bool {
+        self.is_done(pages) && self.seen.asked == pages && self.out() == Some(out)
+    }
+
+    // Was all edited as one page, in three steps, and stays as it was?
+    fn is_kept(&self, input: &[u8]) -> bool {
+        self.is_done(1) && self.has_steps(3) && self.written.is_empty() && self.out() == Some(input)
+    }
+
+    // Is there no output, and this written?
+    fn is_dropped(&self, written: &[u8]) -> bool {
+        self.out().is_none() && self.written.as_slice() == written
+    }
+
+    // Did the guard see so much held and read ahead, in the last of so many runs?
+    fn has_seen(&self, asked: u64, seen: (u128, usize)) -> bool {
+        self.seen.asked == asked && self.seen.held == seen.0 && self.seen.read_ahead == seen.1
+    }
+
+    // Did the guard hear of so many runs, and see this?
+    fn has_heard(&self, heard: u64, seen: (u128, usize)) -> bool {
+        self.done.is_ok()
+            && self.seen.heard == heard
+            && self.seen.held == seen.0
+            && self.seen.read_ahead == seen.1
+    }
 }
 
 // A host that fails so.
@@ -123,30 +152,30 @@ fn failing_host(rt: &impl Abort, alloc: Global, input: &[u8], failing: Failing) 
     TestHost::new(host_of(rt, alloc, input), piece, call, nth)
 }
 
-// Edits the file `in` into the file `out`.
-fn edited(rt: &impl Abort, alloc: Global, row: Row, given: Option<i32>, failing: Failing) -> Left {
-    let (file, input, pages, refuses) = row;
-    let library = library_of(rt, alloc, file);
-    let verified = verified_of(rt, alloc, &library);
-    let mut host = failing_host(rt, alloc, input, failing);
+/// The argument that a macro is given, which pages are edited, and the run that the guard refuses.
+type Asked = (Option<i32>, Pages, u64);
+
+// Edits the file `in` of a host into the file `out`.
+fn edited_over(
+    rt: &impl Abort,
+    alloc: Global,
+    verified: &Verified<'_>,
+    asked: Asked,
+    mut host: TestHost,
+) -> Left {
+    let (given, pages, refuses) = asked;
     let mut machine = Machine::new(alloc, VecText::new(alloc));
     let mut written = Vec::new(alloc);
     let mut seen = Watch::refusing(refuses);
     let edit = Edit {
+        alloc,
+        verified,
         source: b"in",
         target: b"out",
         given,
         pages,
     };
-    let done = edit_file(
-        alloc,
-        &mut machine,
-        &verified,
-        &edit,
-        &mut host,
-        &mut written,
-        &mut seen,
-    );
+    let done = edit_file(&mut machine, &edit, &mut host, &mut written, &mut seen);
     assert!(rt; done.is_err() || !machine.has_output());
     Left {
         done,
@@ -154,6 +183,15 @@ fn edited(rt: &impl Abort, alloc: Global, row: Row, given: Option<i32>, failing:
         seen,
         host,
     }
+}
+
+// Edits the file `in` into the file `out`.
+fn edited(rt: &impl Abort, alloc: Global, row: Row, given: Option<i32>, failing: Failing) -> Left {
+    let (file, input, pages, refuses) = row;
+    let host = failing_host(rt, alloc, input, failing);
+    let library = library_of(rt, alloc, file);
+    let verified = verified_of(rt, alloc, &library);
+    edited_over(rt, alloc, &verified, (given, pages, refuses), host)
 }
 
 /// What is edited, on how many pages the macro came to its end, and what the file `out` has then.
@@ -190,8 +228,7 @@ const EDITED: &[Paged] = &[
 fn expect_paged(rt: &impl Abort, alloc: Global, paged: &Paged, piece: usize) {
     let (row, pages, out) = *paged;
     let left = edited(rt, alloc, row, None, (piece, HostCall::Read, 0));
-    let is_done = left.is_done(pages) && left.seen.asked == pages;
-    assert!(rt; is_done && left.out() == Some(out), "{out:?}");
+    assert!(rt; left.is_paged(pages, out), "{out:?}");
 }
 
 #[test]
@@ -219,8 +256,7 @@ const WHOLES: &[&[u8]] = &[
 // A file stays as it is.
 fn expect_stays(rt: &impl Abort, alloc: Global, input: &'static [u8]) {
     let left = edited(rt, alloc, (STAYS, input, Pages::Whole, 0), None, NONE);
-    let is_done = left.is_done(1) && left.has_steps(3) && left.written.is_empty();
-    assert!(rt; is_done && left.out() == Some(input), "{input:?}");
+    assert!(rt; left.is_kept(input), "{input:?}");
 }
 
 #[test]
@@ -236,12 +272,8 @@ const TWO: &[u8] = b"xfoo\x0cfoo";
 // A run is refused, of so many, with this much held and read ahead, behind so many pages.
 fn expect_refused(rt: &impl Abort, alloc: Global, refuses: u64, seen: (u128, usize), pages: u64) {
     let left = edited(rt, alloc, (MARKS, TWO, Pages::Each, refuses), None, NONE);
-    let is_seen = (left.seen.held, left.seen.read_ahead) == seen && left.seen.asked == refuses;
-    let is_dropped = left.out().is_none() && left.written.is_empty();
-    assert!(rt;
-        left.is_refused(pages) && is_seen && is_dropped,
-        "{refuses}"
-    );
+    let is_so = left.is_refused(pages) && left.has_seen(refuses, seen) && left.is_dropped(b"");
+    assert!(rt; is_so, "{refuses}");
 }
 
 #[test]
@@ -255,9 +287,7 @@ fn a_guard_hears(rt: HostRuntime) {
     let left = edited(&rt, rt.alloc(), (MARKS, TWO, Pages::Each, 0), None, NONE);
     // what opens the files, two runs, what turns to the second page, and what closes the output;
     // the page and the 12 characters of the macro are held, and all has been read
-    let seen = left.seen;
-    let is_so = seen.heard == 5 && seen.held == 15 && seen.read_ahead == 0;
-    expect(&rt, left.done.is_ok() && is_so, "what is heard");
+    expect(&rt, left.has_heard(5, (15, 0)), "what is heard");
 }
 
 /// Which call fails, what is written, and the pages and the steps that were done before.
@@ -282,9 +312,8 @@ const DROPPED: &[Dropped] = &[
 fn expect_dropped(rt: &impl Abort, alloc: Global, dropped: &Dropped) {
     let (failing, pages, written, count, steps) = *dropped;
     let left = edited(rt, alloc, (STAYS, TWO, pages, 0), None, failing);
-    let is_coded = left.is_coded(count) && left.has_steps(steps);
-    let is_dropped = left.out().is_none() && left.written.as_slice() == written;
-    assert!(rt; is_coded && is_dropped, "{written:?} behind {count} pages");
+    let is_so = left.is_coded(count) && left.has_steps(steps) && left.is_dropped(written);
+    assert!(rt; is_so, "{written:?} behind {count} pages");
 }
 
 #[test]

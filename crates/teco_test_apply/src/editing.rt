@@ -7,6 +7,7 @@ use teco_pages::{HostCall, TestHost};
 use teco_run::Machine;
 use teco_session::{Done, SessionFault};
 use teco_text::VecText;
+use teco_verify::Verified;
 
 /// Puts a mark behind each `foo` of the first page.
 const MARKS: &[u8] = b"@^UA/J<Sfoo\x1b;I!\x1b>/";
@@ -55,6 +56,28 @@ impl Left {
             && page.ends_with(back)
             && front.len().checked_add(back.len()) == Some(page.len())
     }
+
+    // Is this written, and the output this, or dropped by a code?
+    fn is_told(&self, written: &[u8], out: Option<&[u8]>) -> bool {
+        self.is_done(out.is_none())
+            && !self.machine.has_output()
+            && self.written.as_slice() == written
+            && self.out() == out
+    }
+
+    // Did a code end it behind the edit of the page, which became this?
+    fn is_edited(&self, page: &[u8]) -> bool {
+        self.is_done(true) && self.has_text(page)
+    }
+
+    // Was the argument taken, and this made, or refused, and nothing done?
+    fn is_made(&self, out: Option<&[u8]>) -> bool {
+        let is_taken = match out {
+            Some(_) => self.is_done(false),
+            None => self.is_refused() && self.has_text(b""),
+        };
+        is_taken && self.out() == out && self.written.is_empty()
+    }
 }
 
 // A host with the file `in` that fails so.
@@ -64,23 +87,19 @@ fn failing_host(rt: &impl Abort, alloc: Global, failing: Failing) -> TestHost {
     TestHost::new(host_of(rt, alloc, INPUT), piece, call, nth)
 }
 
-// Edits the file `in` into the file `out`.
-fn edited(
-    rt: &impl Abort,
+// Edits the file `in` of a host into the file `out`.
+fn edited_over(
     alloc: Global,
-    file: &[u8],
+    verified: &Verified<'_>,
     given: Option<i32>,
-    failing: Failing,
+    mut host: TestHost,
 ) -> Left {
-    let library = library_of(rt, alloc, file);
-    let verified = verified_of(rt, alloc, &library);
-    let mut host = failing_host(rt, alloc, failing);
     let mut machine = Machine::new(alloc, VecText::new(alloc));
     let mut written = Vec::new(alloc);
     let done = apply(
         alloc,
         &mut machine,
-        &verified,
+        verified,
         given,
         b"in",
         b"out",
@@ -93,6 +112,20 @@ fn edited(
         machine,
         host,
     }
+}
+
+// Edits the file `in` into the file `out`.
+fn edited(
+    rt: &impl Abort,
+    alloc: Global,
+    file: &[u8],
+    given: Option<i32>,
+    failing: Failing,
+) -> Left {
+    let host = failing_host(rt, alloc, failing);
+    let library = library_of(rt, alloc, file);
+    let verified = verified_of(rt, alloc, &library);
+    edited_over(alloc, &verified, given, host)
 }
 
 /// A library, which call fails, what is written, and what the file `out` has then.
@@ -119,9 +152,7 @@ const ROWS: &[Row] = &[
 fn expect_told(rt: &impl Abort, alloc: Global, row: &Row) {
     let (file, failing, written, out) = *row;
     let left = edited(rt, alloc, file, None, failing);
-    let is_done = left.is_done(out.is_none()) && !left.machine.has_output();
-    let is_written = left.written.as_slice() == written && left.out() == out;
-    assert!(rt; is_done && is_written, "{written:?}");
+    assert!(rt; left.is_told(written, out), "{written:?}");
 }
 
 #[test]
@@ -134,8 +165,7 @@ fn files_are_edited(rt: HostRuntime) {
 #[test]
 fn an_edit_fails_in_writing(rt: HostRuntime) {
     let left = edited(&rt, rt.alloc(), MARKS, None, (1, HostCall::Write, 2));
-    let is_so = left.is_done(true) && left.has_text(b"xfoo!");
-    expect(&rt, is_so, "the page is edited");
+    expect(&rt, left.is_edited(b"xfoo!"), "the page is edited");
 }
 
 /// A text is put in as often as an argument says.
@@ -162,13 +192,7 @@ const GIVEN: &[Given] = &[
 fn expect_given(rt: &impl Abort, alloc: Global, row: &Given) {
     let (file, given, out) = *row;
     let left = edited(rt, alloc, file, given, NONE);
-    let is_taken = if out.is_some() {
-        left.is_done(false)
-    } else {
-        left.is_refused() && left.has_text(b"")
-    };
-    let is_made = left.out() == out && left.written.is_empty();
-    assert!(rt; is_taken && is_made, "{given:?} of {file:?}");
+    assert!(rt; left.is_made(out), "{given:?} of {file:?}");
 }
 
 #[test]

@@ -68,18 +68,33 @@ fn has_text(machine: &Machine<VecText>, text: &[u8]) -> bool {
         && front.len().checked_add(back.len()) == Some(text.len())
 }
 
-// Does the run of a row end, as the row says? It does not where memory was refused.
-fn ends_as(rt: &impl Abort, alloc: Global, row: &Row) -> bool {
-    let (file, command, steps, text) = *row;
-    let library = library_of(rt, alloc, file);
-    let verified = verified_of(rt, alloc, &library);
-    let mut machine = Machine::new(alloc, VecText::new(alloc));
-    let mut host = MemHost::new(alloc);
-    prepare(rt, &mut machine, &mut host, command);
-    match run(&mut machine, &verified, &mut host) {
-        Ok(Stop::Ended { steps: taken }) => taken == steps && has_text(&machine, text),
+// Does the run of a row end on a machine, as the row says?
+fn ends_on(
+    rt: &impl Abort,
+    machine: &mut Machine<VecText>,
+    verified: &Verified<'_>,
+    host: &mut MemHost,
+    row: &Row,
+) -> bool {
+    prepare(rt, machine, host, row.1);
+    match run(machine, verified, host) {
+        Ok(Stop::Ended { steps }) => steps == row.2 && has_text(machine, row.3),
         _ => false,
     }
+}
+
+// Does the run of a row end on a new machine, as the row says?
+fn ends_anew(rt: &impl Abort, alloc: Global, verified: &Verified<'_>, row: &Row) -> bool {
+    let mut machine = Machine::new(alloc, VecText::new(alloc));
+    let mut host = MemHost::new(alloc);
+    ends_on(rt, &mut machine, verified, &mut host, row)
+}
+
+// Does the run of a row end, as the row says? It does not where memory was refused.
+fn ends_as(rt: &impl Abort, alloc: Global, row: &Row) -> bool {
+    let library = library_of(rt, alloc, row.0);
+    let verified = verified_of(rt, alloc, &library);
+    ends_anew(rt, alloc, &verified, row)
 }
 
 // A run that always answers that memory was refused, or that the macro is not ready, fails here:
@@ -108,35 +123,66 @@ fn run_with(
 /// A text is put in as often as an argument says.
 const REPEAT: &[u8] = b"!TECO-LIB 2 A 1 10!@^UA/<Ia\x1b>/";
 
-// Does its run with an argument end, after so many steps and with this text? It does not where
-// memory was refused.
-fn repeats(alloc: Global, verified: &Verified<'_>, n: i32, steps: u64, text: &str) -> bool {
-    let mut machine = Machine::new(alloc, VecText::new(alloc));
-    let mut host = MemHost::new(alloc);
-    match run_with(&mut machine, verified, n, &mut host) {
-        Ok(Stop::Ended { steps: taken }) => {
-            taken == steps && has_text(&machine, text.as_bytes()) && machine.dot() == text.len()
+/// An argument, the steps that its run takes, and the text that it leaves.
+type Repeated = (i32, u64, &'static str);
+
+// Does its run with an argument end on a machine, as the row says?
+fn repeats_on(
+    machine: &mut Machine<VecText>,
+    verified: &Verified<'_>,
+    host: &mut MemHost,
+    row: &Repeated,
+) -> bool {
+    let (n, wanted, text) = *row;
+    match run_with(machine, verified, n, host) {
+        Ok(Stop::Ended { steps }) => {
+            steps == wanted && has_text(machine, text.as_bytes()) && machine.dot() == text.len()
         }
         _ => false,
     }
 }
 
-/// An argument, the steps that its run takes, and the text that it leaves.
-const REPEATED: &[(i32, u64, &str)] = &[(1, 6, "a"), (3, 10, "aaa"), (10, 24, "aaaaaaaaaa")];
+// Does its run with an argument end on a new machine, as the row says? It does not where memory was
+// refused.
+fn repeats(alloc: Global, verified: &Verified<'_>, row: &Repeated) -> bool {
+    let mut machine = Machine::new(alloc, VecText::new(alloc));
+    let mut host = MemHost::new(alloc);
+    repeats_on(&mut machine, verified, &mut host, row)
+}
+
+const REPEATED: &[Repeated] = &[(1, 6, "a"), (3, 10, "aaa"), (10, 24, "aaaaaaaaaa")];
 
 #[test]
 fn never_ready(rt: HostRuntime) {
     let library = library_of(&rt, rt.alloc(), REPEAT);
     let verified = verified_of(&rt, rt.alloc(), &library);
-    for (n, steps, text) in REPEATED.iter() {
-        let is_so = repeats(rt.alloc(), &verified, *n, *steps, text)
-            || repeats(rt.alloc(), &verified, *n, *steps, text);
-        expect(&rt, is_so, text);
+    for row in REPEATED.iter() {
+        let is_so = repeats(rt.alloc(), &verified, row) || repeats(rt.alloc(), &verified, row);
+        expect(&rt, is_so, row.2);
     }
 }
 
-// How the run of the macro A of a library stops on an empty machine: with an argument, where one is
-// given.
+// How its run stops: with an argument, where one is given.
+fn run_given(
+    machine: &mut Machine<VecText>,
+    verified: &Verified<'_>,
+    given: Option<i32>,
+    host: &mut MemHost,
+) -> Result<Stop, NotReady> {
+    match given {
+        Some(n) => run_with(machine, verified, n, host),
+        None => run(machine, verified, host),
+    }
+}
+
+// How its run stops on an empty machine.
+fn stop_anew(alloc: Global, verified: &Verified<'_>, given: Option<i32>) -> Result<Stop, NotReady> {
+    let mut machine = Machine::new(alloc, VecText::new(alloc));
+    let mut host = MemHost::new(alloc);
+    run_given(&mut machine, verified, given, &mut host)
+}
+
+// How the run of the macro A of a library stops on an empty machine.
 fn stop_of(
     rt: &impl Abort,
     alloc: Global,
@@ -145,12 +191,7 @@ fn stop_of(
 ) -> Result<Stop, NotReady> {
     let library = library_of(rt, alloc, file);
     let verified = verified_of(rt, alloc, &library);
-    let mut machine = Machine::new(alloc, VecText::new(alloc));
-    let mut host = MemHost::new(alloc);
-    match given {
-        Some(n) => run_with(&mut machine, &verified, n, &mut host),
-        None => run(&mut machine, &verified, &mut host),
-    }
+    stop_anew(alloc, &verified, given)
 }
 
 // The argument is refused.
