@@ -139,7 +139,7 @@ fn letters(rt: &impl Abort, alloc: Global, n: usize) -> Vec<u8> {
     }
 }
 
-// So many letters, with a form feed and one letter more behind them, are two pages.
+// n letters, with a form feed and one letter more behind them, are two pages.
 fn expect_two_pages(rt: &impl Abort, alloc: Global, n: usize) {
     let text = letters(rt, alloc, n);
     let mut bytes = letters(rt, alloc, n.saturating_add(2));
@@ -149,7 +149,7 @@ fn expect_two_pages(rt: &impl Abort, alloc: Global, n: usize) {
     expect_pages(rt, alloc, &bytes, &[(&text, true), (b"a", false)]);
 }
 
-// So many letters are a page.
+// n letters are a page.
 fn expect_one_page(rt: &impl Abort, alloc: Global, n: usize) {
     let text = letters(rt, alloc, n);
     expect_pages(rt, alloc, &text, &[(&text, false)]);
@@ -317,7 +317,7 @@ fn is_read_on(pages: &mut Pages, host: &mut TestHost) -> Result<bool, Fault> {
     Ok(is_refused && is_page(pages, (b"ab", true)))
 }
 
-// Is it, where this read fails?
+// Is the first page read on where this read fails?
 fn is_read_on_behind(rt: &impl Abort, alloc: Global, nth: u64) -> bool {
     let mut host = TestHost::new(files(rt, alloc, b"ab\x0ccd"), 1, HostCall::Read, nth);
     let mut pages = Pages::new(alloc);
