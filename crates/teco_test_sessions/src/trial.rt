@@ -145,8 +145,8 @@ pub fn run_over<H: Host>(
     }
 }
 
-/// Runs a session over a store, without files. Where it does not write what it is to, and a growth
-/// may have been refused, it runs once more.
+/// Runs a session over a store, without files. Where it does not write what it is to, or ends for
+/// want of memory, and a growth may have been refused, it runs once more.
 pub fn run_steady(
     alloc: Global,
     store: Store,
@@ -155,7 +155,8 @@ pub fn run_steady(
     written: &[u8],
 ) -> Ran {
     let ran = run_over(alloc, store, &mut MemHost::new(alloc), given, left);
-    if ran.written.as_slice() != written && ran.may_be_refused() {
+    let is_other = ran.written.as_slice() != written || ran.outcome == "memory";
+    if is_other && ran.may_be_refused() {
         run_over(alloc, store, &mut MemHost::new(alloc), given, left)
     } else {
         ran
