@@ -18,17 +18,27 @@ pub(crate) fn make_room(kept: &mut Vec<u8>, len: usize) -> Result<(), AllocError
     kept.reserve(len.saturating_sub(kept.len()))
 }
 
-// Puts a text in the place of one; an empty text changes nothing.
+// Writes a text in the place of one.
+#[inline(never)]
+fn write_text(kept: &mut Vec<u8>, text: &[u8])
+    requires { length text.now ≤ vec_capacity kept.old }
+    ensures { kept.new.items ≡ text.now }
+{
+    kept.clear();
+    // there is room for it, so it is not refused
+    let _ = kept.extend_from_slice(text);
+}
+
+// Puts a text in the place of one; an empty text changes nothing. What stands there already is not
+// written again.
+#[inline(always)]
 pub(crate) fn put_text(kept: &mut Vec<u8>, text: &[u8])
     requires { length text.now ≤ vec_capacity kept.old }
     ensures { kept.new.items ≡ model.text_or text.now kept.old.items }
 {
-    if text.is_empty() {
-        return;
+    if !text.is_empty() && kept.as_slice() != text {
+        write_text(kept, text);
     }
-    kept.clear();
-    // there is room for it, so it is not refused
-    let _ = kept.extend_from_slice(text);
 }
 
 impl<T: TextStore> Editor<T> {

@@ -40,6 +40,7 @@ impl Named {
     }
 
     // Has the register this text now?
+    #[inline(never)]
     fn is_current(&self, regs: &Regs) -> bool
         ensures { IsTrue result ↔ reading.Has regs.now self.now }
     {
@@ -48,6 +49,7 @@ impl Named {
 }
 
 // Have all of them these texts now?
+#[inline(always)]
 pub(crate) fn are_current(named: &[Named], regs: &Regs) -> bool
     ensures { IsTrue result ↔ All (reading.Has regs.now) named.now }
 {

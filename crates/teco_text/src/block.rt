@@ -120,6 +120,7 @@ impl Block {
 
     // Puts `new` in the stead of the characters from `a` up to `b`; the gap is behind `new` then.
     // Where memory is refused, nothing has moved.
+    #[inline(always)]
     pub(crate) fn replace(&mut self, a: usize, b: usize, new: &[u8]) -> Result<(), AllocError>
         requires { IsPart (text_of self.old) a b }
         ensures before { OnOk result (self.new.before ≡ take a (text_of self.old) ++ new.now) }

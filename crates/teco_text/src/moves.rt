@@ -29,6 +29,7 @@ pub(crate) fn move_gap(block: &mut Vec<u8>, start: usize, end: usize, at: usize)
 }
 
 // Widens a gap that ends at a place, in time by what is behind it.
+#[inline(never)]
 pub(crate) fn widen(block: &mut Vec<u8>, end: usize, more: usize)
     requires place { end ≤ length block.old.items }
     requires room { length block.old.items + more ≤ vec_capacity block.old }
