@@ -36,9 +36,10 @@ pub(crate) fn put_text(kept: &mut Vec<u8>, text: &[u8])
     requires { length text.now ≤ vec_capacity kept.old }
     ensures { kept.new.items ≡ model.text_or text.now kept.old.items }
 {
-    if !text.is_empty() && kept.as_slice() != text {
-        write_text(kept, text);
+    if text.is_empty() || kept.as_slice() == text {
+        return;
     }
+    write_text(kept, text);
 }
 
 impl<T: TextStore> Editor<T> {

@@ -151,6 +151,7 @@ impl Block {
     }
 
     // Puts `new` in before the gap.
+    #[inline(always)]
     fn put(&mut self, new: &[u8])
         requires { length (text_of self.old) + length new.now ≤ self.old.room }
         ensures before { self.new.before ≡ self.old.before ++ new.now }

@@ -1,8 +1,27 @@
 // Moves of characters within a block. Its gap lies between two places, and what is behind the gap
 // at the block's end.
 ghost use Rattle.std.specs.Prelude.{◌≡◌, ◌+◌, ◌-◌, ◌≤◌, length, take, drop, vec_capacity};
+ghost use Rattle.std.specs.List.{copy_within};
 ghost use Rattle.teco_text.specs.Answers.{IsPart};
 ghost use Rattle.teco_text.specs.Text.{text_after_deletion, text_after_replacement};
+
+// Copies the characters from one place up to another to a place before them, all at once where the
+// two parts do not overlap.
+#[inline(always)]
+fn copy_back(block: &mut Vec<u8>, from: usize, end: usize, to: usize)
+    requires part { IsPart block.old.items from end }
+    requires back { to ≤ from }
+    ensures items { block.new.items ≡ copy_within block.old.items from end to }
+    ensures capacity { vec_capacity block.new ≡ vec_capacity block.old }
+{
+    let n = end - from;
+    if n <= from - to {
+        let (front, back) = block.split_at_mut(from);
+        front[to..to + n].copy_from_slice(&back[..n]);
+    } else {
+        block.copy_within(from..end, to);
+    }
+}
 
 // Moves a gap to a place of the text, in time by the way between. It gives where the gap ends then.
 pub(crate) fn move_gap(block: &mut Vec<u8>, start: usize, end: usize, at: usize) -> usize
@@ -23,7 +42,7 @@ pub(crate) fn move_gap(block: &mut Vec<u8>, start: usize, end: usize, at: usize)
     if at < start {
         block.copy_within(at..start, new_end);
     } else {
-        block.copy_within(end..new_end, start);
+        copy_back(block, end, new_end, start);
     }
     new_end
 }

@@ -10,7 +10,7 @@ returns-then-at-start-clause-behind c =
     rw c.copy_within.ensures.items moved
 
 -- the place of the text and the gap lie in the block
-within : (c : goal.After-copy_within-else-at-start)
+within : (c : goal.After-copy_back)
     → c.args.at + (c.args.end - c.args.start) ≤ length c.args.block.now.items
 within c =
     let xs = c.args.block.now.items in
@@ -21,10 +21,10 @@ pub returns-else-at-start-clause-before : goal.returns-else-at-start-clause-befo
 returns-else-at-start-clause-before c =
     let xs = c.args.block.now.items in
     let moved = before_moved_on xs c.args.at c.args.start c.args.end (omega arith) (omega arith) (within c) in
-    rw c.copy_within-else-at-start.ensures.items moved
+    rw c.copy_back.ensures.items moved
 
 pub returns-else-at-start-clause-behind : goal.returns-else-at-start-clause-behind
 returns-else-at-start-clause-behind c =
     let xs = c.args.block.now.items in
     let moved = behind_moved_on xs c.args.at c.args.start c.args.end (omega arith) (omega arith) (within c) in
-    rw c.copy_within-else-at-start.ensures.items moved
+    rw c.copy_back.ensures.items moved
