@@ -33,7 +33,7 @@ use teco_library::Library;
 use teco_model::Element;
 use teco_poly::Poly;
 use teco_transfer::turns;
-use teco_verifier::Rules;
+use teco_verifier::{LoopLine, Rules};
 
 /// What the verifier knows of a macro: the elements that it comes to, numbered from 1, what is
 /// known before each, and the verdict.
@@ -193,18 +193,20 @@ fn unexpanded<'l>(alloc: Global, refused: Unexpanded) -> Account<'l>
     }
 }
 
-// The table that was derived, or what was known as the choices were searched.
+// The table that was derived, or what was known as the choices were searched, which ended with
+// these.
 fn table_of(
     alloc: Global,
     given: &Entry,
     nodes: &Nodes<'_>,
     derived: Option<Table>,
+    chosen: Vec<LoopLine>,
 ) -> Result<Table, AllocError>
     ensures { IfOk result (λ table. IfSome derived (λ those. table ≡ those)) }
 {
     match derived {
         Some(table) => Ok(table),
-        None => watch(alloc, given, nodes),
+        None => watch(alloc, given, nodes, chosen),
     }
 }
 
@@ -238,7 +240,7 @@ fn accounted<'l>(alloc: Global, asked: &Asked<'l>) -> Result<Account<'l>, AllocE
     if let Err(Refusal::Memory) = &found.verdict {
         return Err(AllocError);
     }
-    let table = table_of(alloc, &asked.given(), &nodes, found.table)?;
+    let table = table_of(alloc, &asked.given(), &nodes, found.table, found.chosen)?;
     Ok(Account {
         nodes: Some(nodes),
         table,
@@ -248,7 +250,7 @@ fn accounted<'l>(alloc: Global, asked: &Asked<'l>) -> Result<Account<'l>, AllocE
 }
 
 /// Tells what the verifier knows of a macro: the verdict of `verify_by`, and from what it comes. It
-/// takes up to twice as long.
+/// passes each element once more than that where the macro is refused.
 pub fn account_by<'l>(
     alloc: Global,
     library: &'l Library,

@@ -2,7 +2,7 @@
 
 use crate::memo::{Body, Memo};
 use std::alloc::{AllocError, Global};
-use teco_check::line_of;
+use teco_check::{choice_for, line_of};
 use teco_facts::{Changes, Choice, Facts, body_start, growth_of, held_last, joined_lengths};
 use teco_known::Margins;
 use teco_poly::Poly;
@@ -73,13 +73,25 @@ impl Attempt {
         }
     }
 
-    /// This attempt, or the last try where one was found before.
-    pub fn recalling(mut self, memo: &Memo) -> Result<Attempt, AllocError> {
-        if let Some(choice) = memo.choice(self.begin, &self.turns, &self.entering)? {
+    // The last try with a choice, if there is one; else this attempt.
+    fn with(mut self, choice: Option<Choice>) -> Attempt {
+        if let Some(choice) = choice {
             self.choice = choice;
             self.tries = most_tries(self.entering.rules());
         }
-        Ok(self)
+        self
+    }
+
+    /// This attempt, or the last try where a choice was found before.
+    pub fn recalling(self, memo: &Memo) -> Result<Attempt, AllocError> {
+        let choice = memo.choice(self.begin, &self.turns, &self.entering)?;
+        Ok(self.with(choice))
+    }
+
+    /// This attempt, or the last try where a choice is given.
+    pub fn given(self, chosen: &[LoopLine]) -> Attempt {
+        let choice = choice_for(self.begin, chosen, &self.entering);
+        self.with(choice)
     }
 
     /// This attempt, behind so many pending edges and found choices.

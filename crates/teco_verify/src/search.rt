@@ -1,5 +1,5 @@
 //! The pass over the nodes that finds the choices.
-ghost use Rattle.std.specs.Prelude.{◌<◌, ◌≤◌, length, IfOk};
+ghost use Rattle.std.specs.Prelude.{◌≡◌, ◌<◌, ◌≤◌, length, IfOk};
 ghost use Rattle.std.specs.Result.{IfErr};
 ghost use Rattle.teco_check.specs.Kept.{AreKept};
 ghost use Rattle.teco_verify.specs.Unfit.{IsAt, IsIn};
@@ -9,7 +9,7 @@ use crate::course::Course;
 use crate::meeting::met;
 use crate::memo::Memo;
 use crate::pending::Pending;
-use crate::unfit::Unfit;
+use crate::unfit::{Unfit, Unfound};
 use std::alloc::{AllocError, Global};
 use teco_check::are_kept;
 use teco_expansion::Nodes;
@@ -30,18 +30,26 @@ pub fn passes(rules: Rules) -> u64 {
 // A pass over the nodes, in their order, with what is tried for the iterations that are open.
 #[derive(Drop)]
 pub struct Search {
-    pub alloc: Global,
+    alloc: Global,
     // what comes from the node before
     carried: Option<Facts>,
     pending: Pending,
     memo: Memo,
-    pub attempts: Vec<Attempt>,
-    pub found: Vec<LoopLine>,
+    attempts: Vec<Attempt>,
+    found: Vec<LoopLine>,
+    // the choices that are not searched
+    given: Vec<LoopLine>,
 }
 
 impl Search {
-    /// None of so many nodes is passed.
-    pub fn new(alloc: Global, entry: &Entry, nodes: usize) -> Result<Search, AllocError> {
+    /// None of so many nodes is passed. Choices that are given are the only ones that are tried for
+    /// their iterations.
+    pub fn new(
+        alloc: Global,
+        entry: &Entry,
+        nodes: usize,
+        given: Vec<LoopLine>,
+    ) -> Result<Search, AllocError> {
         Ok(Search {
             alloc,
             carried: Some(Facts::entry(alloc, entry)?),
@@ -49,6 +57,7 @@ impl Search {
             memo: Memo::new(alloc, nodes)?,
             attempts: Vec::new(alloc),
             found: Vec::new(alloc),
+            given,
         })
     }
 
@@ -110,6 +119,7 @@ impl Search {
         let body = self.memo.body(nodes, number);
         let attempt = Attempt::first(number, &body, turns, entering)
             .recalling(&self.memo)?
+            .given(&self.given)
             .behind(self.pending.len(), self.found.len());
         self.carried = Some(attempt.start()?);
         self.attempts.push(attempt)?;
@@ -258,6 +268,47 @@ impl Search {
         }
         Ok(number.saturating_add(1))
     }
+
+    // Passes all nodes, up to the end or to the first refusal.
+    fn pass_all(&mut self, course: &Course<'_, '_>, rules: Rules) -> Result<(), Unfit>
+        ensures { IfErr result (IsIn course.now) }
+    {
+        let count = course.nodes.len();
+        let mut number = 1;
+        for _ in 0..passes(rules).saturating_mul(count as u64) {
+            if number > count {
+                return Ok(());
+            }
+            number = self.pass(course, number)?;
+        }
+        if number > count {
+            return Ok(());
+        }
+        Err(Unfit::at(Refusal::Bound, number))
+    }
+
+    /// What is chosen: what was found, and what is tried where the search stopped.
+    pub fn into_chosen(self) -> Result<Vec<LoopLine>, AllocError> {
+        let mut chosen = self.found;
+        for attempt in &self.attempts {
+            chosen.push(attempt.line(self.alloc)?)?;
+        }
+        Ok(chosen)
+    }
+
+    // Why the search ended, and with which choices; without them where memory is refused.
+    fn into_unfound(self, why: Unfit) -> Unfound
+        ensures { result.why ≡ why }
+    {
+        let alloc = self.alloc;
+        match self.into_chosen() {
+            Ok(chosen) => Unfound { why, chosen },
+            Err(_) => Unfound {
+                why,
+                chosen: Vec::new(alloc),
+            },
+        }
+    }
 }
 
 // What is known where another edge leads to a node.
@@ -274,20 +325,17 @@ fn joined(alloc: Global, known: Option<Facts>, more: Facts, number: usize) -> Re
 ///
 /// The body of each iteration is passed at most three times, by the second edition four, for each
 /// pass of the one round it.
-pub fn choose(alloc: Global, entry: &Entry, nodes: &Nodes<'_>) -> Result<Vec<LoopLine>, Unfit>
-    ensures { IfErr result (IsIn nodes.now) }
+pub fn choose(alloc: Global, entry: &Entry, nodes: &Nodes<'_>) -> Result<Vec<LoopLine>, Unfound>
+    ensures { IfErr result (λ unfound. IsIn nodes.now unfound.why) }
 {
-    let course = Course::new(alloc, nodes)?;
-    let mut search = Search::new(alloc, entry, nodes.len())?;
-    let mut number = 1;
-    for _ in 0..passes(entry.rules).saturating_mul(nodes.len() as u64) {
-        if number > nodes.len() {
-            return Ok(search.found);
-        }
-        number = search.pass(&course, number)?;
+    let Ok(course) = Course::new(alloc, nodes) else {
+        return Err(Unfound::memory(alloc));
+    };
+    let Ok(mut search) = Search::new(alloc, entry, nodes.len(), Vec::new(alloc)) else {
+        return Err(Unfound::memory(alloc));
+    };
+    match search.pass_all(&course, entry.rules) {
+        Ok(()) => Ok(search.found),
+        Err(why) => Err(search.into_unfound(why)),
     }
-    if number > nodes.len() {
-        return Ok(search.found);
-    }
-    Err(Unfit::at(Refusal::Bound, number))
 }

@@ -3,9 +3,9 @@ ghost use Rattle.std.specs.Prelude.{◌≡◌};
 ghost use Rattle.teco_verify.specs.Unfit.{IsAt};
 ghost use Rattle.teco_verify.specs.declared.unfit.Unfit.TheVariants.{Memory};
 
-use std::alloc::{AllocError, AllocFailed};
+use std::alloc::{AllocError, AllocFailed, Global};
 use teco_known::Fault;
-use teco_verifier::Refusal;
+use teco_verifier::{LoopLine, Refusal};
 
 /// Why no choices are found.
 #[derive(Clone, Copy)]
@@ -31,6 +31,25 @@ impl Unfit {
         match fault {
             Fault::Refused(why) => Unfit::at(why, number),
             Fault::Memory => Unfit::Memory,
+        }
+    }
+}
+
+/// Why no choices are found, and what was chosen where the search ended.
+#[derive(Drop)]
+pub struct Unfound {
+    pub why: Unfit,
+    pub chosen: Vec<LoopLine>,
+}
+
+impl Unfound {
+    // Memory was refused.
+    pub fn memory(alloc: Global) -> Unfound
+        ensures { result.why ≡ Memory }
+    {
+        Unfound {
+            why: Unfit::Memory,
+            chosen: Vec::new(alloc),
         }
     }
 }

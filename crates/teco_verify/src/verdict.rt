@@ -20,7 +20,7 @@ use crate::asked::Asked;
 use crate::certifying::certified;
 use crate::refusal::{Refusal, unfit_flawed, unfit_underived};
 use crate::search::choose;
-use crate::unfit::Unfit;
+use crate::unfit::{Unfit, Unfound};
 use crate::verified::Verified;
 use std::alloc::Global;
 use teco_base::Reg;
@@ -41,18 +41,24 @@ pub fn texts_are_within(library: &Library)
     let _texts = library.texts();
 }
 
-/// What is found of a macro: the verdict, the table if one is derived, and the number of the node
-/// at which it is refused, if it is.
+/// What is found of a macro: the verdict, the table if one is derived, the number of the node at
+/// which it is refused, if it is, and what was chosen where the search for choices ended there.
 #[derive(Drop)]
 pub struct Found<'l> {
     pub verdict: Result<Verified<'l>, Refusal>,
     pub table: Option<Table>,
     pub stop: Option<usize>,
+    pub chosen: Vec<LoopLine>,
 }
 
 impl<'l> Found<'l> {
     // What is found where the rules refuse, or memory is refused.
-    fn unfit(why: Unfit, nodes: &Nodes<'_>, table: Option<Table>) -> Found<'l>
+    fn unfit(
+        why: Unfit,
+        nodes: &Nodes<'_>,
+        table: Option<Table>,
+        chosen: Vec<LoopLine>,
+    ) -> Found<'l>
         requires { IsIn nodes.now why }
         ensures { result.verdict ≡ Err (refusal_of_unfit nodes.now why) }
     {
@@ -64,6 +70,7 @@ impl<'l> Found<'l> {
             verdict: Err(Refusal::unfit(why, nodes)),
             table,
             stop,
+            chosen,
         }
     }
 }
@@ -92,22 +99,23 @@ pub fn found_with<'l>(
 {
     let table = match derive(alloc, &asked.given(), nodes, chosen) {
         Ok(table) => table,
-        Err(why) => return Found::unfit(unfit_underived(why), nodes, None),
+        Err(why) => return Found::unfit(unfit_underived(why), nodes, None, Vec::new(alloc)),
     };
     match certified(alloc, asked, nodes, &table) {
         Ok(verified) => Found {
             verdict: Ok(verified),
             table: Some(table),
             stop: None,
+            chosen: Vec::new(alloc),
         },
-        Err(flaw) => Found::unfit(unfit_flawed(flaw), nodes, Some(table)),
+        Err(flaw) => Found::unfit(unfit_flawed(flaw), nodes, Some(table), Vec::new(alloc)),
     }
 }
 
 // What is chosen for the iterations. Where there are none it is nothing.
-fn choices(alloc: Global, given: &Entry, nodes: &Nodes<'_>) -> Result<Vec<LoopLine>, Unfit>
+fn choices(alloc: Global, given: &Entry, nodes: &Nodes<'_>) -> Result<Vec<LoopLine>, Unfound>
     ensures none { list_any begins nodes.now ≡ false → ChoosesNothing result }
-    ensures numbered { IfErr result (IsIn nodes.now) }
+    ensures numbered { IfErr result (λ unfound. IsIn nodes.now unfound.why) }
 {
     if has_iterations(nodes) {
         choose(alloc, given, nodes)
@@ -134,7 +142,7 @@ pub fn found_of<'l>(alloc: Global, asked: &Asked<'l>, nodes: &Nodes<'_>) -> Foun
 {
     match choices(alloc, &asked.given(), nodes) {
         Ok(choices) => found_with(alloc, asked, nodes, &choices),
-        Err(unfit) => Found::unfit(unfit, nodes, None),
+        Err(unfound) => Found::unfit(unfound.why, nodes, None, unfound.chosen),
     }
 }
 

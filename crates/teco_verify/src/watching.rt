@@ -93,21 +93,17 @@ impl Search {
         }
         Ok(())
     }
-
-    // What is chosen: what was found, and what is tried where it stopped.
-    fn into_chosen(self) -> Result<Vec<LoopLine>, Unfit> {
-        let mut chosen = self.found;
-        for attempt in &self.attempts {
-            chosen.push(attempt.line(self.alloc)?)?;
-        }
-        Ok(chosen)
-    }
 }
 
 // Follows the pass to its end, or to the refusal that ends it.
-fn followed(alloc: Global, entry: &Entry, nodes: &Nodes<'_>) -> Result<Table, Unfit> {
+fn followed(
+    alloc: Global,
+    entry: &Entry,
+    nodes: &Nodes<'_>,
+    given: Vec<LoopLine>,
+) -> Result<Table, Unfit> {
     let course = Course::new(alloc, nodes)?;
-    let mut search = Search::new(alloc, entry, nodes.len())?;
+    let mut search = Search::new(alloc, entry, nodes.len(), given)?;
     let mut trail = Trail {
         known: Vec::new(alloc),
     };
@@ -119,9 +115,15 @@ fn followed(alloc: Global, entry: &Entry, nodes: &Nodes<'_>) -> Result<Table, Un
 }
 
 /// What is known at each node as the choices are searched, up to the last node that is passed: in
-/// the last try, where a body is tried again; and what is chosen so far.
-pub fn watch(alloc: Global, entry: &Entry, nodes: &Nodes<'_>) -> Result<Table, AllocError> {
-    match followed(alloc, entry, nodes) {
+/// the last try, where a body is tried again; and what is chosen so far. Where the choices are given
+/// with which an earlier search ended, each node is passed once.
+pub fn watch(
+    alloc: Global,
+    entry: &Entry,
+    nodes: &Nodes<'_>,
+    given: Vec<LoopLine>,
+) -> Result<Table, AllocError> {
+    match followed(alloc, entry, nodes, given) {
         Ok(table) => Ok(table),
         Err(_) => Err(AllocError),
     }
