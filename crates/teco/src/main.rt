@@ -242,7 +242,7 @@ fn obey<'a, O: Write + Drop, E: Write + Drop>(
 // Reads the words, and does what they say.
 fn read_and_obey(rt: &HostRuntime) -> Result<ExitCode, ProgramFault> {
     let arguments = Arguments::read(rt)?;
-    let command = teco_words::command(rt.alloc())?;
+    let command = teco_words::command(rt.alloc(), arguments.texts())?;
     let matches = match command.try_get_matches_from(arguments.texts()) {
         Ok(matches) => matches,
         Err(error) => {

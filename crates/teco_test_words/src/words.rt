@@ -17,7 +17,7 @@ fn expect_row(rt: &impl Abort, is_so: bool, number: usize) {
 
 // What words say, or the status of their refusal; -1 where memory was refused.
 fn matched<'a>(alloc: Global, words: &'a [&str]) -> Result<ArgMatches<'a>, i32> {
-    let Ok(command) = command(alloc) else {
+    let Ok(command) = command(alloc, words) else {
         return Err(-1);
     };
     match command.try_get_matches_from(words) {
@@ -186,7 +186,7 @@ fn is_read<'a>(
 
 // What is said of the names of files in some words: of another one first.
 fn names_in(arguments: &Arguments, name: &[u8], alloc: Global) -> Option<(bool, Option<bool>)> {
-    let Ok(command) = command(alloc) else {
+    let Ok(command) = command(alloc, arguments.texts()) else {
         return None;
     };
     let Ok(matches) = command.try_get_matches_from(arguments.texts()) else {

@@ -3,6 +3,7 @@ use crate::rows::Row;
 use crate::tables::PAGES;
 use clap::{Arg, Command};
 use std::alloc::{AllocError, Global};
+use std::convert::AsStr;
 
 /// A command of the program: what its help says, and its arguments.
 #[derive(Clone, Copy)]
@@ -35,14 +36,30 @@ fn subcommand<'a>(alloc: Global, page: &Page) -> Result<Command<'a>, AllocError>
     bare(alloc, page).args(args)
 }
 
-// Adds the commands of pages to others.
-fn push_commands<'a>(
+// Whether one of the words is a name.
+fn is_among<S: AsStr>(words: &[S], name: &str) -> bool {
+    for word in words {
+        if word.as_str() == name {
+            return true;
+        }
+    }
+    false
+}
+
+// Adds the commands of the program to others. One that no word names goes without its arguments:
+// they are neither read nor listed, and adding them was half of the program's work at a start.
+fn push_commands<'a, S: AsStr>(
     alloc: Global,
-    pages: &[Page],
+    words: &[S],
     commands: &mut Vec<Command<'a>>,
 ) -> Result<(), AllocError> {
-    for page in pages {
-        commands.push(subcommand(alloc, page)?)?;
+    for page in PAGES {
+        let command = if is_among(words, page.name) {
+            subcommand(alloc, page)?
+        } else {
+            bare(alloc, page)
+        };
+        commands.push(command)?;
     }
     Ok(())
 }
@@ -55,9 +72,9 @@ fn program<'a>(alloc: Global) -> Command<'a> {
         .subcommand_required(true)
 }
 
-/// The commands of the program and their options.
-pub fn command<'a>(alloc: Global) -> Result<Command<'a>, AllocError> {
+/// The commands of the program, to read these words. Those that a word names have their arguments.
+pub fn command<'a, S: AsStr>(alloc: Global, words: &[S]) -> Result<Command<'a>, AllocError> {
     let mut commands = Vec::new(alloc);
-    push_commands(alloc, PAGES, &mut commands)?;
+    push_commands(alloc, words, &mut commands)?;
     program(alloc).subcommands(commands)
 }
