@@ -105,8 +105,8 @@ impl Facts {
         ensures { result ≡ ranks.rank_of self.now.position }
     {
         match self.known.position.falls.as_slice() {
-            [own, ..] if is_known(1, own.fall) => Some(Rank::Ahead),
-            [own, ..] if is_known(1, own.held) => Some(Rank::Held),
+            [own, ..] if is_known(1, own.fall.known()) => Some(Rank::Ahead),
+            [own, ..] if is_known(1, own.held.known()) => Some(Rank::Held),
             _ => None,
         }
     }
@@ -116,7 +116,7 @@ impl Facts {
         ensures { result ≡ ranks.has_own_fall least self.now.position }
     {
         match self.known.position.falls.as_slice() {
-            [own, ..] => is_known(least, own.fall),
+            [own, ..] => is_known(least, own.fall.known()),
             [] => false,
         }
     }

@@ -321,7 +321,7 @@ impl Facts {
         ensures { result ≡ option_and_then (λ (f : Falls). f.fall) (slice_get
             self.now.position.falls at) }
     {
-        self.known.position.falls.as_slice().get(at)?.fall
+        self.known.position.falls.as_slice().get(at)?.fall.known()
     }
 
     /// The least distances of the pointer in plain numbers.

@@ -1,4 +1,5 @@
 -- What the proofs of the functions share.
+pub mod Least
 pub mod Ends
 pub mod Lengths
 pub mod Linear

@@ -1,6 +1,7 @@
 -- The words of the contracts.
 pub mod Numbers
 pub mod Descents
+pub mod Least
 pub mod Behind
 pub mod Each
 pub mod Does

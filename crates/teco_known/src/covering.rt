@@ -3,10 +3,12 @@ ghost use Rattle.std.specs.Prelude.{◌≡◌, ◌&&◌};
 ghost use Rattle.teco_verifier.specs.facts.Covers as covers;
 ghost use Rattle.teco_verifier.specs.facts.Values as values;
 
-use crate::{Covers, Level, Margins, Number, Position, Range, each_covers, has_no_distance};
+use crate::{
+    Covers, KnownFalls, Level, Margins, Number, Position, Range, each_covers, has_no_distance,
+};
 use teco_model::Operator;
 use teco_poly::Poly;
-use teco_verifier::{CharacterCode, DigitMark, Falls, Value};
+use teco_verifier::{CharacterCode, DigitMark, Value};
 
 // Whether two numbers are the same.
 fn are_equal(one: i64, two: i64) -> bool
@@ -121,27 +123,16 @@ impl Covers for Range {
     }
 }
 
-// Whether a fall is smaller, or the same; an unknown one is the smallest.
-fn covers_fall(one: Option<i64>, edge: Option<i64>) -> bool
-    ensures { result ≡ covers.covers_fall one edge }
-{
-    match (one, edge) {
-        (None, _) => true,
-        (Some(one), Some(edge)) => one <= edge,
-        (Some(_), None) => false,
-    }
-}
-
-impl Covers for Falls {
+impl Covers for KnownFalls {
     ghost covers = { covers.covers_falls };
 
-    fn covers(&self, edge: &Falls) -> bool {
-        covers_fall(self.fall, edge.fall)
-            && covers_fall(self.far, edge.far)
-            && covers_fall(self.line, edge.line)
-            && covers_fall(self.far_line, edge.far_line)
-            && covers_fall(self.held, edge.held)
-            && covers_fall(self.rest, edge.rest)
+    fn covers(&self, edge: &KnownFalls) -> bool {
+        self.fall.covers(edge.fall)
+            && self.far.covers(edge.far)
+            && self.line.covers(edge.line)
+            && self.far_line.covers(edge.far_line)
+            && self.held.covers(edge.held)
+            && self.rest.covers(edge.rest)
     }
 }
 

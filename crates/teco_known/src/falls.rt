@@ -1,5 +1,5 @@
 //! How much less there is since the turns of open iterations began, the innermost first.
-ghost use Rattle.std.specs.Prelude.{◌≡◌, ◌≤◌, ◌^◌, ◌↔◌, [], map, pos, IfSome, IsTrue, Some};
+ghost use Rattle.std.specs.Prelude.{◌≡◌, ◌≤◌, ◌^◌, ◌↔◌, [], length, map, pos, IfSome, IsTrue, Some};
 ghost use Rattle.teco_verifier.specs.facts.Bodies as bodies;
 ghost use Rattle.teco_verifier.specs.facts.Falls as rules;
 ghost use Rattle.teco_verifier.specs.facts.Ways as ways;
@@ -7,26 +7,65 @@ ghost use Rattle.teco_known.specs.Behind.{falls_at, falls_near};
 ghost use Rattle.teco_known.specs.Descents.{seen, IsNearDescent};
 ghost use Rattle.teco_known.specs.Numbers.{IsNear, IsSmallFall, IsSmallFalls, AreSmall};
 
-use crate::{Descent, Few, Margins, Meets, Shift};
-use teco_verifier::{Falls, Rules};
+use crate::{Descent, Fall, Few, Margins, Meets, Shift};
+use std::marker::Model;
+use teco_verifier::Rules;
 
-const LEAST: i64 = -4_611_686_018_427_387_904;
+/// How much less is ahead, held and unread, at the least, than was when a turn of an iteration
+/// began; each where it is known.
+#[derive(Clone, Copy)]
+pub struct KnownFalls {
+    /// The fall.
+    pub fall: Fall,
+    /// The far fall.
+    pub far: Fall,
+    /// The line fall.
+    pub line: Fall,
+    /// The far line fall.
+    pub far_line: Fall,
+    /// The held fall.
+    pub held: Fall,
+    /// The rest fall.
+    pub rest: Fall,
+}
 
-const MOST: i64 = 4_611_686_018_427_387_904;
+impl Model for KnownFalls {
+    ghost use Rattle.teco_verifier.specs.declared.falls.Falls.{Falls};
+
+    ghost Value = { Falls };
+
+    ghost view = { λ f. record {
+      fall = f.fall;
+      far = f.far;
+      line = f.line;
+      far_line = f.far_line;
+      held = f.held;
+      rest = f.rest;
+    } };
+
+    ghost inverse = { λ f. record {
+      fall = f.fall;
+      far = f.far;
+      line = f.line;
+      far_line = f.far_line;
+      held = f.held;
+      rest = f.rest;
+    } };
+}
 
 /// The least falls of each open iteration.
-pub type OpenFalls = Few<Falls>;
+pub type OpenFalls = Few<KnownFalls>;
 
 /// Where a turn begins nothing has fallen; the first edition knows the fall alone.
-pub fn falls_at_turn(edition: Rules) -> Falls
+pub fn falls_at_turn(edition: Rules) -> KnownFalls
     ensures { result ≡ rules.falls_at_turn edition }
 {
-    let fall = Some(0);
+    let fall = Fall::nothing();
     let other = match edition {
-        Rules::First => None,
+        Rules::First => Fall::unknown(),
         Rules::Second => fall,
     };
-    Falls {
+    KnownFalls {
         fall,
         far: other,
         line: other,
@@ -56,153 +95,123 @@ pub fn greater_known(one: Option<i64>, two: Option<i64>) -> Option<i64>
     }
 }
 
-// The smaller of what is known, of which an unknown one is the smallest.
-fn smaller_known(one: Option<i64>, two: Option<i64>) -> Option<i64>
-    ensures { result ≡ rules.smaller_known one two }
-{
-    match (one, two) {
-        (Some(one), Some(two)) => Some(one.min(two)),
-        _ => None,
-    }
-}
-
-// A fall behind another one.
-fn fall_after(by: Option<i64>, fall: Option<i64>) -> Option<i64>
-    requires near { IfSome by IsNear }
-    requires small { IsSmallFall fall }
-    ensures { result ≡ rules.fall_after by fall }
-{
-    match (by, fall) {
-        (Some(by), Some(fall)) => Some(fall + by),
-        _ => None,
-    }
-}
-
-// A fall that is so much greater; falls count up to a most one.
-fn grown(by: u64, fall: Option<i64>) -> Option<i64>
-    requires { by ≤ 2 ^ 41 }
-    ensures { result ≡ rules.grown by fall }
-{
-    let (fall, by) = (fall?, by as i64);
-    Some(if fall > MOST - by { MOST } else { fall + by })
-}
-
 // The falls in order by the second edition: each is at least what follows from the others. The
 // first edition knows the fall alone.
-fn in_order(edition: Rules, margins: Margins, falls: Falls) -> Falls
-    ensures { result ≡ rules.in_order edition margins falls }
+#[inline(always)]
+fn put_in_order(edition: Rules, margins: Margins, falls: &mut KnownFalls)
+    ensures { falls.new ≡ rules.in_order edition margins falls.old }
 {
     if matches!(edition, Rules::First) {
-        return falls;
+        return;
     }
-    let fall = if margins.fore >= 1 {
-        greater_known(falls.fall, falls.far)
-    } else {
-        falls.fall
-    };
-    let far = greater_known(falls.far, fall);
-    let line = greater_known(falls.line, grown(margins.fore.min(1), fall));
-    let far_line = greater_known(falls.far_line, greater_known(line, grown(1, far)));
-    let rest = greater_known(falls.rest, grown(margins.back + margins.fore, falls.held));
-    Falls {
-        fall,
-        far,
-        line,
-        far_line,
-        held: falls.held,
-        rest,
+    if margins.fore >= 1 {
+        falls.fall = falls.fall.greater(falls.far);
     }
+    falls.far = falls.far.greater(falls.fall);
+    falls.line = falls.line.greater(falls.fall.grown(margins.fore.min(1)));
+    let behind_line = falls.line.greater(falls.far.grown(1));
+    falls.far_line = falls.far_line.greater(behind_line);
+    falls.rest = falls
+        .rest
+        .greater(falls.held.grown(margins.back + margins.fore));
 }
 
 // What is said under a condition is no more than what is said without.
-fn falls_without_end(falls: Falls) -> Falls
-    ensures { result ≡ rules.falls_without_end falls }
+#[inline(always)]
+fn falls_without_end(falls: &mut KnownFalls)
+    ensures { falls.new ≡ rules.falls_without_end falls.old }
 {
-    Falls {
-        far: smaller_known(falls.far, falls.fall),
-        far_line: smaller_known(falls.far_line, falls.line),
-        ..falls
-    }
+    falls.far = falls.far.smaller(falls.fall);
+    falls.far_line = falls.far_line.smaller(falls.line);
 }
 
 // Of what is ahead no more is said than the fall.
-fn falls_of_fall(falls: Falls) -> Falls
-    ensures { result ≡ rules.falls_of_fall falls }
+#[inline(always)]
+fn falls_of_fall(falls: &mut KnownFalls)
+    ensures { falls.new ≡ rules.falls_of_fall falls.old }
 {
-    Falls {
-        far: smaller_known(falls.far, falls.fall),
-        line: smaller_known(falls.line, falls.fall),
-        far_line: smaller_known(falls.far_line, falls.fall),
-        ..falls
-    }
+    falls.far = falls.far.smaller(falls.fall);
+    falls.line = falls.line.smaller(falls.fall);
+    falls.far_line = falls.far_line.smaller(falls.fall);
 }
 
 // Backward, or by an unknown step, nothing stays but the fall.
-fn falls_by(by: Option<i64>, falls: Falls) -> Falls
+#[inline(always)]
+fn falls_by(by: Option<i64>, falls: &mut KnownFalls)
     requires near { IfSome by IsNear }
-    requires small { IsSmallFall falls.fall }
-    ensures value { result ≡ rules.falls_by by falls }
-    ensures held { result.held ≡ falls.held }
+    requires small { IsSmallFall falls.old.fall }
+    ensures { falls.new ≡ rules.falls_by by falls.old }
 {
     match by {
         Some(by) if by >= 0 => forward(by as u64, falls),
-        by => falls_of_fall(Falls {
-            fall: fall_after(by, falls.fall),
-            ..falls
-        }),
+        by => {
+            falls.fall = falls.fall.after(by);
+            falls_of_fall(falls);
+        }
     }
 }
 
 // Forward the line falls stay.
-fn forward(by: u64, falls: Falls) -> Falls
+#[inline(always)]
+fn forward(by: u64, falls: &mut KnownFalls)
     requires { by ≤ 2 ^ 41 }
-    ensures { result ≡ rules.falls_by (Some (pos by)) falls }
+    ensures { falls.new ≡ rules.falls_by (Some (pos by)) falls.old }
 {
-    Falls {
-        fall: grown(by, falls.fall),
-        far: grown(by, falls.far),
-        ..falls
-    }
+    falls.fall = falls.fall.grown(by);
+    falls.far = falls.far.grown(by);
 }
 
 // At the next page no more is ahead than was unread, which never grows.
-fn falls_at_page(edition: Rules, falls: Falls) -> Falls
-    ensures value { result ≡ rules.falls_at_page edition falls }
-    ensures held { IsSmallFalls falls → IsSmallFall result.held }
+#[inline(always)]
+fn falls_at_page(edition: Rules, falls: &mut KnownFalls)
+    ensures { falls.new ≡ rules.falls_at_page edition falls.old }
 {
-    let fall = match edition {
-        Rules::First => falls.fall,
-        Rules::Second => greater_known(falls.fall, Some(0)),
-    };
-    let held = greater_known(falls.held, falls.rest);
-    falls_without_end(Falls {
-        fall,
-        held,
-        ..falls
-    })
+    if matches!(edition, Rules::Second) {
+        falls.fall = falls.fall.greater(Fall::nothing());
+    }
+    falls.held = falls.held.greater(falls.rest);
+    falls_without_end(falls);
 }
 
 // The falls where what is ahead changes.
-fn falls_after(edition: Rules, descent: Descent, falls: Falls) -> Falls
+#[inline(always)]
+fn falls_after(edition: Rules, descent: Descent, falls: &mut KnownFalls)
     requires near { IsNearDescent descent }
-    requires small { IsSmallFalls falls }
-    ensures value { result ≡ rules.falls_after edition (seen descent) falls }
-    ensures held { IsSmallFall result.held }
+    requires small { IsSmallFalls falls.old }
+    ensures value { falls.new ≡ rules.falls_after edition (seen descent) falls.old }
+    ensures held { IsSmallFall falls.new.held }
 {
     match descent {
         Descent::By(by) => falls_by(by, falls),
-        Descent::PastLine => Falls {
-            fall: greater_known(falls.fall, falls.line),
-            far: greater_known(falls.far, falls.far_line),
-            ..falls
-        },
-        Descent::InLine => Falls {
-            fall: None,
-            far: None,
-            ..falls
-        },
-        Descent::Refilled(by) => falls_without_end(forward(by, falls)),
+        Descent::PastLine => {
+            falls.fall = falls.fall.greater(falls.line);
+            falls.far = falls.far.greater(falls.far_line);
+        }
+        Descent::InLine => {
+            falls.fall = Fall::unknown();
+            falls.far = Fall::unknown();
+        }
+        Descent::Refilled(by) => {
+            forward(by, falls);
+            falls_without_end(falls);
+        }
         Descent::NextPage => falls_at_page(edition, falls),
+    }
+}
+
+// The falls of each of some iterations become those behind a shift.
+#[inline(always)]
+fn all_behind(edition: Rules, shift: &Shift, margins: Margins, falls: &mut [KnownFalls])
+    requires { AreSmall falls.old }
+    ensures value { falls.new ≡ map (falls_at edition shift.now margins) falls.old }
+    ensures long { length falls.new ≡ length falls.old }
+{
+    let by = shift.held_fall();
+    for at in 0..falls.len() {
+        let here = &mut falls[at];
+        falls_after(edition, shift.descent, here);
+        here.held = here.held.after(by);
+        put_in_order(edition, margins, here);
     }
 }
 
@@ -211,26 +220,18 @@ pub fn go_behind(edition: Rules, shift: &Shift, margins: Margins, falls: &mut Op
     requires { AreSmall falls.old }
     ensures { falls.new ≡ map (falls_at edition shift.now margins) falls.old }
 {
-    let by = shift.held_fall();
-    for at in 0..falls.as_slice().len() {
-        let fall = falls.at(at);
-        let moved = falls_after(edition, shift.descent, fall);
-        let held = fall_after(by, moved.held);
-        falls.set(at, in_order(edition, margins, Falls { held, ..moved }));
-    }
+    let open = falls.len;
+    all_behind(edition, shift, margins, &mut falls.items[..open]);
 }
 
 // What is unread is less than what was held by as much as the buffer has at the least.
-fn with_rest_of(size: Option<u64>, falls: Falls) -> Falls
+#[inline(always)]
+fn with_rest_of(size: Option<u64>, falls: &mut KnownFalls)
     requires { IfSome size (λ n. n ≤ 2 ^ 41) }
-    ensures { result ≡ ways.with_rest_of size falls }
+    ensures { falls.new ≡ ways.with_rest_of size falls.old }
 {
-    match size {
-        None => falls,
-        Some(size) => Falls {
-            rest: greater_known(falls.rest, grown(size, falls.held)),
-            ..falls
-        },
+    if let Some(size) = size {
+        falls.rest = falls.rest.greater(falls.held.grown(size));
     }
 }
 
@@ -243,38 +244,41 @@ pub fn all_near(edition: Rules, size: Option<u64>, margins: Margins, falls: &Ope
     let falls = falls.as_slice();
     let mut near = no_falls();
     for at in 0..falls.len() {
-        near.push(in_order(edition, margins, with_rest_of(size, falls[at])));
+        let mut there = falls[at];
+        with_rest_of(size, &mut there);
+        put_in_order(edition, margins, &mut there);
+        near.push(there);
     }
     near
 }
 
 // The smaller of the falls.
-impl Meets for Falls {
+impl Meets for KnownFalls {
     ghost met = { rules.smaller_falls };
 
-    fn met(self, other: Falls) -> Falls {
-        Falls {
-            fall: smaller_known(self.fall, other.fall),
-            far: smaller_known(self.far, other.far),
-            line: smaller_known(self.line, other.line),
-            far_line: smaller_known(self.far_line, other.far_line),
-            held: smaller_known(self.held, other.held),
-            rest: smaller_known(self.rest, other.rest),
+    #[inline(always)]
+    fn met(self, other: KnownFalls) -> KnownFalls {
+        KnownFalls {
+            fall: self.fall.smaller(other.fall),
+            far: self.far.smaller(other.far),
+            line: self.line.smaller(other.line),
+            far_line: self.far_line.smaller(other.far_line),
+            held: self.held.smaller(other.held),
+            rest: self.rest.smaller(other.rest),
         }
     }
 }
 
 // At a body's start the falls of an iteration outside are those at the < if that is kept, and what
 // is unread has not grown.
-fn falls_outside(kept: bool, falls: Falls) -> Falls
-    ensures { result ≡ rules.falls_outside kept falls }
+fn falls_outside(kept: bool, falls: &mut KnownFalls)
+    ensures { falls.new ≡ rules.falls_outside kept falls.old }
 {
-    let fall = if kept { falls.fall } else { None };
-    falls_of_fall(Falls {
-        fall,
-        held: None,
-        ..falls
-    })
+    if !kept {
+        falls.fall = Fall::unknown();
+    }
+    falls.held = Fall::unknown();
+    falls_of_fall(falls);
 }
 
 /// The falls at the start of a body: nothing has fallen in it, and those outside are kept, or
@@ -287,33 +291,29 @@ pub fn falls_at_start(edition: Rules, kept: bool, margins: Margins, falls: &Open
     let [_, outer @ ..] = falls.as_slice() else {
         return start;
     };
-    start.push(in_order(edition, margins, falls_at_turn(edition)));
+    let mut own = falls_at_turn(edition);
+    put_in_order(edition, margins, &mut own);
+    start.push(own);
     for at in 0..outer.len() {
-        start.push(in_order(edition, margins, falls_outside(kept, outer[at])));
+        let mut there = outer[at];
+        falls_outside(kept, &mut there);
+        put_in_order(edition, margins, &mut there);
+        start.push(there);
     }
     start
 }
 
-// Whether more may be added to a fall, if it is known.
-fn is_small_fall(fall: Option<i64>) -> bool
-    ensures { IsTrue result ↔ IsSmallFall fall }
-{
-    match fall {
-        None => true,
-        Some(fall) => LEAST <= fall && fall <= MOST,
-    }
-}
-
 // Whether more may be added to each fall of an iteration.
-fn is_small(falls: &Falls) -> bool
+#[inline(always)]
+fn is_small(falls: &KnownFalls) -> bool
     ensures { IsTrue result ↔ IsSmallFalls falls.now }
 {
-    is_small_fall(falls.fall)
-        && is_small_fall(falls.far)
-        && is_small_fall(falls.line)
-        && is_small_fall(falls.far_line)
-        && is_small_fall(falls.held)
-        && is_small_fall(falls.rest)
+    falls.fall.is_small()
+        && falls.far.is_small()
+        && falls.line.is_small()
+        && falls.far_line.is_small()
+        && falls.held.is_small()
+        && falls.rest.is_small()
 }
 
 /// Whether more may be added to each fall.

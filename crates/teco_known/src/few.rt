@@ -12,8 +12,8 @@ pub const DEPTH: usize = 7;
 /// A list of at most seven.
 #[derive(Drop)]
 pub struct Few<T: Copy> {
-    items: [T; DEPTH],
-    len: usize,
+    pub(crate) items: [T; DEPTH],
+    pub(crate) len: usize,
 }
 
 impl<T: Copy> Model for Few<T> {

@@ -5,6 +5,7 @@ mod arguments;
 mod arithmetic;
 mod covering;
 mod each;
+mod fall;
 mod falls;
 mod fault;
 mod few;
@@ -19,7 +20,8 @@ mod shift;
 
 pub use arguments::Arguments;
 pub use each::{Covers, Meets, each_covers, meet_each, replace_where};
-pub use falls::{OpenFalls, all_near, falls_at_start, falls_at_turn};
+pub use fall::Fall;
+pub use falls::{KnownFalls, OpenFalls, all_near, falls_at_start, falls_at_turn};
 pub use fault::Fault;
 pub use few::{DEPTH, Few};
 pub use level::{Level, Taken, run_value};

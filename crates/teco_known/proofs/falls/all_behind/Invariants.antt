@@ -1,6 +1,6 @@
 use Rattle.std.proofs.Common.{◌≡◌, ◌++◌, map, take, drop}
 use Rattle.teco_known.specs.Behind.{falls_at}
-use Rattle.teco_known.proofs.falls.go_behind.Given as goal
+use Rattle.teco_known.proofs.falls.all_behind.Given as goal
 
 -- the falls before this one are done
 abbrev pub invariant-loop-at : goal.invariant-loop-at
