@@ -17,6 +17,7 @@ pub mod Replies
 pub mod Misses
 pub mod Pending
 pub mod Ways
+pub mod Stacked
 pub mod Steps
 pub mod Stopped
 pub mod Unread

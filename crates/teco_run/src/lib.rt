@@ -3,6 +3,7 @@
 
 mod arguments;
 mod at_once;
+mod begun;
 mod body;
 mod call;
 mod course;
