@@ -180,9 +180,9 @@ impl Block {
         self.gap_end = self.gap_start;
     }
 
-    // Makes the gap at least `n` characters long. Where it is shorter, it grows by a quarter of
-    // what is behind it, if there is room: so it is widened anew only when as many characters were
-    // put in as a quarter of those that moved.
+    // Makes the gap at least `n` characters long. Where it is shorter, it grows by an eighth of what
+    // is behind it, if there is room: so it is widened anew only when as many characters were put in
+    // as an eighth of those that moved.
     fn open(&mut self, n: usize)
         requires { length (text_of self.old) + n ≤ self.old.room }
         ensures before { self.new.before ≡ self.old.before }
@@ -196,7 +196,7 @@ impl Block {
         }
         let behind = self.bytes.len() - self.gap_end;
         let spare = self.bytes.capacity() - self.bytes.len();
-        let more = (n - gap).max(spare.min(behind / 4));
+        let more = (n - gap).max(spare.min(behind / 8));
         widen(&mut self.bytes, self.gap_end, more);
         self.gap_end += more;
     }
