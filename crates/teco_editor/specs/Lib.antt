@@ -19,3 +19,4 @@ pub mod Does
 pub mod Turning
 pub use Rattle.teco_model.specs.Search
 pub mod Searches
+pub mod Screened

@@ -28,8 +28,8 @@ impl<T: TextStore> Editor<T> {
             (drop self.now.pointer self.now.text) }
         ensures within_text { result ≤ length self.now.text }
     {
-        let dot = self.store.dot();
-        match self.store.at(dot) {
+        let dot = self.dot();
+        match self.screen.store().at(dot) {
             Some(b'+' | b'-') => dot + 1,
             _ => dot,
         }
@@ -40,7 +40,7 @@ impl<T: TextStore> Editor<T> {
     fn minus_here(&self) -> bool
         ensures { result ≡ model.is_minus (drop self.now.pointer self.now.text) }
     {
-        self.store.at(self.store.dot()) == Some(b'-')
+        self.screen.store().at(self.dot()) == Some(b'-')
     }
 
     // The place behind the digits that begin at a place.
@@ -52,7 +52,7 @@ impl<T: TextStore> Editor<T> {
     {
         let size = self.size();
         for end in begin..size {
-            if !self.store.at(end).is_some_and(is_digit) {
+            if !self.screen.store().at(end).is_some_and(is_digit) {
                 return end;
             }
         }
@@ -67,7 +67,7 @@ impl<T: TextStore> Editor<T> {
     {
         let mut value = 0;
         for place in begin..end {
-            let digit = self.store.at(place).unwrap_or(b'0');
+            let digit = self.screen.store().at(place).unwrap_or(b'0');
             value = arithmetic::add(
                 arithmetic::mul(value, 10),
                 i32::from(digit.saturating_sub(b'0')),

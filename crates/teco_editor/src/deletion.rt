@@ -23,7 +23,7 @@ impl<T: TextStore> Editor<T> {
         } else {
             return Err(Code::Dtb);
         };
-        match self.store.delete(begin, end) {
+        match self.screen.delete(begin, end) {
             Ok(()) => Ok(None),
             Err(_) => Err(Code::Dtb),
         }
@@ -36,8 +36,8 @@ impl<T: TextStore> Editor<T> {
     {
         let Span { start, end } = self.part(taken)?;
         // the text has the part, so neither is refused
-        let _ = self.store.delete(start, end);
-        let _ = self.store.set_dot(start);
+        let _ = self.screen.delete(start, end);
+        let _ = self.screen.set_dot(start);
         Ok(None)
     }
 

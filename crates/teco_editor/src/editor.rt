@@ -5,9 +5,9 @@ ghost use Rattle.teco_regs.specs.Texts.{handed, IsTextWithinLimit};
 ghost use Rattle.teco_model.specs.State.{kept_of_store, held_length};
 ghost use Rattle.teco_model.specs.laws.Whole.{IsWhole};
 
+use crate::screen::Screen;
 use std::alloc::{AllocError, Global};
 use std::marker::Model;
-use std::mem;
 use teco_base::REGISTERS;
 use teco_model::{fits, pieces_are_bytes};
 use teco_regs::Regs;
@@ -18,35 +18,34 @@ use teco_text::TextStore;
 /// typed.
 #[derive(Drop)]
 pub struct Editor<T: TextStore> {
-    pub(crate) store: T,
+    pub(crate) screen: Screen<T>,
     // a form feed ended the last page in the buffer
     pub(crate) form_feed: bool,
     pub(crate) regs: Regs,
     pub(crate) search_text: Vec<u8>,
     pub(crate) mode: i32,
     pub(crate) last_length: usize,
-    pub(crate) typed: Vec<u8>,
     // how many bytes may be typed until they are taken
     pub(crate) typed_cap: usize,
-    pub(crate) alloc: Global,
 }
 
 impl<T: TextStore> Model for Editor<T> {
     ghost use Rattle.std.specs.Prelude.{◌≤◌};
     ghost use Rattle.teco_base.specs.declared.TheConstants.{LIMIT};
     ghost use Rattle.teco_model.specs.State.{Kept};
+    ghost use Rattle.teco_editor.specs.Screened.{typed_in};
 
     ghost Value = { Kept };
 
     ghost view = { λ e. record {
-      text = T.list e.store;
-      pointer = T.pointer e.store;
+      text = e.screen.text;
+      pointer = e.screen.pointer;
       form_feed = e.form_feed;
       registers = e.regs;
       search_text = e.search_text.items;
       mode = e.mode;
       last_length = e.last_length;
-      typed = e.typed.items;
+      typed = typed_in e.screen;
     } };
 
     ghost invariant = { λ e. e.last_length ≤ LIMIT };
@@ -58,15 +57,13 @@ impl<T: TextStore> Editor<T> {
         ensures { result ≡ kept_of_store (T.list store) (T.pointer store) }
     {
         Editor {
-            store,
+            screen: Screen::new(alloc, store),
             form_feed: false,
             regs: Regs::new(alloc),
             search_text: Vec::new(alloc),
             mode: 0,
             last_length: 0,
-            typed: Vec::new(alloc),
             typed_cap: usize::MAX,
-            alloc,
         }
     }
 
@@ -75,10 +72,10 @@ impl<T: TextStore> Editor<T> {
     pub fn is_whole(&self)
         ensures { IsWhole self.now }
     {
-        let (first, second) = self.store.slices();
+        let (first, second) = self.screen.store().slices();
         pieces_are_bytes(first, second);
-        let _size = self.store.len();
-        let _dot = self.store.dot();
+        let _size = self.screen.store().len();
+        let _dot = self.screen.store().dot();
         self.regs.is_whole();
         fits(self.mode);
     }
@@ -88,14 +85,14 @@ impl<T: TextStore> Editor<T> {
         ensures list { T.list result.now ≡ self.now.text }
         ensures pointer { T.pointer result.now ≡ self.now.pointer }
     {
-        &self.store
+        self.screen.store()
     }
 
     /// The text in two pieces, of which either may be empty.
     pub fn text(&self) -> (&[u8], &[u8])
         ensures { result.0.now ++ result.1.now ≡ self.now.text }
     {
-        self.store.slices()
+        self.screen.store().slices()
     }
 
     /// The length of the text, at most `LIMIT`.
@@ -103,7 +100,7 @@ impl<T: TextStore> Editor<T> {
         ensures value { result ≡ length self.now.text }
         ensures within_limit { result ≤ LIMIT }
     {
-        self.store.len()
+        self.screen.store().len()
     }
 
     /// The place of the pointer, at most `LIMIT`.
@@ -112,7 +109,7 @@ impl<T: TextStore> Editor<T> {
         ensures within_text { result ≤ length self.now.text }
         ensures within_limit { result ≤ LIMIT }
     {
-        self.store.dot()
+        self.screen.store().dot()
     }
 
     /// The registers and the push-down list.
@@ -159,7 +156,7 @@ impl<T: TextStore> Editor<T> {
 
     // Refuses so many more typed bytes where they pass the cap.
     pub(crate) fn keep_typed_cap(&self, more: usize) -> Result<(), AllocError> {
-        if more <= self.typed_cap.saturating_sub(self.typed.len()) {
+        if more <= self.typed_cap.saturating_sub(self.screen.typed_len()) {
             Ok(())
         } else {
             Err(AllocError)
@@ -171,6 +168,20 @@ impl<T: TextStore> Editor<T> {
         ensures typed { result.items ≡ self.old.typed }
         ensures emptied { self.new ≡ record self.old { typed = [] } }
     {
-        mem::replace(&mut self.typed, Vec::new(self.alloc))
+        self.screen.take_typed()
+    }
+
+    /// The bytes that were typed and not yet taken, in three pieces of which each may be empty.
+    pub fn typed(&self) -> (&[u8], &[u8], &[u8])
+        ensures { result.0.now ++ (result.1.now ++ result.2.now) ≡ self.now.typed }
+    {
+        self.screen.typed()
+    }
+
+    /// Drops the bytes that were typed and not yet taken.
+    pub fn drop_typed(&mut self)
+        ensures { self.new ≡ record self.old { typed = [] } }
+    {
+        self.screen.drop_typed();
     }
 }

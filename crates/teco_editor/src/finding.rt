@@ -80,7 +80,7 @@ impl<T: TextStore> Editor<T> {
     {
         make_room(&mut self.search_text, text.len())?;
         self.keep_typed_cap(message.len())?;
-        self.typed.extend_from_slice(message)?;
+        self.screen.type_bytes(message)?;
         put_text(&mut self.search_text, text);
         self.set_dot(0);
         Ok(())
@@ -105,7 +105,7 @@ impl<T: TextStore> Editor<T> {
         ensures { Replaces self.old self.new found new.now text.now result }
     {
         make_room(&mut self.search_text, text.len())?;
-        self.store.replace(found.start, found.end, new)?;
+        self.screen.replace(found.start, found.end, new)?;
         self.last_length = new.len();
         put_text(&mut self.search_text, text);
         Ok(())

@@ -17,7 +17,7 @@ impl<T: TextStore> Editor<T> {
     pub(crate) fn insert(&mut self, new: &[u8]) -> Result<Option<i32>, Stuck>
         ensures { DoesIfMemory true self.old self.new (model.insertion_of new.now self.old) result }
     {
-        self.store.insert(new)?;
+        self.screen.insert(new)?;
         self.last_length = new.len();
         Ok(None)
     }
@@ -27,9 +27,10 @@ impl<T: TextStore> Editor<T> {
         ensures { DoesIfMemory true self.old self.new
             (model.insertion_of (byte ∷ text.now) self.old) result }
     {
-        self.store.reserve(self.store.len() + 1 + text.len())?;
-        self.store.insert(&[byte])?;
-        self.store.insert(text)?;
+        let length = self.size() + 1 + text.len();
+        self.screen.reserve(length)?;
+        self.screen.insert(&[byte])?;
+        self.screen.insert(text)?;
         self.last_length = text.len() + 1;
         Ok(None)
     }

@@ -11,6 +11,7 @@ mod motion;
 mod pages;
 mod places;
 mod query;
+mod screen;
 mod searching;
 mod storage;
 mod stuck;

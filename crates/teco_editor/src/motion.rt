@@ -34,7 +34,7 @@ impl<T: TextStore> Editor<T> {
         ensures { self.new ≡ record self.old { pointer = place } }
     {
         // the text has the place, so it is not refused
-        let _ = self.store.set_dot(place);
+        let _ = self.screen.set_dot(place);
     }
 
     // Moves the pointer to a place, if the text has it, and says whether it does.
@@ -46,7 +46,7 @@ impl<T: TextStore> Editor<T> {
         let Ok(place) = usize::try_from(place) else {
             return false;
         };
-        self.store.set_dot(place).is_ok()
+        self.screen.set_dot(place).is_ok()
     }
 
     // Moves the pointer to the line place of a number.
@@ -54,7 +54,7 @@ impl<T: TextStore> Editor<T> {
     fn go_lines(&mut self, n: i32)
         ensures { model.line_motion n self.old ≡ no_answer self.new }
     {
-        let place = line_place(&self.store, i64::from(n));
+        let place = line_place(self.screen.store(), i64::from(n));
         self.set_dot(place);
     }
 

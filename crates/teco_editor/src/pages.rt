@@ -27,7 +27,7 @@ impl<T: TextStore> Editor<T> {
             (λ c. text_between m n self.now ≡ Err c) }
     {
         let Span { start, end } = self.range(m, n)?;
-        Ok(pieces(&self.store, start, end))
+        Ok(pieces(self.screen.store(), start, end))
     }
 
     /// A page becomes the buffer, with the pointer at its start. It is not copied, and the memory
@@ -39,7 +39,7 @@ impl<T: TextStore> Editor<T> {
         ensures spare { result.items ≡ [] }
     {
         self.form_feed = form_feed;
-        self.store.exchange(page)
+        self.screen.exchange(page)
     }
 
     /// A page comes behind the buffer, and the pointer stays. A buffer that would be longer than
@@ -49,10 +49,10 @@ impl<T: TextStore> Editor<T> {
             (page_added (record { text = page.now; ff = form_feed }) self.old) result }
     {
         let dot = self.dot();
-        let end = self.store.len();
-        self.store.replace(end, end, page)?;
+        let end = self.size();
+        self.screen.replace(end, end, page)?;
         // the text still has the place
-        let _ = self.store.set_dot(dot);
+        let _ = self.screen.set_dot(dot);
         self.form_feed = form_feed;
         Ok(())
     }

@@ -47,7 +47,7 @@ impl<T: TextStore> Editor<T> {
         ensures within_text { result.end ≤ length self.now.text }
         ensures within_limit { result.end ≤ LIMIT }
     {
-        span_between(self.store.dot(), line_place(&self.store, n))
+        span_between(self.dot(), line_place(self.screen.store(), n))
     }
 
     /// The part that two numbers name, or the lines that one does.

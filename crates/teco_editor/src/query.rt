@@ -36,11 +36,11 @@ impl<T: TextStore> Editor<T> {
     pub fn character(&self, n: i32) -> i32
         ensures { result ≡ character.character n self.now }
     {
-        let place = self.store.dot() as i64 + i64::from(n);
+        let place = self.dot() as i64 + i64::from(n);
         let Ok(place) = usize::try_from(place) else {
             return -1;
         };
-        self.store.at(place).map_or(-1, i32::from)
+        self.screen.store().at(place).map_or(-1, i32::from)
     }
 
     // `Q` gives a register's number, and with a colon the length of its text.

@@ -54,7 +54,7 @@ impl<T: TextStore> Editor<T> {
             (model.copy colons reg taken self.old) result }
     {
         let Span { start, end } = self.part(taken)?;
-        let (first, second) = pieces(&self.store, start, end);
+        let (first, second) = pieces(self.screen.store(), start, end);
         if colons == 0 {
             self.regs.set_pieces(reg, first, second)?;
         } else {
@@ -70,11 +70,11 @@ impl<T: TextStore> Editor<T> {
     {
         if colons > 0 {
             self.keep_typed_cap(self.regs.text(reg).len())?;
-            self.typed.extend_from_slice(self.regs.text(reg))?;
+            self.screen.type_bytes(self.regs.text(reg))?;
             return Ok(None);
         }
         let text = self.regs.text(reg);
-        self.store.insert(text)?;
+        self.screen.insert(text)?;
         self.last_length = text.len();
         Ok(None)
     }

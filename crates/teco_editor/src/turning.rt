@@ -16,8 +16,9 @@ impl<T: TextStore> Editor<T> {
         ensures { self.new ≡ kept_with_page (first_page []) self.old }
     {
         // the text has a start and an end
-        let _ = self.store.delete(0, self.store.len());
-        let _ = self.store.set_dot(0);
+        let end = self.size();
+        let _ = self.screen.delete(0, end);
+        let _ = self.screen.set_dot(0);
         self.form_feed = false;
     }
 
@@ -36,7 +37,7 @@ impl<T: TextStore> Editor<T> {
         ensures err { OnErr result (self.new ≡ self.old) }
     {
         make_room(&mut self.search_text, text.len())?;
-        let (first, second) = self.store.slices();
+        let (first, second) = self.text();
         if let Err(fault) = pages.write_page(first, second, self.form_feed, host) {
             return Err(fault);
         }
@@ -63,13 +64,13 @@ impl<T: TextStore> Editor<T> {
     {
         make_room(&mut self.search_text, text.len())?;
         self.keep_typed_cap(message.len())?;
-        self.typed.reserve(message.len())?;
-        let (first, second) = self.store.slices();
+        self.screen.reserve_typed(message.len())?;
+        let (first, second) = self.text();
         if let Err(fault) = pages.write_page(first, second, self.form_feed, host) {
             return Err(fault);
         }
         // there is room for the message
-        let _ = self.typed.extend_from_slice(message);
+        self.screen.type_reserved(message);
         put_text(&mut self.search_text, text);
         self.leave_page();
         Ok(())

@@ -1,19 +1,15 @@
 //! Commands that type.
-ghost use Rattle.std.specs.Prelude.{◌≡◌, ◌≤◌, ◌++◌, true, Ok, OnOk, OnErr};
-ghost use Rattle.teco_base.specs.Text.{range};
-ghost use Rattle.teco_base.specs.declared.TheConstants.{LIMIT};
-ghost use Rattle.teco_text.specs.Answers.{IsPart};
+ghost use Rattle.std.specs.Prelude.{◌≡◌, ◌++◌, true, Ok};
 ghost use Rattle.teco_model.specs.Element.{seen};
 ghost use Rattle.teco_model.specs.Typing as model;
 ghost use Rattle.teco_editor.specs.Does.{DoesIfMemory};
 
 use crate::editor::Editor;
 use crate::stuck::Stuck;
-use std::alloc::AllocError;
 use teco_base::arithmetic::byte_of;
 use teco_base::{Code, NumberText, decimal, hex, octal};
 use teco_model::kind::{Radix, Typing};
-use teco_model::{Element, Span, Taken};
+use teco_model::{Element, Taken};
 use teco_text::TextStore;
 
 // A number as it is typed.
@@ -27,28 +23,6 @@ fn number_text(radix: Radix, n: i32) -> NumberText
     }
 }
 
-// Appends two parts of a text, both or none.
-fn copy_both<T: TextStore>(
-    store: &T,
-    first: Span,
-    second: Span,
-    out: &mut Vec<u8>,
-) -> Result<(), AllocError>
-    requires first { IsPart (T.list store.now) first.start first.end }
-    requires second { IsPart (T.list store.now) second.start second.end }
-    requires within_limit { (first.end ≤ LIMIT) × (second.end ≤ LIMIT) }
-    ensures copied { OnOk result (out.new.items ≡ out.old.items ++
-        (range (T.list store.now) first.start first.end
-        ++ range (T.list store.now) second.start second.end)) }
-    ensures err { OnErr result (out.new.items ≡ out.old.items) }
-{
-    out.reserve((first.end - first.start) + (second.end - second.start))?;
-    // there is room for both, so neither is refused
-    let _ = store.copy_range(first.start, first.end, out);
-    let _ = store.copy_range(second.start, second.end, out);
-    Ok(())
-}
-
 impl<T: TextStore> Editor<T> {
     // Types bytes.
     fn type_bytes(&mut self, bytes: &[u8]) -> Result<Option<i32>, Stuck>
@@ -56,7 +30,7 @@ impl<T: TextStore> Editor<T> {
             (Ok (model.typing_of bytes.now self.old)) result }
     {
         self.keep_typed_cap(bytes.len())?;
-        self.typed.extend_from_slice(bytes)?;
+        self.screen.type_bytes(bytes)?;
         Ok(None)
     }
 
@@ -69,9 +43,10 @@ impl<T: TextStore> Editor<T> {
         let text = number_text(radix, n);
         let end: &[u8] = if colons == 0 { b"\r\n" } else { b"" };
         self.keep_typed_cap(text.as_bytes().len() + end.len())?;
-        self.typed.reserve(text.as_bytes().len() + end.len())?;
-        self.typed.extend_from_slice(text.as_bytes())?;
-        self.typed.extend_from_slice(end)?;
+        self.screen
+            .reserve_typed(text.as_bytes().len() + end.len())?;
+        self.screen.type_reserved(text.as_bytes());
+        self.screen.type_reserved(end);
         Ok(None)
     }
 
@@ -79,9 +54,9 @@ impl<T: TextStore> Editor<T> {
     fn type_part(&mut self, taken: Taken) -> Result<Option<i32>, Stuck>
         ensures { DoesIfMemory true self.old self.new (model.part_typing taken self.old) result }
     {
-        let Span { start, end } = self.part(taken)?;
-        self.keep_typed_cap(end - start)?;
-        self.store.copy_range(start, end, &mut self.typed)?;
+        let part = self.part(taken)?;
+        self.keep_typed_cap(part.end - part.start)?;
+        self.screen.type_part(part)?;
         Ok(None)
     }
 
@@ -92,7 +67,7 @@ impl<T: TextStore> Editor<T> {
         let first = self.lines(1 - i64::from(n));
         let second = self.lines(i64::from(n));
         self.keep_typed_cap((first.end - first.start) + (second.end - second.start))?;
-        copy_both(&self.store, first, second, &mut self.typed)?;
+        self.screen.type_both(first, second)?;
         Ok(None)
     }
 

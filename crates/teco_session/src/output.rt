@@ -1,5 +1,5 @@
 //! What a session writes.
-ghost use Rattle.std.specs.Prelude.{◌≡◌, ◌≤◌, IfOk, IfErr, OnErr, length, take};
+ghost use Rattle.std.specs.Prelude.{◌≡◌, ◌≤◌, ◌++◌, IfOk, IfErr, OnErr, length, take};
 ghost use Rattle.std.specs.Io.KnownBytes.{Appends, Keeps};
 ghost use Rattle.teco_session.specs.Output.{Writes};
 ghost use Rattle.teco_session.specs.declared.fault.SessionFault.TheVariants.{Write as CannotWrite};
@@ -44,4 +44,14 @@ pub fn write_bytes<W: Write>(writer: &mut W, bytes: &[u8]) -> Result<(), Session
         written += more;
     }
     Err(SessionFault::Write)
+}
+
+/// Writes two pieces of bytes, one after the other, or with a fault a part of them from the front,
+/// and less than all.
+pub fn write_both<W: Write>(writer: &mut W, first: &[u8], second: &[u8]) -> Result<(), SessionFault>
+    ensures { Writes (W.contents writer.old) (W.contents writer.new)
+        (first.now ++ second.now) result }
+{
+    write_bytes(writer, first)?;
+    write_bytes(writer, second)
 }

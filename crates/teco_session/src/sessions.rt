@@ -15,7 +15,7 @@ ghost use Rattle.teco_session.specs.declared.strings.Piece.TheVariants as piece;
 use crate::ahead::Ahead;
 use crate::fault::SessionFault;
 use crate::listener::{Listener, Silent};
-use crate::output::write_bytes;
+use crate::output::{write_both, write_bytes};
 use crate::strings::{Piece, next_piece};
 use std::alloc::Global;
 use std::io::{Read, Write};
@@ -120,17 +120,31 @@ fn write_code<W: Write>(writer: &mut W, code: Option<Code>) -> Result<bool, Sess
     Ok(true)
 }
 
-// Writes what was typed and then the line of a code, if there is one, and says whether there is.
-fn write_lines<W: Write>(
+// Writes what a machine typed, as it lies there.
+fn write_typed<T: TextStore, W: Write>(
+    machine: &Machine<T>,
     writer: &mut W,
-    typed: &[u8],
+) -> Result<(), SessionFault>
+    ensures { Writes (W.contents writer.old) (W.contents writer.new)
+        machine.now.kept.typed result }
+{
+    let (first, second, third) = machine.typed();
+    write_bytes(writer, first)?;
+    write_both(writer, second, third)
+}
+
+// Writes what a machine typed and then the line of a code, if there is one, and says whether there
+// is.
+fn write_lines<T: TextStore, W: Write>(
+    machine: &Machine<T>,
     code: Option<Code>,
+    writer: &mut W,
 ) -> Result<bool, SessionFault>
     ensures lines { Writes (W.contents writer.old) (W.contents writer.new)
-        (typed.now ++ code_line code) result }
+        (machine.now.kept.typed ++ code_line code) result }
     ensures told { IfOk result (λ line. line ≡ is_code code) }
 {
-    write_bytes(writer, typed)?;
+    write_typed(machine, writer)?;
     write_code(writer, code)
 }
 
@@ -146,8 +160,9 @@ pub fn write_stop<T: TextStore, W: Write>(
     ensures taken { machine.new ≡ record
         machine.old { kept = record machine.old.kept { typed = [] } } }
 {
-    let typed = machine.take_typed();
-    write_lines(writer, typed.as_slice(), code_of_stop(stop))
+    let line = write_lines(machine, code_of_stop(stop), writer);
+    machine.drop_typed();
+    line
 }
 
 // What was done with a piece.
@@ -196,7 +211,7 @@ fn answer_rest<T: TextStore, W: Write, H: Host, L: Listener<H>>(
         machine.now machine.now (H.files host.now) (H.files host.now) }
 {
     let code = code_of_rest(cut.bytes, cut.limits);
-    let line = write_lines(writer, &[], code);
+    let line = write_code(writer, code);
     if code.is_some() {
         listener.rest(code);
     }
