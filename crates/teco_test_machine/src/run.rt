@@ -43,10 +43,21 @@ fn is_text(machine: &Machine<VecText>, text: &[u8]) -> bool {
         .is_some_and(|behind| behind == back)
 }
 
-// Has a machine typed this?
+// Are these the bytes of three pieces, one after another?
+fn are_in(pieces: (&[u8], &[u8], &[u8]), bytes: &[u8]) -> bool {
+    let Some(behind) = bytes.strip_prefix(pieces.0) else {
+        return false;
+    };
+    behind
+        .strip_prefix(pieces.1)
+        .is_some_and(|behind| behind == pieces.2)
+}
+
+// Has a machine typed this, as it tells it and as it hands it out?
 fn has_typed(machine: &mut Machine<VecText>, typed: &[u8]) -> bool {
+    let is_told = are_in(machine.typed(), typed);
     let taken = machine.take_typed();
-    taken.as_slice() == typed
+    is_told && taken.as_slice() == typed
 }
 
 // A machine with no text.
@@ -127,11 +138,31 @@ const COMMANDS: &[Row] = &[
         0,
     ),
     (b"Iab\x1b-3D\x1b\x1b", 100, Err(Code::Dtb), b"", b"ab", 2),
+    // the whole buffer is typed, and then changes
+    (b"Iabc\x1bHTHK\x1b\x1b", 100, Ok(7), b"abc", b"", 0),
+    (b"Iabc\x1bHT-1DHT\x1b\x1b", 100, Ok(10), b"abcab", b"ab", 2),
+    (
+        b"Iab\x1bHTIc\x1bHT3=\x1b\x1b",
+        100,
+        Ok(10),
+        b"ababc3\r\n",
+        b"abc",
+        3,
+    ),
 ];
 
 #[test]
 fn rows_of_commands(rt: HostRuntime) {
     expect_rows(&rt, COMMANDS);
+}
+
+#[test]
+fn typed_bytes_are_dropped(rt: HostRuntime) {
+    let mut machine = new_machine(rt.alloc());
+    let got = answer_on(&mut machine, rt.alloc(), b"Iab\x1b1=HT", 10);
+    machine.drop_typed();
+    assert!(rt; has_typed(&mut machine, b""));
+    assert!(rt; got == Err(Code::Mem) || is_text(&machine, b"ab"));
 }
 
 const MACROS_AND_SEARCHES: &[Row] = &[
