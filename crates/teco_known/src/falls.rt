@@ -3,7 +3,7 @@ ghost use Rattle.std.specs.Prelude.{◌≡◌, ◌≤◌, ◌^◌, ◌↔◌, []
 ghost use Rattle.teco_verifier.specs.facts.Bodies as bodies;
 ghost use Rattle.teco_verifier.specs.facts.Falls as rules;
 ghost use Rattle.teco_verifier.specs.facts.Ways as ways;
-ghost use Rattle.teco_known.specs.Behind.{falls_at, falls_near};
+ghost use Rattle.teco_known.specs.Behind.{falls_at, falls_moved, falls_near};
 ghost use Rattle.teco_known.specs.Descents.{seen, IsNearDescent};
 ghost use Rattle.teco_known.specs.Numbers.{IsNear, IsSmallFall, IsSmallFalls, AreSmall};
 
@@ -199,19 +199,48 @@ fn falls_after(edition: Rules, descent: Descent, falls: &mut KnownFalls)
     }
 }
 
-// The falls of each of some iterations become those behind a shift.
+// The falls of each of some iterations become those behind a descent, where so much less is held.
 #[inline(always)]
+fn each_behind(
+    edition: Rules,
+    descent: Descent,
+    by: Option<i64>,
+    margins: Margins,
+    falls: &mut [KnownFalls],
+)
+    requires descent { IsNearDescent descent }
+    requires by { IfSome by IsNear }
+    requires small { AreSmall falls.old }
+    ensures value { falls.new ≡ map (falls_moved edition (seen descent) by margins) falls.old }
+    ensures long { length falls.new ≡ length falls.old }
+{
+    for at in 0..falls.len() {
+        let here = &mut falls[at];
+        falls_after(edition, descent, here);
+        here.held = here.held.after(by);
+        put_in_order(edition, margins, here);
+    }
+}
+
+// The falls of each of some iterations become those behind a shift. The arms are alike, so that
+// each has a loop of its own, which asks no more at each iteration how what is ahead changes.
 fn all_behind(edition: Rules, shift: &Shift, margins: Margins, falls: &mut [KnownFalls])
     requires { AreSmall falls.old }
     ensures value { falls.new ≡ map (falls_at edition shift.now margins) falls.old }
     ensures long { length falls.new ≡ length falls.old }
 {
     let by = shift.held_fall();
-    for at in 0..falls.len() {
-        let here = &mut falls[at];
-        falls_after(edition, shift.descent, here);
-        here.held = here.held.after(by);
-        put_in_order(edition, margins, here);
+    match shift.descent {
+        Descent::By(None) => each_behind(edition, Descent::By(None), by, margins, falls),
+        Descent::By(Some(step)) => {
+            each_behind(edition, Descent::By(Some(step)), by, margins, falls);
+        }
+        Descent::PastLine => each_behind(edition, Descent::PastLine, by, margins, falls),
+        Descent::InLine => each_behind(edition, Descent::InLine, by, margins, falls),
+        Descent::Refilled(step) => {
+            each_behind(edition, Descent::Refilled(step), by, margins, falls);
+        }
+        Descent::NextPage => each_behind(edition, Descent::NextPage, by, margins, falls),
     }
 }
 
