@@ -200,9 +200,9 @@ impl Facts {
         Ok(Facts { alloc, known })
     }
 
-    /// A copy of the facts, if there is memory.
-    pub fn copied(&self) -> Result<Facts, AllocError>
-        ensures { IfOk result (λ copy. copy ≡ self.now) }
+    /// A copy of the facts at another position, if there is memory.
+    pub fn copied_at(&self, position: Position) -> Result<Facts, AllocError>
+        ensures { IfOk result (λ copy. copy ≡ rules.at_position position self.now) }
     {
         let known = &*self.known;
         let registers = known.registers.clone()?;
@@ -213,7 +213,7 @@ impl Facts {
             rules: known.rules,
             arguments,
             answer,
-            position: known.position.copied(),
+            position,
             iterations: known.iterations.copied(),
             held: known.held,
             registers,
@@ -224,6 +224,13 @@ impl Facts {
             alloc: self.alloc,
             known,
         })
+    }
+
+    /// A copy of the facts, if there is memory.
+    pub fn copied(&self) -> Result<Facts, AllocError>
+        ensures { IfOk result (λ copy. copy ≡ self.now) }
+    {
+        self.copied_at(self.known.position.copied())
     }
 
     /// The edition of the rules.
@@ -467,15 +474,16 @@ impl Facts {
         self
     }
 
-    /// The facts at the position behind a shift, with all else as it was.
-    pub fn moved(mut self, shift: &Shift) -> Facts
-        requires { AreSmall self.position.falls }
-        ensures { result ≡ rules.at_position (shifts.position_after self.rules shift.now self.held
-            self.position) self }
+    /// The position behind a shift, which leaves all else as it is.
+    pub fn position_behind(&self, shift: &Shift) -> Position
+        requires { AreSmall self.now.position.falls }
+        ensures { result ≡ shifts.position_after self.now.rules shift.now self.now.held
+            self.now.position }
     {
-        let known = &mut *self.known;
-        known.position.shift(known.rules, shift, &known.held);
-        self
+        let known = &*self.known;
+        let mut position = known.position.copied();
+        position.shift(known.rules, shift, &known.held);
+        position
     }
 
     /// The facts behind a shift.
