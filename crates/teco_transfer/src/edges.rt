@@ -129,20 +129,6 @@ fn facts_after_argument(argument: Argument, text: &[u8], facts: Facts) -> Result
     Ok(known?)
 }
 
-// The edges behind a search, from the facts where it found, and those where it failed, if there is
-// memory.
-fn search_outcomes(colon: bool, found: Facts, missed: Facts) -> Result<Edges, Fault>
-    ensures { Gives (rules.search_outcomes colon found missed) result }
-{
-    if colon {
-        return Ok(Edges::on(found.with_answer(missed.position().copied())?));
-    }
-    Ok(Edges {
-        on: Some(found),
-        away: Some(missed.leaving(1)),
-    })
-}
-
 // Whether a search is verified where it stands.
 fn search_allowed(inside: bool, colon: bool) -> Result<(), Refusal>
     ensures { result ≡ rules.search_allowed inside colon }
@@ -154,7 +140,7 @@ fn search_allowed(inside: bool, colon: bool) -> Result<(), Refusal>
     }
 }
 
-// The edges behind a search, if there is memory.
+// The edges behind a search, if there is memory. With a colon its answer tells its outcomes apart.
 fn search_edges(kind: Search, placed: &Placed<'_>, facts: Facts) -> Result<Edges, Fault>
     requires small { AreSmall facts.position.falls }
     requires within { length placed.now.element.text.now ≤ LIMIT }
@@ -164,10 +150,17 @@ fn search_edges(kind: Search, placed: &Placed<'_>, facts: Facts) -> Result<Edges
     let element = &placed.element;
     let taken = search::facts_at_search(kind, facts)?;
     search_allowed(placed.inside, placed.colon)?;
-    let before = taken.copied()?;
-    let missed = search::facts_failed(kind, element.colons, before);
+    let failed = search::position_failed(kind, element.colons, &taken);
+    if placed.colon {
+        let found = search::facts_found(kind, element.text, element.second, taken)?;
+        return Ok(Edges::on(found.with_answer(failed)?));
+    }
+    let missed = taken.copied_at(failed)?;
     let found = search::facts_found(kind, element.text, element.second, taken)?;
-    search_outcomes(placed.colon, found, missed)
+    Ok(Edges {
+        on: Some(found),
+        away: Some(missed.leaving(1)),
+    })
 }
 
 // The edges behind an element of flow, if there is memory.

@@ -11,7 +11,7 @@ ghost use Rattle.teco_transfer.specs.Searched as searched;
 use crate::{Numbers, count_of};
 use teco_facts::Facts;
 use teco_find::{last_part, minimum};
-use teco_known::{Descent, Margins, Range, Shift, Taken};
+use teco_known::{Descent, Margins, Position, Range, Shift, Taken};
 use teco_model::kind::Search;
 use teco_model::pattern::{Class, Item, Part};
 use teco_poly::Poly;
@@ -131,20 +131,20 @@ fn shift_found(search: Search, least: usize, new: usize, margins: Margins) -> Sh
     }
 }
 
-/// The facts where a search failed: at the begin of the buffer, which of N and FN is another one;
-/// of others with two colons nothing moves.
-pub fn facts_failed(search: Search, colons: u8, facts: Facts) -> Facts
-    requires { AreSmall facts.position.falls }
-    ensures { result ≡ searches.facts_failed search colons facts }
+/// The position where a search failed: at the begin of the buffer, which of N and FN is another
+/// one; of others with two colons nothing moves.
+pub fn position_failed(search: Search, colons: u8, facts: &Facts) -> Position
+    requires { AreSmall facts.now.position.falls }
+    ensures { result ≡ searches.position_failed search colons facts.now }
 {
     let Margins { back, fore } = facts.margins();
     match search {
         Search::FindInPages | Search::ReplaceInPages => {
-            facts.moved(&Shift::moving(0, 0, Descent::By(None)).ending())
+            facts.position_behind(&Shift::moving(0, 0, Descent::By(None)).ending())
         }
-        Search::Find | Search::Replace if colons >= 2 => facts,
+        Search::Find | Search::Replace if colons >= 2 => facts.position().copied(),
         Search::Find | Search::Replace => {
-            facts.moved(&Shift::moving(0, back + fore, Descent::By(None)))
+            facts.position_behind(&Shift::moving(0, back + fore, Descent::By(None)))
         }
     }
 }

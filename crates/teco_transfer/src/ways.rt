@@ -308,7 +308,7 @@ pub fn both_ways(
     let two = position_by(numbers.other(), answer, number, &facts);
     match (one, two) {
         (Some(one), Some(two)) => {
-            let copy = facts.copied()?.at_position(one);
+            let copy = facts.copied_at(one)?;
             Ok((Some(copy), Some(facts.at_position(two))))
         }
         (Some(one), None) => Ok((Some(facts.at_position(one)), None)),
