@@ -6,11 +6,22 @@ use std::marker::Model;
 use teco_check::Here;
 use teco_expansion::Nodes;
 
-/// The nodes, and what is read at each, since a pass may come to a node some hundred times.
+// How many ways a node has at the most.
+const WAYS: usize = 2;
+
+// What is read at a node, and the numbers that its ways lead to.
+#[derive(Drop)]
+struct Stop<'a> {
+    here: Here<'a>,
+    ways: [Option<usize>; WAYS],
+}
+
+/// The nodes, and what is read at each, since a pass may come to a node some hundred times. Nodes
+/// are large, so what each pass needs of them lies together.
 #[derive(Drop)]
 pub struct Course<'n, 'a> {
     pub nodes: &'n Nodes<'a>,
-    read: Vec<Here<'a>>,
+    stops: Vec<Stop<'a>>,
 }
 
 impl<'n, 'a> Model for Course<'n, 'a> {
@@ -21,7 +32,7 @@ impl<'n, 'a> Model for Course<'n, 'a> {
 
     ghost view = { λ c. c.nodes.now };
 
-    ghost invariant = { λ c. length c.read.items ≡ length c.nodes.now };
+    ghost invariant = { λ c. length c.stops.items ≡ length c.nodes.now };
 }
 
 impl<'n, 'a> Course<'n, 'a> {
@@ -29,11 +40,14 @@ impl<'n, 'a> Course<'n, 'a> {
     pub fn new(alloc: Global, nodes: &'n Nodes<'a>) -> Result<Course<'n, 'a>, AllocError>
         ensures { IfOk result (λ course. course ≡ nodes.now) }
     {
-        let mut read = Vec::new(alloc);
+        let mut stops = Vec::new(alloc);
         for at in 0..nodes.len() {
-            read.push(Here::at(nodes, at + 1))?;
+            stops.push(Stop {
+                here: Here::at(nodes, at + 1),
+                ways: [nodes.way(at + 1, 0), nodes.way(at + 1, 1)],
+            })?;
         }
-        Ok(Course { nodes, read })
+        Ok(Course { nodes, stops })
     }
 
     /// What is read at the node of a number.
@@ -41,6 +55,14 @@ impl<'n, 'a> Course<'n, 'a> {
         requires one { 0 < number }
         requires last { number ≤ length self.now }
     {
-        &self.read[number - 1]
+        &self.stops[number - 1].here
+    }
+
+    /// The numbers that the ways of the node of a number lead to.
+    pub fn ways(&self, number: usize) -> &[Option<usize>]
+        requires one { 0 < number }
+        requires last { number ≤ length self.now }
+    {
+        &self.stops[number - 1].ways
     }
 }

@@ -3,7 +3,7 @@
 //! A choice depends on what is known of the registers that its body names, and not on the others:
 //! in these a body leaves what it finds. So a body that the tries of another iteration enter again
 //! is mostly passed once, and not tried again.
-ghost use Rattle.std.specs.Prelude.{◌≡◌, length};
+ghost use Rattle.std.specs.Prelude.{◌≡◌, ◌<◌, length};
 ghost use Rattle.teco_base.specs.declared.TheConstants.{REGISTERS};
 
 use crate::named::named_between;
@@ -14,8 +14,12 @@ use teco_expansion::Nodes;
 use teco_facts::{Changes, Choice, Facts, body_start};
 use teco_poly::Poly;
 
-// How many choices are kept for a body.
+// How many choices are kept for a short body.
 const KEPT: usize = 4;
+
+// For each so many nodes of a body one more is kept: the longer it is, the longer it takes to pass
+// it, and the fewer bodies there are.
+const NODES: usize = 32;
 
 // A choice that was found, and from what.
 #[derive(Drop)]
@@ -61,6 +65,13 @@ fn body_of(nodes: &Nodes<'_>, begin: usize) -> Body {
 }
 
 impl Body {
+    // How many choices are kept for it, by the number of its `<`.
+    fn kept(&self, begin: usize) -> usize
+        ensures { 0 < result }
+    {
+        KEPT + self.end.saturating_sub(begin) / NODES
+    }
+
     // Which registers it does not name.
     fn others(&self) -> [bool; REGISTERS]
         ensures { length result ≡ REGISTERS }
@@ -199,7 +210,7 @@ impl Memo {
             return Ok(());
         };
         let entering = known.body.needed(entering)?;
-        if known.found.len() >= KEPT {
+        if known.found.len() >= known.body.kept(begin) {
             known.found.remove(0);
         }
         let found = Box::new(

@@ -192,16 +192,16 @@ impl Search {
         requires last { number ≤ length course.now }
         ensures { IfErr result (IsAt number) }
     {
-        let (nodes, here) = (course.nodes, course.here(number));
-        for at in 0..nodes.ways(number) {
+        let here = course.here(number);
+        for (at, way) in course.ways(number).iter().enumerate() {
             if here.begins_turn(at) {
                 continue;
             }
-            let Some(target) = nodes.way(number, at) else {
+            let Some(target) = way else {
                 continue;
             };
             if let Some(edge) = here.take_along(at, edges) {
-                self.arrive(number, target, edge)?;
+                self.arrive(number, *target, edge)?;
             }
         }
         Ok(())

@@ -3,4 +3,4 @@ use Rattle.teco_verify.proofs.course.Course.new.Given as goal
 
 -- each node before this one is read
 abbrev pub invariant-loop-at : goal.invariant-loop-at
-invariant-loop-at l = length l.read.items ≡ l.at
+invariant-loop-at l = length l.stops.items ≡ l.at
