@@ -13,8 +13,9 @@ const MOST: i64 = 4_611_686_018_427_387_904;
 // No fall is so small, so this number stands for one that is not known.
 const UNKNOWN: i64 = -9_223_372_036_854_775_808;
 
-/// A fall, if it is known. An unknown one is the smallest, in what keeps it too: so the greater of
-/// two, and the smaller, are found without a test of what is known.
+/// A fall, if it is known. An unknown one counts as the smallest, and the number that stands for it
+/// is the smallest too. So the greater and the smaller of two are found without a test of what is
+/// known.
 #[derive(Clone, Copy)]
 pub struct Fall {
     least: i64,

@@ -193,8 +193,8 @@ fn unexpanded<'l>(alloc: Global, refused: Unexpanded) -> Account<'l>
     }
 }
 
-// The table that was derived, or what was known as the choices were searched, which ended with
-// these.
+// The table that was derived. Where none was, it is found anew what was known when the search for
+// choices ended, which had these then.
 fn table_of(
     alloc: Global,
     given: &Entry,
@@ -249,8 +249,8 @@ fn accounted<'l>(alloc: Global, asked: &Asked<'l>) -> Result<Account<'l>, AllocE
     })
 }
 
-/// Tells what the verifier knows of a macro: the verdict of `verify_by`, and from what it comes. It
-/// passes each element once more than that where the macro is refused.
+/// Tells what the verifier knows of a macro: the verdict of `verify_by`, and what it rests on. Where
+/// the macro is refused, it passes each element once more than `verify_by` does.
 pub fn account_by<'l>(
     alloc: Global,
     library: &'l Library,

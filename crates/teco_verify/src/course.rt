@@ -9,15 +9,15 @@ use teco_expansion::Nodes;
 // How many ways a node has at the most.
 const WAYS: usize = 2;
 
-// What is read at a node, and the numbers that its ways lead to.
+// What is read at a node, and the numbers of the nodes that its ways lead to.
 #[derive(Drop)]
 struct Stop<'a> {
     here: Here<'a>,
     ways: [Option<usize>; WAYS],
 }
 
-/// The nodes, and what is read at each, since a pass may come to a node some hundred times. Nodes
-/// are large, so what each pass needs of them lies together.
+/// The nodes, and what is read at each, since a pass may come to a node some hundred times. A node
+/// takes much memory, so the little that each pass needs of them lies together.
 #[derive(Drop)]
 pub struct Course<'n, 'a> {
     pub nodes: &'n Nodes<'a>,
@@ -58,7 +58,7 @@ impl<'n, 'a> Course<'n, 'a> {
         &self.stops[number - 1].here
     }
 
-    /// The numbers that the ways of the node of a number lead to.
+    /// The numbers of the nodes that the ways of a node lead to.
     pub fn ways(&self, number: usize) -> &[Option<usize>]
         requires one { 0 < number }
         requires last { number ≤ length self.now }

@@ -17,8 +17,8 @@ use teco_poly::Poly;
 // How many choices are kept for a short body.
 const KEPT: usize = 4;
 
-// For each so many nodes of a body one more is kept: the longer it is, the longer it takes to pass
-// it, and the fewer bodies there are.
+// For each so many nodes of a body one choice more is kept: a long body takes long to pass, and few
+// bodies are long.
 const NODES: usize = 32;
 
 // A choice that was found, and from what.
