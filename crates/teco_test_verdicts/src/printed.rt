@@ -217,3 +217,48 @@ fn certificates_are_of_an_edition(rt: HostRuntime) -> Result<(), Fail> {
     fs::remove_file(&rt, name)?;
     Ok(())
 }
+
+// What is said of the refusal of the macro A of a library in a file.
+fn said(abort: &impl Abort, rt: &HostRuntime, text: &[u8]) -> Result<Vec<u8>, Fail> {
+    let name = "somleut_tools_hint";
+    let request = library_file(rt, name, text)?;
+    let mut console = kept(rt);
+    let outcome = verify_macro(rt, &mut console, request, Reg::default());
+    expect(abort, matches!(outcome, Ok(Outcome::Refused)), "a refusal");
+    fs::remove_file(rt, name)?;
+    let (_, messages) = console.into_parts();
+    Ok(messages)
+}
+
+// Six nested iterations that read one another's registers, so that the innermost, in which so many
+// elements stand, is searched some hundred times.
+fn nested(alloc: Global, elements: usize) -> Result<Vec<u8>, Fail> {
+    let mut text = Vec::new(alloc);
+    text.extend_from_slice(b"@^UA~2<Ia$HXFGC2<0XEIa$2<^UGa$:^UDa$2<^UGa$^UDa$2<GD:^UGa$2<HXEHXG")?;
+    for _ in 0..elements {
+        text.push(b'J')?;
+    }
+    text.extend_from_slice(b">HXC>>>>GE>~")?;
+    Ok(text)
+}
+
+const HINT: &[u8] = b"\n  the second edition of the rules accepts it: add --rules 2\n";
+
+const GUESS: &[u8] = b"\n  the second edition of the rules may accept it: try --rules 2\n";
+
+// A hint of the second edition stands last where that accepts the macro, and a guess where the
+// search for the hint takes too long.
+#[test]
+fn the_second_edition_is_hinted_at(rt: HostRuntime) -> Result<(), Fail> {
+    let accepted = said(&rt, &rt, b"@^UA/J<I> $L.-Z;>/")?;
+    expect(&rt, accepted.ends_with(HINT), "accepted");
+    let refused = said(&rt, &rt, b"@^UA/J<LA.-Z;>/")?;
+    let is_silent = !refused.ends_with(HINT) && !refused.ends_with(GUESS);
+    expect(&rt, is_silent, "refused");
+    let short = said(&rt, &rt, &nested(rt.alloc(), 40)?)?;
+    let is_silent = !short.ends_with(HINT) && !short.ends_with(GUESS);
+    expect(&rt, is_silent, "a short search");
+    let long = said(&rt, &rt, &nested(rt.alloc(), 700)?)?;
+    expect(&rt, long.ends_with(GUESS), "a long search");
+    Ok(())
+}

@@ -4,7 +4,7 @@ use crate::verdicts::{Wanted, is_wanted};
 use std::alloc::Global;
 use std::test::*;
 use teco_base::{LIMIT, Reg};
-use teco_verify::{Library, Rules, check_certificate_by, verify_by};
+use teco_verify::{Library, Rules, Trial, check_certificate_by, trial_by, verify_by};
 
 // A library, and what the first and the second edition say of its macro A: a certificate, a reason
 // and a place in A, or nothing where it is accepted.
@@ -296,4 +296,53 @@ impl Case for Claim {
 fn certificates_are_of_their_edition(rt: HostRuntime) {
     expect_all(&rt, rt.alloc(), &FIRST);
     expect_all(&rt, rt.alloc(), &SECOND);
+}
+
+// A library, an edition, how many elements its search may pass, and what a trial of the macro A tells
+// then.
+struct Tried(&'static str, Rules, u64, Trial);
+
+const TRIALS: [Tried; 7] = [
+    Tried("@^UA/J<I> \x1bL.-Z;>/", Rules::First, 1000, Trial::Refused),
+    Tried(
+        "@^UA/J<I> \x1bL.-Z;>/",
+        Rules::Second,
+        1000,
+        Trial::Accepted,
+    ),
+    // It has more elements than that.
+    Tried("@^UA/J<I> \x1bL.-Z;>/", Rules::Second, 8, Trial::Unknown),
+    // Without an iteration nothing is searched.
+    Tried("@^UA/Iab\x1bJ/", Rules::First, 0, Trial::Accepted),
+    Tried("@^UA/5D/", Rules::First, 0, Trial::Refused),
+    Tried("@^UA/5D/", Rules::Second, 0, Trial::Refused),
+    // There is no such macro.
+    Tried("@^UB/J/", Rules::Second, 0, Trial::Refused),
+];
+
+// Whether a trial tells what is wanted. Where it tells nothing, it is made once more, since memory
+// may have been refused.
+fn tells(alloc: Global, library: &Library, row: &Tried) -> bool {
+    let Tried(_, rules, most, wanted) = *row;
+    let told = match trial_by(alloc, library, Reg::default(), rules, most) {
+        Trial::Unknown => trial_by(alloc, library, Reg::default(), rules, most),
+        told => told,
+    };
+    match wanted {
+        Trial::Accepted => matches!(told, Trial::Accepted),
+        Trial::Refused => matches!(told, Trial::Refused),
+        Trial::Unknown => matches!(told, Trial::Unknown),
+    }
+}
+
+impl Case for Tried {
+    fn holds(&self, alloc: Global) -> Option<bool> {
+        let library = library_of(alloc, self.0.as_bytes())?;
+        Some(tells(alloc, &library, self))
+    }
+}
+
+#[test]
+fn trials_tell_what_their_search_finds(rt: HostRuntime) {
+    expect_all(&rt, rt.alloc(), &TRIALS);
 }

@@ -21,7 +21,7 @@ use teco_base::Reg;
 use teco_library::Library;
 use teco_source::Source;
 use teco_verifier::Rules;
-use teco_verify::{Account, Refusal, Verified, account_by, verify_by};
+use teco_verify::{Account, Refusal, Trial, Verified, account_by, trial_by, verify_by};
 
 /// Says why a macro of a source is refused, behind its line.
 pub fn refuse<O: Write + Drop, E: Write + Drop>(
@@ -102,7 +102,12 @@ pub fn refuse_macro<O: Write + Drop, E: Write + Drop>(
     Ok(outcome)
 }
 
-/// Says where the second edition of the rules accepts a macro that the first refuses.
+// How many elements the search may pass whose outcome is only a hint: it takes a fifth of a second at
+// the most, and macros of everyday size are searched to the end.
+const PASSED_FOR_HINT: u64 = 1 << 18;
+
+/// Says where the second edition of the rules accepts a macro that the first refuses, or may accept
+/// it, where a short search does not tell.
 pub fn tell_second_edition<O: Write + Drop, E: Write + Drop>(
     console: &mut Console<O, E>,
     library: &Library,
@@ -112,8 +117,20 @@ pub fn tell_second_edition<O: Write + Drop, E: Write + Drop>(
     if let Rules::Second = rules {
         return;
     }
-    if verify_by(console.alloc, library, entry, Rules::Second).is_ok() {
-        console.say("  the second edition of the rules accepts it: add --rules 2");
+    match trial_by(
+        console.alloc,
+        library,
+        entry,
+        Rules::Second,
+        PASSED_FOR_HINT,
+    ) {
+        Trial::Accepted => {
+            console.say("  the second edition of the rules accepts it: add --rules 2");
+        }
+        Trial::Unknown => {
+            console.say("  the second edition of the rules may accept it: try --rules 2");
+        }
+        Trial::Refused => {}
     }
 }
 

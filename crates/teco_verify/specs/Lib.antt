@@ -5,5 +5,6 @@ pub mod Straight
 pub mod Accepting
 pub mod Certifying
 pub mod Telling
+pub mod Trying
 pub mod Refusing
 pub mod Unfit

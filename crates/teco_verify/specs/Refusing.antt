@@ -155,8 +155,10 @@ abbrev pub refusal_of_fault : ExpandFault → Refusal
 refusal_of_fault (fault.Refused refused) = refusal_of (refusal_seen refused)
 refusal_of_fault fault.Memory = refusal.Memory
 
+-- where the search gives up, no bound is found
 abbrev pub refusal_of_unfit : List Node → Unfit → Refusal
 refusal_of_unfit nodes (unfits.Refused reason number) = refusal_at reason (node_at nodes number)
+refusal_of_unfit nodes (unfits.GivenUp number) = refusal_at why.Bound (node_at nodes number)
 refusal_of_unfit nodes unfits.Memory = refusal.Memory
 
 -- where facts are too large for a table, no bound stands

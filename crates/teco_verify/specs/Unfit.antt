@@ -5,12 +5,14 @@ use Rattle.teco_verify.specs.declared.unfit.Unfit.{Unfit}
 use Rattle.teco_verify.specs.declared.unfit.Unfit.TheVariants as unfit
 use Rattle.teco_verifier.specs.expansion.Node.{Node}
 
--- the rules refuse at the node of this number, or memory was refused
+-- the rules refuse, or the search ends, at the node of this number, or memory was refused
 abbrev pub IsAt : ℕ → Unfit → Type 0
 IsAt number (unfit.Refused why at) = at ≡ number
+IsAt number (unfit.GivenUp at) = at ≡ number
 IsAt number unfit.Memory = Unit {0}
 
--- there is a node of the number at which they refuse
+-- there is a node of that number
 abbrev pub IsIn : List Node → Unfit → Type 0
 IsIn nodes (unfit.Refused why at) = IsNumberOf nodes at
+IsIn nodes (unfit.GivenUp at) = IsNumberOf nodes at
 IsIn nodes unfit.Memory = Unit {0}

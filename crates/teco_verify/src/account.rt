@@ -193,8 +193,8 @@ fn unexpanded<'l>(alloc: Global, refused: Unexpanded) -> Account<'l>
     }
 }
 
-// The table that was derived. Where none was, it is found anew what was known when the search for
-// choices ended, which had these then.
+// The table that was derived. Where none was, since the search for choices ended first, the nodes are
+// passed once more with the choices it had then, and what is known at each is kept.
 fn table_of(
     alloc: Global,
     given: &Entry,
@@ -285,6 +285,7 @@ pub fn account_by<'l>(
         library,
         entry,
         rules,
+        most: u64::MAX,
     };
     accounted(alloc, &asked)
 }

@@ -9,12 +9,14 @@ use teco_facts::Entry;
 use teco_library::Library;
 use teco_verifier::Rules;
 
-/// A macro of a library, and by which rules it is verified.
+/// A macro of a library, by which rules it is verified, and how many elements the search for choices
+/// may pass, each as often as it comes to it.
 #[derive(Clone, Copy)]
 pub struct Asked<'l> {
     pub library: &'l Library,
     pub entry: Reg,
     pub rules: Rules,
+    pub most: u64,
 }
 
 // How long a text is, if there is one.

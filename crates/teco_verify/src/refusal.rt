@@ -109,6 +109,7 @@ impl Refusal {
     {
         match unfit {
             Unfit::Refused { why, number } => Refusal::at(why, nodes, number),
+            Unfit::GivenUp { number } => Refusal::at(Why::Bound, nodes, number),
             Unfit::Memory => Refusal::Memory,
         }
     }

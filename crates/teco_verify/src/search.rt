@@ -18,13 +18,18 @@ use teco_poly::Poly;
 use teco_transfer::{Edges, turns};
 use teco_verifier::{LoopLine, Refusal, Rules};
 
-/// How often the body of the innermost of six iterations may be passed: as often for each of them
-/// as its choice is tried.
-pub fn passes(rules: Rules) -> u64 {
+// How often the body of the innermost of six iterations may be passed: as often for each of them
+// as its choice is tried.
+fn passes(rules: Rules) -> u64 {
     match rules {
         Rules::First => 729,
         Rules::Second => 4096,
     }
+}
+
+/// How many nodes a search can pass, of so many.
+pub fn most_passed(rules: Rules, nodes: usize) -> u64 {
+    passes(rules).saturating_mul(nodes as u64)
 }
 
 // A pass over the nodes, in their order, with what is tried for the iterations that are open.
@@ -269,13 +274,13 @@ impl Search {
         Ok(number.saturating_add(1))
     }
 
-    // Passes all nodes, up to the end or to the first refusal.
-    fn pass_all(&mut self, course: &Course<'_, '_>, rules: Rules) -> Result<(), Unfit>
+    // Passes all nodes, up to the end or to the first refusal, but no more than so many in all.
+    fn pass_all(&mut self, course: &Course<'_, '_>, most: u64) -> Result<(), Unfit>
         ensures { IfErr result (IsIn course.now) }
     {
         let count = course.nodes.len();
         let mut number = 1;
-        for _ in 0..passes(rules).saturating_mul(count as u64) {
+        for _ in 0..most {
             if number > count {
                 return Ok(());
             }
@@ -284,7 +289,7 @@ impl Search {
         if number > count {
             return Ok(());
         }
-        Err(Unfit::at(Refusal::Bound, number))
+        Err(Unfit::GivenUp { number })
     }
 
     /// What is chosen: what was found, and what is tried where the search stopped.
@@ -321,11 +326,17 @@ fn joined(alloc: Global, known: Option<Facts>, more: Facts, number: usize) -> Re
     }
 }
 
-/// Finds a choice for each iteration whose body is reached, by the numbers of their `<`.
+/// Finds a choice for each iteration whose body is reached, by the numbers of their `<`, where no
+/// more than `most` nodes have to be passed, each as often as the search comes to it.
 ///
 /// The body of each iteration is passed at most three times, by the second edition four, for each
 /// pass of the one round it.
-pub fn choose(alloc: Global, entry: &Entry, nodes: &Nodes<'_>) -> Result<Vec<LoopLine>, Unfound>
+pub fn choose(
+    alloc: Global,
+    entry: &Entry,
+    nodes: &Nodes<'_>,
+    most: u64,
+) -> Result<Vec<LoopLine>, Unfound>
     ensures { IfErr result (λ unfound. IsIn nodes.now unfound.why) }
 {
     let Ok(course) = Course::new(alloc, nodes) else {
@@ -334,7 +345,8 @@ pub fn choose(alloc: Global, entry: &Entry, nodes: &Nodes<'_>) -> Result<Vec<Loo
     let Ok(mut search) = Search::new(alloc, entry, nodes.len(), Vec::new(alloc)) else {
         return Err(Unfound::memory(alloc));
     };
-    match search.pass_all(&course, entry.rules) {
+    let most = most.min(most_passed(entry.rules, nodes.len()));
+    match search.pass_all(&course, most) {
         Ok(()) => Ok(search.found),
         Err(why) => Err(search.into_unfound(why)),
     }

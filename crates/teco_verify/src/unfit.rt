@@ -12,6 +12,8 @@ use teco_verifier::{LoopLine, Refusal};
 pub enum Unfit {
     /// The rules refuse at the node of this number.
     Refused { why: Refusal, number: usize },
+    /// The search passed as many nodes as it may, and came to the node of this number.
+    GivenUp { number: usize },
     /// A growth was refused.
     Memory,
 }

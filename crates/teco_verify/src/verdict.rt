@@ -49,6 +49,8 @@ pub struct Found<'l> {
     pub table: Option<Table>,
     pub stop: Option<usize>,
     pub chosen: Vec<LoopLine>,
+    /// Whether the search was given up, so that its refusal says nothing of the macro.
+    pub given_up: bool,
 }
 
 impl<'l> Found<'l> {
@@ -63,7 +65,7 @@ impl<'l> Found<'l> {
         ensures { result.verdict ≡ Err (refusal_of_unfit nodes.now why) }
     {
         let stop = match why {
-            Unfit::Refused { number, .. } => Some(number),
+            Unfit::Refused { number, .. } | Unfit::GivenUp { number } => Some(number),
             Unfit::Memory => None,
         };
         Found {
@@ -71,6 +73,7 @@ impl<'l> Found<'l> {
             table,
             stop,
             chosen,
+            given_up: matches!(why, Unfit::GivenUp { .. }),
         }
     }
 }
@@ -107,18 +110,25 @@ pub fn found_with<'l>(
             table: Some(table),
             stop: None,
             chosen: Vec::new(alloc),
+            given_up: false,
         },
         Err(flaw) => Found::unfit(unfit_flawed(flaw), nodes, Some(table), Vec::new(alloc)),
     }
 }
 
-// What is chosen for the iterations. Where there are none it is nothing.
-fn choices(alloc: Global, given: &Entry, nodes: &Nodes<'_>) -> Result<Vec<LoopLine>, Unfound>
+// What is chosen for the iterations, if no more than `most` nodes have to be passed for it. Where
+// there are none it is nothing.
+fn choices(
+    alloc: Global,
+    given: &Entry,
+    nodes: &Nodes<'_>,
+    most: u64,
+) -> Result<Vec<LoopLine>, Unfound>
     ensures none { list_any begins nodes.now ≡ false → ChoosesNothing result }
     ensures numbered { IfErr result (λ unfound. IsIn nodes.now unfound.why) }
 {
     if has_iterations(nodes) {
-        choose(alloc, given, nodes)
+        choose(alloc, given, nodes, most)
     } else {
         Ok(Vec::new(alloc))
     }
@@ -140,7 +150,7 @@ pub fn found_of<'l>(alloc: Global, asked: &Asked<'l>, nodes: &Nodes<'_>) -> Foun
         result.verdict }
     ensures judged { IsJudged asked.now.rules asked.now.library.now asked.now.entry result.verdict }
 {
-    match choices(alloc, &asked.given(), nodes) {
+    match choices(alloc, &asked.given(), nodes, asked.most) {
         Ok(choices) => found_with(alloc, asked, nodes, &choices),
         Err(unfound) => Found::unfit(unfound.why, nodes, None, unfound.chosen),
     }
@@ -191,6 +201,7 @@ pub fn verify_by<'l>(
         library,
         entry,
         rules,
+        most: u64::MAX,
     };
     verified(alloc, &asked)
 }
@@ -245,6 +256,7 @@ fn certified_by<'l>(
         library,
         entry: claimed.entry,
         rules,
+        most: u64::MAX,
     };
     found_with(alloc, &asked, &nodes, &claimed.loops).verdict
 }

@@ -2,7 +2,7 @@
 ghost use Rattle.std.specs.Prelude.{◌<◌, ◌≤◌, length, IfOk};
 
 use crate::course::Course;
-use crate::search::{Search, passes};
+use crate::search::{Search, most_passed};
 use crate::unfit::Unfit;
 use std::alloc::{AllocError, Global};
 use teco_check::{Row, Table, are_kept, choice_for};
@@ -85,7 +85,7 @@ impl Search {
     ) -> Result<(), Unfit> {
         let count = course.nodes.len();
         let mut number = 1;
-        for _ in 0..passes(rules).saturating_mul(count as u64) {
+        for _ in 0..most_passed(rules, count) {
             if number > count {
                 return Ok(());
             }
