@@ -1,0 +1,6 @@
+use Rattle.teco_linear.proofs.Substitution.{IsSubstituted}
+use Rattle.teco_linear.proofs.form.substituted.Given as goal
+
+-- the terms before this one are done
+abbrev pub invariant-loop-term : goal.invariant-loop-term
+invariant-loop-term l = IsSubstituted l.terms l.forms l.term-index l.sum

@@ -1,0 +1,2 @@
+-- What it means that values satisfy a linear program.
+pub mod Satisfaction

@@ -1,0 +1,18 @@
+//! Linear programs in exact whole numbers: values that satisfy rows of sums, and that minimise one
+//! objective after the other. Nothing rests on how they are found: what is found is checked.
+#![tactic(auto)]
+
+mod check;
+mod equation;
+mod exact;
+mod fault;
+mod program;
+mod read;
+mod simplex;
+mod solve;
+mod tableau;
+#[cfg(test)]
+mod tests;
+
+pub use fault::SimplexFault;
+pub use program::{Answer, Program, Relation, Row, Sign, Term, Values};

@@ -1,0 +1,229 @@
+// From a program to its answer.
+ghost use Rattle.std.specs.Prelude.{IfOk};
+ghost use Rattle.teco_simplex.specs.Satisfaction.{IsSatisfying};
+
+use crate::equation::Equation;
+use crate::exact::{difference, sum};
+use crate::fault::SimplexFault;
+use crate::program::{Answer, Program, Term};
+use crate::simplex::End;
+use crate::tableau::{Column, Limits, Tableau};
+use std::alloc::Global;
+
+// Behind so many pivots in a row that change no value the search is slow, and maybe in a cycle.
+pub const PATIENCE: usize = 1000;
+
+impl Program {
+    /// Looks for values that satisfy the rows and are least, by at most so many pivots. Pivots that take the free
+    /// variables out and that prepare equations count too.
+    ///
+    /// The same program has the same answer each time. Values that are found satisfy the program; that they are
+    /// least, and the answers `Infeasible` and `Unbounded`, are not checked.
+    ///
+    /// # Errors
+    ///
+    /// `GivenUp` at the limit, `TooLarge` where a number leaves 128 bits, `UnknownVariable` for a term that names no
+    /// variable, and `Memory`.
+    pub fn solve(&self, alloc: Global, pivots: usize) -> Result<Answer, SimplexFault>
+        ensures { IfOk result (λ answer. IsSatisfying self.now answer) }
+    {
+        self.solve_within(
+            alloc,
+            Limits {
+                pivots,
+                patience: PATIENCE,
+            },
+        )
+    }
+
+    pub(crate) fn solve_within(&self, alloc: Global, limits: Limits) -> Result<Answer, SimplexFault>
+        ensures { IfOk result (λ answer. IsSatisfying self.now answer) }
+    {
+        let mut tableau = Tableau::of(self, alloc, limits)?;
+        tableau.define_free()?;
+        tableau.choose_slacks()?;
+        tableau.settle()?;
+        if !tableau.make_feasible()? {
+            return Ok(Answer::Infeasible);
+        }
+        for objective in 0..tableau.objectives.len() {
+            if tableau.minimise(objective)? == End::Unbounded {
+                return Ok(Answer::Unbounded);
+            }
+            tableau.keep_least(objective);
+        }
+        let values = tableau.values(self.signs.len())?;
+        if self.is_satisfied_by(&values) {
+            Ok(Answer::Found(values))
+        } else {
+            Err(SimplexFault::TooLarge)
+        }
+    }
+}
+
+impl Tableau {
+    // Takes each free variable that is in an equation out, by the shortest one.
+    fn define_free(&mut self) -> Result<(), SimplexFault> {
+        for variable in 0..self.columns.len() {
+            if self.column(variable) == Column::Free
+                && let Some(place) = self.shortest(variable)
+            {
+                self.define(place, variable)?;
+            }
+        }
+        Ok(())
+    }
+
+    fn shortest(&self, variable: usize) -> Option<usize> {
+        let mut found = None;
+        let mut least = usize::MAX;
+        for (place, equation) in self.equations.iter().enumerate() {
+            let length = equation.terms.len();
+            if length < least && equation.coefficient(variable) != 0 {
+                least = length;
+                found = Some(place);
+            }
+        }
+        found
+    }
+
+    // Makes each constant at least 0, and a slack basic where its sign allows it.
+    fn choose_slacks(&mut self) -> Result<(), SimplexFault> {
+        let counts = self.counts()?;
+        for equation in self.equations.iter_mut() {
+            if equation.constant < 0 {
+                equation.negate()?;
+            }
+            equation.basic = lone(equation, &counts);
+            if let Some(variable) = equation.basic {
+                equation.orient(variable)?;
+            }
+        }
+        Ok(())
+    }
+
+    // In how many equations and objectives each variable is.
+    fn counts(&self) -> Result<Vec<usize>, SimplexFault> {
+        let mut counts = Vec::from_elem(self.alloc, 0usize, self.columns.len())?;
+        for equation in self.equations.iter().chain(&self.objectives) {
+            for term in &equation.terms {
+                if let Some(count) = counts.get_mut(term.variable) {
+                    *count = count.saturating_add(1);
+                }
+            }
+        }
+        Ok(counts)
+    }
+
+    // Gives each equation with the constant 0 a basic variable, and drops those that say 0 = 0.
+    fn settle(&mut self) -> Result<(), SimplexFault> {
+        for _ in 0..self.equations.len() {
+            let Some(place) = self.unsettled() else {
+                break;
+            };
+            let counts = self.counts()?;
+            match self
+                .equations
+                .get(place)
+                .and_then(|equation| rarest(equation, &counts))
+            {
+                Some(variable) => self.pivot(place, variable)?,
+                None => drop(self.take(place)),
+            }
+        }
+        Ok(())
+    }
+
+    // The shortest equation with the constant 0 and no basic variable.
+    fn unsettled(&self) -> Option<usize> {
+        let mut found = None;
+        let mut least = usize::MAX;
+        for (place, equation) in self.equations.iter().enumerate() {
+            let length = equation.terms.len();
+            if equation.basic.is_none() && equation.constant == 0 && length < least {
+                least = length;
+                found = Some(place);
+            }
+        }
+        found
+    }
+
+    // The first phase: brings the constants of the equations with no basic variable to 0. Says
+    // whether that can be.
+    fn make_feasible(&mut self) -> Result<bool, SimplexFault> {
+        if self.is_feasible() {
+            return Ok(true);
+        }
+        let infeasibility = self.infeasibility()?;
+        let objective = self.objectives.len();
+        self.objectives.push(infeasibility)?;
+        let _ = self.minimise(objective)?;
+        self.objectives.truncate(objective);
+        if !self.is_feasible() {
+            return Ok(false);
+        }
+        self.settle()?;
+        Ok(true)
+    }
+
+    fn is_feasible(&self) -> bool {
+        self.equations.iter().all(|equation| equation.basic.is_some() || equation.constant == 0)
+    }
+
+    // What is missing in the equations with no basic variable, as an objective.
+    fn infeasibility(&self) -> Result<Equation, SimplexFault> {
+        let mut coefficients = Vec::from_elem(self.alloc, 0i128, self.columns.len())?;
+        for equation in &self.equations {
+            if equation.basic.is_some() {
+                continue;
+            }
+            for term in &equation.terms {
+                if let Some(coefficient) = coefficients.get_mut(term.variable) {
+                    *coefficient = difference(*coefficient, term.coefficient)?;
+                }
+            }
+        }
+        let mut terms = Vec::new(self.alloc);
+        for (variable, coefficient) in coefficients.iter().enumerate() {
+            if *coefficient != 0 {
+                terms.push(Term {
+                    variable,
+                    coefficient: *coefficient,
+                })?;
+            }
+        }
+        Ok(Equation {
+            basic: None,
+            terms,
+            constant: 0,
+        })
+    }
+}
+
+// A variable of this equation alone, whose coefficient has the sign of the constant.
+fn lone(equation: &Equation, counts: &[usize]) -> Option<usize> {
+    equation
+        .terms
+        .iter()
+        .find(|term| {
+            counts.get(term.variable) == Some(&1)
+                && (term.coefficient > 0 || equation.constant == 0)
+        })
+        .map(|term| term.variable)
+}
+
+// The variable of the equation that is in the fewest equations, before others one with a coefficient
+// of 1 or -1.
+fn rarest(equation: &Equation, counts: &[usize]) -> Option<usize> {
+    let mut found = None;
+    let mut least = (true, usize::MAX);
+    for term in &equation.terms {
+        let count = counts.get(term.variable).copied().unwrap_or(usize::MAX);
+        let cost = (term.coefficient != 1 && term.coefficient != -1, count);
+        if found.is_none() || cost < least {
+            least = cost;
+            found = Some(term.variable);
+        }
+    }
+    found
+}

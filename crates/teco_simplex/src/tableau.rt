@@ -1,0 +1,167 @@
+// The tableau: the equations that are left of a program, each with its basic variable.
+use crate::equation::Equation;
+use crate::exact::sum;
+use crate::fault::SimplexFault;
+use crate::program::{Program, Relation, Sign, Term};
+use std::alloc::Global;
+
+// What a variable may do while it is at 0: only a usable one may become basic.
+#[derive(Clone, Copy, Debug, PartialEq, Eq)]
+pub enum Column {
+    Usable,
+    Free,
+    Barred,
+}
+
+// How far the search goes.
+#[derive(Clone, Copy, Debug)]
+pub struct Limits {
+    // How many pivots are left.
+    pub pivots: usize,
+    // Behind so many pivots in a row that change no value Bland's rule takes over, by which none comes twice.
+    pub patience: usize,
+}
+
+#[derive(Debug, Drop)]
+pub struct Tableau {
+    pub alloc: Global,
+    // The program's variables, and behind them a slack for each row.
+    pub columns: Vec<Column>,
+    pub equations: Vec<Equation>,
+    // The equations that define the free variables, each without those defined before it.
+    pub definitions: Vec<Equation>,
+    pub objectives: Vec<Equation>,
+    pub limits: Limits,
+}
+
+impl Tableau {
+    pub fn of(program: &Program, alloc: Global, limits: Limits) -> Result<Tableau, SimplexFault> {
+        let mut tableau = Tableau {
+            alloc,
+            columns: Vec::new(alloc),
+            equations: Vec::new(alloc),
+            definitions: Vec::new(alloc),
+            objectives: Vec::new(alloc),
+            limits,
+        };
+        tableau.add_columns(program)?;
+        tableau.add_equations(program)?;
+        for objective in &program.objectives {
+            let terms = ordered(alloc, objective, program.signs.len())?;
+            tableau.objectives.push(Equation {
+                basic: None,
+                terms,
+                constant: 0,
+            })?;
+        }
+        Ok(tableau)
+    }
+
+    fn add_columns(&mut self, program: &Program) -> Result<(), SimplexFault> {
+        for sign in &program.signs {
+            let column = match sign {
+                Sign::NonNegative => Column::Usable,
+                Sign::Free => Column::Free,
+            };
+            self.columns.push(column)?;
+        }
+        Ok(())
+    }
+
+    // A row that is no equation gets a slack, with the coefficient 1 or -1.
+    fn add_equations(&mut self, program: &Program) -> Result<(), SimplexFault> {
+        for row in &program.rows {
+            let mut terms = ordered(self.alloc, &row.terms, program.signs.len())?;
+            let slack = match row.relation {
+                Relation::Equal => 0,
+                Relation::AtLeast => -1,
+                Relation::AtMost => 1,
+            };
+            if slack != 0 {
+                let variable = self.columns.len();
+                self.columns.push(Column::Usable)?;
+                terms.push(Term {
+                    variable,
+                    coefficient: slack,
+                })?;
+            }
+            let mut equation = Equation {
+                basic: None,
+                terms,
+                constant: row.bound,
+            };
+            equation.reduce()?;
+            self.equations.push(equation)?;
+        }
+        Ok(())
+    }
+
+    pub fn column(&self, variable: usize) -> Column {
+        self.columns
+            .get(variable)
+            .copied()
+            .unwrap_or(Column::Barred)
+    }
+
+    // Makes the variable basic in the equation at the place: takes it out of all others.
+    pub fn pivot(&mut self, place: usize, variable: usize) -> Result<(), SimplexFault> {
+        let pivot = self.eliminated(place, variable)?;
+        self.equations.push(pivot)?;
+        Ok(())
+    }
+
+    // Sets the equation at the place aside as the definition of the free variable.
+    pub fn define(&mut self, place: usize, variable: usize) -> Result<(), SimplexFault> {
+        let definition = self.eliminated(place, variable)?;
+        self.definitions.push(definition)?;
+        Ok(())
+    }
+
+    // Takes the equation at the place out of the tableau; another may come to its place.
+    pub fn take(&mut self, place: usize) -> Option<Equation> {
+        if place < self.equations.len() {
+            Some(self.equations.swap_remove(place))
+        } else {
+            None
+        }
+    }
+
+    // Takes the equation at the place out of the tableau, and the variable out of all that is left.
+    fn eliminated(&mut self, place: usize, variable: usize) -> Result<Equation, SimplexFault> {
+        self.limits.pivots = self
+            .limits
+            .pivots
+            .checked_sub(1)
+            .ok_or(SimplexFault::GivenUp)?;
+        let mut pivot = self.take(place).ok_or(SimplexFault::GivenUp)?;
+        pivot.orient(variable)?;
+        pivot.basic = Some(variable);
+        for equation in self.equations.iter_mut() {
+            equation.eliminate(self.alloc, &pivot, variable)?;
+        }
+        for objective in self.objectives.iter_mut() {
+            objective.eliminate(self.alloc, &pivot, variable)?;
+        }
+        Ok(pivot)
+    }
+}
+
+// The terms in the order of their variables, each of the first `variables` in one term at most.
+fn ordered(alloc: Global, terms: &[Term], variables: usize) -> Result<Vec<Term>, SimplexFault> {
+    let mut sorted = Vec::from_slice(alloc, terms)?;
+    sorted.sort_by_key(|term| term.variable)?;
+    let mut merged = Vec::<Term>::with_capacity(alloc, sorted.len())?;
+    for term in &sorted {
+        if term.variable >= variables {
+            return Err(SimplexFault::UnknownVariable);
+        }
+        match merged.last_mut() {
+            Some(last) if last.variable == term.variable => {
+                last.coefficient = sum(last.coefficient, term.coefficient)?;
+            }
+            _ => merged.push(*term)?,
+        }
+    }
+    merged.retain(|term| term.coefficient != 0);
+    Ok(merged)
+}
