@@ -5,28 +5,48 @@ ghost use Rattle.teco_pages.specs.Kept.{output_contents};
 ghost use Rattle.teco_base.specs.declared.TheConstants.{LIMIT};
 ghost use Rattle.std.specs.Io.KnownBytes.{WriteAppends};
 
+mod backup;
 mod calls;
+mod comparing;
 mod descriptor;
+mod identity;
 mod inheritance;
+mod likeness;
 mod links;
+mod process;
 mod size_limit;
 mod source;
+mod strays;
+mod system;
 mod target;
 mod trouble;
 mod unfinished;
 
+pub use self::backup::Backup;
 use self::calls::Calls;
+use self::identity::Identity;
+use self::likeness::Likeness;
+pub use self::process::ProcessFacts;
 use self::source::Source;
+pub use self::strays::remove_strays;
+pub use self::system::System;
+pub use self::target::folder_of;
 pub use self::trouble::{Purpose, Reason, Trouble};
-use self::unfinished::Unfinished;
-pub use self::unfinished::{Closed, Closing};
+pub use self::unfinished::{Closed, Closing, Handling, sync_folder};
+use self::unfinished::{Ended, Finish, Unfinished};
 use crate::fault::Failed;
 use crate::host::Host;
 use std::alloc::Global;
 use std::fs::{Files, OpenFile};
 use std::io::{Read, Write};
-use std::time::Clock;
 use teco_base::LIMIT;
+
+/// Outputs replace their targets, and outlast a power cut.
+const REPLACING: Handling = Handling {
+    closing: Closing::Replaces,
+    in_place: false,
+    is_durable: true,
+};
 
 /// The files of the system, by the runtime `R`. It notes what its calls did, and how many of them
 /// have failed.
@@ -40,8 +60,12 @@ use teco_base::LIMIT;
 /// regular file is refused when the output is opened, as is one in a folder that cannot be written,
 /// and one that leads to a file that a process has open, as `/dev/stdout` does.
 ///
+/// Where files are edited in place the input is a regular file, and the output replaces that very
+/// file: one that has its name by then, or that was changed since it was opened, stays as it is.
+///
 /// Where an output is dropped, and where the host is dropped with one open, the new file is
-/// removed; one that another file has taken the place of is neither moved nor removed. A write past
+/// removed; one that another file has taken the place of is neither moved nor removed. The name of
+/// a new file tells its process, so that what a killed one left can be told and removed. A write past
 /// the system's limit on the size of files fails. A name that is no UTF-8 opens nothing, and no
 /// file keeps the descriptor of a standard stream, which may be closed.
 ///
@@ -50,47 +74,81 @@ use teco_base::LIMIT;
 /// together, up to 64 KiB; a failure of the system is then that of the write, or of the close,
 /// which sends them on. A write that fails takes none of its bytes, and what was kept before it is
 /// kept on, so that the next write or the close sends it again from where the system stopped.
-pub struct FileHost<R: Files + Clock + Drop> {
+pub struct FileHost<R: System> {
     rt: R,
     alloc: Global,
+    // read where the first output is opened, if they were not given
+    facts: Option<ProcessFacts>,
     input: Option<Source<R::File>>,
     // how many bytes of the input were read
     given: usize,
     output: Option<Unfinished<R::File>>,
-    closing: Closing,
-    closed: Option<Closed>,
+    handling: Handling,
+    backup: Option<Backup>,
+    likeness: Likeness,
+    ended: Option<Ended>,
     calls: Calls,
     ghost within: { given ≤ LIMIT },
 }
 
-impl<R: Files + Clock + Drop> FileHost<R> {
-    /// Nothing is open. It has taken no memory yet, and will take it from `alloc`.
+impl<R: System> FileHost<R> {
+    /// Nothing is open. It has taken no memory yet, and will take it from `alloc`. Outputs replace
+    /// their targets, and outlast a power cut.
     pub fn new(alloc: Global, rt: R) -> FileHost<R> {
         FileHost {
             rt,
             alloc,
+            facts: None,
             input: None,
             given: 0,
             output: None,
-            closing: Closing::Replaces,
-            closed: None,
+            handling: REPLACING,
+            backup: None,
+            likeness: Likeness::new(alloc),
+            ended: None,
             calls: Calls::new(alloc),
         }
     }
 
+    /// Takes what hosts of this process need to know from another, which has read it.
+    pub fn set_facts(&mut self, facts: ProcessFacts) {
+        self.facts = Some(facts);
+    }
+
+    /// From now on files are treated so.
+    pub fn set_handling(&mut self, handling: Handling) {
+        self.handling = handling;
+    }
+
+    /// From now on files that are replaced are kept so.
+    pub fn set_backup(&mut self, backup: Backup) {
+        self.backup = Some(backup);
+    }
+
     /// From now on this becomes of outputs that are closed. A new host replaces their targets.
     pub fn set_closing(&mut self, closing: Closing) {
-        self.closing = closing;
+        self.handling.closing = closing;
     }
 
     /// What became of the output that was closed last.
     pub fn closed(&self) -> Option<Closed> {
-        self.closed
+        Some(self.ended.as_ref()?.closed)
+    }
+
+    /// The folder of the file that the output which was closed last replaced, if it did.
+    pub fn changed_folder(&self) -> Option<&str> {
+        let path = self.ended.as_ref()?.moved_to.as_ref()?;
+        Some(folder_of(path))
     }
 
     /// What could not be done in the last call that failed.
     pub fn trouble(&self) -> Option<&Trouble> {
         self.calls.trouble.as_ref()
+    }
+
+    /// How many bytes the open input had when it was opened, where it is a regular file.
+    pub fn input_length(&self) -> Option<u64> {
+        self.input.as_ref()?.length()
     }
 
     /// How many bytes of the open input were not given yet, where it is a regular file.
@@ -100,23 +158,26 @@ impl<R: Files + Clock + Drop> FileHost<R> {
     }
 }
 
-impl<R: Files + Clock + Drop> Drop for FileHost<R> {
+impl<R: System> Drop for FileHost<R> {
     fn drop(self) {
         let Self {
             rt,
             alloc: _,
+            facts: _,
             input: _,
             given: _,
             output,
-            closing: _,
-            closed: _,
+            handling: _,
+            backup: _,
+            likeness: _,
+            ended: _,
             calls: _,
         } = self;
         let _removed = abandon(&rt, output);
     }
 }
 
-impl<R: Files + Clock + Drop> Host for FileHost<R> {
+impl<R: System> Host for FileHost<R> {
     ghost files = { λ h. Notes h.calls.history.events };
 
     ghost failures = { λ h. h.calls.failures.value };
@@ -124,10 +185,11 @@ impl<R: Files + Clock + Drop> Host for FileHost<R> {
     ghost given = { λ h. h.given };
 
     fn open_in(&mut self, name: &[u8]) -> Result<(), Failed> {
-        match Source::open(&self.rt, self.alloc, name) {
+        match Source::open(&self.rt, self.alloc, name, self.handling.in_place) {
             Ok(file) => {
                 self.input = Some(file);
                 self.given = 0;
+                self.likeness = Likeness::new(self.alloc);
                 self.calls.opened_input(name);
                 Ok(())
             }
@@ -139,6 +201,7 @@ impl<R: Files + Clock + Drop> Host for FileHost<R> {
         match read_some(&mut self.input, LIMIT - self.given, buf) {
             Ok(n) => {
                 self.given += n;
+                note_given(&mut self.likeness, self.handling, buf, n);
                 self.calls.history.gave(buf, n);
                 Ok(n)
             }
@@ -147,8 +210,16 @@ impl<R: Files + Clock + Drop> Host for FileHost<R> {
     }
 
     fn open_out(&mut self, name: &[u8]) -> Result<(), Failed> {
-        match begin(&self.rt, self.alloc, &mut self.output, name) {
+        let facts = facts_of(&self.rt, self.alloc, self.facts);
+        self.facts = Some(facts);
+        let begin = Begin {
+            name,
+            facts,
+            only: only_of(&self.input, self.handling),
+        };
+        match begin_output(&self.rt, self.alloc, &mut self.output, begin) {
             Ok(()) => {
+                self.likeness.begin();
                 self.calls.opened_output(name);
                 Ok(())
             }
@@ -159,6 +230,7 @@ impl<R: Files + Clock + Drop> Host for FileHost<R> {
     fn write(&mut self, bytes: &[u8]) -> Result<usize, Failed> {
         match write_some(&mut self.output, bytes) {
             Ok(n) => {
+                note_written(&mut self.likeness, self.handling, bytes, n);
                 self.calls.history.wrote(bytes, n);
                 Ok(n)
             }
@@ -168,9 +240,14 @@ impl<R: Files + Clock + Drop> Host for FileHost<R> {
 
     fn close_out(&mut self) -> Result<(), Failed> {
         let output = self.output.take();
-        match close(&self.rt, self.alloc, output, self.closing) {
-            Ok(closed) => {
-                self.closed = Some(closed);
+        let finish = Finish {
+            handling: self.handling,
+            is_same: is_same(&self.likeness, &self.input, self.handling),
+            backup: self.backup.as_ref(),
+        };
+        match close(&self.rt, self.alloc, output, finish) {
+            Ok(ended) => {
+                self.ended = Some(ended);
                 self.calls.history.closed();
                 Ok(())
             }
@@ -187,6 +264,53 @@ impl<R: Files + Clock + Drop> Host for FileHost<R> {
             Ok(()) => Ok(()),
             Err(reason) => self.calls.cannot_use(Purpose::DropOutput, reason),
         }
+    }
+}
+
+// What hosts of this process need to know, read where that was not done.
+fn facts_of<R: System>(rt: &R, alloc: Global, facts: Option<ProcessFacts>) -> ProcessFacts {
+    match facts {
+        Some(facts) => facts,
+        None => ProcessFacts::read(rt, alloc),
+    }
+}
+
+// The only file that an output may replace: the input, where files are edited in place.
+fn only_of<F: OpenFile + Read + Drop>(
+    input: &Option<Source<F>>,
+    handling: Handling,
+) -> Option<Identity> {
+    if handling.in_place {
+        Some(input.as_ref()?.identity())
+    } else {
+        None
+    }
+}
+
+// Notes bytes that were read, where files are edited in place.
+fn note_given(likeness: &mut Likeness, handling: Handling, buf: &[u8], n: usize) {
+    if handling.in_place {
+        likeness.gave(buf.get(..n).unwrap_or(&[]));
+    }
+}
+
+// Notes bytes that were written, where files are edited in place.
+fn note_written(likeness: &mut Likeness, handling: Handling, bytes: &[u8], n: usize) {
+    if handling.in_place {
+        likeness.wrote(bytes.get(..n).unwrap_or(&[]));
+    }
+}
+
+// Does an output have the bytes of the input that it replaces, if that can be told?
+fn is_same<F: OpenFile + Read + Drop>(
+    likeness: &Likeness,
+    input: &Option<Source<F>>,
+    handling: Handling,
+) -> Option<bool> {
+    if handling.in_place {
+        likeness.is_all_of(input.as_ref()?.length()?)
+    } else {
+        None
     }
 }
 
@@ -214,17 +338,26 @@ fn read_some<F: OpenFile + Read + Drop>(
     Ok(file.read(&mut buf[..room])?)
 }
 
+// An output that is begun.
+#[derive(Clone, Copy)]
+struct Begin<'a> {
+    name: &'a [u8],
+    facts: ProcessFacts,
+    // the only file that it may replace, where it may not replace any
+    only: Option<Identity>,
+}
+
 // Begins an output, unless one is open.
-fn begin<R: Files + Clock>(
+fn begin_output<R: System>(
     rt: &R,
     alloc: Global,
     output: &mut Option<Unfinished<R::File>>,
-    name: &[u8],
+    begin: Begin<'_>,
 ) -> Result<(), Reason> {
     if output.is_some() {
         return Err(Reason::NotOpen);
     }
-    *output = Some(Unfinished::begin(rt, alloc, name)?);
+    *output = Some(Unfinished::begin(rt, alloc, begin.name, begin.facts, begin.only)?);
     Ok(())
 }
 
@@ -253,14 +386,14 @@ fn write_some<F: OpenFile + Write + Drop>(
 }
 
 // Closes the output that is open.
-fn close<R: Files>(
+fn close<R: System>(
     rt: &R,
     alloc: Global,
     output: Option<Unfinished<R::File>>,
-    closing: Closing,
-) -> Result<Closed, Reason> {
+    finish: Finish<'_>,
+) -> Result<Ended, Reason> {
     match output {
-        Some(output) => output.finish(rt, alloc, closing),
+        Some(output) => output.finish(rt, alloc, finish),
         None => Err(Reason::NotOpen),
     }
 }

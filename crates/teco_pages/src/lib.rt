@@ -14,7 +14,10 @@ mod write;
 
 pub use count::Count;
 pub use fault::{Failed, Fault};
-pub use file_host::{Closed, Closing, FileHost, Purpose, Reason, Trouble};
+pub use file_host::{
+    Backup, Closed, Closing, FileHost, Handling, ProcessFacts, Purpose, Reason, System, Trouble,
+    folder_of, remove_strays, sync_folder,
+};
 pub use history::History;
 pub use host::Host;
 pub use mem_host::MemHost;

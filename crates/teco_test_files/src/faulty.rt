@@ -5,7 +5,7 @@ use std::fs::{File, Files, Metadata, OpenFile, OpenOptions, Permissions};
 use std::io::{self, Read, Seek, SeekFrom, Write};
 use std::path::PathBuf;
 use std::time::{Clock, Duration};
-use teco_pages::FileHost;
+use teco_pages::{FileHost, System};
 
 /// Where a process reads its limits.
 pub const LIMITS: &str = "/proc/self/limits";
@@ -164,6 +164,25 @@ impl Files for Faulty {
 
     fn canonicalize<B: Allocator>(&self, alloc: B, path: &str) -> io::Result<PathBuf<B>> {
         self.rt.canonicalize(alloc, path)
+    }
+}
+
+impl System for Faulty {
+    fn give_owner(
+        &self,
+        file: &FaultyFile,
+        owner: Option<u32>,
+        group: Option<u32>,
+    ) -> io::Result<()> {
+        self.rt.give_owner(&file.file, owner, group)
+    }
+
+    fn is_standard(&self, file: &FaultyFile) -> bool {
+        self.rt.is_standard(&file.file)
+    }
+
+    fn process_number(&self) -> u32 {
+        self.rt.process_number()
     }
 }
 

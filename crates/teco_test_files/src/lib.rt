@@ -6,6 +6,8 @@ mod buffers;
 #[cfg(test)]
 mod faulty;
 #[cfg(test)]
+mod in_place;
+#[cfg(test)]
 mod inputs;
 #[cfg(test)]
 mod limits;

@@ -4,9 +4,11 @@ ghost use Rattle.std.specs.Io.Buffered.{reader_buffer, reader_capacity, reader_r
 ghost use Rattle.std.specs.Io.KnownBytes.{ReadConsumes};
 
 use super::descriptor::above_standard;
+use super::identity::Identity;
+use super::system::System;
 use super::trouble::Reason;
 use std::alloc::Global;
-use std::fs::{Files, OpenFile};
+use std::fs::{Metadata, OpenFile};
 use std::io::{BufReader, Read};
 use std::{fs, io, str};
 
@@ -21,25 +23,49 @@ pub struct Source<F: Drop> {
     reader: BufReader<F>,
     // the length that a regular file had when it was opened
     length: Option<u64>,
+    // which file it was then
+    identity: Identity,
     // a byte came behind all that it may give
     is_past: bool,
 }
 
 impl<F: OpenFile + Read + Drop> Source<F> {
-    /// Opens the file of a name. A folder is none.
-    pub fn open<R: Files<File = F>>(rt: &R, alloc: Global, name: &[u8]) -> Result<Source<F>, Reason>
+    /// Opens the file of a name. A folder is none, and where it is asked for no file that is not a
+    /// regular one; that is looked at before it is opened, since opening may wait for ever.
+    pub fn open<R: System<File = F>>(
+        rt: &R,
+        alloc: Global,
+        name: &[u8],
+        is_regular: bool,
+    ) -> Result<Source<F>, Reason>
         ensures ahead { IfOk result (λ s. 0 < reader_capacity s.reader) }
         ensures none { IfOk result (λ s. reader_buffer s.reader ≡ []) }
     {
-        let file = above_standard(fs::open(rt, str::from_utf8(name)?)?)?;
+        let name = str::from_utf8(name)?;
+        if is_regular {
+            check_regular(&fs::metadata(rt, name)?)?;
+        }
+        let file = above_standard(rt, fs::open(rt, name)?)?;
         let metadata = file.metadata()?;
         if metadata.is_dir() {
             return Err(Reason::Folder);
         }
+        if is_regular {
+            check_regular(&metadata)?;
+        }
+        Source::over(alloc, file, &metadata)
+    }
+
+    // The open file of some metadata.
+    fn over(alloc: Global, file: F, metadata: &Metadata) -> Result<Source<F>, Reason>
+        ensures ahead { IfOk result (λ s. 0 < reader_capacity s.reader) }
+        ensures none { IfOk result (λ s. reader_buffer s.reader ≡ []) }
+    {
         match BufReader::with_capacity(alloc, room_ahead(metadata.len()), file) {
             Ok(reader) => Ok(Source {
                 reader,
                 length: metadata.is_file().then_some(metadata.len()),
+                identity: Identity::of(metadata),
                 is_past: false,
             }),
             Err(_) => Err(Reason::Memory),
@@ -49,6 +75,11 @@ impl<F: OpenFile + Read + Drop> Source<F> {
     /// How many bytes the file had when it was opened, where it is a regular one.
     pub fn length(&self) -> Option<u64> {
         self.length
+    }
+
+    /// Which file it was when it was opened.
+    pub fn identity(&self) -> Identity {
+        self.identity
     }
 
     /// Reads the next bytes, one at least unless the file is at its end. What the system gives at
@@ -68,6 +99,18 @@ impl<F: OpenFile + Read + Drop> Source<F> {
         let mut probe = [0; 1];
         self.is_past = self.is_past || !matches!(self.read(&mut probe), Ok(0));
         self.is_past
+    }
+}
+
+// Refuses a file that is not a regular one.
+fn check_regular(metadata: &Metadata) -> Result<(), Reason> {
+    if metadata.is_dir() {
+        return Err(Reason::Folder);
+    }
+    if metadata.is_file() {
+        Ok(())
+    } else {
+        Err(Reason::NotRegular)
     }
 }
 

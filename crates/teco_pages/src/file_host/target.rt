@@ -20,19 +20,20 @@ impl Target {
         let Some(entry) = entry_of(rt, name)? else {
             return Target::new(alloc, name);
         };
+        if !entry.is_symlink() {
+            return Target::existing(String::from_str(alloc, name)?, entry);
+        }
+        // only links lead to open files
         if leads_to_open_file(rt, alloc, name)? {
             return Err(Reason::InUse);
         }
-        if entry.is_symlink() {
-            Target::existing(rt, rt.canonicalize(alloc, name)?.into_string())
-        } else {
-            Target::existing(rt, String::from_str(alloc, name)?)
-        }
+        let path = rt.canonicalize(alloc, name)?.into_string();
+        let metadata = fs::symlink_metadata(rt, &path)?;
+        Target::existing(path, metadata)
     }
 
     // The file at a path, which is no link.
-    fn existing<R: Files>(rt: &R, path: String) -> Result<Target, Reason> {
-        let metadata = fs::metadata(rt, &path)?;
+    fn existing(path: String, metadata: Metadata) -> Result<Target, Reason> {
         if !metadata.is_file() {
             return Err(Reason::NotRegular);
         }

@@ -34,6 +34,18 @@ pub enum Reason {
     /// Another file took the name of the unfinished output.
     #[error("another file took the place of what was written")]
     Taken,
+    /// The name stands for another file than the one that was read.
+    #[error("its name stands for another file now than the one that was read")]
+    Replaced,
+    /// The file was changed between its opening and its replacement.
+    #[error("it was changed by somebody else while it was edited")]
+    Changed,
+    /// A file has the name under which the old file was to be kept.
+    #[error("the name of its backup is taken")]
+    Kept,
+    /// The old file could not be kept under its other name.
+    #[error("its backup cannot be made: {0}")]
+    Backup(io::Error),
     /// No such file is open.
     #[error("it is not open")]
     NotOpen,

@@ -3,15 +3,19 @@ ghost use Rattle.std.specs.Prelude.{◌≡◌, ◌≤◌, ◌<◌, [], length, I
 ghost use Rattle.std.specs.Io.Buffered.{writer_buffer, writer_contents};
 ghost use Rattle.std.specs.Io.KnownBytes.{Keeps, WriteAppends};
 
+use super::backup::Backup;
+use super::comparing::is_same_file;
 use super::descriptor::above_standard;
+use super::identity::Identity;
 use super::inheritance::inherit_owner;
-use super::size_limit::size_limit;
+use super::process::ProcessFacts;
+use super::system::System;
 use super::target::{Target, folder_of};
 use super::trouble::Reason;
 use std::alloc::Global;
 use std::fs::{Files, OpenFile, OpenOptions, Permissions};
-use std::io::{BufRead, BufReader, BufWriter, Write};
-use std::os::unix::fs::{MetadataExt, OpenOptionsExt};
+use std::io::{BufWriter, Write};
+use std::os::unix::fs::OpenOptionsExt;
 use std::time::{Clock, Duration};
 use std::{fs, io, str};
 
@@ -36,6 +40,17 @@ pub enum Closing {
     Compares,
 }
 
+/// How a host treats its files.
+#[derive(Clone, Copy, Debug, PartialEq, Eq)]
+pub struct Handling {
+    pub closing: Closing,
+    /// May an output replace only the file that is open as the input, as that was when it was
+    /// opened? Inputs are regular files then.
+    pub in_place: bool,
+    /// Is an output made to outlast a power cut, before it has its name and then with it?
+    pub is_durable: bool,
+}
+
 /// What became of an output that was closed.
 #[derive(Clone, Copy, Debug, PartialEq, Eq)]
 pub enum Closed {
@@ -43,6 +58,16 @@ pub enum Closed {
     Changed,
     /// Its target has the same bytes as before.
     Same,
+}
+
+/// How an output is closed.
+#[derive(Clone, Copy)]
+pub struct Finish<'a> {
+    pub handling: Handling,
+    /// Does it have the bytes of its target? None where that is not known yet.
+    pub is_same: Option<bool>,
+    /// How the file that it replaces is kept, if it is.
+    pub backup: Option<&'a Backup>,
 }
 
 /// An output that is not closed yet: a new file beside its target.
@@ -54,6 +79,8 @@ pub struct Unfinished<F: Write + Drop> {
     beside: String,
     // where it will be
     target: String,
+    // the only file that it may replace, where it may not replace any
+    only: Option<Identity>,
     // what it will be given of the file that it replaces
     permissions: Option<Permissions>,
     // how many bytes the system still lets it take
@@ -61,26 +88,32 @@ pub struct Unfinished<F: Write + Drop> {
 }
 
 impl<F: OpenFile + Write + Drop> Unfinished<F> {
-    /// Begins the output of a name, in the folder of its target.
-    pub fn begin<R: Files<File = F> + Clock>(
+    /// Begins the output of a name, in the folder of its target. Where it may replace one file only,
+    /// the name must stand for that.
+    pub fn begin<R: System<File = F>>(
         rt: &R,
         alloc: Global,
         name: &[u8],
+        facts: ProcessFacts,
+        only: Option<Identity>,
     ) -> Result<Unfinished<F>, Reason>
         ensures { IfOk result (λ o. writer_buffer o.writer ≡ []) }
     {
         let target = Target::of(rt, alloc, str::from_utf8(name)?)?;
-        let (file, beside) = make_beside(rt, alloc, &target)?;
+        check_only(&target, only)?;
+        let (file, beside) = make_beside(rt, alloc, &target, facts)?;
+        let permissions = permissions_for(rt, &file, &target);
         let Ok(writer) = BufWriter::with_capacity(alloc, KEPT, file) else {
             let _removed = fs::remove_file(rt, &beside);
             return Err(Reason::Memory);
         };
         Ok(Unfinished {
             writer,
-            permissions: permissions_for(rt, &beside, &target),
             beside,
             target: target.path,
-            room: size_limit(rt),
+            only,
+            permissions,
+            room: facts.size_limit,
         })
     }
 
@@ -117,28 +150,47 @@ impl<F: OpenFile + Write + Drop> Unfinished<F> {
         }
     }
 
-    /// Moves it over its target or removes it, as the closing says.
-    pub fn finish<R: Files>(
+    /// Moves it over its target or removes it, as the closing says. Where it was moved the path of
+    /// its target is told.
+    pub fn finish<R: System<File = F>>(
         mut self,
         rt: &R,
         alloc: Global,
-        closing: Closing,
-    ) -> Result<Closed, Reason> {
-        let left = match self.settle(rt, alloc, closing) {
-            Ok(Settled::Moved) => return Ok(Closed::Changed),
-            Ok(Settled::Left(closed)) => Ok(closed),
-            Err(reason) => Err(reason),
-        };
+        how: Finish<'_>,
+    ) -> Result<Ended, Reason> {
+        match self.settle(rt, alloc, how) {
+            Ok(Settled::Moved) => Ok(self.moved()),
+            Ok(Settled::Left(closed)) => self.left(rt, closed),
+            Err(reason) => {
+                self.abandon(rt)?;
+                Err(reason)
+            }
+        }
+    }
+
+    // It was moved.
+    fn moved(self) -> Ended {
+        Ended {
+            closed: Closed::Changed,
+            moved_to: Some(self.target),
+        }
+    }
+
+    // It is not needed.
+    fn left<R: Files>(self, rt: &R, closed: Closed) -> Result<Ended, Reason> {
         self.abandon(rt)?;
-        left
+        Ok(Ended {
+            closed,
+            moved_to: None,
+        })
     }
 
     // Sends on what was kept, and moves it over its target where that is asked for.
-    fn settle<R: Files>(
+    fn settle<R: System<File = F>>(
         &mut self,
         rt: &R,
         alloc: Global,
-        closing: Closing,
+        how: Finish<'_>,
     ) -> Result<Settled, Reason>
         ensures sent { OnOk result (writer_buffer self.new.writer ≡ []) }
         ensures bytes { Keeps (writer_contents F.contents self.old.writer)
@@ -147,10 +199,10 @@ impl<F: OpenFile + Write + Drop> Unfinished<F> {
         let written = self.writer.flush();
         self.give_permissions();
         written?;
-        if let Some(closed) = self.compared(rt, alloc, closing)? {
+        if let Some(closed) = self.compared(rt, alloc, how)? {
             return Ok(Settled::Left(closed));
         }
-        self.move_over(rt)?;
+        self.move_over(rt, alloc, how)?;
         Ok(Settled::Moved)
     }
 
@@ -159,27 +211,62 @@ impl<F: OpenFile + Write + Drop> Unfinished<F> {
         &self,
         rt: &R,
         alloc: Global,
-        closing: Closing,
+        how: Finish<'_>,
     ) -> Result<Option<Closed>, Reason> {
+        let closing = how.handling.closing;
         if closing == Closing::Replaces {
             return Ok(None);
         }
-        if is_same_file(rt, alloc, &self.beside, &self.target)? {
+        let is_same = match how.is_same {
+            Some(is_same) => is_same,
+            None => is_same_file(rt, alloc, &self.beside, &self.target)?,
+        };
+        if is_same {
             return Ok(Some(Closed::Same));
         }
         Ok((closing == Closing::Compares).then_some(Closed::Changed))
     }
 
-    // Moves it over its target.
-    fn move_over<R: Files>(&self, rt: &R) -> Result<(), Reason> {
-        self.writer.get_ref().sync_all()?;
+    // Moves it over its target, which is kept first where that is asked for.
+    fn move_over<R: Files>(&self, rt: &R, alloc: Global, how: Finish<'_>) -> Result<(), Reason> {
+        let is_durable = how.handling.is_durable;
+        if is_durable {
+            self.writer.get_ref().sync_all()?;
+        }
         if !self.is_in_place(rt) {
             return Err(Reason::Taken);
         }
-        fs::rename(rt, &self.beside, &self.target)?;
-        // the name is there, and may only be lost with the power
-        let _synced = sync_folder(rt, &self.target);
+        self.check_target(rt)?;
+        let kept = match how.backup {
+            Some(backup) => Some(backup.keep(rt, alloc, &self.target)?),
+            None => None,
+        };
+        if let Err(error) = fs::rename(rt, &self.beside, &self.target) {
+            if let Some(kept) = kept {
+                kept.undo(rt, &self.target);
+            }
+            return Err(Reason::System(error));
+        }
+        if is_durable {
+            // the name is there, and may only be lost with the power
+            let _synced = sync_folder(rt, folder_of(&self.target));
+        }
         Ok(())
+    }
+
+    // Is what it will replace still the file that it may replace, as it was?
+    fn check_target<R: Files>(&self, rt: &R) -> Result<(), Reason> {
+        let Some(only) = self.only else {
+            return Ok(());
+        };
+        let found = Identity::of(&fs::symlink_metadata(rt, &self.target)?);
+        if found == only {
+            Ok(())
+        } else if found.is_same_file(only) {
+            Err(Reason::Changed)
+        } else {
+            Err(Reason::Replaced)
+        }
     }
 
     /// Removes it. What is still kept is dropped.
@@ -189,6 +276,7 @@ impl<F: OpenFile + Write + Drop> Unfinished<F> {
             writer,
             beside,
             target: _,
+            only: _,
             permissions: _,
             room: _,
         } = self;
@@ -206,11 +294,19 @@ impl<F: OpenFile + Write + Drop> Unfinished<F> {
         let written = self.writer.get_ref().metadata();
         match (written, fs::symlink_metadata(rt, &self.beside)) {
             (Ok(written), Ok(named)) => {
-                written.dev() == named.dev() && written.ino() == named.ino()
+                Identity::of(&written).is_same_file(Identity::of(&named))
             }
             _ => false,
         }
     }
+}
+
+/// What came of an output that was closed.
+#[derive(Drop)]
+pub struct Ended {
+    pub closed: Closed,
+    /// The path that it was moved to, if it was.
+    pub moved_to: Option<String>,
 }
 
 // What became of the file that was written.
@@ -220,38 +316,15 @@ enum Settled {
     Left(Closed),
 }
 
-// Have two files the same bytes? A file that isn't there has others.
-fn is_same_file<R: Files>(rt: &R, alloc: Global, one: &str, other: &str) -> Result<bool, Reason> {
-    if !fs::exists(rt, other)? {
-        return Ok(false);
+// Refuses a target that is not the one file that may be replaced.
+fn check_only(target: &Target, only: Option<Identity>) -> Result<(), Reason> {
+    let Some(only) = only else {
+        return Ok(());
+    };
+    match &target.replaced {
+        Some(replaced) if Identity::of(replaced).is_same_file(only) => Ok(()),
+        _ => Err(Reason::Replaced),
     }
-    let mut one = BufReader::new(alloc, fs::open(rt, one)?)?;
-    let mut other = BufReader::new(alloc, fs::open(rt, other)?)?;
-    Ok(have_same_bytes(&mut one, &mut other)?)
-}
-
-// Do two readers give the same bytes?
-fn have_same_bytes<R: BufRead>(one: &mut R, other: &mut R) -> io::Result<bool> {
-    for _ in 0..u64::MAX {
-        let used = match same_front(one.fill_buf()?, other.fill_buf()?) {
-            None => return Ok(false),
-            Some(0) => return Ok(true),
-            Some(used) => used,
-        };
-        one.consume(used);
-        other.consume(used);
-    }
-    Ok(false)
-}
-
-// How many bytes at the front of two texts are the same, all of the shorter; none where they
-// differ, or where one is at its end and the other is not.
-fn same_front(one: &[u8], other: &[u8]) -> Option<usize> {
-    let length = one.len().min(other.len());
-    if one.is_empty() != other.is_empty() || one[..length] != other[..length] {
-        return None;
-    }
-    Some(length)
 }
 
 // A write that took nothing.
@@ -260,10 +333,11 @@ fn no_room() -> Reason {
 }
 
 // Makes a file in the target's folder, under a name that no file has.
-fn make_beside<R: Files + Clock>(
+fn make_beside<R: System>(
     rt: &R,
     alloc: Global,
     target: &Target,
+    facts: ProcessFacts,
 ) -> Result<(R::File, String), Reason> {
     let mut options = OpenOptions::new();
     options.write(true).create_new(true);
@@ -272,7 +346,7 @@ fn make_beside<R: Files + Clock>(
     }
     let first = stamp(rt);
     for n in 0..TRIES {
-        let beside = name_beside(alloc, &target.path, first.wrapping_add(n))?;
+        let beside = facts.name_beside(alloc, &target.path, first.wrapping_add(n))?;
         if let Some(file) = open_free(rt, &options, &beside)? {
             return Ok((file, beside));
         }
@@ -281,9 +355,9 @@ fn make_beside<R: Files + Clock>(
 }
 
 // The new file of a name, unless some file has it.
-fn open_free<R: Files>(rt: &R, options: &OpenOptions, name: &str) -> io::Result<Option<R::File>> {
+fn open_free<R: System>(rt: &R, options: &OpenOptions, name: &str) -> io::Result<Option<R::File>> {
     match options.open(rt, name) {
-        Ok(file) => Ok(Some(above_standard(file)?)),
+        Ok(file) => Ok(Some(above_standard(rt, file)?)),
         Err(e) if e.kind() == io::ErrorKind::AlreadyExists => Ok(None),
         Err(error) => Err(error),
     }
@@ -297,21 +371,12 @@ fn stamp<R: Clock>(rt: &R) -> u64 {
         .wrapping_add(u64::from(now.subsec_nanos()))
 }
 
-// The name of a number in the folder of a path.
-fn name_beside(alloc: Global, path: &str, n: u64) -> Result<String, Reason> {
-    let (folder, slash) = match path.rsplit_once('/') {
-        Some((folder, _)) => (folder, "/"),
-        None => ("", ""),
-    };
-    Ok(format!(in alloc; "{folder}{slash}.somleut-{n:x}")?)
+// The permissions that an open file is given of the one that its target replaces.
+fn permissions_for<R: System>(rt: &R, file: &R::File, target: &Target) -> Option<Permissions> {
+    Some(inherit_owner(rt, file, target.replaced.as_ref()?))
 }
 
-// The permissions that the file at a path is given of the one that its target replaces.
-fn permissions_for<R: Files>(rt: &R, path: &str, target: &Target) -> Option<Permissions> {
-    Some(inherit_owner(rt, path, target.replaced.as_ref()?))
-}
-
-// Makes the names in the folder of a path last.
-fn sync_folder<R: Files>(rt: &R, path: &str) -> io::Result<()> {
-    fs::open(rt, folder_of(path))?.sync_all()
+/// Makes the names in a folder outlast a power cut.
+pub fn sync_folder<R: Files>(rt: &R, folder: &str) -> io::Result<()> {
+    fs::open(rt, folder)?.sync_all()
 }

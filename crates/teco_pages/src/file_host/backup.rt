@@ -1,0 +1,69 @@
+// Files that are kept under another name before they are replaced.
+use super::target::entry_of;
+use super::trouble::Reason;
+use std::alloc::Global;
+use std::fs::Files;
+use std::{fs, io};
+
+/// How a file that is replaced is kept: under its path with a suffix behind it, as it was, with its
+/// owner, its group, its permissions and whatever else the system keeps with it.
+#[derive(Debug, Drop)]
+pub struct Backup {
+    pub suffix: String,
+    /// May it take the place of a file that has its name?
+    pub replaces: bool,
+}
+
+/// A file that has its other name.
+#[derive(Drop)]
+pub struct Kept {
+    path: String,
+    // does it have its own name no more?
+    is_moved: bool,
+}
+
+impl Kept {
+    /// Takes the other name away, since the file is not replaced.
+    pub fn undo<R: Files>(self, rt: &R, own: &str) {
+        let Kept { path, is_moved } = self;
+        let _undone = if is_moved {
+            fs::rename(rt, &path, own)
+        } else {
+            fs::remove_file(rt, &path)
+        };
+    }
+}
+
+impl Backup {
+    /// Gives the file at a path its other name, beside its own. What has that name is never written
+    /// through, be it a link: it stays, and nothing is kept, or it is removed.
+    pub fn keep<R: Files>(&self, rt: &R, alloc: Global, own: &str) -> Result<Kept, Reason> {
+        let suffix = self.suffix.as_str();
+        let path = format!(in alloc; "{own}{suffix}")?;
+        if entry_of(rt, &path)?.is_some() {
+            if !self.replaces {
+                return Err(Reason::Kept);
+            }
+            fs::remove_file(rt, &path).map_err(Reason::Backup)?;
+        }
+        match rt.hard_link(own, &path) {
+            Ok(()) => Ok(Kept {
+                path,
+                is_moved: false,
+            }),
+            Err(e) if e.kind() == io::ErrorKind::AlreadyExists => Err(Reason::Kept),
+            Err(_) => move_to(rt, own, path),
+        }
+    }
+}
+
+// Moves a file to its other name, on a system of files in which none has two names.
+fn move_to<R: Files>(rt: &R, own: &str, path: String) -> Result<Kept, Reason> {
+    match fs::rename(rt, own, &path) {
+        Ok(()) => Ok(Kept {
+            path,
+            is_moved: true,
+        }),
+        Err(error) => Err(Reason::Backup(error)),
+    }
+}
