@@ -14,4 +14,4 @@ pub use form::Form;
 pub use position::Position;
 pub use script::text_begin;
 pub use shown::{Shown, ShownAs};
-pub use source::Source;
+pub use source::{Addition, Source};

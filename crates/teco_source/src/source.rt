@@ -1,5 +1,5 @@
 //! Sources of TECO texts, with their names.
-ghost use Rattle.std.specs.Prelude.{◌≡◌, drop, IfOk};
+ghost use Rattle.std.specs.Prelude.{◌≡◌, ◌++◌, drop, IfOk};
 ghost use Rattle.teco_source.specs.Scripts.{text_begin as text_begin_of};
 ghost use Rattle.teco_source.specs.Source.{said};
 
@@ -19,7 +19,32 @@ pub struct Source {
     form: Form,
     // where in the bytes the text begins: behind the first line of a script
     begin: usize,
+    // what else says a part of the text, in the order of their parts
+    others: Vec<Part>,
     text: Vec<u8>,
+}
+
+// A file or a word that says a part of a text.
+#[derive(Drop)]
+struct Part {
+    name: String,
+    bytes: Vec<u8>,
+    form: Form,
+    // the place of the text where what it says begins
+    start: usize,
+}
+
+/// A file or a word that says a part of a text, and what stands before that part and behind it.
+#[derive(Drop)]
+pub struct Addition<'a> {
+    /// What messages call it by.
+    pub name: &'a str,
+    pub bytes: Vec<u8>,
+    pub form: Form,
+    /// What the text has before that part. It stands nowhere in the bytes.
+    pub front: &'a [u8],
+    /// What the text has behind that part. It stands nowhere in the bytes.
+    pub end: &'a [u8],
 }
 
 impl Model for Source {
@@ -43,6 +68,7 @@ impl Source {
             bytes,
             form,
             begin: 0,
+            others: Vec::new(alloc),
             text,
         })
     }
@@ -65,8 +91,29 @@ impl Source {
             bytes,
             form,
             begin,
+            others: Vec::new(alloc),
             text,
         })
+    }
+
+    /// The source with one part more, behind the others. Takes memory for the part and its name.
+    pub fn with(mut self, alloc: Global, added: Addition<'_>) -> Result<Source, AllocError>
+        ensures { IfOk result (λ source. source
+            ≡ self ++ added.entry.front.now
+            ++ said added.entry.form added.entry.bytes.items ++ added.entry.end.now) }
+    {
+        let said = added.form.read(alloc, &added.bytes)?;
+        self.text.extend_from_slice(added.front)?;
+        let start = self.text.len();
+        self.text.extend_from_slice(&said)?;
+        self.text.extend_from_slice(added.end)?;
+        self.others.push(Part {
+            name: String::from_str(alloc, added.name)?,
+            bytes: added.bytes,
+            form: added.form,
+            start,
+        })?;
+        Ok(self)
     }
 
     /// The source with so many ESC more at the end of its text, which stand nowhere in its bytes.
@@ -77,9 +124,27 @@ impl Source {
         Ok(self)
     }
 
+    /// How it says ESC.
+    pub fn form(&self) -> Form {
+        self.form
+    }
+
     /// What messages call it by.
     pub fn name(&self) -> &str {
         self.name.as_str()
+    }
+
+    /// What messages call by what says a place of its text.
+    pub fn name_at(&self, place: usize) -> &str {
+        match self.part_at(place) {
+            Some(part) => part.name.as_str(),
+            None => self.name(),
+        }
+    }
+
+    // The last part that begins at a place of its text or before it.
+    fn part_at(&self, place: usize) -> Option<&Part> {
+        self.others.iter().rfind(|part| part.start <= place)
     }
 
     /// The text that it says.
@@ -89,19 +154,28 @@ impl Source {
         &self.text
     }
 
-    // Where in its bytes a place of its text is.
-    fn offset(&self, place: usize) -> usize {
+    // The bytes that say a place of its text, and where in them it is.
+    fn spot(&self, place: usize) -> (&[u8], usize) {
+        if let Some(part) = self.part_at(place) {
+            let at = part
+                .form
+                .place_in(&part.bytes, place.saturating_sub(part.start));
+            return (&part.bytes, at);
+        }
         let behind = self.bytes.get(self.begin..).unwrap_or(&[]);
-        self.begin.saturating_add(self.form.place_in(behind, place))
+        let at = self.begin.saturating_add(self.form.place_in(behind, place));
+        (&self.bytes, at)
     }
 
-    /// The position of a place of its text.
+    /// The position of a place of its text, in what says it.
     pub fn position(&self, place: usize) -> Position {
-        Position::of(&self.bytes, self.offset(place))
+        let (bytes, at) = self.spot(place);
+        Position::of(bytes, at)
     }
 
     /// The line in which a place of its text stands.
     pub fn excerpt(&self, place: usize) -> Excerpt<'_> {
-        Excerpt::of(&self.bytes, self.offset(place))
+        let (bytes, at) = self.spot(place);
+        Excerpt::of(bytes, at)
     }
 }
