@@ -17,6 +17,8 @@ pub enum Role {
     Zero,
     /// Another number, operator or parenthesis, or a place of the machine's.
     Number,
+    /// `H` or `^Y`
+    Range,
     /// `^S`
     LastLength,
     /// `Q`
@@ -46,6 +48,16 @@ pub enum Role {
     Other,
 }
 
+impl Role {
+    // Is it a part of the arguments of what comes behind it?
+    fn is_argument(self) -> bool {
+        matches!(
+            self,
+            Role::Comma | Role::Zero | Role::Number | Role::Range | Role::LastLength | Role::Saved
+        )
+    }
+}
+
 /// An element of a text, as far as hints go.
 #[derive(Clone, Copy)]
 pub struct Sign {
@@ -66,9 +78,18 @@ pub struct Body {
     pub searches: bool,
     /// `R`, or `0L`.
     pub goes_back: bool,
-    /// `L` or `K`.
+    /// `L` or `K`, with no range.
     pub moves_lines: bool,
+    /// `m,nK`, as `HK`.
+    pub kills_range: bool,
+    /// `P`.
     pub turns_pages: bool,
+    /// `A` alone.
+    pub appends: bool,
+    /// `J`, but for `QQJ`.
+    pub jumps: bool,
+    /// An iteration whose count is the number of a register.
+    pub counts_by_register: bool,
     /// `X`.
     pub copies: bool,
     /// `G`.
@@ -97,6 +118,7 @@ fn role_of_number(kind: &Kind, text: &[u8]) -> Role {
         Kind::Argument(Argument::Comma) => Role::Comma,
         Kind::Argument(Argument::Digits) if text == b"0".as_slice() => Role::Zero,
         Kind::Value(Value::LastLength) => Role::LastLength,
+        Kind::Value(Value::Whole | Value::LastText) => Role::Range,
         Kind::Query(Query::Number(_)) => Role::Saved,
         Kind::Argument(_) | Kind::Value(_) => Role::Number,
         _ => Role::Other,
@@ -182,15 +204,28 @@ fn sign_of(found: &Element<'_>) -> Sign {
     }
 }
 
+// What the arguments before an element are.
+#[derive(Clone, Copy)]
+struct Arguments {
+    // the last of them
+    last: Option<Role>,
+    // are they two?
+    is_range: bool,
+}
+
 impl Body {
-    // One more element of it.
-    fn note(&mut self, role: Role, is_behind_zero: bool) {
+    // One more element of it, behind these arguments.
+    fn note(&mut self, role: Role, arguments: Arguments) {
         match role {
             Role::Search => self.searches = true,
             Role::Back => self.goes_back = true,
-            Role::Lines if is_behind_zero => self.goes_back = true,
+            Role::Lines if arguments.last == Some(Role::Zero) => self.goes_back = true,
+            Role::Kill if arguments.is_range => self.kills_range = true,
             Role::Lines | Role::Kill => self.moves_lines = true,
+            Role::Jump if arguments.last != Some(Role::Saved) => self.jumps = true,
             Role::NextPage => self.turns_pages = true,
+            Role::Character if arguments.last.is_none() => self.appends = true,
+            Role::Begin if arguments.last == Some(Role::Saved) => self.counts_by_register = true,
             Role::Copy => self.copies = true,
             Role::Get => self.gets = true,
             _ => {}
@@ -249,7 +284,7 @@ impl Walk {
         match sign.role {
             Role::Comma => self.has_comma = true,
             Role::Saved => self.has_saved = true,
-            Role::Zero | Role::Number | Role::LastLength => {}
+            Role::Zero | Role::Number | Role::Range | Role::LastLength => {}
             role => {
                 self.has_comma = false;
                 self.has_saved = false;
@@ -259,14 +294,23 @@ impl Walk {
         }
     }
 
+    // What the arguments are before the next element.
+    fn arguments(&self) -> Arguments {
+        let last = match self.around.before {
+            Some(before) if before.role.is_argument() => Some(before.role),
+            _ => None,
+        };
+        Arguments {
+            last,
+            is_range: self.has_comma || last == Some(Role::Range),
+        }
+    }
+
     // An element is passed.
     fn pass(&mut self, sign: Sign) {
-        let is_behind_zero = match self.around.before {
-            Some(before) => before.role == Role::Zero,
-            None => false,
-        };
+        let arguments = self.arguments();
         for body in self.open.as_mut_slice().iter_mut() {
-            body.note(sign.role, is_behind_zero);
+            body.note(sign.role, arguments);
         }
         self.pass_bracket(sign.role);
         self.pass_argument(sign);

@@ -3,7 +3,7 @@ use crate::note::Note;
 use teco_base::Code;
 
 /// All codes.
-const CODES: [Code; 27] = [
+pub const CODES: [Code; 27] = [
     Code::Arg,
     Code::Nac,
     Code::Nca,

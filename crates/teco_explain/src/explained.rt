@@ -2,12 +2,12 @@
 use crate::codes::note_of_code;
 use crate::faults::{code_at, flaw_of_library};
 use crate::hints::hint;
-use crate::places::text_begin_in;
+use crate::places::{place_in, text_begin_in};
 use crate::refusals::{note_of_refusal, number_of};
 use std::{fmt, str};
 use teco_base::{Code, Reg};
-use teco_source::{Position, Shown, Source};
-use teco_verifier::Refusal;
+use teco_source::{Shown, Source};
+use teco_verifier::{Refusal, Rules};
 
 /// Why a library, or a macro of it, is refused, where in its source, and what usually mends it.
 #[derive(Clone, Copy)]
@@ -18,6 +18,8 @@ pub struct Explained<'a> {
     /// The register in whose text the place is; none where it is one of the file's.
     pub register: Option<Reg>,
     pub place: usize,
+    /// The edition of the rules that refuses it.
+    pub rules: Rules,
 }
 
 // The three letters of a code.
@@ -28,18 +30,7 @@ fn letters(code: Code) -> &'static str {
 impl Explained<'_> {
     // The place in the text that the file says.
     fn place_in_file(&self) -> Option<usize> {
-        match self.register {
-            None => Some(self.place),
-            Some(register) => {
-                let begin = text_begin_in(self.source.text(), register)?;
-                Some(begin.saturating_add(self.place))
-            }
-        }
-    }
-
-    /// The position of the place in the file, if the file says it.
-    pub fn position(&self) -> Option<Position> {
-        Some(self.source.position(self.place_in_file()?))
+        place_in(self.source.text(), self.register, self.place)
     }
 
     // The text of the file from where the register's begins, whose places are the register's.
@@ -71,12 +62,13 @@ impl Explained<'_> {
 
 impl fmt::Display for Explained<'_> {
     fn fmt<W: fmt::Write>(&self, f: &mut fmt::Formatter<W>) -> fmt::Result {
-        let name = Shown(self.source.name().as_bytes());
         let number = number_of(self.why);
         let note = note_of_refusal(self.why);
         let Some(place) = self.place_in_file() else {
+            let name = Shown(self.source.name().as_bytes());
             return write!(f, "{name}: refused X{number}: {}", note.summary);
         };
+        let name = Shown(self.source.name_at(place).as_bytes());
         let position = self.source.position(place);
         writeln!(
             f,
@@ -85,7 +77,7 @@ impl fmt::Display for Explained<'_> {
         )?;
         writeln!(f, "{}", self.source.excerpt(place))?;
         self.detail(f)?;
-        let remedy = hint(self.why, self.text(), self.place).unwrap_or(note.remedy);
+        let remedy = hint(self.why, self.text(), self.place, self.rules).unwrap_or(note.remedy);
         write!(f, "  {remedy}")
     }
 }

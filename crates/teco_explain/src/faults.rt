@@ -12,9 +12,7 @@ pub fn flaw_of_library(library: &[u8], place: usize) -> &'static str {
         return "it ends too early";
     }
     match element(library, place) {
-        Err(Code::Utc) => {
-            "a text that begins here isn't closed; where $ was meant as ESC, name the file .tes or give --esc '$'"
-        }
+        Err(Code::Utc) => "a text that begins here isn't closed",
         Err(_) => "no command begins here; a macro's text goes into a register, as in @^UA~..~",
         Ok(None) => "it ends too early",
         Ok(Some(found)) => flaw_of(&found.kind, found.colons, place),

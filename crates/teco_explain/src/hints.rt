@@ -1,63 +1,131 @@
 //! Hints for macros that are refused in the form that comes to mind first.
 use crate::around::{Around, Body, Role, Sign};
-use teco_verifier::Refusal;
+use teco_verifier::{Refusal, Rules};
 
-/// What usually mends a refusal of this kind at a place of a text, where the text has one of the
-/// common forms.
-pub fn hint(why: Refusal, text: &[u8], place: usize) -> Option<&'static str> {
+/// What usually mends a refusal of this kind at a place of a text by an edition of the rules, where
+/// the text has one of the common forms.
+pub fn hint(why: Refusal, text: &[u8], place: usize, rules: Rules) -> Option<&'static str> {
     let around = Around::of(text, place);
     match why {
-        Refusal::Fall => around.body.and_then(of_fall),
+        Refusal::Fall => around.body.and_then(|body| of_fall(body, rules)),
         Refusal::Bound => around.body.and_then(of_bound),
-        Refusal::Place => of_place(&around),
-        Refusal::Deletion => of_deletion(&around),
+        Refusal::Place => of_place(&around, rules),
+        Refusal::Deletion => of_deletion(&around, rules),
         Refusal::Pending | Refusal::Argument => of_argument(&around),
         Refusal::Unverified => of_unverified(&around),
         _ => None,
     }
 }
 
-// An iteration without a count in which nothing is known to shrink.
-fn of_fall(body: Body) -> Option<&'static str> {
-    if body.turns_pages {
+// One text for the first edition, and another for the second.
+fn by_edition(rules: Rules, first: &'static str, second: &'static str) -> &'static str {
+    match rules {
+        Rules::First => first,
+        Rules::Second => second,
+    }
+}
+
+// An iteration without a count in which nothing is known to shrink. What goes back is named before
+// what may not move on.
+fn of_fall(body: Body, rules: Rules) -> Option<&'static str> {
+    if body.counts_by_register {
         return Some(
-            "P is not known to move on. Edit with --pages each, which runs the macro on every \
-                page, or go through the pages with N or FN.",
+            "An iteration in this one has a register's number as its count, which may be up to \
+                2,147,483,647. Give it a fixed count and leave it by ; before, as in 80<..0;..>, \
+                and then give this one a count too, as in Z<..>.",
         );
+    }
+    if body.turns_pages {
+        return Some(of_pages(rules));
+    }
+    if body.jumps {
+        return Some(of_jumps(rules));
     }
     if body.searches && body.goes_back {
+        return Some(of_search_back(rules));
+    }
+    if body.kills_range {
         return Some(
-            "The search moves on, but 0L or R goes back before what it found. Write 0K or 0T \
-                without the 0L, as in Sfoo$;0KK, or give a count, as in JZ<..>.",
+            "HK and m,nK may have nothing to delete. Test the room before, as in .-Z;HK, and \
+                delete a character too where that is not enough, as in .-Z;DHK.",
         );
     }
-    if body.moves_lines {
+    if body.appends {
         return Some(
-            "L and K are not known to move on, since they may stay at the end. Give a count that \
-                is surely enough and test first, as in JZ<.-Z;..L>.",
+            "A may have no page to append, and is not known to move on. Pass or delete a \
+                character in each turn, as in .-Z;CA.",
         );
     }
-    None
+    body.moves_lines.then_some(of_lines(rules))
+}
+
+// An iteration with P.
+fn of_pages(rules: Rules) -> &'static str {
+    by_edition(
+        rules,
+        "P is not known to move on. Edit with --pages each, which runs the macro on every page, or \
+            go through the pages with N or FN.",
+        "P moves on only where text is left: test it before, as in .-Z;P. Or edit with --pages \
+            each, which runs the macro on every page, or go through the pages with N or FN.",
+    )
+}
+
+// An iteration with J.
+fn of_jumps(rules: Rules) -> &'static str {
+    by_edition(
+        rules,
+        "J goes back in each turn. Go on from where the last turn ended, or give a count that is \
+            surely enough, as in Z<..>.",
+        "J goes back in each turn. Delete a character behind it, as in J.-Z;D, go on from where the \
+            last turn ended, or give a count that is surely enough, as in Z<..>.",
+    )
+}
+
+// An iteration with a search, and with what goes back.
+fn of_search_back(rules: Rules) -> &'static str {
+    by_edition(
+        rules,
+        "The search moves on, but 0L or R goes back before what it found. Write 0K or 0T without \
+            the 0L, as in Sfoo$;0KK, or give a count, as in JZ<..>.",
+        "The search moves on, but 0L or R goes back before what it found. Pass the line again by L \
+            or K, as in Sfoo$;0L..L, or give a count, as in JZ<..>.",
+    )
+}
+
+// An iteration with L or K.
+fn of_lines(rules: Rules) -> &'static str {
+    by_edition(
+        rules,
+        "L and K are not known to move on, since they may stay at the end. Give a count that is \
+            surely enough and test first, as in JZ<.-Z;..L>.",
+        "L and K move on only where text is left. Test that in each turn, by .-Z; behind L or \
+            before K, or give a count that is surely enough and test first, as in JZ<.-Z;..L>.",
+    )
 }
 
 // An iteration in which what is held grows faster and faster.
 fn of_bound(body: Body) -> Option<&'static str> {
     if body.copies && body.gets {
         return Some(
-            "X and G of one register in one iteration can double the text in each turn. Move text \
-                a character at a time, or insert a text of a fixed length.",
+            "X and G of one register in one iteration can double the text in each turn. Insert at \
+                most so many characters of it, as in 0UI80<QIQB\"L0;'QIQBI$%I$> for B, or a text of \
+                a fixed length.",
         );
     }
     None
 }
 
 // A place that may be outside the buffer.
-fn of_place(around: &Around) -> Option<&'static str> {
+fn of_place(around: &Around, rules: Rules) -> Option<&'static str> {
     if around.has_saved_range {
-        return Some(
+        return Some(by_edition(
+            rules,
             "A place that a register keeps counts for QQJ alone, and not in a range. Go there \
                 with QQJ and delete a line or a character a turn, behind .-Z; as the test.",
-        );
+            "A place that .UQ kept bounds a range only if every way here comes by that .UQ and \
+                nothing was deleted or replaced since. Else go there with QQ:J$ and delete a line or a \
+                character a turn, behind .-Z; as the test.",
+        ));
     }
     match (around.before, around.here) {
         (Some(before), Some(here)) if before.role == Role::Saved && here.role == Role::Jump => Some(
@@ -69,12 +137,15 @@ fn of_place(around: &Around) -> Option<&'static str> {
 }
 
 // A deletion that may be too long.
-fn of_deletion(around: &Around) -> Option<&'static str> {
+fn of_deletion(around: &Around, rules: Rules) -> Option<&'static str> {
     if around.tests_character {
-        return Some(
+        return Some(by_edition(
+            rules,
             "A test of a character says nothing about the room. Test the room too: .-Z; or \
                 .-Z\"L..' before D, and .\"G..' before -D.",
-        );
+            "A test of a character says that this one is there, and nothing of others. Test the \
+                room too: .-Z; or .-Z\"L..' before D, and .\"G..' before -D.",
+        ));
     }
     match around.before {
         Some(before) if before.role == Role::LastLength => Some(

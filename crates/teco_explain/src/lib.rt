@@ -4,18 +4,26 @@
 
 mod around;
 mod codes;
+mod commands;
 mod explained;
 mod faults;
 mod hints;
+mod near;
 mod note;
 mod outline;
 mod places;
+mod plain;
 mod refusals;
+mod slips;
 
-pub use codes::{code_named, note_of_code};
+pub use codes::{CODES, code_named, note_of_code};
+pub use commands::{Command, SECTIONS, Section, command_named};
 pub use explained::Explained;
 pub use hints::hint;
+pub use near::near_words;
 pub use note::Note;
 pub use outline::Outline;
-pub use places::text_begin_in;
-pub use refusals::{note_of_refusal, number_of, refusal_numbered};
+pub use places::{place_in, position_in, text_begin_in};
+pub use plain::is_plain;
+pub use refusals::{REFUSALS, note_of_refusal, number_of, refusal_numbered};
+pub use slips::{Modes, Slips};

@@ -9,9 +9,13 @@ use teco_source::ShownAs;
 /// How far a bracket indents what stands in it.
 const STEP: usize = 2;
 
+/// How far a line is indented at most, so that what is written is no longer than a multiple of the
+/// text, however deeply its brackets are nested.
+const MOST: usize = 40;
+
 /// A text as its elements: those that only make arguments stand on one line with the command that
-/// takes them, and what an iteration, a conditional or a macro's text holds is indented. A terminal
-/// can show it.
+/// takes them, and what an iteration, a conditional or a macro's text holds is indented, up to twenty
+/// times. A terminal can show it.
 #[derive(Clone, Copy)]
 pub struct Outline<'a> {
     pub text: &'a [u8],
@@ -81,6 +85,7 @@ fn write_line<W: fmt::Write>(
     indent: usize,
     line: ShownAs<'_>,
 ) -> fmt::Result {
+    let indent = indent.min(MOST);
     writeln!(f, "{:indent$}{line}", "")
 }
 

@@ -3,6 +3,7 @@ use teco_base::Reg;
 use teco_lex::element;
 use teco_model::kind::{Command, Storage};
 use teco_model::{Element, Kind};
+use teco_source::{Position, Source};
 
 // The register that an element gives a text, and the place where that text begins.
 fn text_given(found: &Element<'_>) -> Option<(Reg, usize)> {
@@ -38,4 +39,22 @@ pub fn text_begin_in(library: &[u8], register: Reg) -> Option<usize> {
         }
     }
     None
+}
+
+/// The place in the text of a library file that a place in the text of a register is, if the file
+/// says it; the same where no register is named.
+pub fn place_in(library: &[u8], register: Option<Reg>, place: usize) -> Option<usize> {
+    match register {
+        None => Some(place),
+        Some(register) => {
+            let begin = text_begin_in(library, register)?;
+            Some(begin.saturating_add(place))
+        }
+    }
+}
+
+/// The position in a library file of a place in the text of a register, if the file says it; of a
+/// place in the file's own text where no register is named.
+pub fn position_in(source: &Source, register: Option<Reg>, place: usize) -> Option<Position> {
+    Some(source.position(place_in(source.text(), register, place)?))
 }

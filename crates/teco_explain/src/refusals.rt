@@ -3,7 +3,7 @@ use crate::note::Note;
 use teco_verifier::Refusal;
 
 /// All reasons, in the order of their numbers.
-const REFUSALS: [Refusal; 18] = [
+pub const REFUSALS: [Refusal; 18] = [
     Refusal::Library,
     Refusal::Fault,
     Refusal::Partner,
@@ -164,8 +164,9 @@ fn of_bounds(refusal: Refusal) -> Note {
         Refusal::Fall => Note {
             summary: "nothing is known to shrink from turn to turn",
             meaning: "An iteration without a count must come nearer to the end of the text in \
-                each turn: by a search, by C or D behind the test .-Z; and not by L or K, which \
-                may stay where they are.",
+                each turn: by a search, or by C or D behind the test .-Z; and not by L or K, which \
+                may stay where they are. By the second edition of the rules L, K and P count too \
+                where text is left.",
             example: "@^UA~<Ix$>~",
             remedy: "Give the iteration a count that is surely enough, as in Z<..>, or move by \
                 what a search found and don't go back before it.",

@@ -9,7 +9,7 @@ use teco_explain::{
     refusal_numbered,
 };
 use teco_source::{Form, Source};
-use teco_verifier::Refusal;
+use teco_verifier::{Refusal, Rules};
 
 // A name, and the code that it names.
 struct Named(&'static str, Option<Code>);
@@ -121,26 +121,124 @@ fn notes_are_printed(rt: HostRuntime) {
     expect_all(&rt, rt.alloc(), &PRINTED);
 }
 
-// A reason, a text, a place, and the front of the hint; none where there is no hint.
-struct Hinted(Refusal, &'static str, usize, &'static str);
+// A reason, an edition of the rules, a text, a place, and the front of the hint; none where there is
+// no hint.
+struct Hinted(Refusal, Rules, &'static str, usize, &'static str);
 
-const HINTS: [Hinted; 10] = [
-    Hinted(Refusal::Fall, "J<I> \x1bL.-Z;>", 11, "L and K"),
-    Hinted(Refusal::Fall, "J<Sfoo\x1b;0LK>", 11, "The search moves on"),
-    Hinted(Refusal::Fall, "J<.-Z;I# \x1bP>", 11, "P is not known"),
-    Hinted(Refusal::Fall, "<Ix\x1b>", 4, ""),
-    Hinted(Refusal::Place, ".UBQB,.K", 7, "A place that a register"),
-    Hinted(Refusal::Place, ".UB0KQBJ", 7, "A place that .UQ"),
-    Hinted(Refusal::Deletion, "0A-32\"ED'", 7, "A test of a character"),
-    Hinted(Refusal::Bound, "3<HXBGB>", 7, "X and G"),
-    Hinted(Refusal::Pending, ".-Z\"L%A'", 7, "%, :C"),
-    Hinted(Refusal::Unverified, "Sfoo\x1b", 0, "Outside an iteration"),
+const HINTS: [Hinted; 23] = [
+    Hinted(
+        Refusal::Fall,
+        Rules::First,
+        "J<I> \x1bL.-Z;>",
+        11,
+        "L and K are not known",
+    ),
+    Hinted(
+        Refusal::Fall,
+        Rules::Second,
+        "J<I> \x1bL>",
+        7,
+        "L and K move on only",
+    ),
+    Hinted(
+        Refusal::Fall,
+        Rules::First,
+        "J<Sfoo\x1b;0LK>",
+        11,
+        "The search moves on",
+    ),
+    Hinted(
+        Refusal::Fall,
+        Rules::Second,
+        "J<Sfoo\x1b;3RK>",
+        11,
+        "The search moves on",
+    ),
+    Hinted(
+        Refusal::Fall,
+        Rules::First,
+        "J<.-Z;I# \x1bP>",
+        11,
+        "P is not known",
+    ),
+    Hinted(Refusal::Fall, Rules::Second, "J<P>", 3, "P moves on only"),
+    Hinted(Refusal::Fall, Rules::First, "<Ix\x1b>", 4, ""),
+    Hinted(Refusal::Fall, Rules::Second, "<Ix\x1b>", 4, ""),
+    Hinted(Refusal::Fall, Rules::First, "<HK>", 3, "HK and m,nK"),
+    Hinted(Refusal::Fall, Rules::First, "<B,ZK>", 5, "HK and m,nK"),
+    Hinted(Refusal::Fall, Rules::First, "<A>", 2, "A may have no page"),
+    Hinted(Refusal::Fall, Rules::First, "<0A>", 3, ""),
+    Hinted(
+        Refusal::Fall,
+        Rules::First,
+        "<J.-Z;HK>",
+        8,
+        "J goes back in each turn. Go on",
+    ),
+    Hinted(
+        Refusal::Fall,
+        Rules::Second,
+        "<J.-Z;HK>",
+        8,
+        "J goes back in each turn. Delete",
+    ),
+    Hinted(
+        Refusal::Fall,
+        Rules::First,
+        "J<QA<Ix\x1b>L>",
+        10,
+        "An iteration in this one",
+    ),
+    Hinted(
+        Refusal::Place,
+        Rules::First,
+        ".UBQB,.K",
+        7,
+        "A place that a register",
+    ),
+    Hinted(
+        Refusal::Place,
+        Rules::Second,
+        ".UBQB,.K",
+        7,
+        "A place that .UQ kept bounds",
+    ),
+    Hinted(
+        Refusal::Place,
+        Rules::First,
+        ".UB0KQBJ",
+        7,
+        "A place that .UQ kept counts",
+    ),
+    Hinted(
+        Refusal::Deletion,
+        Rules::First,
+        "0A-32\"ED'",
+        7,
+        "A test of a character says nothing",
+    ),
+    Hinted(
+        Refusal::Deletion,
+        Rules::Second,
+        "0A-32\"E3D'",
+        8,
+        "A test of a character says that",
+    ),
+    Hinted(Refusal::Bound, Rules::First, "3<HXBGB>", 7, "X and G"),
+    Hinted(Refusal::Pending, Rules::First, ".-Z\"L%A'", 7, "%, :C"),
+    Hinted(
+        Refusal::Unverified,
+        Rules::First,
+        "Sfoo\x1b",
+        0,
+        "Outside an iteration",
+    ),
 ];
 
 impl Case for Hinted {
     fn holds(&self, _alloc: Global) -> Option<bool> {
-        let Hinted(why, text, place, front) = *self;
-        let found = hint(why, text.as_bytes(), place).unwrap_or("");
+        let Hinted(why, rules, text, place, front) = *self;
+        let found = hint(why, text.as_bytes(), place, rules).unwrap_or("");
         Some(found.starts_with(front) && found.is_empty() == front.is_empty())
     }
 }
@@ -180,6 +278,45 @@ impl Case for Outlined {
 #[test]
 fn texts_are_laid_out(rt: HostRuntime) {
     expect_all(&rt, rt.alloc(), &OUTLINES);
+}
+
+// A text of so many iterations in one another.
+fn nested(alloc: Global, count: usize) -> Result<Vec<u8>, AllocError> {
+    let mut text = Vec::new(alloc);
+    for _ in 0..count {
+        text.extend_from_slice(b"1<")?;
+    }
+    for _ in 0..count {
+        text.push(b'>')?;
+    }
+    Ok(text)
+}
+
+// How long the longest line is that so many iterations in one another are laid out in.
+fn longest_line(alloc: Global, count: usize) -> Option<usize> {
+    let text = nested(alloc, count).ok()?;
+    let outline = Outline {
+        text: &text,
+        mark: b'$',
+    };
+    let lines = format!(in alloc; "{outline}").ok()?;
+    lines.as_str().split("\n").map(|line| line.len()).max()
+}
+
+// Iterations in one another, and how long the longest line is then.
+struct Deep(usize, usize);
+
+const DEEP: [Deep; 4] = [Deep(1, 2), Deep(20, 40), Deep(21, 42), Deep(500, 42)];
+
+impl Case for Deep {
+    fn holds(&self, alloc: Global) -> Option<bool> {
+        Some(longest_line(alloc, self.0)? == self.1)
+    }
+}
+
+#[test]
+fn lines_are_indented_to_an_end(rt: HostRuntime) {
+    expect_all(&rt, rt.alloc(), &DEEP);
 }
 
 // A library, a reason, the name of a register, or none, a place, and what is said.
@@ -255,6 +392,7 @@ impl Said {
             why: self.1,
             register: self.register(),
             place: self.3,
+            rules: Rules::First,
         };
         Ok(format!(in alloc; "{explained}")?)
     }

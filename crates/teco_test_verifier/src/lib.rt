@@ -22,3 +22,5 @@ mod subjects;
 mod tables;
 #[cfg(test)]
 mod verdicts;
+#[cfg(test)]
+mod words;
