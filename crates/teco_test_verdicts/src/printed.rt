@@ -7,8 +7,8 @@ use std::test::Fail;
 use teco_base::Reg;
 use teco_poly::Poly;
 use teco_verdicts::{
-    Console, Escape, Outcome, Premise, Request, Verdict, check_macro, verify_library_as_json,
-    verify_macro, verify_macro_as_json,
+    Console, Editions, Escape, Origin, Outcome, Premise, Request, Verdict, check_macro,
+    editions_for, verify_library_as_json, verify_macro, verify_macro_as_json,
 };
 use teco_verifier::{Refusal as Why, Rules};
 
@@ -26,9 +26,9 @@ fn kept(rt: &HostRuntime) -> Console<Vec<u8>, Vec<u8>> {
 fn library_file<'a>(rt: &HostRuntime, name: &'a str, text: &[u8]) -> Result<Request<'a>, Fail> {
     fs::write(rt, name, text)?;
     Ok(Request {
-        library: name,
+        library: Origin::of_file(name),
         escape: Escape::Mark(b'$'),
-        rules: Rules::First,
+        editions: Editions::Only(Rules::First),
     })
 }
 
@@ -40,23 +40,29 @@ fn register(rt: &impl Abort, name: u8) -> Reg {
     register
 }
 
-/// A size and commands, and what is said of the texts that they hold for.
-const PREMISES: &[(&[u8], &[u8], &str)] = &[
+/// A size and commands, how many characters a library takes, and what is said of the texts that they
+/// hold for.
+const PREMISES: &[(&[u8], &[u8], u64, &str)] = &[
     (
         b"1 + 2*N",
         b"8 + 4*N",
-        "holds for texts up to N = 134,217,727 characters",
+        12,
+        "holds for texts up to 134,217,715 characters (N up to 134,217,727, of which the macro takes 12)",
     ),
     (
         b"12 + 13*N",
         b"7 + 9*N",
-        "holds for texts up to N = 20,648,880 characters",
+        20_648_880,
+        "holds for texts up to 0 characters (N up to 20,648,880, of which the macro takes 20,648,880)",
     ),
-    (b"2147483647 + N", b"4294967301", "holds for no text"),
+    (b"12 + 13*N", b"7 + 9*N", 20_648_881, "holds for no text"),
+    (b"2147483647 + N", b"4294967301", 6, "holds for no text"),
+    (b"268435456 + N", b"1", 0, "holds for no text"),
     (
         b"N",
         b"5",
-        "holds for texts up to N = 268,435,456 characters",
+        1000,
+        "holds for texts up to 268,434,456 characters (N up to 268,435,456, of which the macro takes 1,000)",
     ),
 ];
 
@@ -69,16 +75,18 @@ fn poly(rt: &impl Abort, text: &[u8]) -> Poly {
 }
 
 // A premise is said so.
-fn expect_premise(rt: &impl Abort, alloc: Global, size: &[u8], commands: &[u8], said: &str) {
-    let premise = Premise::of(&poly(rt, size), &poly(rt, commands));
+fn expect_premise(rt: &impl Abort, alloc: Global, premise: Premise, said: &str) {
     let printed = format!(in alloc; "{premise}").expect(rt, "memory");
     expect_text(rt, printed.as_bytes(), said);
+    let is_empty = said == "holds for no text";
+    expect(rt, premise.is_empty() == is_empty, said);
 }
 
 #[test]
 fn premises_are_the_last(rt: HostRuntime) {
-    for (size, commands, said) in PREMISES.iter() {
-        expect_premise(&rt, rt.alloc(), size, commands, said);
+    for (size, commands, taken, said) in PREMISES.iter() {
+        let premise = Premise::of(&poly(&rt, size), &poly(&rt, commands), *taken);
+        expect_premise(&rt, rt.alloc(), premise, said);
     }
 }
 
@@ -187,7 +195,7 @@ fn expect_check(
 // The certificate of a macro that the second edition alone accepts.
 fn second_certificate(abort: &impl Abort, rt: &HostRuntime, first: Request<'_>) -> Vec<u8> {
     let second = Request {
-        rules: Rules::Second,
+        editions: Editions::Only(Rules::Second),
         ..first
     };
     let is_refused = certificate_of(rt, first).is_none();
@@ -203,7 +211,7 @@ fn second_certificate(abort: &impl Abort, rt: &HostRuntime, first: Request<'_>) 
 fn certificates_are_of_an_edition(rt: HostRuntime) -> Result<(), Fail> {
     let request = library_file(&rt, "somleut_tools_rules", b"@^UA/J<I> $L.-Z;>/")?;
     let second = Request {
-        rules: Rules::Second,
+        editions: Editions::Only(Rules::Second),
         ..request
     };
     let certificate = second_certificate(&rt, &rt, request);
@@ -213,8 +221,104 @@ fn certificates_are_of_an_edition(rt: HostRuntime) -> Result<(), Fail> {
     fs::write(&rt, name, certificate.as_slice())?;
     expect_check(&rt, &rt, second, name, (Outcome::Done, "accepted\n"));
     expect_check(&rt, &rt, request, name, (Outcome::Refused, "refused X18\n"));
+    let best = Request {
+        editions: Editions::Best,
+        ..request
+    };
+    expect_check(&rt, &rt, best, name, (Outcome::Done, "accepted\n"));
     fs::remove_file(&rt, "somleut_tools_rules")?;
     fs::remove_file(&rt, name)?;
+    Ok(())
+}
+
+// The certificate of the best edition begins so.
+fn expect_best(abort: &impl Abort, rt: &HostRuntime, text: &[u8], front: &str) -> Result<(), Fail> {
+    let name = "somleut_tools_best";
+    let request = Request {
+        editions: editions_for(None, true),
+        ..library_file(rt, name, text)?
+    };
+    let certificate = certificate_of(rt, request);
+    let is_so = match &certificate {
+        None => front.is_empty(),
+        Some(text) => !front.is_empty() && text.starts_with(front.as_bytes()),
+    };
+    expect(abort, is_so, front);
+    fs::remove_file(rt, name)?;
+    Ok(())
+}
+
+// The first edition is taken where it promises something, or where the second promises nothing more.
+#[test]
+fn the_best_edition_is_taken(rt: HostRuntime) -> Result<(), Fail> {
+    let first = "TECO-CERT 1\nentry A\nneeds -\n";
+    let second = "TECO-CERT 1\nentry A\nrules 2\n";
+    expect_best(&rt, &rt, b"@^UA/J<Sfoo$;I!$>/", first)?;
+    expect_best(&rt, &rt, b"@^UA/J<I> $L.-Z;>/", second)?;
+    expect_best(&rt, &rt, b"@^UA/J2147483647<I*$>/", first)?;
+    expect_best(&rt, &rt, b"@^UA/5C/", "")
+}
+
+// Where an edition is named it alone is taken, and the first where none is.
+#[test]
+fn editions_are_named(rt: HostRuntime) {
+    let named = editions_for(Some(Rules::Second), false);
+    let is_so = matches!(named, Editions::Only(Rules::Second));
+    expect(&rt, is_so, "the second edition");
+    let named = editions_for(Some(Rules::First), true);
+    let is_so = matches!(named, Editions::Only(Rules::First));
+    expect(&rt, is_so, "the first edition");
+    let unnamed = editions_for(None, false);
+    let is_so = matches!(unnamed, Editions::Only(Rules::First));
+    expect(&rt, is_so, "no edition");
+}
+
+/// A library whose macro A is accepted, and what is said of it.
+const TOLD: &[(&[u8], &str)] = &[
+    (
+        b"@^UA/J2147483647U0Q0<I*$>/",
+        "warning: the promise of A holds for no text: the count at 1:21 may be up to 2,147,483,647\n",
+    ),
+    (
+        b"@^UA/J1000<1000<1000<I*$>>>/",
+        "warning: the promise of A holds for no text: what is held, or the number of commands, \
+         is too large from the start\n",
+    ),
+    (
+        b"@^UA/J<Sfoo$;I!$>/",
+        "holds for texts up to 134,217,715 characters (N up to 134,217,727, of which the macro \
+         takes 12)\nsomleut_tools_told:1:8: finds foo in either case; 1^X before it makes it exact\n",
+    ),
+    (
+        b"@^UA/1^XJ<S^b$;>/",
+        "holds for texts up to 268,435,445 characters (N up to 268,435,456, of which the macro \
+         takes 11)\nsomleut_tools_told:1:11: ^b finds byte 2; for a caret write ^Q^\n",
+    ),
+];
+
+// This is said of the macro A of a library, which is accepted.
+fn expect_told(
+    abort: &impl Abort,
+    rt: &HostRuntime,
+    text: &[u8],
+    wanted: &str,
+) -> Result<(), Fail> {
+    let name = "somleut_tools_told";
+    let request = library_file(rt, name, text)?;
+    let mut console = kept(rt);
+    let outcome = verify_macro(rt, &mut console, request, Reg::default());
+    expect(abort, matches!(outcome, Ok(Outcome::Done)), wanted);
+    let (_, messages) = console.into_parts();
+    expect_text(abort, &messages, wanted);
+    fs::remove_file(rt, name)?;
+    Ok(())
+}
+
+#[test]
+fn promises_and_searches_are_told(rt: HostRuntime) -> Result<(), Fail> {
+    for (text, wanted) in TOLD.iter() {
+        expect_told(&rt, &rt, text, wanted)?;
+    }
     Ok(())
 }
 

@@ -3,29 +3,22 @@ ghost use Rattle.std.specs.Prelude.{◌≡◌, IfOk};
 ghost use Rattle.teco_verdicts.specs.Certificates.{IsCertificate};
 ghost use Rattle.teco_verdicts.specs.declared.outcome.Outcome.TheVariants.{Done, Refused};
 
-use crate::claim::Claim;
+use crate::blame::tell_premise;
+use crate::claim::{Claim, edition_of, split_line};
 use crate::console::Console;
+use crate::dollars::tell_dollars;
+use crate::editions::{Editions, tell_edition};
 use crate::fault::AnswerFault;
 use crate::library::{Sourced, explained, read_library};
 use crate::outcome::Outcome;
 use crate::request::Request;
 use crate::verdict::Verdict;
-use crate::verifying::tell_premise;
 use std::io::{Input, Write};
 use std::rt::Files;
 use teco_base::Reg;
-use teco_base::bytes::LF;
 use teco_source::{Shown, Source};
 use teco_verifier::Rules;
 use teco_verify::{Refusal, Verified, verify_by};
-
-// The first line of a text, and what comes behind its end.
-fn split_line(text: &[u8]) -> (&[u8], &[u8]) {
-    match text.iter().position(|byte| *byte == LF) {
-        Some(at) if at < text.len() => (&text[..at], &text[at + 1..]),
-        _ => (text, &[]),
-    }
-}
 
 // A line of a certificate that isn't as it should be.
 #[derive(Clone, Copy)]
@@ -83,34 +76,19 @@ fn tell_difference<O: Write + Drop, E: Write + Drop>(
     }
 }
 
-// How many lines of a certificate stand before those of its needs, at most.
-const HEAD_LINES: usize = 4;
-
-// The edition of the rules that a certificate says it is of.
-fn edition_of(text: &[u8]) -> Rules {
-    let mut rest = text;
-    for _ in 0..HEAD_LINES {
-        let (line, behind) = split_line(rest);
-        if line == b"rules 2".as_slice() {
-            return Rules::Second;
-        }
-        rest = behind;
-    }
-    Rules::First
-}
-
-// The edition of the rules that a certificate says it is of, if it is another than this.
-fn other_edition(text: &[u8], rules: Rules) -> Option<Rules> {
-    match (edition_of(text), rules) {
-        (Rules::First, Rules::Second) => Some(Rules::First),
-        (Rules::Second, Rules::First) => Some(Rules::Second),
+// The edition of the rules that a certificate says it is of, if it is another than the one by which
+// it is checked.
+fn other_edition(text: &[u8], editions: Editions) -> Option<Rules> {
+    match (edition_of(text), editions) {
+        (Rules::First, Editions::Only(Rules::Second)) => Some(Rules::First),
+        (Rules::Second, Editions::Only(Rules::First)) => Some(Rules::Second),
         _ => None,
     }
 }
 
 // Says that a certificate is of the other edition of the rules, and with which option it is
 // checked.
-fn tell_edition<O: Write + Drop, E: Write + Drop>(
+fn tell_other_edition<O: Write + Drop, E: Write + Drop>(
     console: &mut Console<O, E>,
     name: &str,
     edition: Rules,
@@ -137,15 +115,17 @@ fn tell_wanted<O: Write + Drop, E: Write + Drop>(
     Ok(())
 }
 
-// Says why a macro of a source is refused.
+// Says why a macro of a source is refused by an edition of the rules.
 fn tell_refusal<O: Write + Drop, E: Write + Drop>(
     console: &mut Console<O, E>,
     source: &Source,
     refusal: &Refusal,
+    rules: Rules,
 ) {
-    if let Some(told) = explained(source, refusal) {
+    if let Some(told) = explained(source, refusal, rules) {
         console.say(told);
     }
+    tell_dollars(&mut console.voice, source);
 }
 
 // Says why a certificate is refused: the macro is, or a line is another.
@@ -155,10 +135,11 @@ fn tell_why<O: Write + Drop, E: Write + Drop>(
     entry: Reg,
     claim: &Claim<'_>,
 ) -> Result<(), AnswerFault> {
-    match verify_by(console.alloc, &sourced.library, entry, sourced.rules) {
+    let rules = claim.edition_among(sourced.editions);
+    match verify_by(console.alloc, &sourced.library, entry, rules) {
         Ok(verified) => tell_wanted(console, claim, &verified),
         Err(refusal) => {
-            tell_refusal(console, &sourced.source, &refusal);
+            tell_refusal(console, &sourced.source, &refusal, rules);
             Ok(())
         }
     }
@@ -178,8 +159,8 @@ pub fn refuse_claim<O: Write + Drop, E: Write + Drop>(
         return Err(AnswerFault::Memory);
     };
     console.answer(format_args!("{verdict}\n"))?;
-    match other_edition(&claim.bytes, sourced.rules) {
-        Some(edition) => tell_edition(console, claim.name, edition),
+    match other_edition(&claim.bytes, sourced.editions) {
+        Some(edition) => tell_other_edition(console, claim.name, edition),
         None => tell_why(console, sourced, entry, claim)?,
     }
     Ok(Outcome::Refused)
@@ -188,10 +169,12 @@ pub fn refuse_claim<O: Write + Drop, E: Write + Drop>(
 // Says that a certificate is accepted.
 fn tell_accepted<O: Write + Drop, E: Write + Drop>(
     console: &mut Console<O, E>,
+    sourced: &Sourced,
     verified: &Verified<'_>,
 ) -> Result<Outcome, AnswerFault> {
     console.answer("accepted\n")?;
-    tell_premise(&mut console.voice, verified);
+    tell_edition(&mut console.voice, sourced.editions, verified);
+    tell_premise(&mut console.voice, &sourced.source, verified)?;
     Ok(Outcome::Done)
 }
 
@@ -205,10 +188,10 @@ fn check_claim<O: Write + Drop, E: Write + Drop>(
     ensures { IfOk result (λ outcome. outcome ≡ Done
         → IsCertificate sourced.now.library entry claim.now.bytes.items) }
 {
-    match claim.accept(console.alloc, &sourced.library, entry, sourced.rules) {
+    match claim.accept(console.alloc, &sourced.library, entry, sourced.editions) {
         Ok(verified) => {
             verified.is_certified();
-            tell_accepted(console, &verified)
+            tell_accepted(console, sourced, &verified)
         }
         Err(refusal) => refuse_claim(console, sourced, entry, claim, refusal),
     }

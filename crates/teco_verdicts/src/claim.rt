@@ -4,15 +4,41 @@ ghost use Rattle.teco_base.specs.declared.TheConstants.{LIMIT};
 ghost use Rattle.teco_certificate.specs.Text.{certificate_text};
 ghost use Rattle.teco_verify.specs.Certified.{TakesDeclared};
 
+use crate::editions::Editions;
 use crate::fault::AnswerFault;
 use crate::files::read_file;
 use std::alloc::Global;
 use std::io::Input;
 use std::rt::Files;
 use teco_base::Reg;
+use teco_base::bytes::LF;
 use teco_library::Library;
 use teco_verifier::Rules;
-use teco_verify::{Refusal, Verified, check_certificate_by, verify_by};
+use teco_verify::{Refusal, Verified, check_certificate_by};
+
+/// The first line of a text, and what comes behind its end.
+pub fn split_line(text: &[u8]) -> (&[u8], &[u8]) {
+    match text.iter().position(|byte| *byte == LF) {
+        Some(at) if at < text.len() => (&text[..at], &text[at + 1..]),
+        _ => (text, &[]),
+    }
+}
+
+// How many lines of a certificate stand before those of its needs, at most.
+const HEAD_LINES: usize = 4;
+
+/// The edition of the rules that a certificate says it is of.
+pub fn edition_of(text: &[u8]) -> Rules {
+    let mut rest = text;
+    for _ in 0..HEAD_LINES {
+        let (line, behind) = split_line(rest);
+        if line == b"rules 2".as_slice() {
+            return Rules::Second;
+        }
+        rest = behind;
+    }
+    Rules::First
+}
 
 /// What a file says to be the certificate of a macro.
 #[derive(Drop)]
@@ -35,13 +61,22 @@ impl<'a> Claim<'a> {
         Ok(Claim { name, bytes })
     }
 
-    /// The macro that it is the certificate of by these rules, if that is the entry.
+    /// The edition by which it is checked, of these: the one that it says it is of, where there are
+    /// two.
+    pub fn edition_among(&self, editions: Editions) -> Rules {
+        match editions {
+            Editions::Only(rules) => rules,
+            Editions::Best => edition_of(&self.bytes),
+        }
+    }
+
+    /// The macro that it is the certificate of by one of these editions, if that is the entry.
     pub fn accept<'l>(
         &self,
         alloc: Global,
         library: &'l Library,
         entry: Reg,
-        rules: Rules,
+        editions: Editions,
     ) -> Result<Verified<'l>, Refusal>
         ensures library { IfOk result (λ verified. verified.library ≡ library.now.texts) }
         ensures declared { IfOk result (λ verified. TakesDeclared library.now verified.fields) }
@@ -49,6 +84,7 @@ impl<'a> Claim<'a> {
         ensures text { IfOk result (λ verified. certificate_text verified.fields
             ≡ self.now.bytes.items) }
     {
+        let rules = self.edition_among(editions);
         let verified = check_certificate_by(alloc, library, &self.bytes, rules)?;
         if verified.entry().index() == entry.index() {
             Ok(verified)
@@ -75,7 +111,7 @@ pub fn accepted<'l>(
     alloc: Global,
     library: &'l Library,
     entry: Reg,
-    rules: Rules,
+    editions: Editions,
     claim: Option<&Claim<'_>>,
 ) -> Result<Verified<'l>, Refusal>
     ensures library { IfOk result (λ verified. verified.library ≡ library.now.texts) }
@@ -85,7 +121,7 @@ pub fn accepted<'l>(
         (λ verified. certificate_text verified.fields ≡ claim.now.bytes.items)) }
 {
     match claim {
-        None => verify_by(alloc, library, entry, rules),
-        Some(claim) => claim.accept(alloc, library, entry, rules),
+        None => editions.verify(alloc, library, entry),
+        Some(claim) => claim.accept(alloc, library, entry, editions),
     }
 }

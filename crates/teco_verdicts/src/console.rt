@@ -10,7 +10,12 @@ pub struct Voice<E: Write + Drop> {
     messages: E,
     // nothing is said but faults
     is_quiet: bool,
+    // does the last line on the terminal have a note?
+    has_note: bool,
 }
+
+/// What goes to the begin of a line of a terminal and clears it.
+const CLEARING: &[u8] = b"\r\x1b[K";
 
 impl<E: Write + Drop> Voice<E> {
     /// Says what there is to be said to a writer. Memory for messages comes from `alloc`.
@@ -19,7 +24,13 @@ impl<E: Write + Drop> Voice<E> {
             alloc,
             messages,
             is_quiet: false,
+            has_note: false,
         }
+    }
+
+    /// Where memory for messages comes from.
+    pub fn alloc(&self) -> Global {
+        self.alloc
     }
 
     /// From now on nothing is said but faults.
@@ -29,6 +40,7 @@ impl<E: Write + Drop> Voice<E> {
 
     // Writes a message in one piece. A message that can't be written is lost.
     fn write<D: fmt::Display + Drop>(&mut self, message: D) {
+        self.clear();
         if let Ok(text) = format!(in self.alloc; "{message}\n") {
             let _written = self.messages.write_all(text.as_bytes());
         }
@@ -36,7 +48,24 @@ impl<E: Write + Drop> Voice<E> {
 
     /// Says what another voice has said.
     pub fn repeat(&mut self, messages: &[u8]) {
+        self.clear();
         let _written = self.messages.write_all(messages);
+    }
+
+    /// Shows a note on a terminal, in place of the one before, until something else is said.
+    pub fn note<D: fmt::Display + Drop>(&mut self, note: D) {
+        self.clear();
+        if let Ok(text) = format!(in self.alloc; "{note}") {
+            self.has_note = self.messages.write_all(text.as_bytes()).is_ok();
+        }
+    }
+
+    /// Takes away the note that is shown, if there is one.
+    pub fn clear(&mut self) {
+        if self.has_note {
+            let _written = self.messages.write_all(CLEARING);
+            self.has_note = false;
+        }
     }
 
     /// Says a message, unless it is to be quiet.

@@ -1,5 +1,7 @@
 //! `explain` of a macro: its elements, and what is known before each.
+use crate::blame::tell_premise;
 use crate::console::Console;
+use crate::editions::tell_edition;
 use crate::fault::{AnswerFault, written};
 use crate::known::{words_of, words_of_choice};
 use crate::library::{Sourced, read_library};
@@ -7,14 +9,14 @@ use crate::naming::element_at;
 use crate::outcome::Outcome;
 use crate::request::Request;
 use crate::verdict::Verdict;
-use crate::verifying::{refuse, tell_premise, tell_second_edition};
+use crate::verifying::{refuse, tell_second_edition};
 use std::alloc::{AllocError, Global};
 use std::io::{Input, Write};
 use std::rt::Files;
 use teco_base::Reg;
 use teco_library::Library;
-use teco_source::{Position, Shown, Source};
-use teco_verify::{Account, account_by};
+use teco_source::{Position, Shown};
+use teco_verify::Account;
 
 // The text in which an element stands, or none.
 fn text_of<'l>(library: &'l Library, account: &Account<'_>, number: usize) -> &'l [u8] {
@@ -123,16 +125,17 @@ pub fn tell_known<O: Write + Drop, E: Write + Drop>(
 // Prints the verdict behind the elements.
 fn conclude<O: Write + Drop, E: Write + Drop>(
     console: &mut Console<O, E>,
-    source: &Source,
+    sourced: &Sourced,
     account: &Account<'_>,
 ) -> Result<Outcome, AnswerFault> {
     match account.verdict() {
         Ok(verified) => {
             console.answer("accepted\n")?;
-            tell_premise(&mut console.voice, verified);
+            tell_edition(&mut console.voice, sourced.editions, verified);
+            tell_premise(&mut console.voice, &sourced.source, verified)?;
             Ok(Outcome::Done)
         }
-        Err(refusal) => refuse(console, source, refusal),
+        Err(refusal) => refuse(console, &sourced.source, refusal, sourced.editions.newest()),
     }
 }
 
@@ -144,7 +147,7 @@ fn list_account<O: Write + Drop, E: Write + Drop>(
 ) -> Result<Outcome, AnswerFault> {
     console.answer("number\tplace\telement\tknown before it\n")?;
     list_elements(console, &sourced.library, account)?;
-    conclude(console, &sourced.source, account)
+    conclude(console, sourced, account)
 }
 
 // Explains a macro of a library.
@@ -153,7 +156,9 @@ fn explain_entry<O: Write + Drop, E: Write + Drop>(
     sourced: &Sourced,
     entry: Reg,
 ) -> Result<Outcome, AnswerFault> {
-    let account = account_by(console.alloc, &sourced.library, entry, sourced.rules)?;
+    let account = sourced
+        .editions
+        .account(console.alloc, &sourced.library, entry)?;
     list_account(console, sourced, &account)
 }
 
@@ -165,7 +170,7 @@ fn explain_by_both<O: Write + Drop, E: Write + Drop>(
 ) -> Result<Outcome, AnswerFault> {
     let outcome = explain_entry(console, sourced, entry)?;
     if let Outcome::Refused = outcome {
-        tell_second_edition(console, &sourced.library, entry, sourced.rules);
+        tell_second_edition(console, &sourced.library, entry, sourced.editions);
     }
     Ok(outcome)
 }

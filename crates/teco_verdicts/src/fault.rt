@@ -20,6 +20,21 @@ pub enum AnswerFault {
         /// Its name, as a terminal can show it.
         name: String,
     },
+    /// A macro that stands alone has every byte.
+    #[error("a macro without @^UA has every byte, so that none can end its text")]
+    NoDelimiter,
+    /// Texts of the command line are the macro A, and the file beside them has one.
+    #[error("-e gives the text of A, and {name} has one")]
+    Twice {
+        /// The file's name, as a terminal can show it.
+        name: String,
+    },
+    /// A text was given for a register of the library.
+    #[error("--set {register}: the library has a text for this register")]
+    Taken {
+        /// The register's name.
+        register: char,
+    },
     /// The answer can't be written.
     #[error("cannot write the answer: {0}")]
     Write(io::Error),

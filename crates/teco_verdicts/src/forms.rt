@@ -12,7 +12,7 @@ pub enum Escape {
 }
 
 /// What the names of files end in that are in the readable form.
-const READABLE: &str = ".tes";
+pub const READABLE: &str = ".tes";
 
 /// The form of a file of a name.
 pub fn form_of(name: &str, escape: Escape) -> Form {
@@ -29,4 +29,9 @@ pub fn form_of_word(escape: Escape) -> Form {
         Escape::Mark(mark) => Form::Marked(mark),
         Escape::ByName => Form::Readable,
     }
+}
+
+/// Does a file of a name write ESC as a character that can be seen?
+pub fn is_readable(name: &str, escape: Escape) -> bool {
+    form_of(name, escape) != Form::Marked(ESC)
 }

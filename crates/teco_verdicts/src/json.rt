@@ -1,22 +1,23 @@
 //! Verdicts for machines: an object of JSON in each line.
 use crate::console::Console;
+use crate::editions::Editions;
 use crate::fault::AnswerFault;
-use crate::library::{NAMES, explained, library_of, macro_named, read_source};
+use crate::library::{NAMES, library_of, macro_named};
 use crate::outcome::Outcome;
+use crate::premise::Premise;
 use crate::request::Request;
 use crate::verdict::Verdict;
-use crate::verifying::premise_of;
+use crate::written::read_source;
 use std::alloc::{AllocError, Global};
 use std::fmt;
 use std::io::{Input, Write};
 use std::rt::Files;
 use teco_base::Reg;
-use teco_explain::{Explained, number_of};
+use teco_explain::{number_of, position_in};
 use teco_library::Library;
 use teco_poly::Poly;
 use teco_source::{Position, Source};
-use teco_verifier::Rules;
-use teco_verify::{Refusal, Verified, verify_by};
+use teco_verify::{Refusal, Verified};
 
 /// How many coefficients a polynomial has at most.
 const COEFFICIENTS: usize = 9;
@@ -101,20 +102,33 @@ fn answer_accepted<O: Write + Drop, E: Write + Drop>(
     let needs = verified.needs();
     let input = needs.input;
     let output = needs.output;
-    let premise = Nullable(premise_of(verified).last);
+    let premise = Premise::of_macro(verified);
+    let greatest = Nullable(premise.longest().and(premise.last));
     console.answer(format_args!(
-        "{{\"macro\": \"{name}\", \"accepted\": true, \"commands\": {commands}, \"size\": {size}, \"needs_input\": {input}, \"needs_output\": {output}, \"greatest_n\": {premise}}}\n"
+        "{{\"macro\": \"{name}\", \"accepted\": true, \"commands\": {commands}, \"size\": {size}, \"needs_input\": {input}, \"needs_output\": {output}, \"greatest_n\": {greatest}}}\n"
     ))?;
     Ok(Outcome::Done)
 }
 
 // The line and the column of a place, if the file says it.
-fn place_of(explained: &Explained<'_>) -> (Nullable, Nullable) {
-    match explained.position() {
+fn numbers_of(position: Option<Position>) -> (Nullable, Nullable) {
+    match position {
         Some(Position { line, column }) => {
             (Nullable(Some(line as u64)), Nullable(Some(column as u64)))
         }
         None => (Nullable(None), Nullable(None)),
+    }
+}
+
+// The position in its file that a refusal is at, if the file says it.
+fn position_at(source: &Source, refusal: &Refusal) -> Option<Position> {
+    match refusal {
+        Refusal::No {
+            register,
+            place,
+            ..
+        } => position_in(source, *register, *place),
+        Refusal::Memory => None,
     }
 }
 
@@ -138,10 +152,7 @@ fn answer_refused<O: Write + Drop, E: Write + Drop>(
     let entry = Quoted(entry);
     let register = Quoted(register);
     let number = number_of(why);
-    let (line, column) = match explained(source, refusal) {
-        Some(explained) => place_of(&explained),
-        None => (Nullable(None), Nullable(None)),
-    };
+    let (line, column) = numbers_of(position_at(source, refusal));
     console.answer(format_args!(
         "{{\"macro\": {entry}, \"accepted\": false, \"refusal\": \"X{number}\", \"register\": {register}, \"place\": {place}, \"line\": {line}, \"column\": {column}}}\n"
     ))?;
@@ -167,9 +178,9 @@ fn answer_verdict<O: Write + Drop, E: Write + Drop>(
     source: &Source,
     library: &Library,
     entry: Reg,
-    rules: Rules,
+    editions: Editions,
 ) -> Result<Outcome, AnswerFault> {
-    match verify_by(console.alloc, library, entry, rules) {
+    match editions.verify(console.alloc, library, entry) {
         Ok(verified) => answer_accepted(console, &verified),
         Err(refusal) => answer_refused(console, source, Some(entry), &refusal),
     }
@@ -180,10 +191,10 @@ fn answer_macro<O: Write + Drop, E: Write + Drop>(
     console: &mut Console<O, E>,
     source: &Source,
     entry: Reg,
-    rules: Rules,
+    editions: Editions,
 ) -> Result<Outcome, AnswerFault> {
     match library_of(console.alloc, source) {
-        Ok(library) => answer_verdict(console, source, &library, entry, rules),
+        Ok(library) => answer_verdict(console, source, &library, entry, editions),
         Err(refusal) => answer_refused(console, source, None, &refusal),
     }
 }
@@ -195,8 +206,8 @@ pub fn verify_macro_as_json<R: Files + Input, O: Write + Drop, E: Write + Drop>(
     request: Request<'_>,
     entry: Reg,
 ) -> Result<Outcome, AnswerFault> {
-    let source = read_source(rt, console.alloc, request.library, request.escape)?;
-    answer_macro(console, &source, entry, request.rules)
+    let source = read_source(rt, console.alloc, request)?;
+    answer_macro(console, &source, entry, request.editions)
 }
 
 // Prints the verdict on each macro of a library.
@@ -204,12 +215,12 @@ fn answer_each<O: Write + Drop, E: Write + Drop>(
     console: &mut Console<O, E>,
     source: &Source,
     library: &Library,
-    rules: Rules,
+    editions: Editions,
 ) -> Result<Outcome, AnswerFault> {
     let mut outcome = Outcome::Done;
     for name in NAMES {
         if let Some(entry) = macro_named(library, *name) {
-            outcome = outcome.worse(answer_verdict(console, source, library, entry, rules)?);
+            outcome = outcome.worse(answer_verdict(console, source, library, entry, editions)?);
         }
     }
     Ok(outcome)
@@ -219,10 +230,10 @@ fn answer_each<O: Write + Drop, E: Write + Drop>(
 fn answer_library<O: Write + Drop, E: Write + Drop>(
     console: &mut Console<O, E>,
     source: &Source,
-    rules: Rules,
+    editions: Editions,
 ) -> Result<Outcome, AnswerFault> {
     match library_of(console.alloc, source) {
-        Ok(library) => answer_each(console, source, &library, rules),
+        Ok(library) => answer_each(console, source, &library, editions),
         Err(refusal) => answer_refused(console, source, None, &refusal),
     }
 }
@@ -234,6 +245,6 @@ pub fn verify_library_as_json<R: Files + Input, O: Write + Drop, E: Write + Drop
     console: &mut Console<O, E>,
     request: Request<'_>,
 ) -> Result<Outcome, AnswerFault> {
-    let source = read_source(rt, console.alloc, request.library, request.escape)?;
-    answer_library(console, &source, request.rules)
+    let source = read_source(rt, console.alloc, request)?;
+    answer_library(console, &source, request.editions)
 }

@@ -4,11 +4,12 @@ ghost use Rattle.teco_base.specs.declared.TheConstants.{LIMIT};
 ghost use Rattle.teco_library.specs.Reads.{Reads};
 
 use crate::console::Console;
+use crate::editions::Editions;
 use crate::fault::AnswerFault;
-use crate::files::read_file;
-use crate::forms::{Escape, form_of};
 use crate::request::Request;
+use crate::setting::Setting;
 use crate::verifying::refuse;
+use crate::written::{Written, read_source};
 use std::alloc::Global;
 use std::io::{Input, Write};
 use std::rt::Files;
@@ -18,17 +19,6 @@ use teco_library::{Library, LibraryFault};
 use teco_source::Source;
 use teco_verifier::{Refusal as Why, Rules};
 use teco_verify::Refusal;
-
-/// Reads the source of a library: a file, or standard input where the name is `-`.
-pub fn read_source<R: Files + Input>(
-    rt: &R,
-    alloc: Global,
-    name: &str,
-    escape: Escape,
-) -> Result<Source, AnswerFault> {
-    let bytes = read_file(rt, alloc, name)?;
-    Ok(Source::new(alloc, name, bytes, form_of(name, escape))?)
-}
 
 /// The library that a source says.
 pub fn library_of(alloc: Global, source: &Source) -> Result<Library, Refusal>
@@ -48,22 +38,31 @@ pub fn library_of(alloc: Global, source: &Source) -> Result<Library, Refusal>
     }
 }
 
-/// A library, with the source that says it, and the edition of the rules for its macros.
+/// A library, with the source that says it, and the editions of the rules for its macros.
 #[derive(Drop)]
 pub struct Sourced {
     pub source: Source,
     pub library: Library,
-    pub rules: Rules,
+    pub editions: Editions,
 }
 
-// Prints why a source says no library.
-fn refuse_source<O: Write + Drop, E: Write + Drop>(
+// The library that a source says. Where it says none, the refusal is printed, and there is none.
+fn library_in<O: Write + Drop, E: Write + Drop>(
     console: &mut Console<O, E>,
-    source: &Source,
-    refusal: Refusal,
+    source: Source,
+    editions: Editions,
 ) -> Result<Option<Sourced>, AnswerFault> {
-    refuse(console, source, refusal)?;
-    Ok(None)
+    match library_of(console.alloc, &source) {
+        Ok(library) => Ok(Some(Sourced {
+            source,
+            library,
+            editions,
+        })),
+        Err(refusal) => {
+            refuse(console, &source, refusal, Rules::First)?;
+            Ok(None)
+        }
+    }
 }
 
 /// Reads a library. Where the file is none, the refusal is printed, and there is none.
@@ -72,19 +71,83 @@ pub fn read_library<R: Files + Input, O: Write + Drop, E: Write + Drop>(
     console: &mut Console<O, E>,
     request: Request<'_>,
 ) -> Result<Option<Sourced>, AnswerFault> {
-    let source = read_source(rt, console.alloc, request.library, request.escape)?;
-    match library_of(console.alloc, &source) {
-        Ok(library) => Ok(Some(Sourced {
-            source,
-            library,
-            rules: request.rules,
-        })),
-        Err(refusal) => refuse_source(console, &source, refusal),
+    let source = read_source(rt, console.alloc, request)?;
+    library_in(console, source, request.editions)
+}
+
+/// The macro of a library that is to be run, and what registers are given before.
+#[derive(Clone, Copy)]
+pub struct Setup<'a> {
+    pub entry: Reg,
+    pub settings: &'a [Setting],
+    /// May these texts become a part of the library, so that the verifier knows their lengths?
+    pub is_open: bool,
+}
+
+// Refuses a text for a register that the library gives one.
+fn check_settings(library: &Library, settings: &[Setting]) -> Result<(), AnswerFault> {
+    for given in settings {
+        if library.contains(given.register()) {
+            return Err(AnswerFault::Taken {
+                register: char::from(given.register().name()),
+            });
+        }
+    }
+    Ok(())
+}
+
+// Is a library better that has the texts which registers are given? Not where the macro writes one of
+// them, and not where it alone is refused.
+fn is_better(alloc: Global, fixed: &Sourced, plain: &Sourced, entry: Reg) -> bool {
+    match fixed.editions.verify(alloc, &fixed.library, entry) {
+        Ok(_) => true,
+        Err(
+            Refusal::No {
+                why: Why::Written,
+                ..
+            },
+        ) => false,
+        Err(_) => plain.editions.verify(alloc, &plain.library, entry).is_err(),
     }
 }
 
-/// What a refusal of a macro of this source is for people; none for want of memory.
-pub fn explained<'a>(source: &'a Source, refusal: &Refusal) -> Option<Explained<'a>> {
+// A library with the texts that registers are given, if they and it are one.
+fn fixed_library<O: Write + Drop, E: Write + Drop>(
+    console: &mut Console<O, E>,
+    written: &Written<'_>,
+    settings: &[Setting],
+    editions: Editions,
+) -> Result<Option<Sourced>, AnswerFault> {
+    let source = written.source_with(console.alloc, settings)?;
+    library_in(console, source, editions)
+}
+
+/// Reads a library for the run of a macro. What registers are given is a part of it, if that may be
+/// and the macro does not write it. Where the file is none, the refusal is printed, and there is none.
+pub fn read_library_for<R: Files + Input, O: Write + Drop, E: Write + Drop>(
+    rt: &R,
+    console: &mut Console<O, E>,
+    request: Request<'_>,
+    setup: Setup<'_>,
+) -> Result<Option<Sourced>, AnswerFault> {
+    let written = Written::read(rt, console.alloc, request)?;
+    let source = written.source(console.alloc)?;
+    let Some(plain) = library_in(console, source, request.editions)? else {
+        return Ok(None);
+    };
+    check_settings(&plain.library, setup.settings)?;
+    if setup.settings.is_empty() || !setup.is_open {
+        return Ok(Some(plain));
+    }
+    match fixed_library(console, &written, setup.settings, request.editions)? {
+        Some(fixed) if is_better(console.alloc, &fixed, &plain, setup.entry) => Ok(Some(fixed)),
+        _ => Ok(Some(plain)),
+    }
+}
+
+/// What a refusal of a macro of this source by an edition of the rules is for people; none for want of
+/// memory.
+pub fn explained<'a>(source: &'a Source, refusal: &Refusal, rules: Rules) -> Option<Explained<'a>> {
     match refusal {
         Refusal::No {
             why,
@@ -95,6 +158,7 @@ pub fn explained<'a>(source: &'a Source, refusal: &Refusal) -> Option<Explained<
             why: *why,
             register: *register,
             place: *place,
+            rules,
         }),
         Refusal::Memory => None,
     }

@@ -1,23 +1,30 @@
 //! Up to which N a promise holds.
-ghost use Rattle.std.specs.Prelude.{◌≤◌, ◌↔◌, IsTrue, IfSome};
+ghost use Rattle.std.specs.Prelude.{◌≡◌, ◌≤◌, ◌↔◌, IsTrue, IfSome};
 ghost use Rattle.teco_verdicts.specs.Premise.{IsPremise};
 
+use crate::library::NAMES;
 use std::fmt;
-use teco_base::LIMIT;
+use teco_base::{LIMIT, Reg};
+use teco_library::Library;
 use teco_poly::Poly;
 use teco_poly::laws::values_grow;
+use teco_verify::Verified;
 
 /// The greatest N at which a promise holds: the printed size may be held, and the printed number of
 /// commands is one of 64 bits.
 #[derive(Clone, Copy, Debug, PartialEq, Eq)]
 pub struct Premise {
     pub last: Option<u64>,
+    /// How many of the characters that N counts the texts of the library take.
+    pub taken: u64,
 }
 
 impl Premise {
-    /// The premise of a promise with this size and this number of commands.
-    pub fn of(size: &Poly, commands: &Poly) -> Premise
-        ensures { IsPremise size.now commands.now result.last }
+    /// The premise of a promise with this size and this number of commands, by a library whose texts
+    /// take so many characters.
+    pub fn of(size: &Poly, commands: &Poly, taken: u64) -> Premise
+        ensures last { IsPremise size.now commands.now result.last }
+        ensures taken { result.taken ≡ taken }
     {
         values_grow();
         let fits = size.greatest_within(LIMIT as u64);
@@ -25,9 +32,34 @@ impl Premise {
         match (fits, counts) {
             (Some(fits), Some(counts)) => Premise {
                 last: Some(fits.min(counts)),
+                taken,
             },
-            _ => Premise { last: None },
+            _ => Premise { last: None, taken },
         }
+    }
+
+    /// The premise of the promise of a verified macro.
+    pub fn of_macro(verified: &Verified<'_>) -> Premise {
+        Premise::of(
+            &verified.size(),
+            &verified.commands(),
+            characters_of(verified.library()),
+        )
+    }
+
+    /// How many characters a text may have, beside those that the library takes; none where the
+    /// promise holds for no text.
+    pub fn longest(self) -> Option<u64> {
+        match self.last {
+            Some(last) if last > 0 => last.checked_sub(self.taken),
+            _ => None,
+        }
+    }
+
+    /// Does the promise hold for no text? N counts the texts of the library, so it does where they
+    /// alone are too long.
+    pub fn is_empty(self) -> bool {
+        self.longest().is_none()
     }
 
     /// Does the promise hold at this N?
@@ -39,12 +71,27 @@ impl Premise {
     }
 }
 
+// How many characters the texts of a library have.
+fn characters_of(library: &Library) -> u64 {
+    let mut count = 0u64;
+    for name in NAMES {
+        if let Some(text) = Reg::of(*name).and_then(|register| library.text(register)) {
+            count = count.saturating_add(text.len() as u64);
+        }
+    }
+    count
+}
+
 impl fmt::Display for Premise {
     fn fmt<W: fmt::Write>(&self, f: &mut fmt::Formatter<W>) -> fmt::Result {
-        match self.last {
-            None => write!(f, "holds for no text"),
-            Some(last) => write!(f, "holds for texts up to N = {} characters", Grouped(last)),
-        }
+        let (Some(last), Some(longest)) = (self.last, self.longest()) else {
+            return write!(f, "holds for no text");
+        };
+        let (last, longest, taken) = (Grouped(last), Grouped(longest), Grouped(self.taken));
+        write!(
+            f,
+            "holds for texts up to {longest} characters (N up to {last}, of which the macro takes {taken})"
+        )
     }
 }
 

@@ -5,29 +5,32 @@ ghost use Rattle.teco_certificate.specs.Text.{certificate_text};
 ghost use Rattle.teco_verdicts.specs.Certificates.{Prints, PrintsOf};
 ghost use Rattle.teco_verdicts.specs.declared.outcome.Outcome.TheVariants.{Done, Refused};
 
-use crate::console::{Console, Voice};
+use crate::blame::{Held, tell_premise};
+use crate::console::Console;
+use crate::dollars::tell_dollars;
+use crate::editions::{BY_SECOND, Editions, tell_edition};
 use crate::explaining::tell_known;
 use crate::fault::AnswerFault;
-use crate::library::{
-    NAMES, Sourced, explained, library_of, macro_named, read_library, read_source,
-};
+use crate::library::{NAMES, Sourced, explained, library_of, macro_named, read_library};
+use crate::linting::Findings;
 use crate::outcome::Outcome;
-use crate::premise::Premise;
 use crate::request::Request;
 use crate::verdict::Verdict;
+use crate::written::read_source;
 use std::io::{Input, Write};
 use std::rt::Files;
 use teco_base::Reg;
 use teco_library::Library;
 use teco_source::Source;
 use teco_verifier::Rules;
-use teco_verify::{Account, Refusal, Trial, Verified, account_by, trial_by, verify_by};
+use teco_verify::{Account, Refusal, Trial, Verified, trial_by};
 
-/// Says why a macro of a source is refused, behind its line.
+/// Says why a macro of a source is refused by an edition of the rules, behind its line.
 pub fn refuse<O: Write + Drop, E: Write + Drop>(
     console: &mut Console<O, E>,
     source: &Source,
     refusal: Refusal,
+    rules: Rules,
 ) -> Result<Outcome, AnswerFault>
     ensures { IfOk result (λ outcome. outcome ≡ Refused) }
 {
@@ -35,20 +38,11 @@ pub fn refuse<O: Write + Drop, E: Write + Drop>(
         return Err(AnswerFault::Memory);
     };
     console.answer(format_args!("{verdict}\n"))?;
-    if let Some(told) = explained(source, &refusal) {
+    if let Some(told) = explained(source, &refusal, rules) {
         console.say(told);
     }
+    tell_dollars(&mut console.voice, source);
     Ok(Outcome::Refused)
-}
-
-/// Up to which N the promise of a verified macro holds.
-pub fn premise_of(verified: &Verified<'_>) -> Premise {
-    Premise::of(&verified.size(), &verified.commands())
-}
-
-/// Says up to which N the promise of a verified macro holds.
-pub fn tell_premise<E: Write + Drop>(voice: &mut Voice<E>, verified: &Verified<'_>) {
-    voice.say(premise_of(verified));
 }
 
 // Prints bytes as they are.
@@ -75,31 +69,32 @@ fn print_certificate<O: Write + Drop, E: Write + Drop>(
     print(console, text.as_slice())
 }
 
-// Prints the certificate of a macro, and up to which N its promise holds.
-fn certify<O: Write + Drop, E: Write + Drop>(
+// Says why a macro of a source is refused by an edition of the rules, and what is known there.
+fn refuse_known<O: Write + Drop, E: Write + Drop>(
     console: &mut Console<O, E>,
-    verified: &Verified<'_>,
+    source: &Source,
+    account: &Account<'_>,
+    refusal: Refusal,
+    rules: Rules,
 ) -> Result<Outcome, AnswerFault>
-    ensures { OnOk result (Appends (O.contents console.old.out) (O.contents console.new.out)
-        (certificate_text verified.now.fields)) }
+    ensures { IfOk result (λ outcome. outcome ≡ Refused) }
 {
-    print_certificate(console, verified)?;
-    tell_premise(&mut console.voice, verified);
-    Ok(Outcome::Done)
+    let outcome = refuse(console, source, refusal, rules)?;
+    tell_known(console, account)?;
+    Ok(outcome)
 }
 
 /// Says why a macro of a library is refused, and what is known there.
 pub fn refuse_macro<O: Write + Drop, E: Write + Drop>(
     console: &mut Console<O, E>,
-    source: &Source,
+    sourced: &Sourced,
     account: &Account<'_>,
     refusal: Refusal,
 ) -> Result<Outcome, AnswerFault>
     ensures { IfOk result (λ outcome. outcome ≡ Refused) }
 {
-    let outcome = refuse(console, source, refusal)?;
-    tell_known(console, account)?;
-    Ok(outcome)
+    let rules = sourced.editions.newest();
+    refuse_known(console, &sourced.source, account, refusal, rules)
 }
 
 // How many elements the search may pass whose outcome is only a hint: it takes a fifth of a second at
@@ -107,16 +102,16 @@ pub fn refuse_macro<O: Write + Drop, E: Write + Drop>(
 const PASSED_FOR_HINT: u64 = 1 << 18;
 
 /// Says where the second edition of the rules accepts a macro that the first refuses, or may accept
-/// it, where a short search does not tell.
+/// it, where a short search does not tell. Nothing is said where the second was asked for.
 pub fn tell_second_edition<O: Write + Drop, E: Write + Drop>(
     console: &mut Console<O, E>,
     library: &Library,
     entry: Reg,
-    rules: Rules,
+    editions: Editions,
 ) {
-    if let Rules::Second = rules {
+    let Editions::Only(Rules::First) = editions else {
         return;
-    }
+    };
     match trial_by(
         console.alloc,
         library,
@@ -140,20 +135,24 @@ fn verify_entry<O: Write + Drop, E: Write + Drop>(
     source: &Source,
     library: &Library,
     entry: Reg,
-    rules: Rules,
+    editions: Editions,
 ) -> Result<Outcome, AnswerFault>
     ensures { IfOk result (λ outcome. outcome ≡ Done
         → Prints library.now entry (O.contents console.old.out) (O.contents console.new.out)) }
 {
-    let account = account_by(console.alloc, library, entry, rules)?;
+    let account = editions.account(console.alloc, library, entry)?;
     match account.verdict() {
         Ok(verified) => {
             verified.is_certified();
-            certify(console, verified)
+            print_certificate(console, verified)?;
+            tell_edition(&mut console.voice, editions, verified);
+            tell_premise(&mut console.voice, source, verified)?;
+            Findings::new(console.alloc, source, false).tell(&mut console.voice, library, entry);
+            Ok(Outcome::Done)
         }
         Err(refusal) => {
-            let outcome = refuse_macro(console, source, &account, refusal)?;
-            tell_second_edition(console, library, entry, rules);
+            let outcome = refuse_known(console, source, &account, refusal, editions.newest())?;
+            tell_second_edition(console, library, entry, editions);
             Ok(outcome)
         }
     }
@@ -164,14 +163,14 @@ fn verify_source<O: Write + Drop, E: Write + Drop>(
     console: &mut Console<O, E>,
     source: &Source,
     entry: Reg,
-    rules: Rules,
+    editions: Editions,
 ) -> Result<Outcome, AnswerFault>
     ensures { IfOk result (λ outcome. outcome ≡ Done
         → PrintsOf source.now entry (O.contents console.old.out) (O.contents console.new.out)) }
 {
     match library_of(console.alloc, source) {
-        Ok(library) => verify_entry(console, source, &library, entry, rules),
-        Err(refusal) => refuse(console, source, refusal),
+        Ok(library) => verify_entry(console, source, &library, entry, editions),
+        Err(refusal) => refuse(console, source, refusal, editions.newest()),
     }
 }
 
@@ -182,26 +181,31 @@ pub fn verify_macro<R: Files + Input, O: Write + Drop, E: Write + Drop>(
     request: Request<'_>,
     entry: Reg,
 ) -> Result<Outcome, AnswerFault> {
-    let source = read_source(rt, console.alloc, request.library, request.escape)?;
-    verify_source(console, &source, entry, request.rules)
+    let source = read_source(rt, console.alloc, request)?;
+    verify_source(console, &source, entry, request.editions)
 }
 
 // Prints that one macro of several is accepted.
 fn tell_accepted<O: Write + Drop, E: Write + Drop>(
     console: &mut Console<O, E>,
-    name: char,
+    sourced: &Sourced,
     verified: &Verified<'_>,
 ) -> Result<Outcome, AnswerFault> {
-    console.answer(format_args!("{name}: accepted\n"))?;
-    let premise = premise_of(verified);
-    console.say(format_args!("{name}: {premise}"));
+    let name = char::from(verified.entry().name());
+    let held = Held::of(console.alloc, &sourced.source, verified)?;
+    let scope = if held.is_empty() { ", for no text" } else { "" };
+    console.answer(format_args!("{name}: accepted{scope}\n"))?;
+    if sourced.editions.chose_second(verified) {
+        console.say(format_args!("{name}: {BY_SECOND}"));
+    }
+    console.say(format_args!("{name}: {held}"));
     Ok(Outcome::Done)
 }
 
 // Prints why one macro of several is refused.
 fn tell_refused<O: Write + Drop, E: Write + Drop>(
     console: &mut Console<O, E>,
-    source: &Source,
+    sourced: &Sourced,
     name: char,
     refusal: Refusal,
 ) -> Result<Outcome, AnswerFault> {
@@ -209,7 +213,7 @@ fn tell_refused<O: Write + Drop, E: Write + Drop>(
         return Err(AnswerFault::Memory);
     };
     console.answer(format_args!("{name}: {verdict}\n"))?;
-    if let Some(told) = explained(source, &refusal) {
+    if let Some(told) = explained(&sourced.source, &refusal, sourced.editions.newest()) {
         console.say(told);
     }
     Ok(Outcome::Refused)
@@ -219,14 +223,20 @@ fn tell_refused<O: Write + Drop, E: Write + Drop>(
 fn verify_one<O: Write + Drop, E: Write + Drop>(
     console: &mut Console<O, E>,
     sourced: &Sourced,
+    findings: &mut Findings<'_>,
     entry: Reg,
 ) -> Result<Outcome, AnswerFault> {
     let name = char::from(entry.name());
-    match verify_by(console.alloc, &sourced.library, entry, sourced.rules) {
-        Ok(verified) => tell_accepted(console, name, &verified),
+    let library = &sourced.library;
+    match sourced.editions.verify(console.alloc, library, entry) {
+        Ok(verified) => {
+            let outcome = tell_accepted(console, sourced, &verified)?;
+            findings.tell(&mut console.voice, library, entry);
+            Ok(outcome)
+        }
         Err(refusal) => {
-            let outcome = tell_refused(console, &sourced.source, name, refusal)?;
-            tell_second_edition(console, &sourced.library, entry, sourced.rules);
+            let outcome = tell_refused(console, sourced, name, refusal)?;
+            tell_second_edition(console, library, entry, sourced.editions);
             Ok(outcome)
         }
     }
@@ -238,10 +248,14 @@ fn verify_each<O: Write + Drop, E: Write + Drop>(
     sourced: &Sourced,
 ) -> Result<Outcome, AnswerFault> {
     let mut outcome = Outcome::Done;
+    let mut findings = Findings::new(console.alloc, &sourced.source, false);
     for name in NAMES {
         if let Some(entry) = macro_named(&sourced.library, *name) {
-            outcome = outcome.worse(verify_one(console, sourced, entry)?);
+            outcome = outcome.worse(verify_one(console, sourced, &mut findings, entry)?);
         }
+    }
+    if let Outcome::Refused = outcome {
+        tell_dollars(&mut console.voice, &sourced.source);
     }
     Ok(outcome)
 }

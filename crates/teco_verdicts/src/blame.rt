@@ -1,0 +1,219 @@
+//! What keeps a promise from holding for any text.
+ghost use Rattle.std.specs.Prelude.{◌≡◌, IfOk};
+ghost use Rattle.teco_verdicts.specs.declared.outcome.Outcome.TheVariants.{Refused};
+
+use crate::console::{Console, Voice};
+use crate::fault::AnswerFault;
+use crate::library::Sourced;
+use crate::outcome::Outcome;
+use crate::premise::{Grouped, Premise};
+use std::alloc::{AllocError, Global};
+use std::fmt;
+use std::io::Write;
+use teco_base::Reg;
+use teco_explain::position_in;
+use teco_poly::Poly;
+use teco_source::{Position, Shown, Source};
+use teco_verify::{Account, Verified, account_by};
+
+/// How large a count is, at the least, that is to blame.
+const LARGE: u64 = 1000;
+
+// A count, where it stands and how large it may be with an empty text.
+#[derive(Clone, Copy)]
+struct Count {
+    number: usize,
+    most: u64,
+}
+
+// The largest count of the iterations of a macro; none where all are small.
+fn largest_count(account: &Account<'_>) -> Option<Count> {
+    let mut largest = None;
+    let mut least = LARGE;
+    for before in 0..account.len() {
+        let number = before.saturating_add(1);
+        let most = match account.turns(number) {
+            None => 0,
+            Some(turns) => turns.at(0).unwrap_or(u64::MAX),
+        };
+        if most > least {
+            least = most;
+            largest = Some(Count { number, most });
+        }
+    }
+    largest
+}
+
+// The position of a count in the library file.
+fn position_of(source: &Source, account: &Account<'_>, count: Count) -> Option<Position> {
+    let place = account.begin(count.number)?;
+    position_in(source, account.register(count.number), place)
+}
+
+// What keeps a promise from holding for any text.
+#[derive(Clone, Copy)]
+enum Blame {
+    // a count at a position
+    Count(Position, u64),
+    // what is held, or the number of commands, grows too fast for the texts of the library alone
+    Growth(Premise),
+}
+
+impl Blame {
+    // What is to blame in a macro.
+    fn of(source: &Source, account: &Account<'_>, premise: Premise) -> Blame {
+        match largest_count(account) {
+            None => Blame::Growth(premise),
+            Some(count) => match position_of(source, account, count) {
+                None => Blame::Growth(premise),
+                Some(position) => Blame::Count(position, count.most),
+            },
+        }
+    }
+}
+
+impl fmt::Display for Blame {
+    fn fmt<W: fmt::Write>(&self, f: &mut fmt::Formatter<W>) -> fmt::Result {
+        match self {
+            Blame::Count(Position { line, column }, most) => {
+                let most = Grouped(*most);
+                write!(f, "the count at {line}:{column} may be up to {most}")
+            }
+            Blame::Growth(premise) => match premise.last {
+                Some(last) if last > 0 => {
+                    let (last, taken) = (Grouped(last), Grouped(premise.taken));
+                    write!(f, "N is at most {last}, and the macro alone takes {taken}")
+                }
+                _ => write!(
+                    f,
+                    "what is held, or the number of commands, is too large from the start"
+                ),
+            },
+        }
+    }
+}
+
+// What keeps the promise of a macro from holding for any text.
+fn blame_of(alloc: Global, source: &Source, verified: &Verified<'_>) -> Result<Blame, AllocError> {
+    let account = account_by(
+        alloc,
+        verified.library(),
+        verified.entry(),
+        verified.rules(),
+    )?;
+    Ok(Blame::of(source, &account, Premise::of_macro(verified)))
+}
+
+/// Up to which texts the promise of a macro holds, in words; where it holds for none, what count is
+/// to blame.
+#[derive(Clone, Copy)]
+pub struct Held {
+    premise: Premise,
+    entry: Reg,
+    blame: Option<Blame>,
+}
+
+impl Held {
+    /// Up to which texts the promise of a macro of a source holds. Where it holds for none, that
+    /// takes one more search.
+    pub fn of(alloc: Global, source: &Source, verified: &Verified<'_>) -> Result<Held, AllocError> {
+        let premise = Premise::of_macro(verified);
+        let entry = verified.entry();
+        let blame = if premise.is_empty() {
+            Some(blame_of(alloc, source, verified)?)
+        } else {
+            None
+        };
+        Ok(Held {
+            premise,
+            entry,
+            blame,
+        })
+    }
+
+    /// Does the promise hold for no text?
+    pub fn is_empty(&self) -> bool {
+        self.blame.is_some()
+    }
+}
+
+impl fmt::Display for Held {
+    fn fmt<W: fmt::Write>(&self, f: &mut fmt::Formatter<W>) -> fmt::Result {
+        match self.blame {
+            None => write!(f, "{}", self.premise),
+            Some(blame) => {
+                let name = char::from(self.entry.name());
+                write!(
+                    f,
+                    "warning: the promise of {name} holds for no text: {blame}"
+                )
+            }
+        }
+    }
+}
+
+/// Says up to which texts the promise of a macro holds, or warns that it holds for none, and says
+/// what count is to blame.
+pub fn tell_premise<E: Write + Drop>(
+    voice: &mut Voice<E>,
+    source: &Source,
+    verified: &Verified<'_>,
+) -> Result<(), AllocError> {
+    let held = Held::of(voice.alloc(), source, verified)?;
+    voice.say(held);
+    Ok(())
+}
+
+// What a run adds to what is held, as a number of characters.
+fn growth(alloc: Global, size: &Poly) -> Result<String, AllocError> {
+    match size.sub(&Poly::variable()) {
+        Some(more) if more == Poly::number(0) => String::from_str(alloc, "no"),
+        Some(more) => format!(in alloc; "at most {}", more.print(alloc)?),
+        None => String::from_str(alloc, "few"),
+    }
+}
+
+/// Says what is promised of a macro, in one line.
+pub fn tell_promise<E: Write + Drop>(
+    voice: &mut Voice<E>,
+    verified: &Verified<'_>,
+) -> Result<(), AllocError> {
+    let alloc = voice.alloc();
+    let name = char::from(verified.entry().name());
+    let commands = verified.commands().print(alloc)?;
+    let growth = growth(alloc, &verified.size())?;
+    let premise = Premise::of_macro(verified);
+    voice.say(format_args!(
+        "{name} ends within {commands} commands and adds {growth} characters; that {premise}"
+    ));
+    Ok(())
+}
+
+/// Warns of a macro whose promise holds for no text, and says what count is to blame. Nothing is said
+/// of another.
+pub fn warn_no_text<O: Write + Drop, E: Write + Drop>(
+    console: &mut Console<O, E>,
+    sourced: &Sourced,
+    verified: &Verified<'_>,
+) -> Result<(), AnswerFault> {
+    let held = Held::of(console.alloc, &sourced.source, verified)?;
+    if held.is_empty() {
+        console.say(held);
+    }
+    Ok(())
+}
+
+/// Says that a macro is refused since its promise holds for no text, and what count is to blame.
+pub fn tell_no_text<O: Write + Drop, E: Write + Drop>(
+    console: &mut Console<O, E>,
+    sourced: &Sourced,
+    verified: &Verified<'_>,
+) -> Result<Outcome, AnswerFault>
+    ensures { IfOk result (λ outcome. outcome ≡ Refused) }
+{
+    let file = Shown(sourced.source.name().as_bytes());
+    let name = char::from(verified.entry().name());
+    let blame = blame_of(console.alloc, &sourced.source, verified)?;
+    console.complain(format_args!("{file}: the promise of {name} holds for no text: {blame}"));
+    Ok(Outcome::Refused)
+}

@@ -1,0 +1,156 @@
+//! By which editions of the rules macros are verified.
+ghost use Rattle.std.specs.Prelude.{◌≡◌, IfOk};
+ghost use Rattle.teco_verify.specs.Certified.{TakesDeclared};
+
+use crate::console::Voice;
+use crate::premise::Premise;
+use std::alloc::{AllocError, Global};
+use std::io::Write;
+use teco_base::Reg;
+use teco_library::Library;
+use teco_verifier::Rules;
+use teco_verify::{Account, Refusal, Verified, account_by, verify_by};
+
+/// By which editions of the rules a macro is verified.
+#[derive(Clone, Copy)]
+pub enum Editions {
+    /// By this one alone.
+    Only(Rules),
+    /// By the one of both that promises something for longer texts; by the first where that promises
+    /// it for long ones.
+    Best,
+}
+
+/// By which editions macros are verified, where the words name one or none; `is_best` where the best
+/// verdict is wanted, and not that of the first edition.
+pub fn editions_for(named: Option<Rules>, is_best: bool) -> Editions {
+    match named {
+        Some(rules) => Editions::Only(rules),
+        None if is_best => Editions::Best,
+        None => Editions::Only(Rules::First),
+    }
+}
+
+/// A promise for texts of so many characters is taken at once.
+const AMPLE: u64 = 16_777_216;
+
+// For how many lengths of texts a macro promises something, from the empty text on; for none where
+// it isn't accepted.
+fn reach(verified: Option<&Verified<'_>>) -> u64 {
+    let longest = verified.and_then(|verified| Premise::of_macro(verified).longest());
+    longest.map_or(0, |longest| longest.saturating_add(1))
+}
+
+// A macro of a library, verified by the edition that promises something for longer texts, or by the
+// first where they promise the same.
+fn verify_by_best<'l>(
+    alloc: Global,
+    library: &'l Library,
+    entry: Reg,
+) -> Result<Verified<'l>, Refusal>
+    ensures library { IfOk result (λ verified. verified.library ≡ library.now.texts) }
+    ensures declared { IfOk result (λ verified. TakesDeclared library.now verified.fields) }
+    ensures entry { IfOk result (λ verified. verified.fields.entry ≡ entry) }
+{
+    let first = verify_by(alloc, library, entry, Rules::First);
+    let is_starved = matches!(first, Err(Refusal::Memory));
+    if is_starved || reach(first.as_ref().ok()) > AMPLE {
+        return first;
+    }
+    let second = verify_by(alloc, library, entry, Rules::Second);
+    if first.is_ok() && reach(first.as_ref().ok()) >= reach(second.as_ref().ok()) {
+        return first;
+    }
+    second
+}
+
+// What the verifier knows of a macro by the edition whose verdict is taken.
+fn account_by_best<'l>(
+    alloc: Global,
+    library: &'l Library,
+    entry: Reg,
+) -> Result<Account<'l>, AllocError>
+    ensures library { IfOk result (λ told. IfOk told.verdict
+        (λ verified. verified.library ≡ library.now.texts)) }
+    ensures declared { IfOk result (λ told. IfOk told.verdict
+        (λ verified. TakesDeclared library.now verified.fields)) }
+    ensures entry { IfOk result (λ told. IfOk told.verdict
+        (λ verified. verified.fields.entry ≡ entry)) }
+{
+    let first = account_by(alloc, library, entry, Rules::First)?;
+    if reach(first.verdict().ok()) > AMPLE {
+        return Ok(first);
+    }
+    let second = account_by(alloc, library, entry, Rules::Second)?;
+    if first.verdict().is_ok() && reach(first.verdict().ok()) >= reach(second.verdict().ok()) {
+        return Ok(first);
+    }
+    Ok(second)
+}
+
+impl Editions {
+    /// The newest of them, whose refusal is reported where each refuses.
+    pub fn newest(self) -> Rules {
+        match self {
+            Editions::Only(rules) => rules,
+            Editions::Best => Rules::Second,
+        }
+    }
+
+    /// A macro of a library, if one of them accepts it. Of two that accept it the one is taken that
+    /// promises something for longer texts, unless the first does so for long ones.
+    pub fn verify<'l>(
+        self,
+        alloc: Global,
+        library: &'l Library,
+        entry: Reg,
+    ) -> Result<Verified<'l>, Refusal>
+        ensures library { IfOk result (λ verified. verified.library ≡ library.now.texts) }
+        ensures declared { IfOk result (λ verified. TakesDeclared library.now verified.fields) }
+        ensures entry { IfOk result (λ verified. verified.fields.entry ≡ entry) }
+    {
+        match self {
+            Editions::Only(rules) => verify_by(alloc, library, entry, rules),
+            Editions::Best => verify_by_best(alloc, library, entry),
+        }
+    }
+
+    /// What the verifier knows of a macro of a library by the edition whose verdict is taken.
+    pub fn account<'l>(
+        self,
+        alloc: Global,
+        library: &'l Library,
+        entry: Reg,
+    ) -> Result<Account<'l>, AllocError>
+        ensures library { IfOk result (λ told. IfOk told.verdict
+            (λ verified. verified.library ≡ library.now.texts)) }
+        ensures declared { IfOk result (λ told. IfOk told.verdict
+            (λ verified. TakesDeclared library.now verified.fields)) }
+        ensures entry { IfOk result (λ told. IfOk told.verdict
+            (λ verified. verified.fields.entry ≡ entry)) }
+    {
+        match self {
+            Editions::Only(rules) => account_by(alloc, library, entry, rules),
+            Editions::Best => account_by_best(alloc, library, entry),
+        }
+    }
+
+    /// Was the second edition taken where the words name none?
+    pub fn chose_second(self, verified: &Verified<'_>) -> bool {
+        matches!((self, verified.rules()), (Editions::Best, Rules::Second))
+    }
+}
+
+/// What is said of a macro that is verified by the second edition, where the words name none.
+pub const BY_SECOND: &str = "verified by the second edition of the rules";
+
+/// Says that a macro is verified by the second edition, where the words name no edition.
+pub fn tell_edition<E: Write + Drop>(
+    voice: &mut Voice<E>,
+    editions: Editions,
+    verified: &Verified<'_>,
+) {
+    if editions.chose_second(verified) {
+        voice.say(BY_SECOND);
+    }
+}
