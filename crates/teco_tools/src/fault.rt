@@ -14,11 +14,14 @@ pub enum ToolFault {
     /// A session could not go on.
     #[error("{0}")]
     Session(SessionFault),
-    /// A text was given for a register of the library.
-    #[error("--set {register}: the library has a text for this register")]
-    Taken {
-        /// The register's name.
-        register: char,
+    /// Files were to be kept with a suffix that none can have.
+    #[error("--backup takes what the names of kept files end with: one byte at least, and no slash")]
+    Suffix,
+    /// A file was to be kept under the name of another that is edited.
+    #[error("--backup would keep a file as {path}, which is to be edited too; nothing is changed")]
+    Kept {
+        /// The path, as messages have it.
+        path: String,
     },
     /// A run was to be within its promise, and the length of the input can't be told.
     #[error("--strict wants an input whose length is known, and this one is no regular file")]

@@ -1,28 +1,24 @@
-//! What `run`, `apply`, `edit` and `trace` do.
+//! Sessions over scripts, and what they share with edits of files: hosts over standard streams, texts
+//! of registers, and what is said of codes.
 #![tactic(auto)]
 
-mod applying;
-mod editing;
 mod fault;
-mod keeping;
+mod machines;
 mod messages;
-mod promise;
 mod prompting;
 mod reporting;
 mod running;
 mod setting;
 mod streams;
 mod strings;
-mod subject;
 mod telling;
-mod tracing;
-mod watching;
 
-pub use applying::{Names, Task, apply_macro};
-pub use editing::{InPlace, edit_files};
 pub use fault::ToolFault;
+pub use machines::{machine_with, within_limit};
+pub use messages::tell_anyway;
 pub use prompting::Prompting;
+pub use reporting::{Reporting, tell_trouble};
 pub use running::{Run, Script, run_scripts};
-pub use setting::Setting;
-pub use streams::{INPUT, OUTPUT, Streams};
-pub use tracing::{Listing, trace_macro};
+pub use setting::{Case, Start, prepare};
+pub use streams::{INPUT, OUTPUT, Streams, told_name};
+pub use telling::{code_of, size_of, tell_macro};

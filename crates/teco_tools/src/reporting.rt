@@ -1,9 +1,7 @@
 //! What hosts of files say of their calls.
 use crate::messages::tell;
-use std::fs::Files;
 use std::io::Write;
-use std::time::Clock;
-use teco_pages::{FileHost, Trouble};
+use teco_pages::{FileHost, System, Trouble};
 use teco_verdicts::Voice;
 
 /// A host that says what is left of its input, and why its last call that failed did.
@@ -11,13 +9,20 @@ pub trait Reporting {
     /// How many bytes of the open input were not given yet, if that can be told.
     fn left_of_input(&self) -> Option<u64>;
 
+    /// How many bytes the open input had at first, if that can be told.
+    fn input_length(&self) -> Option<u64>;
+
     /// What could not be done in the last call that failed.
     fn trouble(&self) -> Option<&Trouble>;
 }
 
-impl<R: Files + Clock + Drop> Reporting for FileHost<R> {
+impl<R: System> Reporting for FileHost<R> {
     fn left_of_input(&self) -> Option<u64> {
         FileHost::left_of_input(self)
+    }
+
+    fn input_length(&self) -> Option<u64> {
+        FileHost::input_length(self)
     }
 
     fn trouble(&self) -> Option<&Trouble> {

@@ -3,18 +3,17 @@ ghost use Rattle.std.specs.Prelude.{◌≤◌};
 ghost use Rattle.teco_base.specs.declared.TheConstants.{LIMIT};
 
 use crate::fault::ToolFault;
+use crate::machines::machine_with;
 use crate::reporting::tell_trouble;
-use crate::setting::{Setting, set_texts};
+use crate::setting::{Start, prepare};
 use crate::strings::Progress;
-use crate::subject::machine_with;
 use crate::telling::{Scene, code_of, size_of, tell_macro};
 use std::alloc::{AllocError, Global};
 use std::fs::Files;
 use std::io::{Input, Read, Write};
-use std::time::Clock;
 use teco_base::{Code, LIMIT};
 use teco_model::Limits;
-use teco_pages::FileHost;
+use teco_pages::{FileHost, System};
 use teco_run::{Machine, Stop, Stopped};
 use teco_session::{Conduct, Done, Listener, SessionFault, session_heard};
 use teco_source::{Position, Shown, Source};
@@ -43,8 +42,8 @@ pub struct Run<'a, 's> {
     pub cap: usize,
     /// Does the first code end it?
     pub until_code: bool,
-    /// What registers have before it.
-    pub settings: &'s [Setting],
+    /// What the machine has before it.
+    pub start: Start<'s>,
 }
 
 // Says to people what a session stopped at.
@@ -104,8 +103,8 @@ impl<'a, E: Write + Drop> Teller<'a, E> {
         code: Code,
     ) {
         let place = stopped.site.place;
-        if let Some(register) = stopped.site.register {
-            tell_macro(self.voice, stopped, register, machine, code);
+        if stopped.site.register.is_some() {
+            tell_macro(self.voice, None, stopped, machine, code);
             return;
         }
         let scene = Scene::of(text, place, machine, code);
@@ -136,7 +135,7 @@ impl<'a, E: Write + Drop> Teller<'a, E> {
 
 impl<F, E> Listener<FileHost<F>> for Teller<'_, E>
 where
-    F: Files + Clock + Drop,
+    F: System,
     E: Write + Drop,
 {
     fn stopped<T: TextStore>(
@@ -224,7 +223,7 @@ fn run_stream<S, F, O, E>(
 ) -> Result<Done, SessionFault>
 where
     S: Read,
-    F: Files + Clock + Drop,
+    F: System,
     O: Write + Drop,
     E: Write + Drop,
     requires { conduct.limits.length ≤ LIMIT }
@@ -251,7 +250,7 @@ fn run_source<F, O, E>(
     host: &mut FileHost<F>,
 ) -> Result<Done, SessionFault>
 where
-    F: Files + Clock + Drop,
+    F: System,
     O: Write + Drop,
     E: Write + Drop,
     requires { conduct.limits.length ≤ LIMIT }
@@ -272,13 +271,13 @@ where
 
 // A machine that runs scripts, with where it types to, and its files.
 #[derive(Drop)]
-struct Desk<'c, 'h, O: Write + Drop, E: Write + Drop, F: Files + Clock + Drop> {
+struct Desk<'c, 'h, O: Write + Drop, E: Write + Drop, F: System> {
     console: &'c mut Console<O, E>,
     machine: Machine<GapText>,
     host: &'h mut FileHost<F>,
 }
 
-impl<O: Write + Drop, E: Write + Drop, F: Files + Clock + Drop> Desk<'_, '_, O, E, F> {
+impl<O: Write + Drop, E: Write + Drop, F: System> Desk<'_, '_, O, E, F> {
     // Runs what a source says, or what a reader gives where there is none.
     fn run_script<S: Read>(
         &mut self,
@@ -330,10 +329,10 @@ impl<O: Write + Drop, E: Write + Drop, F: Files + Clock + Drop> Desk<'_, '_, O, 
         run: &Run<'_, '_>,
         reader: &mut S,
     ) -> Result<Outcome, ToolFault> {
-        set_texts(&mut self.machine, run.settings)?;
+        prepare(&mut self.machine, run.start, self.host)?;
         let done = self.run_each(rt, run, reader)?;
-        tell_left(self.console, &self.machine, done.exit);
-        Ok(if done.coded {
+        let is_all_kept = tell_left(self.console, &self.machine, done.exit);
+        Ok(if done.coded || !is_all_kept {
             Outcome::Coded
         } else {
             Outcome::Done
@@ -342,24 +341,27 @@ impl<O: Write + Drop, E: Write + Drop, F: Files + Clock + Drop> Desk<'_, '_, O, 
 }
 
 // Says what a run leaves that is lost: an output that isn't closed, and text that the end of the
-// session drops.
+// session drops. Answers whether what was written to an output is kept.
 fn tell_left<O: Write + Drop, E: Write + Drop>(
     console: &mut Console<O, E>,
     machine: &Machine<GapText>,
     is_exit: bool,
-) {
+) -> bool {
     let (_, length) = size_of(machine);
     if machine.has_output() {
         console.complain(
             "an output is still open, and what was written to it is dropped: \
                 close it with EC or EF",
         );
-    } else if is_exit && length > 0 {
+        return false;
+    }
+    if is_exit && length > 0 {
         console.complain(format_args!(
             "EX ended the session with {length} characters in the buffer and no output, \
                 and they are dropped"
         ));
     }
+    true
 }
 
 /// Runs scripts one after another on one machine, over the files of a host; the stream among them
@@ -375,7 +377,7 @@ pub fn run_scripts<R, S, F, O, E>(
 where
     R: Files + Input,
     S: Read,
-    F: Files + Clock + Drop,
+    F: System,
     O: Write + Drop,
     E: Write + Drop,
 {

@@ -5,61 +5,12 @@ ghost use Rattle.teco_base.specs.declared.TheConstants.{LIMIT};
 ghost use Rattle.teco_regs.specs.Texts.{IsTextWithinLimit};
 
 use crate::fault::ToolFault;
-use std::alloc::{AllocError, Global};
+use crate::machines::within_limit;
 use teco_base::{LIMIT, REGISTERS, Reg};
-use teco_library::Library;
-use teco_run::Machine;
-use teco_source::Source;
+use teco_pages::Host;
+use teco_run::{Machine, Stop};
 use teco_text::TextStore;
-use teco_verdicts::{Escape, form_of_word};
-
-/// A word of the command line that gives a register a text, as `A=TEXT`.
-#[derive(Drop)]
-pub struct Setting {
-    register: Reg,
-    text: Vec<u8>,
-    ghost within: { length text.items ≤ LIMIT },
-}
-
-impl Setting {
-    /// Reads a word, whose text is in the form of words; none where it is no such word, or its text
-    /// is too long.
-    pub fn read(alloc: Global, word: &str, escape: Escape) -> Result<Option<Setting>, AllocError> {
-        let Some((register, text)) = parts_of(word) else {
-            return Ok(None);
-        };
-        Ok(Setting::of(register, text_of(alloc, text, escape)?))
-    }
-
-    // The text of a register; none where it is too long.
-    fn of(register: Reg, text: Vec<u8>) -> Option<Setting> {
-        if text.len() > LIMIT {
-            None
-        } else {
-            Some(Setting { register, text })
-        }
-    }
-}
-
-// The register and the text of a word.
-fn parts_of(word: &str) -> Option<(Reg, &str)> {
-    let (name, text) = word.split_once('=')?;
-    let register = register_named(name.as_bytes())?;
-    Some((register, text))
-}
-
-// What a text in the form of words says.
-fn text_of(alloc: Global, text: &str, escape: Escape) -> Result<Vec<u8>, AllocError> {
-    form_of_word(escape).read(alloc, text.as_bytes())
-}
-
-// The register of a name.
-fn register_named(name: &[u8]) -> Option<Reg> {
-    match name {
-        [name] => Reg::of(*name),
-        _ => None,
-    }
-}
+use teco_verdicts::{AnswerFault, Setting};
 
 // No texts.
 fn no_texts<'a>() -> [Option<&'a [u8]>; REGISTERS]
@@ -83,25 +34,67 @@ fn with_text<'a>(
     texts
 }
 
-/// Gives registers their texts.
-pub fn set_texts<T: TextStore>(
+/// How searches treat the case of letters.
+#[derive(Clone, Copy, Debug, PartialEq, Eq)]
+pub enum Case {
+    /// A letter matches itself alone.
+    Exact,
+    /// A letter matches itself in either case.
+    Any,
+}
+
+impl Case {
+    // The command string that makes searches treat it so.
+    fn command(self) -> &'static [u8] {
+        match self {
+            Case::Exact => b"1^X",
+            Case::Any => b"0^X",
+        }
+    }
+}
+
+/// What a machine has before a run.
+#[derive(Clone, Copy)]
+pub struct Start<'s> {
+    /// The texts of registers.
+    pub settings: &'s [Setting],
+    /// How searches treat case until a command says otherwise; in any case where it is none.
+    pub case: Option<Case>,
+}
+
+impl Start<'_> {
+    /// Nothing but what a new machine has.
+    pub fn new() -> Start<'static> {
+        Start {
+            settings: &[],
+            case: None,
+        }
+    }
+}
+
+// Gives registers their texts.
+fn set_texts<T: TextStore>(
     machine: &mut Machine<T>,
     settings: &[Setting],
 ) -> Result<(), ToolFault> {
     for given in settings {
-        machine.load(with_text(no_texts(), given.register, &given.text))?;
+        machine.load(with_text(no_texts(), given.register(), given.text()))?;
     }
     Ok(())
 }
 
-/// Refuses a text for a register that the library gives one.
-pub fn check_settings(library: &Library, settings: &[Setting]) -> Result<(), ToolFault> {
-    for given in settings {
-        if library.contains(given.register) {
-            return Err(ToolFault::Taken {
-                register: char::from(given.register.name()),
-            });
-        }
+/// Gives a new machine what it has before a run.
+pub fn prepare<T: TextStore, H: Host>(
+    machine: &mut Machine<T>,
+    start: Start<'_>,
+    host: &mut H,
+) -> Result<(), ToolFault> {
+    set_texts(machine, start.settings)?;
+    let Some(case) = start.case else {
+        return Ok(());
+    };
+    match machine.run(within_limit(case.command())?, u64::MAX, host) {
+        Stop::Memory => Err(AnswerFault::Memory.into()),
+        _ => Ok(()),
     }
-    Ok(())
 }

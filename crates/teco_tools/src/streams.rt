@@ -273,6 +273,13 @@ impl<H: Host + Reporting + Drop, I: Read + Drop, O: Write + Drop> Reporting for 
         }
     }
 
+    fn input_length(&self) -> Option<u64> {
+        match self.input {
+            Open::File => self.files.input_length(),
+            Open::Stream => None,
+        }
+    }
+
     fn trouble(&self) -> Option<&Trouble> {
         self.trouble.as_ref().or(self.files.trouble())
     }

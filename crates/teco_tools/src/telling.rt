@@ -73,19 +73,30 @@ impl fmt::Display for Scene<'_> {
     }
 }
 
-/// Says where in a macro a run stopped.
+/// Says where in a macro a run stopped, on the file of a name if one is given.
 pub fn tell_macro<T: TextStore, E: Write + Drop>(
     voice: &mut Voice<E>,
+    file: Option<&[u8]>,
     stopped: &Stopped,
-    register: Reg,
     machine: &Machine<T>,
     code: Code,
 ) {
+    let Some(register) = stopped.site.register else {
+        return;
+    };
     let place = stopped.site.place;
     let text = machine.regs().text(register);
     let scene = Scene::of(text, place, machine, code);
     let name = scene.letters();
     let Position { line, column } = Position::of(text, place);
     let register = char::from(register.name());
-    voice.say(format_args!("?{name} at {line}:{column} in macro {register}: {scene}"));
+    match file {
+        None => voice.say(format_args!("?{name} at {line}:{column} in macro {register}: {scene}")),
+        Some(file) => {
+            let file = Shown(file);
+            voice.complain(format_args!(
+                "{file}: ?{name} at {line}:{column} in macro {register}: {scene}"
+            ));
+        }
+    }
 }

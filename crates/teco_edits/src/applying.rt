@@ -1,0 +1,323 @@
+//! `apply`: a file is edited by a verified macro.
+ghost use Rattle.std.specs.Prelude.{◌≤◌, length};
+ghost use Rattle.teco_apply.specs.declared.editing.TheConstants.{NAME};
+
+use crate::promise::Promise;
+use crate::subject::{Subject, read_subject, refuse_subject};
+use crate::watching::{Seen, Warden, Watch};
+use std::alloc::Global;
+use std::fs::{Files, Metadata};
+use std::io::{Input, Write};
+use std::os::unix::fs::MetadataExt;
+use std::{fs, str};
+use teco_apply::{Edit, Edited, Pages, edit_file};
+use teco_base::Reg;
+use teco_model::Needs;
+use teco_pages::Host;
+use teco_run::Machine;
+use teco_session::SessionFault;
+use teco_source::Shown;
+use teco_text::GapText;
+use teco_tools::{Reporting, Start, ToolFault, machine_with, prepare, tell_anyway, told_name};
+use teco_verdicts::{
+    Console, Grouped, Known, Outcome, Request, Setup, Voice, tell_edition, warn_no_text,
+};
+use teco_verify::Verified;
+
+/// A macro of a library, and how it is run on files.
+#[derive(Clone, Copy)]
+pub struct Task<'a, 's> {
+    pub library: Request<'a>,
+    pub entry: Reg,
+    /// The file of its certificate, which is checked; without one the macro is verified.
+    pub certificate: Option<&'a str>,
+    /// The argument that the macro is called with, if it is.
+    pub argument: Option<i32>,
+    /// The pages that it edits.
+    pub pages: Pages,
+    /// What the machine has before it is run.
+    pub start: Start<'s>,
+    /// The bytes that each run may type, and that its calls may take.
+    pub cap: usize,
+    /// Is a run outside its promise refused?
+    pub is_strict: bool,
+    /// Is a file refused whose first page alone would be edited, where it has more?
+    pub wants_all: bool,
+    /// Is it said how many commands the runs took?
+    pub tells_counts: bool,
+    /// Is the promise told before files are edited?
+    pub tells_promise: bool,
+}
+
+impl Task<'_, '_> {
+    /// The macro, and what registers are given before its runs. These texts do not belong to a
+    /// library that a certificate is for.
+    pub fn setup(&self) -> Setup<'_> {
+        Setup {
+            entry: self.entry,
+            settings: self.start.settings,
+            is_open: self.certificate.is_none(),
+        }
+    }
+}
+
+/// A file that is edited into another.
+#[derive(Clone, Copy)]
+pub struct Names<'a> {
+    pub source: &'a [u8],
+    pub target: &'a [u8],
+    ghost short_source: { length source.now ≤ NAME },
+    ghost short_target: { length target.now ≤ NAME },
+}
+
+// Says how many commands the runs on a file took. It was asked for, so it is said in any case.
+fn tell_counts<E: Write + Drop>(voice: &mut Voice<E>, name: &[u8], edited: Edited, seen: Seen) {
+    let name = Shown(told_name(name));
+    let pages = Grouped(edited.pages);
+    let steps = Grouped(edited.steps);
+    let bound = Known(seen.bound);
+    let most = Known(seen.most);
+    tell_anyway(
+        voice,
+        format_args!(
+            "{name}: pages {pages}, commands {steps}, at most {bound} by the promise, N at most \
+                {most}"
+        ),
+    );
+}
+
+// Says how many bytes behind the first page were copied as they were, in any case.
+fn tell_unedited<E: Write + Drop>(voice: &mut Voice<E>, name: &[u8], unread: u64) {
+    let name = Shown(told_name(name));
+    let count = Grouped(unread);
+    tell_anyway(
+        voice,
+        format_args!(
+            "{name}: {count} bytes behind the first page were copied unedited; --pages each \
+                or --pages whole edits them too"
+        ),
+    );
+}
+
+/// A macro that was accepted, and how files are edited by it.
+#[derive(Clone, Copy)]
+pub struct Job<'a> {
+    /// What memory for machines comes from.
+    pub alloc: Global,
+    pub task: &'a Task<'a, 'a>,
+    pub verified: &'a Verified<'a>,
+}
+
+impl<'a> Job<'a> {
+    // What is watched of the runs on the file of a name.
+    fn watch(self, name: &'a [u8]) -> Watch<'a> {
+        let is_first = matches!(self.task.pages, Pages::First);
+        Watch {
+            name,
+            promise: Promise::of(self.verified),
+            is_strict: self.task.is_strict,
+            wants_all: self.task.wants_all && is_first && !self.turns_pages(),
+        }
+    }
+
+    /// Does the macro read or write pages itself?
+    pub fn turns_pages(self) -> bool {
+        let Needs { input, output } = self.verified.needs();
+        input || output
+    }
+}
+
+// What came of an edit, and what was seen of its runs.
+#[derive(Clone, Copy)]
+struct Watched {
+    edited: Edited,
+    seen: Seen,
+}
+
+// What came of an edit that was watched, if it came to its end.
+fn with_seen(edited: Result<Edited, SessionFault>, seen: Seen) -> Result<Watched, ToolFault> {
+    Ok(Watched {
+        edited: edited?,
+        seen,
+    })
+}
+
+/// Where what is typed goes, and what is said.
+#[derive(Drop)]
+pub struct Channels<'a, O: Write, E: Write + Drop> {
+    pub out: &'a mut O,
+    pub voice: &'a mut Voice<E>,
+}
+
+// Edits a file on a machine, and watches the runs.
+fn watch_edit<H: Host + Reporting, O: Write, E: Write + Drop>(
+    channels: &mut Channels<'_, O, E>,
+    machine: &mut Machine<GapText>,
+    job: Job<'_>,
+    names: Names<'_>,
+    host: &mut H,
+) -> Result<Watched, ToolFault> {
+    let edit = Edit {
+        alloc: job.alloc,
+        verified: job.verified,
+        source: names.source,
+        target: names.target,
+        given: job.task.argument,
+        pages: job.task.pages,
+    };
+    let mut warden = Warden::new(channels.voice, job.watch(names.source));
+    let edited = edit_file(machine, &edit, host, channels.out, &mut warden);
+    with_seen(edited, warden.seen())
+}
+
+// Edits a file on a machine, and says what there is to be said of it.
+fn edit_on<H: Host + Reporting, O: Write, E: Write + Drop>(
+    channels: &mut Channels<'_, O, E>,
+    machine: &mut Machine<GapText>,
+    job: Job<'_>,
+    names: Names<'_>,
+    host: &mut H,
+) -> Result<Outcome, ToolFault> {
+    prepare(machine, job.task.start, host)?;
+    let watched = watch_edit(channels, machine, job, names, host)?;
+    conclude(channels.voice, job.task, names.source, watched)
+}
+
+/// Edits a file by a verified macro over the files of a host, and says what there is to be said of
+/// it.
+pub fn edit_by<H: Host + Reporting, O: Write, E: Write + Drop>(
+    channels: &mut Channels<'_, O, E>,
+    job: Job<'_>,
+    names: Names<'_>,
+    host: &mut H,
+) -> Result<Outcome, ToolFault> {
+    let mut machine = machine_with(job.alloc, job.task.cap);
+    edit_on(channels, &mut machine, job, names, host)
+}
+
+// Says what came of an edit.
+fn conclude<E: Write + Drop>(
+    voice: &mut Voice<E>,
+    task: &Task<'_, '_>,
+    name: &[u8],
+    watched: Watched,
+) -> Result<Outcome, ToolFault> {
+    let Watched { edited, seen } = watched;
+    if task.tells_counts {
+        tell_counts(voice, name, edited, seen);
+    }
+    if edited.refused {
+        return refused(seen);
+    }
+    if edited.coded {
+        return Ok(Outcome::Coded);
+    }
+    Ok(outcome_of_rest(voice, task, name, seen))
+}
+
+// Says what was left unedited of a file whose first page was edited, and what comes of that.
+fn outcome_of_rest<E: Write + Drop>(
+    voice: &mut Voice<E>,
+    task: &Task<'_, '_>,
+    name: &[u8],
+    seen: Seen,
+) -> Outcome {
+    match (task.pages, seen.unread) {
+        (Pages::First, Some(unread)) if unread > 0 => {
+            tell_unedited(voice, name, unread);
+            if task.wants_all {
+                Outcome::Refused
+            } else {
+                Outcome::Done
+            }
+        }
+        _ => Outcome::Done,
+    }
+}
+
+// What comes of an edit that was refused a run.
+fn refused(seen: Seen) -> Result<Outcome, ToolFault> {
+    match seen.most {
+        None => Err(ToolFault::Unsized),
+        Some(_) => Ok(Outcome::Refused),
+    }
+}
+
+// A file that is edited into another, unless that is the same one.
+#[derive(Clone, Copy)]
+struct Errand<'a> {
+    names: Names<'a>,
+    is_one_file: bool,
+}
+
+// Edits a file by the macro that a task is about, if it is accepted.
+fn apply_subject<H: Host + Reporting, O: Write + Drop, E: Write + Drop>(
+    console: &mut Console<O, E>,
+    task: &Task<'_, '_>,
+    errand: Errand<'_>,
+    subject: &Subject<'_>,
+    host: &mut H,
+) -> Result<Outcome, ToolFault> {
+    match subject.accepted(console.alloc, task.entry) {
+        Ok(_) if errand.is_one_file => refuse_names(console),
+        Ok(verified) => {
+            let editions = subject.sourced.editions;
+            tell_edition(&mut console.voice, editions, &verified);
+            warn_no_text(console, &subject.sourced, &verified)?;
+            let job = Job {
+                alloc: console.alloc,
+                task,
+                verified: &verified,
+            };
+            let mut channels = Channels {
+                out: &mut console.out,
+                voice: &mut console.voice,
+            };
+            edit_by(&mut channels, job, errand.names, host)
+        }
+        Err(refusal) => refuse_subject(console, subject, task.entry, refusal),
+    }
+}
+
+// Do two names lead to one file that is there?
+fn are_one_file<R: Files>(rt: &R, names: Names<'_>) -> bool {
+    let (Some(source), Some(target)) = (file_at(rt, names.source), file_at(rt, names.target)) else {
+        return false;
+    };
+    source.dev() == target.dev() && source.ino() == target.ino()
+}
+
+// The file that a name leads to, if one is there.
+fn file_at<R: Files>(rt: &R, name: &[u8]) -> Option<Metadata> {
+    let name = str::from_utf8(name).ok()?;
+    let metadata = fs::metadata(rt, name).ok()?;
+    metadata.is_file().then_some(metadata)
+}
+
+/// Edits a file into another by a macro of a library, which is verified first, or whose certificate
+/// is checked, over the files of a host.
+pub fn apply_macro<R: Files + Input, H: Host + Reporting, O: Write + Drop, E: Write + Drop>(
+    rt: &R,
+    console: &mut Console<O, E>,
+    task: &Task<'_, '_>,
+    names: Names<'_>,
+    host: &mut H,
+) -> Result<Outcome, ToolFault> {
+    let errand = Errand {
+        names,
+        is_one_file: are_one_file(rt, names),
+    };
+    match read_subject(rt, console, task)? {
+        Some(subject) => apply_subject(console, task, errand, &subject, host),
+        None => Ok(Outcome::Refused),
+    }
+}
+
+// Says that one file can't be both read and written.
+fn refuse_names<O: Write + Drop, E: Write + Drop>(
+    console: &mut Console<O, E>,
+) -> Result<Outcome, ToolFault> {
+    console.answer("?ARG\r\n")?;
+    console.complain("IN and OUT are one file; teco edit changes a file in place (?ARG)");
+    Ok(Outcome::Coded)
+}

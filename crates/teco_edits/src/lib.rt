@@ -1,0 +1,28 @@
+//! Edits of files by verified macros, in place or into others, and lists of their steps.
+#![tactic(auto)]
+
+mod applying;
+mod backups;
+mod choosing;
+mod diff;
+mod editing;
+mod folders;
+mod lines;
+mod opening;
+mod pattern;
+mod preview;
+mod progress;
+mod promise;
+mod subject;
+mod tracing;
+mod typed;
+mod watching;
+
+pub use applying::{Names, Task, apply_macro};
+pub use choosing::{Choice, Chosen, choose};
+pub use diff::{Look, changed_lines, write_diff};
+pub use editing::{Change, InPlace, Keeping, edit_files};
+pub use opening::{call, open_pages};
+pub use pattern::matches;
+pub use tracing::{Listing, trace_macro};
+pub use typed::Naming;
