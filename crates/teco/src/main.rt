@@ -5,24 +5,43 @@ mod fault;
 
 use crate::fault::ProgramFault;
 use clap::ArgMatches;
-use std::io;
 use std::io::{Input, IsTerminal, Write};
 use std::process::ExitCode;
-use teco_apply::Pages;
+use std::{env, io};
+use teco_edits::{InPlace, Listing, Names, Task, apply_macro, choose, edit_files, trace_macro};
 use teco_pages::{Closing, FileHost};
-use teco_tools::{
-    InPlace, Listing, Names, OUTPUT, Prompting, Run, Setting, Streams, Task, apply_macro,
-    edit_files, run_scripts, trace_macro,
-};
+use teco_tools::{OUTPUT, Prompting, Run, Start, Streams, run_scripts};
 use teco_verdicts::{
-    Console, Outcome, Request, check_macro, explain, explain_macro, show, show_source,
-    verify_library, verify_library_as_json, verify_macro, verify_macro_as_json,
+    Console, Outcome, Request, Setting, check_macro, editions_for, explain, explain_all,
+    explain_macro, show, show_source, verify_library, verify_library_as_json, verify_macro,
+    verify_macro_as_json,
 };
 use teco_words::{Arguments, WordsFault};
 
 /// The command line names no command, or a file of macros, a certificate, standard input, standard
 /// output or memory failed.
 const FAILED: u8 = 2;
+
+// The texts that registers are given before a run, those of files last.
+fn settings(rt: &HostRuntime, given: &ArgMatches<'_>) -> Result<Vec<Setting>, ProgramFault> {
+    let escape = teco_words::escape_of(given)?;
+    let mut settings = teco_words::settings(rt.alloc(), given, escape)?;
+    for word in teco_words::setting_files(given) {
+        match Setting::read_file(rt, rt.alloc(), *word)? {
+            Some(setting) => settings.push(setting)?,
+            None => return Err(WordsFault::Setting.into()),
+        }
+    }
+    Ok(settings)
+}
+
+// What a machine has before a run.
+fn start<'s>(given: &ArgMatches<'_>, settings: &'s [Setting]) -> Result<Start<'s>, WordsFault> {
+    Ok(Start {
+        settings,
+        case: teco_words::case(given)?,
+    })
+}
 
 // `run`.
 fn run<O: Write + Drop, E: Write + Drop>(
@@ -32,14 +51,14 @@ fn run<O: Write + Drop, E: Write + Drop>(
 ) -> Result<Outcome, ProgramFault> {
     let escape = teco_words::escape_of(given)?;
     let scripts = teco_words::scripts(rt.alloc(), given)?;
-    let settings = teco_words::settings(rt.alloc(), given, escape)?;
+    let settings = settings(rt, given)?;
     let run = Run {
         scripts: &scripts,
         escape,
         limit: u64::from(teco_words::limit(given)),
         cap: teco_words::cap(given),
         until_code: given.get_flag("stop"),
-        settings: &settings,
+        start: start(given, &settings)?,
     };
     let errors = rt.stderr();
     let is_terminal = rt.stdin().is_terminal() && errors.is_terminal();
@@ -49,11 +68,14 @@ fn run<O: Write + Drop, E: Write + Drop>(
 }
 
 // The library that is named, how it writes ESC, and by which rules it is verified.
-fn request<'a>(given: &ArgMatches<'a>) -> Result<Request<'a>, WordsFault> {
+fn request<'m>(given: &'m ArgMatches<'_>, is_best: bool) -> Result<Request<'m>, WordsFault> {
+    let library = teco_words::origin(given)?;
+    let escape = teco_words::escape_of(given)?;
+    let is_best = is_best || library.is_readable(escape);
     Ok(Request {
-        library: teco_words::word(given, "LIB"),
-        escape: teco_words::escape_of(given)?,
-        rules: teco_words::rules_of(given)?,
+        library,
+        escape,
+        editions: editions_for(teco_words::rules_of(given)?, is_best),
     })
 }
 
@@ -79,9 +101,10 @@ fn verify<O: Write + Drop, E: Write + Drop>(
     console: &mut Console<O, E>,
     given: &ArgMatches<'_>,
 ) -> Result<Outcome, ProgramFault> {
-    let request = request(given)?;
+    let names_macro = teco_words::names_macro(given);
+    let request = request(given, !names_macro)?;
     let is_json = given.get_flag("json");
-    if !teco_words::names_register(given) {
+    if !names_macro {
         return Ok(if is_json {
             verify_library_as_json(rt, console, request)?
         } else {
@@ -102,27 +125,30 @@ fn check<O: Write + Drop, E: Write + Drop>(
     console: &mut Console<O, E>,
     given: &ArgMatches<'_>,
 ) -> Result<Outcome, ProgramFault> {
-    let request = request(given)?;
+    let request = request(given, false)?;
     let entry = teco_words::entry(given)?;
     let certificate = teco_words::word(given, "CERT");
     Ok(check_macro(rt, console, request, entry, certificate)?)
 }
 
 // How a macro edits files.
-fn task<'a, 's>(
-    given: &ArgMatches<'a>,
+fn task<'m, 's>(
+    given: &'m ArgMatches<'_>,
     settings: &'s [Setting],
-) -> Result<Task<'a, 's>, ProgramFault> {
+    is_best: bool,
+) -> Result<Task<'m, 's>, ProgramFault> {
     Ok(Task {
-        library: request(given)?,
+        library: request(given, is_best)?,
         entry: teco_words::entry(given)?,
         certificate: given.get_str("cert"),
         argument: teco_words::given(given)?,
         pages: teco_words::pages(given)?,
-        settings,
+        start: start(given, settings)?,
         cap: teco_words::cap(given),
         is_strict: given.get_flag("strict"),
+        wants_all: given.get_flag("strict"),
         tells_counts: given.get_flag("stats"),
+        tells_promise: false,
     })
 }
 
@@ -133,8 +159,11 @@ fn apply<'a, O: Write + Drop, E: Write + Drop>(
     given: &ArgMatches<'a>,
     arguments: &'a Arguments,
 ) -> Result<Outcome, ProgramFault> {
-    let settings = teco_words::settings(rt.alloc(), given, teco_words::escape_of(given)?)?;
-    let task = task(given, &settings)?;
+    if given.get_flag("quiet") {
+        console.voice.hush();
+    }
+    let settings = settings(rt, given)?;
+    let task = task(given, &settings, false)?;
     teco_words::check_streams(given, task.is_strict)?;
     let names = Names {
         source: teco_words::source_name(given, arguments)?,
@@ -146,26 +175,58 @@ fn apply<'a, O: Write + Drop, E: Write + Drop>(
     if names.target == OUTPUT {
         let errors = rt.stderr();
         let mut aside = Console::new(rt.alloc(), io::writer(&errors), io::writer(&errors));
+        if given.get_flag("quiet") {
+            aside.voice.hush();
+        }
         return Ok(apply_macro(rt, &mut aside, &task, names, &mut host)?);
     }
     Ok(apply_macro(rt, console, &task, names, &mut host)?)
 }
 
+// Are colours shown where the words leave that open?
+fn shows_colours(rt: &HostRuntime) -> bool {
+    let is_refused = match env::var(rt, "NO_COLOR") {
+        Ok(text) => !text.is_empty(),
+        Err(_) => false,
+    };
+    let is_dumb = match env::var(rt, "TERM") {
+        Ok(terminal) => terminal.as_str() == "dumb",
+        Err(_) => false,
+    };
+    rt.stdout().is_terminal() && !is_refused && !is_dumb
+}
+
 // `edit`.
-fn edit<O: Write + Drop, E: Write + Drop>(
+fn edit<'a, O: Write + Drop, E: Write + Drop>(
     rt: &HostRuntime,
     console: &mut Console<O, E>,
-    given: &ArgMatches<'_>,
+    given: &ArgMatches<'a>,
+    arguments: &'a Arguments,
 ) -> Result<Outcome, ProgramFault> {
     if given.get_flag("quiet") {
         console.voice.hush();
     }
-    let settings = teco_words::settings(rt.alloc(), given, teco_words::escape_of(given)?)?;
-    let task = task(given, &settings)?;
+    let settings = settings(rt, given)?;
+    let task = Task {
+        is_strict: !given.get_flag("beyond-promise"),
+        wants_all: false,
+        tells_promise: teco_words::has_macro_options(given),
+        ..task(given, &settings, true)?
+    };
+    let names = teco_words::file_names(rt.alloc(), given, arguments)?;
+    let choice = teco_words::choice(given, &names)?;
+    let files = choose(rt, &mut console.voice, &choice)?;
+    let look = teco_words::look(given, shows_colours(rt))?;
     let edit = InPlace {
-        files: given.get_strs("FILE").unwrap_or(&[]),
-        is_dry: given.get_flag("dry-run"),
-        suffix: given.get_str("backup"),
+        files: &files,
+        takes_binary: given.get_flag("binary"),
+        diff: given.get_flag("diff").then_some(look),
+        shows_progress: rt.stderr().is_terminal() && !given.get_flag("quiet"),
+        change: teco_words::change(given),
+        ends_by_nul: given.get_flag("null"),
+        keeping: teco_words::keeping(given),
+        is_durable: given.get_flag("durable"),
+        naming: teco_words::naming(given),
     };
     Ok(edit_files(rt, console, &task, &edit)?)
 }
@@ -177,17 +238,19 @@ fn trace<'a, O: Write + Drop, E: Write + Drop>(
     given: &ArgMatches<'a>,
     arguments: &'a Arguments,
 ) -> Result<Outcome, ProgramFault> {
-    let settings = teco_words::settings(rt.alloc(), given, teco_words::escape_of(given)?)?;
+    let settings = settings(rt, given)?;
     let task = Task {
-        library: request(given)?,
+        library: request(given, true)?,
         entry: teco_words::entry(given)?,
         certificate: None,
         argument: teco_words::given(given)?,
-        pages: Pages::First,
-        settings: &settings,
+        pages: teco_words::pages(given)?,
+        start: start(given, &settings)?,
         cap: teco_words::cap(given),
-        is_strict: false,
+        is_strict: !given.get_flag("beyond-promise"),
+        wants_all: false,
         tells_counts: false,
+        tells_promise: false,
     };
     teco_words::check_streams(given, false)?;
     let listing = Listing {
@@ -209,11 +272,14 @@ fn explain_what<O: Write + Drop, E: Write + Drop>(
     console: &mut Console<O, E>,
     given: &ArgMatches<'_>,
 ) -> Result<Outcome, ProgramFault> {
-    if teco_words::names_register(given) {
+    if teco_words::names_macro(given) {
         let entry = teco_words::entry(given)?;
-        return Ok(explain_macro(rt, console, request(given)?, entry)?);
+        return Ok(explain_macro(rt, console, request(given, true)?, entry)?);
     }
-    match explain(console, teco_words::word(given, "LIB"))? {
+    let Some(word) = given.get_str("LIB") else {
+        return Ok(explain_all(console)?);
+    };
+    match explain(console, word)? {
         Some(outcome) => Ok(outcome),
         None => Err(WordsFault::Unknown.into()),
     }
@@ -226,17 +292,36 @@ fn obey<'a, O: Write + Drop, E: Write + Drop>(
     matches: &ArgMatches<'a>,
     arguments: &'a Arguments,
 ) -> Result<Outcome, ProgramFault> {
+    if let Some((name, given)) = matches.subcommand() {
+        teco_words::check_texts(rt.alloc(), name, given, arguments)?;
+    }
     match matches.subcommand() {
         Some(("run", given)) => run(rt, console, given),
         Some(("verify", given)) => verify(rt, console, given),
         Some(("check", given)) => check(rt, console, given),
         Some(("apply", given)) => apply(rt, console, given, arguments),
-        Some(("edit", given)) => edit(rt, console, given),
+        Some(("edit", given)) => edit(rt, console, given, arguments),
         Some(("trace", given)) => trace(rt, console, given, arguments),
         Some(("show", given)) => show_file(rt, console, given),
         Some(("explain", given)) => explain_what(rt, console, given),
         _ => Err(WordsFault::Unknown.into()),
     }
+}
+
+// Prints why words are no command, or the help that they ask for, safe for a terminal.
+fn print_refusal(
+    rt: &HostRuntime,
+    arguments: &Arguments,
+    error: &clap::Error,
+) -> Result<ExitCode, ProgramFault> {
+    let text = format!(in rt.alloc(); "{error}")?;
+    let shown = arguments.shown(rt.alloc(), text.as_str())?;
+    if error.use_stderr() {
+        eprint!(rt; "{shown}")?;
+    } else {
+        print!(rt; "{shown}")?;
+    }
+    Ok(ExitCode::from(error.exit_code() as u8))
 }
 
 // Reads the words, and does what they say.
@@ -245,10 +330,7 @@ fn read_and_obey(rt: &HostRuntime) -> Result<ExitCode, ProgramFault> {
     let command = teco_words::command(rt.alloc(), arguments.texts())?;
     let matches = match command.try_get_matches_from(arguments.texts()) {
         Ok(matches) => matches,
-        Err(error) => {
-            error.print(rt)?;
-            return Ok(ExitCode::from(error.exit_code() as u8));
-        }
+        Err(error) => return print_refusal(rt, &arguments, &error),
     };
     let errors = rt.stderr();
     let mut console = Console::new(rt.alloc(), io::writer(rt), io::writer(&errors));

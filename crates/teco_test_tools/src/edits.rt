@@ -5,14 +5,15 @@ use std::process::Abort;
 use std::test::Fail;
 use std::{fs, io};
 use teco_apply::Pages;
-use teco_pages::FileHost;
-use teco_tools::{
-    INPUT, InPlace, Names, OUTPUT, Setting, Streams, Task, ToolFault, apply_macro, edit_files,
+use teco_edits::{
+    Change, Choice, Chosen, InPlace, Keeping, Names, Naming, Task, apply_macro, choose, edit_files,
 };
-use teco_verdicts::{Escape, Outcome, Request};
+use teco_pages::FileHost;
+use teco_tools::{INPUT, OUTPUT, Start, Streams, ToolFault};
+use teco_verdicts::{AnswerFault, Escape, Outcome, Request, Setting};
 
-/// Puts bar in the place of each foo.
-const REPLACES: &[u8] = b"@^UA/J<FSfoo$bar$;>/";
+/// Puts bar in the place of each foo, in this case alone.
+const REPLACES: &[u8] = b"@^UA/1^XJ<FSfoo$bar$;>/";
 
 /// Three pages, each with a foo.
 const THREE: &[u8] = b"a foo\x0cfoo\x0c\x0cfoo";
@@ -60,7 +61,7 @@ const ROWS: &[Row] = &[
         true,
         b"a bar\x0cbar\x0c\x0cbar",
         Outcome::Done,
-        "somleut_tools_in: pages 1, commands 15, at most 91 by the promise, N at most 28\n",
+        "somleut_tools_in: pages 1, commands 17, at most 102 by the promise, N at most 31\n",
     ),
 ];
 
@@ -151,8 +152,10 @@ fn expect_strict(abort: &impl Abort, rt: &HostRuntime, request: Request<'static>
         ..task(request)
     };
     let came = edited(rt, &task, names);
-    let said =
-        "teco: somleut_tools_given: N = 21 is outside the promise, which holds for no text\n";
+    let said = "warning: the promise of A holds for no text: \
+        the count at 1:21 may be up to 2,147,483,647\n\
+        teco: somleut_tools_given: N = 21 (the file's 1 and 20 of the macro) is outside the \
+        promise, which holds for no text\n";
     expect_came(abort, &came, Outcome::Refused, said);
     expect_file(abort, rt, "somleut_tools_kept", b"old");
 }
@@ -230,7 +233,7 @@ fn setting(rt: &impl Abort, alloc: Global, word: &str) -> Setting {
     setting.expect(rt, "a setting")
 }
 
-// What came of an edit of a file in its own place with a setting.
+// What came of an edit of a file into another with a setting.
 fn edited_with(
     abort: &impl Abort,
     rt: &HostRuntime,
@@ -239,11 +242,14 @@ fn edited_with(
 ) -> Came {
     let names = Names {
         source: b"somleut_tools_plain",
-        target: b"./somleut_tools_plain",
+        target: b"somleut_tools_made",
     };
     let settings = [setting(abort, rt.alloc(), word)];
     let task = Task {
-        settings: &settings,
+        start: Start {
+            settings: &settings,
+            ..Start::new()
+        },
         ..task(request)
     };
     edited(rt, &task, names)
@@ -255,68 +261,147 @@ fn registers_are_set(rt: HostRuntime) -> Result<(), Fail> {
     fs::write(&rt, "somleut_tools_plain", b"text")?;
     let came = edited_with(&rt, &rt, request, "B=some ");
     expect_came(&rt, &came, Outcome::Done, "");
-    expect_file(&rt, &rt, "somleut_tools_plain", b"some text");
+    expect_file(&rt, &rt, "somleut_tools_made", b"some text");
     let came = edited_with(&rt, &rt, request, "A=");
-    let is_taken = matches!(came.outcome, Err(ToolFault::Taken { register: 'A' }));
+    let is_taken = matches!(
+        came.outcome,
+        Err(ToolFault::Answer(AnswerFault::Taken { register: 'A' }))
+    );
     expect(&rt, is_taken, "a register of the library");
-    remove(&rt, &["somleut_tools_set", "somleut_tools_plain"])
+    let names = [
+        "somleut_tools_set",
+        "somleut_tools_plain",
+        "somleut_tools_made",
+    ];
+    remove(&rt, &names)
 }
 
-// Whether it is only said what would change, whether files are kept, the last line, and what stands
-// under the names of the file that changes and of that which is kept.
-type InPlaceRow = (
-    bool,
-    Option<&'static str>,
-    &'static str,
-    &'static [u8],
-    bool,
-);
+// An edit of a file into itself is refused, whatever it is called, and leaves it as it was.
+fn expect_one_file(abort: &impl Abort, rt: &HostRuntime, request: Request<'static>) {
+    let names = Names {
+        source: b"somleut_tools_same",
+        target: b"./somleut_tools_same",
+    };
+    let came = edited(rt, &task(request), names);
+    expect(
+        abort,
+        matches!(came.outcome, Ok(Outcome::Coded)),
+        "one file",
+    );
+    expect_text(abort, &came.typed, "?ARG\r\n");
+    expect_file(abort, rt, "somleut_tools_same", b"a foo");
+}
+
+#[test]
+fn no_file_is_edited_into_itself(rt: HostRuntime) -> Result<(), Fail> {
+    let request = library_file(&rt, "somleut_tools_self", REPLACES)?;
+    fs::write(&rt, "somleut_tools_same", b"a foo")?;
+    expect_one_file(&rt, &rt, request);
+    remove(&rt, &["somleut_tools_self", "somleut_tools_same"])
+}
+
+// What is done with files that would change, whether files are kept, the outcome, what is printed,
+// the end of what is said, and the bytes of the file that changes and of that which is kept.
+#[derive(Clone, Copy)]
+struct InPlaceRow {
+    change: Change,
+    keeping: Option<Keeping<'static>>,
+    printed: &'static str,
+    said: &'static str,
+    left: &'static [u8],
+    kept: Option<&'static [u8]>,
+}
+
+// Files are kept, in the place of no other.
+const KEPT: Option<Keeping<'static>> = Some(Keeping {
+    suffix: ".old",
+    replaces: false,
+});
 
 const IN_PLACE: &[InPlaceRow] = &[
-    (
-        true,
-        None,
-        "files: 3, would change: 1, failed: 1\n",
-        b"a foo",
-        false,
-    ),
-    (
-        false,
-        Some(".old"),
-        "files: 3, changed: 1, failed: 1\n",
-        b"a bar",
-        true,
-    ),
-    (
-        false,
-        None,
-        "files: 3, changed: 0, failed: 1\n",
-        b"a bar",
-        true,
-    ),
+    InPlaceRow {
+        change: Change::Listed,
+        keeping: None,
+        printed: "somleut_tools_one\n",
+        said: "files: 3, would change: 1, failed: 1\n",
+        left: b"a foo",
+        kept: None,
+    },
+    InPlaceRow {
+        change: Change::Checked,
+        keeping: KEPT,
+        printed: "somleut_tools_one\n",
+        said: "files: 3, would change: 1, failed: 1\n",
+        left: b"a foo",
+        kept: None,
+    },
+    InPlaceRow {
+        change: Change::Made,
+        keeping: KEPT,
+        printed: "",
+        said: "files: 3, changed: 1, failed: 1\n",
+        left: b"a bar",
+        kept: Some(b"a foo"),
+    },
+    InPlaceRow {
+        change: Change::Made,
+        keeping: None,
+        printed: "",
+        said: "files: 3, changed: 0, failed: 1\n",
+        left: b"a bar",
+        kept: Some(b"a foo"),
+    },
 ];
 
 // The files that are edited in place.
-const FILES: &[&str] = &[
-    "somleut_tools_one",
-    "somleut_tools_none",
-    "somleut_tools_two",
+const FILES: &[&[u8]] = &[
+    b"somleut_tools_one",
+    b"somleut_tools_none",
+    b"somleut_tools_two",
 ];
+
+// Files that words name.
+fn chosen(abort: &impl Abort, rt: &HostRuntime, names: &[&[u8]]) -> Vec<Chosen> {
+    let choice = Choice {
+        names,
+        list: None,
+        ends_by_nul: false,
+        is_recursive: false,
+        included: &[],
+        excluded: &[],
+    };
+    choose(rt, &mut kept(rt).voice, &choice).expect(abort, "memory")
+}
+
+// How files are edited in place.
+fn in_place<'a>(
+    files: &'a [Chosen],
+    change: Change,
+    keeping: Option<Keeping<'static>>,
+) -> InPlace<'a> {
+    InPlace {
+        files,
+        change,
+        takes_binary: false,
+        diff: None,
+        shows_progress: false,
+        ends_by_nul: false,
+        keeping,
+        is_durable: false,
+        naming: Naming::Several,
+    }
+}
 
 // The edit of a row says what it says.
 fn expect_said(abort: &impl Abort, rt: &HostRuntime, task: &Task<'_, '_>, row: &InPlaceRow) {
-    let (is_dry, suffix, said, _, _) = *row;
-    let given = InPlace {
-        files: FILES,
-        is_dry,
-        suffix,
-    };
+    let files = chosen(abort, rt, FILES);
+    let given = in_place(&files, row.change, row.keeping);
     let mut console = kept(rt);
     let outcome = edit_files(rt, &mut console, task, &given);
-    expect(abort, matches!(outcome, Ok(Outcome::Coded)), said);
+    expect(abort, matches!(outcome, Ok(Outcome::Coded)), row.said);
     let (written, messages) = console.into_parts();
-    expect_text(abort, &written, "?FNF\r\n");
-    expect(abort, messages.ends_with(said.as_bytes()), said);
+    expect_text(abort, &written, row.printed);
+    expect(abort, messages.ends_with(row.said.as_bytes()), row.said);
 }
 
 // Is there a file of a name?
@@ -332,10 +417,11 @@ fn expect_in_place(
     row: &InPlaceRow,
 ) {
     expect_said(abort, rt, &task(request), row);
-    let (_, _, said, left, is_kept) = *row;
-    expect_file(abort, rt, "somleut_tools_one", left);
-    let is_so = is_there(rt, "somleut_tools_one.old") == is_kept;
-    expect(abort, is_so, said);
+    expect_file(abort, rt, "somleut_tools_one", row.left);
+    match row.kept {
+        Some(bytes) => expect_file(abort, rt, "somleut_tools_one.old", bytes),
+        None => expect(abort, !is_there(rt, "somleut_tools_one.old"), row.said),
+    }
 }
 
 #[test]
@@ -346,13 +432,51 @@ fn files_are_edited_in_place(rt: HostRuntime) -> Result<(), Fail> {
     for row in IN_PLACE.iter() {
         expect_in_place(&rt, &rt, request, row);
     }
-    expect_file(&rt, &rt, "somleut_tools_one.old", b"a foo");
     expect_file(&rt, &rt, "somleut_tools_two", b"nothing");
     let names = [
         "somleut_tools_edit",
         "somleut_tools_one",
         "somleut_tools_one.old",
         "somleut_tools_two",
+    ];
+    remove(&rt, &names)
+}
+
+// A file, and the one that it would be kept as.
+const BOTH: &[&[u8]] = &[b"somleut_tools_first", b"./somleut_tools_first.old"];
+
+// Is nothing edited, since a file would be kept under the name of another, or with no suffix?
+fn expect_kept_apart(abort: &impl Abort, rt: &HostRuntime, task: &Task<'_, '_>) {
+    let files = chosen(abort, rt, BOTH);
+    let given = in_place(&files, Change::Made, KEPT);
+    let outcome = edit_files(rt, &mut kept(rt), task, &given);
+    let is_told = matches!(outcome, Err(ToolFault::Kept { .. }));
+    expect(abort, is_told, "a name that is edited");
+    let none = Some(Keeping {
+        suffix: "",
+        replaces: true,
+    });
+    let given = in_place(&files, Change::Made, none);
+    let outcome = edit_files(rt, &mut kept(rt), task, &given);
+    expect(
+        abort,
+        matches!(outcome, Err(ToolFault::Suffix)),
+        "no suffix",
+    );
+}
+
+#[test]
+fn no_file_is_kept_as_another_that_is_edited(rt: HostRuntime) -> Result<(), Fail> {
+    let request = library_file(&rt, "somleut_tools_apart", REPLACES)?;
+    fs::write(&rt, "somleut_tools_first", b"a foo")?;
+    fs::write(&rt, "somleut_tools_first.old", b"foo")?;
+    expect_kept_apart(&rt, &rt, &task(request));
+    expect_file(&rt, &rt, "somleut_tools_first", b"a foo");
+    expect_file(&rt, &rt, "somleut_tools_first.old", b"foo");
+    let names = [
+        "somleut_tools_apart",
+        "somleut_tools_first",
+        "somleut_tools_first.old",
     ];
     remove(&rt, &names)
 }

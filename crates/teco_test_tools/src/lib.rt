@@ -1,6 +1,10 @@
-//! Tests of `teco_tools`.
+//! Tests of `teco_tools` and `teco_edits`.
 #![tactic(auto)]
 
+#[cfg(test)]
+mod chosen;
+#[cfg(test)]
+mod differences;
 #[cfg(test)]
 mod edits;
 #[cfg(test)]

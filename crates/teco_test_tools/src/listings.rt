@@ -4,8 +4,9 @@ use std::io::Read;
 use std::process::Abort;
 use std::test::Fail;
 use std::{fs, io};
+use teco_edits::{Listing, Names, trace_macro};
 use teco_pages::FileHost;
-use teco_tools::{Listing, Names, OUTPUT, Prompting, Streams, trace_macro};
+use teco_tools::{OUTPUT, Prompting, Streams};
 use teco_verdicts::{Outcome, Request};
 
 /// How many steps are listed at most, the list, and what is said.

@@ -4,7 +4,7 @@ use std::io;
 use std::process::Abort;
 use teco_pages::FileHost;
 use teco_tools::Script::Word;
-use teco_tools::{Run, Script, run_scripts};
+use teco_tools::{Run, Script, Start, run_scripts};
 use teco_verdicts::{Console, Escape};
 
 // Scripts that are run over a console.
@@ -20,7 +20,7 @@ fn run_over<'a>(
         limit: 1000,
         cap: 1 << 20,
         until_code,
-        settings: &[],
+        start: Start::new(),
     };
     let mut host = FileHost::new(rt.alloc(), *rt);
     run_scripts(rt, console, &run, &mut io::empty(), &mut host).is_ok()

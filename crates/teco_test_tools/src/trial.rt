@@ -5,8 +5,9 @@ use std::process::Abort;
 use std::test::Fail;
 use teco_apply::Pages;
 use teco_base::Reg;
-use teco_tools::Task;
-use teco_verdicts::{Console, Escape, Request, Rules};
+use teco_edits::Task;
+use teco_tools::Start;
+use teco_verdicts::{Console, Editions, Escape, Origin, Request, Rules};
 
 /// Fails, and says what, where this is false.
 pub fn expect(rt: &impl Abort, is_so: bool, what: &str) {
@@ -27,9 +28,9 @@ pub fn kept(rt: &HostRuntime) -> Console<Vec<u8>, Vec<u8>> {
 pub fn library_file<'a>(rt: &HostRuntime, name: &'a str, text: &[u8]) -> Result<Request<'a>, Fail> {
     fs::write(rt, name, text)?;
     Ok(Request {
-        library: name,
+        library: Origin::of_file(name),
         escape: Escape::Mark(b'$'),
-        rules: Rules::First,
+        editions: Editions::Only(Rules::First),
     })
 }
 
@@ -41,9 +42,11 @@ pub fn task(library: Request<'static>) -> Task<'static, 'static> {
         certificate: None,
         argument: None,
         pages: Pages::First,
-        settings: &[],
+        start: Start::new(),
         cap: 1 << 20,
         is_strict: false,
+        wants_all: false,
         tells_counts: false,
+        tells_promise: false,
     }
 }

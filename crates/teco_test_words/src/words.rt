@@ -6,8 +6,8 @@ use std::process::Abort;
 use teco_tools::Script;
 use teco_verdicts::Rules;
 use teco_words::{
-    Arguments, cap, check_streams, command, entry, escape_of, file_name, given, limit, pages,
-    rules_of, scripts, settings,
+    Arguments, cap, check_streams, check_texts, command, entry, escape_of, file_name, given, limit,
+    pages, rules_of, scripts, settings,
 };
 
 // Fails, and tells the number of the row, where this is false.
@@ -96,20 +96,21 @@ fn macros_are_named(rt: HostRuntime) {
     }
 }
 
-// The edition of the rules that words ask for; 0 where it is none.
+// The edition of the rules that words ask for: 0 where they name none, 9 where it is none.
 fn edition_of(alloc: Global, words: &[&str]) -> Option<u8> {
     let Ok(matches) = matched(alloc, words) else {
         return None;
     };
     match rules_of(given_of(&matches)?) {
-        Ok(Rules::First) => Some(1),
-        Ok(Rules::Second) => Some(2),
-        Err(_) => Some(0),
+        Ok(None) => Some(0),
+        Ok(Some(Rules::First)) => Some(1),
+        Ok(Some(Rules::Second)) => Some(2),
+        Err(_) => Some(9),
     }
 }
 
 const EDITIONS: &[(&[&str], u8)] = &[
-    (&["teco", "verify", "LIB", "A"], 1),
+    (&["teco", "verify", "LIB", "A"], 0),
     (&["teco", "verify", "--rules", "1", "LIB"], 1),
     (&["teco", "verify", "--rules", "2", "LIB", "A"], 2),
     (&["teco", "check", "--rules", "2", "LIB", "A", "CERT"], 2),
@@ -118,8 +119,8 @@ const EDITIONS: &[(&[&str], u8)] = &[
         2,
     ),
     (&["teco", "explain", "--rules", "2", "LIB", "A"], 2),
-    (&["teco", "verify", "--rules", "3", "LIB", "A"], 0),
-    (&["teco", "trace", "--rules", "two", "LIB", "A", "IN"], 0),
+    (&["teco", "verify", "--rules", "3", "LIB", "A"], 9),
+    (&["teco", "trace", "--rules", "two", "LIB", "A", "IN"], 9),
 ];
 
 #[test]
@@ -131,7 +132,7 @@ fn rules_are_named(rt: HostRuntime) {
 
 const LACKING: &[&[&str]] = &[
     &["teco", "verify"],
-    &["teco", "explain"],
+    &["teco", "show"],
     &["teco", "verify", "LIB", "A", "CERT"],
     &["teco", "check", "LIB", "A"],
     &["teco", "apply", "LIB", "A", "IN"],
@@ -222,6 +223,60 @@ const NAMES: &[(&[u8], bool)] = &[
 fn names_of_files_are_judged(rt: HostRuntime) {
     for (row, (name, is_good)) in NAMES.iter().enumerate() {
         expect_row(&rt, is_name(rt.alloc(), *name, *is_good), row);
+    }
+}
+
+// Is it refused that one of these words is no text, or is it the name of a file that is edited?
+fn is_text_wanted(alloc: Global, words: &[&[u8]]) -> Option<bool> {
+    let Ok(arguments) = Arguments::read(&(Words(words), alloc)) else {
+        return None;
+    };
+    let Ok(command) = command(alloc, arguments.texts()) else {
+        return None;
+    };
+    let Ok(matches) = command.try_get_matches_from(arguments.texts()) else {
+        return None;
+    };
+    let (name, given) = matches.subcommand()?;
+    Some(check_texts(alloc, name, given, &arguments).is_err())
+}
+
+/// Words, and whether one of them is to be a text and is none.
+const TEXTS: &[(&[&[u8]], bool)] = &[
+    (&[b"teco", b"edit", b"LIB", b"A", b"a\xff", b"b"], false),
+    (&[b"teco", b"edit", b"a\xff", b"A", b"a"], true),
+    (
+        &[b"teco", b"edit", b"--set", b"B=\xff", b"LIB", b"A", b"a"],
+        true,
+    ),
+    (
+        &[b"teco", b"edit", b"--backup=\xff", b"LIB", b"A", b"a"],
+        true,
+    ),
+    (
+        &[b"teco", b"apply", b"LIB", b"A", b"a\xff", b"b\xff"],
+        false,
+    ),
+    (
+        &[
+            b"teco", b"apply", b"LIB", b"A", b"--cert", b"\xff", b"a", b"b",
+        ],
+        true,
+    ),
+    (&[b"teco", b"run", b"-e", b"I\xff"], true),
+    (&[b"teco", b"run", b"a\xff"], true),
+    (&[b"teco", b"verify", b"\xef\xbf\xbd2", b"A"], false),
+    (&[b"teco", b"verify", b"a\xff", b"A"], true),
+];
+
+#[test]
+fn words_that_are_to_be_texts_are_judged(rt: HostRuntime) {
+    for (row, (words, is_wanted)) in TEXTS.iter().enumerate() {
+        expect_row(
+            &rt,
+            is_text_wanted(rt.alloc(), *words) == Some(*is_wanted),
+            row,
+        );
     }
 }
 

@@ -1,7 +1,8 @@
 //! The words of the command line, also those that are no text.
-use std::alloc::Global;
+use std::alloc::{AllocError, Global};
 use std::env::{Env, FillError};
 use std::{env, io, str};
+use teco_source::Shown;
 
 /// The bytes that a word may have which is no text.
 const ROOM: usize = 8192;
@@ -14,7 +15,7 @@ struct Other {
 }
 
 /// The words that the program was called with. A word that is no UTF-8 can only be the name of a
-/// file; among the texts another text stands for it.
+/// file; among the texts another text stands for it, with a NUL in it, which no word has.
 #[derive(Drop)]
 pub struct Arguments {
     texts: Vec<String>,
@@ -48,6 +49,71 @@ impl Arguments {
         }
         text.as_bytes()
     }
+}
+
+impl Arguments {
+    /// The first word that is no text and is not among these, if there is one.
+    pub fn other_than<'a>(&'a self, allowed: &[&str]) -> Option<&'a [u8]> {
+        for other in &self.others {
+            let stand_in = other.stand_in.as_str();
+            if !allowed.iter().any(|text| *text == stand_in) {
+                return Some(&other.bytes);
+            }
+        }
+        None
+    }
+
+    /// The names that texts stand for.
+    pub fn names<'a>(
+        &'a self,
+        alloc: Global,
+        texts: &'a [&'a str],
+    ) -> Result<Vec<&'a [u8]>, AllocError> {
+        let mut names = Vec::new(alloc);
+        for text in texts {
+            names.push(self.bytes(*text))?;
+        }
+        Ok(names)
+    }
+
+    /// A message, with the bytes of the words that others stand for, and without controls but LF.
+    pub fn shown(&self, alloc: Global, message: &str) -> Result<String, AllocError> {
+        let mut shown = String::from_str(alloc, "")?;
+        self.push_shown(message, &mut shown)?;
+        Ok(shown)
+    }
+
+    // Adds a message to a text, line by line.
+    fn push_shown(&self, message: &str, shown: &mut String) -> Result<(), AllocError> {
+        for line in message.split_inclusive('\n') {
+            let (line, end) = match line.strip_suffix('\n') {
+                Some(line) => (line, "\n"),
+                None => (line, ""),
+            };
+            self.push_line(line, shown)?;
+            shown.push_str(end)?;
+        }
+        Ok(())
+    }
+
+    // Adds a line to a text.
+    fn push_line(&self, line: &str, shown: &mut String) -> Result<(), AllocError> {
+        for other in &self.others {
+            if let Some((front, behind)) = line.split_once(other.stand_in.as_str()) {
+                return push_parts(shown, &[front.as_bytes(), &other.bytes, behind.as_bytes()]);
+            }
+        }
+        push_parts(shown, &[line.as_bytes()])
+    }
+}
+
+// Adds bytes to a text, as a terminal can show them.
+fn push_parts(shown: &mut String, parts: &[&[u8]]) -> Result<(), AllocError> {
+    let alloc = *shown.allocator();
+    for part in parts {
+        shown.push_str(format!(in alloc; "{}", Shown(*part))?.as_str())?;
+    }
+    Ok(())
 }
 
 // The bytes of the word of a number, if there is one.
@@ -109,7 +175,7 @@ impl Other {
     // A word that is no text.
     fn new(alloc: Global, number: usize, bytes: Vec<u8>) -> io::Result<Other> {
         Ok(Other {
-            stand_in: format!(in alloc; "\u{fffd}{number}")?,
+            stand_in: format!(in alloc; "\0{number}")?,
             bytes,
         })
     }

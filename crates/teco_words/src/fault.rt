@@ -3,8 +3,17 @@ use std::alloc::{AllocError, AllocFailed};
 use thiserror::Error;
 
 /// Why words are not obeyed.
-#[derive(Clone, Copy, Debug, Error)]
+#[derive(Debug, Drop, Error)]
 pub enum WordsFault {
+    /// A word that is no UTF-8 stands where a text is wanted.
+    #[error("the word {word} is no UTF-8 text")]
+    NotText {
+        /// The word, as messages have it.
+        word: String,
+    },
+    /// Options name a register and no library.
+    #[error("-r names a macro of -f LIB or of -e TEXT, and there is neither")]
+    NoMacro,
     /// A register has another name.
     #[error("a register is A to Z or 0 to 9")]
     Register,
@@ -18,8 +27,23 @@ pub enum WordsFault {
     #[error("--esc takes one ASCII character, or none")]
     Escape,
     /// A word is neither a code nor a refusal.
-    #[error("explain takes a code, as POP, a refusal, as X7, or a file and a register")]
+    #[error("explain takes a code, as POP, a refusal, as X7, a command, as FS, or a file and a register")]
     Unknown,
+    /// Searches are to be exact and to find either case.
+    #[error("--exact and --any-case can't both be asked for")]
+    Case,
+    /// A pattern has a class of characters.
+    #[error("in a pattern * is any text and ? any byte; there are no classes in brackets")]
+    Pattern,
+    /// Neither a word nor a list names files.
+    #[error("no file is named: give FILE or --files-from")]
+    NoFile,
+    /// When colours are used is none of the three words for that.
+    #[error("--color takes always, never or auto")]
+    Color,
+    /// Standard input is to be a library and a list.
+    #[error("LIB and the list of files cannot both be standard input")]
+    ListStream,
     /// Which pages are edited is none of the three words for that.
     #[error("--pages takes first, each or whole")]
     Pages,
@@ -27,7 +51,7 @@ pub enum WordsFault {
     #[error("--rules takes 1 or 2")]
     Rules,
     /// A text of a register is none.
-    #[error("--set takes a register and its text, as A=TEXT")]
+    #[error("--set takes a register and its text, as B=TEXT, and --set-file a register and a file, as B=PATH")]
     Setting,
     /// Standard input is to be two things.
     #[error("LIB and IN cannot both be standard input")]

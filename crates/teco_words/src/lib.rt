@@ -12,6 +12,8 @@ pub use arguments::Arguments;
 pub use commands::command;
 pub use fault::WordsFault;
 pub use words::{
-    cap, check_streams, entry, escape_of, file_name, form_of_source, given, limit, mark_of,
-    names_register, pages, rules_of, scripts, settings, source_name, target_name, word,
+    cap, case, change, check_streams, check_texts, choice, entry, escape_of, file_name, file_names,
+    form_of_source, given, has_macro_options, keeping, limit, look, mark_of, names_macro,
+    names_register, naming, origin, pages, rules_of, scripts, setting_files, settings, source_name,
+    target_name, word,
 };

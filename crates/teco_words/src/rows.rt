@@ -17,10 +17,14 @@ pub enum Kind {
     Word(Word),
     /// By an option of its name, which has no value.
     Flag,
+    /// By an option of its name or of a letter, which has no value.
+    Switch(char),
     /// By an option of its name, whose value is called this.
     Value(&'static str, Values),
     /// By an option of one letter with a text, any number of times.
     Letter(char),
+    /// By an option of its name or of a letter, whose value is called this.
+    Lettered(char, &'static str),
 }
 
 /// Which words stand at a place.
@@ -32,6 +36,8 @@ pub enum Word {
     Named(&'static str),
     /// One or none.
     Optional,
+    /// One or none, which is called this.
+    Maybe(&'static str),
     /// So many at least.
     AtLeast(usize),
 }
@@ -58,8 +64,10 @@ impl Row {
         match self.kind {
             Kind::Word(word) => word.asked(arg),
             Kind::Flag => arg.long(self.id).action(ArgAction::SetTrue),
+            Kind::Switch(letter) => arg.long(self.id).short(letter).action(ArgAction::SetTrue),
             Kind::Value(name, values) => values.asked(arg.long(self.id).value_name(name)),
             Kind::Letter(letter) => repeated(arg.short(letter).value_name("TEXT")),
+            Kind::Lettered(letter, name) => arg.long(self.id).short(letter).value_name(name),
         }
     }
 }
@@ -81,6 +89,7 @@ impl Word {
             Word::Required => arg.required(true),
             Word::Named(name) => arg.value_name(name).required(true),
             Word::Optional => arg,
+            Word::Maybe(name) => arg.value_name(name),
             Word::AtLeast(least) => counted(arg, least),
         }
     }

@@ -2,76 +2,200 @@
 use crate::commands::Page;
 use crate::rows::{Kind, Row, Values, Word};
 
-/// The commands of the program.
-pub const PAGES: &[Page] = &[
-    Page {
-        name: "run",
-        about: "Runs command strings on standard input, in files or in words",
-        examples: "Examples:\n\
-            \x20 teco run -e 'ERin$EWout$YJ<FSfoo$bar$;>EC'\n\
-            \x20 teco run edit.tes\n\
-            \x20 printf 'Iabc\\033HT\\033\\033' | teco run",
-        rows: &[LIMIT, MEMORY, STOP, SETTING, ESCAPE, TEXT, SCRIPTS],
-    },
-    Page {
-        name: "verify",
-        about: "Prints the certificate of a macro, or a verdict on each macro of a library",
-        examples: "Examples:\n  teco verify trim.tes A\n  teco verify --json lib.tes",
-        rows: &[JSON, LIBRARY, OF_EACH, RULES, ESCAPE],
-    },
-    Page {
-        name: "check",
-        about: "Checks a certificate",
-        examples: "Example:\n\
-            \x20 teco verify trim.tes A > trim.cert\n\
-            \x20 teco check trim.tes A trim.cert",
-        rows: &[LIBRARY, REGISTER, CERTIFICATE, RULES, ESCAPE],
-    },
-    Page {
-        name: "apply",
-        about: "Edits a file by a verified macro",
-        examples: "Examples:\n\
-            \x20 teco apply trim.tes A in.txt out.txt\n\
-            \x20 teco apply --pages each --strict trim.tes A in.txt out.txt\n\
-            \x20 printf 'a  \\n' | teco apply trim.tes A - -",
-        rows: &[
-            MEMORY, ARGUMENT, SETTING, RULES, ESCAPE, EDITED, STRICT, STATS, CHECKED, LIBRARY,
-            REGISTER, INPUT, OUTPUT,
-        ],
-    },
-    Page {
-        name: "edit",
-        about: "Edits files in place by a verified macro; one that fails is left as it was",
-        examples: "Examples:\n\
-            \x20 teco edit --dry-run trim.tes A *.txt\n\
-            \x20 teco edit --backup .old trim.tes A *.txt",
-        rows: &[
-            MEMORY, ARGUMENT, SETTING, RULES, ESCAPE, EDITED, STRICT, STATS, CHECKED, DRY, BACKUP,
-            QUIET, LIBRARY, REGISTER, FILES,
-        ],
-    },
-    Page {
-        name: "trace",
-        about: "Lists the steps of a macro on a file, and writes no file",
-        examples: "Example:\n  teco trace --limit 100 trim.tes A in.txt",
-        rows: &[
-            LISTED, MEMORY, ARGUMENT, SETTING, RULES, ESCAPE, LIBRARY, REGISTER, INPUT,
-        ],
-    },
-    Page {
-        name: "show",
-        about: "Prints a file of TECO text as its elements, safe for a terminal",
-        examples: "Examples:\n  teco show trim.tec\n  teco show --source trim.tec > trim.tes",
-        rows: &[SOURCE, ESCAPE, SHOWN],
-    },
-    Page {
-        name: "explain",
-        about: "Says what a code or a refusal means and how to mend what causes it, or what is \
-            known at each element of a macro",
-        examples: "Examples:\n  teco explain X9\n  teco explain trim.tes A",
-        rows: &[RULES, ESCAPE, EXPLAINED, IN_LIBRARY],
-    },
-];
+/// The command `run`.
+pub const RUN_PAGE: Page = Page {
+    name: "run",
+    about: "Runs command strings on standard input, in files or in words",
+    examples: "Examples:\n\
+        \x20 teco run -e 'ERin$EWout$YJ<FSfoo$bar$;>EC'\n\
+        \x20 teco run edit.tes\n\
+        \x20 printf 'Iabc\\033HT\\033\\033' | teco run",
+    options: &[
+        LIMIT,
+        MEMORY,
+        STOP,
+        SETTING,
+        SETTING_FILE,
+        EXACT,
+        ANY_CASE,
+        ESCAPE,
+        TEXT,
+    ],
+    library: &[],
+    words: &[SCRIPTS],
+};
+
+/// The command `verify`.
+pub const VERIFY_PAGE: Page = Page {
+    name: "verify",
+    about: "Prints the certificate of a macro, or a verdict on each macro of a library",
+    examples: "Examples:\n\
+        \x20 teco verify -e 'J<FSfoo$bar$;>'\n\
+        \x20 teco verify trim.tes A\n\
+        \x20 teco verify --json lib.tes",
+    options: &[MACRO, FROM, CALLED, JSON, RULES, ESCAPE],
+    library: &[LIBRARY, OF_EACH],
+    words: &[],
+};
+
+/// The command `check`.
+pub const CHECK_PAGE: Page = Page {
+    name: "check",
+    about: "Checks a certificate",
+    examples: "Example:\n\
+        \x20 teco verify trim.tes A > trim.cert\n\
+        \x20 teco check trim.tes A trim.cert",
+    options: &[MACRO, FROM, CALLED, RULES, ESCAPE],
+    library: &[LIBRARY, REGISTER],
+    words: &[CERTIFICATE],
+};
+
+/// The command `apply`.
+pub const APPLY_PAGE: Page = Page {
+    name: "apply",
+    about: "Edits a file by a verified macro",
+    examples: "Examples:\n\
+        \x20 teco apply -e 'J<FSfoo$bar$;>' in.txt out.txt\n\
+        \x20 teco apply --pages each --strict trim.tes A in.txt out.txt\n\
+        \x20 printf 'a  \\n' | teco apply trim.tes A - -",
+    options: &[
+        MACRO,
+        FROM,
+        CALLED,
+        MEMORY,
+        ARGUMENT,
+        SETTING,
+        SETTING_FILE,
+        EXACT,
+        ANY_CASE,
+        RULES,
+        ESCAPE,
+        EDITED,
+        STRICT,
+        STATS,
+        CHECKED,
+        QUIET,
+    ],
+    library: &[LIBRARY, REGISTER],
+    words: &[INPUT, OUTPUT],
+};
+
+/// The command `edit`.
+pub const EDIT_PAGE: Page = Page {
+    name: "edit",
+    about: "Edits files in place by a verified macro; one that fails is left as it was",
+    examples: "Examples:\n\
+        \x20 teco edit -e 'J<FSfoo$bar$;>' *.txt\n\
+        \x20 teco edit --dry-run trim.tes A *.txt\n\
+        \x20 teco edit --backup .old trim.tes A *.txt\n\
+        \x20 teco edit --check -0 trim.tes A *.txt | xargs -0 ls -l",
+    options: &[
+        MACRO,
+        FROM,
+        CALLED,
+        MEMORY,
+        ARGUMENT,
+        SETTING,
+        SETTING_FILE,
+        EXACT,
+        ANY_CASE,
+        RULES,
+        ESCAPE,
+        EDITED_WHOLE,
+        STRICTLY,
+        BEYOND,
+        STATS,
+        CHECKED,
+        DRY,
+        CHECK,
+        NUL,
+        DIFF,
+        COLOR,
+        LISTED_FILES,
+        RECURSIVE,
+        INCLUDED,
+        EXCLUDED,
+        BINARY,
+        BACKUP,
+        FORCE,
+        DURABLE,
+        NAMED,
+        UNNAMED,
+        QUIET,
+    ],
+    library: &[LIBRARY, REGISTER],
+    words: &[FILES],
+};
+
+/// The command `trace`.
+pub const TRACE_PAGE: Page = Page {
+    name: "trace",
+    about: "Lists the steps of a macro on a file, and writes no file",
+    examples: "Examples:\n\
+        \x20 teco trace -e 'J<FSfoo$bar$;>' in.txt\n\
+        \x20 teco trace --limit 100 trim.tes A in.txt",
+    options: &[
+        MACRO,
+        FROM,
+        CALLED,
+        LISTED,
+        MEMORY,
+        ARGUMENT,
+        SETTING,
+        SETTING_FILE,
+        EXACT,
+        ANY_CASE,
+        RULES,
+        ESCAPE,
+        EDITED,
+        BEYOND,
+    ],
+    library: &[LIBRARY, REGISTER],
+    words: &[INPUT],
+};
+
+/// The command `show`.
+pub const SHOW_PAGE: Page = Page {
+    name: "show",
+    about: "Prints a file of TECO text as its elements, safe for a terminal",
+    examples: "Examples:\n  teco show trim.tec\n  teco show --source trim.tec > trim.tes",
+    options: &[SOURCE, ESCAPE],
+    library: &[],
+    words: &[SHOWN],
+};
+
+/// The command `explain`.
+pub const EXPLAIN_PAGE: Page = Page {
+    name: "explain",
+    about: "Says what a code or a refusal means and how to mend what causes it, or what is \
+        known at each element of a macro",
+    examples: "Examples:\n\
+        \x20 teco explain X9\n\
+        \x20 teco explain -e 'J<FSfoo$bar$;>'\n\
+        \x20 teco explain trim.tes A",
+    options: &[MACRO, FROM, CALLED, RULES, ESCAPE],
+    library: &[EXPLAINED, IN_LIBRARY],
+    words: &[],
+};
+
+const MACRO: Row = Row {
+    id: "text",
+    kind: Kind::Letter('e'),
+    help: "A line of the macro A, in the readable form, with $ for ESC; LIB and REGISTER are \
+        then left out",
+};
+
+const FROM: Row = Row {
+    id: "library",
+    kind: Kind::Lettered('f', "LIB"),
+    help: "A file of macros, or of one macro; LIB and REGISTER are then left out",
+};
+
+const CALLED: Row = Row {
+    id: "register",
+    kind: Kind::Lettered('r', "REGISTER"),
+    help: "The register of the macro, where -e or -f is given; A where it is left out",
+};
 
 const LIMIT: Row = Row {
     id: "limit",
@@ -131,25 +255,119 @@ const OUTPUT: Row = Row {
 const DRY: Row = Row {
     id: "dry-run",
     kind: Kind::Flag,
-    help: "Say which files would change, and change none",
+    help: "Print the names of the files that would change, one a line, and change none",
+};
+
+const CHECK: Row = Row {
+    id: "check",
+    kind: Kind::Flag,
+    help: "As --dry-run, and end with status 1 if a file would change",
+};
+
+const NUL: Row = Row {
+    id: "null",
+    kind: Kind::Switch('0'),
+    help: "End each name that --dry-run or --check prints, and each of --files-from, with a NUL",
+};
+
+const FORCE: Row = Row {
+    id: "force-backup",
+    kind: Kind::Flag,
+    help: "Let --backup take the place of files that have the names of backups",
+};
+
+const DURABLE: Row = Row {
+    id: "durable",
+    kind: Kind::Flag,
+    help: "Send each file to the disk before it takes its name, so that no power cut loses it",
+};
+
+const NAMED: Row = Row {
+    id: "with-names",
+    kind: Kind::Flag,
+    help: "Begin each line that is typed over a file with the file's name; so it is anyhow where \
+        there are several files",
+};
+
+const UNNAMED: Row = Row {
+    id: "no-names",
+    kind: Kind::Flag,
+    help: "Type lines without the names of files",
+};
+
+const BEYOND: Row = Row {
+    id: "beyond-promise",
+    kind: Kind::Flag,
+    help: "Run the macro also where its promise does not hold",
+};
+
+const STRICTLY: Row = Row {
+    id: "strict",
+    kind: Kind::Flag,
+    help: "Leave a file as it was where the promise does not hold for it: so it is anyhow, \
+        without --beyond-promise",
 };
 
 const QUIET: Row = Row {
     id: "quiet",
     kind: Kind::Flag,
-    help: "Say nothing but what fails",
+    help: "Say nothing but what fails, what is left undone and what --stats asks for",
 };
 
 const BACKUP: Row = Row {
     id: "backup",
     kind: Kind::Value("SUFFIX", Values::Text),
-    help: "Keep each file that changes as it was, under its name with SUFFIX behind it",
+    help: "Keep each file that changes as it was, under its name with SUFFIX behind it; a file \
+        whose backup has that name already is left as it was",
 };
 
 const FILES: Row = Row {
     id: "FILE",
-    kind: Kind::Word(Word::AtLeast(1)),
-    help: "The files that are edited",
+    kind: Kind::Word(Word::AtLeast(0)),
+    help: "The files that are edited, and with --recursive folders",
+};
+
+const DIFF: Row = Row {
+    id: "diff",
+    kind: Kind::Flag,
+    help: "Print what changes, as diff -u does",
+};
+
+const COLOR: Row = Row {
+    id: "color",
+    kind: Kind::Value("WHEN", Values::Default("auto")),
+    help: "Colours of --diff: always, never, or auto, at a terminal unless NO_COLOR is set",
+};
+
+const LISTED_FILES: Row = Row {
+    id: "files-from",
+    kind: Kind::Value("LIST", Values::Text),
+    help: "Edit the files that this file names too, one a line, or with -0 each ended by a NUL; - \
+        for standard input",
+};
+
+const RECURSIVE: Row = Row {
+    id: "recursive",
+    kind: Kind::Flag,
+    help: "Edit the files of folders and of those in them; hidden ones and links are left out",
+};
+
+const INCLUDED: Row = Row {
+    id: "include",
+    kind: Kind::Value("PATTERN", Values::Texts),
+    help: "Of folders, edit the files whose names are of this pattern alone, as *.txt",
+};
+
+const EXCLUDED: Row = Row {
+    id: "exclude",
+    kind: Kind::Value("PATTERN", Values::Texts),
+    help: "Of folders, leave out the files and folders whose names are of this pattern",
+};
+
+const BINARY: Row = Row {
+    id: "binary",
+    kind: Kind::Flag,
+    help: "Of folders and lists, edit files too that have a NUL near their beginning",
 };
 
 const EDITED: Row = Row {
@@ -159,10 +377,18 @@ const EDITED: Row = Row {
         each in turn; or whole, all as one",
 };
 
+const EDITED_WHOLE: Row = Row {
+    id: "pages",
+    kind: Kind::Value("WHICH", Values::Default("whole")),
+    help: "The pages that are edited, which form feeds end: whole, all as one; first, and the \
+        others are copied; or each in turn",
+};
+
 const STRICT: Row = Row {
     id: "strict",
     kind: Kind::Flag,
-    help: "Leave a file as it was where the promise does not hold for it",
+    help: "Leave OUT as it was where the promise does not hold, or where pages behind the first \
+        would be copied unedited",
 };
 
 const STATS: Row = Row {
@@ -197,8 +423,9 @@ const SHOWN: Row = Row {
 
 const EXPLAINED: Row = Row {
     id: "LIB",
-    kind: Kind::Word(Word::Named("WORD|LIB")),
-    help: "A code, as POP, a refusal, as X7, or a file of macros",
+    kind: Kind::Word(Word::Maybe("WORD|LIB")),
+    help: "A code, as POP, a refusal, as X7, a command, as FS, or a file of macros; without it \
+        all words are listed",
 };
 
 const IN_LIBRARY: Row = Row {
@@ -223,12 +450,31 @@ const ARGUMENT: Row = Row {
 const SETTING: Row = Row {
     id: "set",
     kind: Kind::Value("Q=TEXT", Values::Texts),
-    help: "Give register Q this text before the run, in the form of -e",
+    help: "Give register Q this text before the run, in the form of -e. A text that the macro does \
+        not write is known to the verifier",
+};
+
+const SETTING_FILE: Row = Row {
+    id: "set-file",
+    kind: Kind::Value("Q=PATH", Values::Texts),
+    help: "Give register Q the bytes of a file before the run",
+};
+
+const EXACT: Row = Row {
+    id: "exact",
+    kind: Kind::Flag,
+    help: "Begin with 1^X: a letter of a search finds itself alone",
+};
+
+const ANY_CASE: Row = Row {
+    id: "any-case",
+    kind: Kind::Flag,
+    help: "Begin with 0^X, as without it: a letter of a search finds itself in either case",
 };
 
 const RULES: Row = Row {
     id: "rules",
-    kind: Kind::Value("N", Values::Default("1")),
+    kind: Kind::Value("N", Values::Text),
     help: "The edition of the rules that macros are verified by: 1 or 2",
 };
 
@@ -248,5 +494,5 @@ const REGISTER: Row = Row {
 const LIBRARY: Row = Row {
     id: "LIB",
     kind: Kind::Word(Word::Required),
-    help: "A file of macros, or - for standard input",
+    help: "A file of macros, or of one macro, which is then A; - for standard input",
 };

@@ -9,9 +9,13 @@ use std::alloc::{AllocError, Global};
 use teco_apply::{NAME, Pages};
 use teco_base::Reg;
 use teco_base::bytes::ESC;
-use teco_source::Form;
-use teco_tools::{INPUT, OUTPUT, Script, Setting};
-use teco_verdicts::{Escape, Rules, STREAM};
+use teco_edits::{Change, Choice, Keeping, Look, Naming};
+use teco_source::{Form, Shown};
+use teco_tools::{Case, INPUT, OUTPUT, Script};
+use teco_verdicts::{Escape, Origin, Rules, STREAM, Setting};
+
+/// The register of the macro where an option names the library, and none the register.
+const DEFAULT_ENTRY: &str = "A";
 
 /// The character that is shown for ESC where no other is given.
 const DEFAULT_MARK: u8 = b'$';
@@ -69,17 +73,55 @@ pub fn word<'a>(words: &ArgMatches<'a>, id: &str) -> &'a str {
     words.get_str(id).unwrap_or("")
 }
 
-/// The register of the macro.
-pub fn entry(words: &ArgMatches<'_>) -> Result<Reg, WordsFault> {
-    match word(words, "REGISTER").as_bytes() {
+// What a word or an option names, whichever there is.
+fn named<'a>(words: &ArgMatches<'a>, word: &str, option: &str) -> Option<&'a str> {
+    if has_macro_options(words) {
+        words.get_str(option)
+    } else {
+        words.get_str(word)
+    }
+}
+
+/// Do options name the macro, or say its text?
+pub fn has_macro_options(words: &ArgMatches<'_>) -> bool {
+    words.get_strs("text").is_some()
+        || words.get_str("library").is_some()
+        || words.get_str("register").is_some()
+}
+
+/// What a library is read from.
+pub fn origin<'m, 'a>(words: &'m ArgMatches<'a>) -> Result<Origin<'m>, WordsFault> {
+    let origin = Origin {
+        file: named(words, "LIB", "library"),
+        texts: words.get_strs("text").unwrap_or(&[]),
+    };
+    if origin.file.is_none() && origin.texts.is_empty() {
+        return Err(WordsFault::NoMacro);
+    }
+    Ok(origin)
+}
+
+// The register of a name.
+fn register_of(name: &str) -> Result<Reg, WordsFault> {
+    match name.as_bytes() {
         [name] => Reg::of(*name).ok_or(WordsFault::Register),
         _ => Err(WordsFault::Register),
     }
 }
 
-/// Is a register named?
+/// The register of the macro.
+pub fn entry(words: &ArgMatches<'_>) -> Result<Reg, WordsFault> {
+    register_of(named(words, "REGISTER", "register").unwrap_or(DEFAULT_ENTRY))
+}
+
+/// Is a macro named, and not a library alone?
 pub fn names_register(words: &ArgMatches<'_>) -> bool {
-    words.get_str("REGISTER").is_some()
+    named(words, "REGISTER", "register").is_some() || words.get_strs("text").is_some()
+}
+
+/// Is a macro named, or a library by an option?
+pub fn names_macro(words: &ArgMatches<'_>) -> bool {
+    names_register(words) || has_macro_options(words)
 }
 
 /// The argument of the macro, if one is given.
@@ -108,12 +150,13 @@ pub fn escape_of(words: &ArgMatches<'_>) -> Result<Escape, WordsFault> {
     }
 }
 
-/// The edition of the rules.
-pub fn rules_of(words: &ArgMatches<'_>) -> Result<Rules, WordsFault> {
-    match word(words, "rules") {
-        "1" => Ok(Rules::First),
-        "2" => Ok(Rules::Second),
-        _ => Err(WordsFault::Rules),
+/// The edition of the rules, if one is named.
+pub fn rules_of(words: &ArgMatches<'_>) -> Result<Option<Rules>, WordsFault> {
+    match words.get_str("rules") {
+        None => Ok(None),
+        Some("1") => Ok(Some(Rules::First)),
+        Some("2") => Ok(Some(Rules::Second)),
+        Some(_) => Err(WordsFault::Rules),
     }
 }
 
@@ -155,6 +198,21 @@ pub fn settings(
     Ok(settings)
 }
 
+/// The words that name files with the texts of registers.
+pub fn setting_files<'m>(words: &'m ArgMatches<'_>) -> &'m [&'m str] {
+    words.get_strs("set-file").unwrap_or(&[])
+}
+
+/// How searches treat case at first.
+pub fn case(words: &ArgMatches<'_>) -> Result<Option<Case>, WordsFault> {
+    match (words.get_flag("exact"), words.get_flag("any-case")) {
+        (true, true) => Err(WordsFault::Case),
+        (true, false) => Ok(Some(Case::Exact)),
+        (false, true) => Ok(Some(Case::Any)),
+        (false, false) => Ok(None),
+    }
+}
+
 // The text that a word gives a register.
 fn setting(alloc: Global, word: &str, escape: Escape) -> Result<Setting, WordsFault> {
     Setting::read(alloc, word, escape)?.ok_or(WordsFault::Setting)
@@ -173,6 +231,114 @@ fn push_settings(
     Ok(())
 }
 
+/// Refuses words of a command that are no text, unless they name files that are edited.
+pub fn check_texts(
+    alloc: Global,
+    command: &str,
+    words: &ArgMatches<'_>,
+    arguments: &Arguments,
+) -> Result<(), WordsFault> {
+    let mut allowed = Vec::new(alloc);
+    for id in ["IN", "OUT"] {
+        allowed.push(words.get_str(id).unwrap_or(""))?;
+    }
+    if command == "edit" {
+        for name in words.get_strs("FILE").unwrap_or(&[]) {
+            allowed.push(*name)?;
+        }
+    }
+    match arguments.other_than(&allowed) {
+        None => Ok(()),
+        Some(word) => {
+            let shown = Shown(word);
+            Err(WordsFault::NotText {
+                word: format!(in alloc; "{shown}")?,
+            })
+        }
+    }
+}
+
+/// The names of the files that are edited. They may be no texts.
+pub fn file_names<'m>(
+    alloc: Global,
+    words: &'m ArgMatches<'_>,
+    arguments: &'m Arguments,
+) -> Result<Vec<&'m [u8]>, WordsFault> {
+    Ok(arguments.names(alloc, words.get_strs("FILE").unwrap_or(&[]))?)
+}
+
+/// Which files are edited, of these names and of what options say.
+pub fn choice<'m>(
+    words: &'m ArgMatches<'_>,
+    names: &'m [&'m [u8]],
+) -> Result<Choice<'m>, WordsFault> {
+    let list = words.get_str("files-from");
+    if names.is_empty() && list.is_none() {
+        return Err(WordsFault::NoFile);
+    }
+    if list == Some(STREAM) && named(words, "LIB", "library") == list {
+        return Err(WordsFault::ListStream);
+    }
+    let included = words.get_strs("include").unwrap_or(&[]);
+    let excluded = words.get_strs("exclude").unwrap_or(&[]);
+    if included
+        .iter()
+        .chain(excluded.iter())
+        .any(|pattern| pattern.contains('['))
+    {
+        return Err(WordsFault::Pattern);
+    }
+    Ok(Choice {
+        names,
+        list,
+        ends_by_nul: words.get_flag("null"),
+        is_recursive: words.get_flag("recursive"),
+        included,
+        excluded,
+    })
+}
+
+/// How it is printed what differs. `is_terminal` tells whether colours can be seen and are wanted
+/// where the words leave that open.
+pub fn look(words: &ArgMatches<'_>, is_terminal: bool) -> Result<Look, WordsFault> {
+    match word(words, "color") {
+        "always" => Ok(Look::Coloured),
+        "auto" if is_terminal => Ok(Look::Coloured),
+        "auto" | "never" => Ok(Look::Plain),
+        _ => Err(WordsFault::Color),
+    }
+}
+
+/// What is done with files that would change.
+pub fn change(words: &ArgMatches<'_>) -> Change {
+    if words.get_flag("check") {
+        Change::Checked
+    } else if words.get_flag("dry-run") {
+        Change::Listed
+    } else {
+        Change::Made
+    }
+}
+
+/// Where the names of files stand before what is typed over them.
+pub fn naming(words: &ArgMatches<'_>) -> Naming {
+    if words.get_flag("no-names") {
+        Naming::Never
+    } else if words.get_flag("with-names") {
+        Naming::Always
+    } else {
+        Naming::Several
+    }
+}
+
+/// How files are kept as they were, if they are.
+pub fn keeping<'a>(words: &ArgMatches<'a>) -> Option<Keeping<'a>> {
+    Some(Keeping {
+        suffix: words.get_str("backup")?,
+        replaces: words.get_flag("force-backup"),
+    })
+}
+
 // Is a word the name of a standard stream?
 fn is_stream(words: &ArgMatches<'_>, id: &str) -> bool {
     word(words, id) == STREAM
@@ -183,7 +349,7 @@ pub fn check_streams(words: &ArgMatches<'_>, is_strict: bool) -> Result<(), Word
     if !is_stream(words, "IN") {
         return Ok(());
     }
-    if is_stream(words, "LIB") {
+    if named(words, "LIB", "library") == Some(STREAM) {
         return Err(WordsFault::TwoStreams);
     }
     if is_strict {
