@@ -1,0 +1,2 @@
+" Files of TECO text in the readable form.
+autocmd BufRead,BufNewFile *.tes setfiletype teco
