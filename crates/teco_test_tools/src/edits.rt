@@ -465,14 +465,19 @@ fn expect_kept_apart(abort: &impl Abort, rt: &HostRuntime, task: &Task<'_, '_>) 
     );
 }
 
+// Does neither edit change a file?
+fn expect_apart(abort: &impl Abort, rt: &HostRuntime, request: Request<'static>) {
+    expect_kept_apart(abort, rt, &task(request));
+    expect_file(abort, rt, "somleut_tools_first", b"a foo");
+    expect_file(abort, rt, "somleut_tools_first.old", b"foo");
+}
+
 #[test]
 fn no_file_is_kept_as_another_that_is_edited(rt: HostRuntime) -> Result<(), Fail> {
     let request = library_file(&rt, "somleut_tools_apart", REPLACES)?;
     fs::write(&rt, "somleut_tools_first", b"a foo")?;
     fs::write(&rt, "somleut_tools_first.old", b"foo")?;
-    expect_kept_apart(&rt, &rt, &task(request));
-    expect_file(&rt, &rt, "somleut_tools_first", b"a foo");
-    expect_file(&rt, &rt, "somleut_tools_first.old", b"foo");
+    expect_apart(&rt, &rt, request);
     let names = [
         "somleut_tools_apart",
         "somleut_tools_first",
