@@ -16,6 +16,7 @@ use std::io::{Input, Write};
 use teco_apply::{NAME, Pages};
 use teco_base::bytes::ESC;
 use teco_pages::{Backup, Closed, Closing, FileHost, Handling, ProcessFacts, System};
+use teco_session::SessionFault;
 use teco_source::Shown;
 use teco_tools::{Case, ToolFault};
 use teco_verdicts::{Console, Outcome, Premise, lint, tell_edition, tell_no_text, tell_promise};
@@ -189,6 +190,15 @@ fn backup_of(alloc: Global, keeping: Option<Keeping<'_>>) -> Result<Option<Backu
     }))
 }
 
+// What is typed over a file is kept in memory, so that only want of memory keeps it from being
+// written.
+fn of_memory(fault: ToolFault) -> ToolFault {
+    match fault {
+        ToolFault::Session(SessionFault::Write) => ToolFault::Session(SessionFault::Memory),
+        other => other,
+    }
+}
+
 // Files that are edited by a macro.
 #[derive(Drop)]
 struct Editing<'r, 'c, 'j, 'g, 'f, R: System + Copy, O: Write + Drop, E: Write + Drop> {
@@ -231,7 +241,7 @@ impl<R: System + Copy, O: Write + Drop, E: Write + Drop> Editing<'_, '_, '_, '_,
             out: &mut typed,
             voice: &mut self.console.voice,
         };
-        let outcome = edit_by(&mut channels, self.job, names, &mut host)?;
+        let outcome = edit_by(&mut channels, self.job, names, &mut host).map_err(of_memory)?;
         let is_coded = matches!(outcome, Outcome::Coded);
         self.console.voice.clear();
         self.write_typed(names.source, without_code(&typed, is_coded))?;
