@@ -1,0 +1,21 @@
+-- Lemmas of cases and rows.
+pub mod Sums
+pub mod Copies
+pub mod Following
+pub mod Applying
+pub mod Pending
+pub mod Describing
+pub mod Giving
+pub mod Commanding
+pub mod Leading
+pub mod Ways
+pub mod Storing
+pub mod Lines
+pub mod Texts
+pub mod Moving
+pub mod Valuing
+pub mod Arguing
+pub mod Closing
+pub mod Asking
+pub mod Stepping
+pub mod Registering

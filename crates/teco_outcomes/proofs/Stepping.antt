@@ -1,0 +1,91 @@
+-- What is foretold of elements is a law of the machine's step.
+use Rattle.std.proofs.Common.{◌≡◌, ℕ, ◌+◌, inl, Option, Some, Result, Ok, Err, refl, sym, ap, subst, ◌∙◌}
+use Rattle.teco_base.specs.declared.code.Code.{Code}
+use Rattle.teco_linear.specs.Form.{Valuation}
+use Rattle.teco_model.specs.Arguments.{Arguments, levels_after_answer, levels_after_taking}
+use Rattle.teco_model.specs.Checked.{◌>>=◌}
+use Rattle.teco_model.specs.Effect.{Effect}
+use Rattle.teco_model.specs.Element.{Element}
+use Rattle.teco_model.specs.Going as going
+use Rattle.teco_model.specs.State.{State}
+use Rattle.teco_model.specs.Step.{after_argument, after_command, after_query, after_value, execution}
+use Rattle.teco_model.specs.Step.{levels_after, outcome_at, reply_of, step}
+use Rattle.teco_model.specs.declared.kind.Argument.{Argument}
+use Rattle.teco_model.specs.declared.kind.Command.{Command}
+use Rattle.teco_model.specs.declared.kind.Kind.TheVariants as kind
+use Rattle.teco_model.specs.declared.kind.Query.{Query}
+use Rattle.teco_model.specs.declared.kind.Value.{Value}
+use Rattle.teco_outcomes.specs.declared.case.Case.{Case}
+use Rattle.teco_outcomes.specs.declared.commands.Taken.{Taken}
+use Rattle.teco_outcomes.specs.declared.outcomes.Outcomes.{Outcomes}
+use Rattle.teco_outcomes.specs.Commands.{IsTaken, Performs, commanded, taken_by}
+use Rattle.teco_outcomes.specs.Foretold.{Describe, Foretells, Rearranges, Succeeds}
+use Rattle.teco_outcomes.specs.Law.{Goes, Law, StepsTo, point_of}
+use Rattle.teco_outcomes.specs.Queries.{Asks}
+use Rattle.teco_outcomes.specs.States.{Point, behind}
+
+-- an element that works on the editor alone goes on behind itself
+pub editor_law : (e : Element) (case : Case) (all : Outcomes) (performed : Point → Result going.After Code)
+    → ((s : State) (steps below : ℕ)
+    → reply_of e.kind e s ≡ going.on_editor s.left s.world (performed (point_of steps below s)))
+    → Foretells performed case all → Law e case all
+unfolding step
+editor_law e case all performed is foretells n v s steps below stands begins =
+    subst (StepsTo (Goes n all e steps below s))
+    (sym (ap (outcome_at s) stands.reads ∙ ap (going.settle e s) (is s steps below)))
+    (settled (performed (point_of steps below s)) (foretells n v (point_of steps below s) begins)) where
+      settled : (r : Result going.After Code)
+          → Succeeds (λ done. Describe n all (behind (point_of steps below s) done)) r
+          → StepsTo (Goes n all e steps below s) (going.settle e s (going.on_editor s.left s.world r))
+      settled (Ok done) d = inl (record { described = d; there = refl; left = refl })
+      settled (Err c) d = absurd d
+
+-- ---- by what an element is
+pub argument_law : (e : Element) (case : Case) (all : Outcomes) (a : Argument) → e.kind ≡ kind.Argument a
+    → Rearranges (levels_after a e.text) case all → Law e case all
+unfolding reply_of
+argument_law e case all a is arranges =
+    editor_law e case all (λ s. after_argument a e s.kept s.arguments)
+    (λ s steps below. ap (λ k. reply_of k e s) is)
+    (λ n v s begins. passed s n (levels_after a e.text s.arguments) (arranges n v s begins)) where
+      passed : (s : Point) (n : ℕ) (r : Result Arguments Code)
+          → Succeeds (λ arguments. Describe n all (behind s (going.after s.kept arguments))) r
+          → Succeeds (λ done. Describe n all (behind s done)) (r >>= (λ levels. Ok (going.after s.kept levels)))
+      passed s n (Ok levels) d = d
+      passed s n (Err c) d = d
+
+pub value_law : (e : Element) (case : Case) (all : Outcomes) (v : Value) → e.kind ≡ kind.Value v
+    → Foretells (λ s. after_value v s.kept s.arguments) case all → Law e case all
+unfolding reply_of
+value_law e case all v is foretells =
+    editor_law e case all (λ s. after_value v s.kept s.arguments) (λ s steps below. ap (λ k. reply_of k e s) is)
+    foretells
+
+pub query_law : (e : Element) (case : Case) (all : Outcomes) (q : Query) → e.kind ≡ kind.Query q
+    → Asks q e.colons case all → Law e case all
+unfolding reply_of
+query_law e case all q is asks =
+    editor_law e case all (λ s. after_query q e s.kept s.arguments) (λ s steps below. ap (λ k. reply_of k e s) is)
+    (asks e refl)
+
+pub command_law : (e : Element) (case : Case) (all : Outcomes) (c : Command) → e.kind ≡ kind.Command c
+    → Foretells (λ s. after_command c e s.kept s.arguments) case all → Law e case all
+unfolding reply_of
+command_law e case all c is foretells =
+    editor_law e case all (λ s. after_command c e s.kept s.arguments) (λ s steps below. ap (λ k. reply_of k e s) is)
+    foretells
+
+-- A command that takes what is foretold, and comes to what is foretold with that.
+pub command_foretold : (e : Element) (case : Case) (taken : Taken) (all : Outcomes) (c : Command) → IsTaken case taken
+    → Performs (execution c e) taken case all → Foretells (λ s. after_command c e s.kept s.arguments) case all
+command_foretold e case taken all c is performs n v s begins =
+    subst (Succeeds (λ done. Describe n all (behind s done)))
+    (sym (ap (λ r. r >>= (λ taken. execution c e taken s.kept >>= (λ effect. Ok (going.after effect.kept
+    (levels_after_answer effect.answer (levels_after_taking s.arguments)))))) (is n v s begins.true_of)))
+    (passed (execution c e (taken_by taken n v) s.kept) (performs n v s begins)) where
+      passed : (r : Result Effect Code)
+          → Succeeds (λ effect. Describe n all (commanded s effect.kept effect.answer)) r
+          → Succeeds (λ done. Describe n all (behind s done)) (r >>= (λ effect. Ok (going.after effect.kept
+          (levels_after_answer effect.answer (levels_after_taking s.arguments)))))
+      passed (Ok effect) d = d
+      passed (Err c) d = d

@@ -1,0 +1,29 @@
+use Rattle.std.proofs.lemmas.Result.{IfOk-weaker}
+use Rattle.teco_model.specs.Element.{seen}
+use Rattle.teco_outcomes.proofs.Stepping.{argument_law, command_law, query_law, value_law}
+use Rattle.teco_outcomes.proofs.elements.outcomes_of.Goals as goal
+
+pub returns-in-Argument : goal.returns-in-Argument
+returns-in-Argument c =
+    IfOk-weaker c.change_arguments.result _ _
+    (λ all told.
+    argument_law (seen c.args.element.now) c.args.case.now all c.in-Argument.argument c.in-Argument.is told)
+    c.change_arguments.ensures
+
+pub returns-in-Value : goal.returns-in-Value
+returns-in-Value c =
+    IfOk-weaker c.give_value.result _ _
+    (λ all told. value_law (seen c.args.element.now) c.args.case.now all c.in-Value.value c.in-Value.is told)
+    c.give_value.ensures
+
+pub returns-in-Query : goal.returns-in-Query
+returns-in-Query c =
+    IfOk-weaker c.ask.result _ _
+    (λ all told. query_law (seen c.args.element.now) c.args.case.now all c.in-Query.query c.in-Query.is told)
+    c.ask.ensures
+
+pub returns-in-Command : goal.returns-in-Command
+returns-in-Command c =
+    IfOk-weaker c.perform.result _ _
+    (λ all told. command_law (seen c.args.element.now) c.args.case.now all c.in-Command.command c.in-Command.is told)
+    c.perform.ensures

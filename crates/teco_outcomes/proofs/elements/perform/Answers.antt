@@ -1,0 +1,29 @@
+use Rattle.std.proofs.lemmas.Result.{IfOk-weaker}
+use Rattle.std.proofs.Common.{sym, subst, refl}
+use Rattle.teco_model.specs.Element.{seen}
+use Rattle.teco_model.specs.Step.{after_command}
+use Rattle.teco_model.specs.declared.kind.Command.TheVariants as command
+use Rattle.teco_outcomes.specs.Foretold.{Foretells}
+use Rattle.teco_outcomes.proofs.Stepping.{command_foretold}
+use Rattle.teco_outcomes.proofs.elements.perform.Goals as goal
+
+pub returns-in_ok-colon-in-Motion : goal.returns-in_ok-colon-in-Motion
+returns-in_ok-colon-in-Motion c =
+    IfOk-weaker c.move_by.result _ _
+    (λ all performs.
+    subst (λ k. Foretells (λ s. after_command k (seen c.args.element.now) s.kept s.arguments) c.args.case.now all)
+    (sym c.in-Motion.is)
+    (command_foretold (seen c.args.element.now) c.args.case.now c.in_ok-taken.taken all
+    (command.Motion c.in-Motion.motion)
+    c.in_ok-taken.ensures (performs (seen c.args.element.now) c.in_ok-colon-in-Motion.ensures)))
+    c.move_by.ensures
+
+pub returns-in-Storage : goal.returns-in-Storage
+returns-in-Storage c =
+    IfOk-weaker c.store.result _ _
+    (λ all performs.
+    subst (λ k. Foretells (λ s. after_command k (seen c.args.element.now) s.kept s.arguments) c.args.case.now all)
+    (sym c.in-Storage.is)
+    (command_foretold (seen c.args.element.now) c.args.case.now c.in_ok-taken.taken all
+    (command.Storage c.in-Storage.storage) c.in_ok-taken.ensures (performs (seen c.args.element.now))))
+    c.store.ensures

@@ -1,0 +1,11 @@
+-- What elements do to the measures of a state.
+pub mod Measures
+pub mod Rows
+pub mod Cases
+pub mod States
+pub mod Foretold
+pub mod Levels
+pub mod Commands
+pub mod Queries
+pub mod Law
+pub mod Motions

@@ -1,0 +1,128 @@
+//! What comes of the commands on registers.
+ghost use Rattle.std.specs.Prelude.{◌≡◌, ◌<◌, IfOk};
+ghost use Rattle.teco_base.specs.declared.TheConstants.{REGISTERS};
+ghost use Rattle.teco_model.specs.Element.{Element};
+ghost use Rattle.teco_model.specs.Storage.{storage};
+ghost use Rattle.teco_model.specs.declared.kind.Storage.TheVariants.{SetNumber, Add};
+ghost use Rattle.teco_outcomes.specs.Commands.{IsAtLevel, Performs};
+
+use crate::case::Case;
+use crate::commands::{Taken, Way, argument, command};
+use crate::fault::Fault;
+use crate::forms::{number, within_32_bits};
+use crate::levels::{NO, VALUE, at_level, one};
+use crate::measure::Family;
+use crate::outcomes::Outcomes;
+use crate::row::{Clause, Mark, Of, Places};
+use std::alloc::Global;
+use teco_base::Reg;
+
+pub const NUMBER: Mark = Mark::Here(Family::Number);
+
+// The number is stored.
+const STORES: [Clause; 1] = [Clause::Sets(NUMBER, 0, [(1, Of::Given(0)), NO, NO, NO])];
+
+// The sum is stored and answered.
+const ADDS: [Clause; 2] = [
+    Clause::Sets(NUMBER, 0, [(1, Of::Given(0)), NO, NO, NO]),
+    Clause::Sets(VALUE, 0, [(1, Of::Given(0)), NO, NO, NO]),
+];
+
+// So it is where it is some number of 32 bits.
+const ADDS_WRAPPED: [Clause; 4] = [
+    Clause::Sets(NUMBER, 0, [(1, Of::Unknown(0)), NO, NO, NO]),
+    Clause::Sets(VALUE, 0, [(1, Of::Unknown(0)), NO, NO, NO]),
+    Clause::Wants(1 << 31, [(1, Of::Unknown(0)), NO, NO, NO]),
+    Clause::Wants((1 << 31) - 1, [(-1, Of::Unknown(0)), NO, NO, NO]),
+];
+
+// The places at hand where an element names a register.
+fn at_register(case: &Case, register: Reg) -> Result<Places, Fault>
+    ensures level { IfOk result (λ here. IsAtLevel here case.now) }
+    ensures register { IfOk result (λ here. here.register ≡ register) }
+    ensures within { IfOk result (λ here. here.register < REGISTERS) }
+{
+    let here = at_level(case)?;
+    Ok(Places {
+        register: register.index() as u32,
+        iteration: here.iteration,
+        push: here.push,
+        level: here.level,
+    })
+}
+
+/// `U` stores a number.
+pub fn set_number(
+    case: &Case,
+    register: Reg,
+    taken: Taken,
+    alloc: Global,
+) -> Result<Outcomes, Fault>
+    ensures { IfOk result (λ all. (e : Element) → Performs (storage (SetNumber register) e) taken case.now all) }
+{
+    let here = at_register(case, register)?;
+    let Taken {
+        first: _first,
+        value,
+    } = taken;
+    match value {
+        Some(value) => {
+            let after = command(
+                case,
+                &Way {
+                    answers: &[],
+                    does: &STORES,
+                },
+                &[value],
+                here,
+                alloc,
+            )?;
+            one(after, Vec::new(alloc), alloc)
+        }
+        None => Err(Fault::Argument),
+    }
+}
+
+/// `%` adds to a number, and answers the sum.
+pub fn add_number(
+    case: &Case,
+    register: Reg,
+    taken: Taken,
+    may_wrap: bool,
+    alloc: Global,
+) -> Result<Outcomes, Fault>
+    ensures { IfOk result (λ all. (e : Element) → Performs (storage (Add register) e) taken case.now all) }
+{
+    let here = at_register(case, register)?;
+    if may_wrap {
+        let after = command(
+            case,
+            &Way {
+                answers: &[],
+                does: &ADDS_WRAPPED,
+            },
+            &[],
+            here,
+            alloc,
+        )?;
+        return one(after, Vec::new(alloc), alloc);
+    }
+    let Taken {
+        first: _first,
+        value,
+    } = taken;
+    let addend = argument(value, 1, alloc)?;
+    let sum = number(case, register, alloc)?.add(&addend, alloc)?;
+    let conditions = within_32_bits(&sum, alloc)?;
+    let after = command(
+        case,
+        &Way {
+            answers: &[],
+            does: &ADDS,
+        },
+        &[sum],
+        here,
+        alloc,
+    )?;
+    one(after, conditions, alloc)
+}

@@ -1,0 +1,47 @@
+//! What comes of elements that give a value of the machine's.
+ghost use Rattle.std.specs.Prelude.{IfOk};
+ghost use Rattle.teco_model.specs.Step.{after_value};
+ghost use Rattle.teco_outcomes.specs.Foretold.{Foretells};
+
+use crate::case::Case;
+use crate::fault::Fault;
+use crate::forms::single;
+use crate::levels::give;
+use crate::measure::Single;
+use crate::outcomes::Outcomes;
+use crate::pairs::give_pair;
+use std::alloc::Global;
+use teco_linear::Form;
+use teco_model::kind::Value;
+
+/// `B`, `Z`, `.` and `^S` give a number, and `H` and `^Y` a pair of them.
+pub fn give_value(
+    case: &Case,
+    value: Value,
+    may_wrap: bool,
+    alloc: Global,
+) -> Result<Outcomes, Fault>
+    ensures { IfOk result (λ all. Foretells (λ s. after_value value s.kept s.arguments) case.now all) }
+{
+    match value {
+        Value::Begin => give(case, Form::zero(alloc), may_wrap, alloc),
+        Value::Size => give(case, single(case, Single::Size, alloc)?, may_wrap, alloc),
+        Value::Pointer => give(case, single(case, Single::Pointer, alloc)?, may_wrap, alloc),
+        Value::LastLength => {
+            let length = single(case, Single::LastLength, alloc)?;
+            let minus = Form::zero(alloc).sub(&length, alloc)?;
+            give(case, minus, may_wrap, alloc)
+        }
+        Value::Whole => {
+            let begin = Form::zero(alloc);
+            let size = single(case, Single::Size, alloc)?;
+            give_pair(case, &begin, size, alloc)
+        }
+        Value::LastText => {
+            let pointer = single(case, Single::Pointer, alloc)?;
+            let length = single(case, Single::LastLength, alloc)?;
+            let begin = pointer.sub(&length, alloc)?;
+            give_pair(case, &begin, pointer, alloc)
+        }
+    }
+}
