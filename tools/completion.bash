@@ -1,7 +1,7 @@
 # Completion of teco's commands, options and their values for bash.
 
 # BEGIN of the lists that tools/completions writes
-_teco_commands="run verify check apply edit trace show explain help"
+_teco_commands="run verify check apply edit trace test show explain help"
 _teco_general="-h --help -V --version"
 _teco_valued="--limit --memory --set --set-file --esc -e -f --library -r --register --rules --arg --pages --cert
   --color --files-from --include --exclude --backup"
@@ -25,13 +25,16 @@ _teco_options() {
       ;;
     edit)
       echo "-e -f --library -r --register --memory --arg --set --set-file --exact --any-case --rules --esc --pages
-        --strict --beyond-promise --stats --cert --dry-run --check -0 --null --diff --color --files-from
+        --strict --beyond-promise --stats --cert --tested --dry-run --check -0 --null --diff --color --files-from
         --recursive --include --exclude --binary --backup --force-backup --durable --with-names --no-names --quiet -h
         --help"
       ;;
     trace)
       echo "-e -f --library -r --register --limit --memory --arg --set --set-file --exact --any-case --rules --esc
         --pages --beyond-promise -h --help"
+      ;;
+    test)
+      echo "-e -f --library -r --register --fuzz --exact --any-case --color --rules --esc -h --help"
       ;;
     show)
       echo "--source --esc -h --help"

@@ -69,6 +69,7 @@ complete -c teco -n __fish_use_subcommand -x -a check -d 'Checks a certificate'
 complete -c teco -n __fish_use_subcommand -x -a apply -d 'Edits a file by a verified macro'
 complete -c teco -n __fish_use_subcommand -x -a edit -d 'Edits files in place by a verified macro'
 complete -c teco -n __fish_use_subcommand -x -a trace -d 'Lists the steps of a macro on a file, and writes no file'
+complete -c teco -n __fish_use_subcommand -x -a test -d 'Tries the examples in the comments of a library'
 complete -c teco -n __fish_use_subcommand -x -a show -d 'Prints a file of TECO text as its elements'
 complete -c teco -n __fish_use_subcommand -x -a explain \
   -d 'Says what a code or a refusal means and how to mend what causes it'
@@ -82,21 +83,21 @@ complete -c teco -n '__teco_of run apply edit trace' -l set -x \
   -d 'Give register Q this text before the run, in the form of -e'
 complete -c teco -n '__teco_of run apply edit trace' -l set-file -x -a '(__teco_files_of_register)' \
   -d 'Give register Q the bytes of a file before the run'
-complete -c teco -n '__teco_of run apply edit trace' -l exact \
+complete -c teco -n '__teco_of run apply edit trace test' -l exact \
   -d 'Begin with 1^X: a letter of a search finds itself alone'
-complete -c teco -n '__teco_of run apply edit trace' -l any-case -d 'Begin with 0^X, as without it'
-complete -c teco -n '__teco_of run verify check apply edit trace show explain' -l esc -x -a 'none' \
+complete -c teco -n '__teco_of run apply edit trace test' -l any-case -d 'Begin with 0^X, as without it'
+complete -c teco -n '__teco_of run verify check apply edit trace test show explain' -l esc -x -a 'none' \
   -d 'The character that stands for ESC'
 complete -c teco -n '__teco_of run' -s e -x -d 'Command strings in the readable form, with $ for ESC'
-complete -c teco -n '__teco_of run verify check apply edit trace show explain' -s h -l help -d 'Print help'
-complete -c teco -n '__teco_of verify check apply edit trace explain' -s e -x \
+complete -c teco -n '__teco_of run verify check apply edit trace test show explain' -s h -l help -d 'Print help'
+complete -c teco -n '__teco_of verify check apply edit trace test explain' -s e -x \
   -d 'A line of the macro A, in the readable form, with $ for ESC'
-complete -c teco -n '__teco_of verify check apply edit trace explain' -s f -l library -r -F \
+complete -c teco -n '__teco_of verify check apply edit trace test explain' -s f -l library -r -F \
   -d 'A file of macros, or of one macro'
-complete -c teco -n '__teco_of verify check apply edit trace explain' -s r -l register -x -a '(__teco_registers)' \
+complete -c teco -n '__teco_of verify check apply edit trace test explain' -s r -l register -x -a '(__teco_registers)' \
   -d 'The register of the macro, where -e or -f is given'
 complete -c teco -n '__teco_of verify' -l json -d 'Print each verdict as an object of JSON in a line'
-complete -c teco -n '__teco_of verify check apply edit trace explain' -l rules -x -a '1 2' \
+complete -c teco -n '__teco_of verify check apply edit trace test explain' -l rules -x -a '1 2' \
   -d 'The edition of the rules that macros are verified by: 1 or 2'
 complete -c teco -n '__teco_of apply edit trace' -l arg -x \
   -d 'The argument of the macro, where its library declares one'
@@ -110,11 +111,12 @@ complete -c teco -n '__teco_of edit' -l pages -x -a 'first each whole' \
   -d 'The pages that are edited, which form feeds end: whole'
 complete -c teco -n '__teco_of edit' -l strict -d 'Leave a file as it was where the promise does not hold for it'
 complete -c teco -n '__teco_of edit trace' -l beyond-promise -d 'Run the macro also where its promise does not hold'
+complete -c teco -n '__teco_of edit' -l tested -d 'Try the examples of the library first'
 complete -c teco -n '__teco_of edit' -l dry-run -d 'Print the names of the files that would change, one a line'
 complete -c teco -n '__teco_of edit' -l check -d 'As --dry-run, and end with status 1 if a file would change'
 complete -c teco -n '__teco_of edit' -s 0 -l null -d 'End each name that --dry-run or --check prints'
 complete -c teco -n '__teco_of edit' -l diff -d 'Print what changes, as diff -u does'
-complete -c teco -n '__teco_of edit' -l color -x -a 'always never auto' \
+complete -c teco -n '__teco_of edit test' -l color -x -a 'always never auto' \
   -d 'Colours of --diff: always, never, or auto'
 complete -c teco -n '__teco_of edit' -l files-from -r -F -d 'Edit the files that this file names too, one a line'
 complete -c teco -n '__teco_of edit' -l recursive -d 'Edit the files of folders and of those in them'
@@ -130,6 +132,7 @@ complete -c teco -n '__teco_of edit' -l with-names \
   -d 'Begin each line that is typed over a file with the file'\''s name'
 complete -c teco -n '__teco_of edit' -l no-names -d 'Type lines without the names of files'
 complete -c teco -n '__teco_of trace' -l limit -x -d 'Steps that are listed at most'
+complete -c teco -n '__teco_of test' -l fuzz -d 'Run the macro on short texts of what it looks for'
 complete -c teco -n '__teco_of show' -l source -d 'Print a source that reads as the same bytes: readable'
 set -g __teco_valued --limit --memory --set --set-file --esc -e -f --library -r --register --rules --arg --pages \
   --cert --color --files-from --include --exclude --backup

@@ -10,6 +10,7 @@ _teco_lists() {
     'apply:Edits a file by a verified macro'
     'edit:Edits files in place by a verified macro'
     'trace:Lists the steps of a macro on a file, and writes no file'
+    'test:Tries the examples in the comments of a library'
     'show:Prints a file of TECO text as its elements'
     'explain:Says what a code or a refusal means and how to mend what causes it'
     'help:Print this message or the help of the given subcommand(s)'
@@ -94,6 +95,7 @@ _teco_options() {
         '--beyond-promise[Run the macro also where its promise does not hold]'
         '--stats[Say how many commands the runs took]'
         '--cert=[Check this certificate in place of a search for one]:CERT:_files'
+        '--tested[Try the examples of the library first]'
         '--dry-run[Print the names of the files that would change, one a line]'
         '--check[As --dry-run, and end with status 1 if a file would change]'
         '(-0 --null)'{-0,--null}'[End each name that --dry-run or --check prints]'
@@ -129,6 +131,20 @@ _teco_options() {
         '--esc=[The character that stands for ESC]:C:(none)'
         '--pages=[The pages that are edited, which form feeds end\: first]:WHICH:(first each whole)'
         '--beyond-promise[Run the macro also where its promise does not hold]'
+        '(-h --help)'{-h,--help}'[Print help]'
+      )
+      ;;
+    test)
+      options=(
+        '*-e[A line of the macro A, in the readable form, with $ for ESC]:TEXT: '
+        '(-f --library)'{-f,--library=}'[A file of macros, or of one macro]:LIB:_files'
+        '(-r --register)'{-r,--register=}'[The register of the macro, where -e or -f is given]:REGISTER:_teco_registers'
+        '--fuzz[Run the macro on short texts of what it looks for]'
+        '--exact[Begin with 1^X\: a letter of a search finds itself alone]'
+        '--any-case[Begin with 0^X, as without it]'
+        '--color=[Colours of --diff\: always, never, or auto]:WHEN:(always never auto)'
+        '--rules=[The edition of the rules that macros are verified by\: 1 or 2]:N:(1 2)'
+        '--esc=[The character that stands for ESC]:C:(none)'
         '(-h --help)'{-h,--help}'[Print help]'
       )
       ;;

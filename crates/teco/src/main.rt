@@ -9,6 +9,7 @@ use std::io::{Input, IsTerminal, Write};
 use std::process::ExitCode;
 use std::{env, io};
 use teco_edits::{InPlace, Listing, Names, Task, apply_macro, choose, edit_files, trace_macro};
+use teco_examples::{Tests, fuzz_macro, test_examples};
 use teco_pages::{Closing, FileHost};
 use teco_tools::{OUTPUT, Prompting, Run, Start, Streams, run_scripts};
 use teco_verdicts::{
@@ -196,6 +197,46 @@ fn shows_colours(rt: &HostRuntime) -> bool {
     rt.stdout().is_terminal() && !is_refused && !is_dumb
 }
 
+// `test`.
+fn test<O: Write + Drop, E: Write + Drop>(
+    rt: &HostRuntime,
+    console: &mut Console<O, E>,
+    given: &ArgMatches<'_>,
+) -> Result<Outcome, ProgramFault> {
+    if given.get_flag("fuzz") {
+        let entry = teco_words::entry(given)?;
+        let case = teco_words::case(given)?;
+        return Ok(fuzz_macro(rt, console, request(given, true)?, entry, case)?);
+    }
+    let entry = if teco_words::names_register(given) {
+        Some(teco_words::entry(given)?)
+    } else {
+        None
+    };
+    let tests = Tests {
+        entry,
+        case: teco_words::case(given)?,
+        look: teco_words::look(given, shows_colours(rt))?,
+    };
+    Ok(test_examples(rt, console, request(given, true)?, tests)?)
+}
+
+// Do the examples of the library stand? One from standard input can't be read twice.
+fn is_tested<O: Write + Drop, E: Write + Drop>(
+    rt: &HostRuntime,
+    console: &mut Console<O, E>,
+    given: &ArgMatches<'_>,
+) -> Result<bool, ProgramFault> {
+    teco_words::check_tested(given)?;
+    let tests = Tests {
+        entry: None,
+        case: teco_words::case(given)?,
+        look: teco_words::look(given, shows_colours(rt))?,
+    };
+    let outcome = test_examples(rt, console, request(given, true)?, tests)?;
+    Ok(matches!(outcome, Outcome::Done))
+}
+
 // `edit`.
 fn edit<'a, O: Write + Drop, E: Write + Drop>(
     rt: &HostRuntime,
@@ -205,6 +246,9 @@ fn edit<'a, O: Write + Drop, E: Write + Drop>(
 ) -> Result<Outcome, ProgramFault> {
     if given.get_flag("quiet") {
         console.voice.hush();
+    }
+    if given.get_flag("tested") && !is_tested(rt, console, given)? {
+        return Ok(Outcome::Refused);
     }
     let settings = settings(rt, given)?;
     let task = Task {
@@ -301,6 +345,7 @@ fn obey<'a, O: Write + Drop, E: Write + Drop>(
         Some(("check", given)) => check(rt, console, given),
         Some(("apply", given)) => apply(rt, console, given, arguments),
         Some(("edit", given)) => edit(rt, console, given, arguments),
+        Some(("test", given)) => test(rt, console, given),
         Some(("trace", given)) => trace(rt, console, given, arguments),
         Some(("show", given)) => show_file(rt, console, given),
         Some(("explain", given)) => explain_what(rt, console, given),

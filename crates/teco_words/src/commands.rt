@@ -1,7 +1,8 @@
 //! The commands of the program and their options.
 use crate::rows::Row;
 use crate::tables::{
-    APPLY_PAGE, CHECK_PAGE, EDIT_PAGE, EXPLAIN_PAGE, RUN_PAGE, SHOW_PAGE, TRACE_PAGE, VERIFY_PAGE,
+    APPLY_PAGE, CHECK_PAGE, EDIT_PAGE, EXPLAIN_PAGE, RUN_PAGE, SHOW_PAGE, TEST_PAGE, TRACE_PAGE,
+    VERIFY_PAGE,
 };
 use clap::{Arg, Command};
 use std::alloc::{AllocError, Global};
@@ -128,6 +129,11 @@ fn trace_command<'a, S: AsStr>(alloc: Global, words: &[S]) -> Result<Command<'a>
     command_of(alloc, words, &TRACE_PAGE)
 }
 
+// The command `test`.
+fn test_command<'a, S: AsStr>(alloc: Global, words: &[S]) -> Result<Command<'a>, AllocError> {
+    command_of(alloc, words, &TEST_PAGE)
+}
+
 // The command `show`.
 fn show_command<'a, S: AsStr>(alloc: Global, words: &[S]) -> Result<Command<'a>, AllocError> {
     command_of(alloc, words, &SHOW_PAGE)
@@ -148,6 +154,7 @@ fn commands_of<'a, S: AsStr>(alloc: Global, words: &[S]) -> Result<Vec<Command<'
     commands.push(apply_command(alloc, words)?)?;
     commands.push(edit_command(alloc, words)?)?;
     commands.push(trace_command(alloc, words)?)?;
+    commands.push(test_command(alloc, words)?)?;
     commands.push(show_command(alloc, words)?)?;
     commands.push(explain_command(alloc, words)?)?;
     Ok(commands)

@@ -29,6 +29,9 @@ pub enum WordsFault {
     /// A word is neither a code nor a refusal.
     #[error("explain takes a code, as POP, a refusal, as X7, a command, as FS, or a file and a register")]
     Unknown,
+    /// The examples of a library are to be tried that can't be read twice.
+    #[error("--tested wants a file as LIB, since standard input can't be read twice")]
+    Tested,
     /// Searches are to be exact and to find either case.
     #[error("--exact and --any-case can't both be asked for")]
     Case,

@@ -12,8 +12,8 @@ pub use arguments::Arguments;
 pub use commands::command;
 pub use fault::WordsFault;
 pub use words::{
-    cap, case, change, check_streams, check_texts, choice, entry, escape_of, file_name, file_names,
-    form_of_source, given, has_macro_options, keeping, limit, look, mark_of, names_macro,
-    names_register, naming, origin, pages, rules_of, scripts, setting_files, settings, source_name,
-    target_name, word,
+    cap, case, change, check_streams, check_tested, check_texts, choice, entry, escape_of,
+    file_name, file_names, form_of_source, given, has_macro_options, keeping, limit, look, mark_of,
+    names_macro, names_register, naming, origin, pages, rules_of, scripts, setting_files, settings,
+    source_name, target_name, word,
 };

@@ -106,6 +106,7 @@ pub const EDIT_PAGE: Page = Page {
         BEYOND,
         STATS,
         CHECKED,
+        TESTED,
         DRY,
         CHECK,
         NUL,
@@ -125,6 +126,18 @@ pub const EDIT_PAGE: Page = Page {
     ],
     library: &[LIBRARY, REGISTER],
     words: &[FILES],
+};
+
+/// The command `test`.
+pub const TEST_PAGE: Page = Page {
+    name: "test",
+    about: "Tries the examples in the comments of a library, as !EXAMPLE text => text!",
+    examples: "Examples:\n  teco test trim.tes\n  teco test lib.tes B",
+    options: &[
+        MACRO, FROM, CALLED, FUZZ, EXACT, ANY_CASE, COLOR, RULES, ESCAPE,
+    ],
+    library: &[LIBRARY, OF_TESTED],
+    words: &[],
 };
 
 /// The command `trace`.
@@ -232,6 +245,24 @@ const OF_EACH: Row = Row {
     id: "REGISTER",
     kind: Kind::Word(Word::Optional),
     help: "The register of the macro; each macro of LIB where it is left out",
+};
+
+const OF_TESTED: Row = Row {
+    id: "REGISTER",
+    kind: Kind::Word(Word::Optional),
+    help: "The register of the macro whose examples are tried; those of all where it is left out",
+};
+
+const FUZZ: Row = Row {
+    id: "fuzz",
+    kind: Kind::Flag,
+    help: "Run the macro on short texts of what it looks for, and ask about what may not be meant",
+};
+
+const TESTED: Row = Row {
+    id: "tested",
+    kind: Kind::Flag,
+    help: "Try the examples of the library first, and edit nothing where one fails",
 };
 
 const CERTIFICATE: Row = Row {

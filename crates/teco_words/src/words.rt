@@ -358,6 +358,14 @@ pub fn check_streams(words: &ArgMatches<'_>, is_strict: bool) -> Result<(), Word
     Ok(())
 }
 
+/// Refuses to try the examples of a library that can't be read twice.
+pub fn check_tested(words: &ArgMatches<'_>) -> Result<(), WordsFault> {
+    if named(words, "LIB", "library") == Some(STREAM) {
+        return Err(WordsFault::Tested);
+    }
+    Ok(())
+}
+
 /// The name of the file that is read, or of standard input.
 pub fn source_name<'a>(
     words: &ArgMatches<'a>,

@@ -1,0 +1,162 @@
+//! Runs of macros on texts in memory.
+use crate::example::Example;
+use std::alloc::{AllocError, Global};
+use teco_apply::Pages;
+use teco_base::{Code, Reg};
+use teco_edits::{Names, call, open_pages};
+use teco_library::Library;
+use teco_model::Needs;
+use teco_pages::MemHost;
+use teco_run::Machine;
+use teco_text::GapText;
+use teco_tools::{Case, Start, ToolFault, code_of, machine_with, prepare, within_limit};
+use teco_verdicts::Sourced;
+
+/// How many steps the run of a macro on an example may take.
+const LIMIT: u64 = 100_000_000;
+
+/// How many bytes such a run may type, and its calls may take.
+const CAP: usize = 1 << 30;
+
+/// What a macro made of a text: another text, or a code.
+pub enum Came {
+    Text(Vec<u8>),
+    Code(Code),
+}
+
+/// How a macro is run on texts.
+#[derive(Clone, Copy)]
+pub struct Subject {
+    /// What memory for machines and texts comes from.
+    pub alloc: Global,
+    pub entry: Reg,
+    /// How searches treat case as it begins.
+    pub case: Option<Case>,
+    /// The pages that it is run on: the first, if it turns pages itself, and else all as one.
+    pub pages: Pages,
+}
+
+impl Subject {
+    /// A macro of a library. Where it is refused it is not known whether it turns pages.
+    pub fn of(alloc: Global, sourced: &Sourced, entry: Reg, case: Option<Case>) -> Subject {
+        let pages = pages_of(alloc, sourced, entry);
+        Subject {
+            alloc,
+            entry,
+            case,
+            pages,
+        }
+    }
+}
+
+// The pages that a macro of a library is run on.
+fn pages_of(alloc: Global, sourced: &Sourced, entry: Reg) -> Pages {
+    match sourced.editions.verify(alloc, &sourced.library, entry) {
+        Ok(verified) => pages_for(verified.needs()),
+        Err(_) => Pages::Whole,
+    }
+}
+
+// The pages that a macro is run on which needs these files.
+fn pages_for(needs: Needs) -> Pages {
+    if needs.input || needs.output {
+        Pages::First
+    } else {
+        Pages::Whole
+    }
+}
+
+// A host with a text as the file that is read.
+fn host_with(alloc: Global, text: &[u8]) -> Result<MemHost, AllocError> {
+    let mut host = MemHost::new(alloc);
+    host.put(b"in", text)?;
+    Ok(host)
+}
+
+// Gives a machine what it has before the run, and opens the files; the code at which that stopped.
+fn open(
+    subject: &Subject,
+    example: &Example,
+    machine: &mut Machine<GapText>,
+    host: &mut MemHost,
+) -> Result<Option<Code>, ToolFault> {
+    let start = Start {
+        settings: &example.settings,
+        case: subject.case,
+    };
+    prepare(machine, start, host)?;
+    let names = Names {
+        source: b"in",
+        target: b"out",
+    };
+    let opened = open_pages(subject.alloc, machine, host, names, subject.pages)?;
+    Ok(code_of(opened.stop))
+}
+
+// Runs a command string; the code at which it stopped.
+fn run(
+    machine: &mut Machine<GapText>,
+    host: &mut MemHost,
+    text: &[u8],
+) -> Result<Option<Code>, ToolFault> {
+    let command = within_limit(text)?;
+    let stopped = machine.run_to_stop(command, LIMIT, host);
+    Ok(code_of(stopped.stop))
+}
+
+// Runs a command string with the texts of a library, and closes the files; the code at which that
+// stopped.
+fn run_and_close(
+    library: &Library,
+    machine: &mut Machine<GapText>,
+    host: &mut MemHost,
+    text: &[u8],
+) -> Result<Option<Code>, ToolFault> {
+    machine.load(library.texts())?;
+    match run(machine, host, text)? {
+        None => run(machine, host, b"EC"),
+        Some(code) => Ok(Some(code)),
+    }
+}
+
+// Calls a macro on the files of a host; the code at which that stopped.
+fn call_on(
+    library: &Library,
+    subject: &Subject,
+    example: &Example,
+    machine: &mut Machine<GapText>,
+    host: &mut MemHost,
+) -> Result<Option<Code>, ToolFault> {
+    match open(subject, example, machine, host)? {
+        None => {
+            let text = call(subject.alloc, subject.entry, example.argument)?;
+            run_and_close(library, machine, host, text.as_bytes())
+        }
+        Some(code) => Ok(Some(code)),
+    }
+}
+
+// Calls a macro on a machine of its own; the code at which that stopped.
+fn run_on_host(
+    library: &Library,
+    subject: &Subject,
+    example: &Example,
+    host: &mut MemHost,
+) -> Result<Option<Code>, ToolFault> {
+    let mut machine = machine_with(subject.alloc, CAP);
+    call_on(library, subject, example, &mut machine, host)
+}
+
+// The text of the file that was written.
+fn written(alloc: Global, host: &MemHost) -> Result<Vec<u8>, AllocError> {
+    host.file(b"out").unwrap_or(&[]).to_vec(alloc)
+}
+
+/// Runs a macro of a library on the text of an example.
+pub fn run_on(library: &Library, subject: &Subject, example: &Example) -> Result<Came, ToolFault> {
+    let mut host = host_with(subject.alloc, &example.before)?;
+    match run_on_host(library, subject, example, &mut host)? {
+        None => Ok(Came::Text(written(subject.alloc, &host)?)),
+        Some(code) => Ok(Came::Code(code)),
+    }
+}
