@@ -1,9 +1,17 @@
-//! Tests of the editor, of the commands of files, and of runs.
+//! Tests of runs and of sessions: what no case of a file can say.
 #![tactic(auto)]
 
 #[cfg(test)]
-mod editor;
+mod brackets;
 #[cfg(test)]
-mod filing;
+mod files;
+#[cfg(test)]
+mod growths;
+#[cfg(test)]
+mod heard;
 #[cfg(test)]
 mod run;
+#[cfg(test)]
+mod transfers;
+#[cfg(test)]
+mod trial;

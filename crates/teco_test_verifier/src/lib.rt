@@ -1,5 +1,4 @@
-//! Tests of the verifier's crates: libraries, certificates, expansions, facts, tables and verdicts,
-//! and what people are told of them.
+//! Tests of the verifier's crates, of what is printed of verdicts, and of edits by verified macros.
 #![tactic(auto)]
 
 #[cfg(test)]
@@ -7,20 +6,16 @@ mod accounts;
 #[cfg(test)]
 mod certificates;
 #[cfg(test)]
-mod editions;
+mod edits;
 #[cfg(test)]
 mod expansions;
 #[cfg(test)]
 mod explanations;
 #[cfg(test)]
-mod known_facts;
-#[cfg(test)]
-mod libraries;
+mod printed;
 #[cfg(test)]
 mod subjects;
 #[cfg(test)]
-mod tables;
-#[cfg(test)]
-mod verdicts;
+mod two_bytes;
 #[cfg(test)]
 mod words;

@@ -74,46 +74,26 @@ impl TextStore for Counting {
     }
 }
 
-// A machine on 500 characters.
-fn machine_on_a_list(rt: &impl Abort, alloc: Global) -> Machine<Counting> {
+// Does a run on 500 characters, which puts in 1,000 and deletes each, put in as many as it says? None
+// where memory was refused.
+fn is_counted(rt: &impl Abort, alloc: Global) -> Option<bool> {
     let mut text = VecText::new(alloc);
     if text.insert(&[b'b'; 500]).is_err() {
         assert!(rt; text.insert(&[b'b'; 500]).is_ok());
     }
-    Machine::new(alloc, Counting { text, put_in: 0 })
-}
-
-// Were so many characters put in, and is the text as it was?
-fn has_counted(machine: &Machine<Counting>, put_in: usize) -> bool {
-    let store = machine.store();
-    store.put_in == put_in && store.slices().0 == [b'b'; 500].as_slice()
-}
-
-// Puts in 1,000 characters, and deletes each.
-fn put_in(machine: &mut Machine<Counting>, alloc: Global) -> Stop {
-    machine.run(b"1000<Ia\x1b-D>\x1b\x1b", 10_000, &mut MemHost::new(alloc))
-}
-
-// Does a run on a machine put in as many characters as it says? None where memory was refused.
-fn is_counted_on(machine: &mut Machine<Counting>, alloc: Global) -> Option<bool> {
-    match put_in(machine, alloc) {
+    let mut machine = Machine::new(alloc, Counting { text, put_in: 0 });
+    match machine.run(b"1000<Ia\x1b-D>\x1b\x1b", 10_000, &mut MemHost::new(alloc)) {
         Stop::Memory => None,
-        Stop::Ended { .. } => Some(has_counted(machine, 1000)),
+        Stop::Ended { .. } => {
+            let store = machine.store();
+            Some(store.put_in == 1000 && store.slices().0 == [b'b'; 500].as_slice())
+        }
         _ => Some(false),
     }
 }
 
-// Does a run on a new machine put in as many characters as it says? None where memory was refused.
-fn is_counted(rt: &impl Abort, alloc: Global) -> Option<bool> {
-    let mut machine = machine_on_a_list(rt, alloc);
-    is_counted_on(&mut machine, alloc)
-}
-
 #[test]
-fn copies_list_at_end(rt: HostRuntime) {
-    let mut is_so = is_counted(&rt, rt.alloc());
-    if is_so.is_none() {
-        is_so = is_counted(&rt, rt.alloc());
-    }
-    assert!(rt; is_so == Some(true));
+fn a_run_puts_in_as_many_characters_as_it_says(rt: HostRuntime) {
+    let is_so = is_counted(&rt, rt.alloc()) == Some(true);
+    assert!(rt; is_so || is_counted(&rt, rt.alloc()) == Some(true));
 }

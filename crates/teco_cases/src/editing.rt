@@ -1,0 +1,213 @@
+//! Edits of a file by a verified macro, and what they promise.
+use crate::case_file::NamedText;
+use crate::fault::CaseFault;
+use crate::findings::Findings;
+use crate::running::{Job, Left, Ran, buffer_of, run_over_each};
+use crate::settings::{IN_FOLDER, IN_MEMORY};
+use std::alloc::{AllocError, Global};
+use teco_apply::{Edit, Edited, Guard, Pages, edit_file};
+use teco_base::Code;
+use teco_base::bytes::FF;
+use teco_pages::Host;
+use teco_run::{Machine, Stopped};
+use teco_session::{Listener, SessionFault};
+use teco_text::TextStore;
+use teco_verdicts::Premise;
+use teco_verify::Verified;
+
+/// The names of the file that is edited, and of the one that is made.
+const SOURCE: &[u8] = b"in";
+
+const TARGET: &[u8] = b"out";
+
+/// The exit status where a macro is given an argument that it does not take.
+const NOT_TAKEN: u64 = 2;
+
+/// What is edited, and how.
+#[derive(Clone, Copy)]
+pub struct Task<'a> {
+    pub verified: &'a Verified<'a>,
+    pub argument: Option<i32>,
+    pub pages: Pages,
+    pub input: &'a [u8],
+}
+
+/// What is to come of an edit.
+#[derive(Clone, Copy)]
+pub struct Wanted<'a> {
+    pub typed: &'a [u8],
+    pub status: u64,
+    /// The file that is made; none where none is.
+    pub output: Option<&'a [u8]>,
+    /// The steps of the run, where they are told.
+    pub steps: Option<u64>,
+}
+
+// Lets each run begin, and hears nothing.
+#[derive(Clone, Copy)]
+struct Willing;
+
+impl<H: Host> Listener<H> for Willing {
+    fn stopped<T: TextStore>(
+        &mut self,
+        _text: &[u8],
+        _stopped: &Stopped,
+        _machine: &Machine<T>,
+        _host: &H,
+    ) {}
+
+    fn rest(&mut self, _code: Option<Code>) {}
+}
+
+impl<H: Host> Guard<H> for Willing {
+    fn admits(&mut self, _held: u128, _read_ahead: usize, _host: &H) -> bool {
+        true
+    }
+}
+
+// The exit status of an edit, and its steps.
+fn status_of(edited: Result<Edited, SessionFault>) -> Result<(u64, u64), SessionFault> {
+    match edited {
+        Ok(edited) => Ok((u64::from(edited.coded), edited.steps)),
+        Err(SessionFault::Argument) => Ok((NOT_TAKEN, 0)),
+        Err(fault) => Err(fault),
+    }
+}
+
+impl Task<'_> {
+    // How many steps its only run is promised to take at most.
+    fn bound(&self) -> Option<u64> {
+        let Pages::First = self.pages else {
+            return None;
+        };
+        let n = self.held();
+        if !Premise::of_macro(self.verified).holds_at(u128::from(n)) {
+            return None;
+        }
+        self.verified.commands().at(n)
+    }
+
+    /// How many characters are held as the run on the first page begins: the texts of the library,
+    /// and the file but for the form feed that ends the page.
+    pub fn held(&self) -> u64 {
+        let mut held = self.input.len() as u64;
+        if self.input.contains(&FF) {
+            held = held.saturating_sub(1);
+        }
+        for text in self.verified.library().texts() {
+            held = held.saturating_add(text.unwrap_or(b"").len() as u64);
+        }
+        held
+    }
+}
+
+// A task, and what is to come of it.
+#[derive(Drop)]
+struct Trial<'a> {
+    alloc: Global,
+    task: Task<'a>,
+    files: [NamedText<'a>; 1],
+    wanted: Wanted<'a>,
+}
+
+impl<'a> Trial<'a> {
+    // The trial of a task.
+    fn new(alloc: Global, task: Task<'a>, wanted: Wanted<'a>) -> Trial<'a> {
+        Trial {
+            alloc,
+            task,
+            files: [NamedText {
+                name: SOURCE,
+                text: task.input,
+            }],
+            wanted,
+        }
+    }
+
+    // Finds files beside the one that is edited and the one that is made.
+    fn compare_names(&self, findings: &mut Findings, left: Left<'_>) -> Result<(), AllocError> {
+        for name in left.names {
+            let name = name.as_bytes();
+            if name != SOURCE && name != TARGET {
+                findings.compare_files(name, None, left.files.file(name))?;
+            }
+        }
+        Ok(())
+    }
+
+    // Compares the steps of the run.
+    fn compare_steps(&self, findings: &mut Findings, steps: u64) -> Result<(), AllocError> {
+        if let Some(wanted) = self.wanted.steps {
+            findings.compare_numbers("steps", wanted, steps)?;
+        }
+        match self.task.bound() {
+            Some(most) if steps > most => {
+                findings.add("steps", format_args!("at most {most}"), steps)
+            }
+            _ => Ok(()),
+        }
+    }
+}
+
+impl Job for Trial<'_> {
+    fn files(&self) -> &[NamedText<'_>] {
+        &self.files
+    }
+
+    fn run<T: TextStore + Drop, H: Host>(
+        &self,
+        text: T,
+        _piece: usize,
+        host: &mut H,
+    ) -> Result<Ran, CaseFault> {
+        let mut machine = Machine::new(self.alloc, text);
+        let mut typed = Vec::new(self.alloc);
+        let edit = Edit {
+            alloc: self.alloc,
+            verified: self.task.verified,
+            source: SOURCE,
+            target: TARGET,
+            given: self.task.argument,
+            pages: self.task.pages,
+        };
+        let edited = edit_file(&mut machine, &edit, host, &mut typed, &mut Willing);
+        let (status, steps) = status_of(edited)?;
+        Ok(Ran {
+            typed,
+            status,
+            steps,
+            buffer: buffer_of(self.alloc, &machine)?,
+            pointer: machine.dot(),
+        })
+    }
+
+    fn compare(
+        &self,
+        findings: &mut Findings,
+        ran: &Ran,
+        left: Left<'_>,
+    ) -> Result<(), AllocError> {
+        let wanted = self.wanted;
+        findings.compare("typed", wanted.typed, &ran.typed)?;
+        findings.compare_numbers("status", wanted.status, ran.status)?;
+        findings.compare_files(TARGET, wanted.output, left.files.file(TARGET))?;
+        findings.compare_files(SOURCE, Some(self.task.input), left.files.file(SOURCE))?;
+        self.compare_names(findings, left)?;
+        self.compare_steps(findings, ran.steps)
+    }
+}
+
+/// Edits over files in memory and over files of the system, and compares, up to the first setting in
+/// which something is not as it is wanted.
+pub fn try_edit(
+    rt: &HostRuntime,
+    task: Task<'_>,
+    wanted: Wanted<'_>,
+) -> Result<Findings, CaseFault> {
+    let trial = Trial::new(rt.alloc(), task, wanted);
+    let findings = run_over_each(rt, &trial, IN_MEMORY)?;
+    if !findings.is_empty() {
+        return Ok(findings);
+    }
+    run_over_each(rt, &trial, IN_FOLDER)
+}

@@ -1,0 +1,71 @@
+//! Cases of edits: files that a verified macro edits.
+use crate::case_file::{Case, Keys};
+use crate::editing::{Task, Wanted, try_edit};
+use crate::fault::CaseFault;
+use crate::findings::Findings;
+use crate::subject::{Subject, library_of};
+use std::alloc::Global;
+use teco_apply::Pages;
+use teco_verdicts::Verdict;
+use teco_verify::{Refusal, verify_by};
+
+const KEYS: &[&str] = &[
+    "library", "entry", "rules", "argument", "pages", "in", "typed", "status", "out",
+];
+
+// The argument that the macro of a case is given, if it is.
+fn argument_of(case: &Case<'_>) -> Result<Option<i32>, CaseFault> {
+    let Some(word) = case.word_if_any("argument")? else {
+        return Ok(None);
+    };
+    match word.parse() {
+        Ok(argument) => Ok(Some(argument)),
+        Err(_) => Err(case.wrong("argument")),
+    }
+}
+
+// The pages that are edited: the first where the case names none.
+fn pages_of(case: &Case<'_>) -> Result<Pages, CaseFault> {
+    match case.word_if_any("pages")? {
+        None | Some("first") => Ok(Pages::First),
+        Some("each") => Ok(Pages::Each),
+        Some("whole") => Ok(Pages::Whole),
+        Some(_) => Err(case.wrong("pages")),
+    }
+}
+
+/// The finding that a macro is refused which is to be accepted.
+pub fn refused(alloc: Global, refusal: &Refusal) -> Result<Findings, CaseFault> {
+    let Some(verdict) = Verdict::of(refusal) else {
+        return Err(CaseFault::Memory);
+    };
+    let words = format!(in alloc; "{verdict}")?;
+    let mut findings = Findings::new(alloc);
+    findings.add("verdict", "accepted", words.as_str())?;
+    Ok(findings)
+}
+
+/// Edits the file of a case.
+pub fn run_edit(rt: &HostRuntime, case: &Case<'_>) -> Result<Findings, CaseFault> {
+    let alloc = rt.alloc();
+    case.check(Keys::of_texts(KEYS))?;
+    let Subject { entry, rules } = Subject::of(case)?;
+    let library = library_of(alloc, case)?;
+    let verified = match verify_by(alloc, &library, entry, rules) {
+        Ok(verified) => verified,
+        Err(refusal) => return refused(alloc, &refusal),
+    };
+    let task = Task {
+        verified: &verified,
+        argument: argument_of(case)?,
+        pages: pages_of(case)?,
+        input: case.text("in")?,
+    };
+    let wanted = Wanted {
+        typed: case.text_if_any("typed").unwrap_or(b""),
+        status: case.status()?,
+        output: case.text_if_any("out"),
+        steps: None,
+    };
+    try_edit(rt, task, wanted)
+}

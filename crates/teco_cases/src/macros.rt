@@ -1,0 +1,199 @@
+//! Cases of macros: by which edition each is accepted, what it promises, and what it makes of a file.
+use crate::case_file::{Case, Keys};
+use crate::editing::{Task, Wanted, try_edit};
+use crate::edits::refused;
+use crate::fault::CaseFault;
+use crate::findings::Findings;
+use crate::subject::{Subject, library_of};
+use std::alloc::Global;
+use std::str;
+use teco_apply::Pages;
+use teco_base::{LIMIT, Reg};
+use teco_library::Library;
+use teco_verdicts::{Rules, Verdict};
+use teco_verify::{Refusal, Verified, check_certificate_by, verify_by};
+
+const KEYS: Keys = Keys {
+    plain: &[
+        "library",
+        "entry",
+        "rules",
+        "commands",
+        "size",
+        "needs",
+        "certificate",
+        "held",
+        "steps",
+        "in",
+        "typed",
+        "out",
+    ],
+    named: &["verdict"],
+    bare: &[],
+};
+
+/// What a case tells of what its macro promises.
+const PROMISE_KEYS: &[&str] = &["commands", "size", "needs", "certificate"];
+
+/// What a case tells of a run that keeps the promise.
+const RUN_KEYS: &[&str] = &["held", "steps", "in", "typed", "out"];
+
+/// The lines of a certificate that a case may tell.
+const LINES: &[&str] = &["commands", "size", "needs"];
+
+/// The editions of the rules, by their names.
+const EDITIONS: &[(&str, Rules)] = &[("1", Rules::First), ("2", Rules::Second)];
+
+// What a case says of a verdict: that the macro is accepted, or why and where it is refused.
+fn words_of(alloc: Global, verified: Result<Verified<'_>, Refusal>) -> Result<String, CaseFault> {
+    let refusal = match verified {
+        Ok(_) => return Ok(String::from_str(alloc, "accepted")?),
+        Err(refusal) => refusal,
+    };
+    let Some(verdict) = Verdict::of(&refusal) else {
+        return Err(CaseFault::Memory);
+    };
+    let line = format!(in alloc; "{verdict}")?;
+    let words = line.as_str().strip_prefix("refused ").unwrap_or("");
+    Ok(String::from_str(alloc, words)?)
+}
+
+// So much of a verdict as a case says: its first word, or all.
+fn as_said<'a>(words: &'a str, wanted: &[u8]) -> &'a str {
+    match words.split_once(" ") {
+        Some((reason, _)) if !wanted.contains(&b' ') => reason,
+        _ => words,
+    }
+}
+
+// Compares the verdicts of the editions that a case names.
+fn compare_verdicts(
+    alloc: Global,
+    findings: &mut Findings,
+    case: &Case<'_>,
+    library: &Library,
+    entry: Reg,
+) -> Result<(), CaseFault> {
+    for (name, rules) in EDITIONS {
+        let Some(wanted) = case.named_text("verdict", name.as_bytes()) else {
+            continue;
+        };
+        let words = words_of(alloc, verify_by(alloc, library, entry, *rules))?;
+        let said = as_said(words.as_str(), wanted);
+        let what = format!(in alloc; "verdict {name}")?;
+        findings.compare(what.as_str(), wanted, said.as_bytes())?;
+    }
+    Ok(())
+}
+
+// The rest of the line of a certificate that begins with a word.
+fn line_of<'a>(certificate: &'a str, word: &str) -> &'a str {
+    for line in certificate.lines() {
+        match line.split_once(" ") {
+            Some((key, rest)) if key == word => return rest,
+            _ => {}
+        }
+    }
+    ""
+}
+
+// Compares what a case says of the certificate of its macro.
+fn compare_promise(
+    findings: &mut Findings,
+    case: &Case<'_>,
+    certificate: &[u8],
+) -> Result<(), CaseFault> {
+    let lines = str::from_utf8(certificate).unwrap_or("");
+    for word in LINES.iter() {
+        if let Some(wanted) = case.text_if_any(word) {
+            findings.compare(word, wanted, line_of(lines, word).as_bytes())?;
+        }
+    }
+    if let Some(wanted) = case.text_if_any("certificate") {
+        findings.compare("certificate", wanted, certificate)?;
+    }
+    Ok(())
+}
+
+// Checks the certificate of a macro, which is to be accepted.
+fn compare_checked(
+    alloc: Global,
+    findings: &mut Findings,
+    library: &Library,
+    certificate: &[u8],
+    rules: Rules,
+) -> Result<(), CaseFault> {
+    if certificate.len() > LIMIT {
+        return Err(CaseFault::Memory);
+    }
+    let checked = check_certificate_by(alloc, library, certificate, rules);
+    let words = words_of(alloc, checked)?;
+    findings.compare("check", b"accepted", words.as_bytes())?;
+    Ok(())
+}
+
+// Runs the macro of a case on its file.
+fn run_task(
+    rt: &HostRuntime,
+    case: &Case<'_>,
+    verified: &Verified<'_>,
+) -> Result<Findings, CaseFault> {
+    let task = Task {
+        verified,
+        argument: None,
+        pages: Pages::First,
+        input: case.text("in")?,
+    };
+    let mut findings = Findings::new(rt.alloc());
+    if let Some(held) = case.number_if_any("held")? {
+        findings.compare_numbers("held", held, task.held())?;
+    }
+    if !findings.is_empty() {
+        return Ok(findings);
+    }
+    let wanted = Wanted {
+        typed: case.text_if_any("typed").unwrap_or(b""),
+        status: 0,
+        output: Some(case.text("out")?),
+        steps: case.number_if_any("steps")?,
+    };
+    try_edit(rt, task, wanted)
+}
+
+// Runs a case whose macro makes a promise.
+fn run_promise(
+    rt: &HostRuntime,
+    case: &Case<'_>,
+    library: &Library,
+    subject: Subject,
+) -> Result<Findings, CaseFault> {
+    let alloc = rt.alloc();
+    let Subject { entry, rules } = subject;
+    let verified = match verify_by(alloc, library, entry, rules) {
+        Ok(verified) => verified,
+        Err(refusal) => return refused(alloc, &refusal),
+    };
+    let certificate = verified.certificate(alloc)?;
+    let mut findings = Findings::new(alloc);
+    compare_promise(&mut findings, case, &certificate)?;
+    compare_checked(alloc, &mut findings, library, &certificate, rules)?;
+    if !findings.is_empty() || !case.has_any(RUN_KEYS) {
+        return Ok(findings);
+    }
+    run_task(rt, case, &verified)
+}
+
+/// Verifies the macro of a case and, where it tells what is promised, runs it on its file.
+pub fn run_macro(rt: &HostRuntime, case: &Case<'_>) -> Result<Findings, CaseFault> {
+    let alloc = rt.alloc();
+    case.check(KEYS)?;
+    let subject = Subject::of(case)?;
+    let library = library_of(alloc, case)?;
+    let mut findings = Findings::new(alloc);
+    compare_verdicts(alloc, &mut findings, case, &library, subject.entry)?;
+    let is_promised = case.has_any(PROMISE_KEYS) || case.has_any(RUN_KEYS);
+    if !findings.is_empty() || !is_promised {
+        return Ok(findings);
+    }
+    run_promise(rt, case, &library, subject)
+}

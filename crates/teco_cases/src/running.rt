@@ -1,0 +1,174 @@
+//! Runs of a case over stores of a text and hosts of files.
+use crate::case_file::NamedText;
+use crate::fault::CaseFault;
+use crate::findings::Findings;
+use crate::folder;
+use crate::settings::{Place, Setting, Store, by_pieces};
+use std::alloc::{AllocError, Global};
+use teco_pages::{Closing, FileHost, Handling, Host, MemHost};
+use teco_run::Machine;
+use teco_text::{GapText, TextStore, VecText};
+
+/// What came of a run.
+#[derive(Drop)]
+pub struct Ran {
+    pub typed: Vec<u8>,
+    /// The exit status.
+    pub status: u64,
+    /// The steps of a macro.
+    pub steps: u64,
+    /// The text in the buffer, and the place of the pointer.
+    pub buffer: Vec<u8>,
+    pub pointer: usize,
+}
+
+/// The text in the buffer of a machine.
+pub fn buffer_of<T: TextStore>(alloc: Global, machine: &Machine<T>) -> Result<Vec<u8>, AllocError> {
+    let (front, back) = machine.text();
+    let mut buffer = front.to_vec(alloc)?;
+    buffer.extend_from_slice(back)?;
+    Ok(buffer)
+}
+
+/// The files that a run has left.
+#[derive(Clone, Copy)]
+pub struct Left<'a> {
+    pub files: &'a MemHost,
+    /// All their names, where these are known.
+    pub names: &'a [String],
+}
+
+/// What is run over a text and a host.
+pub trait Job {
+    /// The files that are there before.
+    fn files(&self) -> &[NamedText<'_>];
+
+    /// Runs it over a text; it reads so many bytes at a time, at most.
+    fn run<T: TextStore + Drop, H: Host>(
+        &self,
+        text: T,
+        piece: usize,
+        host: &mut H,
+    ) -> Result<Ran, CaseFault>;
+
+    /// Compares what came of it with what the case says.
+    fn compare(&self, findings: &mut Findings, ran: &Ran, left: Left<'_>) -> Result<(), AllocError>;
+}
+
+/// Outputs need not outlast a power cut.
+const QUICK: Handling = Handling {
+    closing: Closing::Replaces,
+    in_place: false,
+    is_durable: false,
+};
+
+// Runs a job over a store and a host.
+fn run_on<J: Job, H: Host>(
+    alloc: Global,
+    job: &J,
+    store: Store,
+    piece: usize,
+    host: &mut H,
+) -> Result<Ran, CaseFault> {
+    match store {
+        Store::Vector => job.run(VecText::new(alloc), piece, host),
+        Store::Gap => job.run(GapText::new(alloc), piece, host),
+    }
+}
+
+// A host with the files of a job in memory.
+fn host_of<J: Job>(alloc: Global, job: &J) -> Result<MemHost, AllocError> {
+    let mut host = MemHost::new(alloc);
+    for file in job.files() {
+        host.put(file.name, file.text)?;
+    }
+    Ok(host)
+}
+
+// Runs a job over files in memory.
+fn run_in_memory<J: Job>(
+    alloc: Global,
+    job: &J,
+    store: Store,
+    findings: &mut Findings,
+) -> Result<(), CaseFault> {
+    let mut host = host_of(alloc, job)?;
+    let ran = run_on(alloc, job, store, usize::MAX, &mut host)?;
+    let left = Left {
+        files: &host,
+        names: &[],
+    };
+    job.compare(findings, &ran, left)?;
+    Ok(())
+}
+
+// Runs a job over files in memory, so many bytes at a time.
+fn run_by_pieces<J: Job>(
+    alloc: Global,
+    job: &J,
+    store: Store,
+    piece: usize,
+    findings: &mut Findings,
+) -> Result<(), CaseFault> {
+    let mut host = by_pieces(host_of(alloc, job)?, piece);
+    let ran = run_on(alloc, job, store, piece, &mut host)?;
+    let left = Left {
+        files: host.mem(),
+        names: &[],
+    };
+    job.compare(findings, &ran, left)?;
+    Ok(())
+}
+
+// Runs a job over the files of the folder that it is run in.
+fn run_here<J: Job>(rt: &HostRuntime, job: &J, store: Store) -> Result<Ran, CaseFault> {
+    let mut host = FileHost::new(rt.alloc(), *rt);
+    host.set_handling(QUICK);
+    run_on(rt.alloc(), job, store, usize::MAX, &mut host)
+}
+
+// Runs a job over files of the system.
+fn run_in_folder<J: Job>(
+    rt: &HostRuntime,
+    job: &J,
+    store: Store,
+    findings: &mut Findings,
+) -> Result<(), CaseFault> {
+    folder::enter(rt, job.files())?;
+    let ran = run_here(rt, job, store);
+    let contents = folder::leave(rt)?;
+    let left = Left {
+        files: &contents.files,
+        names: &contents.names,
+    };
+    job.compare(findings, &ran?, left)?;
+    Ok(())
+}
+
+// Runs a job over a setting.
+fn run_over<J: Job>(rt: &HostRuntime, job: &J, setting: Setting) -> Result<Findings, CaseFault> {
+    let alloc = rt.alloc();
+    let mut findings = Findings::over(alloc, setting);
+    let Setting(store, place) = setting;
+    match place {
+        Place::Memory => run_in_memory(alloc, job, store, &mut findings)?,
+        Place::Pieces(piece) => run_by_pieces(alloc, job, store, piece, &mut findings)?,
+        Place::Folder => run_in_folder(rt, job, store, &mut findings)?,
+    }
+    Ok(findings)
+}
+
+/// Runs a job over each of some settings, up to the first in which something is not as it is to be.
+pub fn run_over_each<J: Job>(
+    rt: &HostRuntime,
+    job: &J,
+    settings: &[Setting],
+) -> Result<Findings, CaseFault> {
+    for setting in settings {
+        let findings = run_over(rt, job, *setting)?;
+        if !findings.is_empty() {
+            return Ok(findings);
+        }
+    }
+    Ok(Findings::new(rt.alloc()))
+}

@@ -1,0 +1,103 @@
+//! What cases are run over: stores of a text, and hosts of files.
+use std::fmt;
+use teco_pages::{HostCall, MemHost, TestHost};
+
+/// A store of a text.
+#[derive(Clone, Copy, Debug, PartialEq, Eq)]
+pub enum Store {
+    /// In one vector.
+    Vector,
+    /// In one block with a gap.
+    Gap,
+}
+
+impl fmt::Display for Store {
+    fn fmt<W: fmt::Write>(&self, f: &mut fmt::Formatter<W>) -> fmt::Result {
+        match self {
+            Store::Vector => write!(f, "a text in a vector"),
+            Store::Gap => write!(f, "a text with a gap"),
+        }
+    }
+}
+
+/// Where files are.
+#[derive(Clone, Copy, Debug, PartialEq, Eq)]
+pub enum Place {
+    /// In memory.
+    Memory,
+    /// In memory, with so many bytes a call at most.
+    Pieces(usize),
+    /// In a folder of the system.
+    Folder,
+}
+
+impl fmt::Display for Place {
+    fn fmt<W: fmt::Write>(&self, f: &mut fmt::Formatter<W>) -> fmt::Result {
+        match self {
+            Place::Memory => write!(f, "files in memory"),
+            Place::Pieces(piece) => write!(f, "files in memory, {piece} bytes a call"),
+            Place::Folder => write!(f, "files of the system"),
+        }
+    }
+}
+
+/// What a case is run over.
+#[derive(Clone, Copy, Debug, PartialEq, Eq)]
+pub struct Setting(pub Store, pub Place);
+
+impl fmt::Display for Setting {
+    fn fmt<W: fmt::Write>(&self, f: &mut fmt::Formatter<W>) -> fmt::Result {
+        let Setting(store, place) = self;
+        write!(f, "{store}, {place}")
+    }
+}
+
+/// Over files in memory: each store with each host.
+pub const IN_MEMORY: &[Setting] = &[
+    Setting(Store::Vector, Place::Memory),
+    Setting(Store::Vector, Place::Pieces(1)),
+    Setting(Store::Vector, Place::Pieces(2)),
+    Setting(Store::Vector, Place::Pieces(4096)),
+    Setting(Store::Gap, Place::Memory),
+    Setting(Store::Gap, Place::Pieces(1)),
+    Setting(Store::Gap, Place::Pieces(2)),
+    Setting(Store::Gap, Place::Pieces(4096)),
+];
+
+/// Over files of the system: each store.
+pub const IN_FOLDER: &[Setting] = &[
+    Setting(Store::Vector, Place::Folder),
+    Setting(Store::Gap, Place::Folder),
+];
+
+/// Over how much sessions are run.
+#[derive(Clone, Copy, Debug, PartialEq, Eq)]
+pub enum Extent {
+    /// Over each store and each host.
+    Whole,
+    /// Over the store that the program has, with files in memory at once and with files of the system.
+    Quick,
+}
+
+impl Extent {
+    /// The settings with files in memory.
+    pub fn in_memory(self) -> &'static [Setting] {
+        match self {
+            Extent::Whole => IN_MEMORY,
+            Extent::Quick => &[Setting(Store::Gap, Place::Memory)],
+        }
+    }
+
+    /// The settings with files of the system.
+    pub fn in_folder(self) -> &'static [Setting] {
+        match self {
+            Extent::Whole => IN_FOLDER,
+            Extent::Quick => &[Setting(Store::Gap, Place::Folder)],
+        }
+    }
+}
+
+/// A host over files in memory that moves so many bytes in a call, at least one.
+pub fn by_pieces(files: MemHost, piece: usize) -> TestHost {
+    TestHost::new(files, piece.max(1), HostCall::Read, 0)
+}

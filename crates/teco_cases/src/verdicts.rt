@@ -1,0 +1,142 @@
+//! Cases of verdicts: what `teco verify` and `teco check` print.
+use crate::case_file::{Case, Keys};
+use crate::fault::CaseFault;
+use crate::findings::Findings;
+use crate::subject::{Subject, library_of};
+use std::fs;
+use teco_base::LIMIT;
+use teco_verdicts::{
+    AnswerFault, Console, Editions, Escape, Origin, Outcome, Request, Rules, check_macro,
+    verify_macro,
+};
+use teco_verify::check_certificate_by;
+
+const VERDICT_KEYS: &[&str] = &["library", "entry", "rules", "output", "status"];
+
+const CERTIFICATE_KEYS: &[&str] = &[
+    "library",
+    "entry",
+    "rules",
+    "certificate",
+    "output",
+    "status",
+];
+
+/// The files that a verdict is about, which are there only while it is given.
+const LIBRARY_FILE: &str = "library.work";
+
+const CERTIFICATE_FILE: &str = "certificate.work";
+
+// What was printed, and the exit status.
+#[derive(Drop)]
+struct Printed {
+    output: Vec<u8>,
+    status: u64,
+}
+
+// A console that keeps what is printed.
+fn console(rt: &HostRuntime) -> Console<Vec<u8>, Vec<u8>> {
+    let alloc = rt.alloc();
+    Console::new(alloc, Vec::new(alloc), Vec::new(alloc))
+}
+
+// What a console has kept.
+fn printed_by(
+    console: Console<Vec<u8>, Vec<u8>>,
+    outcome: Result<Outcome, AnswerFault>,
+) -> Result<Printed, CaseFault> {
+    let (output, _messages) = console.into_parts();
+    Ok(Printed {
+        output,
+        status: u64::from(outcome?.status()),
+    })
+}
+
+// What is asked of a library, once it is a file.
+fn request(rules: Rules) -> Request<'static> {
+    Request {
+        library: Origin::of_file(LIBRARY_FILE),
+        escape: Escape::ByName,
+        editions: Editions::Only(rules),
+    }
+}
+
+// What `verify` prints of the macro of a case.
+fn verified(rt: &HostRuntime, case: &Case<'_>) -> Result<Printed, CaseFault> {
+    let Subject { entry, rules } = Subject::of(case)?;
+    let mut console = console(rt);
+    fs::write(rt, LIBRARY_FILE, case.text("library")?)?;
+    let outcome = verify_macro(rt, &mut console, request(rules), entry);
+    fs::remove_file(rt, LIBRARY_FILE)?;
+    printed_by(console, outcome)
+}
+
+// What `check` prints of it with this certificate.
+fn checked(rt: &HostRuntime, case: &Case<'_>, certificate: &[u8]) -> Result<Printed, CaseFault> {
+    let Subject { entry, rules } = Subject::of(case)?;
+    let mut console = console(rt);
+    fs::write(rt, LIBRARY_FILE, case.text("library")?)?;
+    fs::write(rt, CERTIFICATE_FILE, certificate)?;
+    let outcome = check_macro(rt, &mut console, request(rules), entry, CERTIFICATE_FILE);
+    fs::remove_file(rt, LIBRARY_FILE)?;
+    fs::remove_file(rt, CERTIFICATE_FILE)?;
+    printed_by(console, outcome)
+}
+
+// Compares what a case says with what was printed.
+fn compare(findings: &mut Findings, case: &Case<'_>, printed: &Printed) -> Result<(), CaseFault> {
+    findings.compare("output", case.text("output")?, &printed.output)?;
+    findings.compare_numbers("status", case.status()?, printed.status)?;
+    Ok(())
+}
+
+// Compares a certificate that is accepted with the one that is printed of its promise.
+fn compare_certificate(
+    rt: &HostRuntime,
+    findings: &mut Findings,
+    case: &Case<'_>,
+    certificate: &[u8],
+) -> Result<(), CaseFault> {
+    let alloc = rt.alloc();
+    let Subject { rules, .. } = Subject::of(case)?;
+    let library = library_of(alloc, case)?;
+    if certificate.len() > LIMIT {
+        return Err(CaseFault::Memory);
+    }
+    match check_certificate_by(alloc, &library, certificate, rules) {
+        Ok(verified) => {
+            findings.compare("certificate", certificate, &verified.certificate(alloc)?)?;
+            Ok(())
+        }
+        Err(_) => Err(CaseFault::Memory),
+    }
+}
+
+/// Verifies the macro of a case. The certificate of one that is accepted is checked then.
+pub fn run_verdict(rt: &HostRuntime, case: &Case<'_>) -> Result<Findings, CaseFault> {
+    case.check(Keys::of_texts(VERDICT_KEYS))?;
+    let verdict = verified(rt, case)?;
+    let mut findings = Findings::new(rt.alloc());
+    compare(&mut findings, case, &verdict)?;
+    if verdict.status == 0 {
+        let answer = checked(rt, case, &verdict.output)?;
+        findings.compare("check", b"accepted\n", &answer.output)?;
+        if answer.status == 0 {
+            compare_certificate(rt, &mut findings, case, &verdict.output)?;
+        }
+    }
+    Ok(findings)
+}
+
+/// Checks the certificate of a case. One that is accepted must be the one that is printed of it.
+pub fn run_certificate(rt: &HostRuntime, case: &Case<'_>) -> Result<Findings, CaseFault> {
+    case.check(Keys::of_texts(CERTIFICATE_KEYS))?;
+    let certificate = case.text("certificate")?;
+    let answer = checked(rt, case, certificate)?;
+    let mut findings = Findings::new(rt.alloc());
+    compare(&mut findings, case, &answer)?;
+    if answer.status == 0 {
+        compare_certificate(rt, &mut findings, case, certificate)?;
+    }
+    Ok(findings)
+}

@@ -1,0 +1,207 @@
+//! Sessions over memory, run over both stores. A session that is refused a growth is run once more,
+//! so that each row also holds where one allocation fails.
+ghost use Rattle.std.specs.Prelude.{◌≤◌};
+ghost use Rattle.teco_base.specs.declared.TheConstants.{LIMIT};
+
+use std::alloc::Global;
+use std::process::Abort;
+use teco_base::LIMIT;
+use teco_pages::{Host, MemHost};
+use teco_run::Machine;
+use teco_session::{Done, SessionFault, session_max};
+use teco_text::{GapText, TextStore, VecText};
+
+/// The steps of each string.
+pub const STEPS: u64 = 100_000_000;
+
+/// The stores that a machine may edit.
+#[derive(Clone, Copy, Debug)]
+pub enum Store {
+    Flat,
+    Gap,
+}
+
+/// Every row runs over each.
+pub const STORES: &[Store] = &[Store::Flat, Store::Gap];
+
+/// What a session is given.
+#[derive(Clone, Copy)]
+pub struct Given<'a> {
+    pub input: &'a [u8],
+    pub steps: u64,
+    pub max: usize,
+    ghost within: { max ≤ LIMIT },
+}
+
+impl<'a> Given<'a> {
+    /// An input.
+    pub fn whole(input: &'a [u8]) -> Given<'a> {
+        Given {
+            input,
+            steps: STEPS,
+            max: LIMIT,
+        }
+    }
+}
+
+/// What came of a session: an outcome, what was written, and the buffer and the pointer that are
+/// left, front and back.
+#[derive(Drop)]
+pub struct Ran {
+    pub outcome: &'static str,
+    pub written: Vec<u8>,
+    pub is_left: bool,
+}
+
+/// What came of a session, in a word.
+pub fn word(outcome: Result<Done, SessionFault>) -> &'static str {
+    match outcome {
+        Ok(Done { exit: true, .. }) => "exit",
+        Ok(done) => { if done.coded { "coded" } else { "done" } }
+        Err(SessionFault::Read) => "read",
+        Err(SessionFault::Write) => "write",
+        Err(SessionFault::Memory) => "memory",
+        Err(SessionFault::Argument) => "argument",
+    }
+}
+
+/// Has the machine this buffer and this pointer?
+pub fn has<T: TextStore>(machine: &Machine<T>, text: &[u8], pointer: usize) -> bool {
+    let (front, back) = machine.text();
+    text.starts_with(front)
+        && text.ends_with(back)
+        && front.len().checked_add(back.len()) == Some(text.len())
+        && machine.dot() == pointer
+}
+
+/// The codes that are typed where a growth is refused to the machine or to its host.
+const REFUSALS: &[&[u8]] = &[b"?MEM", b"?FNF", b"?INP", b"?OUT"];
+
+impl Ran {
+    /// Did it come to this, and was this written?
+    pub fn is(&self, outcome: &str, written: &[u8]) -> bool {
+        self.outcome == outcome && self.written.as_slice() == written
+    }
+
+    /// May a growth have been refused?
+    pub fn may_be_refused(&self) -> bool {
+        let codes = self.written.windows(4);
+        let is_typed = codes.into_iter().any(|four| REFUSALS.contains(&four));
+        is_typed || self.outcome == "memory" || self.outcome == "write"
+    }
+}
+
+fn run_with<T: TextStore + Drop, H: Host>(
+    alloc: Global,
+    store: T,
+    host: &mut H,
+    given: Given<'_>,
+    left: (&[u8], usize),
+) -> Ran {
+    let mut machine = Machine::new(alloc, store);
+    let mut reader = given.input;
+    let mut written = Vec::new(alloc);
+    let done = session_max(
+        alloc,
+        &mut machine,
+        &mut reader,
+        &mut written,
+        host,
+        given.steps,
+        given.max,
+    );
+    Ran {
+        outcome: word(done),
+        written,
+        is_left: has(&machine, left.0, left.1),
+    }
+}
+
+/// Runs a session over a store and a host; `left` is what the buffer and the pointer are to be.
+pub fn run_over<H: Host>(
+    alloc: Global,
+    store: Store,
+    host: &mut H,
+    given: Given<'_>,
+    left: (&[u8], usize),
+) -> Ran {
+    match store {
+        Store::Flat => run_with(alloc, VecText::new(alloc), host, given, left),
+        Store::Gap => run_with(alloc, GapText::new(alloc), host, given, left),
+    }
+}
+
+/// Runs a session over a store, without files. Where it does not write what it is to, or ends for
+/// want of memory, and a growth may have been refused, it runs once more.
+pub fn run_steady(
+    alloc: Global,
+    store: Store,
+    given: Given<'_>,
+    left: (&[u8], usize),
+    written: &[u8],
+) -> Ran {
+    let ran = run_over(alloc, store, &mut MemHost::new(alloc), given, left);
+    let is_other = ran.written.as_slice() != written || ran.outcome == "memory";
+    if is_other && ran.may_be_refused() {
+        run_over(alloc, store, &mut MemHost::new(alloc), given, left)
+    } else {
+        ran
+    }
+}
+
+/// An input and what is written, and the buffer and the pointer that are left.
+#[derive(Clone, Copy)]
+pub struct Row<'a> {
+    pub input: &'a [u8],
+    pub written: &'a [u8],
+    pub text: &'a [u8],
+    pub pointer: usize,
+}
+
+/// What a line has before a mark, or all; the line keeps what stands behind the mark.
+pub fn part_before<'a>(line: &mut &'a str, mark: &str) -> &'a str {
+    let (part, rest) = line.split_once(mark).unwrap_or((*line, ""));
+    *line = rest;
+    part
+}
+
+/// The number that a line begins with, before a blank.
+pub fn number_of(line: &mut &str) -> u64 {
+    part_before(line, " ").parse().unwrap_or(0)
+}
+
+/// The row of a line `INPUT => WRITTEN | BUFFER | POINTER`. Where the last two are left out, the
+/// buffer is empty.
+pub fn row_of(line: &str) -> Row<'_> {
+    let mut rest = line;
+    let input = part_before(&mut rest, " => ").as_bytes();
+    let written = part_before(&mut rest, " | ").as_bytes();
+    let text = part_before(&mut rest, " | ").as_bytes();
+    let pointer = rest.parse().unwrap_or(0);
+    Row {
+        input,
+        written,
+        text,
+        pointer,
+    }
+}
+
+/// A session over a store came to what its row says.
+pub fn expect(rt: &impl Abort, is_good: bool, line: &str, store: Store) {
+    assert!(rt; is_good, "{line}, {store:?}");
+}
+
+/// A session over both stores, which has no text left.
+pub fn expect_given(
+    rt: &impl Abort,
+    alloc: Global,
+    given: Given<'_>,
+    written: &[u8],
+    outcome: &str,
+    line: &str,
+) {
+    for store in STORES.iter() {
+        let ran = run_steady(alloc, *store, given, (b"", 0), written);
+        expect(rt, ran.is(outcome, written), line, *store);
+    }
+}

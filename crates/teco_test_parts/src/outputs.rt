@@ -1,0 +1,265 @@
+// What a host of the system's files does with outputs, inputs and the files that have their names,
+// step by step, and what is then found in their folder.
+use crate::scratch::{
+    begin_in, begin_out, has_names, host, is_alone, is_file, is_missing, mode, put_whole, remove,
+    scratch,
+};
+use std::fs::Permissions;
+use std::os::unix::fs::{PermissionsExt, symlink};
+use std::{fs, io};
+use teco_pages::{Backup, Closed, Closing, FileHost, Handling, Host, ProcessFacts, remove_strays};
+
+const FOLDER: &str = "somleut_test_outputs";
+
+// The file that the steps are about, and the name that it is kept under.
+const PATH: &str = "somleut_test_outputs/out";
+
+const KEPT: &str = "somleut_test_outputs/out.old";
+
+// How outputs are closed.
+fn closing_of(word: &str) -> Closing {
+    match word {
+        "other" => Closing::ReplacesOther,
+        "compared" => Closing::Compares,
+        _ => Closing::Replaces,
+    }
+}
+
+// From now on a file that is replaced is kept, and may be where one is.
+fn set_backup(rt: &HostRuntime, host: &mut FileHost<HostRuntime>, replaces: bool) -> bool {
+    let Ok(suffix) = String::from_str(rt.alloc(), ".old") else {
+        return false;
+    };
+    host.set_backup(Backup { suffix, replaces });
+    true
+}
+
+// From now on files are edited in place, and outputs closed so.
+fn set_in_place(host: &mut FileHost<HostRuntime>, closing: Closing) -> bool {
+    host.set_handling(Handling {
+        closing,
+        in_place: true,
+        is_durable: false,
+    });
+    true
+}
+
+fn set_closing(host: &mut FileHost<HostRuntime>, closing: Closing) -> bool {
+    host.set_closing(closing);
+    true
+}
+
+// Is the file read to its end, in one read?
+fn read_on(host: &mut FileHost<HostRuntime>) -> bool {
+    let mut room = [0; 64];
+    host.read(&mut room).is_ok() && matches!(host.read(&mut room), Ok(0))
+}
+
+// Is the file another now?
+fn put_other(rt: &HostRuntime, bytes: &[u8]) -> bool {
+    fs::rename(rt, PATH, "somleut_test_moved").is_ok()
+        && fs::write(rt, PATH, bytes).is_ok()
+        && fs::remove_file(rt, "somleut_test_moved").is_ok()
+}
+
+// Is a step of the host done? A step is a word, with a text behind a colon.
+fn is_done(rt: &HostRuntime, host: &mut FileHost<HostRuntime>, word: &str, text: &str) -> bool {
+    match word {
+        "closing" => set_closing(host, closing_of(text)),
+        "edit" => set_in_place(host, Closing::ReplacesOther),
+        "compare" => set_in_place(host, Closing::Compares),
+        "keep" => set_backup(rt, host, text == "again"),
+        "open" => begin_in(host, PATH),
+        "read" => begin_in(host, PATH) && read_on(host),
+        "read-on" => read_on(host),
+        "cannot-read" => host.open_in(PATH.as_bytes()).is_err(),
+        "begin" => begin_out(host, PATH, text.as_bytes()),
+        "cannot-begin" => host.open_out(PATH.as_bytes()).is_err(),
+        "cannot-begin-other" => host.open_out(b"somleut_test_outputs/other").is_err(),
+        "close" => host.close_out().is_ok(),
+        "cannot-close" => host.close_out().is_err(),
+        "drop" => host.drop_out().is_ok(),
+        "changed" => matches!(host.closed(), Some(Closed::Changed)),
+        "same" => matches!(host.closed(), Some(Closed::Same)),
+        _ => is_so(rt, word, text),
+    }
+}
+
+// Is a step beside the host done, or that found?
+fn is_so(rt: &HostRuntime, word: &str, text: &str) -> bool {
+    let bytes = text.as_bytes();
+    match word {
+        "put" => fs::write(rt, PATH, bytes).is_ok(),
+        "put-other" => put_other(rt, bytes),
+        "put-kept" => fs::write(rt, KEPT, bytes).is_ok(),
+        "remove-kept" => fs::remove_file(rt, KEPT).is_ok(),
+        "private" => fs::set_permissions(rt, PATH, Permissions::from_mode(0o640)).is_ok(),
+        "is-private" => mode(rt, PATH) == Some(0o640),
+        "make-folder" => fs::create_dir(rt, PATH).is_ok(),
+        "remove-folder" => fs::remove_dir(rt, PATH).is_ok(),
+        "is-missing" => is_missing(rt, PATH),
+        "has" => is_file(rt, PATH, bytes),
+        "kept" => is_file(rt, KEPT, bytes),
+        "alone" => is_alone(rt, FOLDER, PATH, bytes),
+        "two-names" => has_names(rt, FOLDER, 2),
+        _ => false,
+    }
+}
+
+// The step that is not done by one host, which is gone then.
+fn step_not_done<'a>(rt: &HostRuntime, steps: &'a str) -> Option<&'a str> {
+    let mut host = host(rt);
+    for step in steps.split(" ") {
+        let (word, text) = step.split_once(":").unwrap_or((step, ""));
+        if !is_done(rt, &mut host, word, text) {
+            return Some(step);
+        }
+    }
+    None
+}
+
+// Steps in an empty folder, and the bytes of the file when the host is gone. It is then alone there.
+const STEPS: &[&str] = &[
+    // An output takes its name when it is closed. A file that is replaced keeps its permissions,
+    // and its bytes until then. One output is open at a time.
+    "begin:new is-missing close alone:new begin:newer has:new => new",
+    "put:old private begin:newer cannot-begin-other close is-private => newer",
+    // A dropped output leaves no trace, nor does the last one, which is open where the host goes.
+    "put:old begin:new two-names drop alone:old begin:new => old",
+    // An output that cannot be closed, since a folder takes the name first, is gone.
+    "begin:new make-folder cannot-close remove-folder begin:new close => new",
+    // Outputs that equal their target leave it, or are only compared.
+    "put:same closing:other begin:same close same => same",
+    "put:same closing:compared begin:new close changed => same",
+    "put:same closing:compared begin:sam close changed => same",
+    "put:same closing:other begin:new close changed => new",
+    "put:new closing:any begin:new close changed => new",
+    // A file is replaced in place by what is written, and stays where that is what was read.
+    "edit put:old private read begin:new close changed is-private => new",
+    "edit put:new read begin:new close same alone:new read begin:ne close changed => ne",
+    "compare put:old read begin:new close changed read begin:old close same => old",
+    // What is written before the file is read is compared with it all the same.
+    "edit put:old open begin:old read-on close same => old",
+    // What was written to an output that was dropped counts for no other.
+    "edit put:oldold read begin:old drop begin:old close changed => old",
+    // Another file has the name when the output is opened, or when it is closed; or it is changed.
+    "edit put:old read put-other:other cannot-begin read begin:new close => new",
+    "edit put:old read begin:new put-other:another cannot-close => another",
+    "edit put:old read begin:new put:longer cannot-close => longer",
+    // A folder is no file to edit, and a file that is not there is none.
+    "edit is-missing cannot-read make-folder cannot-read remove-folder put:old read => old",
+    // A file is kept under its other name with its permissions, in the place of no other file
+    // unless it may be. One that stays as it was is not kept.
+    "edit keep put:old private read begin:new close kept:old is-private remove-kept => new",
+    "edit keep put:new put-kept:old read begin:newer cannot-close kept:old remove-kept => new",
+    "edit keep:again put:new put-kept:old read begin:newer close kept:new remove-kept => newer",
+    "edit keep put:old put-kept:older read begin:old close same kept:older remove-kept => old",
+];
+
+#[test]
+fn outputs_are_closed_dropped_and_put_in_place(rt: HostRuntime) {
+    for row in STEPS {
+        let (steps, left) = row.split_once(" => ").unwrap_or((*row, ""));
+        assert!(rt; scratch(&rt, FOLDER));
+        let step = step_not_done(&rt, steps);
+        assert!(rt; step.is_none(), "{row}: {step:?}");
+        assert!(rt; is_alone(&rt, FOLDER, PATH, left.as_bytes()), "{row}");
+    }
+    assert!(rt; remove(&rt, FOLDER));
+}
+
+// Makes a file with set-id bits, which the system may refuse, and a link to it.
+fn put_set_id(rt: &HostRuntime, path: &str, link: &str) -> bool {
+    fs::write(rt, path, b"old").is_ok()
+        && fs::set_permissions(rt, path, Permissions::from_mode(0o6751)).is_ok()
+        && symlink(rt, "file", link).is_ok()
+}
+
+fn is_link(rt: &HostRuntime, path: &str) -> bool {
+    matches!(fs::symlink_metadata(rt, path), Ok(metadata) if metadata.is_symlink())
+}
+
+#[test]
+fn a_link_is_followed_and_set_id_bits_are_kept(rt: HostRuntime) {
+    let path = "somleut_test_link/file";
+    let link = "somleut_test_link/link";
+    assert!(rt; scratch(&rt, "somleut_test_link") && put_set_id(&rt, path, link));
+    let old = mode(&rt, path);
+    assert!(rt; put_whole(&mut host(&rt), link, b"new") && old.is_some());
+    assert!(rt; is_link(&rt, link) && is_file(&rt, path, b"new") && mode(&rt, path) == old);
+    assert!(rt; remove(&rt, "somleut_test_link"));
+}
+
+// Another file takes the place of the one beside the target. Is it left, and no output made, where
+// the output is closed or dropped? Both files are then removed.
+fn is_another_left(rt: &HostRuntime, host: &mut impl Host, is_dropped: bool) -> io::Result<bool> {
+    let is_begun = begin_out(host, "somleut_test_taken/out", b"new");
+    let Some(entry) = fs::read_dir(rt, "somleut_test_taken")?.next() else {
+        return Ok(false);
+    };
+    let entry = entry?;
+    let path = entry.path();
+    let beside = path.as_str();
+    fs::rename(rt, beside, "somleut_test_taken/moved")?;
+    fs::write(rt, beside, b"another")?;
+    let is_ended = if is_dropped {
+        host.drop_out().is_ok()
+    } else {
+        host.close_out().is_err()
+    };
+    let is_left = is_file(rt, beside, b"another") && is_missing(rt, "somleut_test_taken/out");
+    fs::remove_file(rt, beside)?;
+    fs::remove_file(rt, "somleut_test_taken/moved")?;
+    Ok(is_begun && is_ended && is_left)
+}
+
+#[test]
+fn the_file_of_another_is_left(rt: HostRuntime) {
+    assert!(rt; scratch(&rt, "somleut_test_taken"));
+    let mut host = host(&rt);
+    assert!(rt; matches!(is_another_left(&rt, &mut host, false), Ok(true)));
+    assert!(rt; matches!(is_another_left(&rt, &mut host, true), Ok(true)));
+    assert!(rt; remove(&rt, "somleut_test_taken"));
+}
+
+// The name of the one file in the folder, with another number of a process in it, if it has one.
+fn renamed(rt: &HostRuntime, folder: &str, number: &str) -> io::Result<Option<String>> {
+    let Some(entry) = fs::read_dir(rt, folder)?.next() else {
+        return Ok(None);
+    };
+    let entry = entry?;
+    let Some(rest) = entry.file_name().strip_prefix(".somleut-") else {
+        return Ok(None);
+    };
+    let Some((_, behind)) = rest.split_once('-') else {
+        return Ok(None);
+    };
+    Ok(Some(format!(in rt.alloc(); "{folder}/.somleut-{number}-{behind}")?))
+}
+
+// Is what a process left removed that is gone, and not what this one has open?
+fn is_swept(rt: &HostRuntime, host: &mut FileHost<HostRuntime>, folder: &str) -> io::Result<bool> {
+    let facts = ProcessFacts::read(rt, rt.alloc());
+    if !begin_out(host, "somleut_test_strays/out", b"new") {
+        return Ok(false);
+    }
+    // more than any process has as its number
+    let Some(stray) = renamed(rt, folder, "4194305")? else {
+        return Ok(false);
+    };
+    fs::write(rt, &stray, b"left")?;
+    fs::write(rt, "somleut_test_strays/.somleut-1", b"no stray")?;
+    Ok(
+        remove_strays(rt, rt.alloc(), folder, facts)? == 1
+            && is_missing(rt, &stray)
+            && remove_strays(rt, rt.alloc(), folder, facts)? == 0,
+    )
+}
+
+#[test]
+fn what_killed_runs_left_is_removed(rt: HostRuntime) {
+    let folder = "somleut_test_strays";
+    assert!(rt; scratch(&rt, folder));
+    assert!(rt; matches!(is_swept(&rt, &mut host(&rt), folder), Ok(true)));
+    assert!(rt; remove(&rt, folder));
+}

@@ -1,0 +1,133 @@
+// A scratch folder, and what tests do with a host there.
+use std::alloc::{AllocError, Global};
+use std::os::unix::fs::PermissionsExt;
+use std::{fs, io};
+use teco_pages::{Failed, FileHost, Host};
+
+// Removes a folder with all that it has; answers whether it could.
+pub fn remove(rt: &HostRuntime, folder: &str) -> bool {
+    fs::remove_dir_all(rt, folder).is_ok()
+}
+
+// Makes an empty folder; answers whether it could.
+pub fn scratch(rt: &HostRuntime, folder: &str) -> bool {
+    let _is_gone = remove(rt, folder);
+    fs::create_dir(rt, folder).is_ok()
+}
+
+fn count_names(rt: &HostRuntime, folder: &str) -> io::Result<usize> {
+    let mut count = 0usize;
+    for entry in fs::read_dir(rt, folder)? {
+        let _entry = entry?;
+        count = count.saturating_add(1);
+    }
+    Ok(count)
+}
+
+// Has a folder so many names?
+pub fn has_names(rt: &HostRuntime, folder: &str, want: usize) -> bool {
+    matches!(count_names(rt, folder), Ok(count) if count == want)
+}
+
+// The permissions of a file.
+pub fn mode(rt: &HostRuntime, path: &str) -> Option<u32> {
+    match fs::metadata(rt, path) {
+        Ok(metadata) => Some(metadata.permissions().mode() & 0o7777),
+        Err(_) => None,
+    }
+}
+
+// Has the file these bytes?
+pub fn is_file(rt: &HostRuntime, path: &str, want: &[u8]) -> bool {
+    matches!(fs::read(rt, path), Ok(bytes) if bytes.as_slice() == want)
+}
+
+// Is there no such file?
+pub fn is_missing(rt: &HostRuntime, path: &str) -> bool {
+    matches!(fs::exists(rt, path), Ok(false))
+}
+
+// Is this file alone in its folder, with these bytes?
+pub fn is_alone(rt: &HostRuntime, folder: &str, path: &str, want: &[u8]) -> bool {
+    has_names(rt, folder, 1) && is_file(rt, path, want)
+}
+
+// A host of the files of the system.
+pub fn host(rt: &HostRuntime) -> FileHost<HostRuntime> {
+    FileHost::new(rt.alloc(), *rt)
+}
+
+// Opens an output and writes some bytes to it; answers whether it could.
+pub fn begin_out(host: &mut impl Host, path: &str, bytes: &[u8]) -> bool {
+    let is_open = host.open_out(path.as_bytes()).is_ok();
+    is_open && matches!(host.write(bytes), Ok(n) if n == bytes.len())
+}
+
+// A long text, each of whose bytes tells where it stands.
+pub fn long_text(alloc: Global, len: usize) -> Result<Vec<u8>, AllocError> {
+    let mut bytes = vec![in alloc; 0; len]?;
+    for (n, byte) in bytes.iter_mut().enumerate() {
+        *byte = (n % 251) as u8;
+    }
+    Ok(bytes)
+}
+
+// Opens an input; answers whether it could.
+pub fn begin_in(host: &mut impl Host, path: &str) -> bool {
+    host.open_in(path.as_bytes()).is_ok()
+}
+
+// Writes a text in pieces of so many bytes; answers whether it could.
+pub fn write_pieces(host: &mut impl Host, text: &[u8], piece: usize) -> bool {
+    let mut rest = text;
+    for _ in 0..text.len() {
+        if rest.is_empty() {
+            break;
+        }
+        let Ok(n) = host.write(&rest[..rest.len().min(piece)]) else {
+            return false;
+        };
+        let Some(behind) = rest.get(n..) else {
+            return false;
+        };
+        rest = behind;
+    }
+    true
+}
+
+// Makes a file of some bytes that are written at once; answers whether it could.
+pub fn put_whole(host: &mut impl Host, path: &str, bytes: &[u8]) -> bool {
+    begin_out(host, path, bytes) && host.close_out().is_ok()
+}
+
+// Reads an input in pieces of so many bytes: does it have this text?
+pub fn reads(host: &mut impl Host, text: &[u8], piece: usize) -> Result<bool, Failed> {
+    let mut buf = [0; 70_000];
+    let room = piece.min(70_000);
+    let mut rest = text;
+    for _ in 0..=text.len() {
+        let n = host.read(&mut buf[..room])?;
+        if n == 0 {
+            break;
+        }
+        match rest.strip_prefix(&buf[..n]) {
+            Some(behind) => rest = behind,
+            None => return Ok(false),
+        }
+    }
+    Ok(rest.is_empty())
+}
+
+// Does a text of so many bytes arrive that is written in pieces of so many, and is it read so?
+pub fn is_exact(rt: &HostRuntime, path: &str, size: usize, piece: usize) -> bool {
+    let Ok(text) = long_text(rt.alloc(), size) else {
+        return false;
+    };
+    let mut host = host(rt);
+    begin_out(&mut host, path, b"")
+        && write_pieces(&mut host, &text, piece)
+        && host.close_out().is_ok()
+        && begin_in(&mut host, path)
+        && matches!(reads(&mut host, &text, piece), Ok(true))
+        && is_file(rt, path, &text)
+}

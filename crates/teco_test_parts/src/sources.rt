@@ -1,0 +1,130 @@
+// Sources and the texts that they say, worked by hand.
+use std::alloc::Global;
+use std::test::Fail;
+use teco_source::*;
+
+const TILDE: Form = Form::Marked(b'~');
+
+/// A form, a source, and the text that it says.
+const SOURCES: &[(Form, &[u8], &[u8])] = &[
+    (Form::Readable, b"J<Sfoo$;>$", b"J<Sfoo\x1b;>\x1b"),
+    (Form::Readable, b"I^$5$", b"I$5\x1b"),
+    (Form::Readable, b"^^$$", b"^$\x1b"),
+    (TILDE, b"I$5~^~", b"I$5\x1b^\x1b"),
+    (Form::Marked(b'^'), b"^^$", b"\x1b\x1b$"),
+];
+
+// A form, a text, and the source that says it, if there is one.
+type Written = (Form, &'static [u8], Option<&'static [u8]>);
+
+fn is_written(alloc: Global, (form, text, want): &Written) -> Result<bool, Fail> {
+    Ok(match (form.write(alloc, text)?, want) {
+        (Some(source), Some(want)) => source.as_slice() == *want,
+        (None, None) => true,
+        _ => false,
+    })
+}
+
+const WRITTEN: &[Written] = &[
+    (Form::Readable, b"I$5\x1b", Some(b"I^$5$")),
+    (Form::Readable, b"^U$\x1b", Some(b"^U^$$")),
+    (Form::Readable, b"I^\x1b", None),
+    (TILDE, b"I^\x1b$", Some(b"I^~$")),
+];
+
+#[test]
+fn sources_are_read_and_texts_written(rt: HostRuntime) -> Result<(), Fail> {
+    for (number, (form, source, text)) in SOURCES.iter().enumerate() {
+        let said = form.read(rt.alloc(), source)?;
+        assert!(rt; said.as_slice() == *text, "row {number}");
+    }
+    for (number, row) in WRITTEN.iter().enumerate() {
+        assert!(rt; is_written(rt.alloc(), row)?, "row {number}");
+    }
+    Ok(())
+}
+
+// A form, a source, a place of the text that it says, and the place in the source.
+const PLACES: &[(Form, &[u8], usize, usize)] = &[
+    (Form::Readable, b"I^$5$", 1, 2),
+    (Form::Readable, b"I^$5$", 2, 3),
+    (Form::Readable, b"I^$5$", 4, 5),
+    (TILDE, b"I^~5", 3, 3),
+];
+
+// A file, and where its text begins.
+const BEGINNINGS: &[(&[u8], usize)] = &[
+    (b"#!/usr/bin/teco run\n1=", 20),
+    (b"#1\n", 0),
+    (b"1=\n#!", 0),
+];
+
+#[test]
+fn places_lines_and_beginnings_are_found(rt: HostRuntime) {
+    for (number, (form, source, place, at)) in PLACES.iter().enumerate() {
+        assert!(rt; form.place_in(source, *place) == *at, "place {number}");
+    }
+    let (line, column) = (3, 1);
+    assert!(rt; Position::of(b"ab\r\n\ncd", 5) == Position { line, column });
+    for (number, (file, begin)) in BEGINNINGS.iter().enumerate() {
+        assert!(rt; text_begin(file) == *begin, "beginning {number}");
+    }
+}
+
+// A text, what is shown of it, and the width of that.
+type Printed = (&'static [u8], &'static str, usize);
+
+fn is_shown(alloc: Global, (text, shown, width): &Printed) -> Result<bool, Fail> {
+    let printed = format!(in alloc; "{}", Shown(text))?;
+    Ok(printed.as_str() == *shown && Shown(text).width() == *width)
+}
+
+const SHOWN: &[Printed] = &[
+    (b"FSfoo\x1bbar\x1b;", "FSfoo$bar$;", 11),
+    (b"a\tb\x0c\x00\x7f", "a^Ib^L^@^?", 10),
+    (b"\xc3\x89t\xc3\xa9", "\u{c9}t\u{e9}", 3),
+    (b"\xc2\x9b\xe2\x80\xae", "\\u{9b}\\u{202e}", 14),
+    (b"\xff\xc3", "\\xff\\xc3", 8),
+];
+
+fn is_printed(alloc: Global, excerpt: Excerpt<'_>, want: &str) -> Result<bool, Fail> {
+    let printed = format!(in alloc; "{excerpt}")?;
+    Ok(printed.as_str() == want)
+}
+
+// A file, a place, and the excerpt that marks it.
+const EXCERPTS: &[(&[u8], usize, &str)] = &[
+    (b"ab\ncd\x1be\nf", 5, "    cd$e\n      ^"),
+    (b"\xc3\xa9\tD", 3, "    \u{e9}^ID\n       ^"),
+    (b"ab", 9, "    ab\n      ^"),
+];
+
+// Texts are shown without controls, excerpts mark the place, and long lines are cut on either side.
+#[test]
+fn texts_are_shown_and_excerpts_mark_the_place(rt: HostRuntime) -> Result<(), Fail> {
+    for (number, row) in SHOWN.iter().enumerate() {
+        assert!(rt; is_shown(rt.alloc(), row)?, "text {number}");
+    }
+    for (number, (file, place, shown)) in EXCERPTS.iter().enumerate() {
+        let excerpt = Excerpt::of(file, *place);
+        assert!(rt; is_printed(rt.alloc(), excerpt, shown)?, "excerpt {number}");
+    }
+    let cut = format!(in rt.alloc(); "{}", Excerpt::of(&[b'x'; 200], 100))?;
+    let (first, second) = cut.as_str().split_once('\n').unwrap_or(("", ""));
+    assert!(rt; first.len() == 4 + 3 + 80 + 3 && second.len() == 4 + 3 + 56 + 1);
+    Ok(())
+}
+
+#[test]
+fn sources_know_their_places(rt: HostRuntime) -> Result<(), Fail> {
+    let bytes = b"Ia$\nI^$$5C".to_vec(rt.alloc())?;
+    let source = Source::new(rt.alloc(), "in.tes", bytes, Form::Readable)?;
+    assert!(rt; source.name() == "in.tes" && source.text() == b"Ia\x1b\nI$\x1b5C".as_slice());
+    assert!(rt; source.position(5) == Position { line: 2, column: 3 });
+    assert!(rt; is_printed(rt.alloc(), source.excerpt(7), "    I^$$5C\n        ^")?);
+    let bytes = b"#!teco\n5C".to_vec(rt.alloc())?;
+    let script = Source::script(rt.alloc(), "s", bytes, Form::Readable)?;
+    assert!(rt; script.text() == b"5C".as_slice());
+    assert!(rt; script.position(1) == Position { line: 2, column: 2 });
+    Ok(())
+}

@@ -1,5 +1,0 @@
-//! Tests of `teco_words`.
-#![tactic(auto)]
-
-#[cfg(test)]
-mod words;
