@@ -24,7 +24,7 @@ either P true x y p q = p
 either P false x y p q = q
 
 -- bytes beside bytes
-bytes_joined : (xs ys : List ℕ) → AreBytes xs → AreBytes ys → AreBytes (xs ++ ys)
+pub bytes_joined : (xs ys : List ℕ) → AreBytes xs → AreBytes ys → AreBytes (xs ++ ys)
 bytes_joined [] ys h i = i
 bytes_joined (x ∷ xs) ys h i = (h.0, bytes_joined xs ys h.1 i)
 

@@ -39,10 +39,15 @@ abbrev pub Happened : List Event → HostFiles → HostFiles → Type 0
 Happened [] files left = left ≡ files
 Happened (event ∷ events) files left = (mid : HostFiles) × Happens event files mid × Happened events mid left
 
--- what was written is of bytes
+-- what was read and written is of bytes
 abbrev pub IsOfBytes : Event → Type 0
+IsOfBytes (opened_input name) = ⊤
+IsOfBytes (gave bytes) = AreBytes bytes
+IsOfBytes ended = ⊤
+IsOfBytes (opened_output name) = ⊤
 IsOfBytes (wrote bytes) = AreBytes bytes
-IsOfBytes event = ⊤
+IsOfBytes closed = ⊤
+IsOfBytes dropped = ⊤
 
 -- ---- how the logic keeps them: a number for what was done, and its bytes
 abbrev number_of : Event → ℕ × List ℕ

@@ -8,6 +8,8 @@ pub mod HostFiles
 pub mod Kept
 pub mod MemFiles
 pub mod Noted
+pub mod Noting
 pub mod PageCalls
+pub mod Possible
 pub mod Reading
 pub mod TestFiles

@@ -1,9 +1,10 @@
 // Bytes that were read and belong to no page yet.
-ghost use Rattle.std.specs.Prelude.{◌≡◌, ◌↔◌, ◌≤◌, ◌<◌, ◌+◌, [], length, take, drop, IfErr, OnOk, OnErr, IsTrue};
+ghost use Rattle.std.specs.Prelude.{◌≡◌, false, ◌↔◌, ◌≤◌, ◌<◌, ◌+◌, [], length, take, drop, IfErr, OnOk, OnErr, IsTrue};
 ghost use Rattle.std.specs.List.{prefix_len};
 ghost use Rattle.teco_base.specs.declared.TheConstants.{LIMIT};
 ghost use Rattle.teco_model.specs.Pages.{before_form_feed, has_form_feed, behind_form_feed};
 ghost use Rattle.teco_pages.specs.HostFiles.{Reads, Stays, NoneUnread};
+ghost use Rattle.teco_pages.specs.Noting.{Touches, has_ended, has_ended_behind};
 ghost use Rattle.teco_pages.specs.Reading.{Gives, TopsUp, is_inner};
 ghost use Rattle.teco_pages.specs.declared.fault.Fault.TheVariants.{In as CannotRead};
 
@@ -13,6 +14,7 @@ use memchr::memchr;
 use std::marker::Model;
 use teco_base::LIMIT;
 use teco_base::bytes::FF;
+use teco_model::are_bytes;
 
 // How many bytes are read ahead, at most.
 pub const CHUNK: usize = 4096;
@@ -82,12 +84,15 @@ impl Ahead {
         ensures err { OnErr result ((self.new ≡ []) × Stays (H.files host.old) (H.files host.new)) }
         ensures fault { IfErr result (λ fault. (fault ≡ CannotRead)
             × (H.failures host.old < H.failures host.new)) }
+        ensures noted { Touches [] false (has_ended_behind result self.new)
+            (H.files host.old) (H.files host.new) }
     {
         self.used = 0;
         self.filled = 0;
         match host.read(&mut self.chunk) {
             Ok(n) => {
                 self.filled = n;
+                are_bytes(self.bytes());
                 Ok(())
             }
             Err(Failed) => Err(Fault::In),
@@ -96,8 +101,9 @@ impl Ahead {
 
     // Reads more bytes if none are left; answers whether some are there.
     pub fn top_up<H: Host>(&mut self, host: &mut H) -> Result<bool, Fault>
-        ensures { TopsUp self.old (H.files host.old) self.new (H.files host.new)
+        ensures tops_up { TopsUp self.old (H.files host.old) self.new (H.files host.new)
             (H.failures host.old) (H.failures host.new) result }
+        ensures noted { Touches [] false (has_ended result) (H.files host.old) (H.files host.new) }
     {
         if !self.is_empty() {
             return Ok(true);

@@ -5,41 +5,19 @@ ghost use Rattle.teco_pages.specs.Kept.{output_contents};
 ghost use Rattle.teco_base.specs.declared.TheConstants.{LIMIT};
 ghost use Rattle.std.specs.Io.KnownBytes.{WriteAppends};
 
-mod backup;
 mod calls;
-mod comparing;
-mod descriptor;
-mod identity;
-mod inheritance;
-mod likeness;
-mod links;
-mod process;
-mod size_limit;
-mod source;
-mod strays;
-mod system;
-mod target;
-mod trouble;
-mod unfinished;
 
-pub use self::backup::Backup;
 use self::calls::Calls;
-use self::identity::Identity;
-use self::likeness::Likeness;
-pub use self::process::ProcessFacts;
-use self::source::Source;
-pub use self::strays::remove_strays;
-pub use self::system::System;
-pub use self::target::folder_of;
-pub use self::trouble::{Purpose, Reason, Trouble};
-pub use self::unfinished::{Closed, Closing, Handling, sync_folder};
-use self::unfinished::{Ended, Finish, Unfinished};
 use crate::fault::Failed;
 use crate::host::Host;
 use std::alloc::Global;
 use std::fs::{Files, OpenFile};
 use std::io::{Read, Write};
 use teco_base::LIMIT;
+use teco_files::{
+    Backup, Closed, Closing, Ended, Finish, Handling, Identity, Likeness, ProcessFacts, Purpose,
+    Reason, Source, System, Trouble, Unfinished, folder_of,
+};
 
 /// Outputs replace their targets, and outlast a power cut.
 const REPLACING: Handling = Handling {

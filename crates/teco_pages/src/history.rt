@@ -1,7 +1,8 @@
 // What the calls of a host did: contracts see it, and nothing else.
 ghost use Rattle.std.specs.Prelude.{◌≡◌, ◌≤◌, ◌<◌, ◌∷◌, ◌++◌, List, [], length, take};
 ghost use Rattle.std.specs.Borrow.{ftrue};
-ghost use Rattle.teco_pages.specs.Events.{Event, events_code};
+ghost use Rattle.teco_pages.specs.Events.{Event, events_code, opened_input, opened_output, wrote, closed, dropped};
+ghost use Rattle.teco_pages.specs.Noting.{event_of_reading};
 
 use std::marker::Model;
 use teco_model::are_bytes;
@@ -51,7 +52,8 @@ impl History {
 
     /// The file of a name was opened as the input.
     pub fn opened_input(&mut self, name: &[u8])
-        ensures { HasOpened name.now (Notes self.old.events) (Notes self.new.events) }
+        ensures files { HasOpened name.now (Notes self.old.events) (Notes self.new.events) }
+        ensures noted { self.new.events ≡ self.old.events ++ opened_input name.now ∷ [] }
     {
         *self = self.then(&Note::OpenedInput(name));
     }
@@ -62,7 +64,9 @@ impl History {
         ensures bytes { Reads (take n buf.now) (Notes self.old.events) (Notes self.new.events) }
         ensures end { n ≡ 0 → 0 < length buf.now
             → NoneUnread (Notes self.old.events) (Notes self.new.events) }
+        ensures noted { self.new.events ≡ self.old.events ++ event_of_reading n buf.now ∷ [] }
     {
+        are_bytes(&buf[..n]);
         *self = if n == 0 && !buf.is_empty() {
             self.then(&Note::Ended)
         } else {
@@ -72,7 +76,8 @@ impl History {
 
     /// An output of a name was opened.
     pub fn opened_output(&mut self, name: &[u8])
-        ensures { Becomes (after_opening name.now) (Notes self.old.events) (Notes self.new.events) }
+        ensures files { Becomes (after_opening name.now) (Notes self.old.events) (Notes self.new.events) }
+        ensures noted { self.new.events ≡ self.old.events ++ opened_output name.now ∷ [] }
     {
         *self = self.then(&Note::OpenedOutput(name));
     }
@@ -80,8 +85,9 @@ impl History {
     /// The first `n` of some bytes were written.
     pub fn wrote(&mut self, bytes: &[u8], n: usize)
         requires { n ≤ length bytes.now }
-        ensures { Becomes (after_writing (take n bytes.now))
+        ensures files { Becomes (after_writing (take n bytes.now))
             (Notes self.old.events) (Notes self.new.events) }
+        ensures noted { self.new.events ≡ self.old.events ++ wrote (take n bytes.now) ∷ [] }
     {
         are_bytes(&bytes[..n]);
         *self = self.then(&Note::Wrote(&bytes[..n]));
@@ -89,14 +95,16 @@ impl History {
 
     /// The output took its name.
     pub fn closed(&mut self)
-        ensures { Becomes after_closing (Notes self.old.events) (Notes self.new.events) }
+        ensures files { Becomes after_closing (Notes self.old.events) (Notes self.new.events) }
+        ensures noted { self.new.events ≡ self.old.events ++ closed ∷ [] }
     {
         *self = self.then(&Note::Closed);
     }
 
     /// The output was dropped.
     pub fn dropped(&mut self)
-        ensures { Becomes after_dropping (Notes self.old.events) (Notes self.new.events) }
+        ensures files { Becomes after_dropping (Notes self.old.events) (Notes self.new.events) }
+        ensures noted { self.new.events ≡ self.old.events ++ dropped ∷ [] }
     {
         *self = self.then(&Note::Dropped);
     }

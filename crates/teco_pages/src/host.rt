@@ -1,8 +1,10 @@
 // What every host of files promises.
-ghost use Rattle.std.specs.Prelude.{◌≡◌, ◌≤◌, ◌<◌, ◌+◌, ℕ, length, IfOk, OnOk, OnErr};
+ghost use Rattle.std.specs.Prelude.{◌≡◌, ◌≤◌, ◌<◌, ◌+◌, ◌∷◌, [], ℕ, length, IfOk, OnOk, OnErr};
 ghost use Rattle.teco_base.specs.declared.TheConstants.{LIMIT};
 ghost use Rattle.teco_pages.specs.HostFiles.{Telling, Becomes, after_dropping};
 ghost use Rattle.teco_pages.specs.HostCalls.{Counts, OpensIn, ReadsSome, OpensOut, WritesSome, Closes};
+ghost use Rattle.teco_pages.specs.Events.{dropped};
+ghost use Rattle.teco_pages.specs.Noting.{NotesJust, noted_open_in, noted_read, noted_open_out, noted_write, noted_close_out};
 
 use crate::fault::Failed;
 
@@ -25,6 +27,7 @@ pub trait Host {
     /// Opens the file of a name as the input, in the place of the one before.
     fn open_in(&mut self, name: &[u8]) -> Result<(), Failed>
         ensures files { OpensIn name.now result (files self.old) (files self.new) }
+        ensures noted { NotesJust (noted_open_in name.now result) (files self.old) (files self.new) }
         ensures counted { Counts result (failures self.old) (failures self.new) }
         ensures given { OnOk result (given self.new ≡ 0) }
         ensures err { OnErr result (given self.new ≡ given self.old) };
@@ -33,6 +36,7 @@ pub trait Host {
     /// most `LIMIT`.
     fn read(&mut self, buf: &mut [u8]) -> Result<usize, Failed>
         ensures files { ReadsSome buf.new result (files self.old) (files self.new) }
+        ensures noted { NotesJust (noted_read buf.new result) (files self.old) (files self.new) }
         ensures counted { Counts result (failures self.old) (failures self.new) }
         ensures bound { IfOk result (λ n. n ≤ length buf.new) }
         ensures given { IfOk result (λ n. given self.new ≡ given self.old + n) }
@@ -42,12 +46,14 @@ pub trait Host {
     /// Opens an output that will have this name.
     fn open_out(&mut self, name: &[u8]) -> Result<(), Failed>
         ensures files { OpensOut name.now result (files self.old) (files self.new) }
+        ensures noted { NotesJust (noted_open_out name.now result) (files self.old) (files self.new) }
         ensures counted { Counts result (failures self.old) (failures self.new) }
         ensures given { given self.new ≡ given self.old };
 
     /// Writes the first of some bytes to the output, one of them at least.
     fn write(&mut self, bytes: &[u8]) -> Result<usize, Failed>
         ensures files { WritesSome bytes.now result (files self.old) (files self.new) }
+        ensures noted { NotesJust (noted_write bytes.now result) (files self.old) (files self.new) }
         ensures counted { Counts result (failures self.old) (failures self.new) }
         ensures bound { IfOk result (λ n. n ≤ length bytes.now) }
         ensures some { IfOk result (λ n. 0 < length bytes.now → 0 < n) }
@@ -56,12 +62,14 @@ pub trait Host {
     /// Gives the output its name, in the place of a file that has it. A failure drops the output.
     fn close_out(&mut self) -> Result<(), Failed>
         ensures files { Closes result (files self.old) (files self.new) }
+        ensures noted { NotesJust (noted_close_out result) (files self.old) (files self.new) }
         ensures counted { Counts result (failures self.old) (failures self.new) }
         ensures given { given self.new ≡ given self.old };
 
     /// Drops the output, which leaves no trace. A failure drops it too.
     fn drop_out(&mut self) -> Result<(), Failed>
         ensures files { Becomes after_dropping (files self.old) (files self.new) }
+        ensures noted { NotesJust (dropped ∷ []) (files self.old) (files self.new) }
         ensures counted { Counts result (failures self.old) (failures self.new) }
         ensures given { given self.new ≡ given self.old };
 }

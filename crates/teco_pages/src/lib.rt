@@ -7,6 +7,7 @@ mod fault;
 mod file_host;
 mod history;
 mod host;
+pub mod laws;
 mod mem_host;
 mod pages;
 mod test_host;
@@ -14,12 +15,13 @@ mod write;
 
 pub use count::Count;
 pub use fault::{Failed, Fault};
-pub use file_host::{
-    Backup, Closed, Closing, FileHost, Handling, ProcessFacts, Purpose, Reason, System, Trouble,
-    folder_of, remove_strays, sync_folder,
-};
+pub use file_host::FileHost;
 pub use history::History;
 pub use host::Host;
 pub use mem_host::MemHost;
 pub use pages::Pages;
+pub use teco_files::{
+    Backup, Closed, Closing, Handling, ProcessFacts, Purpose, Reason, System, Trouble, folder_of,
+    remove_strays, sync_folder,
+};
 pub use test_host::{HostCall, TestHost};

@@ -6,6 +6,8 @@ ghost use Rattle.teco_model.specs.Pages.{first_page, behind_first_page, has_form
 ghost use Rattle.teco_pages.specs.Held.{HoldsBytes, nothing_held, with_input, without_input, without_page, with_all_read, unread_bytes, written_if_any};
 ghost use Rattle.teco_pages.specs.HostCalls.{OpensIn, OpensOut, Closes};
 ghost use Rattle.teco_pages.specs.HostFiles.{HostFiles, Told, Becomes, after_dropping};
+ghost use Rattle.teco_pages.specs.Events.{dropped};
+ghost use Rattle.teco_pages.specs.Noting.{Touches, has_ended, noted_open_in, noted_open_out, noted_close_out};
 ghost use Rattle.teco_pages.specs.PageCalls.{OkOrNoFile, OkOrCannotOpen, OkOrOut, OkOrCannotRead, OkOrInOut, MakesReady, WritesBytes, CopiesRest};
 ghost use Rattle.teco_pages.specs.Reading.{EndsPage};
 
@@ -83,6 +85,8 @@ impl Pages {
     pub fn open_in<H: Host>(&mut self, name: &[u8], host: &mut H) -> Result<(), Fault>
         ensures answer { OkOrNoFile result (H.failures host.old) (H.failures host.new) }
         ensures files { OpensIn name.now result (H.files host.old) (H.files host.new) }
+        ensures noted { Touches (noted_open_in name.now result) self.old.end self.new.end
+            (H.files host.old) (H.files host.new) }
         ensures ok { OnOk result (self.new ≡ with_input name.now self.old) }
         ensures err { OnErr result (self.new ≡ self.old) }
     {
@@ -120,6 +124,8 @@ impl Pages {
     pub fn open_out<H: Host>(&mut self, name: &[u8], host: &mut H) -> Result<(), Fault>
         ensures answer { OkOrCannotOpen result (H.failures host.old) (H.failures host.new) }
         ensures files { OpensOut name.now result (H.files host.old) (H.files host.new) }
+        ensures noted { Touches (noted_open_out name.now result) self.old.end self.new.end
+            (H.files host.old) (H.files host.new) }
         ensures ok { OnOk result (self.new ≡ record self.old { output = Some name.now }) }
         ensures err { OnErr result (self.new ≡ self.old) }
     {
@@ -136,26 +142,30 @@ impl Pages {
     pub fn close_out<H: Host>(&mut self, host: &mut H) -> Result<(), Fault>
         ensures answer { OkOrOut result (H.failures host.old) (H.failures host.new) }
         ensures files { Closes result (H.files host.old) (H.files host.new) }
+        ensures noted { Touches (noted_close_out result) self.old.end self.new.end
+            (H.files host.old) (H.files host.new) }
         ensures closed { self.new ≡ record self.old { output = None } }
     {
         self.output = None;
-        match host.close_out() {
-            Ok(()) => Ok(()),
-            Err(Failed) => Err(Fault::Out),
+        if let Err(Failed) = host.close_out() {
+            return Err(Fault::Out);
         }
+        Ok(())
     }
 
     /// Drops the output, which leaves no trace. A fault leaves none open either.
     pub fn drop_out<H: Host>(&mut self, host: &mut H) -> Result<(), Fault>
         ensures answer { OkOrOut result (H.failures host.old) (H.failures host.new) }
         ensures files { Becomes after_dropping (H.files host.old) (H.files host.new) }
+        ensures noted { Touches (dropped ∷ []) self.old.end self.new.end
+            (H.files host.old) (H.files host.new) }
         ensures closed { self.new ≡ record self.old { output = None } }
     {
         self.output = None;
-        match host.drop_out() {
-            Ok(()) => Ok(()),
-            Err(Failed) => Err(Fault::Out),
+        if let Err(Failed) = host.drop_out() {
+            return Err(Fault::Out);
         }
+        Ok(())
     }
 
     /// The name that the open output will have, if one is open.
@@ -178,6 +188,8 @@ impl Pages {
         ensures err { OnErr result (self.new.ready ≡ None) }
         ensures input { self.new.input ≡ self.old.input }
         ensures output { self.new.output ≡ self.old.output }
+        ensures noted { Touches [] self.old.end self.new.end
+            (H.files host.old) (H.files host.new) }
     {
         if self.ready.is_some() {
             return Ok(());
@@ -271,6 +283,8 @@ impl Pages {
         ensures written { WritesBytes (written_page
             (record { text = first.now ++ second.now; ff = ff })) result
             (H.files host.old) (H.files host.new) }
+        ensures noted { Touches [] self.now.end self.now.end
+            (H.files host.old) (H.files host.new) }
     {
         write_both(host, first, second)?;
         write_all(host, ending(ff))
@@ -285,6 +299,8 @@ impl Pages {
         ensures ok { OnOk result (self.new ≡ with_all_read self.old) }
         ensures input { self.new.input ≡ self.old.input }
         ensures output { self.new.output ≡ self.old.output }
+        ensures noted { Touches [] self.old.end self.new.end
+            (H.files host.old) (H.files host.new) }
     {
         write_both(host, &self.page, ending(self.ready.unwrap_or(false)))?;
         self.page.clear();
@@ -307,6 +323,7 @@ fn read_page<H: Host>(into: &mut Vec<u8>, ahead: &mut Ahead, host: &mut H) -> Re
         (H.failures host.old) (H.failures host.new) result }
     ensures plain { has_form_feed into.new.items ≡ false }
     ensures short { length into.new.items ≤ LIMIT }
+    ensures noted { Touches [] false (has_ended result) (H.files host.old) (H.files host.new) }
 {
     for _ in 0..LIMIT + 1 {
         if !ahead.top_up(host)? {

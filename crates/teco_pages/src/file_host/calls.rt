@@ -1,13 +1,14 @@
 // What the calls of a host did, and with which files.
-ghost use Rattle.std.specs.Prelude.{◌≡◌, suc, IsErr};
+ghost use Rattle.std.specs.Prelude.{◌≡◌, ◌++◌, ◌∷◌, [], suc, IsErr};
+ghost use Rattle.teco_pages.specs.Events.{opened_input, opened_output};
 ghost use Rattle.teco_pages.specs.HostCalls.{HasOpened};
 ghost use Rattle.teco_pages.specs.HostFiles.{Becomes, Notes, after_opening};
 
-use super::trouble::{Purpose, Reason, Trouble};
 use crate::count::Count;
 use crate::fault::Failed;
 use crate::history::History;
 use std::alloc::{AllocError, Global};
+use teco_files::{Purpose, Reason, Trouble};
 
 /// What the calls of a host did, and what the last one that failed could not do.
 #[derive(Drop)]
@@ -38,6 +39,8 @@ impl Calls {
     pub fn opened_input(&mut self, name: &[u8])
         ensures opened { HasOpened name.now (Notes self.old.history.events)
             (Notes self.new.history.events) }
+        ensures noted { self.new.history.events
+            ≡ self.old.history.events ++ opened_input name.now ∷ [] }
         ensures counted { self.new.failures ≡ self.old.failures }
     {
         self.input_name = kept_name(*self.input_name.allocator(), name);
@@ -48,6 +51,8 @@ impl Calls {
     pub fn opened_output(&mut self, name: &[u8])
         ensures opened { Becomes (after_opening name.now) (Notes self.old.history.events)
             (Notes self.new.history.events) }
+        ensures noted { self.new.history.events
+            ≡ self.old.history.events ++ opened_output name.now ∷ [] }
         ensures counted { self.new.failures ≡ self.old.failures }
     {
         self.output_name = kept_name(*self.output_name.allocator(), name);

@@ -1,6 +1,7 @@
-use Rattle.std.proofs.Common.{◌≡◌, ◌≤◌, ◌++◌, false, length}
+use Rattle.std.proofs.Common.{◌≡◌, ◌≤◌, ◌++◌, [], false, length}
 use Rattle.teco_base.specs.declared.TheConstants.{LIMIT}
 use Rattle.teco_model.specs.Pages.{has_form_feed}
+use Rattle.teco_pages.specs.Noting.{Touches}
 use Rattle.teco_pages.specs.Reading.{Shifts}
 use Rattle.teco_pages.proofs.pages.read_page.Given as goal
 
@@ -11,5 +12,6 @@ invariant-loop g l = record {
   short : length l.into.items ≤ LIMIT;
   count : l.counter ≤ length l.into.items;
   shifts : Shifts (l.fn.into.items ++ l.fn.ahead) (g.H.Host.files l.fn.host) (l.into.items ++ l.ahead) (g.H.Host.files l.host);
+  noted : Touches [] false false (g.H.Host.files l.fn.host) (g.H.Host.files l.host);
   same : g.H.Host.failures l.host ≡ g.H.Host.failures l.fn.host;
 }

@@ -1,6 +1,7 @@
-use Rattle.std.proofs.Common.{◌≡◌, ◌≤◌, ◌<◌}
+use Rattle.std.proofs.Common.{◌≡◌, ◌≤◌, ◌<◌, [], false}
 use Rattle.teco_base.specs.declared.TheConstants.{LIMIT}
 use Rattle.teco_pages.specs.Copying.{CopiesOn}
+use Rattle.teco_pages.specs.Noting.{Touches}
 use Rattle.teco_pages.proofs.write.copy_rest.Given as goal
 
 -- what is written, held and unread is what was unread; each turn was given a byte, and nothing has failed
@@ -8,6 +9,7 @@ abbrev pub invariant-loop : goal.invariant-loop
 invariant-loop g l = record {
   copied : CopiesOn l.fn.ahead l.ahead (g.H.Host.files l.fn.host) (g.H.Host.files l.host);
   same : g.H.Host.failures l.host ≡ g.H.Host.failures l.fn.host;
+  noted : Touches [] false false (g.H.Host.files l.fn.host) (g.H.Host.files l.host);
   count : l.counter ≤ g.H.Host.given l.host;
   limit : 0 < l.counter → g.H.Host.given l.host ≤ LIMIT;
 }

@@ -1,5 +1,6 @@
-use Rattle.std.proofs.Common.{◌≡◌, ◌≤◌, length, take}
+use Rattle.std.proofs.Common.{◌≡◌, ◌≤◌, [], Bool, length, take}
 use Rattle.teco_pages.specs.HostFiles.{Becomes, after_writing}
+use Rattle.teco_pages.specs.Noting.{Touches}
 use Rattle.teco_pages.proofs.write.write_all.Given as goal
 
 -- each turn writes a byte or more, from the front on; nothing has failed
@@ -10,4 +11,5 @@ invariant-loop g l = record {
   written : Becomes (after_writing (take l.written l.bytes)) (g.H.Host.files l.initial.host) (g.H.Host.files l.host);
   same : g.H.Host.failures l.host ≡ g.H.Host.failures l.initial.host;
   given : g.H.Host.given l.host ≡ g.H.Host.given l.initial.host;
+  noted : (end : Bool) → Touches [] end end (g.H.Host.files l.initial.host) (g.H.Host.files l.host);
 }

@@ -1,4 +1,5 @@
 use Rattle.std.proofs.lemmas.Result.{err_from_is_err_and}
+use Rattle.teco_pages.proofs.Touching.{touches-more}
 use Rattle.teco_pages.proofs.Written.{front-more, both}
 use Rattle.teco_pages.proofs.write.write_both.Goals as goal
 
@@ -10,3 +11,6 @@ returns-in_err-write_all-clause-written g c =
 pub returns-clause-written : goal.returns-clause-written
 returns-clause-written g c =
     both c.args.first.now c.args.second.now _ _ _ _ c.in_ok-write_all.ensures.written c.write_all-2.ensures.written
+
+pub returns-clause-noted : goal.returns-clause-noted
+returns-clause-noted g c = λ end. touches-more end end end _ _ _ (c.in_ok-write_all.ensures.noted end) (c.write_all-2.ensures.noted end)

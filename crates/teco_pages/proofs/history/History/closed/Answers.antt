@@ -3,5 +3,5 @@ use Rattle.teco_pages.proofs.Bytes.{noted}
 use Rattle.teco_pages.specs.Events.{closed}
 use Rattle.teco_pages.proofs.history.History.closed.Goals as goal
 
-pub returns : goal.returns
-returns c = noted _ c.args.self.now.events c.then.result.events closed (search rules) tt (λ f g h. h)
+pub returns-clause-files : goal.returns-clause-files
+returns-clause-files c = noted _ c.args.self.now.events c.then.result.events closed (search rules) tt (λ f g h. h)

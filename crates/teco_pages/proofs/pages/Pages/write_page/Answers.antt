@@ -1,5 +1,6 @@
 use Rattle.std.proofs.Common.{◌++◌}
 use Rattle.std.proofs.lemmas.Result.{err_from_is_err_and}
+use Rattle.teco_pages.proofs.Touching.{touches-more}
 use Rattle.teco_pages.proofs.Written.{front-more, both-as}
 use Rattle.teco_pages.proofs.pages.Pages.write_page.Goals as goal
 
@@ -11,3 +12,8 @@ returns-in_err-write_both-clause-written g c =
 pub returns-clause-written : goal.returns-clause-written
 returns-clause-written g c =
     both-as (c.args.first.now ++ c.args.second.now) c.ending.result.now _ c.write_all.result _ _ _ c.ending.ensures c.in_ok-write_both.ensures.written c.write_all.ensures.written
+
+pub returns-clause-noted : goal.returns-clause-noted
+returns-clause-noted g c =
+    let end = c.args.self.now.end in
+    touches-more end end end _ _ _ (c.in_ok-write_both.ensures.noted end) (c.write_all.ensures.noted end)

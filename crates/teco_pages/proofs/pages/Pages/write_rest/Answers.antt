@@ -3,6 +3,7 @@ use Rattle.std.proofs.lemmas.Result.{err_from_is_err_and}
 use Rattle.teco_pages.specs.Held.{Held, written_if_any, behind_held, name_in}
 use Rattle.teco_pages.proofs.Ready.{held}
 use Rattle.teco_pages.proofs.Rest.{held-parts, rest-all, rest-cut, rest-copied, rest-end}
+use Rattle.teco_pages.proofs.Touching.{touches-more}
 use Rattle.teco_pages.proofs.pages.Pages.write_rest.Goals as goal
 
 pub returns-in_err-write_both-clause-copied : goal.returns-in_err-write_both-clause-copied
@@ -45,3 +46,15 @@ returns-else-not-self-clause-copied g c =
     let seen = subst (λ (k : Held). written_if_any k.ready ++ k.ahead ≡ front ++ i.ahead) c.self.view_is parts in
     let ends : i.end ≡ true = cc in
     rest-end c.args.self.now c.args.self.now front i.ahead _ _ seen (subst (λ (k : Held). k.end ≡ true) c.self.view_is ends) (c.self.invariant.none ends) c.in_ok-write_both.ensures.written
+
+pub returns-in_err-copy_rest-clause-noted : goal.returns-in_err-copy_rest-clause-noted
+returns-in_err-copy_rest-clause-noted g c =
+    let off : c.self.inside.end ≡ false = cc in
+    let on = subst (λ (k : Held). k.end ≡ false) c.self.view_is off in
+    rw (on, off) (touches-more false false false _ _ _ (c.in_ok-write_both.ensures.noted false) c.in_err-copy_rest.ensures.noted)
+
+pub returns-in_ok-copy_rest-clause-noted : goal.returns-in_ok-copy_rest-clause-noted
+returns-in_ok-copy_rest-clause-noted g c =
+    let off : c.self.inside.end ≡ false = cc in
+    let on = subst (λ (k : Held). k.end ≡ false) c.self.view_is off in
+    rw on (touches-more false false true _ _ _ (c.in_ok-write_both.ensures.noted false) c.in_ok-copy_rest.ensures.noted)

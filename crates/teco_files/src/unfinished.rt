@@ -1,17 +1,17 @@
 // Outputs that are not closed yet.
 ghost use Rattle.std.specs.Prelude.{◌≡◌, ◌≤◌, ◌<◌, [], length, IfOk, OnOk};
-ghost use Rattle.std.specs.Io.Buffered.{writer_buffer, writer_contents};
 ghost use Rattle.std.specs.Io.KnownBytes.{Keeps, WriteAppends};
+ghost use Rattle.teco_files.specs.Buffers.{unfinished_contents, unfinished_kept};
 
-use super::backup::Backup;
-use super::comparing::is_same_file;
-use super::descriptor::above_standard;
-use super::identity::Identity;
-use super::inheritance::inherit_owner;
-use super::process::ProcessFacts;
-use super::system::System;
-use super::target::{Target, folder_of};
-use super::trouble::Reason;
+use crate::backup::Backup;
+use crate::comparing::is_same_file;
+use crate::descriptor::above_standard;
+use crate::identity::Identity;
+use crate::inheritance::inherit_owner;
+use crate::process::ProcessFacts;
+use crate::system::System;
+use crate::target::{Target, folder_of};
+use crate::trouble::Reason;
 use std::alloc::Global;
 use std::fs::{Files, OpenFile, OpenOptions, Permissions};
 use std::io::{BufWriter, Write};
@@ -97,7 +97,7 @@ impl<F: OpenFile + Write + Drop> Unfinished<F> {
         facts: ProcessFacts,
         only: Option<Identity>,
     ) -> Result<Unfinished<F>, Reason>
-        ensures { IfOk result (λ o. writer_buffer o.writer ≡ []) }
+        ensures { IfOk result (λ o. unfinished_kept o ≡ []) }
     {
         let target = Target::of(rt, alloc, str::from_utf8(name)?)?;
         check_only(&target, only)?;
@@ -122,8 +122,8 @@ impl<F: OpenFile + Write + Drop> Unfinished<F> {
     pub fn write_some(&mut self, bytes: &[u8]) -> Result<usize, Reason>
         ensures bound { IfOk result (λ n. n ≤ length bytes.now) }
         ensures some { IfOk result (λ n. 0 < length bytes.now → 0 < n) }
-        ensures bytes { WriteAppends (writer_contents F.contents self.old.writer)
-            (writer_contents F.contents self.new.writer) result bytes.now }
+        ensures bytes { WriteAppends (unfinished_contents F.contents self.old)
+            (unfinished_contents F.contents self.new) result bytes.now }
     {
         let most = bytes
             .len()
@@ -192,9 +192,9 @@ impl<F: OpenFile + Write + Drop> Unfinished<F> {
         alloc: Global,
         how: Finish<'_>,
     ) -> Result<Settled, Reason>
-        ensures sent { OnOk result (writer_buffer self.new.writer ≡ []) }
-        ensures bytes { Keeps (writer_contents F.contents self.old.writer)
-            (writer_contents F.contents self.new.writer) }
+        ensures sent { OnOk result (unfinished_kept self.new ≡ []) }
+        ensures bytes { Keeps (unfinished_contents F.contents self.old)
+            (unfinished_contents F.contents self.new) }
     {
         let written = self.writer.flush();
         self.give_permissions();

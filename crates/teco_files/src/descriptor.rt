@@ -1,5 +1,5 @@
 // Descriptors of the files that are opened.
-use super::system::System;
+use crate::system::System;
 use std::fs::OpenFile;
 use std::io;
 

@@ -1,7 +1,7 @@
 // Unfinished outputs that runs of the program left which were killed.
 ghost use Rattle.std.specs.Prelude.{◌≤◌, length, IfOk};
 
-use super::process::ProcessFacts;
+use crate::process::ProcessFacts;
 use std::alloc::Global;
 use std::fs::Files;
 use std::io::Read;

@@ -1,6 +1,6 @@
 // What the hosts of a process have in common.
-use super::size_limit::size_limit;
-use super::system::System;
+use crate::size_limit::size_limit;
+use crate::system::System;
 use std::alloc::{AllocError, Global};
 use std::fs::Files;
 use std::io::Read;

@@ -1,6 +1,6 @@
 // Files that are kept under another name before they are replaced.
-use super::target::entry_of;
-use super::trouble::Reason;
+use crate::target::entry_of;
+use crate::trouble::Reason;
 use std::alloc::Global;
 use std::fs::Files;
 use std::{fs, io};

@@ -1,5 +1,5 @@
 // What a new file inherits of the file that it will replace.
-use super::system::System;
+use crate::system::System;
 use std::fs::{Metadata, Permissions};
 use std::os::unix::fs::{MetadataExt, PermissionsExt};
 

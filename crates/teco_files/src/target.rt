@@ -1,6 +1,6 @@
 // Where an output will be.
-use super::links::leads_to_open_file;
-use super::trouble::Reason;
+use crate::links::leads_to_open_file;
+use crate::trouble::Reason;
 use std::alloc::Global;
 use std::fs::{Files, Metadata};
 use std::{fs, io};

@@ -1,5 +1,5 @@
 // Files that are compared.
-use super::trouble::Reason;
+use crate::trouble::Reason;
 use std::alloc::Global;
 use std::fs::Files;
 use std::io::{BufRead, BufReader};

@@ -1,6 +1,6 @@
 // Names that lead to files that a process has open.
-use super::target::{entry_of, folder_of};
-use super::trouble::Reason;
+use crate::target::{entry_of, folder_of};
+use crate::trouble::Reason;
 use std::alloc::Global;
 use std::fs::Files;
 

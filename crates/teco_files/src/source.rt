@@ -1,12 +1,12 @@
 // The file that is read.
 ghost use Rattle.std.specs.Prelude.{◌≡◌, ◌≤◌, ◌<◌, [], length, IfOk};
-ghost use Rattle.std.specs.Io.Buffered.{reader_buffer, reader_capacity, reader_remaining};
 ghost use Rattle.std.specs.Io.KnownBytes.{ReadConsumes};
+ghost use Rattle.teco_files.specs.Buffers.{source_ahead, source_remaining, source_room};
 
-use super::descriptor::above_standard;
-use super::identity::Identity;
-use super::system::System;
-use super::trouble::Reason;
+use crate::descriptor::above_standard;
+use crate::identity::Identity;
+use crate::system::System;
+use crate::trouble::Reason;
 use std::alloc::Global;
 use std::fs::{Metadata, OpenFile};
 use std::io::{BufReader, Read};
@@ -38,8 +38,8 @@ impl<F: OpenFile + Read + Drop> Source<F> {
         name: &[u8],
         is_regular: bool,
     ) -> Result<Source<F>, Reason>
-        ensures ahead { IfOk result (λ s. 0 < reader_capacity s.reader) }
-        ensures none { IfOk result (λ s. reader_buffer s.reader ≡ []) }
+        ensures ahead { IfOk result (λ s. 0 < source_room s) }
+        ensures none { IfOk result (λ s. source_ahead s ≡ []) }
     {
         let name = str::from_utf8(name)?;
         if is_regular {
@@ -58,8 +58,8 @@ impl<F: OpenFile + Read + Drop> Source<F> {
 
     // The open file of some metadata.
     fn over(alloc: Global, file: F, metadata: &Metadata) -> Result<Source<F>, Reason>
-        ensures ahead { IfOk result (λ s. 0 < reader_capacity s.reader) }
-        ensures none { IfOk result (λ s. reader_buffer s.reader ≡ []) }
+        ensures ahead { IfOk result (λ s. 0 < source_room s) }
+        ensures none { IfOk result (λ s. source_ahead s ≡ []) }
     {
         match BufReader::with_capacity(alloc, room_ahead(metadata.len()), file) {
             Ok(reader) => Ok(Source {
@@ -87,8 +87,8 @@ impl<F: OpenFile + Read + Drop> Source<F> {
     /// that was read before it is given.
     pub fn read(&mut self, buf: &mut [u8]) -> io::Result<usize>
         ensures bound { IfOk result (λ n. n ≤ length buf.new) }
-        ensures bytes { ReadConsumes (reader_remaining F.remaining self.old.reader)
-            (reader_remaining F.remaining self.new.reader) result buf.new }
+        ensures bytes { ReadConsumes (source_remaining F.remaining self.old)
+            (source_remaining F.remaining self.new) result buf.new }
     {
         self.reader.read(buf)
     }
