@@ -3,3 +3,4 @@ mod ByPages
 mod Edits
 mod Opening
 mod Sure
+mod Touched

@@ -99,7 +99,7 @@ module _ (laws : Laws) (call : Call) (kept : Kept) (held : Held) (is : IsCalled 
         small = ready.fits;
       }) (subst (λ needs. AreOpen needs now.files) certified.needs_are files_open)
 
-  ends_with : (given : Option ℤ) → IsTaken call.found.fields.argument given → EndsWithin (start (call_text call.found.fields.entry given) (world kept held files)) (value call.found.fields.commands (n_of (world kept held files)))
+  pub ends_with : (given : Option ℤ) → IsTaken call.found.fields.argument given → EndsWithin (start (call_text call.found.fields.entry given) (world kept held files)) (value call.found.fields.commands (n_of (world kept held files)))
   ends_with None taken = ends None taken
   ends_with (Some (pos n)) taken = ends (Some n) taken
   ends_with (Some (negsuc n)) taken = absurd taken

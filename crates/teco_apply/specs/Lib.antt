@@ -3,3 +3,4 @@ pub mod Apply
 pub mod ByPages
 pub mod Constants
 pub mod Sure
+pub mod Touched

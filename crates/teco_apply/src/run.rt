@@ -1,6 +1,7 @@
 //! The run of a verified macro.
 ghost use Rattle.std.specs.Prelude.{◌≡◌, ◌↔◌, Some, None, IfOk, OnOk, OnErr, IsTrue};
-ghost use Rattle.teco_apply.specs.Sure.{Answers, Calls, HasFiles, IsTaken, Runs, TakesArgument, call_text as text_of_call, kept_loaded};
+ghost use Rattle.teco_apply.specs.Sure.{Answers, Calls, HasFiles, IsReady, IsTaken, Runs, TakesArgument, call_text as text_of_call, kept_loaded};
+ghost use Rattle.teco_apply.specs.Touched.{IsPossible, IsReadyLoaded, TouchesNone};
 ghost use Rattle.teco_model.specs.Macros.{IsLoaded};
 ghost use Rattle.teco_model.specs.Run.{StopCounts};
 ghost use Rattle.teco_run.specs.Holdings.{Joined};
@@ -13,6 +14,7 @@ use teco_law_expansion::laws::{expansions_are_linked, loading_loads};
 use teco_law_tables::laws::{runs_are_sure, runs_are_verified};
 use teco_model::Stop;
 use teco_pages::Host;
+use teco_pages::laws::notes_fit;
 use teco_run::{Machine, Stopped};
 use teco_text::TextStore;
 use teco_verify::Verified;
@@ -72,6 +74,10 @@ pub fn call_verified<T: TextStore, H: Host>(
     requires taken { TakesArgument call.now }
     ensures calls { Joined (Calls call.now.found.fields call.now.given result.stop)
         machine.old machine.new (H.files host.old) (H.files host.new) }
+    ensures touches { TouchesNone (IsReady call.now.found.fields)
+        machine.old machine.new (H.files host.old) (H.files host.new) }
+    ensures possible { IsPossible (IsReady call.now.found.fields)
+        machine.old machine.new (H.files host.old) (H.files host.new) }
     ensures counted { StopCounts result.stop (H.failures host.old) (H.failures host.new) }
 {
     machine.is_whole();
@@ -79,6 +85,7 @@ pub fn call_verified<T: TextStore, H: Host>(
     expansions_are_linked();
     runs_are_verified();
     runs_are_sure();
+    notes_fit();
     let entry = call.verified.entry();
     entry.index();
     let text = call_text(entry, call.given);
@@ -126,6 +133,12 @@ pub fn run_given<T: TextStore, H: Host>(
         (H.failures host.old) (H.failures host.new)) }
     ensures machine { OnErr result (machine.new ≡ machine.old) }
     ensures host { OnErr result (host.new ≡ host.old) }
+    ensures touches { IfOk result (λ _. TouchesNone
+        (IsReadyLoaded call.now)
+        machine.old machine.new (H.files host.old) (H.files host.new)) }
+    ensures possible { IfOk result (λ _. IsPossible
+        (IsReadyLoaded call.now)
+        machine.old machine.new (H.files host.old) (H.files host.new)) }
 {
     make_ready(machine, call)?;
     Ok(call_verified(machine, call, host).stop)
@@ -152,6 +165,12 @@ pub fn run_verified<T: TextStore, H: Host>(
         (H.failures host.old) (H.failures host.new)) }
     ensures machine { OnErr result (machine.new ≡ machine.old) }
     ensures host { OnErr result (host.new ≡ host.old) }
+    ensures touches { IfOk result (λ _. TouchesNone
+        (IsReadyLoaded (record { found = verified.now; given = None }))
+        machine.old machine.new (H.files host.old) (H.files host.new)) }
+    ensures possible { IfOk result (λ _. IsPossible
+        (IsReadyLoaded (record { found = verified.now; given = None }))
+        machine.old machine.new (H.files host.old) (H.files host.new)) }
 {
     let call = Call {
         verified,
@@ -177,6 +196,12 @@ pub fn run_verified_with<T: TextStore, H: Host>(
         (H.failures host.old) (H.failures host.new)) }
     ensures machine { OnErr result (machine.new ≡ machine.old) }
     ensures host { OnErr result (host.new ≡ host.old) }
+    ensures touches { IfOk result (λ _. TouchesNone
+        (IsReadyLoaded (record { found = verified.now; given = Some n }))
+        machine.old machine.new (H.files host.old) (H.files host.new)) }
+    ensures possible { IfOk result (λ _. IsPossible
+        (IsReadyLoaded (record { found = verified.now; given = Some n }))
+        machine.old machine.new (H.files host.old) (H.files host.new)) }
 {
     let call = Call {
         verified,

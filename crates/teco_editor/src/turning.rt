@@ -3,6 +3,7 @@ ghost use Rattle.std.specs.Prelude.{◌≡◌, ◌++◌, [], OnOk, OnErr};
 ghost use Rattle.teco_model.specs.Pages.{first_page, written_page};
 ghost use Rattle.teco_model.specs.Paging.{kept_with_page, page_of_buffer};
 ghost use Rattle.teco_model.specs.Search.{search_text_of};
+ghost use Rattle.teco_pages.specs.Noting.{Touches};
 ghost use Rattle.teco_editor.specs.Turning.{GoesOut};
 
 use crate::editor::Editor;
@@ -34,6 +35,8 @@ impl<T: TextStore> Editor<T> {
             (H.files host.old) (H.files host.new) (H.failures host.old) (H.failures host.new) }
         ensures written { OnOk result (self.new ≡
             record self.old { search_text = search_text_of text.now self.old }) }
+        ensures noted { Touches [] pages.now.end pages.now.end
+            (H.files host.old) (H.files host.new) }
         ensures err { OnErr result (self.new ≡ self.old) }
     {
         make_room(&mut self.search_text, text.len())?;
@@ -60,6 +63,8 @@ impl<T: TextStore> Editor<T> {
           search_text = search_text_of text.now self.old;
           typed = self.old.typed ++ message.now;
         })) }
+        ensures noted { Touches [] pages.now.end pages.now.end
+            (H.files host.old) (H.files host.new) }
         ensures err { OnErr result (self.new ≡ self.old) }
     {
         make_room(&mut self.search_text, text.len())?;

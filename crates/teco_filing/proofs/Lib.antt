@@ -1,3 +1,4 @@
 mod Ends
+mod Touched
 mod Turned
 mod Written

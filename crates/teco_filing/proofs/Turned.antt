@@ -2,37 +2,56 @@
 use Rattle.std.proofs.Common.{rules, ◌≡◌, ℕ, ℤ, ◌≤◌, List, ◌++◌, length, true, nat_le, Option, Some, None, inl, refl, sym, ap, subst, ◌∙◌}
 use Rattle.std.specs.Prelude.{Result, Ok, Err, IfSome, IsSome, option_map}
 use Rattle.teco_base.specs.declared.TheConstants.{LIMIT}
+use Rattle.teco_base.specs.declared.code.Code as base
 use Rattle.teco_model.specs.Files.{Files, Input, Output, with_written}
 use Rattle.teco_model.specs.Pages.{Page, behind_first_page, first_page, written_page}
-use Rattle.teco_model.specs.Paging.{files_behind_page, kept_with_page, page_of_buffer, page_turned, range_written, unread, world_after_writing, world_seeking}
-use Rattle.teco_model.specs.Places.{text_between}
+use Rattle.teco_model.specs.Paging.{files_behind_page, kept_with_page, looked_through, page_of_buffer, page_turned, unread, world_after_writing, world_seeking}
 use Rattle.teco_model.specs.Search.{search_text_of}
 use Rattle.teco_model.specs.State.{Kept, World}
 use Rattle.teco_model.specs.declared.stop.HostFault.TheVariants as host_fault
-use Rattle.teco_pages.proofs.Told.{same-files, told-map, told-on}
+use Rattle.teco_pages.proofs.Told.{same-files, told-map, told-on, told-same}
 use Rattle.teco_pages.specs.Held.{Held, IsSameOutput, behind_held, files_of, input_of, unread_bytes, written_if_any}
 use Rattle.teco_pages.specs.HostFiles.{HostFiles, Telling, Told, after_writing}
 use Rattle.teco_pages.specs.PageCalls.{MakesReady}
 use Rattle.teco_pages.specs.declared.fault.Fault.{Fault}
 use Rattle.teco_pages.specs.declared.fault.Fault.TheVariants as fault
 use Rattle.teco_filing.specs.Halts.{halt_of}
-use Rattle.teco_filing.specs.Worlds.{IsDoneOrFull, PutsOut, Together, Turns, Writes, world}
+use Rattle.teco_filing.specs.Worlds.{IsDoneOrFull, PutsOut, Together, Turns, Writes, with_typed, world}
 use Rattle.teco_filing.specs.declared.halt.Halt.{Halt}
 use Rattle.teco_filing.specs.declared.halt.Halt.TheVariants.{Code, Memory, Host}
 use Rattle.teco_editor.specs.Turning.{GoesOut}
 
--- ---- a range is written
-abbrev Range : Kept → Held → ℤ → ℤ → Result (Unit {0}) Halt → HostFiles → HostFiles → Type 0
-Range kept held m n r files left =
-    IsSameOutput held files → Writes (world kept held files) (world kept held left) (range_written m n (world kept held files)) r × IsSameOutput held left
+-- ---- some bytes are written
+abbrev Written : Kept → Held → (World → Result World base.Code) → Result (Unit {0}) Halt → HostFiles → HostFiles → Type 0
+Written kept held defined r files left =
+    IsSameOutput held files → Writes (world kept held files) (world kept held left) (defined (world kept held files)) r × IsSameOutput held left
 
-pub range-written : (kept : Kept) (held : Held) (m n : ℤ) (bytes : List ℕ) (r : Result (Unit {0}) Halt) (x y : Telling) (f g : ℕ) → text_between m n kept ≡ Ok bytes → PutsOut bytes r x y f g → Together (λ old new. Writes old new (range_written m n old) r) kept held kept held x y
-range-written kept held m n bytes (Ok u) x y f g is p = told-map (λ files left. left ≡ after_writing bytes files) (Range kept held m n (Ok u)) (λ files left written. search rules) x y p.0
-range-written kept held m n bytes (Err (Code c)) x y f g is p = absurd p
-range-written kept held m n bytes (Err Memory) x y f g is p = absurd p
-range-written kept held m n bytes (Err (Host host_fault.NoFile)) x y f g is p = absurd p
-range-written kept held m n bytes (Err (Host host_fault.In)) x y f g is p = absurd p
-range-written kept held m n bytes (Err (Host host_fault.Out)) x y f g is p = told-map (λ files left. left ≡ after_writing (p.0).front files) (Range kept held m n (Err (Host host_fault.Out))) (λ files left written. search rules) x y (p.0).written
+-- whatever command defines them
+module _ (kept : Kept) (held : Held) (defined : World → Result World base.Code) (bytes : List ℕ)
+    (done : (files : HostFiles) → defined (world kept held files) ≡ Ok (world_after_writing bytes (world kept held files))) where
+  pub is-written : (r : Result (Unit {0}) Halt) (x y : Telling) (f g : ℕ) → PutsOut bytes r x y f g → Together (λ old new. Writes old new (defined old) r) kept held kept held x y
+  is-written (Ok u) x y f g p = told-map (λ files left. left ≡ after_writing bytes files) (Written kept held defined (Ok u)) (λ files left written. rw (done files) (search rules)) x y p.0
+  is-written (Err (Code c)) x y f g p = absurd p
+  is-written (Err Memory) x y f g p = absurd p
+  is-written (Err (Host host_fault.NoFile)) x y f g p = absurd p
+  is-written (Err (Host host_fault.In)) x y f g p = absurd p
+  is-written (Err (Host host_fault.Out)) x y f g p = told-map (λ files left. left ≡ after_writing (p.0).front files) (Written kept held defined (Err (Host host_fault.Out))) (λ files left written. rw (done files) (search rules)) x y (p.0).written
+
+-- ---- no input is unread
+abbrev Looks : Kept → Held → List ℕ → List ℕ → Result (Unit {0}) Halt → HostFiles → HostFiles → Type 0
+Looks kept held text message r files left =
+    IsSameOutput held files → Turns (world kept held files) (world kept held left) (Ok (with_typed message (looked_through (world_seeking text (world kept held files))))) r × IsSameOutput held left
+
+-- it is not written
+pub look-stopped : (kept : Kept) (held : Held) (text message : List ℕ) (e : Fault) (x y : Telling) (f g : ℕ) → GoesOut (written_page (page_of_buffer kept)) (Err e) x y f g → Told (Looks kept held text message (Err (halt_of e))) x y
+look-stopped kept held text message fault.NoFile x y f g w = absurd w
+look-stopped kept held text message fault.In x y f g w = absurd w
+look-stopped kept held text message fault.Full x y f g w = absurd w
+look-stopped kept held text message fault.Memory x y f g w =
+    subst (λ t. Told (Looks kept held text message (Err Memory)) x t) (sym w.0)
+    (told-same (Looks kept held text message (Err Memory)) (λ files same. ((inl refl, refl), same)) x)
+look-stopped kept held text message fault.Out x y f g w =
+    told-map (λ files left. left ≡ after_writing (w.0).front files) (Looks kept held text message (Err (Host host_fault.Out))) (λ files left written. search rules) x y (w.0).written
 
 -- ---- a page is turned
 abbrev Turn : Kept → Held → Kept → Held → List ℕ → Result (Unit {0}) Halt → HostFiles → HostFiles → Type 0

@@ -1,11 +1,14 @@
 //! Files that are opened, closed and copied.
-ghost use Rattle.std.specs.Prelude.{◌≡◌, Ok, None, IsSome, option_copied};
+ghost use Rattle.std.specs.Prelude.{◌≡◌, [], Ok, None, IsSome, option_copied};
 ghost use Rattle.teco_model.specs.Filing as model;
 ghost use Rattle.teco_model.specs.State.{Kept};
+ghost use Rattle.teco_model.specs.declared.kind.File.TheVariants as file;
 ghost use Rattle.teco_pages.specs.HostFiles.{Told};
+ghost use Rattle.teco_pages.specs.Noting.{Touches};
 ghost use Rattle.teco_pages.specs.PageCalls.{OkOrInOut};
 ghost use Rattle.teco_filing.specs.Files.{ClosesAll, CopiesAll, LetsGo, OpensInput, OpensOutput, WritesAll, WritesUnread};
 ghost use Rattle.teco_filing.specs.Halts.{Counts};
+ghost use Rattle.teco_filing.specs.Touched.{touched_by_writing, touched_in};
 ghost use Rattle.teco_filing.specs.Worlds.{Together};
 
 use crate::halt::Halt;
@@ -30,6 +33,8 @@ pub fn open_input<H: Host>(pages: &mut Pages, name: &[u8], host: &mut H) -> Resu
         (λ old new. OpensInput old new (model.open_input name.now old) result)
         kept pages.old kept pages.new (H.files host.old) (H.files host.new) }
     ensures counted { Counts result (H.failures host.old) (H.failures host.new) }
+    ensures noted { Touches (touched_in file.Read name.now pages.old.output result) pages.old.end pages.new.end
+        (H.files host.old) (H.files host.new) }
 {
     check_name(name, pages.output_name())?;
     Ok(pages.open_in(name, host)?)
@@ -41,6 +46,8 @@ pub fn open_output<H: Host>(pages: &mut Pages, name: &[u8], host: &mut H) -> Res
         (λ old new. OpensOutput old new (model.open_output name.now old) result)
         kept pages.old kept pages.new (H.files host.old) (H.files host.new) }
     ensures counted { Counts result (H.failures host.old) (H.failures host.new) }
+    ensures noted { Touches (touched_in file.Write name.now pages.old.output result) pages.old.end pages.new.end
+        (H.files host.old) (H.files host.new) }
 {
     if pages.output_name().is_some() {
         return Err(Halt::Code(Code::Ofo));
@@ -55,6 +62,8 @@ pub fn close_output<H: Host>(pages: &mut Pages, host: &mut H) -> Result<(), Halt
         (λ old new. LetsGo old new (model.close_output old) result)
         kept pages.old kept pages.new (H.files host.old) (H.files host.new) }
     ensures counted { Counts result (H.failures host.old) (H.failures host.new) }
+    ensures noted { Touches (touched_in file.Close [] pages.old.output result) pages.old.end pages.new.end
+        (H.files host.old) (H.files host.new) }
 {
     if pages.output_name().is_none() {
         return Err(Halt::Code(Code::Nfo));
@@ -68,6 +77,8 @@ pub fn abandon_output<H: Host>(pages: &mut Pages, host: &mut H) -> Result<(), Ha
         (λ old new. LetsGo old new (Ok (model.abandon_output old)) result)
         kept pages.old kept pages.new (H.files host.old) (H.files host.new) }
     ensures counted { Counts result (H.failures host.old) (H.failures host.new) }
+    ensures noted { Touches (touched_in file.Abandon [] pages.old.output result) pages.old.end pages.new.end
+        (H.files host.old) (H.files host.new) }
 {
     if pages.output_name().is_none() {
         return Ok(());
@@ -80,6 +91,8 @@ pub fn abandon_output<H: Host>(pages: &mut Pages, host: &mut H) -> Result<(), Ha
 fn write_unread<H: Host>(pages: &mut Pages, host: &mut H) -> Result<(), Fault>
     ensures written { Told (WritesUnread result pages.old) (H.files host.old) (H.files host.new) }
     ensures answer { OkOrInOut result (H.failures host.old) (H.failures host.new) }
+    ensures noted { Touches [] pages.old.end pages.new.end
+        (H.files host.old) (H.files host.new) }
     ensures input { pages.new.input ≡ pages.old.input }
     ensures output { pages.new.output ≡ pages.old.output }
 {
@@ -98,6 +111,8 @@ fn write_all<T: TextStore, H: Host>(
     ensures written { Told (WritesAll result editor.now pages.old)
         (H.files host.old) (H.files host.new) }
     ensures answer { OkOrInOut result (H.failures host.old) (H.failures host.new) }
+    ensures noted { Touches [] pages.old.end pages.new.end
+        (H.files host.old) (H.files host.new) }
     ensures input { pages.new.input ≡ pages.old.input }
     ensures output { pages.new.output ≡ pages.old.output }
 {
@@ -118,6 +133,8 @@ fn write_and_close<T: TextStore, H: Host>(
     ensures closed { Told (ClosesAll result editor.now pages.old)
         (H.files host.old) (H.files host.new) }
     ensures answer { OkOrInOut result (H.failures host.old) (H.failures host.new) }
+    ensures noted { Touches (touched_by_writing result) pages.old.end pages.new.end
+        (H.files host.old) (H.files host.new) }
     ensures output { pages.new.output ≡ None }
 {
     match write_all(editor, pages, host) {
@@ -141,6 +158,8 @@ pub fn copy_all<T: TextStore, H: Host>(
     ensures copies { Together (λ old new. CopiesAll old new (model.copy_all old) result)
         editor.old pages.old editor.new pages.new (H.files host.old) (H.files host.new) }
     ensures counted { Counts result (H.failures host.old) (H.failures host.new) }
+    ensures noted { Touches (touched_in file.Copy [] pages.old.output result) pages.old.end pages.new.end
+        (H.files host.old) (H.files host.new) }
 {
     if pages.output_name().is_none() {
         return Err(Halt::Code(Code::Nfo));
@@ -161,6 +180,8 @@ pub fn exit<T: TextStore, H: Host>(
     ensures exits { Together (λ old new. CopiesAll old new (Ok (model.exit old)) result)
         editor.old pages.old editor.new pages.new (H.files host.old) (H.files host.new) }
     ensures counted { Counts result (H.failures host.old) (H.failures host.new) }
+    ensures noted { Touches (touched_in file.Exit [] pages.old.output result) pages.old.end pages.new.end
+        (H.files host.old) (H.files host.new) }
 {
     if pages.output_name().is_none() {
         return Ok(());

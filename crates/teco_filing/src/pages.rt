@@ -1,8 +1,9 @@
 //! Pages that are read and written.
-ghost use Rattle.std.specs.Prelude.{◌≡◌, ◌++◌, Ok, None, IsSome};
+ghost use Rattle.std.specs.Prelude.{◌≡◌, ◌++◌, [], Ok, None, IsSome};
 ghost use Rattle.teco_model.specs.Pages.{written_page};
 ghost use Rattle.teco_model.specs.Paging as model;
 ghost use Rattle.teco_model.specs.State.{Kept};
+ghost use Rattle.teco_pages.specs.Noting.{Touches};
 ghost use Rattle.teco_filing.specs.Halts.{Counts};
 ghost use Rattle.teco_filing.specs.Worlds.{PutsOut, Reads, Together, Turns, Writes, TellsUnread, with_typed};
 
@@ -21,6 +22,8 @@ pub fn yank<T: TextStore, H: Host>(
     ensures reads { Together (λ old new. Reads old new (model.yank old) result)
         editor.old pages.old editor.new pages.new (H.files host.old) (H.files host.new) }
     ensures counted { Counts result (H.failures host.old) (H.failures host.new) }
+    ensures noted { Touches [] pages.old.end pages.new.end
+        (H.files host.old) (H.files host.new) }
 {
     if pages.input_name().is_none() {
         return Err(Halt::Code(Code::Nfi));
@@ -45,6 +48,8 @@ pub fn append<T: TextStore, H: Host>(
     ensures reads { Together (λ old new. Reads old new (model.append old) result)
         editor.old pages.old editor.new pages.new (H.files host.old) (H.files host.new) }
     ensures counted { Counts result (H.failures host.old) (H.failures host.new) }
+    ensures noted { Touches [] pages.old.end pages.new.end
+        (H.files host.old) (H.files host.new) }
 {
     if pages.input_name().is_none() {
         return Err(Halt::Code(Code::Nfi));
@@ -67,6 +72,8 @@ pub fn has_unread<H: Host>(pages: &mut Pages, host: &mut H) -> Result<bool, Halt
         kept pages.old kept pages.new (H.files host.old) (H.files host.new) }
     ensures output { pages.new.output ≡ pages.old.output }
     ensures counted { Counts result (H.failures host.old) (H.failures host.new) }
+    ensures noted { Touches [] pages.old.end pages.new.end
+        (H.files host.old) (H.files host.new) }
 {
     if pages.input_name().is_none() {
         return Ok(false);
@@ -91,6 +98,8 @@ fn turn_to_nothing<T: TextStore, H: Host>(
         (model.page_turned (model.world_seeking text.now old)) result)
         editor.old pages.now editor.new pages.now (H.files host.old) (H.files host.new) }
     ensures counted { Counts result (H.failures host.old) (H.failures host.new) }
+    ensures noted { Touches [] pages.now.end pages.now.end
+        (H.files host.old) (H.files host.new) }
 {
     look_through(editor, pages, text, &[], host)
 }
@@ -108,6 +117,8 @@ pub fn turn_page<T: TextStore, H: Host>(
         (model.page_turned (model.world_seeking text.now old)) result)
         editor.old pages.old editor.new pages.new (H.files host.old) (H.files host.new) }
     ensures counted { Counts result (H.failures host.old) (H.failures host.new) }
+    ensures noted { Touches [] pages.old.end pages.new.end
+        (H.files host.old) (H.files host.new) }
 {
     if pages.input_name().is_none() {
         return turn_to_nothing(editor, pages, text, host);
@@ -136,6 +147,8 @@ pub fn look_through<T: TextStore, H: Host>(
         result)
         editor.old pages.now editor.new pages.now (H.files host.old) (H.files host.new) }
     ensures counted { Counts result (H.failures host.old) (H.failures host.new) }
+    ensures noted { Touches [] pages.now.end pages.now.end
+        (H.files host.old) (H.files host.new) }
 {
     Ok(editor.look_through(text, message, pages, host)?)
 }
@@ -148,9 +161,11 @@ fn put_out<H: Host>(
     form_feed: bool,
     host: &mut H,
 ) -> Result<(), Halt>
-    ensures { PutsOut (written_page (record { text = first.now ++ second.now; ff = form_feed }))
+    ensures put_out { PutsOut (written_page (record { text = first.now ++ second.now; ff = form_feed }))
         result
         (H.files host.old) (H.files host.new) (H.failures host.old) (H.failures host.new) }
+    ensures noted { Touches [] pages.now.end pages.now.end
+        (H.files host.old) (H.files host.new) }
 {
     Ok(pages.write_page(first, second, form_feed, host)?)
 }
@@ -163,8 +178,10 @@ fn put_text_out<H: Host>(
     second: &[u8],
     host: &mut H,
 ) -> Result<(), Halt>
-    ensures { PutsOut (first.now ++ second.now) result
+    ensures put_out { PutsOut (first.now ++ second.now) result
         (H.files host.old) (H.files host.new) (H.failures host.old) (H.failures host.new) }
+    ensures noted { Touches [] pages.now.end pages.now.end
+        (H.files host.old) (H.files host.new) }
 {
     put_out(pages, first, second, false, host)
 }
@@ -179,6 +196,8 @@ pub fn write_page<T: TextStore, H: Host>(
     ensures writes { Together (λ old new. Writes old new (model.page_written old) result)
         editor.now pages.now editor.now pages.now (H.files host.old) (H.files host.new) }
     ensures counted { Counts result (H.failures host.old) (H.failures host.new) }
+    ensures noted { Touches [] pages.now.end pages.now.end
+        (H.files host.old) (H.files host.new) }
 {
     let (first, second) = editor.text();
     put_out(pages, first, second, true, host)
@@ -196,6 +215,8 @@ pub fn write_range<T: TextStore, H: Host>(
     ensures writes { Together (λ old new. Writes old new (model.range_written m n old) result)
         editor.now pages.now editor.now pages.now (H.files host.old) (H.files host.new) }
     ensures counted { Counts result (H.failures host.old) (H.failures host.new) }
+    ensures noted { Touches [] pages.now.end pages.now.end
+        (H.files host.old) (H.files host.new) }
 {
     let (first, second) = editor.range_text(m, n)?;
     put_text_out(pages, first, second, host)

@@ -20,4 +20,5 @@ pub mod Ways
 pub mod Stacked
 pub mod Steps
 pub mod Stopped
+pub mod Touched
 pub mod Unread

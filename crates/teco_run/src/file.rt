@@ -5,9 +5,11 @@ ghost use Rattle.teco_model.specs.Outside.{file_reply, filed};
 ghost use Rattle.teco_model.specs.State.{Frame};
 ghost use Rattle.teco_model.specs.declared.kind.Kind.TheVariants as kind;
 ghost use Rattle.teco_filing.specs.Halts.{Counts};
+ghost use Rattle.teco_filing.specs.Touched.{touched_in};
 ghost use Rattle.teco_run.specs.Holdings.{Joined};
 ghost use Rattle.teco_run.specs.Pending.{Pending};
 ghost use Rattle.teco_run.specs.Replies.{Answers, IsStraight};
+ghost use Rattle.teco_run.specs.Touched.{TouchesBetween};
 
 use crate::course::{Course, then};
 use crate::desk::Desk;
@@ -29,6 +31,8 @@ fn use_name<T: TextStore, H: Host>(
         (filed file name.now pending.left pending.arguments old) old new result)
         desk.old desk.new (H.files host.old) (H.files host.new) }
     ensures counted { Counts result (H.failures host.old) (H.failures host.new) }
+    ensures noted { TouchesBetween (touched_in file name.now desk.old.held.output result)
+        desk.old desk.new (H.files host.old) (H.files host.new) }
     ensures straight { IfOk result IsStraight }
 {
     match file {
@@ -58,6 +62,8 @@ pub fn use_file<T: TextStore, H: Host>(
         (file_reply file name.now pending.old.left pending.old.arguments old) old new result)
         desk.old desk.new (H.files host.old) (H.files host.new) }
     ensures counted { Counts result (H.failures host.old) (H.failures host.new) }
+    ensures noted { TouchesBetween (touched_in file name.now desk.old.held.output result)
+        desk.old desk.new (H.files host.old) (H.files host.new) }
     ensures straight { IfOk result IsStraight }
 {
     pending.take()?;

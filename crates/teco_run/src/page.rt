@@ -1,5 +1,5 @@
 //! The commands of pages.
-ghost use Rattle.std.specs.Prelude.{◌≡◌, ◌≤◌, ⊤, true, None, IsSome, IfOk, MatchOption, MatchResult};
+ghost use Rattle.std.specs.Prelude.{◌≡◌, ◌≤◌, ⊤, true, None, IsSome, IfOk, MatchOption, MatchResult, []};
 ghost use Rattle.teco_base.specs.declared.code.Code.TheVariants as code;
 ghost use Rattle.teco_model.specs.Memory.{reads_page, taken_at};
 ghost use Rattle.teco_model.specs.Outside.{in_pages, page_reply, pages_reply};
@@ -10,6 +10,7 @@ ghost use Rattle.teco_model.specs.declared.kind.Page.TheVariants as page_kind;
 ghost use Rattle.teco_filing.specs.Halts.{Counts};
 ghost use Rattle.teco_run.specs.Holdings.{Joined};
 ghost use Rattle.teco_run.specs.Replies.{Answers, IsNoRange, IsStraight, IsWritten, Works, page_done, reads_one};
+ghost use Rattle.teco_run.specs.Touched.{TouchesBetween};
 
 use crate::course::{Course, then};
 use crate::desk::Desk;
@@ -50,6 +51,7 @@ fn one_page<T: TextStore, H: Host>(desk: &mut Desk<T>, page: Page, host: &mut H)
         (page_done page old) old new result)
         desk.old desk.new (H.files host.old) (H.files host.new) }
     ensures counted { Counts result (H.failures host.old) (H.failures host.new) }
+    ensures noted { TouchesBetween [] desk.old desk.new (H.files host.old) (H.files host.new) }
 {
     match page {
         Page::Yank => filing::yank(&mut desk.editor, &mut desk.pages, host),
@@ -70,6 +72,7 @@ fn yank<T: TextStore, H: Host>(
         (page_reply page_kind.Yank pending.old.left pending.old.arguments old) old new result)
         desk.old desk.new (H.files host.old) (H.files host.new) }
     ensures counted { Counts result (H.failures host.old) (H.failures host.new) }
+    ensures noted { TouchesBetween [] desk.old desk.new (H.files host.old) (H.files host.new) }
     ensures straight { IfOk result IsStraight }
 {
     pending.take()?;
@@ -88,6 +91,7 @@ fn append<T: TextStore, H: Host>(
         (page_reply page_kind.Append pending.old.left pending.old.arguments old) old new result)
         desk.old desk.new (H.files host.old) (H.files host.new) }
     ensures counted { Counts result (H.failures host.old) (H.failures host.new) }
+    ensures noted { TouchesBetween [] desk.old desk.new (H.files host.old) (H.files host.new) }
     ensures straight { IfOk result IsStraight }
 {
     let Some(n) = pending.take()?.value else {
@@ -111,6 +115,7 @@ fn one_of<T: TextStore, H: Host>(
         (in_pages pending.old.arguments (model.one_page_of (page_done page) n old)) old new result)
         desk.old desk.new (H.files host.old) (H.files host.new) }
     ensures counted { Counts result (H.failures host.old) (H.failures host.new) }
+    ensures noted { TouchesBetween [] desk.old desk.new (H.files host.old) (H.files host.new) }
     ensures straight { IfOk result IsStraight }
 {
     need_output(&desk.pages)?;
@@ -142,6 +147,7 @@ fn first_of<T: TextStore, H: Host>(
         (model.pages_of (page_done page) taken.first taken.value old)) old new result)
         desk.old desk.new (H.files host.old) (H.files host.new) }
     ensures counted { Counts result (H.failures host.old) (H.failures host.new) }
+    ensures noted { TouchesBetween [] desk.old desk.new (H.files host.old) (H.files host.new) }
     ensures straight { IfOk result IsStraight }
 {
     if let Some((m, n)) = range(taken) {
@@ -165,6 +171,7 @@ fn write_pages<T: TextStore, H: Host>(
         (pages_reply (page_done page) pending.old.left pending.old.arguments old) old new result)
         desk.old desk.new (H.files host.old) (H.files host.new) }
     ensures counted { Counts result (H.failures host.old) (H.failures host.new) }
+    ensures noted { TouchesBetween [] desk.old desk.new (H.files host.old) (H.files host.new) }
     ensures straight { IfOk result IsStraight }
 {
     if let Some(n) = pending.left() {
@@ -188,6 +195,7 @@ pub fn turn_pages<T: TextStore, H: Host>(
         (page_reply page pending.old.left pending.old.arguments old) old new result)
         desk.old desk.new (H.files host.old) (H.files host.new) }
     ensures counted { Counts result (H.failures host.old) (H.failures host.new) }
+    ensures noted { TouchesBetween [] desk.old desk.new (H.files host.old) (H.files host.new) }
     ensures straight { IfOk result IsStraight }
 {
     match page {

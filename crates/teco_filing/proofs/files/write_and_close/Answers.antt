@@ -1,3 +1,5 @@
+use Rattle.std.proofs.Common.{[]}
+use Rattle.teco_pages.proofs.Touching.{touches-on}
 use Rattle.teco_filing.proofs.Written.{closes-all, drops-all}
 use Rattle.teco_filing.proofs.files.write_and_close.Goals as goal
 
@@ -8,3 +10,9 @@ returns-in-Ok-clause-closed g c =
 pub returns-in-Err-clause-closed : goal.returns-in-Err-clause-closed
 returns-in-Err-clause-closed g c =
     drops-all c.args.editor.now c.args.pages.now c.in-Err.fault _ _ _ c.in-Err.ensures.written c.drop_out.ensures.files
+
+pub returns-in-Ok-clause-noted : goal.returns-in-Ok-clause-noted
+returns-in-Ok-clause-noted g c = touches-on [] _ _ _ _ _ _ _ c.write_all.ensures.noted c.close_out.ensures.noted
+
+pub returns-in-Err-clause-noted : goal.returns-in-Err-clause-noted
+returns-in-Err-clause-noted g c = touches-on [] _ _ _ _ _ _ _ c.write_all.ensures.noted c.drop_out.ensures.noted

@@ -4,6 +4,7 @@ use Rattle.std.specs.Prelude.{IsSome}
 use Rattle.teco_model.specs.Pages.{Page}
 use Rattle.teco_pages.specs.Held.{Held, unread_bytes}
 use Rattle.teco_filing.specs.Halts.{halt_of}
+use Rattle.teco_pages.proofs.Touching.{touches-more}
 use Rattle.teco_filing.proofs.Turned.{turn-stopped, turned}
 use Rattle.teco_filing.proofs.pages.turn_page.Goals as goal
 
@@ -29,3 +30,11 @@ returns-clause-turns g c =
     c.take_over.new.self page _ _ _ ready (ap (λ (h : Held). h.input) accepted) (ap (λ (h : Held). h.output) accepted)
     (λ files. ap (λ h. unread_bytes h files) c.take_over.ensures ∙ c.take_page.ensures.rest some files)
     c.in_ok-next_page.ensures.page c.in_ok-write_page.ensures.out.0)
+
+pub returns-in_err-write_page-clause-noted : goal.returns-in_err-write_page-clause-noted
+returns-in_err-write_page-clause-noted g c = touches-more _ _ _ _ _ _ c.next_page.ensures.noted c.write_page.ensures.noted
+
+pub returns-clause-noted : goal.returns-clause-noted
+returns-clause-noted g c =
+    let same : c.take_over.new.self.end ≡ c.next_page.new.self.end = ap (λ (h : Held). h.end) (c.take_over.ensures ∙ c.take_page.ensures.accepted) in
+    rw same (touches-more _ _ _ _ _ _ c.next_page.ensures.noted c.write_page.ensures.noted)

@@ -1,9 +1,9 @@
-use Rattle.std.proofs.Common.{rules, w32}
+use Rattle.std.proofs.Common.{refl, rules, w32}
 use Rattle.std.proofs.lemmas.Int.{to_z-of_z}
 use Rattle.teco_model.specs.Paging as model
 use Rattle.teco_pages.specs.Held.{IsSameOutput}
 use Rattle.teco_pages.proofs.Told.{told-same}
-use Rattle.teco_filing.proofs.Turned.{range-written}
+use Rattle.teco_filing.proofs.Turned.{is-written}
 use Rattle.teco_filing.specs.Worlds.{Writes, world}
 use Rattle.teco_filing.proofs.pages.write_range.Goals as goal
 
@@ -18,4 +18,5 @@ returns-in_err-first-clause-writes g c =
 pub returns-clause-writes : goal.returns-clause-writes
 returns-clause-writes g c =
     let text = rw (to_z-of_z w32 c.args.m (search rules), to_z-of_z w32 c.args.n (search rules)) at c.in_ok-first.ensures in
-    range-written c.args.editor.now c.args.pages.now c.args.m c.args.n _ c.put_text_out.result _ _ _ _ text c.put_text_out.ensures
+    let held = c.args.pages.now in
+    is-written c.args.editor.now held (model.range_written c.args.m c.args.n) _ (λ files. rw text refl) c.put_text_out.result _ _ _ _ c.put_text_out.ensures.put_out
