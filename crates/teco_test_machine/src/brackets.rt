@@ -1,28 +1,16 @@
 //! Sessions with brackets ten thousand deep.
-use super::trial::{Given, expect_given, part_before, row_of};
+use super::trial::{Given, expect_given, part_before};
 use std::alloc::{AllocError, Global};
 use std::process::Abort;
 use std::test::Fail;
 
-// What opens, ten thousand times, then what stands inside, then what closes, and then the end.
-fn nested(
-    alloc: Global,
-    (open, inside, close): (&str, &str, &str),
-    end: &[u8],
-) -> Result<Vec<u8>, AllocError> {
-    let mut input: Vec<u8> = Vec::new(alloc);
-    for _ in 0..10_000 {
-        input.extend_from_slice(open.as_bytes())?;
-    }
-    input.extend_from_slice(inside.as_bytes())?;
-    for _ in 0..10_000 {
-        input.extend_from_slice(close.as_bytes())?;
-    }
-    input.extend_from_slice(end)?;
-    Ok(input)
+// Ten thousand times the first of four parts, the second, ten thousand times the third, and the fourth.
+fn nested(alloc: Global, [open, inside, close, end]: [&str; 4]) -> Result<String, AllocError> {
+    let (open, close) = (open.repeat(alloc, 10_000)?, close.repeat(alloc, 10_000)?);
+    format!(in alloc; "{open}{inside}{close}{end}")
 }
 
-/// What comes of it, what opens, what stands inside, what closes, the end, and what is written.
+/// What comes of a session, what opens, what stands inside, what closes, the end, and what is written.
 const NESTED: &[&str] = &[
     // brackets are entered
     "done 1< 2= > \x1b\x1b => 2\r\n",
@@ -45,26 +33,25 @@ const NESTED: &[&str] = &[
     "done  0< : =>1=\x1b\x1b => 1\r\n",
 ];
 
-fn expect_nest(rt: &impl Abort, alloc: Global, line: &str) -> Result<(), Fail> {
+fn expect_nest(rt: &(impl Abort + AllocGlobal), line: &str) -> Result<(), Fail> {
     let mut rest = line;
     let outcome = part_before(&mut rest, " ");
     let open = part_before(&mut rest, " ");
     let inside = part_before(&mut rest, " ");
     let close = part_before(&mut rest, " ");
-    let row = row_of(rest);
-    let parts = (open, inside, close);
-    let input = match nested(alloc, parts, row.input) {
+    let parts = [open, inside, close, part_before(&mut rest, " => ")];
+    let input = match nested(rt.alloc(), parts) {
         Ok(input) => input,
-        Err(_) => nested(alloc, parts, row.input)?,
+        Err(_) => nested(rt.alloc(), parts)?,
     };
-    expect_given(rt, alloc, Given::whole(&input), row.written, outcome, line);
+    expect_given(rt, Given::whole(input.as_bytes()), outcome, line);
     Ok(())
 }
 
 #[test]
 fn nested_brackets_are_entered_skipped_and_left(rt: HostRuntime) -> Result<(), Fail> {
     for line in NESTED {
-        expect_nest(&rt, rt.alloc(), line)?;
+        expect_nest(&rt, line)?;
     }
     Ok(())
 }

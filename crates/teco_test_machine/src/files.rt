@@ -5,7 +5,6 @@ ghost use Rattle.std.specs.Prelude.{◌<◌};
 use super::trial::{Given, Ran, STORES, Store, expect, run_over};
 use std::alloc::{AllocError, Global};
 use std::process::Abort;
-use std::test::Fail;
 use teco_pages::{HostCall, MemHost, TestHost};
 
 /// What the file `in` has, the input of the session, what is written, what it comes to, and what
@@ -18,26 +17,16 @@ type FileRow = (
     Option<&'static [u8]>,
 );
 
-const TWO_PAGES: &[u8] = b"ab\x0ccd";
+const TWO: &[u8] = b"ab\x0ccd";
 
-const THREE_PAGES: &[u8] = b"ab\x0ccd\x0cef";
+const THREE: &[u8] = b"ab\x0ccd\x0cef";
 
 /// A file that is copied, while pages are turned or looked through, and what is typed.
 const COPIED: &[(&[u8], &str)] = &[
-    (TWO_PAGES, "ERin\x1bEWout\x1bYHTPHTEC\x1b\x1b => abcd"),
-    (
-        THREE_PAGES,
-        "ERin\x1bEWout\x1bYNe\x1b.=HTEC\x1b\x1b => 1\r\nef",
-    ),
-    (TWO_PAGES, "ERin\x1bEWout\x1b2PEC\x1b\x1b => "),
+    (TWO, "ERin\x1bEWout\x1bYHTPHTEC\x1b\x1b => abcd"),
+    (THREE, "ERin\x1bEWout\x1bYNe\x1b.=HTEC\x1b\x1b => 1\r\nef"),
+    (TWO, "ERin\x1bEWout\x1b2PEC\x1b\x1b => "),
 ];
-
-// A host that has the file `in`.
-fn host_with(alloc: Global, bytes: &[u8]) -> Result<MemHost, AllocError> {
-    let mut mem = MemHost::new(alloc);
-    mem.put(b"in", bytes)?;
-    Ok(mem)
-}
 
 // How a host moves bytes, and which call fails: the nth of a kind, or none.
 #[derive(Clone, Copy)]
@@ -48,41 +37,40 @@ struct Moves {
     ghost some: { 0 < piece },
 }
 
-// A session over a host that has a file `in` and may have a file `out`, and what the host has then.
-fn run_files(
-    alloc: Global,
-    store: Store,
-    moves: Moves,
-    files: (&[u8], Option<&[u8]>),
-    input: &[u8],
-) -> Result<(TestHost, Ran), AllocError> {
-    let mut mem = host_with(alloc, files.0)?;
-    if let Some(out) = files.1 {
+fn moving(piece: usize, call: HostCall, nth: u64) -> Moves
+    requires { 0 < piece }
+{
+    Moves { piece, call, nth }
+}
+
+// What is left of a session over a host with some files.
+type Left = Result<(TestHost, Ran), AllocError>;
+
+// The session of a row over a host that has the file `in` and may have a file `out`.
+fn run_files(alloc: Global, store: Store, moves: Moves, row: FileRow, out: Option<&[u8]>) -> Left {
+    let mut mem = MemHost::new(alloc);
+    mem.put(b"in", row.0)?;
+    if let Some(out) = out {
         mem.put(b"out", out)?;
     }
     let mut host = TestHost::new(mem, moves.piece, moves.call, moves.nth);
-    let ran = run_over(alloc, store, &mut host, Given::whole(input), (b"", 0));
+    let given = Given::whole(row.1.as_bytes());
+    let ran = run_over(alloc, store, &mut host, given, (b"", 0));
     Ok((host, ran))
 }
 
-// The session once more where it does not write what it is to, and a growth may have been refused.
-fn run_files_steady(
-    alloc: Global,
-    store: Store,
-    moves: Moves,
-    files: (&[u8], Option<&[u8]>),
-    example: (&[u8], &[u8]),
-) -> Result<(TestHost, Ran), AllocError> {
-    let (input, written) = example;
-    match run_files(alloc, store, moves, files, input) {
-        Ok((host, ran)) if ran.written.as_slice() == written || !ran.may_be_refused() => {
+// The session of a row, run once more where it does not write what it is to, and a growth may have been
+// refused.
+fn run_row(alloc: Global, store: Store, moves: Moves, row: FileRow) -> Left {
+    match run_files(alloc, store, moves, row, None) {
+        Ok((host, ran)) if ran.written.as_slice() == row.2 || !ran.may_be_refused() => {
             Ok((host, ran))
         }
-        _ => run_files(alloc, store, moves, files, input),
+        _ => run_files(alloc, store, moves, row, None),
     }
 }
 
-// Is what is written, what it comes to, and what the files have as the row says?
+// Is what is written, what comes of the session, and what the files have as the row says?
 fn is_as_told(host: &TestHost, ran: &Ran, row: FileRow) -> bool {
     let (bytes, _, written, outcome, out) = row;
     let mem = host.mem();
@@ -90,19 +78,14 @@ fn is_as_told(host: &TestHost, ran: &Ran, row: FileRow) -> bool {
 }
 
 // Runs the session of a row over both stores and a host that moves bytes so.
-fn expect_moves(
-    rt: &impl Abort,
-    alloc: Global,
-    moves: Moves,
-    row: FileRow,
-) -> Result<(), AllocError> {
-    let (bytes, input, written, _, _) = row;
+fn expect_moves(rt: &(impl Abort + AllocGlobal), moves: Moves, row: FileRow) {
     for store in STORES.iter() {
-        let example = (input.as_bytes(), written);
-        let (host, ran) = run_files_steady(alloc, *store, moves, (bytes, None), example)?;
-        expect(rt, is_as_told(&host, &ran, row), input, *store);
+        let is_so = match run_row(rt.alloc(), *store, moves, row) {
+            Ok((host, ran)) => is_as_told(&host, &ran, row),
+            Err(AllocError) => false,
+        };
+        expect(rt, is_so, row.1, *store);
     }
-    Ok(())
 }
 
 /// Pages that are turned and typed, and what was open is closed; a page that is read once more; and an
@@ -113,40 +96,24 @@ const READ_ON: &str = "ERin\x1bY\x1b\x1bYHT\x1b\x1b";
 
 const DROPPED: &str = "EWout\x1bIa\x1bPWEK\x1b\x1bEF\x1b\x1b";
 
-/// Which call of a host fails, and the how manieth, and what of a session of two pages is written then.
-const FAILING: &[(HostCall, u64, &str, &[u8], Option<&[u8]>)] = &[
-    (HostCall::OpenIn, 1, TURNED, b"?FNF\r\n?NFO\r\n", None),
-    (HostCall::Read, 1, TURNED, b"?INP\r\n", Some(b"")),
-    (HostCall::OpenOut, 1, TURNED, b"?OUT\r\n?NFO\r\n", None),
-    (HostCall::Write, 1, TURNED, b"ab?OUT\r\n", Some(b"")),
-    (HostCall::CloseOut, 1, TURNED, b"abcd?OUT\r\n?NFO\r\n", None),
-    (
-        HostCall::DropOut,
-        1,
-        TURNED,
-        b"abcd?NFO\r\n",
-        Some(TWO_PAGES),
-    ),
-    (HostCall::Read, 1, READ_ON, b"?INP\r\nab", None),
-    (HostCall::DropOut, 1, DROPPED, b"?OUT\r\n?NFO\r\n", None),
+/// Which call of a host fails first, what of a session of two pages is written then, and the file `out`.
+const FAILING: &[(HostCall, &str, &[u8], Option<&[u8]>)] = &[
+    (HostCall::OpenIn, TURNED, b"?FNF\r\n?NFO\r\n", None),
+    (HostCall::Read, TURNED, b"?INP\r\n", Some(b"")),
+    (HostCall::OpenOut, TURNED, b"?OUT\r\n?NFO\r\n", None),
+    (HostCall::Write, TURNED, b"ab?OUT\r\n", Some(b"")),
+    (HostCall::CloseOut, TURNED, b"abcd?OUT\r\n?NFO\r\n", None),
+    (HostCall::DropOut, TURNED, b"abcd?NFO\r\n", Some(TWO)),
+    (HostCall::Read, READ_ON, b"?INP\r\nab", None),
+    (HostCall::DropOut, DROPPED, b"?OUT\r\n?NFO\r\n", None),
 ];
 
 #[test]
-fn a_host_fails_and_the_session_goes_on(rt: HostRuntime) -> Result<(), Fail> {
-    for (call, nth, input, written, out) in FAILING {
-        let moves = Moves {
-            piece: 4096,
-            call: *call,
-            nth: *nth,
-        };
-        expect_moves(
-            &rt,
-            rt.alloc(),
-            moves,
-            (TWO_PAGES, *input, *written, "coded", *out),
-        )?;
+fn a_host_fails_and_the_session_goes_on(rt: HostRuntime) {
+    for (call, input, written, out) in FAILING {
+        let moves = moving(4096, *call, 1);
+        expect_moves(&rt, moves, (TWO, *input, *written, "coded", *out));
     }
-    Ok(())
 }
 
 /// Empty pages, of which the first read gives 4,096.
@@ -154,15 +121,10 @@ const FORM_FEEDS: &[u8] = &[0x0c; 5000];
 
 // No more is read than what the page needs, so a fault behind it does not come.
 #[test]
-fn a_page_is_read_no_further(rt: HostRuntime) -> Result<(), Fail> {
-    let moves = Moves {
-        piece: 4096,
-        call: HostCall::Read,
-        nth: 2,
-    };
+fn a_page_is_read_no_further(rt: HostRuntime) {
+    let moves = moving(4096, HostCall::Read, 2);
     let row: FileRow = (FORM_FEEDS, "ERin\x1bYHT1=\x1b\x1b", b"1\r\n", "done", None);
-    expect_moves(&rt, rt.alloc(), moves, row)?;
-    Ok(())
+    expect_moves(&rt, moves, row);
 }
 
 // The code line for a call that fails.
@@ -174,7 +136,7 @@ fn line_of(call: HostCall) -> &'static [u8] {
     }
 }
 
-// Is it a part of what is typed, from the front, and then a line?
+// Is what is written a part of what is typed, from the front, and then a line?
 fn is_cut_short(written: &[u8], typed: &[u8], line: &[u8]) -> bool {
     match written.strip_suffix(line) {
         Some(front) => typed.starts_with(front),
@@ -199,36 +161,24 @@ fn fails_well(host: &TestHost, ran: &Ran, row: FileRow, call: HostCall) -> bool 
 // Does the session of a row fail well where a call of the host fails and a file `out` is there
 // already?
 fn fails_as_told(alloc: Global, row: FileRow, moves: Moves) -> bool {
-    let files = (row.0, Some(b"old".as_slice()));
-    match run_files(alloc, Store::Gap, moves, files, row.1.as_bytes()) {
+    match run_files(alloc, Store::Gap, moves, row, Some(b"old")) {
         Ok((host, ran)) => fails_well(&host, &ran, row, moves.call),
         Err(_) => false,
     }
 }
 
-// The host fails as the row says, the second time at the latest: a growth may be refused the first
-// time.
-fn expect_failure(
-    rt: &impl Abort,
-    alloc: Global,
-    row: FileRow,
-    piece: usize,
-    call: HostCall,
-    nth: u64,
-)
-    requires { 0 < piece }
-{
-    let moves = Moves { piece, call, nth };
-    let is_well = fails_as_told(alloc, row, moves) || fails_as_told(alloc, row, moves);
-    assert!(rt; is_well, "{}: call {nth}", row.1);
+// A host fails as a row says, the second time at the latest: a growth may be refused the first time.
+fn expect_failure(rt: &(impl Abort + AllocGlobal), row: FileRow, moves: Moves) {
+    let is_well = fails_as_told(rt.alloc(), row, moves) || fails_as_told(rt.alloc(), row, moves);
+    assert!(rt; is_well, "{}: call {}", row.1, moves.nth);
 }
 
-// Each of the first calls of each kind fails in turn.
-fn expect_failures(rt: &impl Abort, alloc: Global, row: FileRow) {
-    for (call, _, _, _, _) in FAILING {
+// Each of the first calls of each kind fails in turn, by hosts that move a byte in a call and all.
+fn expect_failures(rt: &(impl Abort + AllocGlobal), row: FileRow) {
+    for (call, _, _, _) in FAILING {
         for nth in 1..=16 {
-            expect_failure(rt, alloc, row, 1, *call, nth);
-            expect_failure(rt, alloc, row, 4096, *call, nth);
+            expect_failure(rt, row, moving(1, *call, nth));
+            expect_failure(rt, row, moving(4096, *call, nth));
         }
     }
 }
@@ -239,6 +189,6 @@ fn every_call_fails_in_turn(rt: HostRuntime) {
         let line: &'static str = line;
         let (input, typed) = line.split_once(" => ").unwrap_or((line, ""));
         let row = (*bytes, input, typed.as_bytes(), "done", Some(*bytes));
-        expect_failures(&rt, rt.alloc(), row);
+        expect_failures(&rt, row);
     }
 }

@@ -10,7 +10,7 @@ use teco_text::{TextStore, VecText};
 
 // What was heard: how many strings stopped, the length of the last, its steps and its site; and the
 // code of a rest.
-#[derive(Clone, Copy, PartialEq)]
+#[derive(Clone, Copy, Default, PartialEq)]
 struct Notes {
     strings: usize,
     length: usize,
@@ -18,14 +18,6 @@ struct Notes {
     site: Option<Site>,
     rest: Option<Code>,
 }
-
-const NOTHING: Notes = Notes {
-    strings: 0,
-    length: 0,
-    steps: 0,
-    site: None,
-    rest: None,
-};
 
 impl<H: Host> Listener<H> for Notes {
     fn stopped<T: TextStore>(
@@ -55,22 +47,15 @@ fn hear(
     let mut machine = Machine::new(alloc, VecText::new(alloc));
     let mut reader = input;
     let mut written = Vec::new(alloc);
-    let mut notes = NOTHING;
+    let mut notes = Notes::default();
     let limits = Limits {
         steps: 100,
         length: LIMIT,
     };
     let conduct = Conduct { limits, until_code };
     let mut host = MemHost::new(alloc);
-    let done = session_heard(
-        alloc,
-        &mut machine,
-        &mut reader,
-        &mut written,
-        &mut host,
-        conduct,
-        &mut notes,
-    );
+    let (on, from, to, files) = (&mut machine, &mut reader, &mut written, &mut host);
+    let done = session_heard(alloc, on, from, to, files, conduct, &mut notes);
     (done, written, notes)
 }
 
@@ -99,32 +84,21 @@ fn is_heard(alloc: Global, line: &str) -> bool {
     let strings = number_of(&mut rest) as usize;
     let length = number_of(&mut rest) as usize;
     let steps = number_of(&mut rest);
-    let place = number_of(&mut rest) as usize;
-    let code = if number_of(&mut rest) == 1 {
-        Some(Code::Utc)
-    } else {
-        None
-    };
-    let row = row_of(rest);
     let site = Site {
         register: None,
-        place,
+        place: number_of(&mut rest) as usize,
     };
     let wanted = Notes {
         strings,
         length,
         steps,
-        site: if strings == 0 { None } else { Some(site) },
-        rest: code,
+        site: (strings > 0).then_some(site),
+        rest: (number_of(&mut rest) == 1).then_some(Code::Utc),
     };
+    let row = row_of(rest);
     let (done, written, found) = hear(alloc, row.input, until_code);
-    match done {
-        Ok(done) => {
-            let is_so = done.coded == is_coded && done.exit == is_exit && found == wanted;
-            is_so && written.as_slice() == row.written
-        }
-        Err(_) => false,
-    }
+    let is_done = matches!(done, Ok(done) if done.coded == is_coded && done.exit == is_exit);
+    is_done && found == wanted && written.as_slice() == row.written
 }
 
 #[test]

@@ -1,5 +1,5 @@
 //! Sessions whose reads and writes fail, or end in the midst of what is read.
-use super::trial::{Given, Row, STEPS, expect_given, has, number_of, part_before, row_of, word};
+use super::trial::{Given, STEPS, expect_given, has, number_of, part_before, row_of, word};
 use std::alloc::{AllocError, Global};
 use std::io;
 use std::io::{ErrorKind, Read, Write};
@@ -84,25 +84,29 @@ const FAILED: &[&str] = &[
     "99 5 write 1=\x1b\x1b2= => 1\r\n?U",
 ];
 
-// Does a session whose reads and writes fail once, after so many, come to what its row says, write it
-// and leave it? Without a kind the write takes nothing.
-fn is_slow(
-    alloc: Global,
-    before: (u64, u64),
-    kinds: (ErrorKind, Option<ErrorKind>),
-    row: Row<'static>,
-    outcome: &str,
-) -> bool {
+/// How many reads and writes do well before the one that fails, and how those fail. Without a kind
+/// a write takes nothing.
+#[derive(Clone, Copy)]
+struct Faults {
+    reads: u64,
+    writes: u64,
+    of_read: ErrorKind,
+    of_write: Option<ErrorKind>,
+}
+
+// Does a session with these faults come to an outcome, and write and leave what its line says?
+fn is_slow(alloc: Global, faults: Faults, line: &'static str, outcome: &str) -> bool {
+    let row = row_of(line);
     let mut machine = Machine::new(alloc, VecText::new(alloc));
     let mut reader = SlowReader {
         bytes: row.input,
-        before: Some(before.0),
-        kind: kinds.0,
+        before: Some(faults.reads),
+        kind: faults.of_read,
     };
     let mut writer = SlowWriter {
         bytes: Vec::new(alloc),
-        before: Some(before.1),
-        kind: kinds.1,
+        before: Some(faults.writes),
+        kind: faults.of_write,
     };
     let mut host = MemHost::new(alloc);
     let (from, to) = (&mut reader, &mut writer);
@@ -111,65 +115,64 @@ fn is_slow(
     is_written && has(&machine, row.text, row.pointer)
 }
 
-// A session over a slow reader and writer comes out as the row says, the second time at the latest:
+// A session over a slow reader and writer comes out as its line says, the second time at the latest:
 // a growth may be refused the first time.
-fn expect_slow(
-    rt: &impl Abort,
-    alloc: Global,
-    before: (u64, u64),
-    kinds: (ErrorKind, Option<ErrorKind>),
-    line: &'static str,
-    outcome: &str,
-) {
-    let row = row_of(line);
-    let is_good = is_slow(alloc, before, kinds, row, outcome)
-        || is_slow(alloc, before, kinds, row, outcome);
-    let (reads, writes) = before;
+fn expect_slow(rt: &(impl Abort + AllocGlobal), faults: Faults, line: &'static str, outcome: &str) {
+    let is_good = is_slow(rt.alloc(), faults, line, outcome)
+        || is_slow(rt.alloc(), faults, line, outcome);
+    let Faults { reads, writes, .. } = faults;
     assert!(rt; is_good, "{line}: {reads} reads, {writes} writes");
 }
 
 #[test]
 fn transfers_fail(rt: HostRuntime) {
-    let broken = ErrorKind::BrokenPipe;
     for line in FAILED {
         let mut rest: &'static str = line;
-        let before = (number_of(&mut rest), number_of(&mut rest));
+        let (reads, writes) = (number_of(&mut rest), number_of(&mut rest));
         let outcome = part_before(&mut rest, " ");
-        for kind in [Some(broken), None] {
-            expect_slow(&rt, rt.alloc(), before, (broken, kind), rest, outcome);
+        for of_write in [Some(ErrorKind::BrokenPipe), None] {
+            let faults = Faults {
+                reads,
+                writes,
+                of_read: ErrorKind::BrokenPipe,
+                of_write,
+            };
+            expect_slow(&rt, faults, rest, outcome);
         }
     }
 }
 
 #[test]
 fn interruptions_are_passed(rt: HostRuntime) {
-    let again = ErrorKind::Interrupted;
     let line = "Ia\x1b1=\x1b\x1bIb\x1b2=\x1b\x1b => 1\r\n2\r\n | ab | 2";
     for n in 0..16 {
-        expect_slow(&rt, rt.alloc(), (n, n), (again, Some(again)), line, "done");
+        let faults = Faults {
+            reads: n,
+            writes: n,
+            of_read: ErrorKind::Interrupted,
+            of_write: Some(ErrorKind::Interrupted),
+        };
+        expect_slow(&rt, faults, line, "done");
     }
 }
 
-// A comment, and then two strings, the first of which ends at this length.
-fn string_of(alloc: Global, len: usize) -> Result<Vec<u8>, AllocError> {
-    let mut input: Vec<u8> = Vec::new(alloc);
-    input.push(b'!')?;
-    input.resize(len, b'a')?;
-    input.extend_from_slice(b"!1=\x1b\x1b2=\x1b\x1b")?;
-    Ok(input)
+// A comment of so many letters, and then two strings.
+fn string_of(alloc: Global, letters: usize) -> Result<String, AllocError> {
+    let comment = "a".repeat(alloc, letters)?;
+    format!(in alloc; "!{comment}!1=\x1b\x1b2=\x1b\x1b")
 }
 
 // The pair of ESC at the end of a string is behind, across and before the end of what one read
 // gives.
 #[test]
 fn reads_end_at_a_pair(rt: HostRuntime) -> Result<(), Fail> {
-    for len in CHUNK - 8..CHUNK {
-        let input = match string_of(rt.alloc(), len) {
+    for letters in CHUNK - 9..CHUNK - 1 {
+        let input = match string_of(rt.alloc(), letters) {
             Ok(input) => input,
-            Err(_) => string_of(rt.alloc(), len)?,
+            Err(_) => string_of(rt.alloc(), letters)?,
         };
-        let given = Given::whole(&input);
-        expect_given(&rt, rt.alloc(), given, b"1\r\n2\r\n", "done", "a pair");
+        let given = Given::whole(input.as_bytes());
+        expect_given(&rt, given, "done", "a pair => 1\r\n2\r\n");
     }
     Ok(())
 }
@@ -195,9 +198,8 @@ fn strings_are_capped(rt: HostRuntime) {
         input[ones..len].copy_from_slice(row.input);
         let given = Given {
             input: &input[..len],
-            steps: STEPS,
             max: 64,
         };
-        expect_given(&rt, rt.alloc(), given, row.written, outcome, line);
+        expect_given(&rt, given, outcome, line);
     }
 }

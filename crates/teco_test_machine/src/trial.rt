@@ -24,23 +24,18 @@ pub enum Store {
 /// Every row runs over each.
 pub const STORES: &[Store] = &[Store::Flat, Store::Gap];
 
-/// What a session is given.
+/// What a session is given: an input, and how long a string may be.
 #[derive(Clone, Copy)]
 pub struct Given<'a> {
     pub input: &'a [u8],
-    pub steps: u64,
     pub max: usize,
     ghost within: { max ≤ LIMIT },
 }
 
 impl<'a> Given<'a> {
-    /// An input.
+    /// An input, with strings as long as may be.
     pub fn whole(input: &'a [u8]) -> Given<'a> {
-        Given {
-            input,
-            steps: STEPS,
-            max: LIMIT,
-        }
+        Given { input, max: LIMIT }
     }
 }
 
@@ -101,15 +96,8 @@ fn run_with<T: TextStore + Drop, H: Host>(
     let mut machine = Machine::new(alloc, store);
     let mut reader = given.input;
     let mut written = Vec::new(alloc);
-    let done = session_max(
-        alloc,
-        &mut machine,
-        &mut reader,
-        &mut written,
-        host,
-        given.steps,
-        given.max,
-    );
+    let (from, to, max) = (&mut reader, &mut written, given.max);
+    let done = session_max(alloc, &mut machine, from, to, host, STEPS, max);
     Ran {
         outcome: word(done),
         written,
@@ -128,24 +116,6 @@ pub fn run_over<H: Host>(
     match store {
         Store::Flat => run_with(alloc, VecText::new(alloc), host, given, left),
         Store::Gap => run_with(alloc, GapText::new(alloc), host, given, left),
-    }
-}
-
-/// Runs a session over a store, without files. Where it does not write what it is to, or ends for
-/// want of memory, and a growth may have been refused, it runs once more.
-pub fn run_steady(
-    alloc: Global,
-    store: Store,
-    given: Given<'_>,
-    left: (&[u8], usize),
-    written: &[u8],
-) -> Ran {
-    let ran = run_over(alloc, store, &mut MemHost::new(alloc), given, left);
-    let is_other = ran.written.as_slice() != written || ran.outcome == "memory";
-    if is_other && ran.may_be_refused() {
-        run_over(alloc, store, &mut MemHost::new(alloc), given, left)
-    } else {
-        ran
     }
 }
 
@@ -191,17 +161,23 @@ pub fn expect(rt: &impl Abort, is_good: bool, line: &str, store: Store) {
     assert!(rt; is_good, "{line}, {store:?}");
 }
 
-/// A session over both stores, which has no text left.
-pub fn expect_given(
-    rt: &impl Abort,
-    alloc: Global,
-    given: Given<'_>,
-    written: &[u8],
-    outcome: &str,
-    line: &str,
-) {
+// What comes of a session over a store, without files, that has no text left. Where it does not write
+// what it is to, or ends for want of memory, and a growth may have been refused, it runs once more.
+fn run_steady(alloc: Global, store: Store, given: Given<'_>, written: &[u8]) -> Ran {
+    let ran = run_over(alloc, store, &mut MemHost::new(alloc), given, (b"", 0));
+    let is_other = ran.written.as_slice() != written || ran.outcome == "memory";
+    if is_other && ran.may_be_refused() {
+        run_over(alloc, store, &mut MemHost::new(alloc), given, (b"", 0))
+    } else {
+        ran
+    }
+}
+
+/// A session over both stores, which has no text left, writes what its line says.
+pub fn expect_given(rt: &(impl Abort + AllocGlobal), given: Given<'_>, outcome: &str, line: &str) {
+    let written = row_of(line).written;
     for store in STORES.iter() {
-        let ran = run_steady(alloc, *store, given, (b"", 0), written);
+        let ran = run_steady(rt.alloc(), *store, given, written);
         expect(rt, ran.is(outcome, written), line, *store);
     }
 }

@@ -31,7 +31,7 @@ fn is_told(host: &FileHost<Faulty>, purpose: Purpose) -> bool {
 }
 
 // Writes pages of 4,096 bytes, each with one byte behind it that is written alone.
-fn put_pages(host: &mut impl Host, text: &[u8]) -> bool {
+fn put_pages(host: &mut FileHost<Faulty>, text: &[u8]) -> bool {
     let mut is_written = begin_out(host, PATH, b"");
     for page in text.chunks(4097) {
         is_written = is_written && write_pieces(host, page, 4096);
@@ -76,7 +76,7 @@ fn is_nothing_left(rt: &HostRuntime, faulty: &mut FileHost<Faulty>, text: &[u8])
 }
 
 // Is what the system gives of a text, in parts of 1,000 bytes, served so, as of a terminal?
-fn is_served_at_once(host: &mut impl Host, text: &[u8]) -> bool {
+fn is_served_at_once(host: &mut FileHost<Faulty>, text: &[u8]) -> bool {
     let mut buf = [0; 4096];
     let mut is_served = begin_in(host, PATH);
     for part in text.chunks(1000) {
@@ -105,12 +105,15 @@ const ROWS: &[Row] = &[
     ("pages of small writes", 50 * 4097, usize::MAX, usize::MAX),
     ("pages of small writes", 50 * 4097, 1000, usize::MAX),
     ("a write sends on", 40 * 4096, usize::MAX, 0),
+    ("a write sends on", 40 * 4096, usize::MAX, 30_000),
     ("a write sends on", 40 * 4096, 1000, 30_500),
     ("a close sends on", 60_000, usize::MAX, 0),
+    ("a close sends on", 60_000, usize::MAX, 30_000),
     ("a close sends on", 60_000, usize::MAX, 59_999),
     ("a short read", 70_000, 1000, usize::MAX),
     ("a fault behind", 140_000, usize::MAX, 5000),
     ("a fault behind", 140_000, usize::MAX, 65_536),
+    ("a fault behind", 140_000, usize::MAX, 100_000),
 ];
 
 fn passes(rt: &HostRuntime, host: &mut FileHost<Faulty>, row: &Row, text: &[u8]) -> bool {
@@ -128,7 +131,7 @@ fn holds(rt: &HostRuntime, row: &Row) -> bool {
     let Ok(text) = long_text(rt.alloc(), row.1) else {
         return false;
     };
-    let mut host = faulty_host(rt, row.2, row.3, LIMITS);
+    let mut host = faulty_host(rt, [row.2, row.3], LIMITS);
     scratch(rt, FOLDER) && passes(rt, &mut host, row, &text)
 }
 
@@ -144,10 +147,10 @@ fn buffers_lose_no_byte(rt: HostRuntime) {
 const PIECE: usize = 1 << 20;
 
 // Is an input of this length read to the limit and no further, however often it is tried?
-fn is_within_limit(rt: &HostRuntime, host: &mut impl Host, len: usize) -> io::Result<bool> {
-    let mut buf = vec![in rt.alloc(); 0; PIECE]?;
+fn is_within_limit(rt: &HostRuntime, len: usize) -> io::Result<bool> {
+    let (mut host, mut buf) = (host(rt), long_text(rt.alloc(), PIECE)?);
     fs::create(rt, PATH)?.set_len(len as u64)?;
-    let mut is_within = begin_in(host, PATH);
+    let mut is_within = begin_in(&mut host, PATH);
     for _ in 0..LIMIT >> 20 {
         is_within &= matches!(host.read(&mut buf), Ok(PIECE));
     }
@@ -166,8 +169,8 @@ fn no_more_than_the_limit_is_read(rt: HostRuntime) {
     assert!(rt; scratch(&rt, FOLDER));
     let mut host = host(&rt);
     assert!(rt; host.left_of_input().is_none() && host.read(&mut [0; 4]).is_err());
-    assert!(rt; matches!(is_within_limit(&rt, &mut host, LIMIT), Ok(true)));
-    assert!(rt; matches!(is_within_limit(&rt, &mut host, LIMIT + 2), Ok(true)));
+    assert!(rt; matches!(is_within_limit(&rt, LIMIT), Ok(true)));
+    assert!(rt; matches!(is_within_limit(&rt, LIMIT + 2), Ok(true)));
     assert!(rt; remove(&rt, FOLDER));
 }
 
@@ -194,24 +197,24 @@ fn is_cut(rt: &HostRuntime, limits: &str, most: usize) -> bool {
     let Ok(text) = long_text(rt.alloc(), ALL) else {
         return false;
     };
-    let mut host = faulty_host(rt, usize::MAX, usize::MAX, STAND_IN);
+    let mut host = faulty_host(rt, [usize::MAX; 2], STAND_IN);
     let is_open = fs::write(rt, STAND_IN, limits.as_bytes()).is_ok()
         && begin_out(&mut host, PATH, b"");
     let is_whole = write_pieces(&mut host, &text, 4096);
-    let is_past_limit = match host.trouble() {
-        Some(trouble) => matches!(trouble.reason, Reason::SizeLimit),
-        None => false,
-    };
+    let is_past_limit =
+        matches!(host.trouble(), Some(told) if matches!(told.reason, Reason::SizeLimit));
     let is_as_wanted = is_open && is_whole == (most == ALL) && is_whole != is_past_limit;
     let front = text.split_at(text.len().min(most)).0;
     is_as_wanted && host.close_out().is_ok() && is_file(rt, PATH, front)
 }
 
+// Limits that can't be read for want of memory are none, and the next host reads them.
 #[test]
 fn limits_on_sizes_are_read(rt: HostRuntime) {
     assert!(rt; scratch(&rt, FOLDER));
     for (limits, most) in STANDING {
-        assert!(rt; is_cut(&rt, limits, *most), "{most} bytes");
+        let is_so = is_cut(&rt, limits, *most) || is_cut(&rt, limits, *most);
+        assert!(rt; is_so, "{most} bytes");
     }
     assert!(rt; remove(&rt, FOLDER));
 }

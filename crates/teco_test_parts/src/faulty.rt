@@ -1,9 +1,8 @@
 // Files of the system that move few bytes at a call, and of which each fails once; another file may
 // stand in for the limits that the system sets.
 use std::alloc::Allocator;
-use std::fs::{File, Files, Metadata, OpenFile, OpenOptions, Permissions};
+use std::fs::{File, Files, Metadata, OpenFile, OpenOptions};
 use std::io::{self, Read, Seek, SeekFrom, Write};
-use std::path::PathBuf;
 use std::time::{Clock, Duration};
 use teco_pages::{FileHost, System};
 
@@ -22,13 +21,9 @@ pub struct Faulty {
     pub limits: &'static str,
 }
 
-/// A host of such files.
-pub fn faulty_host(
-    rt: &HostRuntime,
-    piece: usize,
-    whole: usize,
-    limits: &'static str,
-) -> FileHost<Faulty> {
+/// A host of such files, which move so many bytes at a call, and in all before they fail.
+pub fn faulty_host(rt: &HostRuntime, moves: [usize; 2], limits: &'static str) -> FileHost<Faulty> {
+    let [piece, whole] = moves;
     let files = Faulty {
         rt: *rt,
         piece,
@@ -106,10 +101,6 @@ impl OpenFile for FaultyFile {
     fn sync_data(&self) -> io::Result<()> {
         self.file.sync_data()
     }
-
-    fn set_permissions(&self, permissions: Permissions) -> io::Result<()> {
-        self.file.set_permissions(permissions)
-    }
 }
 
 impl Files for Faulty {
@@ -160,10 +151,6 @@ impl Files for Faulty {
 
     fn remove_dir_all<B: Allocator>(&self, alloc: B, path: &str) -> io::Result<()> {
         self.rt.remove_dir_all(alloc, path)
-    }
-
-    fn canonicalize<B: Allocator>(&self, alloc: B, path: &str) -> io::Result<PathBuf<B>> {
-        self.rt.canonicalize(alloc, path)
     }
 }
 

@@ -1,8 +1,8 @@
 // What a host of the system's files does with outputs, inputs and the files that have their names,
 // step by step, and what is then found in their folder.
 use crate::scratch::{
-    begin_in, begin_out, has_names, host, is_alone, is_file, is_missing, mode, put_whole, remove,
-    scratch,
+    begin_in, begin_out, has_names, host, is_alone, is_file, is_missing, is_refused, mode,
+    put_whole, remove, scratch,
 };
 use std::fs::Permissions;
 use std::os::unix::fs::{PermissionsExt, symlink};
@@ -19,33 +19,32 @@ const KEPT: &str = "somleut_test_outputs/out.old";
 // How outputs are closed.
 fn closing_of(word: &str) -> Closing {
     match word {
-        "other" => Closing::ReplacesOther,
         "compared" => Closing::Compares,
-        _ => Closing::Replaces,
+        "any" => Closing::Replaces,
+        _ => Closing::ReplacesOther,
     }
 }
 
-// From now on a file that is replaced is kept, and may be where one is.
-fn set_backup(rt: &HostRuntime, host: &mut FileHost<HostRuntime>, replaces: bool) -> bool {
-    let Ok(suffix) = String::from_str(rt.alloc(), ".old") else {
-        return false;
+// Is it set how a host treats outputs: how they are closed, that files are edited in place, or that
+// one that is replaced is kept, maybe where one is?
+fn is_set(rt: &HostRuntime, host: &mut FileHost<HostRuntime>, word: &str, text: &str) -> bool {
+    let backup = match String::from_str(rt.alloc(), ".old") {
+        Ok(suffix) => Ok(suffix),
+        Err(_) => String::from_str(rt.alloc(), ".old"),
     };
-    host.set_backup(Backup { suffix, replaces });
-    true
-}
-
-// From now on files are edited in place, and outputs closed so.
-fn set_in_place(host: &mut FileHost<HostRuntime>, closing: Closing) -> bool {
-    host.set_handling(Handling {
-        closing,
-        in_place: true,
-        is_durable: false,
-    });
-    true
-}
-
-fn set_closing(host: &mut FileHost<HostRuntime>, closing: Closing) -> bool {
-    host.set_closing(closing);
+    match (word, backup) {
+        ("closing", _) => host.set_closing(closing_of(text)),
+        ("edit", _) => host.set_handling(Handling {
+            closing: closing_of(text),
+            in_place: true,
+            is_durable: false,
+        }),
+        (_, Ok(suffix)) => host.set_backup(Backup {
+            suffix,
+            replaces: text == "again",
+        }),
+        _ => return false,
+    }
     true
 }
 
@@ -65,10 +64,7 @@ fn put_other(rt: &HostRuntime, bytes: &[u8]) -> bool {
 // Is a step of the host done? A step is a word, with a text behind a colon.
 fn is_done(rt: &HostRuntime, host: &mut FileHost<HostRuntime>, word: &str, text: &str) -> bool {
     match word {
-        "closing" => set_closing(host, closing_of(text)),
-        "edit" => set_in_place(host, Closing::ReplacesOther),
-        "compare" => set_in_place(host, Closing::Compares),
-        "keep" => set_backup(rt, host, text == "again"),
+        "closing" | "edit" | "keep" => is_set(rt, host, word, text),
         "open" => begin_in(host, PATH),
         "read" => begin_in(host, PATH) && read_on(host),
         "read-on" => read_on(host),
@@ -106,13 +102,16 @@ fn is_so(rt: &HostRuntime, word: &str, text: &str) -> bool {
     }
 }
 
-// The step that is not done by one host, which is gone then.
+// The step that is not done by one host, which is gone then. A close that is refused memory loses
+// the output, and nothing else.
 fn step_not_done<'a>(rt: &HostRuntime, steps: &'a str) -> Option<&'a str> {
     let mut host = host(rt);
     for step in steps.split(" ") {
         let (word, text) = step.split_once(":").unwrap_or((step, ""));
         if !is_done(rt, &mut host, word, text) {
-            return Some(step);
+            let is_lost = word == "close" && is_refused(&host) && !is_missing(rt, PATH);
+            let is_closed = is_lost && host.write(b"none is open").is_err();
+            return Some(if is_closed { "refused" } else { step });
         }
     }
     None
@@ -137,7 +136,7 @@ const STEPS: &[&str] = &[
     // A file is replaced in place by what is written, and stays where that is what was read.
     "edit put:old private read begin:new close changed is-private => new",
     "edit put:new read begin:new close same alone:new read begin:ne close changed => ne",
-    "compare put:old read begin:new close changed read begin:old close same => old",
+    "edit:compared put:old read begin:new close changed read begin:old close same => old",
     // What is written before the file is read is compared with it all the same.
     "edit put:old open begin:old read-on close same => old",
     // What was written to an output that was dropped counts for no other.
@@ -161,7 +160,10 @@ fn outputs_are_closed_dropped_and_put_in_place(rt: HostRuntime) {
     for row in STEPS {
         let (steps, left) = row.split_once(" => ").unwrap_or((*row, ""));
         assert!(rt; scratch(&rt, FOLDER));
-        let step = step_not_done(&rt, steps);
+        let mut step = step_not_done(&rt, steps);
+        if step == Some("refused") && scratch(&rt, FOLDER) {
+            step = step_not_done(&rt, steps);
+        }
         assert!(rt; step.is_none(), "{row}: {step:?}");
         assert!(rt; is_alone(&rt, FOLDER, PATH, left.as_bytes()), "{row}");
     }
@@ -192,8 +194,9 @@ fn a_link_is_followed_and_set_id_bits_are_kept(rt: HostRuntime) {
 
 // Another file takes the place of the one beside the target. Is it left, and no output made, where
 // the output is closed or dropped? Both files are then removed.
-fn is_another_left(rt: &HostRuntime, host: &mut impl Host, is_dropped: bool) -> io::Result<bool> {
-    let is_begun = begin_out(host, "somleut_test_taken/out", b"new");
+fn is_another_left(rt: &HostRuntime, is_dropped: bool) -> io::Result<bool> {
+    let mut host = host(rt);
+    let is_begun = begin_out(&mut host, "somleut_test_taken/out", b"new");
     let Some(entry) = fs::read_dir(rt, "somleut_test_taken")?.next() else {
         return Ok(false);
     };
@@ -216,9 +219,13 @@ fn is_another_left(rt: &HostRuntime, host: &mut impl Host, is_dropped: bool) -> 
 #[test]
 fn the_file_of_another_is_left(rt: HostRuntime) {
     assert!(rt; scratch(&rt, "somleut_test_taken"));
-    let mut host = host(&rt);
-    assert!(rt; matches!(is_another_left(&rt, &mut host, false), Ok(true)));
-    assert!(rt; matches!(is_another_left(&rt, &mut host, true), Ok(true)));
+    for is_dropped in [false, true] {
+        let mut is_left = is_another_left(&rt, is_dropped);
+        if is_left.is_err() {
+            is_left = is_another_left(&rt, is_dropped);
+        }
+        assert!(rt; matches!(is_left, Ok(true)));
+    }
     assert!(rt; remove(&rt, "somleut_test_taken"));
 }
 
@@ -238,9 +245,9 @@ fn renamed(rt: &HostRuntime, folder: &str, number: &str) -> io::Result<Option<St
 }
 
 // Is what a process left removed that is gone, and not what this one has open?
-fn is_swept(rt: &HostRuntime, host: &mut FileHost<HostRuntime>, folder: &str) -> io::Result<bool> {
-    let facts = ProcessFacts::read(rt, rt.alloc());
-    if !begin_out(host, "somleut_test_strays/out", b"new") {
+fn is_swept(rt: &HostRuntime, folder: &str) -> io::Result<bool> {
+    let (facts, mut host) = (ProcessFacts::read(rt, rt.alloc()), host(rt));
+    if !scratch(rt, folder) || !begin_out(&mut host, "somleut_test_strays/out", b"new") {
         return Ok(false);
     }
     // more than any process has as its number
@@ -259,7 +266,9 @@ fn is_swept(rt: &HostRuntime, host: &mut FileHost<HostRuntime>, folder: &str) ->
 #[test]
 fn what_killed_runs_left_is_removed(rt: HostRuntime) {
     let folder = "somleut_test_strays";
-    assert!(rt; scratch(&rt, folder));
-    assert!(rt; matches!(is_swept(&rt, &mut host(&rt), folder), Ok(true)));
-    assert!(rt; remove(&rt, folder));
+    let mut is_done = is_swept(&rt, folder);
+    if is_done.is_err() {
+        is_done = is_swept(&rt, folder);
+    }
+    assert!(rt; matches!(is_done, Ok(true)) && remove(&rt, folder));
 }

@@ -1,12 +1,13 @@
-// A scratch folder, and what tests do with a host there.
+// A scratch folder, and what tests do with a host there. A call that is refused memory is made once
+// more, so that each test also holds where one allocation fails: then nothing is lost or done twice.
 use std::alloc::{AllocError, Global};
 use std::os::unix::fs::PermissionsExt;
 use std::{fs, io};
-use teco_pages::{Failed, FileHost, Host};
+use teco_pages::{Failed, FileHost, Host, Reason, System};
 
 // Removes a folder with all that it has; answers whether it could.
 pub fn remove(rt: &HostRuntime, folder: &str) -> bool {
-    fs::remove_dir_all(rt, folder).is_ok()
+    fs::remove_dir_all(rt, folder).is_ok() || fs::remove_dir_all(rt, folder).is_ok()
 }
 
 // Makes an empty folder; answers whether it could.
@@ -26,7 +27,8 @@ fn count_names(rt: &HostRuntime, folder: &str) -> io::Result<usize> {
 
 // Has a folder so many names?
 pub fn has_names(rt: &HostRuntime, folder: &str, want: usize) -> bool {
-    matches!(count_names(rt, folder), Ok(count) if count == want)
+    let count = count_names(rt, folder).or_else(|_| count_names(rt, folder));
+    matches!(count, Ok(count) if count == want)
 }
 
 // The permissions of a file.
@@ -39,7 +41,8 @@ pub fn mode(rt: &HostRuntime, path: &str) -> Option<u32> {
 
 // Has the file these bytes?
 pub fn is_file(rt: &HostRuntime, path: &str, want: &[u8]) -> bool {
-    matches!(fs::read(rt, path), Ok(bytes) if bytes.as_slice() == want)
+    let bytes = fs::read(rt, path).or_else(|_| fs::read(rt, path));
+    matches!(bytes, Ok(bytes) if bytes.as_slice() == want)
 }
 
 // Is there no such file?
@@ -57,24 +60,47 @@ pub fn host(rt: &HostRuntime) -> FileHost<HostRuntime> {
     FileHost::new(rt.alloc(), *rt)
 }
 
-// Opens an output and writes some bytes to it; answers whether it could.
-pub fn begin_out(host: &mut impl Host, path: &str, bytes: &[u8]) -> bool {
-    let is_open = host.open_out(path.as_bytes()).is_ok();
+// Was memory refused to the call of a host that failed last?
+pub fn is_refused<R: System>(host: &FileHost<R>) -> bool {
+    match host.trouble() {
+        Some(trouble) => match &trouble.reason {
+            Reason::Memory => true,
+            Reason::System(error) => error.kind() == io::ErrorKind::OutOfMemory,
+            _ => false,
+        },
+        None => false,
+    }
+}
+
+// Opens an output and writes some bytes to it; answers whether it could. None is open where memory
+// was refused.
+pub fn begin_out<R: System>(host: &mut FileHost<R>, path: &str, bytes: &[u8]) -> bool {
+    let mut is_open = host.open_out(path.as_bytes()).is_ok();
+    if !is_open && is_refused(host) && host.write(b"none is open").is_err() {
+        is_open = host.open_out(path.as_bytes()).is_ok();
+    }
     is_open && matches!(host.write(bytes), Ok(n) if n == bytes.len())
 }
 
 // A long text, each of whose bytes tells where it stands.
 pub fn long_text(alloc: Global, len: usize) -> Result<Vec<u8>, AllocError> {
-    let mut bytes = vec![in alloc; 0; len]?;
+    let mut bytes = match vec![in alloc; 0; len] {
+        Ok(bytes) => bytes,
+        Err(AllocError) => vec![in alloc; 0; len]?,
+    };
     for (n, byte) in bytes.iter_mut().enumerate() {
         *byte = (n % 251) as u8;
     }
     Ok(bytes)
 }
 
-// Opens an input; answers whether it could.
-pub fn begin_in(host: &mut impl Host, path: &str) -> bool {
+// Opens an input; answers whether it could. The one before stays open where memory was refused.
+pub fn begin_in<R: System>(host: &mut FileHost<R>, path: &str) -> bool {
+    let left = host.left_of_input();
     host.open_in(path.as_bytes()).is_ok()
+        || (is_refused(host)
+            && host.left_of_input() == left
+            && host.open_in(path.as_bytes()).is_ok())
 }
 
 // Writes a text in pieces of so many bytes; answers whether it could.
@@ -96,7 +122,7 @@ pub fn write_pieces(host: &mut impl Host, text: &[u8], piece: usize) -> bool {
 }
 
 // Makes a file of some bytes that are written at once; answers whether it could.
-pub fn put_whole(host: &mut impl Host, path: &str, bytes: &[u8]) -> bool {
+pub fn put_whole<R: System>(host: &mut FileHost<R>, path: &str, bytes: &[u8]) -> bool {
     begin_out(host, path, bytes) && host.close_out().is_ok()
 }
 

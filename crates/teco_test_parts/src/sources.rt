@@ -18,11 +18,8 @@ const SOURCES: &[(Form, &[u8], &[u8])] = &[
 type Written = (Form, &'static [u8], Option<&'static [u8]>);
 
 fn is_written(alloc: Global, (form, text, want): &Written) -> Result<bool, Fail> {
-    Ok(match (form.write(alloc, text)?, want) {
-        (Some(source), Some(want)) => source.as_slice() == *want,
-        (None, None) => true,
-        _ => false,
-    })
+    let source = form.write(alloc, text)?;
+    Ok(source.as_ref().map(|source| source.as_slice()) == *want)
 }
 
 const WRITTEN: &[Written] = &[

@@ -77,12 +77,8 @@ fn is_state<T: TextStore>(store: &T, alloc: Global, (text, dot): (&[u8], usize))
 type Row = (Call, &'static str, (&'static [u8], usize));
 
 // Whether a call answers and leaves what its row says; one that is refused memory leaves what was.
-fn holds<T: TextStore>(
-    store: &mut T,
-    alloc: Global,
-    before: (&[u8], usize),
-    (call, want, after): &Row,
-) -> bool {
+fn holds<T: TextStore>(store: &mut T, alloc: Global, before: (&[u8], usize), row: &Row) -> bool {
+    let (call, want, after) = row;
     let mut got = answer(store, alloc, *call);
     if got == "memory" && is_state(store, alloc, before) {
         got = answer(store, alloc, *call);
@@ -97,11 +93,6 @@ fn expect_rows<T: TextStore>(rt: &impl Abort, alloc: Global, store: &mut T, rows
         assert!(rt; holds(store, alloc, before, row), "row {number}");
         before = row.2;
     }
-}
-
-fn expect_in_both(rt: &impl Abort, alloc: Global, rows: &[Row]) {
-    expect_rows(rt, alloc, &mut VecText::new(alloc), rows);
-    expect_rows(rt, alloc, &mut GapText::new(alloc), rows);
 }
 
 const IN_TURN: &[Row] = &[

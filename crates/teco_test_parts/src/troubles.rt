@@ -1,9 +1,8 @@
 // Files that are refused, and what is told of them.
 use crate::scratch::{has_names, host, remove, scratch};
-use std::alloc::{AllocError, Global};
 use std::fs;
 use std::os::unix::fs::symlink;
-use teco_pages::{FileHost, Host, Trouble};
+use teco_pages::Host;
 
 const FOLDER: &str = "somleut_test_refused";
 
@@ -39,62 +38,46 @@ fn make_targets(rt: &HostRuntime) -> bool {
         && symlink(rt, "/proc/self/fd/1", "somleut_test_refused/again").is_ok()
 }
 
-// Is the opening of an input or of an output refused?
-fn is_refused(host: &mut impl Host, is_input: bool, name: &[u8]) -> bool {
-    if is_input {
-        host.open_in(name).is_err()
+// What is told where a name can't be opened, in words; nothing is open then.
+fn told(rt: &HostRuntime, is_input: bool, opened: &[u8]) -> Option<String> {
+    let mut host = host(rt);
+    let is_open = if is_input {
+        host.open_in(opened).is_ok()
     } else {
-        host.open_out(name).is_err()
-    }
+        host.open_out(opened).is_ok()
+    };
+    let trouble = host.trouble()?;
+    let name = String::from_utf8_lossy(rt.alloc(), &trouble.name).ok()?;
+    let told = format!(in rt.alloc(); "{} {name}: {}", trouble.purpose, trouble.reason).ok()?;
+    let is_other = host.read(&mut [0; 4]).is_ok() || host.write(b"a").is_ok();
+    (!is_open && !is_other && host.close_out().is_err()).then_some(told)
 }
 
-// Is the opening of an output refused, and none open then?
-fn is_none_open(host: &mut impl Host, name: &[u8]) -> bool {
-    is_refused(host, false, name) && host.write(b"a").is_err() && host.close_out().is_err()
-}
-
-// What could not be done last, in words.
-fn told(host: &FileHost<HostRuntime>, alloc: Global) -> Result<String, AllocError> {
-    match host.trouble() {
-        None => String::from_str(alloc, "nothing"),
-        Some(trouble) => {
-            let Trouble {
-                purpose,
-                name,
-                reason,
-            } = trouble;
-            let name = String::from_utf8_lossy(alloc, name)?;
-            format!(in alloc; "{purpose} {name}: {reason}")
+// Is this told, the second time at the latest? Memory may be refused the first time.
+fn is_told(rt: &HostRuntime, is_input: bool, name: &[u8], wanted: &str) -> bool {
+    for _ in 0..2 {
+        match told(rt, is_input, name) {
+            Some(told) if told.as_str().starts_with(wanted) => return true,
+            _ => {}
         }
     }
+    false
 }
 
-// Is this told where a name can't be opened?
-fn is_told(rt: &HostRuntime, is_input: bool, name: &[u8], wanted: &str) -> bool {
-    let mut host = host(rt);
-    is_refused(&mut host, is_input, name)
-        && matches!(told(&host, rt.alloc()), Ok(told) if told.as_str() == wanted)
-}
-
-// Is the name that a line has refused so?
+// Is a line told of the name that it has?
 fn is_told_so(rt: &HostRuntime, line: &str) -> bool {
     let (opening, _) = line.split_once(": ").unwrap_or((line, ""));
-    match opening.strip_prefix("open input ") {
-        Some(name) => is_told(rt, true, name.as_bytes(), line),
-        None => match opening.strip_prefix("open output ") {
-            Some(name) => is_told(rt, false, name.as_bytes(), line),
-            None => false,
-        },
-    }
+    let (front, name) = opening.rsplit_once(' ').unwrap_or(("", ""));
+    is_told(rt, front == "open input", name.as_bytes(), line)
 }
 
 #[test]
 fn names_are_refused_and_troubles_told(rt: HostRuntime) {
     assert!(rt; scratch(&rt, FOLDER) && make_targets(&rt));
     for (number, name) in OUTPUTS.iter().enumerate() {
-        assert!(rt; is_none_open(&mut host(&rt), name), "row {number}");
+        assert!(rt; is_told(&rt, false, name, "open output "), "row {number}");
     }
-    assert!(rt; is_refused(&mut host(&rt), true, b"o\xffut") && has_names(&rt, FOLDER, 4));
+    assert!(rt; is_told(&rt, true, b"o\xffut", "open input ") && has_names(&rt, FOLDER, 4));
     for line in TOLD {
         assert!(rt; is_told_so(&rt, line), "{line}");
     }

@@ -1,5 +1,5 @@
 //! Which files are chosen of words, folders and lists.
-use crate::trial::{expect_text, kept};
+use crate::trial::{expect_text, kept, of_words};
 use std::fs;
 use std::test::Fail;
 use teco_edits::{Choice, choose};
@@ -51,18 +51,6 @@ fn chosen(rt: &HostRuntime, choice: &Choice<'_>) -> Result<String, Fail> {
         line.push(' ')?;
     }
     Ok(line)
-}
-
-// Files of words, with no list and no folders.
-fn of_words<'a>(names: &'a [&'a [u8]]) -> Choice<'a> {
-    Choice {
-        names,
-        list: None,
-        ends_by_nul: false,
-        is_recursive: false,
-        included: &[],
-        excluded: &[],
-    }
 }
 
 #[test]

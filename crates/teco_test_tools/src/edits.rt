@@ -1,11 +1,11 @@
 //! Files that are edited, by pages and in place.
-use crate::trial::{expect_text, kept, library_file, task};
+use crate::trial::{expect_text, kept, library_file, of_words, task};
+use std::fs;
 use std::process::Abort;
 use std::test::Fail;
-use std::{fs, io};
 use teco_apply::Pages;
 use teco_edits::{
-    Change, Choice, Chosen, InPlace, Keeping, Names, Naming, Task, apply_macro, choose, edit_files,
+    Change, Chosen, InPlace, Keeping, Names, Naming, Task, apply_macro, choose, edit_files,
 };
 use teco_pages::FileHost;
 use teco_tools::{INPUT, OUTPUT, Start, Streams, ToolFault};
@@ -73,21 +73,16 @@ fn remove(rt: &HostRuntime, names: &[&str]) -> Result<(), Fail> {
 type Row = (Pages, bool, &'static [u8], &'static str);
 
 const ROWS: &[Row] = &[
-    (
-        Pages::First,
-        false,
-        b"a bar\x0cfoo\x0c\x0cfoo",
-        "somleut_tools_in: 8 bytes behind the first page were copied unedited; --pages each or \
-         --pages whole edits them too\n",
-    ),
+    (Pages::First, false, b"a bar\x0cfoo\x0c\x0cfoo", COPIED),
     (Pages::Each, false, b"a bar\x0cbar\x0c\x0cbar", ""),
-    (
-        Pages::Whole,
-        true,
-        b"a bar\x0cbar\x0c\x0cbar",
-        "somleut_tools_in: pages 1, commands 17, at most 102 by the promise, N at most 31\n",
-    ),
+    (Pages::Whole, true, b"a bar\x0cbar\x0c\x0cbar", COUNTED),
 ];
+
+const COPIED: &str = "somleut_tools_in: 8 bytes behind the first page were copied unedited; \
+                      --pages each or --pages whole edits them too\n";
+
+const COUNTED: &str =
+    "somleut_tools_in: pages 1, commands 17, at most 102 by the promise, N at most 31\n";
 
 #[test]
 fn pages_are_edited(rt: HostRuntime) -> Result<(), Fail> {
@@ -109,8 +104,8 @@ fn pages_are_edited(rt: HostRuntime) -> Result<(), Fail> {
 /// Inserts so many characters that the promise holds for no text.
 const INSERTS: &[u8] = b"@^UA/J2147483647U0Q0<I*$>/";
 
-// Such an edit is refused, and leaves a file as it was; and so is one of a file into itself, whatever
-// it is called.
+// An edit outside the promise is refused, and leaves a file as it was; and so is an edit of a file into
+// itself, whatever the file is called.
 #[test]
 fn edits_outside_the_promise_or_of_one_file_are_refused(rt: HostRuntime) -> Result<(), Fail> {
     let request = library_file(&rt, LIBRARY, INSERTS)?;
@@ -146,24 +141,25 @@ const STREAMS: Names<'static> = Names {
 #[test]
 fn streams_are_edited(rt: HostRuntime) -> Result<(), Fail> {
     let request = library_file(&rt, LIBRARY, REPLACES)?;
-    let each = Task {
-        pages: Pages::Each,
-        ..task(request)
-    };
-    let files = FileHost::new(rt.alloc(), rt);
-    let mut host = Streams::new(rt.alloc(), files, THREE, Vec::new(rt.alloc()));
-    let outcome = apply_macro(&rt, &mut kept(&rt), &each, STREAMS, &mut host);
-    let (_, written) = host.into_parts();
-    assert!(rt; matches!(outcome, Ok(Outcome::Done)));
-    assert!(rt; written.as_slice() == b"a bar\x0cbar\x0c\x0cbar".as_slice());
-    let strict = Task {
-        is_strict: true,
-        ..task(request)
-    };
-    let files = FileHost::new(rt.alloc(), rt);
-    let mut host = Streams::new(rt.alloc(), files, THREE, io::sink());
-    let outcome = apply_macro(&rt, &mut kept(&rt), &strict, STREAMS, &mut host);
-    assert!(rt; matches!(outcome, Err(ToolFault::Unsized)));
+    for is_strict in [false, true] {
+        let each = Task {
+            pages: Pages::Each,
+            is_strict,
+            ..task(request)
+        };
+        let files = FileHost::new(rt.alloc(), rt);
+        let mut host = Streams::new(rt.alloc(), files, THREE, Vec::new(rt.alloc()));
+        let outcome = apply_macro(&rt, &mut kept(&rt), &each, STREAMS, &mut host);
+        assert!(rt; matches!(outcome, Err(ToolFault::Unsized)) == is_strict);
+        assert!(rt; matches!(outcome, Ok(Outcome::Done)) != is_strict);
+        let (_, written) = host.into_parts();
+        let wanted: &[u8] = if is_strict {
+            b""
+        } else {
+            b"a bar\x0cbar\x0c\x0cbar"
+        };
+        assert!(rt; written.as_slice() == wanted);
+    }
     remove(&rt, &[LIBRARY])
 }
 
@@ -188,10 +184,8 @@ fn registers_are_set(rt: HostRuntime) -> Result<(), Fail> {
             came.outcome,
             Err(ToolFault::Answer(AnswerFault::Taken { register: 'A' }))
         );
-        assert!(rt;
-            is_refused == is_taken && is_file(&rt, OUT, b"some text"),
-            "{word}"
-        );
+        let is_so = is_refused == is_taken && came.outcome.is_ok() != is_taken;
+        assert!(rt; is_so && is_file(&rt, OUT, b"some text"), "{word}");
     }
     remove(&rt, &[LIBRARY, IN, OUT])
 }
@@ -199,42 +193,25 @@ fn registers_are_set(rt: HostRuntime) -> Result<(), Fail> {
 // What is done with files that would change, with which suffix they are kept, and the end of what is
 // said.
 const IN_PLACE: &[(Change, Option<&'static str>, &str)] = &[
-    (
-        Change::Listed,
-        None,
-        "files: 3, would change: 1, failed: 1\n",
-    ),
-    (
-        Change::Checked,
-        OLD,
-        "files: 3, would change: 1, failed: 1\n",
-    ),
+    (Change::Listed, None, WOULD),
+    (Change::Checked, OLD, WOULD),
     (Change::Made, OLD, "files: 3, changed: 1, failed: 1\n"),
     (Change::Made, None, "files: 3, changed: 0, failed: 1\n"),
 ];
 
 const OLD: Option<&'static str> = Some(".old");
 
+const WOULD: &str = "files: 3, would change: 1, failed: 1\n";
+
 // Files that words name.
 fn chosen(abort: &impl Abort, rt: &HostRuntime, names: &[&[u8]]) -> Vec<Chosen> {
-    let choice = Choice {
-        names,
-        list: None,
-        ends_by_nul: false,
-        is_recursive: false,
-        included: &[],
-        excluded: &[],
-    };
-    choose(rt, &mut kept(rt).voice, &choice).expect(abort, "memory")
+    choose(rt, &mut kept(rt).voice, &of_words(names)).expect(abort, "memory")
 }
 
 // How files are edited in place; they are kept in the place of no other.
 fn in_place<'a>(files: &'a [Chosen], change: Change, suffix: Option<&'static str>) -> InPlace<'a> {
     let replaces = false;
-    let keeping = match suffix {
-        Some(suffix) => Some(Keeping { suffix, replaces }),
-        None => None,
-    };
+    let keeping = suffix.map(|suffix| Keeping { suffix, replaces });
     InPlace {
         files,
         change,
@@ -259,18 +236,11 @@ fn expect_in_place(
     let names: [&[u8]; 3] = [IN.as_bytes(), b"somleut_tools_none", OUT.as_bytes()];
     let files = chosen(abort, rt, &names);
     let mut console = kept(rt);
-    let outcome = edit_files(
-        rt,
-        &mut console,
-        &task(request),
-        &in_place(&files, change, suffix),
-    );
+    let how = in_place(&files, change, suffix);
+    let outcome = edit_files(rt, &mut console, &task(request), &how);
     let (written, messages) = console.into_parts();
-    expect_text(
-        abort,
-        &written,
-        if is_made { "" } else { "somleut_tools_in\n" },
-    );
+    let listed = if is_made { "" } else { "somleut_tools_in\n" };
+    expect_text(abort, &written, listed);
     let is_said = messages.ends_with(said.as_bytes());
     assert!(abort; matches!(outcome, Ok(Outcome::Coded)) && is_said, "{said}");
     let left: &[u8] = if is_made { b"a bar" } else { b"a foo" };
@@ -279,33 +249,20 @@ fn expect_in_place(
     assert!(abort; is_file(rt, OUT, b"nothing"), "{said}");
 }
 
-// Is nothing edited, since a file would be kept under the name of another, or with no suffix?
-fn expect_kept_apart(abort: &impl Abort, rt: &HostRuntime, task: &Task<'_, '_>) {
+// Nothing is edited where a file would be kept under the name of another, or with no suffix.
+fn expect_apart(abort: &impl Abort, rt: &HostRuntime, request: Request<'static>) {
     let both: [&[u8]; 2] = [IN.as_bytes(), b"./somleut_tools_in.old"];
     let files = chosen(abort, rt, &both);
-    let outcome = edit_files(
-        rt,
-        &mut kept(rt),
-        task,
-        &in_place(&files, Change::Made, OLD),
-    );
-    assert!(abort;
-        matches!(outcome, Err(ToolFault::Kept { .. })),
-        "a name that is edited"
-    );
-    let outcome = edit_files(
-        rt,
-        &mut kept(rt),
-        task,
-        &in_place(&files, Change::Made, Some("")),
-    );
-    assert!(abort; matches!(outcome, Err(ToolFault::Suffix)), "no suffix");
+    for suffix in [OLD, Some("")] {
+        let how = in_place(&files, Change::Made, suffix);
+        let is_refused = match edit_files(rt, &mut kept(rt), &task(request), &how) {
+            Err(ToolFault::Kept { .. }) => suffix == OLD,
+            Err(ToolFault::Suffix) => suffix != OLD,
+            _ => false,
+        };
+        assert!(abort; is_refused, "{suffix:?}");
+    }
     assert!(abort; is_file(rt, IN, b"a bar") && is_file(rt, "somleut_tools_in.old", b"a foo"));
-}
-
-// Does neither edit change a file?
-fn expect_apart(abort: &impl Abort, rt: &HostRuntime, request: Request<'static>) {
-    expect_kept_apart(abort, rt, &task(request));
 }
 
 #[test]

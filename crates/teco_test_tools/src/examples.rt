@@ -1,5 +1,5 @@
 //! Examples in the comments of libraries.
-use crate::trial::{expect, expect_text, kept, library_file};
+use crate::trial::{expect_text, kept, library_file};
 use std::fs;
 use std::test::Fail;
 use teco_base::Reg;
@@ -7,34 +7,30 @@ use teco_edits::Look;
 use teco_examples::{Tests, fuzz_macro, test_examples};
 use teco_verdicts::Outcome;
 
-/// A library in which `$` is ESC, what is printed of its examples, and what is said.
-const LIBRARIES: &[(&str, &str, &str)] = &[
-    (
-        "!EXAMPLE a foo => a bar! @^UA~J<FSfoo$bar$;>~",
-        "",
-        "examples: 1, failed: 0\n",
-    ),
+/// A library in which `$` is ESC, what is printed of its examples, how many they are, and how many of
+/// them failed.
+const LIBRARIES: &[(&str, &str, u32, u32)] = &[
+    ("!EXAMPLE a foo => a bar! @^UA~J<FSfoo$bar$;>~", "", 1, 0),
     (
         "@^UA~!EXAMPLE\na foo\n=>\na bar\n!J<FSfoo$bar$;>~",
         "",
-        "examples: 1, failed: 0\n",
+        1,
+        0,
     ),
-    (
-        "!EXAMPLE(2, C=c) a\\n => ccca\\n! @^UB~<JGC>JGC~",
-        "",
-        "examples: 1, failed: 0\n",
-    ),
+    ("!EXAMPLE(2, C=c) a\\n => ccca\\n! @^UB~<JGC>JGC~", "", 1, 0),
     (
         "!EXAMPLE x => y!\n!EXAMPLE  => !J",
         "somleut_tools_examples:1:1: macro A: made another text: - as wanted, + as made\n\
             --- text\n+++ text\n@@ -1 +1 @@\n-y\n\\ No newline at end of file\n\
             +x\n\\ No newline at end of file\n",
-        "examples: 2, failed: 1\n",
+        2,
+        1,
     ),
     (
         "@^UA~5C!EXAMPLE x => x!~",
         "somleut_tools_examples:1:8: macro A: ?POP: the pointer, or a place, would be outside the buffer\n",
-        "examples: 1, failed: 1\n",
+        1,
+        1,
     ),
     (
         "!EXAMPLE x! !EXAMPLE(a) x => x! @^UA~J~",
@@ -42,7 +38,8 @@ const LIBRARIES: &[(&str, &str, &str)] = &[
             as the manual says\n\
             somleut_tools_examples:1:13: macro A: this is no example: write !EXAMPLE text => \
             text!, as the manual says\n",
-        "examples: 2, failed: 2\n",
+        2,
+        2,
     ),
 ];
 
@@ -63,7 +60,7 @@ const FUZZED: &[(&str, &str)] = &[
 #[test]
 fn examples_are_tried(rt: HostRuntime) -> Result<(), Fail> {
     let name = "somleut_tools_examples";
-    for (text, printed, said) in LIBRARIES {
+    for (text, printed, count, failed) in LIBRARIES {
         let request = library_file(&rt, name, text.as_bytes())?;
         let tests = Tests {
             entry: None,
@@ -74,9 +71,10 @@ fn examples_are_tried(rt: HostRuntime) -> Result<(), Fail> {
         let outcome = test_examples(&rt, &mut console, request, tests)?;
         let (written, messages) = console.into_parts();
         expect_text(&rt, &written, *printed);
-        expect_text(&rt, &messages, *said);
+        let said = format!(in rt.alloc(); "examples: {count}, failed: {failed}\n")?;
+        expect_text(&rt, &messages, &said);
         let is_good = printed.is_empty() == matches!(outcome, Outcome::Done);
-        expect(&rt, is_good, *text);
+        assert!(rt; is_good, "{text}");
     }
     fs::remove_file(&rt, name)?;
     Ok(())
@@ -91,7 +89,7 @@ fn macros_are_run_on_short_texts(rt: HostRuntime) -> Result<(), Fail> {
         let outcome = fuzz_macro(&rt, &mut console, request, Reg::default(), None)?;
         let (written, _messages) = console.into_parts();
         expect_text(&rt, &written, *asked);
-        expect(&rt, matches!(outcome, Outcome::Done), *text);
+        assert!(rt; matches!(outcome, Outcome::Done), "{text}");
     }
     fs::remove_file(&rt, name)?;
     Ok(())

@@ -5,7 +5,7 @@ use std::process::Abort;
 use std::test::Fail;
 use teco_apply::Pages;
 use teco_base::Reg;
-use teco_edits::Task;
+use teco_edits::{Choice, Task};
 use teco_tools::Start;
 use teco_verdicts::{Console, Editions, Escape, Origin, Request, Rules};
 
@@ -32,6 +32,18 @@ pub fn library_file<'a>(rt: &HostRuntime, name: &'a str, text: &[u8]) -> Result<
         escape: Escape::Mark(b'$'),
         editions: Editions::Only(Rules::First),
     })
+}
+
+/// Files of words, with no list and no folders.
+pub fn of_words<'a>(names: &'a [&'a [u8]]) -> Choice<'a> {
+    Choice {
+        names,
+        list: None,
+        ends_by_nul: false,
+        is_recursive: false,
+        included: &[],
+        excluded: &[],
+    }
 }
 
 /// A macro in A, run on first pages with no more than a task must have.

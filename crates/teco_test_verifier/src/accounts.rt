@@ -6,103 +6,91 @@ use teco_base::Reg;
 use teco_poly::Poly;
 use teco_verify::{Account, Known, Refusal, account_of};
 
-// Marks are put behind each occurrence of a word.
-const MARK: &str = "@^UA/J<Sfoo\x1b;I!\x1b>/";
-
 // What is known before an element: its place, the characters behind and ahead of the pointer at the
-// least, how often N and how many more are held at the most, and are ahead, how many iterations are
-// open, and how much has fallen in the innermost.
+// least, what is held and what is ahead at the most, how many iterations are open, how much has fallen
+// in the innermost, and the least and the greatest value that is pending.
 type Expected = (
     usize,
     (u32, u32),
-    (u32, u32),
-    (u32, u32),
+    [&'static str; 2],
     usize,
     Option<i64>,
+    Option<(i64, i64)>,
 );
 
-// The call, the jump to 0, and the iteration; then a turn begins, the search has found or not,
-// three characters were passed, and one was put in; the last is reached where nothing is found.
-const MARKED: [Expected; 8] = [
-    (0, (0, 0), (1, 0), (1, 0), 0, None),
-    (0, (0, 0), (1, 0), (1, 0), 0, None),
-    (1, (0, 0), (1, 0), (1, 0), 0, None),
-    (2, (0, 0), (2, 0), (1, 0), 1, Some(0)),
-    (7, (0, 0), (2, 0), (2, 0), 1, None),
-    (8, (3, 0), (2, 0), (1, 0), 1, Some(3)),
-    (11, (4, 0), (2, 1), (1, 0), 1, Some(3)),
-    (12, (0, 0), (2, 0), (2, 0), 0, None),
+// A library, the place at which its macro A is refused, and the node where that is, if it is; how many
+// nodes there are, and what is known before those that were reached.
+struct Told(
+    &'static str,
+    Option<(usize, usize)>,
+    usize,
+    &'static [Expected],
+);
+
+const TOLD: [Told; 3] = [
+    Told("@^UA/J<Sfoo\x1b;I!\x1b>/", None, 8, MARKED),
+    Told("@^UA/5C/", Some((1, 3)), 4, MOVED),
+    Told("@^UA/MA/", Some((0, 0)), 0, &[]),
 ];
 
-// Whether a polynomial is so often N, and so many more.
-fn is_linear(polynomial: &Poly, times: u32, more: u32) -> bool {
-    let times = u64::from(times);
-    let more = u64::from(more);
-    polynomial.at(0) == Some(more)
-        && polynomial.at(1) == Some(times + more)
-        && polynomial.at(2) == Some(2 * times + more)
-        && polynomial.at(1000) == Some(1000 * times + more)
+// Marks are put behind each occurrence of a word: the call, the jump to 0, and the iteration; then a turn
+// begins, the search has found or not, three characters were passed, and one was put in; the last is
+// reached where nothing is found.
+const MARKED: &[Expected] = &[
+    (0, (0, 0), ["N", "N"], 0, None, None),
+    (0, (0, 0), ["N", "N"], 0, None, None),
+    (1, (0, 0), ["N", "N"], 0, None, None),
+    (2, (0, 0), ["2*N", "N"], 1, Some(0), None),
+    (7, (0, 0), ["2*N", "2*N"], 1, None, Some((-1, 0))),
+    (8, (3, 0), ["2*N", "N"], 1, Some(3), None),
+    (11, (4, 0), ["1 + 2*N", "N"], 1, Some(3), None),
+    (12, (0, 0), ["2*N", "2*N"], 0, None, None),
+];
+
+// The call, the number, and the motion, which may leave the text.
+const MOVED: &[Expected] = &[
+    (0, (0, 0), ["N", "N"], 0, None, None),
+    (0, (0, 0), ["N", "N"], 0, None, None),
+    (1, (0, 0), ["N", "N"], 0, None, Some((5, 5))),
+];
+
+// Is a polynomial that of a text?
+fn is_poly(polynomial: &Poly, text: &str) -> bool {
+    Poly::read(text.as_bytes()) == Some(*polynomial)
 }
 
-// Whether there is so much room.
-fn has_room(known: &Known<'_>, back: u32, fore: u32) -> bool {
-    let room = known.room();
-    room.back == back && room.fore == fore
+// The least and the greatest value that is pending, where it is no place.
+fn value_of(known: &Known<'_>) -> Option<(i64, i64)> {
+    let value = known.value()?;
+    (value.ahead == 0 && value.behind == 0).then_some((value.lo, value.hi))
 }
 
-// Whether this is known.
+// Is this known before a node?
 fn is_known(account: &Account<'_>, number: usize, expected: &Expected) -> bool {
     let Some(known) = account.known(number) else {
         return false;
     };
-    let (begin, room, held, ahead, open, fall) = *expected;
+    let (begin, room, [held, ahead], open, fall, value) = *expected;
     account.begin(number) == Some(begin)
-        && has_room(&known, room.0, room.1)
-        && is_linear(&known.held(), held.0, held.1)
-        && is_linear(&known.ahead(), ahead.0, ahead.1)
+        && account.register(number).map(|register| register.name()) == Some(b'A')
+        && (known.room().back, known.room().fore) == room
+        && is_poly(&known.held(), held)
+        && is_poly(&known.ahead(), ahead)
         && known.open() == open
         && known.fall(0) == fall
+        && value_of(&known) == value
 }
 
-// The least and the greatest value that is pending.
-fn value_at(account: &Account<'_>, number: usize) -> Option<(i64, i64)> {
-    let value = account.known(number)?.value()?;
-    if value.ahead == 0 && value.behind == 0 {
-        Some((value.lo, value.hi))
-    } else {
-        None
-    }
-}
-
-// Is the macro refused at a place?
-fn is_refused(account: &Account<'_>, at: usize) -> bool {
-    matches!(account.verdict(), Err(Refusal::No { place, .. }) if place == at)
-}
-
-// Whether an account ends at a node, with so many nodes.
-fn ends(account: &Account<'_>, stop: Option<usize>, nodes: usize) -> bool {
-    account.stop() == stop && account.len() == nodes
-}
-
-// Whether the elements of the macro for marks are known as expected.
-fn are_known(account: &Account<'_>) -> bool {
-    for (place, expected) in MARKED.iter().enumerate() {
-        let register = account.register(place + 1).map(|register| register.name());
-        if !is_known(account, place + 1, expected) || register != Some(b'A') {
-            return false;
+// Does the search end so, and where?
+fn ends(account: &Account<'_>, refused: Option<(usize, usize)>) -> bool {
+    match (account.verdict(), refused) {
+        (Ok(_), None) => account.stop().is_none(),
+        (Err(Refusal::No { place, .. }), Some((at, node))) => {
+            let stop = if node == 0 { None } else { Some(node) };
+            place == at && account.stop() == stop
         }
+        _ => false,
     }
-    true
-}
-
-fn tells_of_iteration(account: &Account<'_>) -> bool {
-    account.verdict().is_ok()
-        && ends(account, None, 8)
-        && are_known(account)
-        && account.known(0).is_none()
-        && account.begin(0).is_none()
-        && account.known(9).is_none()
-        && account.begin(9).is_none()
 }
 
 fn tells_of_choice(account: &Account<'_>) -> bool {
@@ -111,61 +99,45 @@ fn tells_of_choice(account: &Account<'_>) -> bool {
     };
     account.turns(4).is_none()
         && account.choice(4).is_none()
-        && is_linear(&turns, 1, 1)
+        && is_poly(&turns, "1 + N")
         && choice.kept
-        && is_linear(&choice.held, 2, 0)
-        && is_linear(&choice.texts[0], 1, 0)
+        && is_poly(&choice.held, "2*N")
+        && is_poly(&choice.texts[0], "N")
 }
 
 fn tells_of_search(account: &Account<'_>) -> bool {
     let Some(known) = account.known(5) else {
         return false;
     };
-    value_at(account, 5) == Some((-1, 0))
-        && value_at(account, 6).is_none()
-        && known.found().map(|room| (room.back, room.fore)) == Some((3, 0))
+    known.found().map(|room| (room.back, room.fore)) == Some((3, 0))
         && known.failed().map(|room| (room.back, room.fore)) == Some((0, 0))
 }
 
-fn tells_of_refused_motion(account: &Account<'_>) -> bool {
-    let Some(known) = account.known(3) else {
-        return false;
-    };
-    is_refused(account, 1)
-        && ends(account, Some(3), 4)
-        && value_at(account, 3) == Some((5, 5))
-        && has_room(&known, 0, 0)
-        && is_linear(&known.held(), 1, 0)
-        && is_linear(&known.ahead(), 1, 0)
-        && account.known(4).is_none()
-}
-
-fn tells_of_no_expansion(account: &Account<'_>) -> bool {
-    is_refused(account, 0)
-        && ends(account, None, 0)
-        && account.known(1).is_none()
-        && account.element(1).is_none()
-}
-
-// Whether each is told of the macro A of a library.
-fn is_told(file: &str, account: &Account<'_>) -> bool {
-    match file {
-        "@^UA/5C/" => tells_of_refused_motion(account),
-        "@^UA/MA/" => tells_of_no_expansion(account),
-        _ => tells_of_iteration(account) && tells_of_choice(account) && tells_of_search(account),
+impl Told {
+    // Is all of this told, of the nodes that were reached and of no others?
+    fn is_told(&self, account: &Account<'_>) -> bool {
+        let Told(_, refused, nodes, expected) = self;
+        for (place, row) in expected.iter().enumerate() {
+            if !is_known(account, place + 1, row) {
+                return false;
+            }
+        }
+        account.len() == *nodes
+            && ends(account, *refused)
+            && account.known(0).is_none()
+            && account.known(expected.len() + 1).is_none()
+            && account.begin(0).is_none()
+            && account.begin(nodes.saturating_add(1)).is_none()
+            && account.element(nodes.saturating_add(1)).is_none()
+            && (refused.is_some() || (tells_of_choice(account) && tells_of_search(account)))
     }
 }
-
-// A library of which it is told.
-struct Told(&'static str);
-
-const TOLD: [Told; 3] = [Told(MARK), Told("@^UA/5C/"), Told("@^UA/MA/")];
 
 impl Case for Told {
     fn holds(&self, alloc: Global) -> Option<bool> {
         let library = library_of(alloc, self.0.as_bytes())?;
         let account = account_of(alloc, &library, Reg::default()).ok()?;
-        Some(is_told(self.0, &account))
+        Some(self.is_told(&account))
     }
 }
 

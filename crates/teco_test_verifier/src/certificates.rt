@@ -10,67 +10,35 @@ use teco_verifier::Refusal as Why;
 use teco_verify::{Refusal, check_certificate};
 
 // Marks are put behind each occurrence of a word: one iteration.
-const MARK: &str = "TECO-CERT 1
-entry A
-needs -
-commands 8 + 4*N
-size 1 + 2*N
-loop 3 held 2*N kept texts -
-end
-";
-
-// By the second edition there are least distances, too.
-const SECOND: &str = "TECO-CERT 1
-entry A
-rules 2
-needs -
-commands 13 + 9*N
-size N
-loop 7 held N kept back 3 fore 0 texts -
-end
-";
-
-// A text is put in as often as an argument says.
-const REPEAT: &str = "TECO-CERT 2
-entry A
-argument 1 10
-needs -
-commands 24
-size 10 + N
-loop 2 held 9 + N kept texts -
-end
-";
-
-// The texts of all registers may be longer.
-const ALL_TEXTS: &str = "TECO-CERT 1
-entry A
-needs -
-commands 8
-size 1 + 2*N
-loop 3 held 2*N lost texts A=0,B=0,C=0,D=0,E=0,F=0,G=0,H=0,I=0,J=0,K=0,L=0,M=0,N=0,\
-O=0,P=0,Q=0,R=0,S=0,T=0,U=0,V=0,W=0,X=0,Y=0,Z=0,0=0,1=0,2=0,3=0,4=0,5=0,6=0,7=0,8=0,9=0
-end
-";
-
-// Two files must be open, and texts may be longer.
-const LOST: &str = "TECO-CERT 1
-entry A
-needs IO
-commands 7
-size N
-loop 5 held N lost texts B=0,0=N
-end
-";
+const MARK: &str = "TECO-CERT 1\nentry A\nneeds -\ncommands 8 + 4*N\nsize 1 + 2*N\n\
+     loop 3 held 2*N kept texts -\nend\n";
 
 // A certificate.
 struct Whole(&'static str);
 
 const CERTIFICATES: [Whole; 10] = [
     Whole(MARK),
-    Whole(SECOND),
-    Whole(REPEAT),
-    Whole(ALL_TEXTS),
-    Whole(LOST),
+    // by the second edition there are least distances, too
+    Whole(
+        "TECO-CERT 1\nentry A\nrules 2\nneeds -\ncommands 13 + 9*N\nsize N\n\
+     loop 7 held N kept back 3 fore 0 texts -\nend\n",
+    ),
+    // a text is put in as often as an argument says
+    Whole(
+        "TECO-CERT 2\nentry A\nargument 1 10\nneeds -\ncommands 24\nsize 10 + N\n\
+     loop 2 held 9 + N kept texts -\nend\n",
+    ),
+    // the texts of all registers may be longer
+    Whole(
+        "TECO-CERT 1\nentry A\nneeds -\ncommands 8\nsize 1 + 2*N\nloop 3 held 2*N lost texts \
+     A=0,B=0,C=0,D=0,E=0,F=0,G=0,H=0,I=0,J=0,K=0,L=0,M=0,N=0,O=0,P=0,Q=0,R=0,S=0,T=0,U=0,V=0,\
+     W=0,X=0,Y=0,Z=0,0=0,1=0,2=0,3=0,4=0,5=0,6=0,7=0,8=0,9=0\nend\n",
+    ),
+    // two files must be open, and texts may be longer
+    Whole(
+        "TECO-CERT 1\nentry A\nneeds IO\ncommands 7\nsize N\n\
+     loop 5 held N lost texts B=0,0=N\nend\n",
+    ),
     Whole("TECO-CERT 1\nentry 9\nneeds I\ncommands 0\nsize 0\nend\n"),
     Whole(
         "TECO-CERT 1\nentry Z\nneeds O\ncommands 7 + 5*N + N^2\nsize 18446744073709551615*N^8\nend\n",

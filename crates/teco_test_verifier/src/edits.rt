@@ -1,11 +1,11 @@
 //! Edits over files in memory, by hosts that fail at the nth call, and runs of macros that are not
 //! ready. What edits make is said by cases.
-use std::alloc::Global;
+use crate::subjects::library_of;
 use std::process::Abort;
 use teco_apply::{
     Edit, Edited, Guard, NotReady, Pages, apply, edit_file, run_verified, run_verified_with,
 };
-use teco_base::{LIMIT, Reg};
+use teco_base::{Code, Reg};
 use teco_library::Library;
 use teco_model::Stop;
 use teco_pages::{Host, HostCall, MemHost, TestHost};
@@ -24,25 +24,13 @@ const STAYS: &[u8] = b"@^UA/J/";
 const TWO: &[u8] = b"xfoo\x0cfoo";
 
 // Refuses one run, told by its number, and counts what it is asked and what it hears.
-#[derive(Clone, Copy)]
+#[derive(Clone, Copy, Default)]
 struct Watch {
     refuses: u64,
     asked: u64,
     heard: u64,
     held: u128,
     read_ahead: usize,
-}
-
-impl Watch {
-    fn refusing(refuses: u64) -> Watch {
-        Watch {
-            refuses,
-            asked: 0,
-            heard: 0,
-            held: 0,
-            read_ahead: 0,
-        }
-    }
 }
 
 impl<H: Host> Listener<H> for Watch {
@@ -56,7 +44,7 @@ impl<H: Host> Listener<H> for Watch {
         self.heard = self.heard.saturating_add(1);
     }
 
-    fn rest(&mut self, _code: Option<teco_base::Code>) {}
+    fn rest(&mut self, _code: Option<Code>) {}
 }
 
 impl<H: Host> Guard<H> for Watch {
@@ -86,13 +74,8 @@ struct Left {
 impl Left {
     // Did a code end it, or a guard or neither, behind so many pages and in so many steps?
     fn is_ended(&self, coded: bool, refused: bool, pages: u64, steps: u64) -> bool {
-        match self.done {
-            Ok(done) => {
-                (done.coded, done.refused) == (coded, refused)
-                    && (done.pages, done.steps) == (pages, steps)
-            }
-            Err(_) => false,
-        }
+        let wanted = (coded, refused, pages, steps);
+        matches!(self.done, Ok(done) if (done.coded, done.refused, done.pages, done.steps) == wanted)
     }
 
     // Is there no output, and this written?
@@ -106,27 +89,18 @@ impl Left {
     }
 }
 
-// The library of a file.
-fn library_of(rt: &impl Abort, alloc: Global, file: &[u8]) -> Library {
-    assert!(rt; file.len() <= LIMIT);
-    match Library::read(alloc, file) {
-        Ok(library) => library,
-        Err(_) => panic!(rt; "a library"),
-    }
-}
-
-// Its verified macro A.
-fn verified_of<'l>(rt: &impl Abort, alloc: Global, library: &'l Library) -> Verified<'l> {
-    match verify(alloc, library, Reg::default()) {
+// The verified macro A of a library.
+fn verified_of<'l>(rt: &(impl Abort + AllocGlobal), library: &'l Library) -> Verified<'l> {
+    match verify(rt.alloc(), library, Reg::default()) {
         Ok(verified) => verified,
         Err(_) => panic!(rt; "accepted"),
     }
 }
 
 // A host with a file `in` of this text that fails so.
-fn failing_host(rt: &impl Abort, alloc: Global, input: &[u8], failing: Failing) -> TestHost {
+fn failing_host(rt: &(impl Abort + AllocGlobal), input: &[u8], failing: Failing) -> TestHost {
     let (piece, call, nth) = failing;
-    let mut mem = MemHost::new(alloc);
+    let mut mem = MemHost::new(rt.alloc());
     assert!(rt; mem.put(b"in", input).is_ok());
     assert!(rt; piece > 0);
     TestHost::new(mem, piece, call, nth)
@@ -134,15 +108,16 @@ fn failing_host(rt: &impl Abort, alloc: Global, input: &[u8], failing: Failing) 
 
 // Edits pages of the file `in` of a host into the file `out`, where a guard refuses a run.
 fn edited_over(
-    rt: &impl Abort,
-    alloc: Global,
+    rt: &(impl Abort + AllocGlobal),
     verified: &Verified<'_>,
     (pages, refuses): (Pages, u64),
     mut host: TestHost,
 ) -> Left {
+    let alloc = rt.alloc();
     let mut machine = Machine::new(alloc, VecText::new(alloc));
     let mut written = Vec::new(alloc);
-    let mut seen = Watch::refusing(refuses);
+    let mut seen = Watch::default();
+    seen.refuses = refuses;
     let edit = Edit {
         alloc,
         verified,
@@ -161,15 +136,11 @@ fn edited_over(
     }
 }
 
-/// How many steps a verified macro takes on the first page of a file, if it comes to its end.
-pub fn edited_first(
-    rt: &impl Abort,
-    alloc: Global,
-    verified: &Verified<'_>,
-    input: &[u8],
-) -> Option<u64> {
-    let host = failing_host(rt, alloc, input, NONE);
-    let left = edited_over(rt, alloc, verified, (Pages::First, 0), host);
+/// How many steps a verified macro takes on the first of two pages of three characters, if it comes to
+/// its end.
+pub fn edited_first(rt: &(impl Abort + AllocGlobal), verified: &Verified<'_>) -> Option<u64> {
+    let host = failing_host(rt, b"foo\x0cbar", NONE);
+    let left = edited_over(rt, verified, (Pages::First, 0), host);
     match left.done {
         Ok(done) if !done.coded && !done.refused && done.pages == 1 => Some(done.steps),
         _ => None,
@@ -178,16 +149,15 @@ pub fn edited_first(
 
 // Edits pages of a file that is `TWO` by the macro A of a library, where a guard refuses a run.
 fn edited(
-    rt: &impl Abort,
-    alloc: Global,
+    rt: &(impl Abort + AllocGlobal),
     file: &[u8],
     asked: (Pages, u64),
     failing: Failing,
 ) -> Left {
-    let host = failing_host(rt, alloc, TWO, failing);
-    let library = library_of(rt, alloc, file);
-    let verified = verified_of(rt, alloc, &library);
-    edited_over(rt, alloc, &verified, asked, host)
+    let host = failing_host(rt, TWO, failing);
+    let library = library_of(rt.alloc(), file).expect(rt, "a library");
+    let verified = verified_of(rt, &library);
+    edited_over(rt, &verified, asked, host)
 }
 
 // The first run is refused, and the second. Or none is, and heard are what opens the files, two
@@ -195,12 +165,12 @@ fn edited(
 // the macro are held, and all has been read.
 #[test]
 fn a_guard_is_asked_and_hears(rt: HostRuntime) {
-    let first = edited(&rt, rt.alloc(), MARKS, (Pages::Each, 1), NONE);
+    let first = edited(&rt, MARKS, (Pages::Each, 1), NONE);
     assert!(rt; first.is_ended(false, true, 0, 0) && first.is_dropped(b""));
     assert!(rt; first.has_seen(1, 16, 3));
-    let second = edited(&rt, rt.alloc(), MARKS, (Pages::Each, 2), NONE);
+    let second = edited(&rt, MARKS, (Pages::Each, 2), NONE);
     assert!(rt; second.is_dropped(b"") && second.has_seen(2, 15, 0));
-    let whole = edited(&rt, rt.alloc(), MARKS, (Pages::Each, 0), NONE);
+    let whole = edited(&rt, MARKS, (Pages::Each, 0), NONE);
     assert!(rt; whole.has_seen(2, 15, 0) && whole.seen.heard == 5);
     assert!(rt; whole.host.mem().file(b"out") == Some(b"xfoo!\x0cfoo!".as_slice()));
 }
@@ -221,7 +191,7 @@ const DROPPED: &[Dropped] = &[
 #[test]
 fn a_code_drops_the_output(rt: HostRuntime) {
     for (failing, pages, written, count, steps) in DROPPED.iter() {
-        let left = edited(&rt, rt.alloc(), STAYS, (*pages, 0), *failing);
+        let left = edited(&rt, STAYS, (*pages, 0), *failing);
         let is_so = left.is_ended(true, false, *count, *steps) && left.is_dropped(written);
         assert!(rt; is_so, "{written:?} behind {count} pages");
     }
@@ -230,10 +200,10 @@ fn a_code_drops_the_output(rt: HostRuntime) {
 // A first page is edited and typed, and where the output can't be closed it is dropped.
 #[test]
 fn a_first_page_is_edited_or_the_output_dropped(rt: HostRuntime) {
-    let library = library_of(&rt, rt.alloc(), b"@^UA/HT/");
-    let verified = verified_of(&rt, rt.alloc(), &library);
+    let library = library_of(rt.alloc(), b"@^UA/HT/").expect(&rt, "a library");
+    let verified = verified_of(&rt, &library);
     for nth in 0..2 {
-        let mut host = failing_host(&rt, rt.alloc(), TWO, (1, HostCall::CloseOut, nth));
+        let mut host = failing_host(&rt, TWO, (1, HostCall::CloseOut, nth));
         let mut machine = Machine::new(rt.alloc(), VecText::new(rt.alloc()));
         let mut told = Vec::new(rt.alloc());
         let (alloc, on) = (rt.alloc(), &mut machine);
@@ -246,26 +216,17 @@ fn a_first_page_is_edited_or_the_output_dropped(rt: HostRuntime) {
     }
 }
 
-// How the run of the macro A of a library stops on an empty machine, with an argument where one is
-// given.
-fn stop_of(
-    rt: &impl Abort,
-    alloc: Global,
-    file: &[u8],
-    given: Option<i32>,
-) -> Result<Stop, NotReady> {
-    let library = library_of(rt, alloc, file);
-    let verified = verified_of(rt, alloc, &library);
-    let mut machine = Machine::new(alloc, VecText::new(alloc));
-    let mut host = MemHost::new(alloc);
-    match given {
+// What the run of the macro A of a library on an empty machine asks for first, with an argument where one
+// is given; one that is declared is from 1 to 10.
+fn asked_for(rt: &(impl Abort + AllocGlobal), file: &[u8], given: Option<i32>) -> &'static str {
+    let library = library_of(rt.alloc(), file).expect(rt, "a library");
+    let verified = verified_of(rt, &library);
+    let mut machine = Machine::new(rt.alloc(), VecText::new(rt.alloc()));
+    let mut host = MemHost::new(rt.alloc());
+    let stop = match given {
         Some(n) => run_verified_with(&mut machine, &verified, n, &mut host),
         None => run_verified(&mut machine, &verified, &mut host),
-    }
-}
-
-// What is asked for first, in a word; an argument that is declared is from 1 to 10.
-fn asked_for(stop: Result<Stop, NotReady>) -> &'static str {
+    };
     match stop {
         Ok(Stop::Ended { .. }) => "nothing",
         Ok(_) => "another end",
@@ -299,7 +260,6 @@ const ASKING: &[(&[u8], Option<i32>, &str)] = &[
 #[test]
 fn runs_ask_for_files_and_arguments(rt: HostRuntime) {
     for (number, (file, given, wanted)) in ASKING.iter().enumerate() {
-        let stop = stop_of(&rt, rt.alloc(), file, *given);
-        assert!(rt; asked_for(stop) == *wanted, "row {number}");
+        assert!(rt; asked_for(&rt, file, *given) == *wanted, "row {number}");
     }
 }

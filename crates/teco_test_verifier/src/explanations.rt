@@ -1,6 +1,6 @@
 // Names of codes and refusals, their notes, and hints.
 use crate::subjects::{Case, expect_all};
-use std::alloc::{AllocError, Global};
+use std::alloc::Global;
 use std::test::*;
 use teco_base::{Code, Reg};
 use teco_explain::{
@@ -86,24 +86,15 @@ const HINTS: [Hinted; 16] = [
     Hinted("15 1 0 Sfoo\x1b => Outside an iteration"),
 ];
 
-// What a line begins with before a blank, and what stands behind it.
-fn parted(line: &str) -> Option<(&str, &str)> {
-    line.split_once(" ")
-}
-
 impl Case for Hinted {
     fn holds(&self, alloc: Global) -> Option<bool> {
-        let (number, rest) = parted(self.0)?;
-        let (edition, rest) = parted(rest)?;
-        let (place, rest) = parted(rest)?;
+        let (number, rest) = self.0.split_once(" ")?;
+        let (edition, rest) = rest.split_once(" ")?;
+        let (place, rest) = rest.split_once(" ")?;
         let (text, front) = rest.split_once(" => ")?;
         let name = format!(in alloc; "X{number}").ok()?;
         let why = refusal_numbered(name.as_str())?;
-        let rules = if edition == "1" {
-            Rules::First
-        } else {
-            Rules::Second
-        };
+        let rules = [Rules::First, Rules::Second][usize::from(edition == "2")];
         let found = hint(why, text.as_bytes(), place.parse().ok()?, rules).unwrap_or("");
         Some(found.starts_with(front) && found.is_empty() == front.is_empty())
     }
@@ -128,35 +119,27 @@ const OUTLINES: [Outlined; 3] = [
 
 impl Case for Outlined {
     fn holds(&self, alloc: Global) -> Option<bool> {
-        let outline = Outline {
-            text: self.0.as_bytes(),
-            mark: b'$',
-        };
-        let lines = format!(in alloc; "{outline}").ok()?;
-        Some(lines.as_str() == self.1)
+        Some(lines_of(alloc, self.0)?.as_str() == self.1)
     }
 }
 
-// A text of so many iterations in one another.
-fn nested(alloc: Global, count: usize) -> Result<Vec<u8>, AllocError> {
-    let mut text = Vec::new(alloc);
-    for _ in 0..count {
-        text.extend_from_slice(b"1<")?;
-    }
-    for _ in 0..count {
-        text.push(b'>')?;
-    }
-    Ok(text)
+// The lines that a text is laid out in.
+fn lines_of(alloc: Global, text: &str) -> Option<String> {
+    let outline = Outline {
+        text: text.as_bytes(),
+        mark: b'$',
+    };
+    format!(in alloc; "{outline}").ok()
 }
 
 // How long the longest line is that so many iterations in one another are laid out in.
 fn longest_line(alloc: Global, count: usize) -> Option<usize> {
-    let text = nested(alloc, count).ok()?;
-    let outline = Outline {
-        text: &text,
-        mark: b'$',
-    };
-    let lines = format!(in alloc; "{outline}").ok()?;
+    let (open, close) = (
+        "1<".repeat(alloc, count).ok()?,
+        ">".repeat(alloc, count).ok()?,
+    );
+    let text = format!(in alloc; "{open}{close}").ok()?;
+    let lines = lines_of(alloc, &text)?;
     lines.as_str().split("\n").map(|line| line.len()).max()
 }
 
@@ -193,28 +176,18 @@ const FAULT: &str =
 
 const MISSING: &str = "lib.tec: refused X11: the library has no such macro";
 
-// The register of a name.
-fn register_of(name: &str) -> Option<Reg> {
-    Reg::of(*name.as_bytes().first()?)
-}
-
-// What is said of the refusal.
-fn explained(alloc: Global, row: &Said) -> Result<String, AllocError> {
-    let file = row.0.as_bytes().to_vec(alloc)?;
-    let source = Source::new(alloc, "lib.tec", file, Form::Readable)?;
-    let explained = Explained {
-        source: &source,
-        why: row.1,
-        register: register_of(row.2),
-        place: row.3,
-        rules: Rules::First,
-    };
-    Ok(format!(in alloc; "{explained}")?)
-}
-
 impl Case for Said {
     fn holds(&self, alloc: Global) -> Option<bool> {
-        let text = explained(alloc, self).ok()?;
+        let file = self.0.as_bytes().to_vec(alloc).ok()?;
+        let source = Source::new(alloc, "lib.tec", file, Form::Readable).ok()?;
+        let explained = Explained {
+            source: &source,
+            why: self.1,
+            register: self.2.as_bytes().first().and_then(|name| Reg::of(*name)),
+            place: self.3,
+            rules: Rules::First,
+        };
+        let text = format!(in alloc; "{explained}").ok()?;
         Some(text.as_str() == self.4)
     }
 }

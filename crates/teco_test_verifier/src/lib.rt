@@ -18,4 +18,6 @@ mod subjects;
 #[cfg(test)]
 mod two_bytes;
 #[cfg(test)]
+mod values;
+#[cfg(test)]
 mod words;

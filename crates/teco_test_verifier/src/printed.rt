@@ -55,15 +55,10 @@ fn premises_and_refusals_are_printed(rt: HostRuntime) -> Result<(), Fail> {
         register: Reg::of(b'0'),
         place: 12,
     };
-    let printed = format!(in rt.alloc(); "{verdict}")?;
-    expect_text(&rt, printed.as_bytes(), "refused X10 in 0 at 12");
     let fault = LibraryFault::NotALibrary { place: 12 };
-    let told = format!(in rt.alloc(); "{fault}")?;
-    expect_text(
-        &rt,
-        told.as_bytes(),
-        "the element at 12 cannot stand in a library",
-    );
+    let told = format!(in rt.alloc(); "{verdict}; {fault}")?;
+    let wanted = "refused X10 in 0 at 12; the element at 12 cannot stand in a library";
+    expect_text(&rt, told.as_bytes(), wanted);
     Ok(())
 }
 
@@ -195,14 +190,10 @@ fn promises_and_searches_are_told(rt: HostRuntime) -> Result<(), Fail> {
 
 // Six nested iterations that read one another's registers, so that the innermost, in which so many
 // elements stand, is searched some hundred times.
-fn nested(alloc: Global, elements: usize) -> Result<Vec<u8>, Fail> {
-    let mut text = Vec::new(alloc);
-    text.extend_from_slice(b"@^UA~2<Ia$HXFGC2<0XEIa$2<^UGa$:^UDa$2<^UGa$^UDa$2<GD:^UGa$2<HXEHXG")?;
-    for _ in 0..elements {
-        text.push(b'J')?;
-    }
-    text.extend_from_slice(b">HXC>>>>GE>~")?;
-    Ok(text)
+fn nested(alloc: Global, elements: usize) -> Result<String, Fail> {
+    let front = "@^UA~2<Ia$HXFGC2<0XEIa$2<^UGa$:^UDa$2<^UGa$^UDa$2<GD:^UGa$2<HXEHXG";
+    let inside = "J".repeat(alloc, elements)?;
+    Ok(format!(in alloc; "{front}{inside}>HXC>>>>GE>~")?)
 }
 
 const HINT: &[u8] = b"\n  the second edition of the rules accepts it: add --rules 2\n";
@@ -224,9 +215,9 @@ fn is_hinted(rt: &HostRuntime, text: &[u8], has_hint: bool, has_guess: bool) -> 
 fn the_second_edition_is_hinted_at(rt: HostRuntime) -> Result<(), Fail> {
     assert!(rt; is_hinted(&rt, b"@^UA/J<I> $L.-Z;>/", true, false)?);
     assert!(rt; is_hinted(&rt, b"@^UA/J<LA.-Z;>/", false, false)?);
-    let short = nested(rt.alloc(), 40)?;
-    assert!(rt; is_hinted(&rt, &short, false, false)?);
-    let long = nested(rt.alloc(), 700)?;
-    assert!(rt; is_hinted(&rt, &long, false, true)?);
+    for (elements, has_guess) in [(40, false), (700, true)] {
+        let text = nested(rt.alloc(), elements)?;
+        assert!(rt; is_hinted(&rt, text.as_bytes(), false, has_guess)?);
+    }
     Ok(())
 }

@@ -28,46 +28,38 @@ fn stopped_anew(alloc: Global, command: &[u8], limit: u64) -> Option<Stopped> {
 
 // A command string, the limit on its steps, how many it does, what it comes to, and where: the
 // register whose text it stops in, if it does, and the place.
-type Row = (
-    &'static [u8],
-    u64,
-    u64,
-    Result<u64, Code>,
-    Option<u8>,
-    usize,
-);
+type Row = (&'static [u8], u64, u64, Answer, (Option<u8>, usize));
 
 // Does a command string stop as a row says?
 fn stops_so(stopped: Stopped, row: &Row) -> bool {
     let site = Site {
-        register: row.4.and_then(Reg::of),
-        place: row.5,
+        register: row.4.0.and_then(Reg::of),
+        place: row.4.1,
     };
     answer(stopped.stop) == row.3 && stopped.steps == row.2 && stopped.site == site
 }
 
 const STOPPED: &[Row] = &[
-    (b"", 9, 0, Ok(0), None, 0),
-    (b"1=2=", 0, 0, Err(Code::Lim), None, 0),
-    (b"1=  2=", 2, 2, Err(Code::Lim), None, 4),
-    (b" 1= \r\n", 9, 2, Ok(2), None, 6),
-    (b"1=\x1b\x1b", 9, 4, Ok(4), None, 4),
-    (b"1= EX", 9, 2, Ok(3), None, 3),
-    (b"Iab\x1b  -3D", 9, 3, Err(Code::Dtb), None, 8),
-    (b"1= ^Y 2 ,", 9, 4, Err(Code::Arg), None, 8),
-    (b"<1= ", 9, 3, Err(Code::Utc), None, 4),
-    (b"1= ERno\x1b", 9, 2, Err(Code::Fnf), None, 3),
-    (b"@^UA/9C/MA", 9, 3, Err(Code::Pop), Some(b'A'), 1),
-    (b"@^UA/ <1=/ MA", 9, 5, Err(Code::Utm), Some(b'A'), 4),
-    (b"@^UA/1=  2=/ MA 3=", 4, 4, Err(Code::Lim), Some(b'A'), 4),
-    (b"@^UA/1=/MA -D", 9, 6, Err(Code::Dtb), None, 12),
+    (b"", 9, 0, Ok(0), (None, 0)),
+    (b"1=2=", 0, 0, Err(Code::Lim), (None, 0)),
+    (b"1=  2=", 2, 2, Err(Code::Lim), (None, 4)),
+    (b" 1= \r\n", 9, 2, Ok(2), (None, 6)),
+    (b"1=\x1b\x1b", 9, 4, Ok(4), (None, 4)),
+    (b"1= EX", 9, 2, Ok(3), (None, 3)),
+    (b"Iab\x1b  -3D", 9, 3, Err(Code::Dtb), (None, 8)),
+    (b"1= ^Y 2 ,", 9, 4, Err(Code::Arg), (None, 8)),
+    (b"<1= ", 9, 3, Err(Code::Utc), (None, 4)),
+    (b"1= ERno\x1b", 9, 2, Err(Code::Fnf), (None, 3)),
+    (b"@^UA/9C/MA", 9, 3, Err(Code::Pop), (Some(b'A'), 1)),
+    (b"@^UA/ <1=/ MA", 9, 5, Err(Code::Utm), (Some(b'A'), 4)),
+    (b"@^UA/1=  2=/ MA 3=", 4, 4, Err(Code::Lim), (Some(b'A'), 4)),
+    (b"@^UA/1=/MA -D", 9, 6, Err(Code::Dtb), (None, 12)),
     (
         b"@^UB/ 9C/@^UA/1= MB/MA",
         9,
         7,
         Err(Code::Pop),
-        Some(b'B'),
-        2,
+        (Some(b'B'), 2),
     ),
 ];
 
@@ -94,7 +86,7 @@ fn want_of_memory_has_a_site(rt: HostRuntime) {
     if stopped.steps == 0 {
         stopped = machine.run_to_stop(b"1 =", 9, &mut host);
     }
-    assert!(rt; stops_so(stopped, &(b"1 =", 9, 1, Err(Code::Mem), None, 2)));
+    assert!(rt; stops_so(stopped, &(b"1 =", 9, 1, Err(Code::Mem), (None, 2))));
 }
 
 // Does the last step of a run come to what the run answers? A run looks whether it is at its end
@@ -126,43 +118,26 @@ fn step_on(
     (limit, Progress::On)
 }
 
-// Do steps of a command string that is begun come to what a run of it with that limit came to,
-// there? None where memory was refused.
-fn steps_lead_there(
-    machine: &mut Machine<VecText>,
-    execution: &mut Execution<'_>,
-    limit: u64,
-    host: &mut MemHost,
-    stopped: Stopped,
-) -> Option<bool> {
-    let (steps, progress) = step_on(machine, execution, limit, host);
-    if let Progress::Memory = progress {
-        return None;
-    }
-    let is_there = steps == stopped.steps && execution.site() == stopped.site;
-    Some(is_there && agrees(stopped.stop, progress))
-}
-
 // Are the steps of a command string on one machine a run of that limit on another, which types the
 // same? None where memory was refused.
 fn are_steps_a_run(alloc: Global, command: &[u8], limit: u64) -> Option<bool> {
     let mut ran = new_machine(alloc);
-    let Some(stopped) = run_to_stop(&mut ran, alloc, command, limit) else {
-        return None;
-    };
-    let mut stepped = new_machine(alloc);
-    let mut host = MemHost::new(alloc);
+    let stopped = run_to_stop(&mut ran, alloc, command, limit)?;
+    let (mut stepped, mut host) = (new_machine(alloc), MemHost::new(alloc));
     if command.len() > LIMIT {
         return None;
     }
-    let is_there = match stepped.begin(command) {
-        Ok(mut execution) => {
-            steps_lead_there(&mut stepped, &mut execution, limit, &mut host, stopped)?
-        }
-        Err(_) => return None,
+    let Ok(mut execution) = stepped.begin(command) else {
+        return None;
     };
+    let (steps, progress) = step_on(&mut stepped, &mut execution, limit, &mut host);
+    if let Progress::Memory = progress {
+        return None;
+    }
+    let is_there = steps == stopped.steps && execution.site() == stopped.site;
     let typed = ran.take_typed();
-    Some(is_there && has_typed(&mut stepped, &typed) && ran.dot() == stepped.dot())
+    let is_same = has_typed(&mut stepped, &typed) && ran.dot() == stepped.dot();
+    Some(is_there && is_same && agrees(stopped.stop, progress))
 }
 
 const STEPPED: &[&[u8]] = &[
@@ -174,7 +149,7 @@ const STEPPED: &[&[u8]] = &[
     b"@^UA/<1=/ MA",
 ];
 
-// They are, up to each of some limits.
+// Up to each of some limits.
 #[test]
 fn steps_are_a_run(rt: HostRuntime) {
     for command in STEPPED.iter() {
