@@ -1,23 +1,17 @@
 -- Q and ^X.
 use Rattle.std.proofs.Common.{◌≡◌, ℕ, zero, suc, ◌<◌, ◌≤◌, ℤ, pos, negsuc, ◌≤ℤ◌, List, [], ◌∷◌, length, Bool, true}
-use Rattle.std.proofs.Common.{false, Option, Some, None, is_some, is_none, ◌&&◌, Result, Ok, Err, slice_get, unwrap_or}
-use Rattle.std.proofs.Common.{slice_index_or, refl, sym, ap, subst, ◌∙◌, arith, FitsSigned, w32, option_map}
+use Rattle.std.proofs.Common.{false, Option, Some, None, is_some, is_none, ◌&&◌, slice_get, unwrap_or}
+use Rattle.std.proofs.Common.{slice_index_or, refl, sym, ap, subst, ◌∙◌, arith, option_map}
 use Rattle.std.proofs.lemmas.Int.{ints}
 use Rattle.std.specs.List.{AllByRecursion}
-use Rattle.teco_base.specs.declared.TheConstants.{REGISTERS}
-use Rattle.teco_base.specs.declared.code.Code.{Code}
 use Rattle.teco_linear.specs.declared.term.Term.{Term}
 use Rattle.teco_linear.specs.Form.{Valuation, value}
 use Rattle.teco_model.specs.Arguments.{level_with, standing_value, value_beside}
 use Rattle.teco_model.specs.Character.{code_at}
-use Rattle.teco_model.specs.Checked.{◌>>=◌}
-use Rattle.teco_model.specs.Element.{Element}
-use Rattle.teco_model.specs.Going.{after}
-use Rattle.teco_model.specs.Registers.{Pair, pair_of, empty_pair}
+use Rattle.teco_model.specs.Registers.{pair_of, empty_pair}
 use Rattle.teco_model.specs.State.{Kept}
 use Rattle.teco_model.specs.Step.{after_query_with, value_for}
 use Rattle.teco_model.specs.Storage.{number_in, text_in}
-use Rattle.teco_model.specs.declared.arguments.Level.{Level}
 use Rattle.teco_model.specs.declared.arguments.Operator.{Operator}
 use Rattle.teco_model.specs.declared.kind.Query.TheVariants.{Number, Mode}
 use Rattle.teco_model.specs.laws.Whole.{AreBytes, IsWhole, IsWholePair}
@@ -29,7 +23,7 @@ use Rattle.teco_outcomes.specs.declared.outcomes.Outcomes.{Outcomes}
 use Rattle.teco_outcomes.specs.declared.queries.TheConstants.{CHARACTER}
 use Rattle.teco_outcomes.specs.declared.row.Places.{Places}
 use Rattle.teco_outcomes.specs.Commands.{IsAtLevel, IsCommanded, Leads, commanded}
-use Rattle.teco_outcomes.specs.Foretold.{Begins, Describe, Foretells, Gives, IsOne, Succeeds, with_level}
+use Rattle.teco_outcomes.specs.Foretold.{Describe, Gives, IsOne, Succeeds, with_level}
 use Rattle.teco_outcomes.specs.Queries.{Asks, GivesAny, Stands}
 use Rattle.teco_outcomes.specs.Cases.{value_if}
 use Rattle.teco_outcomes.specs.declared.measure.Family.TheVariants.{Value}

@@ -1,5 +1,5 @@
 -- Cases without some levels of pending arguments.
-use Rattle.std.proofs.Common.{◌≡◌, ℕ, ◌+◌, ◌<◌, ◌≤◌, ◌==◌, List, [], ◌∷◌, ◌++◌, length, Bool, true, false, Option, Some}
+use Rattle.std.proofs.Common.{◌≡◌, ℕ, ◌+◌, ◌<◌, ◌≤◌, ◌==◌, List, [], ◌∷◌, length, Bool, true, false, Option, Some}
 use Rattle.std.proofs.Common.{None, ℤ, if◌then◌else◌, option_and_then, slice_index_or, refl, sym, ap, subst, ◌∙◌, arith}
 use Rattle.std.proofs.lemmas.Bool.Decides.{nat_tests}
 use Rattle.std.specs.List.{All}
@@ -14,7 +14,6 @@ use Rattle.teco_outcomes.specs.declared.measure.Family.TheVariants.{Number, Leng
 use Rattle.teco_outcomes.specs.declared.measure.Family.TheVariants.{First, Value}
 use Rattle.teco_outcomes.specs.declared.measure.Measure.{Measure}
 use Rattle.teco_outcomes.specs.declared.measure.Measure.TheVariants.{One, Each}
-use Rattle.teco_outcomes.specs.declared.measure.Single.{Single}
 use Rattle.teco_outcomes.specs.declared.measure.Single.TheVariants.{Steps, Pointer, Size, Held, LineEnd, LineStart}
 use Rattle.teco_outcomes.specs.declared.measure.Single.TheVariants.{LastLength}
 use Rattle.teco_outcomes.specs.declared.row.Places.{Places}

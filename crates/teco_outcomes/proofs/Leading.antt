@@ -110,6 +110,38 @@ leads row b s kept answer turns numbers lengths firsts parts = record {
     firsts_stay (Some y) = level_same (answered None) (answered (Some y)) s.arguments.outer i (λ l. l.first) refl
   becomes (Each Value i) = parts.values i
 
+-- a row says nothing but of what a state has once
+abbrev pub is_of_singles : List Clause → Bool
+is_of_singles row =
+    (leaves Number row && leaves Length row) && ((leaves Turns row && leaves First row)
+    && (leaves Value row && (leaves PushedNumber row && leaves PushedLength row)))
+
+-- such a row leads where these do, and registers stay
+pub leads_singles : (row : List Clause) (b : Before) (s : Point) (kept : Kept) → kept.registers ≡ s.kept.registers
+    → is_of_singles row ≡ true → AreMet row b
+    → ((which : Single) → Some (pos (single (commanded s kept None) which))
+    ≡ changed row b (One which) (Some (pos (single (commanded s s.kept None) which))))
+    → Leads row b s kept None
+leads_singles row b s kept same of met singles =
+    let texts = left_of (leaves Number row && leaves Length row) _ of in
+    let others = right_of (leaves Number row && leaves Length row) _ of in
+    let levels = left_of (leaves Turns row && leaves First row) _ others in
+    let rest = right_of (leaves Turns row && leaves First row) _ others in
+    let pushes = right_of (leaves Value row) _ rest in
+    leads row b s kept None (left_of (leaves Turns row) _ levels) (left_of (leaves PushedNumber row) _ pushes)
+    (right_of (leaves PushedNumber row) _ pushes) (right_of (leaves Turns row) _ levels) (record {
+      met = met;
+      singles = singles;
+      numbers = λ i.
+          ap (λ r. number_of (slice_get r.pairs i)) same
+          ∙ left_alone row b Number i _ (left_of (leaves Number row) _ texts);
+      lengths = λ i.
+          ap (λ r. length_of (slice_get r.pairs i)) same
+          ∙ left_alone row b Length i _ (right_of (leaves Number row) _ texts);
+      values = λ i. left_alone row b Value i _ (left_of (leaves Value row) _ rest);
+      stack = ap (λ r. r.stack) same;
+    })
+
 -- what an answer is
 pub answers : (s : Point) (kept : Kept) (here : Places) (i : ℕ) (x : ℤ) (y : Option ℤ)
     → here.level ≡ length s.arguments.outer → Some x ≡ y

@@ -19,3 +19,10 @@ pub mod Closing
 pub mod Asking
 pub mod Stepping
 pub mod Registering
+pub mod Ranging
+pub mod Turning
+pub mod Branching
+pub mod Pushing
+pub mod Cutting
+pub mod Lining
+pub mod Inserting

@@ -199,7 +199,7 @@ module _ (s : Point) (here : Places) (given unknown : ℕ → ℤ) (k : ℕ) (wh
     back LastLength = refl
 
 -- ---- to a place that a number names, or off the buffer
-place_there : (text : List ℕ) (k : ℕ) → k ≤ length text → place_in text (pos k) ≡ Some k
+pub place_there : (text : List ℕ) (k : ℕ) → k ≤ length text → place_in text (pos k) ≡ Some k
 place_there text k h = let e : nat_le k (length text) ≡ true = grind (arith, nat_tests) in
     ap (λ b. if b then Some k else None) e
 

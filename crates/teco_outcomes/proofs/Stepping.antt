@@ -1,26 +1,29 @@
 -- What is foretold of elements is a law of the machine's step.
-use Rattle.std.proofs.Common.{◌≡◌, ℕ, ◌+◌, inl, Option, Some, Result, Ok, Err, refl, sym, ap, subst, ◌∙◌}
+use Rattle.std.proofs.Common.{◌≡◌, ℕ, inl, inr, Result, Ok, Err, refl, sym, ap, subst, ◌∙◌}
 use Rattle.teco_base.specs.declared.code.Code.{Code}
-use Rattle.teco_linear.specs.Form.{Valuation}
 use Rattle.teco_model.specs.Arguments.{Arguments, levels_after_answer, levels_after_taking}
 use Rattle.teco_model.specs.Checked.{◌>>=◌}
 use Rattle.teco_model.specs.Effect.{Effect}
 use Rattle.teco_model.specs.Element.{Element}
 use Rattle.teco_model.specs.Going as going
-use Rattle.teco_model.specs.State.{State}
-use Rattle.teco_model.specs.Step.{after_argument, after_command, after_query, after_value, execution}
-use Rattle.teco_model.specs.Step.{levels_after, outcome_at, reply_of, step}
+use Rattle.teco_model.specs.Flow.{Turn, turn_of}
+use Rattle.teco_model.specs.State.{Frame, State}
+use Rattle.teco_model.specs.Step.{after_argument, after_command, after_query, after_stack, after_value, execution}
+use Rattle.teco_model.specs.Step.{flow_reply, levels_after, outcome_at, reply_of, step}
 use Rattle.teco_model.specs.declared.kind.Argument.{Argument}
 use Rattle.teco_model.specs.declared.kind.Command.{Command}
+use Rattle.teco_model.specs.declared.kind.Flow.{Flow}
 use Rattle.teco_model.specs.declared.kind.Kind.TheVariants as kind
 use Rattle.teco_model.specs.declared.kind.Query.{Query}
+use Rattle.teco_model.specs.declared.kind.Stack.{Stack}
 use Rattle.teco_model.specs.declared.kind.Value.{Value}
 use Rattle.teco_outcomes.specs.declared.case.Case.{Case}
 use Rattle.teco_outcomes.specs.declared.commands.Taken.{Taken}
 use Rattle.teco_outcomes.specs.declared.outcomes.Outcomes.{Outcomes}
 use Rattle.teco_outcomes.specs.Commands.{IsTaken, Performs, commanded, taken_by}
 use Rattle.teco_outcomes.specs.Foretold.{Describe, Foretells, Rearranges, Succeeds}
-use Rattle.teco_outcomes.specs.Law.{Goes, Law, StepsTo, point_of}
+use Rattle.teco_outcomes.specs.Flow.{IsTurnOf, Turns}
+use Rattle.teco_outcomes.specs.Law.{Goes, Law, StepsTo, loops_in, point_of}
 use Rattle.teco_outcomes.specs.Queries.{Asks}
 use Rattle.teco_outcomes.specs.States.{Point, behind}
 
@@ -89,3 +92,40 @@ command_foretold e case taken all c is performs n v s begins =
           (levels_after_answer effect.answer (levels_after_taking s.arguments)))))
       passed (Ok effect) d = d
       passed (Err c) d = d
+
+pub stack_law : (e : Element) (case : Case) (all : Outcomes) (k : Stack) → e.kind ≡ kind.Stack k
+    → Foretells (λ s. after_stack k s.kept s.arguments) case all → Law e case all
+unfolding reply_of
+stack_law e case all k is foretells =
+    editor_law e case all (λ s. after_stack k s.kept s.arguments) (λ s steps below. ap (λ k. reply_of k e s) is)
+    foretells
+
+-- ---- a flow element turns
+pub flow_law : (e : Element) (case : Case) (all : Outcomes) (f : Flow) → e.kind ≡ kind.Flow f
+    → Turns f e.colons case all → Law e case all
+unfolding step reply_of
+flow_law e case all f is turns n v s steps below stands begins =
+    subst (StepsTo (Goes n all e steps below s))
+    (sym (ap (outcome_at s) stands.reads ∙ ap (λ k. going.settle e s (reply_of k e s)) is))
+    (settled (turn_of f e s.arguments s.frames.running)
+    (turns e s.frames.running (loops_in s.frames.callers) n v (point_of steps below s) is refl stands.matched refl
+    begins)) where
+      settled : (r : Result Turn Code)
+          → Succeeds (IsTurnOf n all.cases.items all.away.items e s.frames.running (loops_in s.frames.callers)
+          (point_of steps below s)) r
+          → StepsTo (Goes n all e steps below s) (going.settle e s (flow_reply s.left s.world r))
+      settled (Ok turn) (inl h) = inl (record {
+        described = h.described;
+        there = ap (λ (frame : Frame). record s.frames { running = frame }) h.there;
+        left = refl;
+      })
+      settled (Ok turn) (inr (place, away, h)) = inr (
+        place,
+        away,
+        record {
+          described = h.described;
+          there = ap (λ (frame : Frame). record s.frames { running = frame }) h.there;
+          left = refl;
+        },
+      )
+      settled (Err c) d = absurd d

@@ -9,7 +9,7 @@ use Rattle.teco_linear.specs.declared.term.Term.{Term}
 use Rattle.teco_linear.specs.Form.{Valuation, value}
 use Rattle.teco_model.specs.Arguments.{level_with, level_with_pair}
 use Rattle.teco_model.specs.Checked.{◌>>=◌}
-use Rattle.teco_model.specs.Going.{After, after}
+use Rattle.teco_model.specs.Going.{after}
 use Rattle.teco_model.specs.Step.{after_value, level_with_value}
 use Rattle.teco_model.specs.declared.arguments.Level.{Level}
 use Rattle.teco_model.specs.declared.kind.Value.{Value}

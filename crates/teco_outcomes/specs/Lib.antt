@@ -9,3 +9,9 @@ pub mod Commands
 pub mod Queries
 pub mod Law
 pub mod Motions
+pub mod Ranges
+pub mod Flow
+pub mod Pushes
+pub mod Deletions
+pub mod LineMotions
+pub mod Insertions

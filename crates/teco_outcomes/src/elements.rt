@@ -12,9 +12,14 @@ ghost use Rattle.teco_outcomes.specs.Law.{Law};
 use crate::arguments::change_arguments;
 use crate::case::Case;
 use crate::commands::{Taken, take_arguments};
+use crate::deletions::delete;
 use crate::fault::Fault;
+use crate::flow::turn;
+use crate::insertions::{get, insert};
+use crate::line_motions::move_lines;
 use crate::motions::move_to;
 use crate::outcomes::Outcomes;
+use crate::pushes::stack;
 use crate::queries::ask;
 use crate::storages::{add_number, set_number};
 use crate::values::give_value;
@@ -33,7 +38,7 @@ fn has_colon(colons: u8) -> Result<bool, Fault>
     }
 }
 
-// What comes of a motion with the arguments that it takes. Lines are not told.
+// What comes of a motion with the arguments that it takes.
 fn move_by(
     case: &Case,
     kind: Motion,
@@ -45,24 +50,33 @@ fn move_by(
         → Performs (motion kind e) taken case.now all) }
 {
     match kind {
-        Motion::Lines => Err(Fault::NotTold),
+        Motion::Lines => move_lines(case, taken, alloc),
         _ => move_to(case, kind, has_colon, taken, alloc),
     }
 }
 
-// What comes of a command on a register. `X`, `^U` and `G` are not told.
+// How an element is written, and whether sums may wrap.
+#[derive(Clone, Copy)]
+struct Manner {
+    colons: u8,
+    may_wrap: bool,
+}
+
+// What comes of a command on a register. `X`, `^U` and `:G` are not told.
 fn store(
     case: &Case,
     kind: Storage,
     taken: Taken,
-    may_wrap: bool,
+    manner: Manner,
     alloc: Global,
 ) -> Result<Outcomes, Fault>
-    ensures { IfOk result (λ all. (e : model.Element) → Performs (storage kind e) taken case.now all) }
+    ensures { IfOk result (λ all. (e : model.Element) → e.colons ≡ manner.colons
+        → Performs (storage kind e) taken case.now all) }
 {
     match kind {
         Storage::SetNumber(register) => set_number(case, register, taken, alloc),
-        Storage::Add(register) => add_number(case, register, taken, may_wrap, alloc),
+        Storage::Add(register) => add_number(case, register, taken, manner.may_wrap, alloc),
+        Storage::Get(register) => get(case, register, manner.colons, taken, alloc),
         _ => Err(Fault::NotTold),
     }
 }
@@ -84,7 +98,12 @@ fn perform(
             let colon = has_colon(element.colons)?;
             move_by(case, motion, colon, taken, alloc)
         }
-        Command::Storage(storage) => store(case, storage, taken, may_wrap, alloc),
+        Command::Deletion(unit) => delete(case, unit, taken, alloc),
+        Command::Insertion(insertion) => insert(case, insertion, element.text, taken, alloc),
+        Command::Storage(storage) => {
+            let colons = element.colons;
+            store(case, storage, taken, Manner { colons, may_wrap }, alloc)
+        }
         _ => Err(Fault::NotTold),
     }
 }
@@ -104,6 +123,8 @@ pub fn outcomes_of(
         }
         Kind::Value(value) => give_value(case, value, may_wrap, alloc),
         Kind::Query(query) => ask(case, query, element.colons, may_wrap, alloc),
+        Kind::Stack(kind) => stack(case, kind, alloc),
+        Kind::Flow(flow) => turn(case, flow, element.colons, alloc),
         Kind::Command(command) => perform(case, command, element, may_wrap, alloc),
         _ => Err(Fault::NotTold),
     }

@@ -1,5 +1,6 @@
 //! Forms of the measures of a state, and what is made of forms.
 ghost use Rattle.std.specs.Prelude.{◌≡◌, ℕ, IfOk, IfSome, FitsSigned, ◌*ℤ◌, pos, length as list_length};
+ghost use Rattle.std.specs.Prelude.{true};
 ghost use Rattle.std.specs.Int.{w32};
 ghost use Rattle.std.specs.List.{All};
 ghost use Rattle.teco_linear.specs.Form.{Valuation, value, scale_value};
@@ -82,6 +83,16 @@ pub fn known(form: &Form) -> Option<i128>
         [] => Some(0),
         [term] if term.symbol.is_none() && term.power == 0 => Some(term.coefficient),
         _ => None,
+    }
+}
+
+/// Whether a form is always this number, as far as that is plain.
+pub fn is_number(form: &Form, number: i128) -> bool
+    ensures { result ≡ true → (n : ℕ) (v : Valuation) → value form.now n v ≡ number }
+{
+    match known(form) {
+        Some(found) => found == number,
+        None => false,
     }
 }
 

@@ -22,13 +22,13 @@ use std::alloc::Global;
 use teco_linear::Form;
 use teco_model::kind::Motion;
 
-const POINTER: Mark = Mark::One(Single::Pointer);
+pub const POINTER: Mark = Mark::One(Single::Pointer);
 
-const SIZE: Mark = Mark::One(Single::Size);
+pub const SIZE: Mark = Mark::One(Single::Size);
 
-const LINE_END: Mark = Mark::One(Single::LineEnd);
+pub const LINE_END: Mark = Mark::One(Single::LineEnd);
 
-const LINE_START: Mark = Mark::One(Single::LineStart);
+pub const LINE_START: Mark = Mark::One(Single::LineStart);
 
 // The place that is gone to, and the line's end and start there.
 const PLACE: Of = Of::Given(0);
@@ -114,8 +114,8 @@ fn place(case: &Case, kind: Motion, taken: Taken, alloc: Global) -> Result<Form,
     }
 }
 
-// The conditions that a place is in the buffer.
-fn in_buffer(case: &Case, place: &Form, alloc: Global) -> Result<Vec<Form>, Fault>
+/// The conditions that a place is in the buffer.
+pub fn in_buffer(case: &Case, place: &Form, alloc: Global) -> Result<Vec<Form>, Fault>
     ensures { IfOk result (λ conditions. (n : ℕ) (v : Valuation) (s : Point) → IsTrueOf n v case.now s
         → All (Holds n v) conditions.items → IsPlace s.kept.text (value place.now n v)) }
 {

@@ -10,7 +10,7 @@ use std::alloc::Global;
 use std::test::Fail;
 use teco_base::Reg;
 use teco_linear::Form;
-use teco_model::kind::{Argument, Motion, Value};
+use teco_model::kind::{Argument, Command, Flow, Insertion, Motion, Stack, Unit, Value};
 use teco_model::{Element, Kind};
 
 // A state at the start of a run: the pointer, the size, what is held, and the line's end and start
@@ -134,5 +134,94 @@ fn gives_the_whole_buffer(rt: HostRuntime) -> Result<(), Fail> {
     let after = all.cases.first().expect(&rt, "a case");
     assert!(rt; is_sum(after, Measure::Each(Family::First, 1), None, 0, alloc)?);
     assert!(rt; is_sum(after, Measure::Each(Family::Value, 1), Some(1), 0, alloc)?);
+    Ok(())
+}
+
+// 3< begins a turn behind which 2 come, and > another behind which 1 comes.
+#[test]
+fn counts_turns(rt: HostRuntime) -> Result<(), Fail> {
+    let alloc = rt.alloc();
+    let case = start(alloc)?;
+    let three = Element {
+        text: b"3",
+        ..letter(Kind::Argument(Argument::Digits))
+    };
+    let given = outcomes_of(&case, &three, false, alloc)?;
+    let given = given.cases.first().expect(&rt, "a case");
+    let entered = outcomes_of(given, &letter(Kind::Flow(Flow::Iterate)), false, alloc)?;
+    let body = entered.cases.first().expect(&rt, "a body");
+    assert!(rt; is_sum(body, Measure::Each(Family::Turns, 0), None, 2, alloc)?);
+    let ended = outcomes_of(body, &letter(Kind::Flow(Flow::EndTurn)), false, alloc)?;
+    let again = ended.away.first().expect(&rt, "a turn");
+    assert!(rt; is_sum(again, Measure::Each(Family::Turns, 0), None, 1, alloc)?);
+    assert!(rt; is_sum(again, Measure::One(Single::Steps), None, 3, alloc)?);
+    Ok(())
+}
+
+// 10U1 and [1]2: the number of 2 is 10, and nothing is pushed any more.
+#[test]
+fn pops_what_was_pushed(rt: HostRuntime) -> Result<(), Fail> {
+    let alloc = rt.alloc();
+    let case = start(alloc)?;
+    let one = Reg::of(b'1').expect(&rt, "a register");
+    let two = Reg::of(b'2').expect(&rt, "a register");
+    let set = set_number(&case, one, argument(10, alloc)?, alloc)?;
+    let set = set.cases.first().expect(&rt, "a case");
+    let pushed = outcomes_of(set, &letter(Kind::Stack(Stack::Push(one))), false, alloc)?;
+    let pushed = pushed.cases.first().expect(&rt, "a case");
+    assert_eq!(rt; pushed.shape.pushes, 1);
+    let popped = outcomes_of(pushed, &letter(Kind::Stack(Stack::Pop(two))), false, alloc)?;
+    let popped = popped.cases.first().expect(&rt, "a case");
+    assert!(rt; is_sum(popped, Measure::Each(Family::Number, 28), None, 10, alloc)?);
+    assert_eq!(rt; popped.shape.pushes, 0);
+    Ok(())
+}
+
+// K goes from p to e, so the second way leaves p, and a line end that is not known.
+#[test]
+fn deletes_to_the_line_end(rt: HostRuntime) -> Result<(), Fail> {
+    let alloc = rt.alloc();
+    let case = start(alloc)?;
+    let kill = letter(Kind::Command(Command::Deletion(Unit::Lines)));
+    let all = outcomes_of(&case, &kill, false, alloc)?;
+    assert_eq!(rt; all.conditions.len(), 0);
+    let past = all.cases.get(1).expect(&rt, "a second case");
+    assert!(rt; is_sum(past, Measure::One(Single::Pointer), Some(0), 0, alloc)?);
+    assert!(rt; is_sum(past, Measure::One(Single::LineEnd), Some(5), 0, alloc)?);
+    assert!(rt; is_sum(past, Measure::One(Single::LineStart), Some(4), 0, alloc)?);
+    Ok(())
+}
+
+// L goes to e, where the next line starts, or to z.
+#[test]
+fn goes_to_the_next_line(rt: HostRuntime) -> Result<(), Fail> {
+    let alloc = rt.alloc();
+    let case = start(alloc)?;
+    let line = letter(Kind::Command(Command::Motion(Motion::Lines)));
+    let all = outcomes_of(&case, &line, false, alloc)?;
+    assert_eq!(rt; all.cases.len(), 3);
+    let next = all.cases.get(1).expect(&rt, "a second case");
+    assert!(rt; is_sum(next, Measure::One(Single::Pointer), Some(3), 0, alloc)?);
+    assert!(rt; is_sum(next, Measure::One(Single::LineStart), Some(3), 0, alloc)?);
+    let last = all.cases.get(2).expect(&rt, "a third case");
+    assert!(rt; is_sum(last, Measure::One(Single::Pointer), Some(1), 0, alloc)?);
+    Ok(())
+}
+
+// I of a line and one character more: the pointer goes by 3, and its line starts before the last.
+#[test]
+fn inserts_a_line(rt: HostRuntime) -> Result<(), Fail> {
+    let alloc = rt.alloc();
+    let case = start(alloc)?;
+    let insert = Element {
+        text: b"a\nb",
+        ..letter(Kind::Command(Command::Insertion(Insertion::Text)))
+    };
+    let all = outcomes_of(&case, &insert, false, alloc)?;
+    assert_eq!(rt; all.conditions.len(), 1);
+    let after = all.cases.get(1).expect(&rt, "a second case");
+    assert!(rt; is_sum(after, Measure::One(Single::Pointer), Some(0), 3, alloc)?);
+    assert!(rt; is_sum(after, Measure::One(Single::LineStart), Some(0), 2, alloc)?);
+    assert!(rt; is_sum(after, Measure::One(Single::LastLength), None, 3, alloc)?);
     Ok(())
 }

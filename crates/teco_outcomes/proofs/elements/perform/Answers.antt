@@ -25,5 +25,25 @@ returns-in-Storage c =
     subst (λ k. Foretells (λ s. after_command k (seen c.args.element.now) s.kept s.arguments) c.args.case.now all)
     (sym c.in-Storage.is)
     (command_foretold (seen c.args.element.now) c.args.case.now c.in_ok-taken.taken all
-    (command.Storage c.in-Storage.storage) c.in_ok-taken.ensures (performs (seen c.args.element.now))))
+    (command.Storage c.in-Storage.storage) c.in_ok-taken.ensures (performs (seen c.args.element.now) refl)))
     c.store.ensures
+
+pub returns-in-Deletion : goal.returns-in-Deletion
+returns-in-Deletion c =
+    IfOk-weaker c.delete.result _ _
+    (λ all performs.
+    subst (λ k. Foretells (λ s. after_command k (seen c.args.element.now) s.kept s.arguments) c.args.case.now all)
+    (sym c.in-Deletion.is)
+    (command_foretold (seen c.args.element.now) c.args.case.now c.in_ok-taken.taken all
+    (command.Deletion c.in-Deletion.unit) c.in_ok-taken.ensures performs))
+    c.delete.ensures
+
+pub returns-in-Insertion : goal.returns-in-Insertion
+returns-in-Insertion c =
+    IfOk-weaker c.insert.result _ _
+    (λ all performs.
+    subst (λ k. Foretells (λ s. after_command k (seen c.args.element.now) s.kept s.arguments) c.args.case.now all)
+    (sym c.in-Insertion.is)
+    (command_foretold (seen c.args.element.now) c.args.case.now c.in_ok-taken.taken all
+    (command.Insertion c.in-Insertion.insertion) c.in_ok-taken.ensures (performs (seen c.args.element.now) refl)))
+    c.insert.ensures

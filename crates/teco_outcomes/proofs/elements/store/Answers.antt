@@ -7,13 +7,20 @@ use Rattle.teco_outcomes.proofs.elements.store.Goals as goal
 pub returns-in-SetNumber : goal.returns-in-SetNumber
 returns-in-SetNumber c =
     IfOk-weaker c.set_number.result _ _
-    (λ all told e.
+    (λ all told e same.
     subst (λ k. Performs (storage k e) c.args.taken c.args.case.now all) (sym c.in-SetNumber.is) (told e))
     c.set_number.ensures
 
 pub returns-in-Add : goal.returns-in-Add
 returns-in-Add c =
     IfOk-weaker c.add_number.result _ _
-    (λ all told e.
+    (λ all told e same.
     subst (λ k. Performs (storage k e) c.args.taken c.args.case.now all) (sym c.in-Add.is) (told e))
     c.add_number.ensures
+
+pub returns-in-Get : goal.returns-in-Get
+returns-in-Get c =
+    IfOk-weaker c.get.result _ _
+    (λ all told e same.
+    subst (λ k. Performs (storage k e) c.args.taken c.args.case.now all) (sym c.in-Get.is) (told e same))
+    c.get.ensures

@@ -1,0 +1,12 @@
+use Rattle.std.proofs.Common.{subst, sym}
+use Rattle.std.proofs.lemmas.Result.{IfOk-weaker}
+use Rattle.teco_model.specs.Motion.{motion}
+use Rattle.teco_outcomes.specs.Commands.{Performs}
+use Rattle.teco_outcomes.proofs.elements.move_by.Goals as goal
+
+pub returns-in-Lines : goal.returns-in-Lines
+returns-in-Lines c =
+    IfOk-weaker c.move_lines.result _ _
+    (λ all moves e same.
+    subst (λ k. Performs (motion k e) c.args.taken c.args.case.now all) (sym c.in-Lines.is) (moves e))
+    c.move_lines.ensures

@@ -1,0 +1,16 @@
+use Rattle.std.proofs.lemmas.Result.{IfOk-weaker}
+use Rattle.teco_outcomes.proofs.Inserting.{inserts_tab, inserts_text}
+use Rattle.teco_outcomes.proofs.insertions.insert.Goals as goal
+
+pub returns-in-Text : goal.returns-in-Text
+returns-in-Text c =
+    IfOk-weaker c.insert_text.result _ _
+    (λ all told. inserts_text c.args.case.now c.args.kind c.args.taken c.args.text.now all c.in-Text.is c.in-None.is
+    told)
+    c.insert_text.ensures
+
+pub returns : goal.returns
+returns c =
+    IfOk-weaker c.insert_tab.result _ _
+    (λ all told. inserts_tab c.args.case.now c.args.kind c.args.taken c.args.text.now all c.in-Tab.is c.in-None.is told)
+    c.insert_tab.ensures
