@@ -1,0 +1,7 @@
+pub mod Claiming
+pub mod Fronts
+pub mod Items
+pub mod Parts
+pub mod Rising
+pub mod Terms
+pub mod Typed

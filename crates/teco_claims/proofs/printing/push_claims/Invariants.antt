@@ -1,0 +1,7 @@
+use Rattle.std.proofs.Common.{◌≡◌, ◌++◌, take, flat_map}
+use Rattle.teco_claims.specs.Text.{claim_line}
+use Rattle.teco_claims.proofs.printing.push_claims.Given as goal
+
+-- what is added so far is of those so far
+abbrev pub invariant-loop-claim : goal.invariant-loop-claim
+invariant-loop-claim l = l.text.items ≡ l.fn.text.items ++ flat_map claim_line (take l.claim-index l.claims)

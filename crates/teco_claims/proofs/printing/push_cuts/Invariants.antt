@@ -1,0 +1,7 @@
+use Rattle.std.proofs.Common.{◌≡◌, ◌++◌, take, flat_map}
+use Rattle.teco_claims.specs.Text.{cut_text}
+use Rattle.teco_claims.proofs.printing.push_cuts.Given as goal
+
+-- what is added so far is of those so far
+abbrev pub invariant-loop-cut : goal.invariant-loop-cut
+invariant-loop-cut l = l.text.items ≡ l.fn.text.items ++ flat_map cut_text (take l.cut-index l.cuts)

@@ -1,0 +1,93 @@
+-- Which claims have a text.
+use Rattle.std.specs.Prelude.{ℕ, ◌+◌, ◌*◌, ◌<◌, ◌≤◌, ◌^◌, ⊤, List, length, Option, Some, None, IfSome}
+use Rattle.std.specs.Int.{IsGcd}
+use Rattle.std.specs.List.{AllByRecursion, AllAdjacentBelow}
+use Rattle.teco_base.specs.declared.TheConstants.{REGISTERS}
+use Rattle.teco_claims.specs.declared.term.Measure.{Measure}
+use Rattle.teco_claims.specs.declared.term.Measure.TheVariants.{One, Number, Length, Turns, PushedNumber, PushedLength}
+use Rattle.teco_claims.specs.declared.term.Single.{Single}
+use Rattle.teco_claims.specs.declared.term.Single.TheVariants.{Steps, Pointer, Size, Held, LineEnd, LineStart}
+use Rattle.teco_claims.specs.declared.term.Single.TheVariants.{LastLength}
+use Rattle.teco_claims.specs.declared.term.Fraction.{Fraction}
+use Rattle.teco_claims.specs.declared.term.Term.{Term}
+use Rattle.teco_claims.specs.declared.term.TheConstants.{MAX_POWER, MAX_TERMS}
+use Rattle.teco_claims.specs.Values.{AtCut, Claimed}
+use Rattle.teco_poly.specs.Reading.{IsPoly}
+
+-- the registers there are, and places of 32 bits
+abbrev pub IsMeasure : Measure → Type 0
+IsMeasure (One single) = ⊤
+IsMeasure (Number register) = register < REGISTERS
+IsMeasure (Length register) = register < REGISTERS
+IsMeasure (Turns begin) = begin < 2 ^ 32
+IsMeasure (PushedNumber pair) = pair < 2 ^ 32
+IsMeasure (PushedLength pair) = pair < 2 ^ 32
+
+-- a fraction above 0 in lowest terms, whose numbers a signed one of 128 bits holds
+pub record IsLowest (fraction : Fraction) : Type 0 where
+  pub some : 0 < fraction.numerator
+  pub numerator : fraction.numerator < 2 ^ 127
+  pub divisor : fraction.divisor < 2 ^ 127
+  pub lowest : IsGcd fraction.numerator fraction.divisor 1
+
+-- a coefficient, a power and a measure that have a text
+pub record IsTerm (term : Term) : Type 0 where
+  pub coefficient : IsLowest term.coefficient
+  pub power : term.power ≤ MAX_POWER
+  pub measure : IfSome term.measure IsMeasure
+
+-- where a measure stands among the others: by its letter (n as if it were q), and then by its number
+abbrev pub single_place : Single → ℕ
+single_place Steps = 1
+single_place LineEnd = 2
+single_place Held = 3
+single_place LastLength = 5
+single_place Pointer = 6
+single_place LineStart = 9
+single_place Size = 11
+
+-- those of registers, iterations and pairs also by their numbers
+abbrev pub measure_place : Measure → ℕ
+measure_place (One single) = single_place single * 2 ^ 33
+measure_place (PushedNumber pair) = 4 * 2 ^ 33 + 2 * pair
+measure_place (PushedLength pair) = 4 * 2 ^ 33 + (2 * pair + 1)
+measure_place (Number register) = 7 * 2 ^ 33 + register
+measure_place (Turns begin) = 8 * 2 ^ 33 + begin
+measure_place (Length register) = 10 * 2 ^ 33 + register
+
+-- what has no measure stands first
+abbrev pub place : Option Measure → ℕ
+place None = 0
+place (Some measure) = measure_place measure
+
+-- by measure, and then by the power of N
+abbrev pub StandsBefore : Term → Term → Type 0
+StandsBefore term next =
+    place term.measure * 2 ^ 32 + term.power < place next.measure * 2 ^ 32 + next.power
+
+-- each term stands before the next
+abbrev pub TermsRise : List Term → Type 0
+TermsRise terms = AllAdjacentBelow StandsBefore terms (length terms)
+
+-- not too many terms, which stand in order
+pub record AreTerms (terms : List Term) : Type 0 where
+  pub few : length terms ≤ MAX_TERMS
+  pub each : AllByRecursion IsTerm terms
+  pub rise : TermsRise terms
+
+-- a claim has terms
+pub record IsClaim (terms : List Term) : Type 0 where
+  pub some : 0 < length terms
+  pub are : AreTerms terms
+
+-- an element's number of 64 bits, and claims
+pub record IsCut (cut : AtCut) : Type 0 where
+  pub point : cut.point < 2 ^ 64
+  pub each : AllByRecursion IsClaim cut.claims
+
+-- polynomials that a `Poly` may be, and cut points
+pub record IsSpelled (claimed : Claimed) : Type 0 where
+  pub commands : IsPoly claimed.commands
+  pub size : IsPoly claimed.size
+  pub types : IfSome claimed.types IsPoly
+  pub cuts : AllByRecursion IsCut claimed.cuts
