@@ -2,9 +2,9 @@
 use Rattle.std.proofs.Common.{◌≡◌, ◌≢◌, ◌≤◌, ◌+◌, ◌++◌, ◌∷◌, inl, inr, ℕ, List, [], Bool, true, false, not, ◌&&◌, Option, Result, Ok, Err, refl, sym, ◌∙◌, ap, subst, arith}
 use Rattle.std.specs.Prelude.{IfOk, option_map}
 use Rattle.teco_apply.proofs.Edits.{leaves_open}
-use Rattle.teco_apply.specs.Apply.{AnswersText, Course, DropsIfCoded, Lacks, LineCounts, MacroStops, closing, has_esc, opening, stop_of}
-use Rattle.teco_apply.specs.ByPages.{Behind, BehindMacro, BehindPage, Closing, EachPage, EditCourse, EditsPages, EditsText, EndsInMacro, EndsWith, FileEdited, Gathers, Once, OpensBoth, PagesCount, PagesGathered, PagesTurned, RanBy, RanCounts, RunsAdmitted, TooMany, TurnCounts, TurnedBy, Turning, Turns, edited_with, gathering, is_dropped, nothing_done, tally_after, to_start, turning}
-use Rattle.teco_apply.specs.Sure.{Answers, Call, TakesArgument, kept_loaded}
+use Rattle.teco_apply.specs.Apply.{AnswersText, Course, DropsIfCoded, Lacks, LineCounts, closing, has_esc, opening, stop_of}
+use Rattle.teco_apply.specs.ByPages.{AdmittedStops, Behind, BehindMacro, BehindPage, Closing, EachPage, EditCourse, EditsPages, EditsText, EndsInMacro, EndsWith, FileEdited, Gathers, IsAskedAt, IsRefused, Once, OpensBoth, Order, PagesCount, PagesGathered, PagesTurned, RanBy, RanCounts, RunsAdmitted, TooMany, TurnCounts, TurnedBy, Turning, Turns, edited_with, gathering, is_dropped, nothing_done, tally_after, to_start, turning}
+use Rattle.teco_apply.specs.Sure.{Answers, Call, Calls, TakesArgument, kept_loaded, loaded as with_library}
 use Rattle.teco_apply.specs.declared.by_pages.Edited.{Edited}
 use Rattle.teco_apply.specs.declared.by_pages.Pages.{Pages}
 use Rattle.teco_apply.specs.declared.by_pages.Pages.TheVariants.{First, Each, Whole}
@@ -21,10 +21,10 @@ use Rattle.teco_model.specs.Session.{code_line, code_of, is_code, lines_of, with
 use Rattle.teco_model.specs.State.{Kept, World}
 use Rattle.teco_model.specs.declared.stop.Stop.{Stop}
 use Rattle.teco_model.specs.declared.stop.Stop.TheVariants as kind
-use Rattle.teco_pages.proofs.Told.{told-same}
+use Rattle.teco_pages.proofs.Told.{told-map, told-same}
 use Rattle.teco_pages.specs.Held.{Held, IsSameOutput, files_of, unread_bytes}
 use Rattle.teco_pages.specs.HostFiles.{HostFiles, Telling}
-use Rattle.teco_filing.specs.Worlds.{is_some_byte}
+use Rattle.teco_filing.specs.Worlds.{is_some_byte, world}
 use Rattle.teco_run.proofs.Together.{none-open}
 use Rattle.teco_model.specs.Run.{StopCounts}
 use Rattle.teco_run.specs.Holdings.{Holdings, Joined}
@@ -75,19 +75,19 @@ ended_counts done (Ok coded) result f g ends counted = rw ends counted
 ended_counts done (Err cannot) result f g ends counted = rw ends counted
 
 -- ---- the macro
-runs_by : (call : Call) (old after : World) (f g : ℕ) (sink sunk : Option (List ℕ)) (stop : Stop) (line : Result Bool SessionFault) (result : Result Ran SessionFault) → RanBy line stop result → MacroStops false call old stop after → StopCounts stop f g → Writes sink sunk (lines_of stop after) line → IfOk line (λ coded. coded ≡ is_code (code_of stop)) → RunsAdmitted call old (without_typed after) f g sink sunk result
-runs_by call old after f g sink sunk stop (Ok true) result by stops counted writes told = rw by (record { stop = stop; after = after; ran = stops; counted = counted; stays = refl; writes = writes; told = told })
-runs_by call old after f g sink sunk stop (Ok false) result by stops counted writes told = rw by (record { answers = record { stop = stop; after = after; ran = stops; counted = counted; stays = refl; writes = writes; told = told }; counted = refl })
-runs_by call old after f g sink sunk stop (Err cannot) result by stops counted writes told = rw by (record { stop = stop; after = after; ran = stops; counted = counted; stays = refl; writes = writes; told = told })
+runs_by : (order : Order) (old after : World) (f g : ℕ) (sink sunk : Option (List ℕ)) (stop : Stop) (line : Result Bool SessionFault) (result : Result Ran SessionFault) → RanBy line stop result → AdmittedStops order old stop after → StopCounts stop f g → Writes sink sunk (lines_of stop after) line → IfOk line (λ coded. coded ≡ is_code (code_of stop)) → RunsAdmitted order old (without_typed after) f g sink sunk result
+runs_by order old after f g sink sunk stop (Ok true) result by stops counted writes told = rw by (record { stop = stop; after = after; ran = stops; counted = counted; stays = refl; writes = writes; told = told })
+runs_by order old after f g sink sunk stop (Ok false) result by stops counted writes told = rw by (record { answers = record { stop = stop; after = after; ran = stops; counted = counted; stays = refl; writes = writes; told = told }; counted = refl })
+runs_by order old after f g sink sunk stop (Err cannot) result by stops counted writes told = rw by (record { stop = stop; after = after; ran = stops; counted = counted; stays = refl; writes = writes; told = told })
 
 -- what is typed of a run is what is kept of it
 typed_lines : (kept other : Kept) (stop : Stop) (sink sunk : Option (List ℕ)) (line : Result Bool SessionFault) → other ≡ kept → Writes sink sunk (kept.typed ++ code_line (code_of stop)) line → Writes sink sunk (other.typed ++ code_line (code_of stop)) line
 typed_lines kept other stop sink sunk line same writes = subst (λ (k : Kept). Writes sink sunk (k.typed ++ code_line (code_of stop)) line) (sym same) writes
 
-pub Joined-runs : (call : Call) (a b c : Holdings) (f g : Telling) (k m : ℕ) (sink sunk : Option (List ℕ)) (stop : Stop) (line : Result Bool SessionFault) (result : Result Ran SessionFault) → RanBy line stop result → StopCounts stop k m → Writes sink sunk (b.kept.typed ++ code_line (code_of stop)) line → IfOk line (λ coded. coded ≡ is_code (code_of stop)) → c ≡ record b { kept = record b.kept { typed = [] } } → Joined (λ old new. MacroStops false call old stop new) a b f g → Joined (λ old new. RunsAdmitted call old new k m sink sunk result) a c f g
-Joined-runs call a b c f g k m sink sunk stop line result by counted writes told taken =
-    Joined-typed (λ old new. MacroStops false call old stop new) (λ old new. RunsAdmitted call old new k m sink sunk result) a b c f g taken
-    (λ (old : World) (after : World) same stops. runs_by call old after k m sink sunk stop line result by stops counted (typed_lines b.kept after.kept stop sink sunk line same writes) told)
+pub Joined-runs : (order : Order) (a b c : Holdings) (f g : Telling) (k m : ℕ) (sink sunk : Option (List ℕ)) (stop : Stop) (line : Result Bool SessionFault) (result : Result Ran SessionFault) → RanBy line stop result → StopCounts stop k m → Writes sink sunk (b.kept.typed ++ code_line (code_of stop)) line → IfOk line (λ coded. coded ≡ is_code (code_of stop)) → c ≡ record b { kept = record b.kept { typed = [] } } → Joined (λ old new. AdmittedStops order old stop new) a b f g → Joined (λ old new. RunsAdmitted order old new k m sink sunk result) a c f g
+Joined-runs order a b c f g k m sink sunk stop line result by counted writes told taken =
+    Joined-typed (λ old new. AdmittedStops order old stop new) (λ old new. RunsAdmitted order old new k m sink sunk result) a b c f g taken
+    (λ (old : World) (after : World) same stops. runs_by order old after k m sink sunk stop line result by stops counted (typed_lines b.kept after.kept stop sink sunk line same writes) told)
 
 -- what is lacking where the macro is not run
 lacks : (call : Call) (held : Held) (files : HostFiles) (why : NotReady) → TakesArgument call → Answers {X = Unit {0}} call held (Err why) → IsSameOutput held files → Lacks call.found.fields.needs (files_of held files) why
@@ -96,12 +96,28 @@ lacks call held files not_ready.NoOutput taken is same = ((is.1).0, none-open he
 lacks call held files not_ready.Argument taken is same = absurd (is.1 taken)
 lacks call held files not_ready.Memory taken is same = tt
 
-pub Joined-unready : (call : Call) (a : Holdings) (f : Telling) (why : NotReady) → TakesArgument call → Answers {X = Unit {0}} call a.held (Err why) → Joined (λ old new. MacroStops false call old (stop_of why) new) a a f f
-Joined-unready call a f why taken is = told-same _ (λ files same. (inr (record { why = why; stopped = refl; lacks = lacks call a.held files why taken is same; stays = refl }), same)) f
+pub Joined-unready : (order : Order) (a : Holdings) (f : Telling) (why : NotReady) → TakesArgument order.call → Answers {X = Unit {0}} order.call a.held (Err why) → Joined (λ old new. AdmittedStops order old (stop_of why) new) a a f f
+Joined-unready order a f why taken is = told-same _ (λ files same. (inr (record { why = why; stopped = refl; lacks = lacks order.call a.held files why taken is same; stays = refl }), same)) f
 
 -- the guard did not admit it
-pub Joined-refused : (call : Call) (a b : Holdings) (f : Telling) (k : ℕ) (sink : Option (List ℕ)) → b ≡ record a { kept = kept_loaded call.found.library a.kept } → Joined (λ old new. RunsAdmitted call old new k k sink sink (Ok ran.Refused)) a b f f
-Joined-refused call a b f k sink is = rw is (told-same _ (λ files same. ((refl, refl, refl), same)) f)
+pub Joined-refused : (order : Order) (a b : Holdings) (f g : Telling) (k m : ℕ) (sink : Option (List ℕ)) → m ≡ k → Joined (IsRefused order) a b f g → Joined (λ old new. RunsAdmitted order old new k m sink sink (Ok ran.Refused)) a b f g
+Joined-refused order a b f g k m sink same = Joined-on (IsRefused order) (λ old new. RunsAdmitted order old new k m sink sink (Ok ran.Refused)) a b f g (λ old new is. (is, same, refl))
+
+-- it is asked where the library is loaded
+Joined-loaded : (order : Order) (R S : World → World → Type 0) (a loaded b : Holdings) (f g : Telling) → loaded ≡ record a { kept = kept_loaded order.call.found.library a.kept } → ((old new : World) → R (with_library order.call.found.library old) new → S old new) → Joined R loaded b f g → Joined S a b f g
+Joined-loaded order R S a loaded b f g e on t =
+    told-map (λ files left. IsSameOutput a.held files → R (world (kept_loaded order.call.found.library a.kept) a.held files) (world b.kept b.held left) × IsSameOutput b.held left) _ (λ files left t same. (on _ _ (t same).0, (t same).1)) f g
+    (subst (λ l. Joined R l b f g) e t)
+
+pub Joined-asked : (order : Order) (a loaded : Holdings) (f g : Telling) (answer : Bool) → loaded ≡ record a { kept = kept_loaded order.call.found.library a.kept } → answer ≡ false → Joined (λ old new. (new ≡ old) × IsAskedAt order.answers old answer) loaded loaded f g → Joined (IsRefused order) a loaded f g
+Joined-asked order a loaded f g answer e refused = Joined-loaded order (λ old new. (new ≡ old) × IsAskedAt order.answers old answer) (IsRefused order) a loaded loaded f g e
+    (λ old new is. record { answered = subst (λ b. IsAskedAt order.answers (with_library order.call.found.library old) b) refused is.1; stays = is.0 })
+
+pub Joined-admitted : (order : Order) (a loaded b : Holdings) (f g h : Telling) (answer : Bool) (stop : Stop) → loaded ≡ record a { kept = kept_loaded order.call.found.library a.kept } → answer ≡ true → Joined (λ old new. (new ≡ old) × IsAskedAt order.answers old answer) loaded loaded f g → Joined (Calls order.call.found.fields order.call.given stop) loaded b g h → Joined (λ old new. AdmittedStops order old stop new) a b f h
+Joined-admitted order a loaded b f g h answer stop e admitted asked calls = Joined-loaded order (λ old new. IsAskedAt order.answers old true × Calls order.call.found.fields order.call.given stop old new) (λ old new. AdmittedStops order old stop new) a loaded b f h e
+    (λ old new is. inl is)
+    (Joined-then (λ old new. (new ≡ old) × IsAskedAt order.answers old answer) (Calls order.call.found.fields order.call.given stop) (λ old new. IsAskedAt order.answers old true × Calls order.call.found.fields order.call.given stop old new) loaded loaded b f g h
+    (λ (old : World) (mid : World) (new : World) is ran. (subst (λ b. IsAskedAt order.answers old b) admitted is.1, subst (λ (w : World). Calls order.call.found.fields order.call.given stop w new) is.0 ran)) asked calls)
 
 -- ---- more pages
 no_byte : (bytes : List ℕ) → false ≡ is_some_byte bytes → bytes ≡ []
@@ -149,15 +165,15 @@ ends-coded done e none is =
     let same : e ≡ edited_with nothing_done true false = is ∙ ap (λ (t : Tally). edited_with t true false) none in
     rw same refl
 
-module _ (call : Call) (done : Tally) (More : Tally → EditCourse) where
-  pub macro-stops : (a b : Holdings) (f g : Telling) (k m : ℕ) (sink sunk : Option (List ℕ)) (answer : Result Ran SessionFault) (result : Result Edited SessionFault) → EndsInMacro done answer result → Joined (λ old new. RunsAdmitted call old new k m sink sunk answer) a b f g → Joined (λ old new. BehindMacro call done More old new k m sink sunk result) a b f g
+module _ (order : Order) (done : Tally) (More : Tally → EditCourse) where
+  pub macro-stops : (a b : Holdings) (f g : Telling) (k m : ℕ) (sink sunk : Option (List ℕ)) (answer : Result Ran SessionFault) (result : Result Edited SessionFault) → EndsInMacro done answer result → Joined (λ old new. RunsAdmitted order old new k m sink sunk answer) a b f g → Joined (λ old new. BehindMacro order done More old new k m sink sunk result) a b f g
   macro-stops a b f g k m sink sunk answer result ends =
-      Joined-on (λ old new. RunsAdmitted call old new k m sink sunk answer) (λ old new. BehindMacro call done More old new k m sink sunk result) a b f g
+      Joined-on (λ old new. RunsAdmitted order old new k m sink sunk answer) (λ old new. BehindMacro order done More old new k m sink sunk result) a b f g
       (λ (old : World) (new : World) runs. BehindMacro.stops answer runs ends)
 
-  pub macro-goes_on : (a b c : Holdings) (f g h : Telling) (k m n : ℕ) (sink mid sunk : Option (List ℕ)) (steps : ℕ) (result : Result Edited SessionFault) → Joined (λ old new. RunsAdmitted call old new k m sink mid (Ok (ran.On steps))) a b f g → Joined (λ old new. More (tally_after steps done) old new m n mid sunk result) b c g h → Joined (λ old new. BehindMacro call done More old new k n sink sunk result) a c f h
+  pub macro-goes_on : (a b c : Holdings) (f g h : Telling) (k m n : ℕ) (sink mid sunk : Option (List ℕ)) (steps : ℕ) (result : Result Edited SessionFault) → Joined (λ old new. RunsAdmitted order old new k m sink mid (Ok (ran.On steps))) a b f g → Joined (λ old new. More (tally_after steps done) old new m n mid sunk result) b c g h → Joined (λ old new. BehindMacro order done More old new k n sink sunk result) a c f h
   macro-goes_on a b c f g h k m n sink mid sunk steps result =
-      Joined-then (λ old new. RunsAdmitted call old new k m sink mid (Ok (ran.On steps))) (λ old new. More (tally_after steps done) old new m n mid sunk result) (λ old new. BehindMacro call done More old new k n sink sunk result) a b c f g h
+      Joined-then (λ old new. RunsAdmitted order old new k m sink mid (Ok (ran.On steps))) (λ old new. More (tally_after steps done) old new m n mid sunk result) (λ old new. BehindMacro order done More old new k n sink sunk result) a b c f g h
       (λ (w0 : World) (w1 : World) (w2 : World) runs more. BehindMacro.goes_on steps w1 m mid runs more)
 
 pub closes : (done : Tally) (a b : Holdings) (f g : Telling) (k m : ℕ) (sink sunk : Option (List ℕ)) (line : Result Bool SessionFault) (result : Result Edited SessionFault) → EndsWith done line result → Joined (λ old new. AnswersText closing old new k m sink sunk line) a b f g → Joined (λ old new. Closing done old new k m sink sunk result) a b f g
@@ -178,30 +194,30 @@ page-closes done a b c f g h k m n sink mid sunk result =
     let at_count = subst (λ (c : ℕ). Closing done w0 w2 c n mid sunk result) through.2 at_world in
     BehindPage.closes through.0 (subst (λ (s : Option (List ℕ)). Closing done w0 w2 k n s sunk result) through.3 at_count))
 
-module _ (call : Call) (done : Tally) where
-  pub each-ends : (a b c : Holdings) (f g h : Telling) (k m n : ℕ) (sink mid sunk : Option (List ℕ)) (result : Result Edited SessionFault) → Joined (λ old new. PagesTurned call old k sink done new m mid) a b f g → Joined (λ old new. BehindMacro call done BehindPage old new m n mid sunk result) b c g h → Joined (λ old new. EachPage call old new k n sink sunk result) a c f h
+module _ (order : Order) (done : Tally) where
+  pub each-ends : (a b c : Holdings) (f g h : Telling) (k m n : ℕ) (sink mid sunk : Option (List ℕ)) (result : Result Edited SessionFault) → Joined (λ old new. PagesTurned order old k sink done new m mid) a b f g → Joined (λ old new. BehindMacro order done BehindPage old new m n mid sunk result) b c g h → Joined (λ old new. EachPage order old new k n sink sunk result) a c f h
   each-ends a b c f g h k m n sink mid sunk result =
-      Joined-then (λ old new. PagesTurned call old k sink done new m mid) (λ old new. BehindMacro call done BehindPage old new m n mid sunk result) (λ old new. EachPage call old new k n sink sunk result) a b c f g h
+      Joined-then (λ old new. PagesTurned order old k sink done new m mid) (λ old new. BehindMacro order done BehindPage old new m n mid sunk result) (λ old new. EachPage order old new k n sink sunk result) a b c f g h
       (λ (w0 : World) (w1 : World) (w2 : World) turned more. EachPage.ends done w1 m mid turned more)
 
-  pub each-full : (a b c : Holdings) (f g h : Telling) (k m n : ℕ) (sink mid sunk : Option (List ℕ)) (line : Result Bool SessionFault) (result : Result Edited SessionFault) → done.pages ≡ PAGES → EndsWith done line result → Joined (λ old new. PagesTurned call old k sink done new m mid) a b f g → Joined (λ old new. TooMany old new m n mid sunk line) b c g h → Joined (λ old new. EachPage call old new k n sink sunk result) a c f h
+  pub each-full : (a b c : Holdings) (f g h : Telling) (k m n : ℕ) (sink mid sunk : Option (List ℕ)) (line : Result Bool SessionFault) (result : Result Edited SessionFault) → done.pages ≡ PAGES → EndsWith done line result → Joined (λ old new. PagesTurned order old k sink done new m mid) a b f g → Joined (λ old new. TooMany old new m n mid sunk line) b c g h → Joined (λ old new. EachPage order old new k n sink sunk result) a c f h
   each-full a b c f g h k m n sink mid sunk line result all ends =
-      Joined-then (λ old new. PagesTurned call old k sink done new m mid) (λ old new. TooMany old new m n mid sunk line) (λ old new. EachPage call old new k n sink sunk result) a b c f g h
+      Joined-then (λ old new. PagesTurned order old k sink done new m mid) (λ old new. TooMany old new m n mid sunk line) (λ old new. EachPage order old new k n sink sunk result) a b c f g h
       (λ (w0 : World) (w1 : World) (w2 : World) turned many. EachPage.full done w1 m mid line turned all many ends)
 
-  pub each-more : (a b c d : Holdings) (f g h i : Telling) (k m n o : ℕ) (sink s t sunk : Option (List ℕ)) (steps : ℕ) → Joined (λ old new. PagesTurned call old k sink done new m s) a b f g → Joined (λ old new. RunsAdmitted call old new m n s t (Ok (ran.On steps))) b c g h → Joined (λ old new. Turning turning old new n o t sunk (Ok false)) c d h i → Joined (λ old new. PagesTurned call old k sink (tally_after steps done) new o sunk) a d f i
+  pub each-more : (a b c d : Holdings) (f g h i : Telling) (k m n o : ℕ) (sink s t sunk : Option (List ℕ)) (steps : ℕ) → Joined (λ old new. PagesTurned order old k sink done new m s) a b f g → Joined (λ old new. RunsAdmitted order old new m n s t (Ok (ran.On steps))) b c g h → Joined (λ old new. Turning turning old new n o t sunk (Ok false)) c d h i → Joined (λ old new. PagesTurned order old k sink (tally_after steps done) new o sunk) a d f i
   each-more a b c d f g h i k m n o sink s t sunk steps turned runs turns =
-      let page = Joined-then (λ old new. RunsAdmitted call old new m n s t (Ok (ran.On steps))) (λ old new. Turning turning old new n o t sunk (Ok false)) (λ old new. (w : World) × (RunsAdmitted call old w m n s t (Ok (ran.On steps)) × Turning turning w new n o t sunk (Ok false))) b c d g h i
+      let page = Joined-then (λ old new. RunsAdmitted order old new m n s t (Ok (ran.On steps))) (λ old new. Turning turning old new n o t sunk (Ok false)) (λ old new. (w : World) × (RunsAdmitted order old w m n s t (Ok (ran.On steps)) × Turning turning w new n o t sunk (Ok false))) b c d g h i
       (λ (w0 : World) (w1 : World) (w2 : World) one more. (w1, (one, more))) runs turns in
-      Joined-then (λ old new. PagesTurned call old k sink done new m s) (λ old new. (w : World) × (RunsAdmitted call old w m n s t (Ok (ran.On steps)) × Turning turning w new n o t sunk (Ok false))) (λ old new. PagesTurned call old k sink (tally_after steps done) new o sunk) a b d f g i
+      Joined-then (λ old new. PagesTurned order old k sink done new m s) (λ old new. (w : World) × (RunsAdmitted order old w m n s t (Ok (ran.On steps)) × Turning turning w new n o t sunk (Ok false))) (λ old new. PagesTurned order old k sink (tally_after steps done) new o sunk) a b d f g i
       (λ (w0 : World) (w1 : World) (w2 : World) before here. PagesTurned.one_more done steps w1 here.0 w2 m n o s t sunk before here.1.0 here.1.1)
       turned page
 
   -- the edit ends where the next page is turned to
-  pub each-stops : (a b c d : Holdings) (f g h i : Telling) (k m n o : ℕ) (sink s t sunk : Option (List ℕ)) (steps : ℕ) (line : Result Bool SessionFault) (result : Result Edited SessionFault) → line ≢ Ok false → EndsWith (tally_after steps done) line result → Joined (λ old new. PagesTurned call old k sink done new m s) a b f g → Joined (λ old new. RunsAdmitted call old new m n s t (Ok (ran.On steps))) b c g h → Joined (λ old new. Turning turning old new n o t sunk line) c d h i → Joined (λ old new. EachPage call old new k o sink sunk result) a d f i
+  pub each-stops : (a b c d : Holdings) (f g h i : Telling) (k m n o : ℕ) (sink s t sunk : Option (List ℕ)) (steps : ℕ) (line : Result Bool SessionFault) (result : Result Edited SessionFault) → line ≢ Ok false → EndsWith (tally_after steps done) line result → Joined (λ old new. PagesTurned order old k sink done new m s) a b f g → Joined (λ old new. RunsAdmitted order old new m n s t (Ok (ran.On steps))) b c g h → Joined (λ old new. Turning turning old new n o t sunk line) c d h i → Joined (λ old new. EachPage order old new k o sink sunk result) a d f i
   each-stops a b c d f g h i k m n o sink s t sunk steps line result other ends turned runs turns =
       each-ends a b d f g i k m o sink s sunk result turned
-      (macro-goes_on call done BehindPage b c d g h i m n o s t sunk steps result runs
+      (macro-goes_on order done BehindPage b c d g h i m n o s t sunk steps result runs
       (page-stops (tally_after steps done) c d h i n o t sunk line result other ends turns))
 
 -- ---- all pages as one
@@ -274,15 +290,15 @@ gathers_writing old new f g sink sunk cannot (Gathers.stops pages mid count writ
 gathers_writing old new f g sink sunk cannot (Gathers.full mid count written gathered many) = many_writing mid new count g written sunk cannot many
 
 -- of the macro
-ends_by : (call : Call) (done : Tally) (old new : World) (f g : ℕ) (sink sunk : Option (List ℕ)) (answer : Result Ran SessionFault) (cannot : SessionFault) → RunsAdmitted call old new f g sink sunk answer → EndsInMacro done answer (Err cannot) → cannot ≡ fault.Write
-ends_by call done old new f g sink sunk (Ok (ran.On steps)) cannot runs ends = absurd ends
-ends_by call done old new f g sink sunk (Ok ran.Coded) cannot runs ends = cc
-ends_by call done old new f g sink sunk (Ok ran.Refused) cannot runs ends = cc
-ends_by call done old new f g sink sunk (Err x) cannot runs ends = let same : cannot ≡ x = cc in same ∙ runs.writes.0
+ends_by : (order : Order) (done : Tally) (old new : World) (f g : ℕ) (sink sunk : Option (List ℕ)) (answer : Result Ran SessionFault) (cannot : SessionFault) → RunsAdmitted order old new f g sink sunk answer → EndsInMacro done answer (Err cannot) → cannot ≡ fault.Write
+ends_by order done old new f g sink sunk (Ok (ran.On steps)) cannot runs ends = absurd ends
+ends_by order done old new f g sink sunk (Ok ran.Coded) cannot runs ends = cc
+ends_by order done old new f g sink sunk (Ok ran.Refused) cannot runs ends = cc
+ends_by order done old new f g sink sunk (Err x) cannot runs ends = let same : cannot ≡ x = cc in same ∙ runs.writes.0
 
-macro_writing : (call : Call) (done : Tally) (More : Tally → EditCourse) → ((t : Tally) → IsWriting (More t)) → IsWriting (BehindMacro call done More)
-macro_writing call done More only old new f g sink sunk cannot (BehindMacro.stops answer runs ends) = ends_by call done old new f g sink sunk answer cannot runs ends
-macro_writing call done More only old new f g sink sunk cannot (BehindMacro.goes_on steps mid count written runs more) = only (tally_after steps done) mid new count g written sunk cannot more
+macro_writing : (order : Order) (done : Tally) (More : Tally → EditCourse) → ((t : Tally) → IsWriting (More t)) → IsWriting (BehindMacro order done More)
+macro_writing order done More only old new f g sink sunk cannot (BehindMacro.stops answer runs ends) = ends_by order done old new f g sink sunk answer cannot runs ends
+macro_writing order done More only old new f g sink sunk cannot (BehindMacro.goes_on steps mid count written runs more) = only (tally_after steps done) mid new count g written sunk cannot more
 
 closing_writing : (done : Tally) → IsWriting (Closing done)
 closing_writing done old new f g sink sunk cannot closed = writing_line (AnswersText closing) (text_writing closing) done old new f g sink sunk closed.line cannot closed.told closed.closes
@@ -291,21 +307,21 @@ page_writing : (done : Tally) → IsWriting (BehindPage done)
 page_writing done old new f g sink sunk cannot (BehindPage.closes none closed) = closing_writing done old new f g sink sunk cannot closed
 page_writing done old new f g sink sunk cannot (BehindPage.stops line other turns ends) = writing_line (Turning turning) (turning_writing turning) done old new f g sink sunk line cannot ends turns
 
-each_writing : (call : Call) → IsWriting (EachPage call)
-each_writing call old new f g sink sunk cannot (EachPage.ends done mid count written before more) = macro_writing call done BehindPage page_writing mid new count g written sunk cannot more
-each_writing call old new f g sink sunk cannot (EachPage.full done mid count written line before all many ends) = writing_line TooMany many_writing done mid new count g written sunk line cannot ends many
+each_writing : (order : Order) → IsWriting (EachPage order)
+each_writing order old new f g sink sunk cannot (EachPage.ends done mid count written before more) = macro_writing order done BehindPage page_writing mid new count g written sunk cannot more
+each_writing order old new f g sink sunk cannot (EachPage.full done mid count written line before all many ends) = writing_line TooMany many_writing done mid new count g written sunk line cannot ends many
 
 behind_writing : (Front : Course) (More : EditCourse) → IsWritingLine Front → IsWriting More → IsWriting (Behind Front More)
 behind_writing Front More first more old new f g sink sunk cannot (Behind.stops line other answers ends) = writing_line Front first nothing_done old new f g sink sunk line cannot ends answers
 behind_writing Front More first more old new f g sink sunk cannot (Behind.goes_on mid count written answers rest) = more mid new count g written sunk cannot rest
 
-pages_writing : (pages : Pages) (call : Call) → IsWriting (EditsPages pages call)
-pages_writing First call = macro_writing call nothing_done Closing closing_writing
-pages_writing Each call = each_writing call
-pages_writing Whole call = behind_writing Gathers _ gathers_writing (behind_writing (AnswersText to_start) (Once call) (text_writing to_start) (macro_writing call nothing_done Closing closing_writing))
+pages_writing : (pages : Pages) (order : Order) → IsWriting (EditsPages pages order)
+pages_writing First order = macro_writing order nothing_done Closing closing_writing
+pages_writing Each order = each_writing order
+pages_writing Whole order = behind_writing Gathers _ gathers_writing (behind_writing (AnswersText to_start) (Once order) (text_writing to_start) (macro_writing order nothing_done Closing closing_writing))
 
-text_edits_writing : (pages : Pages) (call : Call) (text : List ℕ) → IsWriting (EditsText pages call text)
-text_edits_writing pages call text = behind_writing (AnswersText text) (EditsPages pages call) (text_writing text) (pages_writing pages call)
+text_edits_writing : (pages : Pages) (order : Order) (text : List ℕ) → IsWriting (EditsText pages order text)
+text_edits_writing pages order text = behind_writing (AnswersText text) (EditsPages pages order) (text_writing text) (pages_writing pages order)
 
 both_false : (b c : Bool) → (not b && not c) ≡ true → (b ≡ false) × (c ≡ false)
 both_false true c plain = cc
@@ -317,14 +333,14 @@ opens source target old new f g sink sunk plain answers =
     let names = both_false (has_esc source) (has_esc target) plain in
     leaves_open source target names.0 names.1 old new f g sink sunk answers
 
-file_edited : (pages : Pages) (call : Call) (source target : List ℕ) (old edited new : World) (f m g : ℕ) (sink sunk : Option (List ℕ)) (result : Result Edited SessionFault) → EditsText pages call (opening source target) old edited f m sink sunk result → DropsIfCoded (is_dropped result) edited new m g → FileEdited pages call source target old new f g sink sunk result
-file_edited pages call source target old edited new f m g sink sunk (Ok e) edits drops = record { edited = edited; count = m; edits = edits; opens = opens source target old; drops = drops }
-file_edited pages call source target old edited new f m g sink sunk (Err fault.Write) edits drops = record { edited = edited; count = m; edits = edits; opens = opens source target old; drops = drops }
-file_edited pages call source target old edited new f m g sink sunk (Err fault.Memory) edits drops = let no : fault.Memory ≡ fault.Write = text_edits_writing pages call (opening source target) old edited f m sink sunk fault.Memory edits in cc
-file_edited pages call source target old edited new f m g sink sunk (Err fault.Argument) edits drops = let no : fault.Argument ≡ fault.Write = text_edits_writing pages call (opening source target) old edited f m sink sunk fault.Argument edits in cc
-file_edited pages call source target old edited new f m g sink sunk (Err fault.Read) edits drops = let no : fault.Read ≡ fault.Write = text_edits_writing pages call (opening source target) old edited f m sink sunk fault.Read edits in cc
+file_edited : (pages : Pages) (order : Order) (source target : List ℕ) (old edited new : World) (f m g : ℕ) (sink sunk : Option (List ℕ)) (result : Result Edited SessionFault) → EditsText pages order (opening source target) old edited f m sink sunk result → DropsIfCoded (is_dropped result) edited new m g → FileEdited pages order source target old new f g sink sunk result
+file_edited pages order source target old edited new f m g sink sunk (Ok e) edits drops = record { edited = edited; count = m; edits = edits; opens = opens source target old; drops = drops }
+file_edited pages order source target old edited new f m g sink sunk (Err fault.Write) edits drops = record { edited = edited; count = m; edits = edits; opens = opens source target old; drops = drops }
+file_edited pages order source target old edited new f m g sink sunk (Err fault.Memory) edits drops = let no : fault.Memory ≡ fault.Write = text_edits_writing pages order (opening source target) old edited f m sink sunk fault.Memory edits in cc
+file_edited pages order source target old edited new f m g sink sunk (Err fault.Argument) edits drops = let no : fault.Argument ≡ fault.Write = text_edits_writing pages order (opening source target) old edited f m sink sunk fault.Argument edits in cc
+file_edited pages order source target old edited new f m g sink sunk (Err fault.Read) edits drops = let no : fault.Read ≡ fault.Write = text_edits_writing pages order (opening source target) old edited f m sink sunk fault.Read edits in cc
 
-pub Joined-file : (pages : Pages) (call : Call) (source target : List ℕ) (a b c : Holdings) (f g h : Telling) (k m n : ℕ) (sink sunk : Option (List ℕ)) (line : Result Bool SessionFault) (result : Result Edited SessionFault) → line ≡ is_dropped result → Joined (λ old new. EditsText pages call (opening source target) old new k m sink sunk result) a b f g → Joined (λ old new. DropsIfCoded line old new m n) b c g h → Joined (λ old new. FileEdited pages call source target old new k n sink sunk result) a c f h
-Joined-file pages call source target a b c f g h k m n sink sunk line result is =
-    Joined-then (λ old new. EditsText pages call (opening source target) old new k m sink sunk result) (λ old new. DropsIfCoded line old new m n) (λ old new. FileEdited pages call source target old new k n sink sunk result) a b c f g h
-    (λ (w0 : World) (w1 : World) (w2 : World) edits drops. file_edited pages call source target w0 w1 w2 k m n sink sunk result edits (subst (λ (l : Result Bool SessionFault). DropsIfCoded l w1 w2 m n) is drops))
+pub Joined-file : (pages : Pages) (order : Order) (source target : List ℕ) (a b c : Holdings) (f g h : Telling) (k m n : ℕ) (sink sunk : Option (List ℕ)) (line : Result Bool SessionFault) (result : Result Edited SessionFault) → line ≡ is_dropped result → Joined (λ old new. EditsText pages order (opening source target) old new k m sink sunk result) a b f g → Joined (λ old new. DropsIfCoded line old new m n) b c g h → Joined (λ old new. FileEdited pages order source target old new k n sink sunk result) a c f h
+Joined-file pages order source target a b c f g h k m n sink sunk line result is =
+    Joined-then (λ old new. EditsText pages order (opening source target) old new k m sink sunk result) (λ old new. DropsIfCoded line old new m n) (λ old new. FileEdited pages order source target old new k n sink sunk result) a b c f g h
+    (λ (w0 : World) (w1 : World) (w2 : World) edits drops. file_edited pages order source target w0 w1 w2 k m n sink sunk result edits (subst (λ (l : Result Bool SessionFault). DropsIfCoded l w1 w2 m n) is drops))

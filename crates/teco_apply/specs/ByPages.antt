@@ -1,8 +1,8 @@
 -- What editing a file by pages does.
-use Rattle.std.specs.Prelude.{ℕ, ◌≡◌, ◌≢◌, ◌+◌, ◌≤◌, ◌⊎◌, min, List, [], ◌∷◌, ◌++◌, codes, Bool, true, false, ◌||◌, Option, Result, Ok, Err}
+use Rattle.std.specs.Prelude.{ℕ, ◌≡◌, ◌≢◌, ◌+◌, ◌≤◌, ◌⊎◌, min, List, [], ◌∷◌, ◌++◌, codes, Bool, true, false, ◌||◌, Option, IfSome, Result, Ok, Err}
 use Rattle.std.specs.Io.KnownBytes.{Keeps}
-use Rattle.teco_apply.specs.Apply.{AnswersMacro, AnswersText, BothOpen, Course, DropsIfCoded, LineCounts, RunWrites, are_plain, closing, opening}
-use Rattle.teco_apply.specs.Sure.{Call, MOST, loaded}
+use Rattle.teco_apply.specs.Apply.{AnswersText, BothOpen, Course, DropsIfCoded, IsNotRun, LineCounts, RunWrites, are_plain, closing, opening}
+use Rattle.teco_apply.specs.Sure.{Call, MOST, Runs, loaded}
 use Rattle.teco_apply.specs.declared.by_pages.Edited.{Edited}
 use Rattle.teco_apply.specs.declared.by_pages.Pages.{Pages}
 use Rattle.teco_apply.specs.declared.by_pages.Pages.TheVariants.{First, Each, Whole}
@@ -13,8 +13,8 @@ use Rattle.teco_apply.specs.declared.stages.Tally.{Tally}
 use Rattle.teco_apply.specs.declared.stages.Turned.{Turned}
 use Rattle.teco_apply.specs.declared.stages.Turned.TheVariants as turned
 use Rattle.teco_base.specs.declared.bytes.TheConstants.{ESC}
-use Rattle.teco_model.specs.Paging.{unread}
-use Rattle.teco_model.specs.State.{World}
+use Rattle.teco_model.specs.Paging.{unread, unread_of}
+use Rattle.teco_model.specs.State.{World, held_length}
 use Rattle.teco_model.specs.declared.stop.Stop.{Stop}
 use Rattle.teco_model.specs.declared.stop.Stop.TheVariants as stop
 use Rattle.teco_run.specs.Unread.{TellsIfUnread}
@@ -65,22 +65,55 @@ EndsWith done (Ok coded) result = result ≡ Ok (edited_with done coded false)
 EndsWith done (Err cannot) result = result ≡ Err cannot
 
 -- ---- the macro
+-- what an answer says, where so many characters are held, and no more bytes than these are unread, if that is known
+abbrev pub Answering : Type 1
+Answering = ℕ → Option ℕ → Bool → Type 0
+
+-- a macro that is to be run, and what a guard's answers say
+pub record Order : Type 1 where
+  pub call : Call
+  pub answers : Answering
+
+abbrev pub order_by : Answering → Call → Order
+order_by answers call = record { call = call; answers = answers }
+
+-- it was asked with what is held, and at least what is unread, if that is told
+pub record IsAskedAt (answers : Answering) (world : World) (answer : Bool) : Type 0 where
+  pub most : Option ℕ
+  pub unread : IfSome most (λ n. unread_of world ≤ n)
+  pub answered : answers (held_length world.kept) most answer
+
+-- it was asked where the library is loaded
+abbrev pub IsAnswered : Order → World → Bool → Type 0
+IsAnswered order old answer = IsAskedAt order.answers (loaded order.call.found.library old) answer
+
+-- it has said no, and the library stays loaded
+pub record IsRefused (order : Order) (old new : World) : Type 0 where
+  pub answered : IsAnswered order old false
+  pub stays : new ≡ loaded order.call.found.library old
+
+-- the macro is run, and the guard has said yes; or it is not run
+abbrev pub AdmittedStops : Order → World → Stop → World → Type 0
+AdmittedStops order old stop new =
+    (IsAnswered order old true × Runs order.call stop old new) ⊎ IsNotRun order.call.found.fields.needs old stop new
+
+abbrev pub AnswersAdmitted : Order → Course
+AnswersAdmitted order old new f g sink sunk result =
+    RunWrites (AdmittedStops order old) new f g sink sunk result
+
 -- the macro came to an end, in this many steps
-pub record RunsOn (call : Call) (old new : World) (f g : ℕ) (sink sunk : Option (List ℕ))
+pub record RunsOn (order : Order) (old new : World) (f g : ℕ) (sink sunk : Option (List ℕ))
     (steps : ℕ) : Type 0 where
-  pub answers : AnswersMacro false call old new f g sink sunk (Ok false)
+  pub answers : AnswersAdmitted order old new f g sink sunk (Ok false)
   pub counted : steps ≡ steps_of answers.stop
 
 -- The macro is run, if the guard admits that; else its library stays loaded.
-abbrev pub RunsAdmitted : Call → World → World → ℕ → ℕ → Option (List ℕ) → Option (List ℕ)
+abbrev pub RunsAdmitted : Order → World → World → ℕ → ℕ → Option (List ℕ) → Option (List ℕ)
     → Result Ran SessionFault → Type 0
-RunsAdmitted call old new f g sink sunk (Ok (ran.On steps)) = RunsOn call old new f g sink sunk steps
-RunsAdmitted call old new f g sink sunk (Ok ran.Coded) =
-    AnswersMacro false call old new f g sink sunk (Ok true)
-RunsAdmitted call old new f g sink sunk (Ok ran.Refused) =
-    (new ≡ loaded call.found.library old) × (g ≡ f) × (sunk ≡ sink)
-RunsAdmitted call old new f g sink sunk (Err cannot) =
-    AnswersMacro false call old new f g sink sunk (Err cannot)
+RunsAdmitted order old new f g sink sunk (Ok (ran.On steps)) = RunsOn order old new f g sink sunk steps
+RunsAdmitted order old new f g sink sunk (Ok ran.Coded) = AnswersAdmitted order old new f g sink sunk (Ok true)
+RunsAdmitted order old new f g sink sunk (Ok ran.Refused) = IsRefused order old new × (g ≡ f) × (sunk ≡ sink)
+RunsAdmitted order old new f g sink sunk (Err cannot) = AnswersAdmitted order old new f g sink sunk (Err cannot)
 
 -- what the macro came to where it is run, by whether a code was written
 abbrev pub RanBy : Result Bool SessionFault → Stop → Result Ran SessionFault → Type 0
@@ -96,17 +129,17 @@ EndsInMacro done (Ok ran.Refused) result = result ≡ Ok (edited_with done false
 EndsInMacro done (Err cannot) result = result ≡ Err cannot
 
 -- the macro is run, and where it came to an end more is done
-pub data BehindMacro (call : Call) (done : Tally) (More : Tally → EditCourse) (old new : World) (f g : ℕ)
+pub data BehindMacro (order : Order) (done : Tally) (More : Tally → EditCourse) (old new : World) (f g : ℕ)
     (sink sunk : Option (List ℕ)) (result : Result Edited SessionFault) : Type 0 where
   stops :
       (answer : Result Ran SessionFault) →
-      RunsAdmitted call old new f g sink sunk answer → EndsInMacro done answer result →
-      BehindMacro call done More old new f g sink sunk result
+      RunsAdmitted order old new f g sink sunk answer → EndsInMacro done answer result →
+      BehindMacro order done More old new f g sink sunk result
   goes_on :
       (steps : ℕ) (mid : World) (count : ℕ) (written : Option (List ℕ)) →
-      RunsAdmitted call old mid f count sink written (Ok (ran.On steps)) →
+      RunsAdmitted order old mid f count sink written (Ok (ran.On steps)) →
       More (tally_after steps done) mid new count g written sunk result →
-      BehindMacro call done More old new f g sink sunk result
+      BehindMacro order done More old new f g sink sunk result
 
 -- the output is closed
 pub record Closing (done : Tally) (old new : World) (f g : ℕ) (sink sunk : Option (List ℕ))
@@ -152,15 +185,15 @@ TooMany old new f g sink sunk line =
     RunWrites (λ why after. (why ≡ stop.Limit) × (after ≡ old)) new f g sink sunk line
 
 -- A number of pages were edited, one after another: behind each the next was turned to.
-pub data PagesTurned (call : Call) (old : World) (f : ℕ) (sink : Option (List ℕ)) :
+pub data PagesTurned (order : Order) (old : World) (f : ℕ) (sink : Option (List ℕ)) :
     Tally → World → ℕ → Option (List ℕ) → Type 0 where
-  none : PagesTurned call old f sink nothing_done old f sink
+  none : PagesTurned order old f sink nothing_done old f sink
   one_more :
       (done : Tally) (steps : ℕ) (mid edited new : World) (k m g : ℕ) (written more sunk : Option (List ℕ)) →
-      PagesTurned call old f sink done mid k written →
-      RunsAdmitted call mid edited k m written more (Ok (ran.On steps)) →
+      PagesTurned order old f sink done mid k written →
+      RunsAdmitted order mid edited k m written more (Ok (ran.On steps)) →
       Turning turning edited new m g more sunk (Ok false) →
-      PagesTurned call old f sink (tally_after steps done) new g sunk
+      PagesTurned order old f sink (tally_after steps done) new g sunk
 
 -- Behind the macro on a page no bytes are unread, and the output is closed; or turning to the next page is the end.
 pub data BehindPage (done : Tally) (old new : World) (f g : ℕ) (sink sunk : Option (List ℕ))
@@ -173,18 +206,18 @@ pub data BehindPage (done : Tally) (old new : World) (f g : ℕ) (sink sunk : Op
       BehindPage done old new f g sink sunk result
 
 -- The macro is run on each page in turn, as long as bytes are unread behind it.
-pub data EachPage (call : Call) (old new : World) (f g : ℕ) (sink sunk : Option (List ℕ))
+pub data EachPage (order : Order) (old new : World) (f g : ℕ) (sink sunk : Option (List ℕ))
     (result : Result Edited SessionFault) : Type 0 where
   ends :
       (done : Tally) (mid : World) (count : ℕ) (written : Option (List ℕ)) →
-      PagesTurned call old f sink done mid count written →
-      BehindMacro call done BehindPage mid new count g written sunk result →
-      EachPage call old new f g sink sunk result
+      PagesTurned order old f sink done mid count written →
+      BehindMacro order done BehindPage mid new count g written sunk result →
+      EachPage order old new f g sink sunk result
   full :
       (done : Tally) (mid : World) (count : ℕ) (written : Option (List ℕ)) (line : Result Bool SessionFault) →
-      PagesTurned call old f sink done mid count written → done.pages ≡ PAGES →
+      PagesTurned order old f sink done mid count written → done.pages ≡ PAGES →
       TooMany mid new count g written sunk line → EndsWith done line result →
-      EachPage call old new f g sink sunk result
+      EachPage order old new f g sink sunk result
 
 -- ---- all pages as one
 -- this many pages were read behind the first
@@ -228,25 +261,25 @@ pub data Behind (First : Course) (More : EditCourse) (old new : World) (f g : �
       Behind First More old new f g sink sunk result
 
 -- the macro is run once, and the output is closed
-abbrev pub Once : Call → EditCourse
-Once call = BehindMacro call nothing_done Closing
+abbrev pub Once : Order → EditCourse
+Once order = BehindMacro order nothing_done Closing
 
 -- an edit whose first command string goes to the start
-abbrev pub FromStart : Call → EditCourse
-FromStart call = Behind (AnswersText to_start) (Once call)
+abbrev pub FromStart : Order → EditCourse
+FromStart order = Behind (AnswersText to_start) (Once order)
 
 -- all pages are read, and edited as one
-abbrev pub AllPages : Call → EditCourse
-AllPages call = Behind Gathers (FromStart call)
+abbrev pub AllPages : Order → EditCourse
+AllPages order = Behind Gathers (FromStart order)
 
 -- what is done once the first page is read
-abbrev pub EditsPages : Pages → Call → EditCourse
-EditsPages First call = Once call
-EditsPages Each call = EachPage call
-EditsPages Whole call = AllPages call
+abbrev pub EditsPages : Pages → Order → EditCourse
+EditsPages First order = Once order
+EditsPages Each order = EachPage order
+EditsPages Whole order = AllPages order
 
-abbrev pub EditsText : Pages → Call → List ℕ → EditCourse
-EditsText pages call text = Behind (AnswersText text) (EditsPages pages call)
+abbrev pub EditsText : Pages → Order → List ℕ → EditCourse
+EditsText pages order text = Behind (AnswersText text) (EditsPages pages order)
 
 -- the output is dropped behind a code, and where the guard refused a run
 abbrev pub is_dropped : Result Edited SessionFault → Result Bool SessionFault
@@ -260,24 +293,24 @@ OpensBoth source target old =
     AnswersText (opening source target) old new f g sink sunk (Ok false) → BothOpen new.files
 
 -- the edit of one file into another
-pub record EditsFile (pages : Pages) (call : Call) (source target : List ℕ) (old new : World) (f g : ℕ)
+pub record EditsFile (pages : Pages) (order : Order) (source target : List ℕ) (old new : World) (f g : ℕ)
     (sink sunk : Option (List ℕ)) (result : Result Edited SessionFault) : Type 0 where
   pub edited : World
   pub count : ℕ
-  pub edits : EditsText pages call (opening source target) old edited f count sink sunk result
+  pub edits : EditsText pages order (opening source target) old edited f count sink sunk result
   pub opens : OpensBoth source target old
   pub drops : DropsIfCoded (is_dropped result) edited new count g
 
 -- What comes of it. With an argument that the macro does not take, or without memory for the first command string,
 -- nothing is done.
-abbrev pub FileEdited : Pages → Call → List ℕ → List ℕ → EditCourse
-FileEdited pages call source target old new f g sink sunk (Ok edited) =
-    EditsFile pages call source target old new f g sink sunk (Ok edited)
-FileEdited pages call source target old new f g sink sunk (Err fault.Write) =
-    EditsFile pages call source target old new f g sink sunk (Err fault.Write)
-FileEdited pages call source target old new f g sink sunk (Err fault.Memory) = (new ≡ old) × Keeps sink sunk
-FileEdited pages call source target old new f g sink sunk (Err fault.Argument) = (new ≡ old) × Keeps sink sunk
-FileEdited pages call source target old new f g sink sunk (Err fault.Read) = ⊥
+abbrev pub FileEdited : Pages → Order → List ℕ → List ℕ → EditCourse
+FileEdited pages order source target old new f g sink sunk (Ok edited) =
+    EditsFile pages order source target old new f g sink sunk (Ok edited)
+FileEdited pages order source target old new f g sink sunk (Err fault.Write) =
+    EditsFile pages order source target old new f g sink sunk (Err fault.Write)
+FileEdited pages order source target old new f g sink sunk (Err fault.Memory) = (new ≡ old) × Keeps sink sunk
+FileEdited pages order source target old new f g sink sunk (Err fault.Argument) = (new ≡ old) × Keeps sink sunk
+FileEdited pages order source target old new f g sink sunk (Err fault.Read) = ⊥
 
 -- ---- counts, for every host
 -- The host's count of failures, from f to g, rises only where a code is written, or a run's bytes cannot be.

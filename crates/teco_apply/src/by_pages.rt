@@ -1,14 +1,14 @@
 //! Editing a file by a verified macro, by pages.
 ghost use Rattle.std.specs.Prelude.{◌≡◌, ◌≤◌, ◌<◌, ◌↔◌, Err, length};
 ghost use Rattle.teco_apply.specs.Apply.{LineCounts};
-ghost use Rattle.teco_apply.specs.ByPages.{AllPages, EachPage, EditsPages, EditsText, FileCounts, FileEdited, FromStart, Gathers, Once, PagesCount, is_dropped};
+ghost use Rattle.teco_apply.specs.ByPages.{AllPages, EachPage, EditsPages, EditsText, FileCounts, FileEdited, FromStart, Gathers, Once, PagesCount, is_dropped, order_by};
 ghost use Rattle.teco_apply.specs.Sure.{IsTaken, TakesArgument};
 ghost use Rattle.teco_base.specs.declared.TheConstants.{LIMIT};
 ghost use Rattle.teco_run.specs.Holdings.{Joined};
 ghost use Rattle.teco_session.specs.declared.fault.SessionFault.TheVariants as fault;
 
 use crate::editing::{Heard, NAME, answer_text, drop_if_coded, opening, tell};
-use crate::guard::Guard;
+use crate::guard::{Guard, Observer, Order};
 use crate::run::{Call, takes};
 use crate::stages::{Ran, Tally, Turned, close, not_begun, run_admitted, turn};
 use std::alloc::Global;
@@ -17,7 +17,7 @@ use teco_base::bytes::ESC;
 use teco_model::Stop;
 use teco_pages::Host;
 use teco_run::Machine;
-use teco_session::SessionFault;
+use teco_session::{Listener, SessionFault};
 use teco_text::TextStore;
 use teco_verify::Verified;
 
@@ -36,8 +36,8 @@ pub enum Pages {
 }
 
 /// How a file is edited.
-#[derive(Clone, Copy)]
-pub struct Edit<'a> {
+#[derive(Drop)]
+pub struct Edit<'a, G: Guard> {
     /// What the memory of its first command string comes from.
     pub alloc: Global,
     /// The macro that edits it.
@@ -50,6 +50,8 @@ pub struct Edit<'a> {
     pub given: Option<i32>,
     /// The pages that are edited.
     pub pages: Pages,
+    /// What is asked before each run.
+    pub guard: &'a G,
 }
 
 /// What came of an edit.
@@ -66,23 +68,23 @@ pub struct Edited {
 }
 
 // Runs the macro on what is read, and closes the output.
-fn edit_once<T: TextStore, H: Host, W: Write, G: Guard<H>>(
+fn edit_once<T: TextStore, H: Host, W: Write, G: Guard, O: Observer<H>>(
     machine: &mut Machine<T>,
-    call: &Call<'_>,
+    order: &Order<'_, G>,
     host: &mut H,
     writer: &mut W,
-    guard: &mut G,
+    observer: &mut O,
 ) -> Result<Edited, SessionFault>
-    requires { TakesArgument call.now }
-    ensures edits { Joined (λ old new. Once call.now old new
+    requires { TakesArgument order.now.call.now }
+    ensures edits { Joined (λ old new. Once (order_by (G.answers order.now.guard.now) order.now.call.now) old new
         (H.failures host.old) (H.failures host.new)
         (W.contents writer.old) (W.contents writer.new) result)
         machine.old machine.new (H.files host.old) (H.files host.new) }
     ensures counted { PagesCount result (H.failures host.old) (H.failures host.new) }
 {
     let done = Tally::new();
-    match run_admitted(machine, call, host, writer, guard) {
-        Ok(Ran::On { steps }) => close(machine, done.after(steps), host, writer, guard),
+    match run_admitted(machine, order, host, writer, observer) {
+        Ok(Ran::On { steps }) => close(machine, done.after(steps), host, writer, observer),
         Ok(Ran::Coded) => Ok(done.edited(true, false)),
         Ok(Ran::Refused) => Ok(done.edited(false, true)),
         Err(fault) => Err(fault),
@@ -91,16 +93,16 @@ fn edit_once<T: TextStore, H: Host, W: Write, G: Guard<H>>(
 
 // Runs the macro on each page in turn, as long as bytes are unread behind it, and closes the
 // output.
-fn edit_each<T: TextStore, H: Host, W: Write, G: Guard<H>>(
+fn edit_each<T: TextStore, H: Host, W: Write, G: Guard, O: Observer<H>>(
     machine: &mut Machine<T>,
-    call: &Call<'_>,
+    order: &Order<'_, G>,
     host: &mut H,
     writer: &mut W,
-    guard: &mut G,
+    observer: &mut O,
 ) -> Result<Edited, SessionFault>
-    requires { TakesArgument call.now }
+    requires { TakesArgument order.now.call.now }
     ensures edits { Joined (λ old new. EachPage
-        call.now old new
+        (order_by (G.answers order.now.guard.now) order.now.call.now) old new
         (H.failures host.old) (H.failures host.new)
         (W.contents writer.old) (W.contents writer.new) result)
         machine.old machine.new (H.files host.old) (H.files host.new) }
@@ -108,15 +110,15 @@ fn edit_each<T: TextStore, H: Host, W: Write, G: Guard<H>>(
 {
     let mut done = Tally::new();
     for _ in 0..PAGES {
-        match run_admitted(machine, call, host, writer, guard) {
+        match run_admitted(machine, order, host, writer, observer) {
             Ok(Ran::On { steps }) => done = done.after(steps),
             Ok(Ran::Coded) => return Ok(done.edited(true, false)),
             Ok(Ran::Refused) => return Ok(done.edited(false, true)),
             Err(fault) => return Err(fault),
         }
-        match turn(machine, b"P", host, writer, guard) {
+        match turn(machine, b"P", host, writer, observer) {
             Ok(Turned::On) => {}
-            Ok(Turned::Through) => return close(machine, done, host, writer, guard),
+            Ok(Turned::Through) => return close(machine, done, host, writer, observer),
             Ok(Turned::Coded) => return Ok(done.edited(true, false)),
             Err(fault) => return Err(fault),
         }
@@ -126,15 +128,15 @@ fn edit_each<T: TextStore, H: Host, W: Write, G: Guard<H>>(
         text: b"P",
         stopped: &stopped,
     };
-    done.ended(tell(machine, &heard, host, writer, guard))
+    done.ended(tell(machine, &heard, host, writer, observer))
 }
 
 // Reads all pages behind the first, as long as bytes are unread. Says whether there is a code.
-fn gather<T: TextStore, H: Host, W: Write, G: Guard<H>>(
+fn gather<T: TextStore, H: Host, W: Write, L: Listener<H>>(
     machine: &mut Machine<T>,
     host: &mut H,
     writer: &mut W,
-    guard: &mut G,
+    listener: &mut L,
 ) -> Result<bool, SessionFault>
     ensures gathers { Joined (λ old new. Gathers old new
         (H.failures host.old) (H.failures host.new)
@@ -144,7 +146,7 @@ fn gather<T: TextStore, H: Host, W: Write, G: Guard<H>>(
 {
     let next = &[b'Z', b'J', b'1', b'2', b'I', ESC, b'A'];
     for _ in 0..PAGES {
-        match turn(machine, next, host, writer, guard) {
+        match turn(machine, next, host, writer, listener) {
             Ok(Turned::On) => {}
             Ok(Turned::Through) => return Ok(false),
             Ok(Turned::Coded) => return Ok(true),
@@ -156,111 +158,113 @@ fn gather<T: TextStore, H: Host, W: Write, G: Guard<H>>(
         text: next,
         stopped: &stopped,
     };
-    tell(machine, &heard, host, writer, guard)
+    tell(machine, &heard, host, writer, listener)
 }
 
 // Goes to the start of what is read, runs the macro, and closes the output.
-fn edit_from_start<T: TextStore, H: Host, W: Write, G: Guard<H>>(
+fn edit_from_start<T: TextStore, H: Host, W: Write, G: Guard, O: Observer<H>>(
     machine: &mut Machine<T>,
-    call: &Call<'_>,
+    order: &Order<'_, G>,
     host: &mut H,
     writer: &mut W,
-    guard: &mut G,
+    observer: &mut O,
 ) -> Result<Edited, SessionFault>
-    requires { TakesArgument call.now }
+    requires { TakesArgument order.now.call.now }
     ensures edits { Joined (λ old new. FromStart
-        call.now old new
+        (order_by (G.answers order.now.guard.now) order.now.call.now) old new
         (H.failures host.old) (H.failures host.new)
         (W.contents writer.old) (W.contents writer.new) result)
         machine.old machine.new (H.files host.old) (H.files host.new) }
     ensures counted { PagesCount result (H.failures host.old) (H.failures host.new) }
 {
-    match answer_text(machine, b"J", host, writer, guard) {
-        Ok(false) => edit_once(machine, call, host, writer, guard),
+    match answer_text(machine, b"J", host, writer, observer) {
+        Ok(false) => edit_once(machine, order, host, writer, observer),
         Ok(true) => Ok(Tally::new().edited(true, false)),
         Err(fault) => Err(fault),
     }
 }
 
 // Reads all pages, and runs the macro on them as one.
-fn edit_whole<T: TextStore, H: Host, W: Write, G: Guard<H>>(
+fn edit_whole<T: TextStore, H: Host, W: Write, G: Guard, O: Observer<H>>(
     machine: &mut Machine<T>,
-    call: &Call<'_>,
+    order: &Order<'_, G>,
     host: &mut H,
     writer: &mut W,
-    guard: &mut G,
+    observer: &mut O,
 ) -> Result<Edited, SessionFault>
-    requires { TakesArgument call.now }
+    requires { TakesArgument order.now.call.now }
     ensures edits { Joined (λ old new. AllPages
-        call.now old new
+        (order_by (G.answers order.now.guard.now) order.now.call.now) old new
         (H.failures host.old) (H.failures host.new)
         (W.contents writer.old) (W.contents writer.new) result)
         machine.old machine.new (H.files host.old) (H.files host.new) }
     ensures counted { PagesCount result (H.failures host.old) (H.failures host.new) }
 {
-    match gather(machine, host, writer, guard) {
-        Ok(false) => edit_from_start(machine, call, host, writer, guard),
+    match gather(machine, host, writer, observer) {
+        Ok(false) => edit_from_start(machine, order, host, writer, observer),
         Ok(true) => Ok(Tally::new().edited(true, false)),
         Err(fault) => Err(fault),
     }
 }
 
 // What is run on which pages, and the command string that opens the files.
-#[derive(Clone, Copy)]
-struct Plan<'a> {
-    call: &'a Call<'a>,
+#[derive(Drop)]
+struct Plan<'a, G: Guard> {
+    order: &'a Order<'a, G>,
     pages: Pages,
     opening: &'a [u8],
 }
 
 // Edits pages once the first is read.
-fn edit_pages<T: TextStore, H: Host, W: Write, G: Guard<H>>(
+fn edit_pages<T: TextStore, H: Host, W: Write, G: Guard, O: Observer<H>>(
     machine: &mut Machine<T>,
-    plan: &Plan<'_>,
+    plan: &Plan<'_, G>,
     host: &mut H,
     writer: &mut W,
-    guard: &mut G,
+    observer: &mut O,
 ) -> Result<Edited, SessionFault>
-    requires { TakesArgument plan.now.call.now }
-    ensures edits { Joined (λ old new. EditsPages plan.now.pages plan.now.call.now old new
+    requires { TakesArgument plan.now.order.now.call.now }
+    ensures edits { Joined (λ old new. EditsPages plan.now.pages
+        (order_by (G.answers plan.now.order.now.guard.now) plan.now.order.now.call.now) old new
         (H.failures host.old) (H.failures host.new)
         (W.contents writer.old) (W.contents writer.new) result)
         machine.old machine.new (H.files host.old) (H.files host.new) }
     ensures counted { PagesCount result (H.failures host.old) (H.failures host.new) }
 {
     match plan.pages {
-        Pages::First => edit_once(machine, plan.call, host, writer, guard),
-        Pages::Each => edit_each(machine, plan.call, host, writer, guard),
-        Pages::Whole => edit_whole(machine, plan.call, host, writer, guard),
+        Pages::First => edit_once(machine, plan.order, host, writer, observer),
+        Pages::Each => edit_each(machine, plan.order, host, writer, observer),
+        Pages::Whole => edit_whole(machine, plan.order, host, writer, observer),
     }
 }
 
 // Opens the files, and edits the pages.
-fn edit_opened<T: TextStore, H: Host, W: Write, G: Guard<H>>(
+fn edit_opened<T: TextStore, H: Host, W: Write, G: Guard, O: Observer<H>>(
     machine: &mut Machine<T>,
-    plan: &Plan<'_>,
+    plan: &Plan<'_, G>,
     host: &mut H,
     writer: &mut W,
-    guard: &mut G,
+    observer: &mut O,
 ) -> Result<Edited, SessionFault>
-    requires taken { TakesArgument plan.now.call.now }
+    requires taken { TakesArgument plan.now.order.now.call.now }
     requires opening { length plan.now.opening.now ≤ LIMIT }
-    ensures edits { Joined (λ old new. EditsText plan.now.pages plan.now.call.now
+    ensures edits { Joined (λ old new. EditsText plan.now.pages
+        (order_by (G.answers plan.now.order.now.guard.now) plan.now.order.now.call.now)
         plan.now.opening.now old new
         (H.failures host.old) (H.failures host.new)
         (W.contents writer.old) (W.contents writer.new) result)
         machine.old machine.new (H.files host.old) (H.files host.new) }
     ensures counted { PagesCount result (H.failures host.old) (H.failures host.new) }
 {
-    match answer_text(machine, plan.opening, host, writer, guard) {
-        Ok(false) => edit_pages(machine, plan, host, writer, guard),
+    match answer_text(machine, plan.opening, host, writer, observer) {
+        Ok(false) => edit_pages(machine, plan, host, writer, observer),
         Ok(true) => Ok(Tally::new().edited(true, false)),
         Err(fault) => Err(fault),
     }
 }
 
-// Is the output dropped?
-fn dropped(edited: Result<Edited, SessionFault>) -> Result<bool, SessionFault>
+/// Is the output dropped?
+pub fn dropped(edited: Result<Edited, SessionFault>) -> Result<bool, SessionFault>
     ensures { result ≡ is_dropped edited }
 {
     match edited {
@@ -277,17 +281,18 @@ fn dropped(edited: Result<Edited, SessionFault>) -> Result<bool, SessionFault>
 /// dropped.
 ///
 /// An argument, the first command string's memory, and a fault of writing are as with `apply`.
-pub fn edit_file<T: TextStore, H: Host, W: Write, G: Guard<H>>(
+pub fn edit_file<T: TextStore, H: Host, W: Write, G: Guard, O: Observer<H>>(
     machine: &mut Machine<T>,
-    edit: &Edit<'_>,
+    edit: &Edit<'_, G>,
     host: &mut H,
     writer: &mut W,
-    guard: &mut G,
+    observer: &mut O,
 ) -> Result<Edited, SessionFault>
     requires source { length edit.now.source.now ≤ NAME }
     requires target { length edit.now.target.now ≤ NAME }
     ensures edits { Joined (λ old new. FileEdited edit.now.pages
-        (record { found = edit.now.verified.now; given = edit.now.given })
+        (order_by (G.answers edit.now.guard.now)
+        (record { found = edit.now.verified.now; given = edit.now.given }))
         edit.now.source.now edit.now.target.now old new
         (H.failures host.old) (H.failures host.new)
         (W.contents writer.old) (W.contents writer.new) result)
@@ -304,12 +309,16 @@ pub fn edit_file<T: TextStore, H: Host, W: Write, G: Guard<H>>(
         verified: edit.verified,
         given: edit.given,
     };
-    let plan = Plan {
+    let order = Order {
         call: &call,
+        guard: edit.guard,
+    };
+    let plan = Plan {
+        order: &order,
         pages: edit.pages,
         opening: opening.as_slice(),
     };
-    let edited = edit_opened(machine, &plan, host, writer, guard);
+    let edited = edit_opened(machine, &plan, host, writer, observer);
     drop_if_coded(machine, dropped(edited), host);
     edited
 }

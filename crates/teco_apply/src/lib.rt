@@ -3,13 +3,15 @@
 
 mod by_pages;
 mod editing;
+mod first_page;
 mod guard;
 mod ready;
 mod run;
 mod stages;
 
 pub use by_pages::{Edit, Edited, PAGES, Pages, edit_file};
-pub use editing::{NAME, apply};
-pub use guard::Guard;
+pub use editing::NAME;
+pub use first_page::apply;
+pub use guard::{Asked, Guard, Observer, Willing};
 pub use ready::NotReady;
 pub use run::{run_verified, run_verified_with};

@@ -1,7 +1,7 @@
 //! The run of a verified macro.
 ghost use Rattle.std.specs.Prelude.{◌≡◌, ◌↔◌, Some, None, IfOk, OnOk, OnErr, IsTrue};
 ghost use Rattle.teco_apply.specs.Sure.{Answers, Calls, HasFiles, IsReady, IsTaken, Runs, TakesArgument, call_text as text_of_call, kept_loaded};
-ghost use Rattle.teco_apply.specs.Touched.{IsPossible, IsReadyLoaded, TouchesNone};
+ghost use Rattle.teco_apply.specs.Touched.{IsReadyLoaded, TouchesNone};
 ghost use Rattle.teco_model.specs.Macros.{IsLoaded};
 ghost use Rattle.teco_model.specs.Run.{StopCounts};
 ghost use Rattle.teco_run.specs.Holdings.{Joined};
@@ -76,8 +76,6 @@ pub fn call_verified<T: TextStore, H: Host>(
         machine.old machine.new (H.files host.old) (H.files host.new) }
     ensures touches { TouchesNone (IsReady call.now.found.fields)
         machine.old machine.new (H.files host.old) (H.files host.new) }
-    ensures possible { IsPossible (IsReady call.now.found.fields)
-        machine.old machine.new (H.files host.old) (H.files host.new) }
     ensures counted { StopCounts result.stop (H.failures host.old) (H.failures host.new) }
 {
     machine.is_whole();
@@ -136,9 +134,6 @@ pub fn run_given<T: TextStore, H: Host>(
     ensures touches { IfOk result (λ _. TouchesNone
         (IsReadyLoaded call.now)
         machine.old machine.new (H.files host.old) (H.files host.new)) }
-    ensures possible { IfOk result (λ _. IsPossible
-        (IsReadyLoaded call.now)
-        machine.old machine.new (H.files host.old) (H.files host.new)) }
 {
     make_ready(machine, call)?;
     Ok(call_verified(machine, call, host).stop)
@@ -168,9 +163,6 @@ pub fn run_verified<T: TextStore, H: Host>(
     ensures touches { IfOk result (λ _. TouchesNone
         (IsReadyLoaded (record { found = verified.now; given = None }))
         machine.old machine.new (H.files host.old) (H.files host.new)) }
-    ensures possible { IfOk result (λ _. IsPossible
-        (IsReadyLoaded (record { found = verified.now; given = None }))
-        machine.old machine.new (H.files host.old) (H.files host.new)) }
 {
     let call = Call {
         verified,
@@ -197,9 +189,6 @@ pub fn run_verified_with<T: TextStore, H: Host>(
     ensures machine { OnErr result (machine.new ≡ machine.old) }
     ensures host { OnErr result (host.new ≡ host.old) }
     ensures touches { IfOk result (λ _. TouchesNone
-        (IsReadyLoaded (record { found = verified.now; given = Some n }))
-        machine.old machine.new (H.files host.old) (H.files host.new)) }
-    ensures possible { IfOk result (λ _. IsPossible
         (IsReadyLoaded (record { found = verified.now; given = Some n }))
         machine.old machine.new (H.files host.old) (H.files host.new)) }
 {

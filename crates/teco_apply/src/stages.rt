@@ -1,23 +1,24 @@
 //! What edits are made of: command strings, and the runs of a macro, which a guard admits and
 //! hears.
-ghost use Rattle.std.specs.Prelude.{◌≡◌, ◌≤◌, ◌<◌, ◌+◌, ◌^◌, MatchOption, length, false};
-ghost use Rattle.teco_apply.specs.Apply.{AnswersText, LineCounts, MacroStops};
+ghost use Rattle.std.specs.Prelude.{◌≡◌, ◌≤◌, ◌<◌, ◌+◌, ◌^◌, MatchOption, IfSome, length, false};
+ghost use Rattle.teco_apply.specs.Apply.{AnswersText, LineCounts};
 ghost use Rattle.teco_apply.specs.ByPages as edit;
-ghost use Rattle.teco_apply.specs.ByPages.{Closing, EndsWith, PagesCount, RanBy, RanCounts, RunsAdmitted, TurnCounts, TurnedBy, Turns, edited_with, nothing_done, tally_after};
-ghost use Rattle.teco_apply.specs.Sure.{TakesArgument, kept_loaded};
+ghost use Rattle.teco_apply.specs.ByPages.{AdmittedStops, Closing, EndsWith, IsAskedAt, IsRefused, PagesCount, RanBy, RanCounts, RunsAdmitted, TurnCounts, TurnedBy, Turns, edited_with, nothing_done, order_by, tally_after};
+ghost use Rattle.teco_apply.specs.Sure.{TakesArgument};
 ghost use Rattle.teco_base.specs.declared.TheConstants.{LIMIT};
+ghost use Rattle.teco_model.specs.Paging.{unread_of};
 ghost use Rattle.teco_model.specs.Run.{StopCounts};
 ghost use Rattle.teco_run.specs.Holdings.{Joined};
 
 use crate::by_pages::Edited;
 use crate::editing::{Heard, answer_text, stop_of, tell};
-use crate::guard::Guard;
-use crate::run::{Call, call_text, call_verified, make_ready};
+use crate::guard::{Asked, Guard, Observer, Order};
+use crate::run::{call_text, call_verified, make_ready};
 use std::io::Write;
 use teco_model::Stop;
 use teco_pages::Host;
 use teco_run::{Machine, Site, Stopped};
-use teco_session::SessionFault;
+use teco_session::{Listener, SessionFault};
 use teco_text::TextStore;
 
 /// What the macro came to.
@@ -129,60 +130,86 @@ fn ran_by(line: Result<bool, SessionFault>, stop: Stop) -> Result<Ran, SessionFa
     }
 }
 
+// How many bytes of the input are unread at most, if that can be told.
+fn unread_at_most<T: TextStore, H: Host>(machine: &Machine<T>, host: &mut H) -> Option<u64>
+    ensures most { Joined (λ old new. (new ≡ old) × IfSome result (λ n. unread_of old ≤ n))
+        machine.now machine.now (H.files host.old) (H.files host.new) }
+    ensures counted { H.failures host.new ≡ H.failures host.old }
+{
+    let left = host.left_of_input()?;
+    left.checked_add(machine.read_ahead() as u64)
+}
+
+// Asks the guard whether the macro may be run, whose library is loaded.
+fn ask<T: TextStore, H: Host, G: Guard>(machine: &Machine<T>, guard: &G, host: &mut H) -> Asked
+    ensures asked { Joined (λ old new. (new ≡ old) × IsAskedAt (G.answers guard.now) old result.admitted)
+        machine.now machine.now (H.files host.old) (H.files host.new) }
+    ensures counted { H.failures host.new ≡ H.failures host.old }
+{
+    let held = machine.held();
+    let unread = unread_at_most(machine, host);
+    Asked {
+        held,
+        unread,
+        admitted: guard.admits(held, unread),
+    }
+}
+
 // Runs the macro, if the guard admits that; `None` where it does not, and the library is loaded
 // then.
-fn run_guarded<T: TextStore, H: Host, G: Guard<H>>(
+fn run_guarded<T: TextStore, H: Host, G: Guard, O: Observer<H>>(
     machine: &mut Machine<T>,
-    call: &Call<'_>,
+    order: &Order<'_, G>,
     host: &mut H,
-    guard: &mut G,
+    observer: &mut O,
 ) -> Option<Stopped>
-    requires { TakesArgument call.now }
-    ensures stops { MatchOption result
-        ((machine.new
-        ≡ record machine.old { kept = kept_loaded call.now.found.library machine.old.kept })
-        × (host.new ≡ host.old))
-        (λ stopped. Joined (λ old new.
-        MacroStops false call.now old stopped.stop new)
-        machine.old machine.new (H.files host.old) (H.files host.new)) }
-    ensures counted { MatchOption result (host.new ≡ host.old)
+    requires { TakesArgument order.now.call.now }
+    ensures stops { Joined (λ old new. MatchOption result
+        (IsRefused (order_by (G.answers order.now.guard.now) order.now.call.now) old new)
+        (λ stopped. AdmittedStops (order_by (G.answers order.now.guard.now) order.now.call.now)
+        old stopped.stop new))
+        machine.old machine.new (H.files host.old) (H.files host.new) }
+    ensures counted { MatchOption result (H.failures host.new ≡ H.failures host.old)
         (λ stopped. StopCounts stopped.stop (H.failures host.old) (H.failures host.new)) }
 {
-    if let Err(not_ready) = make_ready(machine, call) {
+    if let Err(not_ready) = make_ready(machine, order.call) {
         return Some(not_begun(stop_of(not_ready)));
     }
-    if !guard.admits(machine.held(), machine.read_ahead(), host) {
+    let asked = ask(machine, order.guard, host);
+    observer.asked(asked, host);
+    if !asked.admitted {
         return None;
     }
-    Some(call_verified(machine, call, host))
+    Some(call_verified(machine, order.call, host))
 }
 
 /// Runs the macro, if the guard admits that, and writes what it types and its code line.
-pub fn run_admitted<T: TextStore, H: Host, W: Write, G: Guard<H>>(
+pub fn run_admitted<T: TextStore, H: Host, W: Write, G: Guard, O: Observer<H>>(
     machine: &mut Machine<T>,
-    call: &Call<'_>,
+    order: &Order<'_, G>,
     host: &mut H,
     writer: &mut W,
-    guard: &mut G,
+    observer: &mut O,
 ) -> Result<Ran, SessionFault>
-    requires { TakesArgument call.now }
+    requires { TakesArgument order.now.call.now }
     ensures runs { Joined (λ old new. RunsAdmitted
-        call.now old new
+        (order_by (G.answers order.now.guard.now) order.now.call.now) old new
         (H.failures host.old) (H.failures host.new)
         (W.contents writer.old) (W.contents writer.new) result)
         machine.old machine.new (H.files host.old) (H.files host.new) }
     ensures counted { RanCounts result (H.failures host.old) (H.failures host.new) }
 {
-    let Some(stopped) = run_guarded(machine, call, host, guard) else {
+    let Some(stopped) = run_guarded(machine, order, host, observer) else {
         return Ok(Ran::Refused);
     };
+    let call = order.call;
     let text = call_text(call.verified.entry(), call.given);
     let stop = stopped.stop;
     let heard = Heard {
         text: text.as_slice(),
         stopped: &stopped,
     };
-    let line = tell(machine, &heard, host, writer, guard);
+    let line = tell(machine, &heard, host, writer, observer);
     ran_by(line, stop)
 }
 
@@ -198,12 +225,12 @@ fn turned_by(line: Result<bool, SessionFault>) -> Result<Turned, SessionFault>
 }
 
 /// Runs a command string, if bytes are unread. Where that cannot be told, why is written.
-pub fn turn<T: TextStore, H: Host, W: Write, G: Guard<H>>(
+pub fn turn<T: TextStore, H: Host, W: Write, L: Listener<H>>(
     machine: &mut Machine<T>,
     text: &[u8],
     host: &mut H,
     writer: &mut W,
-    guard: &mut G,
+    listener: &mut L,
 ) -> Result<Turned, SessionFault>
     requires { length text.now ≤ LIMIT }
     ensures turns { Joined (λ old new. Turns text.now old new
@@ -214,25 +241,25 @@ pub fn turn<T: TextStore, H: Host, W: Write, G: Guard<H>>(
 {
     match machine.has_unread(host) {
         Ok(false) => Ok(Turned::Through),
-        Ok(true) => turned_by(answer_text(machine, text, host, writer, guard)),
+        Ok(true) => turned_by(answer_text(machine, text, host, writer, listener)),
         Err(why) => {
             let stopped = not_begun(why);
             let heard = Heard {
                 text,
                 stopped: &stopped,
             };
-            turned_by(tell(machine, &heard, host, writer, guard))
+            turned_by(tell(machine, &heard, host, writer, listener))
         }
     }
 }
 
 /// Closes the output.
-pub fn close<T: TextStore, H: Host, W: Write, G: Guard<H>>(
+pub fn close<T: TextStore, H: Host, W: Write, L: Listener<H>>(
     machine: &mut Machine<T>,
     done: Tally,
     host: &mut H,
     writer: &mut W,
-    guard: &mut G,
+    listener: &mut L,
 ) -> Result<Edited, SessionFault>
     ensures closes { Joined (λ old new. Closing done old new
         (H.failures host.old) (H.failures host.new)
@@ -240,5 +267,5 @@ pub fn close<T: TextStore, H: Host, W: Write, G: Guard<H>>(
         machine.old machine.new (H.files host.old) (H.files host.new) }
     ensures counted { PagesCount result (H.failures host.old) (H.failures host.new) }
 {
-    done.ended(answer_text(machine, b"EC", host, writer, guard))
+    done.ended(answer_text(machine, b"EC", host, writer, listener))
 }

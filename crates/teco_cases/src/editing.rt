@@ -5,12 +5,11 @@ use crate::findings::Findings;
 use crate::running::{Job, Left, Ran, buffer_of, run_over_each};
 use crate::settings::{IN_FOLDER, IN_MEMORY};
 use std::alloc::{AllocError, Global};
-use teco_apply::{Edit, Edited, Guard, Pages, edit_file};
-use teco_base::Code;
+use teco_apply::{Edit, Edited, Pages, Willing, edit_file};
 use teco_base::bytes::FF;
 use teco_pages::Host;
-use teco_run::{Machine, Stopped};
-use teco_session::{Listener, SessionFault};
+use teco_run::Machine;
+use teco_session::SessionFault;
 use teco_text::TextStore;
 use teco_verdicts::Premise;
 use teco_verify::Verified;
@@ -41,28 +40,6 @@ pub struct Wanted<'a> {
     pub output: Option<&'a [u8]>,
     /// The steps of the run, where they are told.
     pub steps: Option<u64>,
-}
-
-// Lets each run begin, and hears nothing.
-#[derive(Clone, Copy)]
-struct Willing;
-
-impl<H: Host> Listener<H> for Willing {
-    fn stopped<T: TextStore>(
-        &mut self,
-        _text: &[u8],
-        _stopped: &Stopped,
-        _machine: &Machine<T>,
-        _host: &H,
-    ) {}
-
-    fn rest(&mut self, _code: Option<Code>) {}
-}
-
-impl<H: Host> Guard<H> for Willing {
-    fn admits(&mut self, _held: u128, _read_ahead: usize, _host: &H) -> bool {
-        true
-    }
 }
 
 // The exit status of an edit, and its steps.
@@ -169,6 +146,7 @@ impl Job for Trial<'_> {
             target: TARGET,
             given: self.task.argument,
             pages: self.task.pages,
+            guard: &Willing,
         };
         let edited = edit_file(&mut machine, &edit, host, &mut typed, &mut Willing);
         let (status, steps) = status_of(edited)?;

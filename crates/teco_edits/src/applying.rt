@@ -1,16 +1,17 @@
 //! `apply`: a file is edited by a verified macro.
-ghost use Rattle.std.specs.Prelude.{◌≤◌, length};
+ghost use Rattle.std.specs.Prelude.{◌≡◌, ◌≤◌, length};
 ghost use Rattle.teco_apply.specs.declared.editing.TheConstants.{NAME};
+ghost use Rattle.teco_verdicts.specs.Premise.{IsPremise};
 
 use crate::promise::Promise;
 use crate::subject::{Subject, read_subject, refuse_subject};
-use crate::watching::{Seen, Warden, Watch};
+use crate::watching::{Seen, Terms, Warden, Watch};
 use std::alloc::Global;
 use std::fs::{Files, Metadata};
 use std::io::{Input, Write};
 use std::os::unix::fs::MetadataExt;
 use std::{fs, str};
-use teco_apply::{Edit, Edited, Pages, edit_file};
+use teco_apply::{Edit, Edited, Observer, Pages, edit_file};
 use teco_base::Reg;
 use teco_model::Needs;
 use teco_pages::Host;
@@ -109,14 +110,25 @@ pub struct Job<'a> {
 }
 
 impl<'a> Job<'a> {
-    // What is watched of the runs on the file of a name.
-    fn watch(self, name: &'a [u8]) -> Watch<'a> {
+    // On which terms runs on a file begin.
+    fn terms(self) -> Terms
+        ensures strict { result.is_strict ≡ self.entry.task.now.is_strict }
+        ensures premise { IsPremise self.entry.verified.now.fields.size self.entry.verified.now.fields.commands
+            result.promise.premise.last }
+    {
         let is_first = matches!(self.task.pages, Pages::First);
-        Watch {
-            name,
+        Terms {
             promise: Promise::of(self.verified),
             is_strict: self.task.is_strict,
             wants_all: self.task.wants_all && is_first && !self.turns_pages(),
+        }
+    }
+
+    // What is watched of the runs on the file of a name.
+    fn watch(self, name: &'a [u8]) -> Watch<'a> {
+        Watch {
+            name,
+            terms: self.terms(),
         }
     }
 
@@ -149,14 +161,23 @@ pub struct Channels<'a, O: Write, E: Write + Drop> {
     pub voice: &'a mut Voice<E>,
 }
 
-// Edits a file on a machine, and watches the runs.
-fn watch_edit<H: Host + Reporting, O: Write, E: Write + Drop>(
-    channels: &mut Channels<'_, O, E>,
+// What is done, and with which files.
+#[derive(Clone, Copy)]
+struct Work<'a> {
+    job: Job<'a>,
+    names: Names<'a>,
+}
+
+// Edits a file on a machine, on the terms of the job, which an observer hears.
+fn edit_observed<H: Host, O: Write, V: Observer<H>>(
     machine: &mut Machine<GapText>,
-    job: Job<'_>,
-    names: Names<'_>,
+    work: Work<'_>,
     host: &mut H,
-) -> Result<Watched, ToolFault> {
+    out: &mut O,
+    observer: &mut V,
+) -> Result<Edited, SessionFault> {
+    let Work { job, names } = work;
+    let terms = job.terms();
     let edit = Edit {
         alloc: job.alloc,
         verified: job.verified,
@@ -164,9 +185,21 @@ fn watch_edit<H: Host + Reporting, O: Write, E: Write + Drop>(
         target: names.target,
         given: job.task.argument,
         pages: job.task.pages,
+        guard: &terms,
     };
-    let mut warden = Warden::new(channels.voice, job.watch(names.source));
-    let edited = edit_file(machine, &edit, host, channels.out, &mut warden);
+    edit_file(machine, &edit, host, out, observer)
+}
+
+// Edits a file on a machine, and watches the runs.
+fn watch_edit<H: Host + Reporting, O: Write, E: Write + Drop>(
+    channels: &mut Channels<'_, O, E>,
+    machine: &mut Machine<GapText>,
+    work: Work<'_>,
+    host: &mut H,
+) -> Result<Watched, ToolFault> {
+    let watch = work.job.watch(work.names.source);
+    let mut warden = Warden::new(channels.voice, watch);
+    let edited = edit_observed(machine, work, host, channels.out, &mut warden);
     with_seen(edited, warden.seen())
 }
 
@@ -179,7 +212,7 @@ fn edit_on<H: Host + Reporting, O: Write, E: Write + Drop>(
     host: &mut H,
 ) -> Result<Outcome, ToolFault> {
     prepare(machine, job.task.start, host)?;
-    let watched = watch_edit(channels, machine, job, names, host)?;
+    let watched = watch_edit(channels, machine, Work { job, names }, host)?;
     conclude(channels.voice, job.task, names.source, watched)
 }
 

@@ -7,6 +7,7 @@ mod choosing;
 mod diff;
 mod editing;
 mod folders;
+pub mod laws;
 mod lines;
 mod opening;
 mod pattern;

@@ -1,8 +1,11 @@
 //! What is seen, and said, of the runs of a verified macro on files.
+ghost use Rattle.std.specs.Prelude.{◌≡◌, Some, IfSome, IsTrue};
+ghost use Rattle.teco_edits.specs.Terms.{Answers, IsPromised, n_at_most};
+
 use crate::promise::Promise;
 use std::fmt;
 use std::io::Write;
-use teco_apply::Guard;
+use teco_apply::{Asked, Guard, Observer};
 use teco_base::Code;
 use teco_explain::note_of_code;
 use teco_pages::Host;
@@ -31,11 +34,9 @@ pub const NOTHING_SEEN: Seen = Seen {
     unread: Some(0),
 };
 
-/// What is watched: the runs of a macro on a file.
+/// On which terms the runs of a macro on a file begin.
 #[derive(Clone, Copy)]
-pub struct Watch<'a> {
-    /// The file's name.
-    pub name: &'a [u8],
+pub struct Terms {
     /// What the macro promises.
     pub promise: Promise,
     /// Is a run outside the promise refused?
@@ -44,8 +45,56 @@ pub struct Watch<'a> {
     pub wants_all: bool,
 }
 
-/// Watches the runs of a verified macro on a file: it says where one is outside the promise, and
-/// refuses it if it is strict.
+impl Terms {
+    // Is a run at this N within the promise? One at an N that can't be told is not.
+    fn is_promised(self, n: Option<u64>) -> bool
+        ensures { IsTrue result → IsPromised self n }
+    {
+        match n {
+            Some(n) => self.promise.premise.holds_at(u128::from(n)),
+            None => false,
+        }
+    }
+
+    // Is a run let go on behind which so many bytes stay unread?
+    fn is_whole(self, unread: Option<u64>) -> bool {
+        match unread {
+            Some(unread) => unread == 0 || !self.wants_all,
+            None => true,
+        }
+    }
+}
+
+impl Guard for Terms {
+    ghost answers = { Answers };
+
+    fn admits(&self, held: u128, unread: Option<u64>) -> bool {
+        if self.is_strict && !self.is_promised(n_of(held, unread)) {
+            return false;
+        }
+        self.is_whole(unread)
+    }
+}
+
+// The N where so much is held and unread, if that is told and of 64 bits.
+fn n_of(held: u128, unread: Option<u64>) -> Option<u64>
+    ensures { IfSome result (λ n. n_at_most held unread ≡ Some n) }
+{
+    let n = held.checked_add(u128::from(unread?))?;
+    u64::try_from(n).ok()
+}
+
+/// What is watched: the runs of a macro on a file.
+#[derive(Clone, Copy)]
+pub struct Watch<'a> {
+    /// The file's name.
+    pub name: &'a [u8],
+    /// On which terms they begin.
+    pub terms: Terms,
+}
+
+/// Watches the runs of a verified macro on a file: it says where one is outside the promise, or
+/// leaves bytes unread.
 #[derive(Drop)]
 pub struct Warden<'a, E: Write + Drop> {
     voice: &'a mut Voice<E>,
@@ -76,7 +125,7 @@ impl<'a, E: Write + Drop> Warden<'a, E> {
 
     // Counts a run at an N.
     fn count(&mut self, n: Option<u64>) {
-        let promise = self.watch.promise;
+        let promise = self.watch.terms.promise;
         let bound = n.and_then(|n| promise.bound_at(n));
         self.seen.most = match (self.seen.most, n) {
             (Some(most), Some(n)) => Some(most.max(n)),
@@ -88,38 +137,32 @@ impl<'a, E: Write + Drop> Warden<'a, E> {
         };
     }
 
-    // Is a run at this N within the promise? What is not is said, with the length of the file.
-    fn is_promised(&mut self, n: Option<u64>, length: Option<u64>) -> bool {
-        let premise = self.watch.promise.premise;
+    // Says where a run at this N is outside the promise, with the length of the file.
+    fn tell_promise(&mut self, n: Option<u64>, length: Option<u64>) {
+        let premise = self.watch.terms.promise.premise;
         match n {
-            None => false,
-            Some(n) if premise.holds_at(u128::from(n)) => true,
-            Some(n) => {
+            Some(n) if !premise.holds_at(u128::from(n)) => {
                 let name = Shown(self.watch.name);
                 let held = Held { n, length };
                 self.voice.complain(format_args!(
                     "{name}: {held} is outside the promise, which {premise}"
                 ));
-                false
             }
+            _ => {}
         }
     }
 
-    // Is a run let go on behind which so many bytes stay unread? Where not that is said.
-    fn is_whole(&mut self, unread: Option<u64>) -> bool {
-        let Some(unread) = unread else {
-            return true;
-        };
-        if unread == 0 || !self.watch.wants_all {
-            return true;
+    // Says how many bytes stay unread behind a run that is refused for that.
+    fn tell_unread(&mut self, unread: Option<u64>) {
+        if self.watch.terms.is_whole(unread) {
+            return;
         }
         let name = Shown(self.watch.name);
-        let count = Grouped(unread);
+        let count = Grouped(unread.unwrap_or(0));
         self.voice.complain(format_args!(
             "{name}: {count} bytes behind the first page would be copied unedited; \
                 --pages each or --pages whole edits them too"
         ));
-        false
     }
 
     // Says the code of a command string that is none of the macro's.
@@ -167,7 +210,7 @@ impl<H: Host + Reporting, E: Write + Drop> Listener<H> for Warden<'_, E> {
     ) {
         if self.is_running {
             self.is_running = false;
-            let left = host.left_of_input();
+            let left = host.bytes_left();
             let ahead = machine.read_ahead() as u64;
             self.seen.unread = left.map(|left| left.saturating_add(ahead));
         }
@@ -184,18 +227,14 @@ impl<H: Host + Reporting, E: Write + Drop> Listener<H> for Warden<'_, E> {
     fn rest(&mut self, _code: Option<Code>) {}
 }
 
-impl<H: Host + Reporting, E: Write + Drop> Guard<H> for Warden<'_, E> {
-    fn admits(&mut self, held: u128, read_ahead: usize, host: &H) -> bool {
-        let unread = host
-            .left_of_input()
-            .map(|left| left.saturating_add(read_ahead as u64));
-        let n = unread.map(|unread| {
-            u64::try_from(held.saturating_add(u128::from(unread))).unwrap_or(u64::MAX)
-        });
+impl<H: Host + Reporting, E: Write + Drop> Observer<H> for Warden<'_, E> {
+    fn asked(&mut self, asked: Asked, host: &H) {
+        let n = n_of(asked.held, asked.unread);
         self.count(n);
-        let is_promised = self.is_promised(n, host.input_length());
-        let is_admitted = is_promised || !self.watch.is_strict;
-        self.is_running = is_admitted && self.is_whole(unread);
-        self.is_running
+        self.tell_promise(n, host.input_length());
+        if self.watch.terms.is_promised(n) || !self.watch.terms.is_strict {
+            self.tell_unread(asked.unread);
+        }
+        self.is_running = asked.admitted;
     }
 }

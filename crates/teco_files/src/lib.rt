@@ -26,5 +26,5 @@ pub use source::Source;
 pub use strays::remove_strays;
 pub use system::System;
 pub use target::folder_of;
-pub use trouble::{Purpose, Reason, Trouble};
+pub use trouble::{Purpose, Reason, Trouble, name_to_tell};
 pub use unfinished::{Closed, Closing, Ended, Finish, Handling, Unfinished, sync_folder};

@@ -56,11 +56,12 @@ impl Likeness {
     }
 
     /// Is what was written an input of this length, whole? None where that can't be told.
-    pub fn is_all_of(&self, length: u64) -> Option<bool> {
-        let given = self.given.as_ref()?;
-        if given.len() as u64 != length {
-            return None;
+    pub fn is_all_of(&self, length: Option<u64>) -> Option<bool> {
+        match (&self.given, length) {
+            (Some(given), Some(length)) if given.len() as u64 == length => {
+                Some(self.same == Some(given.len()))
+            }
+            _ => None,
         }
-        Some(self.same == Some(given.len()))
     }
 }

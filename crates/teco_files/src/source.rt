@@ -93,9 +93,26 @@ impl<F: OpenFile + Read + Drop> Source<F> {
         self.reader.read(buf)
     }
 
-    /// Does the file go on behind all that it may give? One that cannot be read may, and one that
-    /// went on does.
-    pub fn is_more(&mut self) -> bool {
+    /// Reads the next bytes, but no more than are left of what the file may give. Where none are it
+    /// must be at its end.
+    pub fn read_within(&mut self, left: usize, buf: &mut [u8]) -> Result<usize, Reason>
+        ensures bound { IfOk result (λ n. n ≤ length buf.new) }
+        ensures left { IfOk result (λ n. n ≤ left) }
+    {
+        if left == 0 {
+            return if self.is_more() {
+                Err(Reason::Long)
+            } else {
+                Ok(0)
+            };
+        }
+        let room = buf.len().min(left);
+        Ok(self.read(&mut buf[..room])?)
+    }
+
+    // Does the file go on behind all that it may give? One that cannot be read may, and one that
+    // went on does.
+    fn is_more(&mut self) -> bool {
         let mut probe = [0; 1];
         self.is_past = self.is_past || !matches!(self.read(&mut probe), Ok(0));
         self.is_past

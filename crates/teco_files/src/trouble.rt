@@ -113,16 +113,20 @@ pub struct Trouble {
 }
 
 impl Trouble {
-    // What could not be done with the file of a name.
+    /// What could not be done with the file of a name.
     pub fn of(alloc: Global, purpose: Purpose, name: &[u8], reason: Reason) -> Trouble {
-        let name = match name.to_vec(alloc) {
-            Ok(name) => name,
-            Err(AllocError) => Vec::new(alloc),
-        };
         Trouble {
             purpose,
-            name,
+            name: name_to_tell(alloc, name),
             reason,
         }
+    }
+}
+
+/// A name for messages: empty where memory is refused.
+pub fn name_to_tell(alloc: Global, name: &[u8]) -> Vec<u8> {
+    match name.to_vec(alloc) {
+        Ok(name) => name,
+        Err(AllocError) => Vec::new(alloc),
     }
 }

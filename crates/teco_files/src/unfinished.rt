@@ -270,7 +270,7 @@ impl<F: OpenFile + Write + Drop> Unfinished<F> {
     }
 
     /// Removes it. What is still kept is dropped.
-    pub fn abandon<R: Files>(self, rt: &R) -> io::Result<()> {
+    pub fn abandon<R: Files>(self, rt: &R) -> Result<(), Reason> {
         let is_in_place = self.is_in_place(rt);
         let Self {
             writer,
@@ -283,10 +283,9 @@ impl<F: OpenFile + Write + Drop> Unfinished<F> {
         // in parts, since a writer that is let go sends on what it keeps
         let (_file, _kept) = writer.into_parts();
         if is_in_place {
-            fs::remove_file(rt, &beside)
-        } else {
-            Ok(())
+            fs::remove_file(rt, &beside)?;
         }
+        Ok(())
     }
 
     // Is what has its name still the file that was written? Another may have taken the name.

@@ -6,7 +6,7 @@ use Rattle.teco_model.specs.Files.{File, Input, Output, file_named, with_closed,
 use Rattle.teco_base.specs.declared.bytes.TheConstants.{FF}
 use Rattle.teco_model.specs.Pages.{Page, written_page}
 use Rattle.teco_model.specs.laws.Whole.{AreBytes, AreWholeFiles}
-use Rattle.teco_pages.specs.Events.{Event, Happened, Happens, IsOfBytes, opened_input, gave, ended, opened_output, wrote, closed, dropped}
+use Rattle.teco_pages.specs.Events.{Event, Happened, Happens, IsOfBytes, opened_input, gave, ended, opened_output, wrote, closed, dropped, measured}
 use Rattle.teco_pages.specs.Held.{Held, HoldsBytes, behind_held, files_of, unread_bytes, written_if_any}
 use Rattle.teco_pages.specs.HostCalls.{HasOpened}
 use Rattle.teco_pages.specs.HostFiles.{HostFiles, AreOfBytes, Becomes, Fits, NoneUnread, Reads, Tells, after_closing, after_writing}
@@ -75,6 +75,7 @@ whole_after (opened_output name) files left b h w = subst AreOfBytes (sym h) (re
 whole_after (wrote bytes) files left b h w = subst AreOfBytes (sym h) (whole_writing bytes files b w)
 whole_after closed files left b h w = subst AreOfBytes (sym h) (whole_closing files w)
 whole_after dropped files left b h w = subst AreOfBytes (sym h) (record { named = w.named; unread = w.unread; output = tt })
+whole_after (measured most) files left b h w = subst AreOfBytes (sym h.1) w
 
 pub whole_behind : (events : List Event) (files left : HostFiles) → AllByRecursion IsOfBytes events → Happened events files left → AreOfBytes files → AreOfBytes left
 whole_behind [] files left b h w = subst AreOfBytes (sym h) w

@@ -7,21 +7,10 @@ use Rattle.std.specs.List.{AllByRecursion}
 use Rattle.teco_model.specs.Files.{File, Output, output_of, file_named, with_file, with_closed, with_written}
 use Rattle.teco_model.specs.laws.Whole.{AreBytes}
 use Rattle.teco_pages.specs.Changes.{HostFiles, after_opening, after_writing, after_closing, after_dropping}
-use Rattle.teco_pages.specs.Events.{Event, Happened, IsOfBytes, opened_input, gave, ended, opened_output, wrote, closed, dropped}
+use Rattle.teco_pages.specs.Events.{Event, Happened, IsOfBytes, opened_input, gave, ended, opened_output, wrote, closed, dropped, measured}
 use Rattle.teco_pages.specs.Noting.{EndsAtEnd}
-use Rattle.teco_pages.specs.Possible.{IsUnopened, NotesFit, OpensAnew}
+use Rattle.teco_pages.specs.Possible.{GivesMeasured, IsUnopened, NotesFit, OpensAnew, given_next}
 use Rattle.teco_pages.proofs.Bytes.{bytes_joined}
-
--- what is given of the input that is open
-abbrev given_next : List Event → List ℕ
-given_next [] = []
-given_next (opened_input name ∷ events) = []
-given_next (gave bytes ∷ events) = bytes ++ given_next events
-given_next (ended ∷ events) = given_next events
-given_next (opened_output name ∷ events) = given_next events
-given_next (wrote bytes ∷ events) = given_next events
-given_next (closed ∷ events) = given_next events
-given_next (dropped ∷ events) = given_next events
 
 -- the inputs that are opened, of the bytes that are given of them
 abbrev inputs : List Event → List File
@@ -33,6 +22,7 @@ inputs (opened_output name ∷ events) = inputs events
 inputs (wrote bytes ∷ events) = inputs events
 inputs (closed ∷ events) = inputs events
 inputs (dropped ∷ events) = inputs events
+inputs (measured most ∷ events) = inputs events
 
 -- each input that is opened has a name, and the bytes that are given of it
 abbrev Have : List File → List Event → Type 0
@@ -44,6 +34,7 @@ Have named (opened_output name ∷ events) = Have named events
 Have named (wrote bytes ∷ events) = Have named events
 Have named (closed ∷ events) = Have named events
 Have named (dropped ∷ events) = Have named events
+Have named (measured most ∷ events) = Have named events
 
 other : (a b : List ℕ) → a ≢ b → bytes_eq a b ≡ false
 other a b n = by (bytes_eq a b) refl where
@@ -64,6 +55,7 @@ have-before file named (opened_output name ∷ events) u h = have-before file na
 have-before file named (wrote bytes ∷ events) u h = have-before file named events u h
 have-before file named (closed ∷ events) u h = have-before file named events u h
 have-before file named (dropped ∷ events) u h = have-before file named events u h
+have-before file named (measured most ∷ events) u h = have-before file named events u h
 
 named-first : (name bytes : List ℕ) (named : List File) → file_named name (record { name = name; bytes = bytes } ∷ named) ≡ Some bytes
 named-first name bytes named = rw ((bytes_eq-Decides name name).1 refl) refl
@@ -79,6 +71,7 @@ have-inputs (opened_output name ∷ events) a = have-inputs events a.1
 have-inputs (wrote bytes ∷ events) a = have-inputs events a
 have-inputs (closed ∷ events) a = have-inputs events a
 have-inputs (dropped ∷ events) a = have-inputs events a
+have-inputs (measured most ∷ events) a = have-inputs events a
 
 -- a file that is put keeps those of other names
 put-before : (name bytes wanted : List ℕ) (file : File) (files : List File) → name ≢ wanted → file_named wanted (with_file name bytes files) ≡ file_named wanted files → file_named wanted (with_file name bytes (file ∷ files)) ≡ file_named wanted (file ∷ files)
@@ -103,6 +96,7 @@ have-put name bytes named (opened_output n ∷ events) u h = have-put name bytes
 have-put name bytes named (wrote b ∷ events) u h = have-put name bytes named events u h
 have-put name bytes named (closed ∷ events) u h = have-put name bytes named events u h
 have-put name bytes named (dropped ∷ events) u h = have-put name bytes named events u h
+have-put name bytes named (measured most ∷ events) u h = have-put name bytes named events u h
 
 -- no input is opened of the name of the output
 abbrev Away : Option Output → List Event → Type 0
@@ -130,6 +124,7 @@ none-given (opened_output name ∷ events) end' o = none-given events end' o
 none-given (wrote bytes ∷ events) end' o = none-given events end' o
 none-given (closed ∷ events) end' o = none-given events end' o
 none-given (dropped ∷ events) end' o = none-given events end' o
+none-given (measured most ∷ events) end' o = none-given events end' o
 
 -- files that are ready for what is noted
 record AreReady (files : HostFiles) (events : List Event) : Type 0 where
@@ -141,42 +136,46 @@ record AreReady (files : HostFiles) (events : List Event) : Type 0 where
 abbrev read-on : (files : HostFiles) (bytes : List ℕ) → HostFiles
 read-on files bytes = record files { unread = bytes }
 
-happen : (events : List Event) (end end' : Bool) (files : HostFiles) → EndsAtEnd end events end' → OpensAnew events → AreReady files events → (left : HostFiles) × Happened events files left
-happen [] end end' files o a r = (files, refl)
-happen (opened_input name ∷ events) end end' files o a r =
+happen : (events : List Event) (end end' : Bool) (files : HostFiles) → EndsAtEnd end events end' → GivesMeasured events → OpensAnew events → AreReady files events → (left : HostFiles) × Happened events files left
+happen [] end end' files o m a r = (files, refl)
+happen (opened_input name ∷ events) end end' files o m a r =
     let mid = read-on files (given_next events) in
     let ready : AreReady mid events = record { unread = refl; named = r.named.1; output = away-on name files.output events r.output } in
-    let on = happen events false end' mid o a.1 ready in
+    let on = happen events false end' mid o m a.1 ready in
     (on.0, (mid, (r.named.0, refl), on.1))
-happen (gave bytes ∷ events) end end' files o a r =
+happen (gave bytes ∷ events) end end' files o m a r =
     let mid = read-on files (given_next events) in
     let ready : AreReady mid events = record { unread = refl; named = r.named; output = r.output } in
-    let on = happen events false end' mid o.1 a ready in
+    let on = happen events false end' mid o.1 m a ready in
     (on.0, (mid, (r.unread, refl), on.1))
-happen (ended ∷ events) end end' files o a r =
+happen (ended ∷ events) end end' files o m a r =
     let ready : AreReady files events = record { unread = r.unread; named = r.named; output = r.output } in
-    let on = happen events true end' files o.1 a ready in
+    let on = happen events true end' files o.1 m a ready in
     (on.0, (files, (r.unread ∙ none-given events end' o.1, refl), on.1))
-happen (opened_output name ∷ events) end end' files o a r =
+happen (opened_output name ∷ events) end end' files o m a r =
     let mid = after_opening name files in
     let ready : AreReady mid events = record { unread = r.unread; named = r.named; output = a.0 } in
-    let on = happen events end end' mid o a.1 ready in
+    let on = happen events end end' mid o m a.1 ready in
     (on.0, (mid, refl, on.1))
-happen (wrote bytes ∷ events) end end' files o a r =
+happen (wrote bytes ∷ events) end end' files o m a r =
     let mid = after_writing bytes files in
     let ready : AreReady mid events = record { unread = r.unread; named = r.named; output = away-writing bytes files.output events r.output } in
-    let on = happen events end end' mid o a ready in
+    let on = happen events end end' mid o m a ready in
     (on.0, (mid, refl, on.1))
-happen (closed ∷ events) end end' files o a r =
+happen (closed ∷ events) end end' files o m a r =
     let mid = after_closing files in
     let ready : AreReady mid events = record { unread = r.unread; named = have-closed files.output files.named events r.output r.named; output = tt } in
-    let on = happen events end end' mid o a ready in
+    let on = happen events end end' mid o m a ready in
     (on.0, (mid, refl, on.1))
-happen (dropped ∷ events) end end' files o a r =
+happen (dropped ∷ events) end end' files o m a r =
     let mid = after_dropping files in
     let ready : AreReady mid events = record { unread = r.unread; named = r.named; output = tt } in
-    let on = happen events end end' mid o a ready in
+    let on = happen events end end' mid o m a ready in
     (on.0, (mid, refl, on.1))
+happen (measured most ∷ events) end end' files o m a r =
+    let ready : AreReady files events = record { unread = r.unread; named = r.named; output = r.output } in
+    let on = happen events end end' files o m.1 a ready in
+    (on.0, (files, (rw r.unread m.0, refl), on.1))
 
 -- what is given is of bytes
 given_bytes : (events : List Event) → AllByRecursion IsOfBytes events → AreBytes (given_next events)
@@ -188,6 +187,7 @@ given_bytes (opened_output name ∷ events) b = given_bytes events b.1
 given_bytes (wrote bytes ∷ events) b = given_bytes events b.1
 given_bytes (closed ∷ events) b = given_bytes events b.1
 given_bytes (dropped ∷ events) b = given_bytes events b.1
+given_bytes (measured most ∷ events) b = given_bytes events b.1
 
 inputs_bytes : (events : List Event) → AllByRecursion IsOfBytes events → AllByRecursion (λ (file : File). AreBytes file.bytes) (inputs events)
 inputs_bytes [] b = tt
@@ -198,6 +198,7 @@ inputs_bytes (opened_output name ∷ events) b = inputs_bytes events b.1
 inputs_bytes (wrote bytes ∷ events) b = inputs_bytes events b.1
 inputs_bytes (closed ∷ events) b = inputs_bytes events b.1
 inputs_bytes (dropped ∷ events) b = inputs_bytes events b.1
+inputs_bytes (measured most ∷ events) b = inputs_bytes events b.1
 
 -- an output of a name, with nothing written to it
 abbrev output_named : Option (List ℕ) → Option Output
@@ -216,10 +217,10 @@ name-named None = refl
 name-named (Some name) = refl
 
 pub notes_fit : NotesFit
-notes_fit name end end' events b o a u =
+notes_fit name end end' events b o m a u =
     let files : HostFiles = record { named = inputs events; unread = given_next events; output = output_named name } in
     let ready : AreReady files events = record { unread = refl; named = have-inputs events a; output = away-named name events u } in
-    let on = happen events end end' files o a ready in
+    let on = happen events end end' files o m a ready in
     record {
       files = files;
       left = on.0;

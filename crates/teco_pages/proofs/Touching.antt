@@ -4,7 +4,7 @@ use Rattle.std.proofs.lemmas.Bool.{eqb-true, false≢true, ne_eqb}
 use Rattle.std.proofs.lemmas.List.{append-nil}
 use Rattle.teco_model.specs.laws.Whole.{AreBytes}
 use Rattle.teco_pages.proofs.Bytes.{both_of_bytes}
-use Rattle.teco_pages.specs.Events.{Event, IsOfBytes, opened_input, gave, ended, opened_output, wrote, closed, dropped}
+use Rattle.teco_pages.specs.Events.{Event, IsOfBytes, opened_input, gave, ended, opened_output, wrote, closed, dropped, measured}
 use Rattle.teco_pages.specs.HostFiles.{Telling, Tells, Notes}
 use Rattle.teco_pages.specs.Noting.{EndsAtEnd, NotesJust, Touches, event_of_reading, openings}
 
@@ -36,6 +36,7 @@ openings-on (opened_output name ∷ a) b = ap (λ l. opened_output name ∷ l) (
 openings-on (wrote bytes ∷ a) b = openings-on a b
 openings-on (closed ∷ a) b = ap (λ l. closed ∷ l) (openings-on a b)
 openings-on (dropped ∷ a) b = ap (λ l. dropped ∷ l) (openings-on a b)
+openings-on (measured most ∷ a) b = ap (λ l. measured most ∷ l) (openings-on a b)
 
 -- one who may read on need not
 order-off : (b : List Event) (e f : Bool) → EndsAtEnd e b f → EndsAtEnd false b f
@@ -47,6 +48,7 @@ order-off (opened_output name ∷ b) e f i = order-off b e f i
 order-off (wrote bytes ∷ b) e f i = order-off b e f i
 order-off (closed ∷ b) e f i = order-off b e f i
 order-off (dropped ∷ b) e f i = order-off b e f i
+order-off (measured most ∷ b) e f i = order-off b e f i
 
 order-from : (b : List Event) (d e f : Bool) → (d ≡ true → e ≡ true) → EndsAtEnd e b f → EndsAtEnd d b f
 order-from b true e f h i = subst (λ k. EndsAtEnd k b f) (h refl) i
@@ -61,6 +63,7 @@ order-on (opened_output name ∷ a) b d e f h i = order-on a b d e f h i
 order-on (wrote bytes ∷ a) b d e f h i = order-on a b d e f h i
 order-on (closed ∷ a) b d e f h i = order-on a b d e f h i
 order-on (dropped ∷ a) b d e f h i = order-on a b d e f h i
+order-on (measured most ∷ a) b d e f h i = order-on a b d e f h i
 
 -- of some calls, and then others
 pub touches-on : (a b : List Event) (d e f : Bool) (x y z : Telling) → Touches a d e x y → Touches b e f y z → Touches (a ++ b) d f x z
@@ -122,6 +125,7 @@ order-end (opened_output name ∷ a) d e h = order-end a d e h
 order-end (wrote bytes ∷ a) d e h = order-end a d e h
 order-end (closed ∷ a) d e h = order-end a d e h
 order-end (dropped ∷ a) d e h = order-end a d e h
+order-end (measured most ∷ a) d e h = order-end a d e h
 
 -- of some calls, behind which no more is read
 pub touches-end : (a : List Event) (d e : Bool) (x y : Telling) → Touches a d e x y → Touches a d true x y

@@ -1,5 +1,5 @@
 -- What the calls of a host do, by their answers: E is what a failed call answers.
-use Rattle.std.specs.Prelude.{ℕ, ◌≡◌, ◌<◌, List, length, take, Some, Result, Ok, Err}
+use Rattle.std.specs.Prelude.{ℕ, ◌≡◌, ◌≤◌, ◌<◌, List, length, take, Option, Some, IfSome, Result, Ok, Err}
 use Rattle.teco_model.specs.Files.{file_named}
 use Rattle.teco_pages.specs.HostFiles.{Telling, Told, Becomes, Stays, Reads, NoneUnread, after_opening, after_writing, after_closing, after_dropping}
 
@@ -38,3 +38,7 @@ WritesSome bytes (Err _) = Stays
 abbrev pub Closes : {E : Type 0} → Result (Unit {0}) E → Telling → Telling → Type 0
 Closes (Ok _) = Becomes after_closing
 Closes (Err _) = Becomes after_dropping
+
+-- no more bytes of the input than these are unread, if that is told
+abbrev pub Measures : Option ℕ → Telling → Telling → Type 0
+Measures left_of = Told (λ files left. IfSome left_of (λ most. length files.unread ≤ most) × (left ≡ files))

@@ -1,5 +1,5 @@
 -- What is noted of a call.
-use Rattle.teco_pages.specs.Events.{Event, opened_input, gave, ended, opened_output, wrote, closed, dropped}
+use Rattle.teco_pages.specs.Events.{Event, opened_input, gave, ended, opened_output, wrote, closed, dropped, measured}
 use Rattle.teco_pages.specs.declared.history.Note.{Note}
 use Rattle.teco_pages.specs.declared.history.Note.TheVariants as note
 
@@ -11,3 +11,4 @@ event_of (note.OpenedOutput name) = opened_output name.now
 event_of (note.Wrote bytes) = wrote bytes.now
 event_of note.Closed = closed
 event_of note.Dropped = dropped
+event_of (note.Measured most) = measured most

@@ -1,7 +1,7 @@
 -- What hosts note that cannot tell their files: which call notes what, and in which order it was.
-use Rattle.std.specs.Prelude.{ℕ, ◌≡◌, ◌==◌, ⊤, List, [], ◌∷◌, ◌++◌, length, take, cond, Bool, true, false, not, Result, Ok, Err}
+use Rattle.std.specs.Prelude.{ℕ, ◌≡◌, ◌==◌, ⊤, List, [], ◌∷◌, ◌++◌, length, take, cond, Bool, true, false, not, Option, Some, None, Result, Ok, Err}
 use Rattle.std.specs.List.{AllByRecursion}
-use Rattle.teco_pages.specs.Events.{Event, IsOfBytes, opened_input, gave, ended, opened_output, wrote, closed, dropped}
+use Rattle.teco_pages.specs.Events.{Event, IsOfBytes, opened_input, gave, ended, opened_output, wrote, closed, dropped, measured}
 use Rattle.teco_pages.specs.HostFiles.{Telling, Tells, Notes}
 
 -- What a call notes, by its answer. Of one that opens an input:
@@ -32,6 +32,11 @@ abbrev pub noted_close_out : {E : Type 0} → Result (Unit {0}) E → List Event
 noted_close_out (Ok _) = closed ∷ []
 noted_close_out (Err _) = dropped ∷ []
 
+-- of one that tells how much is left of the input
+abbrev pub noted_left : Option ℕ → List Event
+noted_left None = []
+noted_left (Some most) = measured most ∷ []
+
 -- where calls are noted, just these events were
 abbrev pub NotesJust : List Event → Telling → Telling → Type 0
 NotesJust events (Tells files) (Tells left) = ⊤
@@ -39,7 +44,7 @@ NotesJust events (Tells files) (Notes new) = ⊥
 NotesJust events (Notes old) (Tells left) = ⊥
 NotesJust events (Notes old) (Notes new) = new ≡ old ++ events
 
--- which files were opened, and which outputs got their names or were dropped, in turn
+-- which files were opened, and which outputs got their names or were dropped, and what was measured, in turn
 abbrev pub openings : List Event → List Event
 openings [] = []
 openings (opened_input name ∷ events) = opened_input name ∷ openings events
@@ -49,6 +54,7 @@ openings (opened_output name ∷ events) = opened_output name ∷ openings event
 openings (wrote bytes ∷ events) = openings events
 openings (closed ∷ events) = closed ∷ openings events
 openings (dropped ∷ events) = dropped ∷ openings events
+openings (measured most ∷ events) = measured most ∷ openings events
 
 -- Nothing is read behind the end of an input. The first tells whether one is at an end before these, the last whether one
 -- is behind them, if only since no more is to be read.
@@ -61,6 +67,7 @@ EndsAtEnd end (opened_output name ∷ events) end' = EndsAtEnd end events end'
 EndsAtEnd end (wrote bytes ∷ events) end' = EndsAtEnd end events end'
 EndsAtEnd end (closed ∷ events) end' = EndsAtEnd end events end'
 EndsAtEnd end (dropped ∷ events) end' = EndsAtEnd end events end'
+EndsAtEnd end (measured most ∷ events) end' = EndsAtEnd end events end'
 
 -- what was noted meanwhile: these openings in turn, bytes, and nothing behind the end of an input
 pub record IsNoted (opened : List Event) (end end' : Bool) (old new : List Event) : Type 0 where
@@ -70,8 +77,8 @@ pub record IsNoted (opened : List Event) (end end' : Bool) (old new : List Event
   pub order : EndsAtEnd end meanwhile end'
   pub bytes : AllByRecursion IsOfBytes meanwhile
 
--- Where calls are noted, these files were opened, named and dropped in turn and no others, and nothing was read behind
--- the end of an input, at which it was and is as these tell.
+-- Where calls are noted, these files were opened, named, dropped and measured in turn and no others, and nothing was read
+-- behind the end of an input, at which it was and is as these tell.
 abbrev pub Touches : List Event → Bool → Bool → Telling → Telling → Type 0
 Touches opened end end' (Tells files) (Tells left) = ⊤
 Touches opened end end' (Tells files) (Notes new) = ⊥

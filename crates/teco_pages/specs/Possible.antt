@@ -1,7 +1,7 @@
 -- Notes that the calls of a host can have made: some files of bytes fit them.
-use Rattle.std.specs.Prelude.{ℕ, ◌≡◌, ◌≢◌, ⊤, List, [], ◌∷◌, Bool, Option, IfSome, option_map}
+use Rattle.std.specs.Prelude.{ℕ, ◌≡◌, ◌≢◌, ◌≤◌, ⊤, List, [], ◌∷◌, ◌++◌, length, Bool, Option, IfSome, option_map}
 use Rattle.std.specs.List.{AllByRecursion}
-use Rattle.teco_pages.specs.Events.{Event, Happened, IsOfBytes, opened_input, gave, ended, opened_output, wrote, closed, dropped}
+use Rattle.teco_pages.specs.Events.{Event, Happened, IsOfBytes, opened_input, gave, ended, opened_output, wrote, closed, dropped, measured}
 use Rattle.teco_pages.specs.HostFiles.{HostFiles, AreOfBytes}
 use Rattle.teco_pages.specs.Noting.{EndsAtEnd}
 
@@ -15,6 +15,7 @@ IsUnopened name (opened_output other ∷ events) = IsUnopened name events
 IsUnopened name (wrote bytes ∷ events) = IsUnopened name events
 IsUnopened name (closed ∷ events) = IsUnopened name events
 IsUnopened name (dropped ∷ events) = IsUnopened name events
+IsUnopened name (measured most ∷ events) = IsUnopened name events
 
 -- no input is opened that was opened before, as an input or as an output
 abbrev pub OpensAnew : List Event → Type 0
@@ -26,6 +27,31 @@ OpensAnew (opened_output name ∷ events) = IsUnopened name events × OpensAnew 
 OpensAnew (wrote bytes ∷ events) = OpensAnew events
 OpensAnew (closed ∷ events) = OpensAnew events
 OpensAnew (dropped ∷ events) = OpensAnew events
+OpensAnew (measured most ∷ events) = OpensAnew events
+
+-- what is given of the input that is open
+abbrev pub given_next : List Event → List ℕ
+given_next [] = []
+given_next (opened_input name ∷ events) = []
+given_next (gave bytes ∷ events) = bytes ++ given_next events
+given_next (ended ∷ events) = given_next events
+given_next (opened_output name ∷ events) = given_next events
+given_next (wrote bytes ∷ events) = given_next events
+given_next (closed ∷ events) = given_next events
+given_next (dropped ∷ events) = given_next events
+given_next (measured most ∷ events) = given_next events
+
+-- no more is given of an input than was measured
+abbrev pub GivesMeasured : List Event → Type 0
+GivesMeasured [] = ⊤
+GivesMeasured (opened_input name ∷ events) = GivesMeasured events
+GivesMeasured (gave bytes ∷ events) = GivesMeasured events
+GivesMeasured (ended ∷ events) = GivesMeasured events
+GivesMeasured (opened_output name ∷ events) = GivesMeasured events
+GivesMeasured (wrote bytes ∷ events) = GivesMeasured events
+GivesMeasured (closed ∷ events) = GivesMeasured events
+GivesMeasured (dropped ∷ events) = GivesMeasured events
+GivesMeasured (measured most ∷ events) = (length (given_next events) ≤ most) × GivesMeasured events
 
 -- some files of bytes fit these, of which an output of this name is open before them
 pub record AreFitted (name : Option (List ℕ)) (events : List Event) : Type 0 where
@@ -35,10 +61,10 @@ pub record AreFitted (name : Option (List ℕ)) (events : List Event) : Type 0 w
   pub output : name ≡ option_map (λ output. output.name) files.output
   pub happened : Happened events files left
 
--- Notes of bytes are fitted by some files, where nothing is read behind the end of an input, and no input is opened that
--- was opened before.
+-- Notes of bytes are fitted by some files, where nothing is read behind the end of an input, no more of it than was
+-- measured, and no input is opened that was opened before.
 abbrev pub NotesFit : Type 0
 NotesFit =
     (output : Option (List ℕ)) (end end' : Bool) (events : List Event) → AllByRecursion IsOfBytes events
-    → EndsAtEnd end events end' → OpensAnew events → IfSome output (λ name. IsUnopened name events)
+    → EndsAtEnd end events end' → GivesMeasured events → OpensAnew events → IfSome output (λ name. IsUnopened name events)
     → AreFitted output events

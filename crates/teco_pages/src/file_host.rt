@@ -130,8 +130,8 @@ impl<R: System> FileHost<R> {
     }
 
     /// How many bytes of the open input were not given yet, where it is a regular file.
-    pub fn left_of_input(&self) -> Option<u64> {
-        let length = self.input.as_ref()?.length()?;
+    pub fn bytes_left(&self) -> Option<u64> {
+        let length = self.input_length()?;
         Some(length.saturating_sub(self.given as u64))
     }
 }
@@ -243,6 +243,12 @@ impl<R: System> Host for FileHost<R> {
             Err(reason) => self.calls.cannot_use(Purpose::DropOutput, reason),
         }
     }
+
+    fn left_of_input(&mut self) -> Option<u64> {
+        let left = self.bytes_left()?;
+        self.calls.history.measured(left);
+        Some(left)
+    }
 }
 
 // What hosts of this process need to know, read where that was not done.
@@ -285,10 +291,9 @@ fn is_same<F: OpenFile + Read + Drop>(
     input: &Option<Source<F>>,
     handling: Handling,
 ) -> Option<bool> {
-    if handling.in_place {
-        likeness.is_all_of(input.as_ref()?.length()?)
-    } else {
-        None
+    match input {
+        Some(file) if handling.in_place => likeness.is_all_of(file.length()),
+        _ => None,
     }
 }
 
@@ -302,18 +307,10 @@ fn read_some<F: OpenFile + Read + Drop>(
     ensures bound { IfOk result (λ n. n ≤ length buf.new) }
     ensures left { IfOk result (λ n. n ≤ left) }
 {
-    let Some(file) = input else {
-        return Err(Reason::NotOpen);
-    };
-    if left == 0 {
-        return if file.is_more() {
-            Err(Reason::Long)
-        } else {
-            Ok(0)
-        };
+    match input {
+        Some(file) => file.read_within(left, buf),
+        None => Err(Reason::NotOpen),
     }
-    let room = buf.len().min(left);
-    Ok(file.read(&mut buf[..room])?)
 }
 
 // An output that is begun.
@@ -342,7 +339,7 @@ fn begin_output<R: System>(
 // Removes what was written of an output, if one is open.
 fn abandon<R: Files>(rt: &R, output: Option<Unfinished<R::File>>) -> Result<(), Reason> {
     match output {
-        Some(output) => Ok(output.abandon(rt)?),
+        Some(output) => output.abandon(rt),
         None => Ok(()),
     }
 }

@@ -1,7 +1,7 @@
 // What the calls of a host did: contracts see it, and nothing else.
-ghost use Rattle.std.specs.Prelude.{◌≡◌, ◌≤◌, ◌<◌, ◌∷◌, ◌++◌, List, [], length, take};
+ghost use Rattle.std.specs.Prelude.{◌≡◌, ◌≤◌, ◌<◌, ◌∷◌, ◌++◌, List, [], length, take, Some};
 ghost use Rattle.std.specs.Borrow.{ftrue};
-ghost use Rattle.teco_pages.specs.Events.{Event, events_code, opened_input, opened_output, wrote, closed, dropped};
+ghost use Rattle.teco_pages.specs.Events.{Event, events_code, opened_input, opened_output, wrote, closed, dropped, measured};
 ghost use Rattle.teco_pages.specs.Noting.{event_of_reading};
 
 use std::marker::Model;
@@ -17,6 +17,7 @@ pub enum Note<'a> {
     Wrote(&'a [u8]),
     Closed,
     Dropped,
+    Measured(u64),
 }
 
 /// The calls of a host that cannot tell its files. It takes no memory, and does nothing when it
@@ -31,7 +32,7 @@ impl Model for History {
 }
 
 impl History {
-    ghost use Rattle.teco_pages.specs.HostCalls.{HasOpened};
+    ghost use Rattle.teco_pages.specs.HostCalls.{HasOpened, Measures};
     ghost use Rattle.teco_pages.specs.HostFiles.{Becomes, Notes, NoneUnread, Reads, after_opening, after_writing, after_closing, after_dropping};
     ghost use Rattle.teco_pages.specs.Noted.{event_of};
 
@@ -107,5 +108,13 @@ impl History {
         ensures noted { self.new.events ≡ self.old.events ++ dropped ∷ [] }
     {
         *self = self.then(&Note::Dropped);
+    }
+
+    /// No more bytes than these were left of the input.
+    pub fn measured(&mut self, most: u64)
+        ensures files { Measures (Some most) (Notes self.old.events) (Notes self.new.events) }
+        ensures noted { self.new.events ≡ self.old.events ++ measured most ∷ [] }
+    {
+        *self = self.then(&Note::Measured(most));
     }
 }

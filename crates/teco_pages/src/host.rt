@@ -2,9 +2,9 @@
 ghost use Rattle.std.specs.Prelude.{◌≡◌, ◌≤◌, ◌<◌, ◌+◌, ◌∷◌, [], ℕ, length, IfOk, OnOk, OnErr};
 ghost use Rattle.teco_base.specs.declared.TheConstants.{LIMIT};
 ghost use Rattle.teco_pages.specs.HostFiles.{Telling, Becomes, after_dropping};
-ghost use Rattle.teco_pages.specs.HostCalls.{Counts, OpensIn, ReadsSome, OpensOut, WritesSome, Closes};
+ghost use Rattle.teco_pages.specs.HostCalls.{Counts, OpensIn, ReadsSome, OpensOut, WritesSome, Closes, Measures};
 ghost use Rattle.teco_pages.specs.Events.{dropped};
-ghost use Rattle.teco_pages.specs.Noting.{NotesJust, noted_open_in, noted_read, noted_open_out, noted_write, noted_close_out};
+ghost use Rattle.teco_pages.specs.Noting.{NotesJust, noted_open_in, noted_read, noted_open_out, noted_write, noted_close_out, noted_left};
 
 use crate::fault::Failed;
 
@@ -71,5 +71,12 @@ pub trait Host {
         ensures files { Becomes after_dropping (files self.old) (files self.new) }
         ensures noted { NotesJust (dropped ∷ []) (files self.old) (files self.new) }
         ensures counted { Counts result (failures self.old) (failures self.new) }
+        ensures given { given self.new ≡ given self.old };
+
+    /// How many bytes of the input were not given yet, at most, if that can be told.
+    fn left_of_input(&mut self) -> Option<u64>
+        ensures files { Measures result (files self.old) (files self.new) }
+        ensures noted { NotesJust (noted_left result) (files self.old) (files self.new) }
+        ensures counted { failures self.new ≡ failures self.old }
         ensures given { given self.new ≡ given self.old };
 }

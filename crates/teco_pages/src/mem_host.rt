@@ -152,6 +152,10 @@ impl Host for MemHost {
         self.output = None;
         Ok(())
     }
+
+    fn left_of_input(&mut self) -> Option<u64> {
+        Some((self.input.len() - self.place) as u64)
+    }
 }
 
 // How much of what is left of an input may be given, where there is room for some before `LIMIT`.

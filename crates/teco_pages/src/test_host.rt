@@ -1,7 +1,7 @@
 // A host for tests.
 ghost use Rattle.std.specs.Prelude.{◌≡◌, ◌≤◌, ◌<◌, ◌+◌, length, IfOk, OnOk, OnErr};
 ghost use Rattle.teco_base.specs.declared.TheConstants.{LIMIT};
-ghost use Rattle.teco_pages.specs.HostCalls.{Counts, OpensIn, ReadsSome, OpensOut, WritesSome, Closes};
+ghost use Rattle.teco_pages.specs.HostCalls.{Counts, OpensIn, ReadsSome, OpensOut, WritesSome, Closes, Measures};
 ghost use Rattle.teco_pages.specs.HostFiles.{Tells, Becomes, after_dropping};
 ghost use Rattle.teco_pages.specs.TestFiles.{FailsAsNamed, after_call, failures_of, is_due, same_call};
 
@@ -203,5 +203,13 @@ impl Host for TestHost {
             return self.failures.failed();
         }
         self.mem.drop_out()
+    }
+
+    fn left_of_input(&mut self) -> Option<u64>
+        ensures files { Measures result (Tells self.old.mem.told) (Tells self.new.mem.told) }
+        ensures counted { failures_of self.new ≡ failures_of self.old }
+        ensures given { self.new.mem.given ≡ self.old.mem.given }
+    {
+        self.mem.left_of_input()
     }
 }

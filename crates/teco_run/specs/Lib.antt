@@ -12,6 +12,7 @@ pub mod Bodies
 pub mod Frames
 pub mod Holdings
 pub mod Courses
+pub mod Determined
 pub mod Executions
 pub mod Replies
 pub mod Misses

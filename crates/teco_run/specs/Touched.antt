@@ -1,9 +1,9 @@
 -- Which files the steps of a run open, name and drop, where its host notes its calls.
-use Rattle.std.specs.Prelude.{ℕ, zero, suc, ◌≡◌, List, [], ◌++◌, Option, Some, None, Result, Ok, Err, option_map}
+use Rattle.std.specs.Prelude.{ℕ, zero, suc, ◌≡◌, List, [], ◌∷◌, ◌++◌, Option, Some, None, Result, Ok, Err, option_map}
 use Rattle.teco_base.specs.declared.code.Code as base
 use Rattle.teco_model.specs.Element.{Element, element_at}
 use Rattle.teco_model.specs.Files.{Output}
-use Rattle.teco_model.specs.Run.{run}
+use Rattle.teco_model.specs.Run.{Reaches, run}
 use Rattle.teco_model.specs.State.{World, Frame, Frames, State, Outcome, Next}
 use Rattle.teco_model.specs.declared.kind.File.{File}
 use Rattle.teco_model.specs.declared.kind.Kind.{Kind}
@@ -82,9 +82,36 @@ touched_by_last other last = []
 abbrev pub touched_in_run : Stopped → State → List Event
 touched_in_run stopped s = touched_in_steps stopped.steps s ++ touched_by_last stopped.stop (run stopped.steps s)
 
+-- from a state the definition's steps come to one that touches a file so, if it is done, or as the host fails
+pub record ComesTo (event : Event) (s : State) : Type 0 where
+  pub steps : ℕ
+  pub there : State
+  pub reached : Reaches steps s there
+  pub result : Result (Unit {0}) Halt
+  pub touches : touched_by_step there.frames.running (output_named there.world) result ≡ event ∷ []
+
+-- A file was touched so, behind these that were touched earlier, as the definition's steps do, whatever files there were
+-- that fitted what was noted until then.
+pub record IsDue (from : World → State) (earlier : List Event) (event : Event) (later : List Event)
+    (old new : Holdings) (before after : Telling) : Type 0 where
+  pub mid : Holdings
+  pub until : Telling
+  pub notes : TouchesBetween earlier old mid before until
+  pub others : TouchesBetween (event ∷ later) mid new until after
+  pub comes : Joined (λ was is. ComesTo event (from was)) old mid before until
+
+-- each of these was
+abbrev pub AreDue : (World → State) → List Event → Holdings → Holdings → Telling → Telling → Type 0
+AreDue from touched old new before after =
+    (earlier : List Event) (event : Event) (later : List Event) → touched ≡ earlier ++ event ∷ later
+    → IsDue from earlier event later old new before after
+
 -- Where the host notes its calls, just those files were opened, named and dropped, in turn, that the definition's
--- steps touch, whatever files there are; and nothing was read behind the end of an input.
-pub record TouchesBySteps (defined : World → List Event) (old new : Holdings) (before after : Telling) : Type 0 where
+-- steps from a state touch, whatever files there are, each by what was noted before it; and nothing was read behind the
+-- end of an input.
+pub record TouchesBySteps (from : World → State) (defined : State → List Event) (old new : Holdings)
+    (before after : Telling) : Type 0 where
   pub touched : List Event
   pub notes : TouchesBetween touched old new before after
-  pub by_definition : Joined (λ was is. touched ≡ defined was) old new before after
+  pub by_definition : Joined (λ was is. touched ≡ defined (from was)) old new before after
+  pub due : AreDue from touched old new before after

@@ -12,6 +12,7 @@ mod execution;
 mod file;
 mod flow;
 mod frames;
+pub mod laws;
 mod machine;
 mod macros;
 mod miss;

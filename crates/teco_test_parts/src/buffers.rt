@@ -90,10 +90,10 @@ fn is_served_at_once(host: &mut FileHost<Faulty>, text: &[u8]) -> bool {
 fn is_fault_behind(host: &mut FileHost<Faulty>, text: &[u8], whole: usize) -> bool {
     let (front, behind) = text.split_at(text.len().min(whole));
     begin_in(host, PATH)
-        && host.left_of_input() == Some(text.len() as u64)
+        && host.bytes_left() == Some(text.len() as u64)
         && reads(host, front, 4096).is_err()
         && is_told(host, Purpose::ReadInput)
-        && host.left_of_input() == Some(behind.len() as u64)
+        && host.bytes_left() == Some(behind.len() as u64)
         && matches!(reads(host, behind, 4096), Ok(true))
 }
 
@@ -168,7 +168,7 @@ fn is_within_limit(rt: &HostRuntime, len: usize) -> io::Result<bool> {
 fn no_more_than_the_limit_is_read(rt: HostRuntime) {
     assert!(rt; scratch(&rt, FOLDER));
     let mut host = host(&rt);
-    assert!(rt; host.left_of_input().is_none() && host.read(&mut [0; 4]).is_err());
+    assert!(rt; host.bytes_left().is_none() && host.read(&mut [0; 4]).is_err());
     assert!(rt; matches!(is_within_limit(&rt, LIMIT), Ok(true)));
     assert!(rt; matches!(is_within_limit(&rt, LIMIT + 2), Ok(true)));
     assert!(rt; remove(&rt, FOLDER));

@@ -96,11 +96,9 @@ pub fn long_text(alloc: Global, len: usize) -> Result<Vec<u8>, AllocError> {
 
 // Opens an input; answers whether it could. The one before stays open where memory was refused.
 pub fn begin_in<R: System>(host: &mut FileHost<R>, path: &str) -> bool {
-    let left = host.left_of_input();
+    let left = host.bytes_left();
     host.open_in(path.as_bytes()).is_ok()
-        || (is_refused(host)
-            && host.left_of_input() == left
-            && host.open_in(path.as_bytes()).is_ok())
+        || (is_refused(host) && host.bytes_left() == left && host.open_in(path.as_bytes()).is_ok())
 }
 
 // Writes a text in pieces of so many bytes; answers whether it could.

@@ -1,9 +1,12 @@
 //! Edits over files in memory, by hosts that fail at the nth call, and runs of macros that are not
 //! ready. What edits make is said by cases.
+ghost use Rattle.std.specs.Prelude.{⊤};
+
 use crate::subjects::library_of;
 use std::process::Abort;
 use teco_apply::{
-    Edit, Edited, Guard, NotReady, Pages, apply, edit_file, run_verified, run_verified_with,
+    Asked, Edit, Edited, Guard, NotReady, Observer, Pages, apply, edit_file, run_verified,
+    run_verified_with,
 };
 use teco_base::{Code, Reg};
 use teco_library::Library;
@@ -23,14 +26,25 @@ const STAYS: &[u8] = b"@^UA/J/";
 /// Two pages, each with a word to be marked.
 const TWO: &[u8] = b"xfoo\x0cfoo";
 
-// Refuses one run, told by its number, and counts what it is asked and what it hears.
+// Refuses a run where so many characters are held.
+#[derive(Clone, Copy)]
+struct Refusing(u128);
+
+impl Guard for Refusing {
+    ghost answers = { λ _ _ _ _. ⊤ };
+
+    fn admits(&self, held: u128, _unread: Option<u64>) -> bool {
+        held != self.0
+    }
+}
+
+// Counts what a guard is asked and what is heard.
 #[derive(Clone, Copy, Default)]
 struct Watch {
-    refuses: u64,
     asked: u64,
     heard: u64,
     held: u128,
-    read_ahead: usize,
+    unread: Option<u64>,
 }
 
 impl<H: Host> Listener<H> for Watch {
@@ -47,12 +61,11 @@ impl<H: Host> Listener<H> for Watch {
     fn rest(&mut self, _code: Option<Code>) {}
 }
 
-impl<H: Host> Guard<H> for Watch {
-    fn admits(&mut self, held: u128, read_ahead: usize, _host: &H) -> bool {
+impl<H: Host> Observer<H> for Watch {
+    fn asked(&mut self, asked: Asked, _host: &H) {
         self.asked = self.asked.saturating_add(1);
-        self.held = held;
-        self.read_ahead = read_ahead;
-        self.asked != self.refuses
+        self.held = asked.held;
+        self.unread = asked.unread;
     }
 }
 
@@ -83,9 +96,9 @@ impl Left {
         self.host.mem().file(b"out").is_none() && self.written.as_slice() == written
     }
 
-    // Was the guard asked about so many runs, of which the last had so much held and read ahead?
-    fn has_seen(&self, asked: u64, held: u128, read_ahead: usize) -> bool {
-        (self.seen.asked, self.seen.held, self.seen.read_ahead) == (asked, held, read_ahead)
+    // Was the guard asked about so many runs, of which the last had so much held and unread?
+    fn has_seen(&self, asked: u64, held: u128, unread: u64) -> bool {
+        (self.seen.asked, self.seen.held, self.seen.unread) == (asked, held, Some(unread))
     }
 }
 
@@ -106,18 +119,18 @@ fn failing_host(rt: &(impl Abort + AllocGlobal), input: &[u8], failing: Failing)
     TestHost::new(mem, piece, call, nth)
 }
 
-// Edits pages of the file `in` of a host into the file `out`, where a guard refuses a run.
+// Edits pages of the file `in` of a host into the file `out`, where a guard refuses a run with so many
+// characters held.
 fn edited_over(
     rt: &(impl Abort + AllocGlobal),
     verified: &Verified<'_>,
-    (pages, refuses): (Pages, u64),
+    (pages, refused): (Pages, u128),
     mut host: TestHost,
 ) -> Left {
     let alloc = rt.alloc();
     let mut machine = Machine::new(alloc, VecText::new(alloc));
     let mut written = Vec::new(alloc);
     let mut seen = Watch::default();
-    seen.refuses = refuses;
     let edit = Edit {
         alloc,
         verified,
@@ -125,6 +138,7 @@ fn edited_over(
         target: b"out",
         given: None,
         pages,
+        guard: &Refusing(refused),
     };
     let done = edit_file(&mut machine, &edit, &mut host, &mut written, &mut seen);
     assert!(rt; done.is_err() || !machine.has_output());
@@ -147,11 +161,12 @@ pub fn edited_first(rt: &(impl Abort + AllocGlobal), verified: &Verified<'_>) ->
     }
 }
 
-// Edits pages of a file that is `TWO` by the macro A of a library, where a guard refuses a run.
+// Edits pages of a file that is `TWO` by the macro A of a library, where a guard refuses a run with so
+// many characters held.
 fn edited(
     rt: &(impl Abort + AllocGlobal),
     file: &[u8],
-    asked: (Pages, u64),
+    asked: (Pages, u128),
     failing: Failing,
 ) -> Left {
     let host = failing_host(rt, TWO, failing);
@@ -165,10 +180,10 @@ fn edited(
 // the macro are held, and all has been read.
 #[test]
 fn a_guard_is_asked_and_hears(rt: HostRuntime) {
-    let first = edited(&rt, MARKS, (Pages::Each, 1), NONE);
+    let first = edited(&rt, MARKS, (Pages::Each, 16), NONE);
     assert!(rt; first.is_ended(false, true, 0, 0) && first.is_dropped(b""));
     assert!(rt; first.has_seen(1, 16, 3));
-    let second = edited(&rt, MARKS, (Pages::Each, 2), NONE);
+    let second = edited(&rt, MARKS, (Pages::Each, 15), NONE);
     assert!(rt; second.is_dropped(b"") && second.has_seen(2, 15, 0));
     let whole = edited(&rt, MARKS, (Pages::Each, 0), NONE);
     assert!(rt; whole.has_seen(2, 15, 0) && whole.seen.heard == 5);

@@ -7,7 +7,7 @@ use teco_verdicts::Voice;
 /// A host that says what is left of its input, and why its last call that failed did.
 pub trait Reporting {
     /// How many bytes of the open input were not given yet, if that can be told.
-    fn left_of_input(&self) -> Option<u64>;
+    fn bytes_left(&self) -> Option<u64>;
 
     /// How many bytes the open input had at first, if that can be told.
     fn input_length(&self) -> Option<u64>;
@@ -17,8 +17,8 @@ pub trait Reporting {
 }
 
 impl<R: System> Reporting for FileHost<R> {
-    fn left_of_input(&self) -> Option<u64> {
-        FileHost::left_of_input(self)
+    fn bytes_left(&self) -> Option<u64> {
+        FileHost::bytes_left(self)
     }
 
     fn input_length(&self) -> Option<u64> {

@@ -263,12 +263,21 @@ impl<H: Host + Drop, I: Read + Drop, O: Write + Drop> Host for Streams<H, I, O> 
             Open::Stream => Ok(()),
         }
     }
+
+    fn left_of_input(&mut self) -> Option<u64> {
+        let left = match self.input {
+            Open::File => self.files.left_of_input()?,
+            Open::Stream => return None,
+        };
+        self.history.measured(left);
+        Some(left)
+    }
 }
 
 impl<H: Host + Reporting + Drop, I: Read + Drop, O: Write + Drop> Reporting for Streams<H, I, O> {
-    fn left_of_input(&self) -> Option<u64> {
+    fn bytes_left(&self) -> Option<u64> {
         match self.input {
-            Open::File => self.files.left_of_input(),
+            Open::File => self.files.bytes_left(),
             Open::Stream => None,
         }
     }

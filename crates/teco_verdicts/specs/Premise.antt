@@ -25,3 +25,8 @@ pub record IsLast (size commands : Polynomial) (n : ℕ) : Type 0 where
 abbrev pub IsPremise : Polynomial → Polynomial → Option ℕ → Type 0
 IsPremise size commands None = (n : ℕ) → Fails size commands n
 IsPremise size commands (Some n) = IsLast size commands n
+
+-- up to that N, if there is one
+abbrev pub IsWithin : Option ℕ → ℕ → Type 0
+IsWithin None n = ⊥
+IsWithin (Some last) n = n ≤ last

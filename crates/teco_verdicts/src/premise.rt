@@ -1,6 +1,6 @@
 //! Up to which N a promise holds.
 ghost use Rattle.std.specs.Prelude.{◌≡◌, ◌≤◌, ◌↔◌, IsTrue, IfSome};
-ghost use Rattle.teco_verdicts.specs.Premise.{IsPremise};
+ghost use Rattle.teco_verdicts.specs.Premise.{IsPremise, IsWithin};
 
 use crate::library::NAMES;
 use std::fmt;
@@ -39,7 +39,9 @@ impl Premise {
     }
 
     /// The premise of the promise of a verified macro.
-    pub fn of_macro(verified: &Verified<'_>) -> Premise {
+    pub fn of_macro(verified: &Verified<'_>) -> Premise
+        ensures { IsPremise verified.now.fields.size verified.now.fields.commands result.last }
+    {
         Premise::of(
             &verified.size(),
             &verified.commands(),
@@ -63,7 +65,9 @@ impl Premise {
     }
 
     /// Does the promise hold at this N?
-    pub fn holds_at(self, n: u128) -> bool {
+    pub fn holds_at(self, n: u128) -> bool
+        ensures { IsTrue result ↔ IsWithin self.last n }
+    {
         match self.last {
             None => false,
             Some(last) => n <= u128::from(last),

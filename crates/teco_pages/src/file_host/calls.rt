@@ -7,8 +7,8 @@ ghost use Rattle.teco_pages.specs.HostFiles.{Becomes, Notes, after_opening};
 use crate::count::Count;
 use crate::fault::Failed;
 use crate::history::History;
-use std::alloc::{AllocError, Global};
-use teco_files::{Purpose, Reason, Trouble};
+use std::alloc::Global;
+use teco_files::{Purpose, Reason, Trouble, name_to_tell};
 
 /// What the calls of a host did, and what the last one that failed could not do.
 #[derive(Drop)]
@@ -43,7 +43,7 @@ impl Calls {
             ≡ self.old.history.events ++ opened_input name.now ∷ [] }
         ensures counted { self.new.failures ≡ self.old.failures }
     {
-        self.input_name = kept_name(*self.input_name.allocator(), name);
+        self.input_name = name_to_tell(*self.input_name.allocator(), name);
         self.history.opened_input(name);
     }
 
@@ -55,7 +55,7 @@ impl Calls {
             ≡ self.old.history.events ++ opened_output name.now ∷ [] }
         ensures counted { self.new.failures ≡ self.old.failures }
     {
-        self.output_name = kept_name(*self.output_name.allocator(), name);
+        self.output_name = name_to_tell(*self.output_name.allocator(), name);
         self.history.opened_output(name);
     }
 
@@ -87,13 +87,5 @@ impl Calls {
         let alloc = *self.input_name.allocator();
         self.trouble = Some(Trouble::of(alloc, purpose, name, reason));
         self.failures.failed()
-    }
-}
-
-// A name for messages: empty where memory is refused.
-fn kept_name(alloc: Global, name: &[u8]) -> Vec<u8> {
-    match name.to_vec(alloc) {
-        Ok(name) => name,
-        Err(AllocError) => Vec::new(alloc),
     }
 }

@@ -1,7 +1,6 @@
 use Rattle.std.proofs.Common.{◌≡◌, ◌+◌, ◌∙◌, ℕ, Ok, Err, true, refl, ap, arith}
 use Rattle.teco_apply.proofs.ByPages.{Joined-too_many, each-ends, each-full, each-more, each-stops, macro-goes_on, macro-stops, page-closes}
-use Rattle.teco_apply.specs.ByPages.{BehindPage, PagesTurned, nothing_done}
-use Rattle.teco_apply.specs.Sure.{Call}
+use Rattle.teco_apply.specs.ByPages.{BehindPage, Order, PagesTurned, nothing_done, order_by}
 use Rattle.teco_apply.specs.declared.by_pages.TheConstants.{PAGES}
 use Rattle.teco_apply.specs.declared.stages.Ran.TheVariants as ran
 use Rattle.teco_apply.specs.declared.stages.Tally.{Tally}
@@ -12,7 +11,7 @@ use Rattle.teco_apply.proofs.by_pages.edit_each.Goals as goal
 pub loop-init : goal.loop-init
 loop-init g c = record {
   turned =
-      rw c.new-done.ensures (Joined-stays (λ (old : World) (new : World). PagesTurned c.args.call.now old (g.H.Host.failures c.args.host.now) (g.W.Write.contents c.args.writer.now) nothing_done new (g.H.Host.failures c.args.host.now) (g.W.Write.contents c.args.writer.now))
+      rw c.new-done.ensures (Joined-stays (λ (old : World) (new : World). PagesTurned (order_by (g.G.Guard.answers c.args.order.now.guard.now) c.args.order.now.call.now) old (g.H.Host.failures c.args.host.now) (g.W.Write.contents c.args.writer.now) nothing_done new (g.H.Host.failures c.args.host.now) (g.W.Write.contents c.args.writer.now))
       c.args.machine.now (g.H.Host.files c.args.host.now) (λ world. PagesTurned.none));
   failures = refl;
   pages = ap (λ (t : Tally). t.pages) c.new-done.ensures;
@@ -22,39 +21,39 @@ loop-init g c = record {
 pub returns-in-Ok-Coded-clause-edits : goal.returns-in-Ok-Coded-clause-edits
 returns-in-Ok-Coded-clause-edits g c =
     let now = c.loop in
-    let call : Call = c.args.call.now in
-    each-ends call now.done c.args.machine.now now.machine c.run_admitted.new.machine
+    let order : Order = order_by (g.G.Guard.answers c.args.order.now.guard.now) c.args.order.now.call.now in
+    each-ends order now.done c.args.machine.now now.machine c.run_admitted.new.machine
     (g.H.Host.files c.args.host.now) (g.H.Host.files now.host) (g.H.Host.files c.run_admitted.new.host)
     (g.H.Host.failures c.args.host.now) (g.H.Host.failures now.host) (g.H.Host.failures c.run_admitted.new.host)
     (g.W.Write.contents c.args.writer.now) (g.W.Write.contents now.writer) (g.W.Write.contents c.run_admitted.new.writer)
     (Ok c.edited.result) now.invariant.turned
-    (macro-stops call now.done BehindPage now.machine c.run_admitted.new.machine (g.H.Host.files now.host) (g.H.Host.files c.run_admitted.new.host)
+    (macro-stops order now.done BehindPage now.machine c.run_admitted.new.machine (g.H.Host.files now.host) (g.H.Host.files c.run_admitted.new.host)
     (g.H.Host.failures now.host) (g.H.Host.failures c.run_admitted.new.host) (g.W.Write.contents now.writer) (g.W.Write.contents c.run_admitted.new.writer)
     (Ok ran.Coded) (Ok c.edited.result) (ap Ok c.edited.ensures) (rw c.in-Ok-Coded.field-0-is at c.in-Ok-Coded.ensures.runs))
 
 pub returns-in-Ok-Refused-clause-edits : goal.returns-in-Ok-Refused-clause-edits
 returns-in-Ok-Refused-clause-edits g c =
     let now = c.loop in
-    let call : Call = c.args.call.now in
-    each-ends call now.done c.args.machine.now now.machine c.run_admitted.new.machine
+    let order : Order = order_by (g.G.Guard.answers c.args.order.now.guard.now) c.args.order.now.call.now in
+    each-ends order now.done c.args.machine.now now.machine c.run_admitted.new.machine
     (g.H.Host.files c.args.host.now) (g.H.Host.files now.host) (g.H.Host.files c.run_admitted.new.host)
     (g.H.Host.failures c.args.host.now) (g.H.Host.failures now.host) (g.H.Host.failures c.run_admitted.new.host)
     (g.W.Write.contents c.args.writer.now) (g.W.Write.contents now.writer) (g.W.Write.contents c.run_admitted.new.writer)
     (Ok c.edited-in-Ok-Refused.result) now.invariant.turned
-    (macro-stops call now.done BehindPage now.machine c.run_admitted.new.machine (g.H.Host.files now.host) (g.H.Host.files c.run_admitted.new.host)
+    (macro-stops order now.done BehindPage now.machine c.run_admitted.new.machine (g.H.Host.files now.host) (g.H.Host.files c.run_admitted.new.host)
     (g.H.Host.failures now.host) (g.H.Host.failures c.run_admitted.new.host) (g.W.Write.contents now.writer) (g.W.Write.contents c.run_admitted.new.writer)
     (Ok ran.Refused) (Ok c.edited-in-Ok-Refused.result) (ap Ok c.edited-in-Ok-Refused.ensures) (rw c.in-Ok-Refused.field-0-is at c.in-Ok-Refused.ensures.runs))
 
 pub returns-in-Err-clause-edits : goal.returns-in-Err-clause-edits
 returns-in-Err-clause-edits g c =
     let now = c.loop in
-    let call : Call = c.args.call.now in
-    each-ends call now.done c.args.machine.now now.machine c.run_admitted.new.machine
+    let order : Order = order_by (g.G.Guard.answers c.args.order.now.guard.now) c.args.order.now.call.now in
+    each-ends order now.done c.args.machine.now now.machine c.run_admitted.new.machine
     (g.H.Host.files c.args.host.now) (g.H.Host.files now.host) (g.H.Host.files c.run_admitted.new.host)
     (g.H.Host.failures c.args.host.now) (g.H.Host.failures now.host) (g.H.Host.failures c.run_admitted.new.host)
     (g.W.Write.contents c.args.writer.now) (g.W.Write.contents now.writer) (g.W.Write.contents c.run_admitted.new.writer)
     (Err c.in-Err.fault) now.invariant.turned
-    (macro-stops call now.done BehindPage now.machine c.run_admitted.new.machine (g.H.Host.files now.host) (g.H.Host.files c.run_admitted.new.host)
+    (macro-stops order now.done BehindPage now.machine c.run_admitted.new.machine (g.H.Host.files now.host) (g.H.Host.files c.run_admitted.new.host)
     (g.H.Host.failures now.host) (g.H.Host.failures c.run_admitted.new.host) (g.W.Write.contents now.writer) (g.W.Write.contents c.run_admitted.new.writer)
     (Err c.in-Err.fault) (Err c.in-Err.fault) refl c.in-Err.ensures.runs)
 
@@ -62,14 +61,14 @@ returns-in-Err-clause-edits g c =
 pub returns-in-Ok-Through-clause-edits : goal.returns-in-Ok-Through-clause-edits
 returns-in-Ok-Through-clause-edits g c =
     let now = c.loop in
-    let call : Call = c.args.call.now in
+    let order : Order = order_by (g.G.Guard.answers c.args.order.now.guard.now) c.args.order.now.call.now in
     let closing = rw c.after-done.ensures at c.close.ensures.closes in
-    each-ends call now.done c.args.machine.now now.machine c.close.new.machine
+    each-ends order now.done c.args.machine.now now.machine c.close.new.machine
     (g.H.Host.files c.args.host.now) (g.H.Host.files now.host) (g.H.Host.files c.close.new.host)
     (g.H.Host.failures c.args.host.now) (g.H.Host.failures now.host) (g.H.Host.failures c.close.new.host)
     (g.W.Write.contents c.args.writer.now) (g.W.Write.contents now.writer) (g.W.Write.contents c.close.new.writer)
     c.close.result now.invariant.turned
-    (macro-goes_on call now.done BehindPage now.machine c.run_admitted.new.machine c.close.new.machine
+    (macro-goes_on order now.done BehindPage now.machine c.run_admitted.new.machine c.close.new.machine
     (g.H.Host.files now.host) (g.H.Host.files c.run_admitted.new.host) (g.H.Host.files c.close.new.host)
     (g.H.Host.failures now.host) (g.H.Host.failures c.run_admitted.new.host) (g.H.Host.failures c.close.new.host)
     (g.W.Write.contents now.writer) (g.W.Write.contents c.run_admitted.new.writer) (g.W.Write.contents c.close.new.writer)
@@ -83,9 +82,9 @@ returns-in-Ok-Through-clause-edits g c =
 pub returns-in-Ok-Coded-turn-clause-edits : goal.returns-in-Ok-Coded-turn-clause-edits
 returns-in-Ok-Coded-turn-clause-edits g c =
     let now = c.loop in
-    let call : Call = c.args.call.now in
+    let order : Order = order_by (g.G.Guard.answers c.args.order.now.guard.now) c.args.order.now.call.now in
     let told = rw c.after-done.ensures at c.edited-in-Ok-Coded-turn.ensures in
-    each-stops call now.done c.args.machine.now now.machine c.run_admitted.new.machine c.turn.new.machine
+    each-stops order now.done c.args.machine.now now.machine c.run_admitted.new.machine c.turn.new.machine
     (g.H.Host.files c.args.host.now) (g.H.Host.files now.host) (g.H.Host.files c.run_admitted.new.host) (g.H.Host.files c.turn.new.host)
     (g.H.Host.failures c.args.host.now) (g.H.Host.failures now.host) (g.H.Host.failures c.run_admitted.new.host) (g.H.Host.failures c.turn.new.host)
     (g.W.Write.contents c.args.writer.now) (g.W.Write.contents now.writer) (g.W.Write.contents c.run_admitted.new.writer) (g.W.Write.contents c.turn.new.writer)
@@ -95,8 +94,8 @@ returns-in-Ok-Coded-turn-clause-edits g c =
 pub returns-in-Err-turn-clause-edits : goal.returns-in-Err-turn-clause-edits
 returns-in-Err-turn-clause-edits g c =
     let now = c.loop in
-    let call : Call = c.args.call.now in
-    each-stops call now.done c.args.machine.now now.machine c.run_admitted.new.machine c.turn.new.machine
+    let order : Order = order_by (g.G.Guard.answers c.args.order.now.guard.now) c.args.order.now.call.now in
+    each-stops order now.done c.args.machine.now now.machine c.run_admitted.new.machine c.turn.new.machine
     (g.H.Host.files c.args.host.now) (g.H.Host.files now.host) (g.H.Host.files c.run_admitted.new.host) (g.H.Host.files c.turn.new.host)
     (g.H.Host.failures c.args.host.now) (g.H.Host.failures now.host) (g.H.Host.failures c.run_admitted.new.host) (g.H.Host.failures c.turn.new.host)
     (g.W.Write.contents c.args.writer.now) (g.W.Write.contents now.writer) (g.W.Write.contents c.run_admitted.new.writer) (g.W.Write.contents c.turn.new.writer)
@@ -106,13 +105,13 @@ returns-in-Err-turn-clause-edits g c =
 pub loop-preserved : goal.loop-preserved
 loop-preserved g c =
     let now = c.loop in
-    let call : Call = c.args.call.now in
+    let order : Order = order_by (g.G.Guard.answers c.args.order.now.guard.now) c.args.order.now.call.now in
     let ran_on = rw c.in-Ok-On.field-0-is at c.in-Ok-On.ensures.counted in
     let turned_on = rw c.in-Ok-On-turn.field-0-is at c.in-Ok-On-turn.ensures.counted in
     record {
       turned =
           rw c.after-done.ensures
-          (each-more call now.done c.args.machine.now now.machine c.run_admitted.new.machine c.turn.new.machine
+          (each-more order now.done c.args.machine.now now.machine c.run_admitted.new.machine c.turn.new.machine
           (g.H.Host.files c.args.host.now) (g.H.Host.files now.host) (g.H.Host.files c.run_admitted.new.host) (g.H.Host.files c.turn.new.host)
           (g.H.Host.failures c.args.host.now) (g.H.Host.failures now.host) (g.H.Host.failures c.run_admitted.new.host) (g.H.Host.failures c.turn.new.host)
           (g.W.Write.contents c.args.writer.now) (g.W.Write.contents now.writer) (g.W.Write.contents c.run_admitted.new.writer) (g.W.Write.contents c.turn.new.writer)
@@ -125,11 +124,11 @@ loop-preserved g c =
 pub returns-clause-edits : goal.returns-clause-edits
 returns-clause-edits g c =
     let now = c.loop in
-    let call : Call = c.args.call.now in
+    let order : Order = order_by (g.G.Guard.answers c.args.order.now.guard.now) c.args.order.now.call.now in
     let all : now.done.pages ≡ PAGES = omega arith in
     let lines = rw c.not_begun-stopped.ensures at c.tell.ensures.lines in
     let told = rw c.not_begun-stopped.ensures at c.tell.ensures.told in
-    each-full call now.done c.args.machine.now now.machine c.tell.new.machine
+    each-full order now.done c.args.machine.now now.machine c.tell.new.machine
     (g.H.Host.files c.args.host.now) (g.H.Host.files now.host) (g.H.Host.files now.host)
     (g.H.Host.failures c.args.host.now) (g.H.Host.failures now.host) (g.H.Host.failures now.host)
     (g.W.Write.contents c.args.writer.now) (g.W.Write.contents now.writer) (g.W.Write.contents c.tell.new.writer)

@@ -1,12 +1,12 @@
 use Rattle.std.proofs.Common.{Ok, Err, true, refl}
 use Rattle.teco_apply.proofs.ByPages.{behind-goes_on, behind-stops, ends-coded}
 use Rattle.teco_apply.specs.Apply.{AnswersText}
-use Rattle.teco_apply.specs.ByPages.{Once, to_start}
+use Rattle.teco_apply.specs.ByPages.{Once, order_by, to_start}
 use Rattle.teco_apply.proofs.by_pages.edit_from_start.Goals as goal
 
 pub returns-in-Ok-false-clause-edits : goal.returns-in-Ok-false-clause-edits
 returns-in-Ok-false-clause-edits g c =
-    behind-goes_on (AnswersText to_start) (Once c.args.call.now)
+    behind-goes_on (AnswersText to_start) (Once (order_by (g.G.Guard.answers c.args.order.now.guard.now) c.args.order.now.call.now))
     c.args.machine.now c.answer_text.new.machine c.edit_once.new.machine
     (g.H.Host.files c.args.host.now) (g.H.Host.files c.answer_text.new.host) (g.H.Host.files c.edit_once.new.host)
     (g.H.Host.failures c.args.host.now) (g.H.Host.failures c.answer_text.new.host) (g.H.Host.failures c.edit_once.new.host)
@@ -15,7 +15,7 @@ returns-in-Ok-false-clause-edits g c =
 
 pub returns-in-Ok-true-clause-edits : goal.returns-in-Ok-true-clause-edits
 returns-in-Ok-true-clause-edits g c =
-    behind-stops (AnswersText to_start) (Once c.args.call.now)
+    behind-stops (AnswersText to_start) (Once (order_by (g.G.Guard.answers c.args.order.now.guard.now) c.args.order.now.call.now))
     c.args.machine.now c.answer_text.new.machine (g.H.Host.files c.args.host.now) (g.H.Host.files c.answer_text.new.host)
     (g.H.Host.failures c.args.host.now) (g.H.Host.failures c.answer_text.new.host)
     (g.W.Write.contents c.args.writer.now) (g.W.Write.contents c.answer_text.new.writer)
@@ -23,7 +23,7 @@ returns-in-Ok-true-clause-edits g c =
 
 pub returns-in-Err-clause-edits : goal.returns-in-Err-clause-edits
 returns-in-Err-clause-edits g c =
-    behind-stops (AnswersText to_start) (Once c.args.call.now)
+    behind-stops (AnswersText to_start) (Once (order_by (g.G.Guard.answers c.args.order.now.guard.now) c.args.order.now.call.now))
     c.args.machine.now c.answer_text.new.machine (g.H.Host.files c.args.host.now) (g.H.Host.files c.answer_text.new.host)
     (g.H.Host.failures c.args.host.now) (g.H.Host.failures c.answer_text.new.host)
     (g.W.Write.contents c.args.writer.now) (g.W.Write.contents c.answer_text.new.writer)

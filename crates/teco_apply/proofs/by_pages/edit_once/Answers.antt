@@ -1,13 +1,13 @@
 use Rattle.std.proofs.Common.{Ok, Err, refl, ap}
 use Rattle.teco_apply.proofs.ByPages.{macro-goes_on, macro-stops}
-use Rattle.teco_apply.specs.ByPages.{Closing}
+use Rattle.teco_apply.specs.ByPages.{Closing, order_by}
 use Rattle.teco_apply.specs.declared.stages.Ran.TheVariants as ran
 use Rattle.teco_apply.proofs.by_pages.edit_once.Goals as goal
 
 pub returns-in-Ok-On-clause-edits : goal.returns-in-Ok-On-clause-edits
 returns-in-Ok-On-clause-edits g c =
     rw c.new-done.ensures at
-    (macro-goes_on c.args.call.now c.new-done.result Closing
+    (macro-goes_on (order_by (g.G.Guard.answers c.args.order.now.guard.now) c.args.order.now.call.now) c.new-done.result Closing
     c.args.machine.now c.run_admitted.new.machine c.close.new.machine
     (g.H.Host.files c.args.host.now) (g.H.Host.files c.run_admitted.new.host) (g.H.Host.files c.close.new.host)
     (g.H.Host.failures c.args.host.now) (g.H.Host.failures c.run_admitted.new.host) (g.H.Host.failures c.close.new.host)
@@ -17,7 +17,7 @@ returns-in-Ok-On-clause-edits g c =
 pub returns-in-Ok-Coded-clause-edits : goal.returns-in-Ok-Coded-clause-edits
 returns-in-Ok-Coded-clause-edits g c =
     rw c.new-done.ensures at
-    (macro-stops c.args.call.now c.new-done.result Closing
+    (macro-stops (order_by (g.G.Guard.answers c.args.order.now.guard.now) c.args.order.now.call.now) c.new-done.result Closing
     c.args.machine.now c.run_admitted.new.machine (g.H.Host.files c.args.host.now) (g.H.Host.files c.run_admitted.new.host)
     (g.H.Host.failures c.args.host.now) (g.H.Host.failures c.run_admitted.new.host)
     (g.W.Write.contents c.args.writer.now) (g.W.Write.contents c.run_admitted.new.writer)
@@ -26,7 +26,7 @@ returns-in-Ok-Coded-clause-edits g c =
 pub returns-in-Ok-Refused-clause-edits : goal.returns-in-Ok-Refused-clause-edits
 returns-in-Ok-Refused-clause-edits g c =
     rw c.new-done.ensures at
-    (macro-stops c.args.call.now c.new-done.result Closing
+    (macro-stops (order_by (g.G.Guard.answers c.args.order.now.guard.now) c.args.order.now.call.now) c.new-done.result Closing
     c.args.machine.now c.run_admitted.new.machine (g.H.Host.files c.args.host.now) (g.H.Host.files c.run_admitted.new.host)
     (g.H.Host.failures c.args.host.now) (g.H.Host.failures c.run_admitted.new.host)
     (g.W.Write.contents c.args.writer.now) (g.W.Write.contents c.run_admitted.new.writer)
@@ -35,7 +35,7 @@ returns-in-Ok-Refused-clause-edits g c =
 pub returns-in-Err-clause-edits : goal.returns-in-Err-clause-edits
 returns-in-Err-clause-edits g c =
     rw c.new-done.ensures at
-    (macro-stops c.args.call.now c.new-done.result Closing
+    (macro-stops (order_by (g.G.Guard.answers c.args.order.now.guard.now) c.args.order.now.call.now) c.new-done.result Closing
     c.args.machine.now c.run_admitted.new.machine (g.H.Host.files c.args.host.now) (g.H.Host.files c.run_admitted.new.host)
     (g.H.Host.failures c.args.host.now) (g.H.Host.failures c.run_admitted.new.host)
     (g.W.Write.contents c.args.writer.now) (g.W.Write.contents c.run_admitted.new.writer)

@@ -1,12 +1,12 @@
 use Rattle.std.proofs.Common.{Ok, Err, true, refl}
 use Rattle.teco_apply.proofs.ByPages.{behind-goes_on, behind-stops, ends-coded}
 use Rattle.teco_apply.specs.Apply.{AnswersText}
-use Rattle.teco_apply.specs.ByPages.{EditsPages}
+use Rattle.teco_apply.specs.ByPages.{EditsPages, order_by}
 use Rattle.teco_apply.proofs.by_pages.edit_opened.Goals as goal
 
 pub returns-in-Ok-false-clause-edits : goal.returns-in-Ok-false-clause-edits
 returns-in-Ok-false-clause-edits g c =
-    behind-goes_on (AnswersText c.args.plan.now.opening.now) (EditsPages c.args.plan.now.pages c.args.plan.now.call.now)
+    behind-goes_on (AnswersText c.args.plan.now.opening.now) (EditsPages c.args.plan.now.pages (order_by (g.G.Guard.answers c.args.plan.now.order.now.guard.now) c.args.plan.now.order.now.call.now))
     c.args.machine.now c.answer_text.new.machine c.edit_pages.new.machine
     (g.H.Host.files c.args.host.now) (g.H.Host.files c.answer_text.new.host) (g.H.Host.files c.edit_pages.new.host)
     (g.H.Host.failures c.args.host.now) (g.H.Host.failures c.answer_text.new.host) (g.H.Host.failures c.edit_pages.new.host)
@@ -15,7 +15,7 @@ returns-in-Ok-false-clause-edits g c =
 
 pub returns-in-Ok-true-clause-edits : goal.returns-in-Ok-true-clause-edits
 returns-in-Ok-true-clause-edits g c =
-    behind-stops (AnswersText c.args.plan.now.opening.now) (EditsPages c.args.plan.now.pages c.args.plan.now.call.now)
+    behind-stops (AnswersText c.args.plan.now.opening.now) (EditsPages c.args.plan.now.pages (order_by (g.G.Guard.answers c.args.plan.now.order.now.guard.now) c.args.plan.now.order.now.call.now))
     c.args.machine.now c.answer_text.new.machine (g.H.Host.files c.args.host.now) (g.H.Host.files c.answer_text.new.host)
     (g.H.Host.failures c.args.host.now) (g.H.Host.failures c.answer_text.new.host)
     (g.W.Write.contents c.args.writer.now) (g.W.Write.contents c.answer_text.new.writer)
@@ -23,7 +23,7 @@ returns-in-Ok-true-clause-edits g c =
 
 pub returns-in-Err-clause-edits : goal.returns-in-Err-clause-edits
 returns-in-Err-clause-edits g c =
-    behind-stops (AnswersText c.args.plan.now.opening.now) (EditsPages c.args.plan.now.pages c.args.plan.now.call.now)
+    behind-stops (AnswersText c.args.plan.now.opening.now) (EditsPages c.args.plan.now.pages (order_by (g.G.Guard.answers c.args.plan.now.order.now.guard.now) c.args.plan.now.order.now.call.now))
     c.args.machine.now c.answer_text.new.machine (g.H.Host.files c.args.host.now) (g.H.Host.files c.answer_text.new.host)
     (g.H.Host.failures c.args.host.now) (g.H.Host.failures c.answer_text.new.host)
     (g.W.Write.contents c.args.writer.now) (g.W.Write.contents c.answer_text.new.writer)

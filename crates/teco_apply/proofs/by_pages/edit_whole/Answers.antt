@@ -1,11 +1,11 @@
 use Rattle.std.proofs.Common.{Ok, Err, true, refl}
 use Rattle.teco_apply.proofs.ByPages.{behind-goes_on, behind-stops, ends-coded}
-use Rattle.teco_apply.specs.ByPages.{FromStart, Gathers}
+use Rattle.teco_apply.specs.ByPages.{FromStart, Gathers, order_by}
 use Rattle.teco_apply.proofs.by_pages.edit_whole.Goals as goal
 
 pub returns-in-Ok-false-clause-edits : goal.returns-in-Ok-false-clause-edits
 returns-in-Ok-false-clause-edits g c =
-    behind-goes_on (Gathers) (FromStart c.args.call.now)
+    behind-goes_on (Gathers) (FromStart (order_by (g.G.Guard.answers c.args.order.now.guard.now) c.args.order.now.call.now))
     c.args.machine.now c.gather.new.machine c.edit_from_start.new.machine
     (g.H.Host.files c.args.host.now) (g.H.Host.files c.gather.new.host) (g.H.Host.files c.edit_from_start.new.host)
     (g.H.Host.failures c.args.host.now) (g.H.Host.failures c.gather.new.host) (g.H.Host.failures c.edit_from_start.new.host)
@@ -14,7 +14,7 @@ returns-in-Ok-false-clause-edits g c =
 
 pub returns-in-Ok-true-clause-edits : goal.returns-in-Ok-true-clause-edits
 returns-in-Ok-true-clause-edits g c =
-    behind-stops (Gathers) (FromStart c.args.call.now)
+    behind-stops (Gathers) (FromStart (order_by (g.G.Guard.answers c.args.order.now.guard.now) c.args.order.now.call.now))
     c.args.machine.now c.gather.new.machine (g.H.Host.files c.args.host.now) (g.H.Host.files c.gather.new.host)
     (g.H.Host.failures c.args.host.now) (g.H.Host.failures c.gather.new.host)
     (g.W.Write.contents c.args.writer.now) (g.W.Write.contents c.gather.new.writer)
@@ -22,7 +22,7 @@ returns-in-Ok-true-clause-edits g c =
 
 pub returns-in-Err-clause-edits : goal.returns-in-Err-clause-edits
 returns-in-Err-clause-edits g c =
-    behind-stops (Gathers) (FromStart c.args.call.now)
+    behind-stops (Gathers) (FromStart (order_by (g.G.Guard.answers c.args.order.now.guard.now) c.args.order.now.call.now))
     c.args.machine.now c.gather.new.machine (g.H.Host.files c.args.host.now) (g.H.Host.files c.gather.new.host)
     (g.H.Host.failures c.args.host.now) (g.H.Host.failures c.gather.new.host)
     (g.W.Write.contents c.args.writer.now) (g.W.Write.contents c.gather.new.writer)

@@ -1,6 +1,6 @@
 use Rattle.std.proofs.Common.{◌≡◌, ◌<◌, subst, sym, ap, ◌∙◌}
 use Rattle.teco_apply.proofs.Sure.{calls}
-use Rattle.teco_apply.proofs.Touched.{possible, touches-none}
+use Rattle.teco_apply.proofs.Touched.{touches-none}
 use Rattle.teco_apply.specs.Sure.{Call, Calls, HasFiles, IsReady, MOST, TakesArgument, call_text}
 use Rattle.teco_apply.specs.Touched.{TouchesNone}
 use Rattle.teco_base.specs.declared.TheConstants.{REGISTERS}
@@ -8,7 +8,6 @@ use Rattle.teco_model.specs.Macros.{IsLoaded}
 use Rattle.teco_model.specs.Run.{Stops}
 use Rattle.teco_model.specs.State.{start}
 use Rattle.teco_run.specs.Holdings.{Joined}
-use Rattle.teco_run.specs.Stopped.{StopsAt}
 use Rattle.teco_run.specs.Touched.{TouchesBySteps, touched_in_run}
 use Rattle.teco_apply.proofs.run.call_verified.Goals as goal
 
@@ -47,11 +46,11 @@ returns-clause-touches g c =
     let stopped = c.run_to_stop.result in
     let text = c.as_slice.ensures.value ∙ c.call_text-text.ensures ∙ ap (λ entry. call_text entry call.given) c.entry-entry.ensures in
     subst (λ (k : Call). TouchesNone (IsReady k.found.fields) old new before behind) same
-    (touches-none (record {
+    (touches-none c.notes_fit.ensures (record {
       linked = c.expansions_are_linked.ensures;
       verified = c.runs_are_verified.ensures;
       sure = c.runs_are_sure.ensures;
-    }) call stopped old new before behind (record {
+    }) call old (record {
       certified = c.is_certified.ensures;
       loaded = subst (λ (k : Call). IsLoaded k.found.library old.kept) (sym same) c.requires.loaded;
       whole = c.is_whole.ensures.kept;
@@ -59,10 +58,5 @@ returns-clause-touches g c =
       named = subst (λ r. r < REGISTERS) (c.index.ensures.value ∙ c.entry-entry.ensures) c.index.ensures.within;
       files = subst (λ (k : Call). HasFiles k.found.fields.needs old.held) (sym same) c.requires.files;
       taken = subst TakesArgument (sym same) c.requires.taken;
-    })
-    (subst (λ text. Joined (λ old new. StopsAt (start text old) MOST stopped new) old new before behind) text c.run_to_stop.ensures.stands)
-    (subst (λ text. TouchesBySteps (λ old. touched_in_run stopped (start text old)) old new before behind) text c.run_to_stop.ensures.noted))
-
-pub returns-clause-possible : goal.returns-clause-possible
-returns-clause-possible g c =
-    possible c.notes_fit.ensures (IsReady c.args.call.now.found.fields) c.args.machine.now c.run_to_stop.new.self (g.H.Host.files c.args.host.now) (g.H.Host.files c.run_to_stop.new.host) (returns-clause-touches g c)
+    }) stopped new before behind
+    (subst (λ text. TouchesBySteps (start text) (touched_in_run stopped) old new before behind) text c.run_to_stop.ensures.noted))

@@ -1,10 +1,10 @@
+use Rattle.teco_apply.specs.ByPages.{order_by}
 use Rattle.teco_apply.proofs.ByPages.{Joined-refused, Joined-runs}
-use Rattle.teco_apply.specs.Sure.{Call}
 use Rattle.teco_apply.proofs.stages.run_admitted.Goals as goal
 
 pub returns-clause-runs : goal.returns-clause-runs
 returns-clause-runs g c =
-    Joined-runs c.args.call.now
+    Joined-runs (order_by (g.G.Guard.answers c.args.order.now.guard.now) c.args.order.now.call.now)
     c.args.machine.now c.run_guarded.new.machine c.tell-line.new.machine
     (g.H.Host.files c.args.host.now) (g.H.Host.files c.run_guarded.new.host)
     (g.H.Host.failures c.args.host.now) (g.H.Host.failures c.run_guarded.new.host)
@@ -14,5 +14,7 @@ returns-clause-runs g c =
 
 pub returns-in_default-clause-runs : goal.returns-in_default-clause-runs
 returns-in_default-clause-runs g c =
-    let call : Call = c.args.call.now in
-    rw (c.in_default.ensures.counted) (Joined-refused call c.args.machine.now c.run_guarded.new.machine (g.H.Host.files c.args.host.now) (g.H.Host.failures c.args.host.now) (g.W.Write.contents c.args.writer.now) (c.in_default.ensures.stops).0)
+    Joined-refused (order_by (g.G.Guard.answers c.args.order.now.guard.now) c.args.order.now.call.now)
+    c.args.machine.now c.run_guarded.new.machine (g.H.Host.files c.args.host.now) (g.H.Host.files c.run_guarded.new.host)
+    (g.H.Host.failures c.args.host.now) (g.H.Host.failures c.run_guarded.new.host) (g.W.Write.contents c.args.writer.now)
+    c.in_default.ensures.counted c.in_default.ensures.stops

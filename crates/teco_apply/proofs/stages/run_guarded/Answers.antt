@@ -1,22 +1,23 @@
-use Rattle.std.proofs.Common.{◌≡◌, false, inl, rules}
-use Rattle.teco_apply.proofs.ByPages.{Joined-unready}
-use Rattle.teco_apply.specs.Apply.{MacroStops}
-use Rattle.teco_apply.specs.Sure.{Call, Runs, kept_loaded}
-use Rattle.teco_apply.proofs.Sure.{runs}
-use Rattle.teco_model.specs.State.{World}
-use Rattle.teco_session.proofs.Together.{Joined-on}
+use Rattle.std.proofs.Common.{rules}
+use Rattle.teco_apply.proofs.ByPages.{Joined-admitted, Joined-asked, Joined-unready}
+use Rattle.teco_apply.specs.ByPages.{Order, order_by}
 use Rattle.teco_apply.proofs.stages.run_guarded.Goals as goal
 
 pub returns-in-Err-clause-stops : goal.returns-in-Err-clause-stops
 returns-in-Err-clause-stops g c =
-    let call : Call = c.args.call.now in
-    rw (c.not_begun.ensures, c.stop_of.ensures, c.in-Err.ensures.err) (Joined-unready call c.args.machine.now (g.H.Host.files c.args.host.now) c.in-Err.not_ready c.requires c.in-Err.ensures.answer)
+    let order : Order = order_by (g.G.Guard.answers c.args.order.now.guard.now) c.args.order.now.call.now in
+    rw (c.not_begun.ensures, c.stop_of.ensures, c.in-Err.ensures.err) (Joined-unready order c.args.machine.now (g.H.Host.files c.args.host.now) c.in-Err.not_ready c.requires c.in-Err.ensures.answer)
+
+pub returns-then-not-asked-clause-stops : goal.returns-then-not-asked-clause-stops
+returns-then-not-asked-clause-stops g c =
+    let order : Order = order_by (g.G.Guard.answers c.args.order.now.guard.now) c.args.order.now.call.now in
+    Joined-asked order c.args.machine.now c.make_ready.new.machine (g.H.Host.files c.args.host.now) (g.H.Host.files c.ask-asked.new.host)
+    c.ask-asked.result.admitted c.in_default.ensures.loaded (search rules) c.ask-asked.ensures.asked
 
 pub returns-clause-stops : goal.returns-clause-stops
 returns-clause-stops g c =
-    let call : Call = c.args.call.now in
-    let loaded : c.make_ready.new.machine ≡ record c.args.machine.now { kept = kept_loaded call.found.library c.args.machine.now.kept } = search rules in
-    Joined-on (λ (old : World) (new : World). Runs call c.call_verified.result.stop old new) (λ (old : World) (new : World). MacroStops false call old c.call_verified.result.stop new)
-    c.args.machine.now c.call_verified.new.machine (g.H.Host.files c.args.host.now) (g.H.Host.files c.call_verified.new.host)
-    (λ (old : World) (new : World) h. inl h)
-    (runs call c.call_verified.result.stop c.args.machine.now c.make_ready.new.machine c.call_verified.new.machine (g.H.Host.files c.args.host.now) (g.H.Host.files c.call_verified.new.host) loaded c.call_verified.ensures.calls)
+    let order : Order = order_by (g.G.Guard.answers c.args.order.now.guard.now) c.args.order.now.call.now in
+    Joined-admitted order c.args.machine.now c.make_ready.new.machine c.call_verified.new.machine
+    (g.H.Host.files c.args.host.now) (g.H.Host.files c.ask-asked.new.host) (g.H.Host.files c.call_verified.new.host)
+    c.ask-asked.result.admitted c.call_verified.result.stop c.in_default.ensures.loaded (search rules)
+    c.ask-asked.ensures.asked c.call_verified.ensures.calls

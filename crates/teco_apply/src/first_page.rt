@@ -1,0 +1,72 @@
+//! Editing the first page of a file by a verified macro.
+ghost use Rattle.std.specs.Prelude.{◌≡◌, ◌≤◌, ◌↔◌, Err, length, false};
+ghost use Rattle.teco_apply.specs.Apply.{Applied, EditCounts};
+ghost use Rattle.teco_apply.specs.Sure.{IsTaken};
+ghost use Rattle.teco_run.specs.Holdings.{Joined};
+ghost use Rattle.teco_session.specs.Answers.{Said};
+ghost use Rattle.teco_session.specs.declared.fault.SessionFault.TheVariants as fault;
+
+use crate::by_pages::{Edit, Pages, dropped, edit_file};
+use crate::editing::NAME;
+use crate::guard::Willing;
+use std::alloc::Global;
+use std::io::Write;
+use teco_pages::Host;
+use teco_run::Machine;
+use teco_session::{Done, SessionFault};
+use teco_text::TextStore;
+use teco_verify::Verified;
+
+// What was done.
+fn said(line: Result<bool, SessionFault>) -> Result<Done, SessionFault>
+    ensures { Said line false result }
+{
+    match line {
+        Ok(coded) => Ok(Done { coded, exit: false }),
+        Err(fault) => Err(fault),
+    }
+}
+
+/// Edits a file by a verified macro into another file, over the files of a host: both are opened
+/// and the first page is read, the macro is run, and the rest is copied and the output closed. What
+/// each of these runs types is written behind it, and its code line. After the first code no more
+/// is run, and the output is dropped.
+///
+/// The macro is called with an argument, if one is given. Where that is none that it takes, or
+/// where it takes one and none is given, this is told first, and nothing is done.
+///
+/// Without memory for the first command string nothing is done. With a fault of writing, the run
+/// whose bytes were being written is the last: a part of what it writes is written.
+pub fn apply<T: TextStore, H: Host, W: Write>(
+    alloc: Global,
+    machine: &mut Machine<T>,
+    verified: &Verified<'_>,
+    given: Option<i32>,
+    source: &[u8],
+    target: &[u8],
+    host: &mut H,
+    writer: &mut W,
+) -> Result<Done, SessionFault>
+    requires source { length source.now ≤ NAME }
+    requires target { length target.now ≤ NAME }
+    ensures edits { Joined (λ old new. Applied (record { found = verified.now; given = given })
+        source.now target.now old new
+        (H.failures host.old) (H.failures host.new)
+        (W.contents writer.old) (W.contents writer.new) result)
+        machine.old machine.new (H.files host.old) (H.files host.new) }
+    ensures argument { (result ≡ Err fault.Argument)
+        ↔ (¬ IsTaken verified.now.fields.argument given) }
+    ensures counted { EditCounts result (H.failures host.old) (H.failures host.new) }
+{
+    let edit = Edit {
+        alloc,
+        verified,
+        source,
+        target,
+        given,
+        pages: Pages::First,
+        guard: &Willing,
+    };
+    // as no run is refused, the output is dropped behind a code alone
+    said(dropped(edit_file(machine, &edit, host, writer, &mut Willing)))
+}

@@ -1,0 +1,30 @@
+-- What strict terms promise of each run that they admit.
+use Rattle.std.specs.Prelude.{◌≡◌, ◌⊎◌, true}
+use Rattle.teco_apply.specs.Apply.{IsNotRun}
+use Rattle.teco_apply.specs.ByPages.{AdmittedStops, Order, order_by}
+use Rattle.teco_apply.specs.Sure.{Call, loaded, n_of}
+use Rattle.teco_edits.specs.Terms.{Answers}
+use Rattle.teco_edits.specs.declared.watching.Terms.{Terms}
+use Rattle.teco_model.specs.Run.{IsSure}
+use Rattle.teco_model.specs.State.{World}
+use Rattle.teco_model.specs.declared.stop.Stop.{Stop}
+use Rattle.teco_poly.specs.Polynomial.{value}
+use Rattle.teco_verdicts.specs.Premise.{IsPremise}
+
+-- a macro that is to be run on these terms
+abbrev pub on_terms : Terms → Call → Order
+on_terms terms call = order_by (Answers terms) call
+
+-- The terms are strict, and their promise is that of the macro.
+pub record AreStrict (terms : Terms) (call : Call) : Type 0 where
+  pub strict : terms.is_strict ≡ true
+  pub premise : IsPremise call.found.fields.size call.found.fields.commands terms.promise.premise.last
+
+-- A run that is admitted comes to its end within the printed number of commands, and to no code; or want of memory
+-- stops it, or the host. A macro that lacks a file is not run.
+abbrev pub StrictRunsAreSure : Type 0
+StrictRunsAreSure =
+    (terms : Terms) (call : Call) (old new : World) (stop : Stop) → AreStrict terms call
+    → AdmittedStops (on_terms terms call) old stop new
+    → IsSure (value call.found.fields.commands (n_of (loaded call.found.library old))) stop
+    ⊎ IsNotRun call.found.fields.needs old stop new
