@@ -1,0 +1,192 @@
+-- The state at the entry is as the cut point there says.
+use Rattle.std.proofs.Common.{◌≡◌, ℕ, zero, suc, ◌+◌, ◌-◌, ◌*◌, ◌/◌, ◌%◌, ◌<◌, ◌≤◌, refl, sym, ap, ◌∙◌, subst, arith, List, [], ◌∷◌, length}
+use Rattle.std.proofs.Common.{eqb-true, Bool, true, false, Option, Some, None, nat_lt, slice_get, ◌==◌, if◌then◌else◌}
+use Rattle.std.specs.Prelude.{ℤ, pos, ◌-ℤ◌, ◌≤ℤ◌, is_some, option_map, option_and_then, slice_index_or, ◌&&◌}
+use Rattle.std.proofs.lemmas.Bool.{ltb-true, ltb-false}
+use Rattle.std.proofs.lemmas.Int.{ints}
+use Rattle.std.specs.List.{All}
+use Rattle.teco_base.specs.declared.TheConstants.{LIMIT, REGISTERS}
+use Rattle.teco_linear.specs.declared.term.Term.{Term}
+use Rattle.teco_linear.specs.Form.{Valuation, value}
+use Rattle.teco_model.specs.Arguments.{Arguments}
+use Rattle.teco_model.specs.Macros.{ArgumentRange, IsAsked}
+use Rattle.teco_model.specs.Registers.{Pair}
+use Rattle.teco_model.specs.declared.arguments.Level.{Level}
+use Rattle.teco_outcomes.specs.declared.measure.Family.{Family}
+use Rattle.teco_outcomes.specs.declared.measure.Family.TheVariants.{Number, Length, Turns, PushedNumber, PushedLength}
+use Rattle.teco_outcomes.specs.declared.measure.Family.TheVariants.{First, Value}
+use Rattle.teco_outcomes.specs.declared.measure.Measure.{Measure}
+use Rattle.teco_outcomes.specs.declared.measure.Measure.TheVariants.{One, Each}
+use Rattle.teco_outcomes.specs.Measures.{place}
+use Rattle.teco_outcomes.specs.States.{Point, from_end, levels, measures_of, number_of, length_of, operators_of}
+use Rattle.teco_paths.specs.declared.cut.Cut.{Cut}
+use Rattle.teco_paths.specs.Claims.{AreClaimed}
+use Rattle.teco_paths.specs.Entry.{AreThere, IsEntered, IsEntryClaim, IsEntryCut, family_is_there, is_there}
+use Rattle.teco_paths.specs.Symbols.{family_of, measure_of, numbers_of, single_of}
+use Rattle.teco_paths.proofs.Symbols.{measure_again}
+use Rattle.teco_poly.specs.Polynomial as poly
+use Rattle.teco_poly.specs.Polynomial.{Polynomial}
+use Rattle.teco_verifier.specs.facts.Argument.{arguments_given}
+use Rattle.teco_verifier.specs.table.Printed.{steps_before}
+
+-- ---- which measures are there
+is_got : {X : Type 0} (xs : List X) (i : ℕ) → i < length xs → is_some (slice_get xs i) ≡ true
+is_got [] i l = absurd (omega arith)
+is_got (x ∷ xs) zero l = refl
+is_got (x ∷ xs) (suc i) l = is_got xs i (omega (arith, l))
+
+not_got : {X : Type 0} (xs : List X) (i : ℕ) → length xs ≤ i → is_some (slice_get xs i) ≡ false
+not_got [] i l = refl
+not_got (x ∷ xs) zero l = absurd (omega (arith, l))
+not_got (x ∷ xs) (suc i) l = not_got xs i (omega (arith, l))
+
+some_mapped : (f : Pair → ℤ) (o : Option Pair) → is_some (option_map f o) ≡ is_some o
+some_mapped f None = refl
+some_mapped f (Some x) = refl
+
+of_pair : (pairs : List Pair) (i : ℕ) → length pairs ≡ REGISTERS → is_some (slice_get pairs i) ≡ nat_lt i REGISTERS
+of_pair pairs i e = by (nat_lt i REGISTERS) refl
+  where
+    by : (b : Bool) → nat_lt i REGISTERS ≡ b → is_some (slice_get pairs i) ≡ b
+    by true l = is_got pairs i (omega (arith, e, ltb-true i REGISTERS l))
+    by false l = not_got pairs i (omega (arith, e, ltb-false i REGISTERS l))
+
+none_from_end : {X : Type 0} (xs : List X) (i : ℕ) → length xs ≤ i → from_end xs i ≡ None
+none_from_end [] i l = refl
+none_from_end (x ∷ xs) i l = by (length xs == i) refl (none_from_end xs i (omega (arith, l)))
+  where
+    by : (b : Bool) → (length xs == i) ≡ b → from_end xs i ≡ None → (if b then Some x else from_end xs i) ≡ None
+    by true e on = absurd (omega (arith, l, eqb-true (length xs) i e))
+    by false e on = on
+
+at_level : (level : Level) (f : Level → Option ℤ) (i : ℕ)
+    → option_and_then f (from_end (level ∷ []) i) ≡ (if 0 == i then f level else None)
+at_level level f i = by (0 == i)
+  where
+    by : (b : Bool) → option_and_then f (if b then Some level else None) ≡ (if b then f level else None)
+    by true = refl
+    by false = refl
+
+none_either : (b : Bool) (x : Option ℤ) → x ≡ None → is_some (if b then x else None) ≡ false
+none_either true x e = ap is_some e
+none_either false x e = refl
+
+some_either : (b : Bool) (x : ℤ) → is_some (if b then Some x else None) ≡ b
+some_either true x = refl
+some_either false x = refl
+
+first_of : (given : Option ℕ) (i : ℕ)
+    → is_some (option_and_then (λ (level : Level). level.first) (from_end (levels (arguments_given given)) i)) ≡ false
+first_of None i =
+    ap is_some (at_level (arguments_given None).level (λ (level : Level). level.first) i) ∙ none_either (0 == i) None refl
+first_of (Some n) i =
+    ap is_some (at_level (arguments_given (Some n)).level (λ (level : Level). level.first) i) ∙ none_either (0 == i) None refl
+
+value_none : (i : ℕ)
+    → is_some (option_and_then (λ (level : Level). level.value) (from_end (levels (arguments_given None)) i)) ≡ false
+value_none i =
+    ap is_some (at_level (arguments_given None).level (λ (level : Level). level.value) i) ∙ none_either (0 == i) None refl
+
+value_some : (n i : ℕ)
+    → is_some (option_and_then (λ (level : Level). level.value) (from_end (levels (arguments_given (Some n))) i)) ≡ (0 == i)
+value_some n i =
+    ap is_some (at_level (arguments_given (Some n)).level (λ (level : Level). level.value) i) ∙ some_either (0 == i) (pos n)
+
+value_of : (argument : Option ArgumentRange) (given : Option ℕ) (i : ℕ) → IsAsked argument given
+    → is_some (option_and_then (λ (level : Level). level.value) (from_end (levels (arguments_given given)) i))
+    ≡ (is_some argument && (0 == i))
+value_of None None i asked = value_none i
+value_of (Some range) (Some n) i asked = value_some n i
+value_of argument given i asked = absurd (grind arith)
+
+module _ (argument : Option ArgumentRange) (size : Polynomial) (n : ℕ) (given : Option ℕ) (s : Point)
+    (e : IsEntered argument size n given s) where
+  there : (m : Measure) → is_some (measures_of s m) ≡ is_there (is_some argument) m
+  there (One single) = refl
+  there (Each Number i) = some_mapped (λ p. p.number) (slice_get s.kept.registers.pairs i) ∙ of_pair s.kept.registers.pairs i e.whole.count
+  there (Each Length i) =
+      some_mapped (λ p. pos (length p.text)) (slice_get s.kept.registers.pairs i) ∙ of_pair s.kept.registers.pairs i e.whole.count
+  there (Each Turns i) = ap (λ loops. is_some (option_and_then (λ loop. option_map pos loop.turns) (from_end loops i))) e.loops
+  there (Each PushedNumber i) =
+      ap (λ o. is_some (number_of o)) (none_from_end s.kept.registers.stack (s.below + i) (omega (arith, e.below)))
+  there (Each PushedLength i) =
+      ap (λ o. is_some (length_of o)) (none_from_end s.kept.registers.stack (s.below + i) (omega (arith, e.below)))
+  there (Each First i) =
+      ap (λ (a : Arguments). is_some (option_and_then (λ (level : Level). level.first) (from_end (levels a) i))) e.arguments
+      ∙ first_of given i
+  there (Each Value i) =
+      ap (λ (a : Arguments). is_some (option_and_then (λ (level : Level). level.value) (from_end (levels a) i))) e.arguments
+      ∙ value_of argument given i e.asked
+
+  pub has_present : (present : List Bool) → AreThere (is_some argument) present → (m : Measure)
+      → is_some (measures_of s m) ≡ slice_index_or present (place m) false
+  has_present present are m =
+      there m ∙ sym (are (place m) ∙ ap (is_there (is_some argument)) (measure_again m))
+
+-- ---- the claims
+module _ (argument : Option ArgumentRange) (size : Polynomial) (form : List Term) where
+  pub least_steps_claim : ((n : ℕ) (v : Valuation) → value form n v ≡ v 0 -ℤ pos (steps_before argument)) → IsEntryClaim argument size form
+  least_steps_claim is n given s e = omega (arith, ints, is n (numbers_of s), e.steps)
+
+  pub most_steps_claim : ((n : ℕ) (v : Valuation) → value form n v ≡ pos (steps_before argument) -ℤ v 0) → IsEntryClaim argument size form
+  most_steps_claim is n given s e = omega (arith, ints, is n (numbers_of s), e.steps)
+
+  pub most_held_claim : ((n : ℕ) (v : Valuation) → value form n v ≡ pos n -ℤ v 3) → IsEntryClaim argument size form
+  most_held_claim is n given s e = omega (arith, ints, is n (numbers_of s), e.held)
+
+  pub most_size_claim : ((n : ℕ) (v : Valuation) → value form n v ≡ pos LIMIT -ℤ pos (poly.value size n)) → IsEntryClaim argument size form
+  most_size_claim is n given s e = omega (arith, ints, is n (numbers_of s), e.small)
+
+-- ---- all of it
+waits_none : (given : Option ℕ) (a : Arguments) → a ≡ arguments_given given → None ∷ [] ≡ operators_of (levels a)
+waits_none None a e = ap (λ (a : Arguments). operators_of (levels a)) (sym e)
+waits_none (Some n) a e = ap (λ (a : Arguments). operators_of (levels a)) (sym e)
+
+pub is_entry_cut : (argument : Option ArgumentRange) (size : Polynomial) (cut : Cut) → cut.shape.operators.items ≡ None ∷ []
+    → cut.shape.iterations ≡ 0 → cut.shape.pushes ≡ 0 → AreThere (is_some argument) cut.present.items
+    → All (IsEntryClaim argument size) cut.claims.items → IsEntryCut argument size cut
+is_entry_cut argument size cut operators iterations pushes present claims n given s e = record {
+  shape = record {
+    operators = operators ∙ waits_none given s.arguments e.arguments;
+    iterations = iterations ∙ sym (ap length e.loops);
+    pushes = omega (arith, pushes, e.below);
+  };
+  present = has_present argument size n given s e cut.present.items present;
+  claims = λ k d l. claims k d l n given s e;
+}
+
+-- ---- no measure has a place behind those
+not_few : (i : ℕ) → REGISTERS ≤ i → nat_lt i REGISTERS ≡ false
+not_few i l = by (nat_lt i REGISTERS) refl
+  where
+    by : (b : Bool) → nat_lt i REGISTERS ≡ b → b ≡ false
+    by true e = absurd (omega (arith, l, ltb-true i REGISTERS e))
+    by false e = refl
+
+and_false : (has : Bool) → (has && false) ≡ false
+and_false true = refl
+and_false false = refl
+
+not_first : (has : Bool) (i : ℕ) → REGISTERS ≤ i → (has && (0 == i)) ≡ false
+not_first has i l = by (0 == i) refl
+  where
+    by : (b : Bool) → (0 == i) ≡ b → (has && b) ≡ false
+    by true e = absurd (omega (arith, l, eqb-true 0 i e))
+    by false e = and_false has
+
+not_family : (has : Bool) (f : Family) (i : ℕ) → REGISTERS ≤ i → family_is_there has f i ≡ false
+not_family has Number i l = not_few i l
+not_family has Length i l = not_few i l
+not_family has Turns i l = refl
+not_family has PushedNumber i l = refl
+not_family has PushedLength i l = refl
+not_family has First i l = refl
+not_family has Value i l = not_first has i l
+
+pub not_there : (has : Bool) (k : ℕ) → 7 + 7 * REGISTERS ≤ k → is_there has (measure_of k) ≡ false
+not_there has k l = by (nat_lt k 7) refl
+  where
+    by : (b : Bool) → nat_lt k 7 ≡ b
+        → is_there has (if b then One (single_of k) else Each (family_of ((k - 7) % 7)) ((k - 7) / 7)) ≡ false
+    by true e = absurd (omega (arith, l, ltb-true k 7 e))
+    by false e = not_family has (family_of ((k - 7) % 7)) ((k - 7) / 7) (omega (arith, l))

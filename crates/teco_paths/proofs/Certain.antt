@@ -1,0 +1,209 @@
+-- Every run of a macro whose claims hang together ends in time.
+use Rattle.std.proofs.Common.{◌≡◌, ℕ, zero, suc, ◌+◌, ◌≤◌, ◌<◌, ◌^◌, refl, sym, ap, ◌∙◌, subst, arith, List, length, false}
+use Rattle.std.proofs.Common.{Option, Some, None, option_map, [], ◌∷◌}
+use Rattle.std.proofs.lemmas.Int.{ints}
+use Rattle.std.specs.List.{All}
+use Rattle.std.specs.Option.{option_map_or}
+use Rattle.teco_base.specs.declared.TheConstants.{REGISTERS}
+use Rattle.teco_law_expansion.specs.Alike.{AreAlike, AreOutcomesAlike, StepsAreAlike, RunsAreAlike, ReadingsAreAlike, kind_of}
+use Rattle.teco_law_expansion.specs.Given.{call_given, start_pending, BeginsPending, NumbersArePending}
+use Rattle.teco_law_expansion.specs.Linked.{AreLinked}
+use Rattle.teco_law_facts.specs.Wholeness.{AreWholeArguments, IsWholeState}
+use Rattle.teco_law_tables.specs.Ending.{EndsWithin, start_given}
+use Rattle.teco_law_tables.specs.Staying.{is_of_files, changes_files, NoFileCommands}
+use Rattle.teco_law_tables.specs.Verified.{IsReady}
+use Rattle.teco_model.specs.Element.{Element}
+use Rattle.teco_model.specs.Files.{Input}
+use Rattle.teco_model.specs.Macros.{Library, ArgumentRange, IsAsked}
+use Rattle.teco_model.specs.Run.{Reaches, Ends, run}
+use Rattle.teco_model.specs.State.{World, State, Outcome, Next, End, start}
+use Rattle.teco_outcomes.specs.declared.case.Case.{Case}
+use Rattle.teco_outcomes.specs.Law.{point_of, unread_in}
+use Rattle.teco_paths.specs.declared.cut.Cut.{Cut}
+use Rattle.teco_paths.specs.Claims.{IsCaseOf}
+use Rattle.teco_paths.specs.Entry.{IsEntered, IsEntryCut}
+use Rattle.teco_paths.specs.Paths as paths
+use Rattle.teco_paths.specs.Paths.{Course, IsFollowed, Leads}
+use Rattle.teco_paths.specs.Runs.{Ground, IsAt, EndsBy, held_in}
+use Rattle.teco_paths.specs.Sure.{n_of, IsCertain}
+use Rattle.teco_paths.specs.Symbols.{numbers_of}
+use Rattle.teco_paths.proofs.Ending.{run_ends}
+use Rattle.teco_paths.proofs.Walking.{none_more, none_on, none_yet, one_step, reached_none, reaches_here, reaches_on, reads_none, run_on}
+use Rattle.teco_poly.specs.Polynomial.{Polynomial, value}
+use Rattle.teco_verifier.specs.expansion.Node.{beginning}
+use Rattle.teco_verifier.specs.facts.Argument.{arguments_given}
+use Rattle.teco_verifier.specs.table.Printed.{steps_before}
+
+-- ---- the state at the entry
+same_unread : (input : Option Input) → unread_in input ≡ length (option_map_or (λ (i : Input). i.unread) input [])
+same_unread None = refl
+same_unread (Some input) = refl
+
+argument_whole : (argument : Option ArgumentRange) (given : Option ℕ) → IsAsked argument given
+    → AreWholeArguments (arguments_given given)
+argument_whole None None asked = record { level = record { first = tt; value = tt }; outer = tt }
+argument_whole (Some range) (Some n) asked =
+    record { level = record { first = tt; value = omega (arith, ints, asked.small) }; outer = tt }
+argument_whole argument given asked = absurd (grind arith)
+
+module _ (course : Course) (argument : Option ArgumentRange) (cut : Cut) (case : Case)
+    (is_case : IsCaseOf cut case) (is_entry : IsEntryCut argument course.size cut) (leads : Leads course 1 1 case)
+    (followed : All (IsFollowed course) course.cuts) (library : Library) (entry : ℕ) (given : Option ℕ) (world : World)
+    (linked : AreLinked library entry course.nodes) (asked : IsAsked argument given)
+    (ready : IsReady library entry course.size (n_of world) world) where
+  abbrev ground : Ground
+  ground = record { library = library; entry = entry; n = n_of world; below = length world.kept.registers.stack }
+
+  abbrev first : State
+  first = start_given entry given world
+
+  at : IsAt course.nodes ground 1 first
+  at = record {
+    stands = record { stand = beginning entry; at = linked.first; position = refl };
+    begins = refl;
+    loaded = ready.loaded;
+    whole = record {
+      world = ready.whole;
+      arguments = argument_whole argument given asked;
+      frames = record { running = ready.call; callers = tt };
+    };
+  }
+
+  entered : IsEntered argument course.size (n_of world) given (point_of (steps_before argument) ground.below first)
+  entered = record {
+    whole = ready.whole.kept;
+    steps = refl;
+    held = let e = same_unread world.files.input in omega (arith, e);
+    small = ready.small;
+    asked = asked;
+    arguments = refl;
+    loops = refl;
+    below = refl;
+  }
+
+  pub pending_ends : paths.Ends course ground (steps_before argument) first
+  pending_ends =
+      run_ends course ground linked followed 1 (steps_before argument) case first leads at (
+        numbers_of (point_of (steps_before argument) ground.below first),
+        is_case (n_of world) _ (is_entry (n_of world) given _ entered),
+      )
+
+-- ---- the digits before the call
+pub record CallLaws : Type 0 where
+  pub steps : StepsAreAlike
+  pub runs : RunsAreAlike
+  pub readings : ReadingsAreAlike
+  pub pending : NumbersArePending
+
+record NextAlike (one : Outcome) (last : State) : Type 0 where
+  state : State
+  is : one ≡ Next state
+  alike : AreAlike state last
+
+next_alike : (one other : Outcome) (last : State) → AreOutcomesAlike one other → other ≡ Next last → NextAlike one last
+next_alike (Next s) (Next t) last a e =
+    let same : t ≡ last = cc in
+    record { state = s; is = refl; alike = subst (AreAlike s) same a }
+next_alike one other last a e = absurd (grind arith)
+
+end_alike : (one other : Outcome) (new : World) → AreOutcomesAlike one other → other ≡ End new → one ≡ End new
+end_alike (End w) (End v) new a e = ap End a ∙ e
+end_alike one other new a e = absurd (grind arith)
+
+record OtherNext (other : Outcome) (first : State) : Type 0 where
+  state : State
+  is : other ≡ Next state
+  alike : AreAlike first state
+
+other_next : (one other : Outcome) (first : State) → AreOutcomesAlike one other → one ≡ Next first → OtherNext other first
+other_next (Next s) (Next t) first a e =
+    let same : s ≡ first = cc in
+    record { state = t; is = refl; alike = subst (λ s. AreAlike s t) same a }
+other_next one other first a e = absurd (grind arith)
+
+files_by : (read : Option Element) → changes_files read ≡ option_map_or is_of_files (option_map kind_of read) false
+files_by None = refl
+files_by (Some e) = refl
+
+same_files : (read other : Option Element) → option_map kind_of read ≡ option_map kind_of other
+    → changes_files read ≡ changes_files other
+same_files read other kinds =
+    files_by read ∙ (ap (λ k. option_map_or is_of_files k false) kinds ∙ sym (files_by other))
+
+module _ (laws : CallLaws) (s t : State) (alike : AreAlike s t) where
+  none_alike : (steps : ℕ) → NoFileCommands t steps → NoFileCommands s steps
+  none_alike steps none k u less came read reads =
+      let there = other_next _ _ u (laws.runs k s t alike) came in
+      let other = laws.readings u there.state read there.alike reads in
+      same_files read other.other other.kinds ∙ none k there.state less there.is other.other other.reads
+
+  ends_alike : (steps : ℕ) (new : World) → Ends t steps new → Ends s steps new
+  ends_alike steps new ends =
+      let there = next_alike _ _ ends.last (laws.runs steps s t alike) ends.steps in
+      record {
+        last = there.state;
+        steps = there.is;
+        end = end_alike _ _ new (laws.steps there.state ends.last there.alike) ends.end;
+      }
+
+  held_alike : (held k : ℕ) (u : State) → ((v : State) → Reaches k t v → held_in v ≤ held) → Reaches k s u → held_in u ≤ held
+  held_alike held k u small came =
+      let there = other_next _ _ u (laws.runs k s t alike) came in
+      subst (λ (w : World). length w.kept.text + unread_in w.files.input ≤ held) (sym there.alike.world) (small there.state there.is)
+
+module _ (laws : CallLaws) (entry n : ℕ) (world : World) (most held : ℕ) (named : entry < REGISTERS) (small : n < 2 ^ 31)
+    (ends : EndsBy most held 1 (start_pending entry n world)) where
+  abbrev called : State
+  called = start (call_given entry (Some n)) world
+
+  digits : BeginsPending entry n world
+  digits = laws.pending entry n world named small
+
+  none_first : NoFileCommands called 1
+  none_first =
+      none_more 0 called called (none_yet called) (reaches_here called)
+      (reads_none called (Some digits.digits) digits.reads (ap is_of_files digits.are_digits))
+
+  held_on : (k : ℕ) (u : State) → k ≤ 1 + ends.more → Reaches k called u → held_in u ≤ held
+  held_on zero u least r =
+      subst (λ v. held_in v ≤ held) (reached_none called u r)
+      (ends.small 0 (start_pending entry n world) (omega arith) (reaches_here (start_pending entry n world)))
+  held_on (suc k) u least r =
+      let e : suc k ≡ 1 + k = omega arith in
+      held_alike laws digits.behind (start_pending entry n world) digits.alike held k u
+      (λ v came. ends.small k v (omega (arith, least)) came)
+      (sym (run_on 1 called digits.behind (one_step called digits.behind digits.goes) k) ∙ subst (λ k. Reaches k called u) e r)
+
+  pub digits_end : EndsBy most held 0 called
+  digits_end =
+      let first = one_step called digits.behind digits.goes in
+      let later = ends_alike laws digits.behind (start_pending entry n world) digits.alike ends.more ends.new ends.ends in
+      record {
+        more = 1 + ends.more;
+        new = ends.new;
+        within = omega (arith, ends.within);
+        none =
+            none_on 1 ends.more called digits.behind none_first first
+            (none_alike laws digits.behind (start_pending entry n world) digits.alike ends.more ends.none);
+        small = held_on;
+        ends = record {
+          last = later.last;
+          steps = reaches_on 1 ends.more called digits.behind later.last first later.steps;
+          end = later.end;
+        };
+      }
+
+in_all : (laws : CallLaws) (entry : ℕ) (argument : Option ArgumentRange) (given : Option ℕ) (world : World) (most held : ℕ)
+    → entry < REGISTERS → IsAsked argument given → EndsBy most held (steps_before argument) (start_given entry given world)
+    → EndsBy most held 0 (start (call_given entry given) world)
+in_all laws entry None None world most held named asked ends = ends
+in_all laws entry (Some range) (Some n) world most held named asked ends =
+    digits_end laws entry n world most held named asked.small ends
+in_all laws entry argument given world most held named asked ends = absurd (grind arith)
+
+pub certain : CallLaws → (course : Course) (argument : Option ArgumentRange) (cut : Cut) (case : Case)
+    → IsCaseOf cut case → IsEntryCut argument course.size cut → Leads course 1 1 case
+    → All (IsFollowed course) course.cuts → IsCertain course.nodes argument course.commands course.size
+certain laws course argument cut case is_case is_entry leads followed library entry given world linked asked ready =
+    in_all laws entry argument given world _ _ ready.named asked
+    (pending_ends course argument cut case is_case is_entry leads followed library entry given world linked asked ready)

@@ -1,0 +1,93 @@
+-- Cut points and cases.
+use Rattle.std.proofs.Common.{◌≡◌, ℕ, refl, sym, ap, ◌∙◌, subst, arith, List, [], ◌∷◌, Bool, true, false, Option, Some, None}
+use Rattle.std.specs.Prelude.{ℤ, pos, ◌≤ℤ◌, ◌-ℤ◌, ◌+◌, ◌≤◌, is_some, unwrap_or, slice_index_or}
+use Rattle.std.proofs.lemmas.Int.{ints}
+use Rattle.std.specs.List.{All}
+use Rattle.teco_linear.specs.declared.term.Term.{Term}
+use Rattle.teco_linear.specs.Form.{Valuation, value, values}
+use Rattle.teco_linear.specs.Implied.{Holds, Implies}
+use Rattle.teco_outcomes.specs.declared.case.Case.{Case}
+use Rattle.teco_outcomes.specs.declared.case.Shape.{Shape}
+use Rattle.teco_outcomes.specs.declared.measure.Measure.{Measure}
+use Rattle.teco_outcomes.specs.Cases.{value_if}
+use Rattle.teco_outcomes.specs.Measures.{place}
+use Rattle.teco_outcomes.specs.States.{Point, IsShape, IsTrueOf, Describes, measures_of}
+use Rattle.teco_paths.specs.declared.cut.Cut.{Cut}
+use Rattle.teco_paths.specs.Claims.{AreClaimed, AreFilled, ArePresent, AreSymbols, ClaimHolds, ComesTo, HasPresent, filled_by}
+use Rattle.teco_paths.specs.Symbols.{measure_of, numbers_of}
+use Rattle.teco_paths.proofs.Symbols.{marked, place_again, value_same}
+
+-- a case of symbols is true of a state that is as a cut point says
+pub case_holds : (cut : Cut) (case : Case) (n : ℕ) (s : Point)
+    → AreSymbols cut.present.items case.forms.items
+    → ((v : Valuation) → All (Holds n v) cut.claims.items → All (Holds n v) case.constraints.items)
+    → IsShape case.shape s → AreClaimed n cut s → IsTrueOf n (numbers_of s) case s
+case_holds cut case n s symbols constraints shape claimed = record {
+  fits = record {
+    measures = λ m. symbols n (numbers_of s) (place m) ∙ marked cut.present.items s m (claimed.present m);
+    constraints = constraints (numbers_of s) claimed.claims;
+  };
+  shape = shape;
+}
+
+some_value : (o : Option (List Term)) (n : ℕ) (v : Valuation) → is_some (value_if o n v) ≡ is_some o
+some_value None n v = refl
+some_value (Some form) n v = refl
+
+pub filled_value : (o : Option (List Term)) (n : ℕ) (v : Valuation) → value (filled_by o) n v ≡ unwrap_or (value_if o n v) (pos 0)
+filled_value None n v = refl
+filled_value (Some form) n v = refl
+
+module _ (case : Case) (n : ℕ) (v : Valuation) (s : Point) (true_of : IsTrueOf n v case s) where
+  pub has_present : (present : List Bool) → ArePresent present case.forms.items → HasPresent present s
+  has_present present are m =
+      ap is_some (sym (true_of.fits.measures m))
+      ∙ some_value (slice_index_or case.forms.items (place m) None) n v ∙ sym (are (place m))
+
+  -- with the forms in place of its symbols a claim is that of the state's numbers
+  same_number : (filled : List (List Term)) → AreFilled case.forms.items filled → (k : ℕ) → values filled n v k ≡ numbers_of s k
+  same_number filled are k =
+      are n v k ∙ filled_value (slice_index_or case.forms.items k None) n v
+      ∙ ap (λ j. unwrap_or (value_if (slice_index_or case.forms.items j None) n v) (pos 0)) (sym (place_again k))
+      ∙ ap (λ o. unwrap_or o (pos 0)) (true_of.fits.measures (measure_of k))
+
+  pub claims_hold : (filled claims : List (List Term)) → AreFilled case.forms.items filled
+      → All (Holds n (values filled n v)) claims → All (ClaimHolds n s) claims
+  claims_hold filled claims are h k d l =
+      subst (λ x. pos 0 ≤ℤ x)
+      (value_same (slice_index_or claims k d) n (values filled n v) (numbers_of s) (same_number filled are)) (h k d l)
+
+-- the whole of a cut point
+pub comes : (case : Case) (cut : Cut) (filled : List (List Term))
+    → case.shape.operators.items ≡ cut.shape.operators.items → case.shape.iterations ≡ cut.shape.iterations
+    → case.shape.pushes ≡ cut.shape.pushes → ArePresent cut.present.items case.forms.items → AreFilled case.forms.items filled
+    → ((n : ℕ) (v : Valuation) → All (Holds n v) case.constraints.items → All (Holds n (values filled n v)) cut.claims.items)
+    → ComesTo case cut
+comes case cut filled operators iterations pushes present are claims n v s true_of = record {
+  shape = record {
+    operators = sym operators ∙ true_of.shape.operators;
+    iterations = sym iterations ∙ true_of.shape.iterations;
+    pushes = ap (λ k. s.below + k) (sym pushes) ∙ true_of.shape.pushes;
+  };
+  present = has_present case n v s true_of cut.present.items present;
+  claims = claims_hold case n v s true_of filled cut.claims.items are (claims n v true_of.fits.constraints);
+}
+
+-- a form that is implied bounds a number of a state
+pub bounded : (case : Case) (most : ℕ → ℕ) (number : Point → ℕ) (bound measured difference : List Term)
+    → ((n : ℕ) (v : Valuation) → value bound n v ≡ pos (most n))
+    → ((n : ℕ) (v : Valuation) (s : Point) → IsTrueOf n v case s → value measured n v ≡ pos (number s))
+    → ((n : ℕ) (v : Valuation) → value difference n v ≡ value bound n v -ℤ value measured n v)
+    → Implies case.constraints.items difference → (n : ℕ) (s : Point) → Describes n case s → number s ≤ most n
+bounded case most number bound measured difference bound_is measured_is difference_is implied n s d =
+    let holds : pos 0 ≤ℤ value difference n d.0 = implied n d.0 d.1.fits.constraints in
+    omega (arith, ints, holds, bound_is n d.0, measured_is n d.0 s d.1, difference_is n d.0)
+
+-- a copy of a shape
+pub shaped : (shape copy : Shape) (s : Point) → copy.operators.items ≡ shape.operators.items
+    → copy.iterations ≡ shape.iterations → copy.pushes ≡ shape.pushes → IsShape shape s → IsShape copy s
+shaped shape copy s operators iterations pushes h = record {
+  operators = operators ∙ h.operators;
+  iterations = iterations ∙ h.iterations;
+  pushes = ap (λ k. s.below + k) pushes ∙ h.pushes;
+}

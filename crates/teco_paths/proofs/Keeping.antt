@@ -1,0 +1,81 @@
+-- The cases behind a node, one by one.
+use Rattle.std.proofs.Common.{◌≡◌, ◌⊎◌, inl, inr, ℕ, zero, suc, ◌+◌, ◌<◌, ◌≤◌, refl, sym, subst, arith, List, [], ◌∷◌}
+use Rattle.std.proofs.Common.{◌++◌, length, Bool, true, false}
+use Rattle.std.specs.List.{Any}
+use Rattle.teco_outcomes.specs.declared.case.Case.{Case}
+use Rattle.teco_paths.specs.declared.spot.Spot.{Spot}
+use Rattle.teco_outcomes.specs.declared.outcomes.Outcomes.{Outcomes}
+use Rattle.teco_outcomes.specs.Law.{point_of}
+use Rattle.teco_outcomes.specs.States.{Describes}
+use Rattle.teco_paths.specs.Steps.{AreKept, AreLeft, AreSpots, IsImpossible, IsTarget, IsThere}
+use Rattle.teco_paths.proofs.Lists.{any_back, any_front}
+use Rattle.teco_verifier.specs.expansion.Node.{Node}
+
+-- one of the first, or the last
+any_split : {X : Type 0} (P : X → Type 0) (xs : List X) (y : X) → Any P (xs ++ y ∷ []) → Any P xs ⊎ P y
+any_split P [] y (zero, x, l, e, p) = inr (subst P (sym e) p)
+any_split P [] y (suc k, x, l, e, p) = absurd (omega (arith, l))
+any_split P (z ∷ xs) y (zero, x, l, e, p) = inl (0, x, omega arith, e, p)
+any_split P (z ∷ xs) y (suc k, x, l, e, p) = by (any_split P xs y (k, x, omega (arith, l), e, p))
+  where
+    by : Any P xs ⊎ P y → Any P (z ∷ xs) ⊎ P y
+    by (inl a) = inl (suc a.0, a.1, omega (arith, a.2), a.3, a.4)
+    by (inr p) = inr p
+
+any_one : {X : Type 0} (P : X → Type 0) (x : X) → P x → Any P (x ∷ [])
+any_one P x p = (0, x, omega arith, refl, p)
+
+pub left_first : (nodes : List Node) (number : ℕ) (away : Bool) (cases : List Case) → AreLeft nodes number away cases cases []
+left_first nodes number away cases ground steps s t st any = inl any
+
+pub left_none : (nodes : List Node) (number : ℕ) (away : Bool) (cases rest : List Case) (spots : List Spot)
+    → length rest ≡ 0 → AreLeft nodes number away cases rest spots → AreKept nodes number away cases spots
+left_none nodes number away cases rest spots none left ground steps s t st any = by (left ground steps s t st any)
+  where
+    by : Any (λ c. Describes ground.n c (point_of steps ground.below t)) rest ⊎ Any (IsThere nodes ground steps t) spots
+        → Any (IsThere nodes ground steps t) spots
+    by (inl a) = absurd (omega (arith, a.2, none))
+    by (inr a) = a
+
+module _ (nodes : List Node) (number : ℕ) (away : Bool) (cases rest : List Case) (case : Case) (spots : List Spot)
+    (left : AreLeft nodes number away cases (rest ++ case ∷ []) spots) where
+  pub one_less : IsImpossible case → AreLeft nodes number away cases rest spots
+  one_less none ground steps s t st any = by (left ground steps s t st any)
+    where
+      split : Any (λ c. Describes ground.n c (point_of steps ground.below t)) rest ⊎ Describes ground.n case (point_of steps ground.below t)
+          → Any (λ c. Describes ground.n c (point_of steps ground.below t)) rest ⊎ Any (IsThere nodes ground steps t) spots
+      split (inl a) = inl a
+      split (inr d) = absurd (none ground.n _ d)
+
+      by : Any (λ c. Describes ground.n c (point_of steps ground.below t)) (rest ++ case ∷ []) ⊎ Any (IsThere nodes ground steps t) spots
+          → Any (λ c. Describes ground.n c (point_of steps ground.below t)) rest ⊎ Any (IsThere nodes ground steps t) spots
+      by (inl a) = split (any_split (λ c. Describes ground.n c (point_of steps ground.below t)) rest case a)
+      by (inr a) = inr a
+
+  pub one_kept : (target : ℕ) → IsTarget nodes number away case target
+      → AreLeft nodes number away cases rest (spots ++ record { number = target; case = case } ∷ [])
+  one_kept target is ground steps s t st any = by (left ground steps s t st any)
+    where
+      split : Any (λ c. Describes ground.n c (point_of steps ground.below t)) rest ⊎ Describes ground.n case (point_of steps ground.below t)
+          → Any (λ c. Describes ground.n c (point_of steps ground.below t)) rest ⊎ Any (IsThere nodes ground steps t) (spots ++ record { number = target; case = case } ∷ [])
+      split (inl a) = inl a
+      split (inr d) =
+          inr (any_back (IsThere nodes ground steps t) spots (record { number = target; case = case } ∷ [])
+          (any_one (IsThere nodes ground steps t) (record { number = target; case = case })
+          (record { stands = is ground steps s t st d.1.shape; described = d })))
+
+      by : Any (λ c. Describes ground.n c (point_of steps ground.below t)) (rest ++ case ∷ []) ⊎ Any (IsThere nodes ground steps t) spots
+          → Any (λ c. Describes ground.n c (point_of steps ground.below t)) rest ⊎ Any (IsThere nodes ground steps t) (spots ++ record { number = target; case = case } ∷ [])
+      by (inl a) = split (any_split (λ c. Describes ground.n c (point_of steps ground.below t)) rest case a)
+      by (inr a) = inr (any_front (IsThere nodes ground steps t) spots (record { number = target; case = case } ∷ []) a)
+
+-- of both ways
+pub spots_both : (nodes : List Node) (number : ℕ) (outcomes : Outcomes) (behind elsewhere all : List Spot)
+    → all ≡ behind ++ elsewhere → AreKept nodes number false outcomes.cases.items behind
+    → AreKept nodes number true outcomes.away.items elsewhere → AreSpots nodes number outcomes all
+spots_both nodes number outcomes behind elsewhere all e one other ground steps s t false st any =
+    subst (Any (IsThere nodes ground steps t)) (sym e)
+    (any_front (IsThere nodes ground steps t) behind elsewhere (one ground steps s t st any))
+spots_both nodes number outcomes behind elsewhere all e one other ground steps s t true st any =
+    subst (Any (IsThere nodes ground steps t)) (sym e)
+    (any_back (IsThere nodes ground steps t) behind elsewhere (other ground steps s t st any))

@@ -1,0 +1,105 @@
+-- Paths from spot to spot.
+use Rattle.std.proofs.lemmas.Bool.{cases_order}
+use Rattle.std.proofs.Common.{◌≡◌, ◌⊎◌, inl, inr, ℕ, zero, suc, ◌+◌, ◌-◌, ◌<◌, ◌≤◌, refl, sym, ap, ◌∙◌, subst, arith, List, [], ◌∷◌, ◌++◌, length}
+use Rattle.std.specs.Prelude.{slice_index_or}
+use Rattle.std.specs.List.{All, Any}
+use Rattle.teco_law_expansion.specs.Run.{RunsEnd}
+use Rattle.teco_outcomes.specs.declared.case.Case.{Case}
+use Rattle.teco_outcomes.specs.Law.{point_of}
+use Rattle.teco_paths.specs.declared.cut.Cut.{Cut}
+use Rattle.teco_paths.specs.declared.spot.Spot.{Spot}
+use Rattle.teco_paths.specs.Claims.{ComesTo, IsCaseOf}
+use Rattle.teco_paths.specs.Paths.{Arrives, Course, IsAtCut, IsFollowed, Leads, LeadsOn}
+use Rattle.teco_paths.specs.Runs.{IsAt}
+use Rattle.teco_paths.specs.Steps.{GoOn, IsInTime, IsSmall, IsThere}
+use Rattle.teco_paths.proofs.Ending.{cut_here, cuts_later, cuts_on, ends_here, ends_on}
+use Rattle.teco_paths.proofs.Lists.{all_both, over_behind}
+use Rattle.teco_paths.specs.Symbols.{numbers_of}
+use Rattle.teco_poly.specs.Polynomial.{value}
+use Rattle.teco_verifier.specs.expansion.Node.{Stand, stands, numbered}
+
+-- from the spots behind one
+pub leads_by : (course : Course) (number : ℕ) (case : Case) (spots : List Spot) → IsSmall course case
+    → GoOn course.nodes number case spots → All (LeadsOn course) spots → Leads course 1 number case
+leads_by course number case spots small go all ground steps s linked at d cuts =
+    let g = go ground steps s linked at d in
+    let any = g.there in
+    let there : IsThere course.nodes ground (steps + 1) g.next any.1 = any.4 in
+    let leads : LeadsOn course any.1 = subst (LeadsOn course) any.3 (all any.0 any.1 any.2) in
+    ends_on (value course.commands ground.n) (value course.size ground.n) steps s g.next g.goes (small ground.n _ d)
+    (leads ground (steps + 1) g.next linked
+    (record { stands = there.stands; begins = g.begins; loaded = g.loaded; whole = g.whole }) there.described
+    (cuts_on course ground steps s g.next g.goes cuts))
+    g.none
+
+pub leads_at_once : (course : Course) (spot : Spot) → Leads course 1 spot.number spot.case → LeadsOn course spot
+leads_at_once course spot leads ground steps s linked at d cuts =
+    leads ground steps s linked at d (cuts_later course ground steps s cuts)
+
+-- at the end
+pub over_leads : RunsEnd → (course : Course) (spot : Spot) → 0 < spot.number → spot.number - 1 ≡ length course.nodes
+    → IsInTime course spot.case → IsSmall course spot.case → LeadsOn course spot
+over_leads ends course spot some number_is in_time small ground steps s linked at d cuts =
+    let k : spot.number ≡ length course.nodes + 1 = omega (arith, some, number_is) in
+    let there : numbered (stands course.nodes ground.entry) (length course.nodes + 1) ≡ _ =
+    ap (numbered (stands course.nodes ground.entry)) (sym k) ∙ at.stands.at in
+    let over_is = over_behind course.nodes ground.entry at.stands.stand there in
+    ends_here (value course.commands ground.n) (value course.size ground.n) steps s
+    (ends ground.entry s (ap (λ (x : Stand). x.position) (sym over_is) ∙ at.stands.position))
+    (in_time ground.n _ d) (small ground.n _ d)
+
+-- at a cut point
+pub arrives : (course : Course) (spot : Spot) (cut : Cut) → spot.number ≡ cut.number → ComesTo spot.case cut
+    → IsInTime course spot.case → Arrives course spot cut
+arrives course spot cut e comes in_time ground steps s at d = record {
+  at = subst (λ k. IsAt course.nodes ground k s) e at;
+  claimed = comes ground.n d.0 (point_of steps ground.below s) d.1;
+  within = in_time ground.n (point_of steps ground.below s) d;
+}
+
+pub cut_leads : (course : Course) (spot : Spot) (k : ℕ) (cut : Cut) → k < length course.cuts
+    → slice_index_or course.cuts k cut ≡ cut → Arrives course spot cut → LeadsOn course spot
+cut_leads course spot k cut l e arrived ground steps s linked at d cuts =
+    cut_here course ground steps s cuts (k, cut, l, e, arrived ground steps s at d)
+
+-- from a cut point
+pub cut_followed : (course : Course) (cut : Cut) (case : Case) → IsCaseOf cut case → Leads course 1 cut.number case
+    → IsFollowed course cut
+cut_followed course cut case is leads ground steps s linked at cuts =
+    leads ground steps s linked at.at
+    (numbers_of (point_of steps ground.below s), is ground.n (point_of steps ground.below s) at.claimed) cuts
+
+-- one spot ahead, and those behind it in its place
+all_and_one : (P : Spot → Type 0) (xs : List Spot) (x : Spot) → All P xs → P x → All P (xs ++ x ∷ [])
+all_and_one P [] x h p zero d l = p
+all_and_one P [] x h p (suc k) d l = absurd (omega (arith, l))
+all_and_one P (y ∷ xs) x h p zero d l = h 0 d (omega arith)
+all_and_one P (y ∷ xs) x h p (suc k) d l =
+    all_and_one P xs x (λ j e m. h (suc j) e (omega (arith, m))) p k d (omega (arith, l))
+
+pub in_place : (course : Course) (ahead more : List Spot) (spot : Spot) → (All (LeadsOn course) more → LeadsOn course spot)
+    → All (LeadsOn course) (ahead ++ more) → All (LeadsOn course) (ahead ++ spot ∷ [])
+in_place course ahead more spot leads all =
+    let both = all_both (LeadsOn course) ahead more all in
+    all_and_one (LeadsOn course) ahead spot both.0 (leads both.1)
+
+pub all_short : (P : Spot → Type 0) (xs : List Spot) → length xs ≡ 0 → All P xs
+all_short P xs e k d l = absurd (omega (arith, l, e))
+
+-- one cut point more is followed
+same_there : (cuts : List Cut) (k : ℕ) (c d : Cut) → k < length cuts → slice_index_or cuts k c ≡ slice_index_or cuts k d
+same_there [] k c d l = absurd (omega arith)
+same_there (x ∷ cuts) zero c d l = refl
+same_there (x ∷ cuts) (suc k) c d l = same_there cuts k c d (omega (arith, l))
+
+pub followed_more : (course : Course) (n : ℕ) (cut : Cut) → n < length course.cuts → slice_index_or course.cuts n cut ≡ cut
+    → ((k : ℕ) (d : Cut) → k < n → IsFollowed course (slice_index_or course.cuts k d)) → IsFollowed course cut
+    → (k : ℕ) (d : Cut) → k < n + 1 → IsFollowed course (slice_index_or course.cuts k d)
+followed_more course n cut within e first last k d l = by (cases_order k n)
+  where
+    by : (k ≡ n) ⊎ ((k < n) ⊎ (n < k)) → IsFollowed course (slice_index_or course.cuts k d)
+    by (inl same) =
+        subst (λ j. IsFollowed course (slice_index_or course.cuts j d)) (sym same)
+        (subst (IsFollowed course) (sym (same_there course.cuts n d cut within ∙ e)) last)
+    by (inr (inl less)) = first k d less
+    by (inr (inr more)) = absurd (omega (arith, l, more))

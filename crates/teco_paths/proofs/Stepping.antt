@@ -1,0 +1,379 @@
+-- One step of a path.
+use Rattle.std.proofs.Common.{◌≡◌, ◌⊎◌, inl, inr, ℕ, zero, suc, ◌+◌, ◌<◌, ◌≤◌, refl, sym, ap, ◌∙◌, subst, arith, List, [], ◌∷◌, ◌++◌}
+use Rattle.std.proofs.Common.{map, length, Bool, true, false, Option, Some, None, Result, Ok, Err, slice_get, ok_or}
+use Rattle.std.specs.Prelude.{⊤}
+use Rattle.std.specs.List.{All, Any}
+use Rattle.std.specs.Option.{option_map_or}
+use Rattle.teco_law_expansion.specs.Linked.{AreLinked, IsLinked, Lead, NodesAreSound}
+use Rattle.teco_law_expansion.specs.Loaded.{StaysLoaded}
+use Rattle.teco_law_expansion.specs.Run.{StepsGoAlongNodes}
+use Rattle.teco_law_facts.specs.Wholeness.{IsWholeState, IsWholeOutcome, WholeIsKept}
+use Rattle.teco_law_tables.specs.Staying.{changes_files, is_of_files}
+use Rattle.teco_linear.specs.declared.term.Term.{Term}
+use Rattle.teco_linear.specs.Form.{Valuation}
+use Rattle.teco_linear.specs.Implied.{Holds, Implies}
+use Rattle.teco_model.specs.Ahead.{Whole}
+use Rattle.teco_model.specs.declared.flow.Loop.{Loop}
+use Rattle.teco_model.specs.declared.kind.Call.{Call}
+use Rattle.teco_model.specs.declared.kind.Command.TheVariants as command
+use Rattle.teco_model.specs.declared.kind.Flow.{Flow}
+use Rattle.teco_model.specs.declared.kind.Flow.TheVariants as flow
+use Rattle.teco_model.specs.declared.kind.Goal.TheVariants as goal
+use Rattle.teco_model.specs.declared.kind.Kind.{Kind}
+use Rattle.teco_model.specs.declared.kind.Kind.TheVariants as kind
+use Rattle.teco_model.specs.declared.kind.Stack.TheVariants as stack
+use Rattle.teco_model.specs.declared.kind.Storage.TheVariants as storage
+use Rattle.teco_model.specs.Element.{Element, element_at}
+use Rattle.teco_model.specs.Macros.{Library, IsLoaded, is_macro}
+use Rattle.teco_model.specs.Skip.{skip_of, route_of}
+use Rattle.teco_model.specs.State.{Frame, Frames, State, Outcome, Next, End}
+use Rattle.teco_model.specs.Step.{step, end_outcome, end_of_text, outcome_at, outcome_of, reply_of}
+use Rattle.teco_model.specs.Storage.{text_in}
+use Rattle.teco_model.specs.Going.{frames_in}
+use Rattle.teco_model.proofs.Chains.{ok, bound, some_of}
+use Rattle.teco_outcomes.specs.declared.case.Case.{Case}
+use Rattle.teco_outcomes.specs.declared.outcomes.Outcomes.{Outcomes}
+use Rattle.teco_outcomes.specs.Flow.{turned}
+use Rattle.teco_outcomes.specs.Foretold.{Begins}
+use Rattle.teco_outcomes.specs.Law.{Arrives, ArrivesAway, Goes, Law, LeadsOn, IsMatched, IsOfIteration, StandsAt, StepsTo, loops_in, point_of, frames_on}
+use Rattle.teco_outcomes.specs.States.{Point, Describes, IsTrueOf}
+use Rattle.teco_paths.specs.declared.spot.Spot.{Spot}
+use Rattle.teco_paths.specs.Runs.{Ground, IsAt}
+use Rattle.teco_paths.specs.Steps.{AreSpots, GoOn, GoesBy, GoesOn, IsCall, IsEndOrCall, IsPlain, IsRead, IsTextEnd, IsThere, IsTold, Passes, Steps, cases_by}
+use Rattle.teco_paths.proofs.Lists.{node_of}
+use Rattle.teco_paths.proofs.Standing.{position_here, linked_here, reads_here, reads_there}
+use Rattle.teco_paths.proofs.Walking.{reads_none}
+use Rattle.teco_verifier.specs.expansion.Names.{named_by, named_by_query, named_by_stack, named_by_storage, written_by, names_macro, writes_macro}
+use Rattle.teco_verifier.specs.expansion.Node.{Node, Stand, stands, numbered}
+use Rattle.teco_verifier.specs.expansion.Position.{Position, moved_to, start_of, spot_of, position_of}
+use Rattle.teco_verifier.specs.expansion.Refusal.{Reason, Unpaired}
+use Rattle.teco_verifier.specs.expansion.Ways.{past, jumped, jump_way, way_or_jump, end_ways, leave_ways, ahead_ways, flow_ways, return_ways, element_ways, ways_at}
+
+-- ---- what comes of a step
+steps_to : (P : State → Type 0) (o : Outcome) → StepsTo P o → (t : State) × (o ≡ Next t) × P t
+steps_to P (Next t) h = (t, refl, h)
+steps_to P o h = absurd (grind arith)
+
+whole_next : (whole : WholeIsKept) (s t : State) → IsWholeState s → step s ≡ Next t → IsWholeState t
+whole_next whole s t h goes = subst IsWholeOutcome goes (whole.steps s h)
+
+-- ---- an element has its pair
+abbrev JumpPlace : Element → Position → Type 0
+JumpPlace e p = (place : ℕ) × ((skip_of p.running.text (Whole e)).to ≡ Some place)
+
+jump_place : (e : Element) (p q : Position) → jumped e p ≡ Ok q → JumpPlace e p
+jump_place e p q h =
+    let b = bound (ok_or (skip_of p.running.text (Whole e)).to Unpaired) _ q h in
+    (b.before, some_of (skip_of p.running.text (Whole e)).to Unpaired b.before b.was)
+
+either_place : (first : Position) (e : Element) (p : Position) (targets : List Position)
+    → way_or_jump first e p ≡ Ok targets → JumpPlace e p
+either_place first e p targets h = let b = bound (jumped e p) _ targets h in jump_place e p b.before b.was
+
+only_place : (e : Element) (p : Position) (targets : List Position) → jump_way e p ≡ Ok targets → JumpPlace e p
+only_place e p targets h = let b = bound (jumped e p) _ targets h in jump_place e p b.before b.was
+
+-- an iteration of the text is open
+abbrev HasStart : List ℕ → Type 0
+HasStart [] = ⊥
+HasStart (start ∷ outer) = ⊤
+
+leave_place : (starts : List ℕ) (e : Element) (p : Position) (targets : List Position)
+    → leave_ways starts e p ≡ Ok targets → HasStart starts × JumpPlace e p
+leave_place [] e p targets h = absurd (cc)
+leave_place (start ∷ outer) e p targets h = (tt, either_place (past e p) e p targets h)
+
+end_start : (starts : List ℕ) (e : Element) (p : Position) (targets : List Position)
+    → end_ways starts e p ≡ Ok targets → HasStart starts
+end_start [] e p targets h = absurd (cc)
+end_start (start ∷ outer) e p targets h = tt
+
+ahead_place : (starts : List ℕ) (e : Element) (p : Position) (targets : List Position)
+    → ahead_ways goal.EndTurn starts e p ≡ Ok targets → HasStart starts × JumpPlace e p
+ahead_place [] e p targets h = absurd (cc)
+ahead_place (start ∷ outer) e p targets h = (tt, only_place e p targets h)
+
+inside : (loops : List Loop) → HasStart (map start_of loops) → 1 ≤ length loops
+inside [] h = absurd h
+inside (loop ∷ outer) h = omega arith
+
+abbrev Matched : Kind → Element → State → Type 0
+Matched k e s =
+    LeadsOn (route_of k) (skip_of s.frames.running.text (Whole e)).to × IsOfIteration k s.frames.running.loops
+
+flow_matched : (f : Flow) (e : Element) (s : State) (targets : List Position)
+    → flow_ways f e (position_of s) ≡ Ok targets → Matched (kind.Flow f) e s
+unfolding flow_ways
+flow_matched flow.Iterate e s targets h = (either_place _ e (position_of s) targets h, tt)
+flow_matched flow.EndTurn e s targets h =
+    (tt, inside s.frames.running.loops (end_start (map start_of s.frames.running.loops) e (position_of s) targets h))
+flow_matched flow.Leave e s targets h =
+    let l = leave_place (map start_of s.frames.running.loops) e (position_of s) targets h in
+    (l.1, inside s.frames.running.loops l.0)
+flow_matched (flow.Test t) e s targets h = (either_place _ e (position_of s) targets h, tt)
+flow_matched flow.Otherwise e s targets h = (only_place e (position_of s) targets h, tt)
+flow_matched flow.EndTest e s targets h = (tt, tt)
+flow_matched flow.GoTo e s targets h = (only_place e (position_of s) targets h, tt)
+flow_matched flow.Comment e s targets h = (tt, tt)
+flow_matched (flow.GoAhead goal.EndTurn) e s targets h =
+    let l = ahead_place (map start_of s.frames.running.loops) e (position_of s) targets h in
+    (l.1, inside s.frames.running.loops l.0)
+flow_matched (flow.GoAhead goal.EndTest) e s targets h = (only_place e (position_of s) targets h, tt)
+flow_matched (flow.GoAhead goal.Otherwise) e s targets h = (only_place e (position_of s) targets h, tt)
+
+kind_matched : (library : Library) (k : Kind) (e : Element) (s : State) (targets : List Position) → IsTold k
+    → element_ways library k e (position_of s) ≡ Ok targets → Matched k e s
+kind_matched library (kind.Flow f) e s targets told h = flow_matched f e s targets h
+kind_matched library (kind.Argument a) e s targets told h = (tt, tt)
+kind_matched library (kind.Value a) e s targets told h = (tt, tt)
+kind_matched library (kind.Query a) e s targets told h = (tt, tt)
+kind_matched library (kind.Stack a) e s targets told h = (tt, tt)
+kind_matched library (kind.Command a) e s targets told h = (tt, tt)
+kind_matched library (kind.Page a) e s targets told h = (tt, tt)
+kind_matched library (kind.Call a) e s targets told h = absurd told
+kind_matched library (kind.Search a) e s targets told h = absurd told
+kind_matched library (kind.File a) e s targets told h = absurd told
+
+-- ---- no text of the library is written, and no file is touched
+named_too : (k : Kind) (r : ℕ) → written_by k ≡ Some r → named_by k ≡ Some r
+named_too (kind.Stack (stack.Pop q)) r h = h
+named_too (kind.Command (command.Storage (storage.Copy q))) r h = h
+named_too (kind.Command (command.Storage (storage.SetText q))) r h = h
+named_too k r h = absurd (cc)
+
+unnamed : (library : Library) (written named : Option ℕ) → ((r : ℕ) → written ≡ Some r → named ≡ Some r)
+    → option_map_or (is_macro library) named false ≡ false → option_map_or (is_macro library) written false ≡ false
+unnamed library None named h g = refl
+unnamed library (Some r) named h g = ap (λ o. option_map_or (is_macro library) o false) (sym (h r refl)) ∙ g
+
+no_files : (k : Kind) → IsTold k → is_of_files k ≡ false
+no_files (kind.Flow f) told = refl
+no_files (kind.Argument a) told = refl
+no_files (kind.Value a) told = refl
+no_files (kind.Query a) told = refl
+no_files (kind.Stack a) told = refl
+no_files (kind.Command a) told = refl
+no_files (kind.Page a) told = refl
+no_files (kind.Call a) told = refl
+no_files (kind.Search a) told = refl
+no_files (kind.File a) told = absurd told
+
+-- ---- the laws that steps stand on
+pub record Laws : Type 0 where
+  pub whole : WholeIsKept
+  pub along : StepsGoAlongNodes
+  pub loaded : StaysLoaded
+  pub sound : NodesAreSound
+
+conditions_hold : (case : Case) (targets : List (List Term)) (n : ℕ) (v : Valuation) → All (Implies case.constraints.items) targets
+    → All (Holds n v) case.constraints.items → All (Holds n v) targets
+conditions_hold case targets n v implied hold k d l = implied k d l n v hold
+
+module _ (laws : Laws) (nodes : List Node) (number : ℕ) (case : Case) (all : Outcomes) (spots : List Spot)
+    (asked : All (Implies case.constraints.items) all.conditions.items) (are : AreSpots nodes number all spots)
+    (ground : Ground) (steps : ℕ) (s : State) (linked : AreLinked ground.library ground.entry nodes)
+    (at : IsAt nodes ground number s) (v : Valuation) (true_of : IsTrueOf ground.n v case (point_of steps ground.below s))
+    (node : Node) (is : numbered nodes number ≡ Some node) where
+  begins : Begins ground.n v case all (point_of steps ground.below s)
+  begins = record {
+    whole = at.whole.world.kept;
+    true_of = true_of;
+    conditions = conditions_hold case all.conditions.items ground.n v asked true_of.fits.constraints;
+  }
+
+  reads : element_at s.frames.running.text s.frames.running.place ≡ Ok node.element
+  reads = reads_here nodes ground number s node linked is at laws.sound
+
+  -- a step whose state is known
+  going : (t : State) (away : Bool) → step s ≡ Next t → t.left ≡ None
+      → ((e : Element) → node.element ≡ Some e → IsTold e.kind → GoesBy away e s t)
+      → writes_macro ground.library node.element ≡ false → changes_files node.element ≡ false
+      → Any (λ made. Describes ground.n made (point_of (steps + 1) ground.below t)) (cases_by away all)
+      → GoesOn nodes ground steps s spots
+  going t away goes done along unwritten unfiled described = record {
+    next = t;
+    goes = goes;
+    none = reads_none s node.element reads unfiled;
+    begins = done;
+    loaded =
+        laws.loaded ground.library s t node.element at.loaded unwritten
+        (reads_there nodes ground number s node linked is at) goes;
+    whole = whole_next laws.whole s t at.whole goes;
+    there =
+        are ground (steps + 1) s t away
+        (record { linked = linked; at = at; goes = goes; done = done; node = node; is = is; along = along }) described;
+  }
+
+  -- an element whose law is told
+  module _ (e : Element) (element_is : node.element ≡ Some e) (plain : IsPlain nodes number e.kind) (law : Law e case all) where
+    same_element : (f : Element) → node.element ≡ Some f → e ≡ f
+    same_element f h = let z : Some e ≡ Some f = sym element_is ∙ h in cc
+
+    ways_here : element_ways ground.library e.kind e (position_of s) ≡ Ok (linked_here nodes ground number s node linked is at).targets
+    unfolding ways_at
+    ways_here =
+        subst (λ (p : Position). element_ways ground.library e.kind e p ≡ Ok (linked_here nodes ground number s node linked is at).targets)
+        (position_here nodes ground number s node linked is at)
+        (ap (λ read. ways_at ground.library read node.stand.position) (sym element_is)
+        ∙ (linked_here nodes ground number s node linked is at).goes)
+
+    stands_at : StandsAt e s
+    stands_at =
+        let m = kind_matched ground.library e.kind e s _ plain.told ways_here in
+        record { reads = reads ∙ ap Ok element_is; matched = record { leads = m.0; inside = m.1 } }
+
+    by_writes : (written_by e.kind ≡ None) ⊎ (node.names_macro ≡ false) → option_map_or (is_macro ground.library) (written_by e.kind) false ≡ false
+    by_writes (inl none) = ap (λ o. option_map_or (is_macro ground.library) o false) none
+    by_writes (inr unnamed_here) =
+        unnamed ground.library (written_by e.kind) (named_by e.kind) (named_too e.kind)
+        (ap (names_macro ground.library) (sym element_is) ∙ sym (linked_here nodes ground number s node linked is at).names ∙ unnamed_here)
+
+    unwritten_here : writes_macro ground.library node.element ≡ false
+    unwritten_here = ap (writes_macro ground.library) element_is ∙ by_writes (plain.writes node is)
+
+    unfiled_here : changes_files node.element ≡ false
+    unfiled_here = ap changes_files element_is ∙ no_files e.kind plain.told
+
+    goes_by : (away : Bool) (t : State) → GoesBy away e s t → (f : Element) → node.element ≡ Some f → IsTold f.kind → GoesBy away f s t
+    goes_by away t h f reads told = subst (λ f. GoesBy away f s t) (same_element f reads) h
+
+    by_goes : (t : State) → step s ≡ Next t → Goes ground.n all e steps ground.below s t → GoesOn nodes ground steps s spots
+    by_goes t goes (inl a) =
+        going t false goes (a.left ∙ at.begins) (goes_by false t a.there) unwritten_here unfiled_here a.described
+    by_goes t goes (inr away) =
+        let a = away.2 in
+        going t true goes (a.left ∙ at.begins) (goes_by true t (away.0, away.1, a.there)) unwritten_here unfiled_here a.described
+
+    pub element_goes : GoesOn nodes ground steps s spots
+    element_goes =
+        let next = steps_to (Goes ground.n all e steps ground.below s) (step s) (law ground.n v s steps ground.below stands_at begins) in
+        by_goes next.0 next.1 next.2
+
+  -- a call, or the end of a text
+  module _ (passes : Passes case all) (unfiled : changes_files node.element ≡ false) where
+    passed : (t : State) → step s ≡ Next t → t.left ≡ None
+        → ((e : Element) → node.element ≡ Some e → IsTold e.kind → ⊥)
+        → writes_macro ground.library node.element ≡ false
+        → point_of (steps + 1) ground.below t
+        ≡ turned (point_of steps ground.below s) s.arguments (s.frames.running.loops ++ loops_in s.frames.callers)
+        → GoesOn nodes ground steps s spots
+    passed t goes done untold unwritten same =
+        by (passes ground.n v (point_of steps ground.below s) begins)
+      where
+        by : Any (λ made. Describes ground.n made (turned (point_of steps ground.below s) s.arguments (s.frames.running.loops ++ loops_in s.frames.callers))) all.cases.items
+            ⊎ Any (λ made. Describes ground.n made (turned (point_of steps ground.below s) s.arguments (s.frames.running.loops ++ loops_in s.frames.callers))) all.away.items
+            → GoesOn nodes ground steps s spots
+        by (inl d) =
+            going t false goes done (λ e r told. absurd (untold e r told)) unwritten unfiled
+            (subst (λ p. Any (λ made. Describes ground.n made p) all.cases.items) (sym same) d)
+        by (inr d) =
+            going t true goes done (λ e r told. absurd (untold e r told)) unwritten unfiled
+            (subst (λ p. Any (λ made. Describes ground.n made p) all.away.items) (sym same) d)
+
+  -- M goes to the beginning of its text
+  module _ (passes : Passes case all) (e : Element) (c : Call) (element_is : node.element ≡ Some e) (kind_is : e.kind ≡ kind.Call c) where
+    abbrev called : State
+    called = record s { frames = frames_in (text_in c.register s.world.kept) e.next s.frames }
+
+    calls : step s ≡ Next called
+    unfolding step reply_of
+    calls = ap (outcome_at s) (reads ∙ ap Ok element_is) ∙ ap (λ k. outcome_of k e s) kind_is
+
+    untold_call : (f : Element) → node.element ≡ Some f → IsTold f.kind → ⊥
+    untold_call f r told =
+        let z : Some e ≡ Some f = sym element_is ∙ r in
+        let same : e ≡ f = cc in
+        subst IsTold (ap (λ (x : Element). x.kind) (sym same) ∙ kind_is) told
+
+    pub call_goes : GoesOn nodes ground steps s spots
+    call_goes =
+        passed passes (ap changes_files element_is ∙ ap is_of_files kind_is) called calls at.begins untold_call
+        (ap (writes_macro ground.library) element_is ∙ ap (λ k. option_map_or (is_macro ground.library) (written_by k) false) kind_is)
+        refl
+
+  -- the end of a text goes back to the text that waits
+  module _ (passes : Passes case all) (element_is : node.element ≡ None) (one : length node.ways ≡ 1) where
+    returns_here : return_ways (map start_of s.frames.running.loops) (map spot_of s.frames.callers)
+        ≡ Ok (linked_here nodes ground number s node linked is at).targets
+    unfolding ways_at
+    returns_here =
+        subst (λ (p : Position). return_ways p.running.starts p.callers ≡ Ok (linked_here nodes ground number s node linked is at).targets)
+        (position_here nodes ground number s node linked is at)
+        (ap (λ read. ways_at ground.library read node.stand.position) (sym element_is)
+        ∙ (linked_here nodes ground number s node linked is at).goes)
+
+    none_open : (loops : List Loop) (callers : List Frame) (targets : List Position)
+        → return_ways (map start_of loops) (map spot_of callers) ≡ Ok targets → loops ≡ []
+    none_open [] callers targets h = refl
+    none_open (loop ∷ outer) callers targets h = absurd (cc)
+
+    some_way : (all : List Stand) (base n : ℕ) (from : Stand) (targets : List Position) (ways : List ℕ) → Lead all base n from targets ways
+        → length ways ≡ 1 → targets ≡ [] → ⊥
+    some_way all base n from [] [] h l e = omega (arith, l)
+    some_way all base n from [] (way ∷ ways) h l e = h
+    some_way all base n from (target ∷ targets) ways h l e = cc
+
+    waiting : (loops : List Loop) (callers : List Frame) (targets : List Position)
+        → return_ways (map start_of loops) (map spot_of callers) ≡ Ok targets → (targets ≡ [] → ⊥)
+        → (caller : Frame) × (others : List Frame) × (callers ≡ caller ∷ others)
+    waiting [] [] targets h some = absurd (some (sym (ok [] targets h)))
+    waiting [] (caller ∷ others) targets h some = (caller, others, refl)
+    waiting (loop ∷ outer) callers targets h some = absurd (cc)
+
+    closed : s.frames.running.loops ≡ []
+    closed = none_open s.frames.running.loops s.frames.callers _ returns_here
+
+    caller_here : (caller : Frame) × (others : List Frame) × (s.frames.callers ≡ caller ∷ others)
+    caller_here =
+        let l = linked_here nodes ground number s node linked is at in
+        waiting s.frames.running.loops s.frames.callers l.targets returns_here
+        (some_way _ _ number node.stand l.targets node.ways l.leads one)
+
+    abbrev returned : State
+    returned = record s { frames = record { running = caller_here.0; callers = caller_here.1 } }
+
+    returns : step s ≡ Next returned
+    unfolding step
+    returns =
+        ap (outcome_at s) (reads ∙ ap Ok element_is) ∙ ap (λ loops. end_of_text loops s) closed
+        ∙ ap (λ callers. end_outcome callers s) caller_here.2
+
+    same_loops : caller_here.0.loops ++ loops_in caller_here.1 ≡ s.frames.running.loops ++ loops_in s.frames.callers
+    same_loops = sym (ap (λ loops. loops ++ loops_in s.frames.callers) closed ∙ ap loops_in caller_here.2)
+
+    untold_end : (f : Element) → node.element ≡ Some f → IsTold f.kind → ⊥
+    untold_end f r told = let z : None ≡ Some f = sym element_is ∙ r in cc
+
+    pub return_goes : GoesOn nodes ground steps s spots
+    return_goes =
+        passed passes (ap changes_files element_is) returned returns at.begins untold_end
+        (ap (writes_macro ground.library) element_is)
+        (ap (λ loops. record (point_of (steps + 1) ground.below returned) { loops = loops }) same_loops)
+
+  by_read : Passes case all → length node.ways ≡ 1 → (read : Option Element) → node.element ≡ read → IsEndOrCall read
+      → GoesOn nodes ground steps s spots
+  by_read passes one None e h = return_goes passes e one
+  by_read passes one (Some x) e h = by_kind x.kind refl h
+    where
+      by_kind : (k : Kind) → x.kind ≡ k → IsCall k → GoesOn nodes ground steps s spots
+      by_kind (kind.Call c) kind_is h = call_goes passes x c e kind_is
+      by_kind k kind_is h = absurd (grind arith)
+
+  pub text_goes : Passes case all → length node.ways ≡ 1 → IsEndOrCall node.element → GoesOn nodes ground steps s spots
+  text_goes passes one h = by_read passes one node.element refl h
+
+-- ---- the spots behind a node
+module _ (laws : Laws) (nodes : List Node) (number : ℕ) (case : Case) (all : Outcomes) (spots : List Spot)
+    (asked : All (Implies case.constraints.items) all.conditions.items) (are : AreSpots nodes number all spots)
+    (one : 0 < number) (last : number ≤ length nodes) where
+  pub go_on_element : (e : Element) → IsRead nodes number (Some e) → IsPlain nodes number e.kind → Law e case all
+      → GoOn nodes number case spots
+  go_on_element e read plain law ground steps s linked at d =
+      let n = node_of nodes number one last in
+      element_goes laws nodes number case all spots asked are ground steps s linked at d.0 d.1 n.0 n.1 e (read n.0 n.1) plain law
+
+  pub go_on_text : Passes case all → ((node : Node) → numbered nodes number ≡ Some node → length node.ways ≡ 1)
+      → IsTextEnd nodes number → GoOn nodes number case spots
+  go_on_text passes ways text ground steps s linked at d =
+      let n = node_of nodes number one last in
+      text_goes laws nodes number case all spots asked are ground steps s linked at d.0 d.1 n.0 n.1 passes (ways n.0 n.1) (text n.0 n.1)

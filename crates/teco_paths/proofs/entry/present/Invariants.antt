@@ -1,0 +1,11 @@
+use Rattle.std.proofs.Common.{◌≡◌, ℕ, ◌<◌, length, false, slice_index_or}
+use Rattle.teco_paths.specs.Entry.{is_there}
+use Rattle.teco_paths.specs.Symbols.{measure_of}
+use Rattle.teco_paths.proofs.entry.present.Given as goal
+
+-- so is each place before this one
+abbrev pub invariant-loop-place : goal.invariant-loop-place
+invariant-loop-place l = record {
+  count : length l.all.items ≡ l.place;
+  same : (k : ℕ) → k < l.place → slice_index_or l.all.items k false ≡ is_there l.has_argument (measure_of k);
+}

@@ -1,0 +1,9 @@
+use Rattle.teco_paths.proofs.Answered.{on_ok}
+use Rattle.teco_paths.proofs.Onward.{cut_followed}
+use Rattle.teco_paths.proofs.following.follow_cut.Goals as goal
+
+pub returns : goal.returns
+returns c =
+    on_ok c.follow_case.result
+    (λ leads. cut_followed c.args.course.now c.args.cut.now c.in_ok-case.case c.in_ok-case.ensures leads)
+    c.follow_case.ensures

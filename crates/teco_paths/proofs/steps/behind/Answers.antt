@@ -1,0 +1,19 @@
+use Rattle.std.proofs.Common.{◌≡◌, subst}
+use Rattle.std.specs.Bool.{OnTrue}
+use Rattle.std.specs.List.{All}
+use Rattle.teco_paths.specs.Paths.{Course, Leads, LeadsOn}
+use Rattle.teco_paths.specs.Steps.{GoOn, IsSmall}
+use Rattle.teco_paths.proofs.Answered.{if_ok}
+use Rattle.teco_paths.proofs.Onward.{leads_by}
+use Rattle.teco_paths.proofs.steps.behind.Goals as goal
+
+pub returns : goal.returns
+returns c =
+    let small : IsSmall c.args.course.now c.args.case.now =
+    subst (λ b. OnTrue b (IsSmall c.args.course.now c.args.case.now)) c.if-not-is_within.false c.in_ok-is_within.ensures in
+    if_ok (λ spots. GoOn c.course.inside.nodes.now c.args.number c.args.case.now spots.items)
+    (λ spots. All (LeadsOn c.args.course.now) spots.items → Leads c.args.course.now 1 c.args.number c.args.case.now)
+    c.behind_node.result
+    (λ spots go all. leads_by c.args.course.now c.args.number c.args.case.now spots.items small
+    (subst (λ (x : Course). GoOn x.nodes c.args.number c.args.case.now spots.items) c.course.view_is go) all)
+    c.behind_node.ensures

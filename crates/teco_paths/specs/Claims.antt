@@ -1,0 +1,59 @@
+-- What is claimed at a cut point.
+use Rattle.std.specs.Prelude.{◌≡◌, ℕ, List, [], Bool, true, false, is_some, Option, None, slice_index_or}
+use Rattle.std.specs.Prelude.{Some, if◌then◌else◌}
+use Rattle.std.specs.List.{All}
+use Rattle.teco_linear.specs.declared.term.Term.{Term}
+use Rattle.teco_linear.specs.Form.{Valuation, value}
+use Rattle.teco_linear.specs.Implied.{Holds}
+use Rattle.teco_outcomes.specs.declared.case.Case.{Case}
+use Rattle.teco_outcomes.specs.declared.measure.Measure.{Measure}
+use Rattle.teco_outcomes.specs.Cases.{value_if}
+use Rattle.teco_outcomes.specs.Measures.{place}
+use Rattle.teco_outcomes.specs.States.{Point, IsShape, IsTrueOf, measures_of}
+use Rattle.teco_paths.specs.declared.cut.Cut.{Cut}
+use Rattle.teco_paths.specs.Symbols.{numbers_of}
+
+-- A claim holds at a state: its form is at least 0, where each symbol is the measure in its place.
+abbrev pub ClaimHolds : ℕ → Point → List Term → Type 0
+ClaimHolds n s claim = Holds n (numbers_of s) claim
+
+-- a state has just the measures in the places that are marked
+abbrev pub HasPresent : List Bool → Point → Type 0
+HasPresent present s = (m : Measure) → is_some (measures_of s m) ≡ slice_index_or present (place m) false
+
+-- A state is as a cut point says: of its shape, with its measures, and all of its claims hold.
+pub record AreClaimed (n : ℕ) (cut : Cut) (s : Point) : Type 0 where
+  pub shape : IsShape cut.shape s
+  pub present : HasPresent cut.present.items s
+  pub claims : All (ClaimHolds n s) cut.claims.items
+
+-- in each place that is marked stands the symbol of its number, and in the others none
+abbrev pub AreSymbols : List Bool → List (Option (List Term)) → Type 0
+AreSymbols present forms =
+    (n : ℕ) (v : Valuation) (k : ℕ)
+    → value_if (slice_index_or forms k None) n v ≡ (if slice_index_or present k false then Some (v k) else None)
+
+-- a case describes each state that is as a cut point says
+abbrev pub IsCaseOf : Cut → Case → Type 0
+IsCaseOf cut case =
+    (n : ℕ) (s : Point) → AreClaimed n cut s → IsTrueOf n (numbers_of s) case s
+
+-- forms are marked just where they are there
+abbrev pub ArePresent : List Bool → List (Option (List Term)) → Type 0
+ArePresent present forms =
+    (k : ℕ) → slice_index_or present k false ≡ is_some (slice_index_or forms k None)
+
+-- the form in a place, and 0 where there is none
+abbrev pub filled_by : Option (List Term) → List Term
+filled_by None = []
+filled_by (Some form) = form
+
+-- forms have the values of those in their places, and 0 where there is none
+abbrev pub AreFilled : List (Option (List Term)) → List (List Term) → Type 0
+AreFilled forms filled =
+    (n : ℕ) (v : Valuation) (k : ℕ)
+    → value (slice_index_or filled k []) n v ≡ value (filled_by (slice_index_or forms k None)) n v
+
+-- each state that a case describes is as a cut point says
+abbrev pub ComesTo : Case → Cut → Type 0
+ComesTo case cut = (n : ℕ) (v : Valuation) (s : Point) → IsTrueOf n v case s → AreClaimed n cut s

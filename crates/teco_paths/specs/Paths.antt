@@ -1,0 +1,66 @@
+-- Paths from cut point to cut point.
+use Rattle.std.specs.Prelude.{◌≡◌, ℕ, ◌+◌, ◌≤◌, List}
+use Rattle.std.specs.List.{All, Any}
+use Rattle.teco_law_expansion.specs.Linked.{AreLinked}
+use Rattle.teco_model.specs.Run.{Reaches}
+use Rattle.teco_model.specs.State.{State}
+use Rattle.teco_outcomes.specs.declared.case.Case.{Case}
+use Rattle.teco_outcomes.specs.Law.{point_of}
+use Rattle.teco_outcomes.specs.States.{Describes}
+use Rattle.teco_paths.specs.declared.cut.Cut.{Cut}
+use Rattle.teco_paths.specs.declared.spot.Spot.{Spot}
+use Rattle.teco_paths.specs.Claims.{AreClaimed}
+use Rattle.teco_paths.specs.Runs.{Ground, IsAt, EndsBy}
+use Rattle.teco_poly.specs.Polynomial.{Polynomial, value}
+use Rattle.teco_verifier.specs.expansion.Node.{Node}
+
+-- The nodes of a macro, the cut points, and how many steps a run may take and how much it may hold.
+pub record Course : Type 0 where
+  pub nodes : List Node
+  pub cuts : List Cut
+  pub commands : Polynomial
+  pub size : Polynomial
+
+-- A run ends in time from a state, so many steps after its entry.
+abbrev pub Ends : Course → Ground → ℕ → State → Type 0
+Ends course ground steps s = EndsBy (value course.commands ground.n) (value course.size ground.n) steps s
+
+-- A run comes to a cut point in time, and all is as it says.
+pub record IsAtCut (course : Course) (ground : Ground) (steps : ℕ) (s : State) (cut : Cut) : Type 0 where
+  pub at : IsAt course.nodes ground cut.number s
+  pub claimed : AreClaimed ground.n cut (point_of steps ground.below s)
+  pub within : steps ≤ value course.commands ground.n
+
+-- where a run comes to a cut point, after this many steps or more, it ends from there
+abbrev pub CutsEnd : Course → Ground → ℕ → ℕ → State → Type 0
+CutsEnd course ground least steps s =
+    (k : ℕ) (t : State)
+    → least ≤ k → Reaches k s t → Any (IsAtCut course ground (steps + k) t) course.cuts
+    → Ends course ground (steps + k) t
+
+-- A run ends from each state at a number that a case describes, if it does so from the cut points that it comes to
+-- after this many steps or more.
+abbrev pub Leads : Course → ℕ → ℕ → Case → Type 0
+Leads course least number case =
+    (ground : Ground) (steps : ℕ) (s : State)
+    → AreLinked ground.library ground.entry course.nodes → IsAt course.nodes ground number s
+    → Describes ground.n case (point_of steps ground.below s) → CutsEnd course ground least steps s
+    → Ends course ground steps s
+
+-- and so from a spot
+abbrev pub LeadsOn : Course → Spot → Type 0
+LeadsOn course spot = Leads course 0 spot.number spot.case
+
+-- A run ends from a cut point, if it does so from those that it comes to then.
+abbrev pub IsFollowed : Course → Cut → Type 0
+IsFollowed course cut =
+    (ground : Ground) (steps : ℕ) (s : State)
+    → AreLinked ground.library ground.entry course.nodes → IsAtCut course ground steps s cut
+    → CutsEnd course ground 1 steps s → Ends course ground steps s
+
+-- Each state that a spot describes, as a run comes to it, is at a cut point in time.
+abbrev pub Arrives : Course → Spot → Cut → Type 0
+Arrives course spot cut =
+    (ground : Ground) (steps : ℕ) (s : State)
+    → IsAt course.nodes ground spot.number s → Describes ground.n spot.case (point_of steps ground.below s)
+    → IsAtCut course ground steps s cut

@@ -1,0 +1,45 @@
+-- Runs of a macro among the nodes of its expansion.
+use Rattle.std.specs.Prelude.{◌≡◌, ℕ, ◌+◌, ◌≤◌, List, length, Option, Some, None}
+use Rattle.teco_law_expansion.specs.Linked.{AreLinked}
+use Rattle.teco_law_facts.specs.Wholeness.{IsWholeState}
+use Rattle.teco_law_tables.specs.Staying.{NoFileCommands}
+use Rattle.teco_model.specs.Macros.{Library, IsLoaded}
+use Rattle.teco_model.specs.Run.{Reaches, Ends}
+use Rattle.teco_model.specs.State.{World, State}
+use Rattle.teco_outcomes.specs.Law.{unread_in}
+use Rattle.teco_verifier.specs.expansion.Node.{Node, Stand, stands, numbered}
+use Rattle.teco_verifier.specs.expansion.Position.{position_of}
+
+-- What a run is of: the library and the entry, N, and how many pairs were pushed before it.
+pub record Ground : Type 0 where
+  pub library : Library
+  pub entry : ℕ
+  pub n : ℕ
+  pub below : ℕ
+
+-- a state stands where a number does
+pub record StandsBy (nodes : List Node) (ground : Ground) (number : ℕ) (s : State) : Type 0 where
+  pub stand : Stand
+  pub at : numbered (stands nodes ground.entry) number ≡ Some stand
+  pub position : stand.position ≡ position_of s
+
+-- A state of a run stands where a number does, and begins there; the library is loaded.
+pub record IsAt (nodes : List Node) (ground : Ground) (number : ℕ) (s : State) : Type 0 where
+  pub stands : StandsBy nodes ground number s
+  pub begins : s.left ≡ None
+  pub loaded : IsLoaded ground.library s.world.kept
+  pub whole : IsWholeState s
+
+-- how much is in the buffer and unread
+abbrev pub held_in : State → ℕ
+held_in s = length s.world.kept.text + unread_in s.world.files.input
+
+-- So many steps after its entry a run comes to its end in time, without a code, by no command of files, and holds no
+-- more than it may on the way.
+pub record EndsBy (most held steps : ℕ) (s : State) : Type 0 where
+  pub more : ℕ
+  pub new : World
+  pub within : steps + more ≤ most
+  pub none : NoFileCommands s more
+  pub small : (k : ℕ) (t : State) → k ≤ more → Reaches k s t → held_in t ≤ held
+  pub ends : Ends s more new

@@ -1,0 +1,180 @@
+-- One step of a path.
+use Rattle.std.specs.Prelude.{◌≡◌, ◌≢◌, ℕ, ◌+◌, ◌≤◌, ◌<◌, List, length, Bool, true, false, Option, Some, None, ◌⊎◌, ⊤}
+use Rattle.std.specs.List.{Any}
+use Rattle.teco_law_expansion.specs.Linked.{AreLinked}
+use Rattle.teco_linear.specs.Form.{Valuation}
+use Rattle.teco_law_facts.specs.Wholeness.{IsWholeState}
+use Rattle.teco_law_tables.specs.Staying.{ReadsNoFileCommand}
+use Rattle.teco_model.specs.declared.kind.Flow.TheVariants as flow
+use Rattle.teco_model.specs.declared.kind.Kind.{Kind}
+use Rattle.teco_model.specs.declared.kind.Kind.TheVariants as kind
+use Rattle.teco_model.specs.declared.kind.Test.{Test}
+use Rattle.teco_model.specs.Element.{Element}
+use Rattle.teco_model.specs.Macros.{IsLoaded}
+use Rattle.teco_model.specs.State.{State, Next}
+use Rattle.teco_model.specs.Step.{step}
+use Rattle.teco_outcomes.specs.declared.case.Case.{Case}
+use Rattle.teco_outcomes.specs.declared.outcomes.Outcomes.{Outcomes}
+use Rattle.teco_outcomes.specs.Flow.{turned}
+use Rattle.teco_outcomes.specs.Foretold.{Begins}
+use Rattle.teco_outcomes.specs.Law.{frames_on, place_away, point_of}
+use Rattle.teco_outcomes.specs.States.{Point, IsShape, Describes}
+use Rattle.teco_paths.specs.declared.spot.Spot.{Spot}
+use Rattle.teco_paths.specs.Runs.{Ground, StandsBy, IsAt}
+use Rattle.teco_paths.specs.Paths.{Course}
+use Rattle.teco_poly.specs.Polynomial.{value}
+use Rattle.teco_verifier.specs.expansion.Names.{written_by}
+use Rattle.teco_verifier.specs.expansion.Node.{Node, numbered}
+
+-- Where a text goes on: behind an element, or elsewhere.
+abbrev pub GoesBy : Bool → Element → State → State → Type 0
+GoesBy false e s t = t.frames ≡ frames_on e.next t.frames.running.loops s.frames
+GoesBy true e s t =
+    (place : ℕ)
+    × (place_away e.kind e s.frames.running ≡ Some place)
+    × (t.frames ≡ frames_on place t.frames.running.loops s.frames)
+
+-- neither a command of files, nor a search, nor a call
+abbrev pub IsTold : Kind → Type 0
+IsTold (kind.File f) = ⊥
+IsTold (kind.Search x) = ⊥
+IsTold (kind.Call c) = ⊥
+IsTold k = ⊤
+
+-- a step from the node of a number goes by a way
+pub record Steps (nodes : List Node) (ground : Ground) (number : ℕ) (away : Bool) (s t : State) : Type 0 where
+  pub linked : AreLinked ground.library ground.entry nodes
+  pub at : IsAt nodes ground number s
+  pub goes : step s ≡ Next t
+  pub done : t.left ≡ None
+  pub node : Node
+  pub is : numbered nodes number ≡ Some node
+  pub along : (e : Element) → node.element ≡ Some e → IsTold e.kind → GoesBy away e s t
+
+-- the cases of a way
+abbrev pub cases_by : Bool → Outcomes → List Case
+cases_by false outcomes = outcomes.cases.items
+cases_by true outcomes = outcomes.away.items
+
+-- Such a step comes to a number, if its state is of the shape of a case.
+abbrev pub IsTarget : List Node → ℕ → Bool → Case → ℕ → Type 0
+IsTarget nodes number away case target =
+    (ground : Ground) (steps : ℕ) (s t : State)
+    → Steps nodes ground number away s t → IsShape case.shape (point_of steps ground.below t)
+    → StandsBy nodes ground target t
+
+-- so many iterations are open at a node
+pub record IsOpenAt (nodes : List Node) (number iterations : ℕ) : Type 0 where
+  pub one : 0 < number
+  pub last : number ≤ length nodes
+  pub as_many : (node : Node) → numbered nodes number ≡ Some node → length node.stand.iterations ≡ iterations
+
+-- and another number of them at another
+pub record AreApart (nodes : List Node) (iterations this that : ℕ) : Type 0 where
+  pub others : ℕ
+  pub here : IsOpenAt nodes this iterations
+  pub there : IsOpenAt nodes that others
+  pub differ : others ≢ iterations
+
+-- of two nodes this is the one with so many
+abbrev pub IsToldApart : List Node → ℕ → ℕ → ℕ → ℕ → Type 0
+IsToldApart nodes iterations first second target =
+    ((target ≡ first) × AreApart nodes iterations first second)
+    ⊎ ((target ≡ second) × AreApart nodes iterations second first)
+
+-- a conditional is read at a node
+abbrev pub IsTest : List Node → ℕ → Type 0
+IsTest nodes number =
+    (node : Node) → numbered nodes number ≡ Some node
+    → (e : Element) × (test : Test) × (node.element ≡ Some e) × (e.kind ≡ kind.Flow (flow.Test test))
+
+-- a spot is where a state stands, and describes it
+pub record IsThere (nodes : List Node) (ground : Ground) (steps : ℕ) (t : State) (spot : Spot) : Type 0 where
+  pub stands : StandsBy nodes ground spot.number t
+  pub described : Describes ground.n spot.case (point_of steps ground.below t)
+
+-- Where one of the cases describes the state that such a step comes to, one of the spots is there.
+abbrev pub AreKept : List Node → ℕ → Bool → List Case → List Spot → Type 0
+AreKept nodes number away cases spots =
+    (ground : Ground) (steps : ℕ) (s t : State)
+    → Steps nodes ground number away s t
+    → Any (λ case. Describes ground.n case (point_of steps ground.below t)) cases
+    → Any (IsThere nodes ground steps t) spots
+
+-- or one of the cases that are left does
+abbrev pub AreLeft : List Node → ℕ → Bool → List Case → List Case → List Spot → Type 0
+AreLeft nodes number away cases rest spots =
+    (ground : Ground) (steps : ℕ) (s t : State)
+    → Steps nodes ground number away s t
+    → Any (λ case. Describes ground.n case (point_of steps ground.below t)) cases
+    → Any (λ case. Describes ground.n case (point_of steps ground.below t)) rest ⊎ Any (IsThere nodes ground steps t) spots
+
+-- of either way
+abbrev pub AreSpots : List Node → ℕ → Outcomes → List Spot → Type 0
+AreSpots nodes number outcomes spots =
+    (ground : Ground) (steps : ℕ) (s t : State) (away : Bool)
+    → Steps nodes ground number away s t
+    → Any (λ case. Describes ground.n case (point_of steps ground.below t)) (cases_by away outcomes)
+    → Any (IsThere nodes ground steps t) spots
+
+-- no state is as a case says
+abbrev pub IsImpossible : Case → Type 0
+IsImpossible case = (n : ℕ) (s : Point) → Describes n case s → ⊥
+
+-- A step passes in which nothing changes but the text that is executed.
+abbrev pub Passes : Case → Outcomes → Type 0
+Passes case all =
+    (n : ℕ) (v : Valuation) (s : Point)
+    → Begins n v case all s
+    → Any (λ made. Describes n made (turned s s.arguments s.loops)) all.cases.items
+    ⊎ Any (λ made. Describes n made (turned s s.arguments s.loops)) all.away.items
+
+-- this is read at the node of a number
+abbrev pub IsRead : List Node → ℕ → Option Element → Type 0
+IsRead nodes number read = (node : Node) → numbered nodes number ≡ Some node → node.element ≡ read
+
+-- a call
+abbrev pub IsCall : Kind → Type 0
+IsCall (kind.Call c) = ⊤
+IsCall k = ⊥
+
+-- the text that is executed ends there, or waits for another
+abbrev pub IsEndOrCall : Option Element → Type 0
+IsEndOrCall None = ⊤
+IsEndOrCall (Some e) = IsCall e.kind
+
+abbrev pub IsTextEnd : List Node → ℕ → Type 0
+IsTextEnd nodes number = (node : Node) → numbered nodes number ≡ Some node → IsEndOrCall node.element
+
+-- and one that writes no text of the library
+pub record IsPlain (nodes : List Node) (number : ℕ) (k : Kind) : Type 0 where
+  pub told : IsTold k
+  pub writes :
+      (node : Node) → numbered nodes number ≡ Some node → written_by k ≡ None ⊎ (node.names_macro ≡ false)
+
+-- A step goes to a state that one of the spots describes, where it stands.
+pub record GoesOn (nodes : List Node) (ground : Ground) (steps : ℕ) (s : State) (spots : List Spot) : Type 0 where
+  pub next : State
+  pub goes : step s ≡ Next next
+  pub none : ReadsNoFileCommand s
+  pub begins : next.left ≡ None
+  pub loaded : IsLoaded ground.library next.world.kept
+  pub whole : IsWholeState next
+  pub there : Any (IsThere nodes ground (steps + 1) next) spots
+
+-- from each state at a number that a case describes
+abbrev pub GoOn : List Node → ℕ → Case → List Spot → Type 0
+GoOn nodes number case spots =
+    (ground : Ground) (steps : ℕ) (s : State)
+    → AreLinked ground.library ground.entry nodes → IsAt nodes ground number s
+    → Describes ground.n case (point_of steps ground.below s) → GoesOn nodes ground steps s spots
+
+-- no more is held than may be
+abbrev pub IsSmall : Course → Case → Type 0
+IsSmall course case =
+    (n : ℕ) (s : Point) → Describes n case s → length s.kept.text + s.unread ≤ value course.size n
+
+-- no more steps were done
+abbrev pub IsInTime : Course → Case → Type 0
+IsInTime course case =
+    (n : ℕ) (s : Point) → Describes n case s → s.steps ≤ value course.commands n

@@ -1,0 +1,61 @@
+//! What paths are followed by.
+ghost use Rattle.std.specs.Prelude.{◌≡◌, ◌+ℤ◌, ◌*◌, ◌^◌, ℕ, pos, IfOk};
+ghost use Rattle.teco_linear.specs.Form.{Valuation, value};
+ghost use Rattle.teco_poly.specs.Polynomial as poly;
+
+use crate::cut::Cut;
+use std::alloc::Global;
+use std::marker::Model;
+use teco_expansion::Nodes;
+use teco_linear::{Form, LinearFault, Term};
+
+/// The nodes of a macro, the cut points, and how many commands a run may take and how much it may
+/// hold: polynomials in N, each by its coefficients, that of the constant first.
+#[derive(Drop)]
+pub struct Course<'a> {
+    pub nodes: &'a Nodes<'a>,
+    pub cuts: &'a [Cut],
+    pub commands: &'a [u64],
+    pub size: &'a [u64],
+}
+
+impl<'a> Model for Course<'a> {
+    ghost use Rattle.teco_paths.specs.Paths as model;
+
+    ghost Value = { model.Course };
+
+    ghost view = { λ c. record {
+      nodes = c.nodes.now;
+      cuts = c.cuts.now;
+      commands = c.commands.now;
+      size = c.size.now;
+    } };
+}
+
+// One more term of a polynomial.
+fn with_term(form: Form, power: usize, coefficient: u64, alloc: Global) -> Result<Form, LinearFault>
+    ensures { IfOk result (λ sum. (n : ℕ) (v : Valuation)
+        → value sum n v ≡ value form n v +ℤ pos (coefficient * n ^ power)) }
+{
+    let Ok(power) = u32::try_from(power) else {
+        return Err(LinearFault::PowerTooHigh);
+    };
+    let term = Term {
+        symbol: None,
+        power,
+        coefficient: i128::from(coefficient),
+    };
+    form.add(&Form::term(term, alloc)?, alloc)
+}
+
+/// The form that a polynomial in N is.
+pub fn form_of(polynomial: &[u64], alloc: Global) -> Result<Form, LinearFault>
+    ensures { IfOk result (λ form. (n : ℕ) (v : Valuation)
+        → value form n v ≡ pos (poly.value polynomial.now n)) }
+{
+    let mut form = Form::zero(alloc);
+    for at in 0..polynomial.len() {
+        form = with_term(form, at, polynomial[at], alloc)?;
+    }
+    Ok(form)
+}

@@ -1,0 +1,84 @@
+//! Why claims are not found to hang together.
+ghost use Rattle.std.specs.Prelude.{◌≡◌};
+ghost use Rattle.teco_paths.specs.declared.fault.PathFault.TheVariants.{Memory, Unknown};
+
+use std::alloc::{AllocError, AllocFailed};
+use teco_linear::LinearFault;
+use teco_outcomes::fault::Fault;
+use teco_simplex::SimplexFault;
+use thiserror::Error;
+
+/// Why claims are not found to hang together.
+#[derive(Clone, Copy, Debug, PartialEq, Eq, Error)]
+pub enum PathFault {
+    /// There is no such element.
+    #[error("element {0} is not there")]
+    NoElement(usize),
+    /// What comes of an element is not told.
+    #[error("what comes of element {0} is not told")]
+    NotTold(usize),
+    /// A condition of an element is not implied.
+    #[error("a condition of element {0} is not implied")]
+    Condition(usize),
+    /// More may be held at an element than is claimed.
+    #[error("more may be held at element {0} than is claimed")]
+    Size(usize),
+    /// More steps may be done than are claimed.
+    #[error("more commands may come to element {0} than are claimed")]
+    Commands(usize),
+    /// The claims at an element are not implied where a path comes to it.
+    #[error("the claims at element {0} are not implied")]
+    Claims(usize),
+    /// A path is too long, or there are too many.
+    #[error("the paths have too many elements")]
+    TooLong,
+    /// A number of a form passes its bounds.
+    #[error("a number of a form is too great")]
+    Unknown,
+    /// A growth was refused.
+    #[error("out of memory")]
+    Memory,
+}
+
+impl From<AllocError> for PathFault {
+    ghost from_gives = { λ _ e. e ≡ Memory };
+
+    fn from(_refused: AllocError) -> PathFault {
+        PathFault::Memory
+    }
+}
+
+impl<T: Drop> From<AllocFailed<T>> for PathFault {
+    ghost from_gives = { λ _ e. e ≡ Memory };
+
+    fn from(_refused: AllocFailed<T>) -> PathFault {
+        PathFault::Memory
+    }
+}
+
+impl From<LinearFault> for PathFault {
+    fn from(refused: LinearFault) -> PathFault {
+        match refused {
+            LinearFault::Memory => PathFault::Memory,
+            _ => PathFault::Unknown,
+        }
+    }
+}
+
+impl From<Fault> for PathFault {
+    fn from(refused: Fault) -> PathFault {
+        match refused {
+            Fault::Linear(refused) => PathFault::from(refused),
+            _ => PathFault::Unknown,
+        }
+    }
+}
+
+impl From<SimplexFault> for PathFault {
+    fn from(refused: SimplexFault) -> PathFault {
+        match refused {
+            SimplexFault::Memory => PathFault::Memory,
+            _ => PathFault::Unknown,
+        }
+    }
+}

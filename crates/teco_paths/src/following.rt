@@ -1,0 +1,126 @@
+//! Paths, from cut point to cut point.
+ghost use Rattle.std.specs.Prelude.{◌++◌, [], IfOk, OnOk};
+ghost use Rattle.std.specs.Bool.{OnTrue};
+ghost use Rattle.std.specs.List.{All};
+ghost use Rattle.teco_paths.specs.Paths.{Arrives, IsFollowed, Leads, LeadsOn};
+
+use crate::course::Course;
+use crate::cut::{Cut, case_of, comes_to};
+use crate::fault::PathFault;
+use crate::spot::Spot;
+use crate::steps::{behind, is_in_time, is_small};
+use std::alloc::Global;
+use teco_outcomes::case::Case;
+
+/// The most spots that paths may come to from a cut point.
+pub const MOST_SPOTS: usize = 20_000;
+
+// Whether a path is at the end, in time.
+fn is_over(course: &Course<'_>, spot: &Spot, alloc: Global) -> Result<bool, PathFault>
+    ensures { IfOk result (λ answer. OnTrue answer (LeadsOn course.now spot.now)) }
+{
+    teco_law_expansion::laws::runs_end();
+    if spot.number == 0 || spot.number - 1 != course.nodes.len() {
+        return Ok(false);
+    }
+    let is_timely = is_in_time(course, &spot.case, alloc)?;
+    let is_within = is_small(course, &spot.case, alloc)?;
+    Ok(is_timely && is_within)
+}
+
+// Whether it has come to a cut point, in time.
+fn is_arrived(course: &Course<'_>, spot: &Spot, cut: &Cut, alloc: Global) -> Result<bool, PathFault>
+    ensures { IfOk result (λ answer. OnTrue answer (Arrives course.now spot.now cut.now)) }
+{
+    if spot.number != cut.number {
+        return Ok(false);
+    }
+    let is_claimed = comes_to(&spot.case, cut, alloc)?;
+    let is_timely = is_in_time(course, &spot.case, alloc)?;
+    Ok(is_claimed && is_timely)
+}
+
+// Whether it has come to one of the cut points.
+fn is_at_cut(course: &Course<'_>, spot: &Spot, alloc: Global) -> Result<bool, PathFault>
+    ensures { IfOk result (λ answer. OnTrue answer (LeadsOn course.now spot.now)) }
+{
+    for cut in course.cuts {
+        if is_arrived(course, spot, cut, alloc)? {
+            return Ok(true);
+        }
+    }
+    Ok(false)
+}
+
+// Whether a node has a cut point.
+fn has_cut(course: &Course<'_>, number: usize) -> bool {
+    course.cuts.iter().any(|cut| cut.number == number)
+}
+
+// The spots behind one at which a path is neither over nor at a cut point.
+fn onward(course: &Course<'_>, spot: &Spot, alloc: Global) -> Result<Vec<Spot>, PathFault>
+    ensures { IfOk result (λ spots.
+        All (LeadsOn course.now) spots.items → LeadsOn course.now spot.now) }
+{
+    let is_ended = is_over(course, spot, alloc)?;
+    if is_ended {
+        return Ok(Vec::new(alloc));
+    }
+    let is_cut = is_at_cut(course, spot, alloc)?;
+    if is_cut {
+        return Ok(Vec::new(alloc));
+    }
+    if spot.number > course.nodes.len() {
+        return Err(PathFault::Commands(spot.number));
+    }
+    if has_cut(course, spot.number) {
+        return Err(PathFault::Claims(spot.number));
+    }
+    behind(course, spot.number, &spot.case, alloc)
+}
+
+// Follows all paths from some spots, to cut points and to the end.
+fn follow(course: &Course<'_>, spots: Vec<Spot>, alloc: Global) -> Result<(), PathFault>
+    ensures { OnOk result (All (LeadsOn course.now) spots.items) }
+{
+    let mut ahead = spots;
+    'spots: for _ in 0..MOST_SPOTS {
+        let Some(spot) = ahead.pop() else {
+            return Ok(());
+        };
+        let mut more = onward(course, &spot, alloc)?;
+        ahead.append(&mut more)?;
+    }
+    Err(PathFault::TooLong)
+}
+
+/// Follows all paths from a case at a node.
+pub fn follow_case(
+    course: &Course<'_>,
+    number: usize,
+    case: &Case,
+    alloc: Global,
+) -> Result<(), PathFault>
+    ensures { OnOk result (Leads course.now 1 number case.now) }
+{
+    let spots = behind(course, number, case, alloc)?;
+    follow(course, spots, alloc)
+}
+
+// Follows all paths from a cut point.
+fn follow_cut(course: &Course<'_>, cut: &Cut, alloc: Global) -> Result<(), PathFault>
+    ensures { OnOk result (IsFollowed course.now cut.now) }
+{
+    let case = case_of(cut, alloc)?;
+    follow_case(course, cut.number, &case, alloc)
+}
+
+/// Follows all paths from all cut points.
+pub fn follow_cuts(course: &Course<'_>, alloc: Global) -> Result<(), PathFault>
+    ensures { OnOk result (All (IsFollowed course.now) course.now.cuts) }
+{
+    for cut in course.cuts {
+        follow_cut(course, cut, alloc)?;
+    }
+    Ok(())
+}

@@ -1,0 +1,225 @@
+//! One step of a path.
+ghost use Rattle.std.specs.Prelude.{◌≡◌, ◌<◌, ◌≤◌, ◌++◌, length, IfOk};
+ghost use Rattle.std.specs.Bool.{OnTrue};
+ghost use Rattle.std.specs.List.{All};
+ghost use Rattle.teco_paths.specs.Paths.{Leads, LeadsOn};
+ghost use Rattle.teco_model.specs.Element.{seen};
+ghost use Rattle.teco_paths.specs.Steps.{AreKept, AreSpots, GoOn, IsInTime, IsPlain, IsRead, IsSmall, IsTextEnd, Passes};
+
+use crate::course::{Course, form_of};
+use crate::fault::PathFault;
+use crate::implied::{are_so, is_impossible, is_so};
+use crate::spot::Spot;
+use crate::targets::target;
+use std::alloc::Global;
+use teco_expansion::Nodes;
+use teco_linear::Form;
+use teco_model::kind::{Command, Flow, Stack, Storage};
+use teco_model::{Element, Kind};
+use teco_outcomes::case::Case;
+use teco_outcomes::elements::outcomes_of;
+use teco_outcomes::fault::Fault;
+use teco_outcomes::flow::turn;
+use teco_outcomes::forms::single;
+use teco_outcomes::measure::Single;
+use teco_outcomes::outcomes::Outcomes;
+
+// The most cases that an element may have.
+const MOST_CASES: usize = 4096;
+
+// The spots of the cases that are possible behind a node, by the way.
+fn kept(
+    nodes: &Nodes<'_>,
+    number: usize,
+    is_away: bool,
+    cases: Vec<Case>,
+    alloc: Global,
+) -> Result<Vec<Spot>, PathFault>
+    requires one { 0 < number }
+    requires last { number ≤ length nodes.now }
+    ensures { IfOk result (λ spots. AreKept nodes.now number is_away cases.items spots.items) }
+{
+    let mut rest = cases;
+    let mut spots = Vec::new(alloc);
+    'cases: for _ in 0..MOST_CASES {
+        let Some(case) = rest.pop() else {
+            return Ok(spots);
+        };
+        let is_none = is_impossible(&case, alloc)?;
+        if !is_none {
+            let number = target(nodes, number, is_away, &case)?;
+            spots.push(Spot { number, case })?;
+        }
+    }
+    Err(PathFault::TooLong)
+}
+
+// The outcomes of a step that changes nothing but the text that is executed.
+fn passing(case: &Case, alloc: Global) -> Result<Outcomes, Fault>
+    ensures { IfOk result (λ all. Passes case.now all) }
+{
+    turn(case, Flow::EndTest, 0, alloc)
+}
+
+// Whether an element may be followed: it writes no text of the library, is no command of files, and
+// its outcomes are told with where it leads.
+fn is_plain(nodes: &Nodes<'_>, number: usize, kind: Kind) -> bool
+    requires one { 0 < number }
+    requires last { number ≤ length nodes.now }
+    ensures { OnTrue result (IsPlain nodes.now number kind) }
+{
+    match kind {
+        Kind::File(_) | Kind::Search(_) | Kind::Call(_) => false,
+        Kind::Stack(Stack::Pop(_)) => !nodes.names_macro(number),
+        Kind::Command(Command::Storage(Storage::Copy(_))) => !nodes.names_macro(number),
+        Kind::Command(Command::Storage(Storage::SetText(_))) => !nodes.names_macro(number),
+        _ => true,
+    }
+}
+
+/// Whether what a case says of how much is held is within the size that is claimed.
+pub fn is_small(course: &Course<'_>, case: &Case, alloc: Global) -> Result<bool, PathFault>
+    ensures { IfOk result (λ answer. OnTrue answer (IsSmall course.now case.now)) }
+{
+    let size = form_of(course.size, alloc)?;
+    let held = single(case, Single::Held, alloc)?;
+    is_so(case, &size.sub(&held, alloc)?, alloc)
+}
+
+/// Whether the steps that a case says are within the commands that are claimed.
+pub fn is_in_time(course: &Course<'_>, case: &Case, alloc: Global) -> Result<bool, PathFault>
+    ensures { IfOk result (λ answer. OnTrue answer (IsInTime course.now case.now)) }
+{
+    let commands = form_of(course.commands, alloc)?;
+    let steps = single(case, Single::Steps, alloc)?;
+    is_so(case, &commands.sub(&steps, alloc)?, alloc)
+}
+
+// The spots of both ways.
+fn joined(first: Vec<Spot>, second: Vec<Spot>) -> Result<Vec<Spot>, PathFault>
+    ensures { IfOk result (λ all. all.items ≡ first.items ++ second.items) }
+{
+    let mut all = first;
+    let mut rest = second;
+    all.append(&mut rest)?;
+    Ok(all)
+}
+
+// The spots of outcomes behind a node.
+fn spots_of(
+    nodes: &Nodes<'_>,
+    number: usize,
+    outcomes: Outcomes,
+    alloc: Global,
+) -> Result<Vec<Spot>, PathFault>
+    requires one { 0 < number }
+    requires last { number ≤ length nodes.now }
+    ensures { IfOk result (λ spots. AreSpots nodes.now number outcomes spots.items) }
+{
+    let Outcomes {
+        conditions: _conditions,
+        cases,
+        away,
+    } = outcomes;
+    let behind = kept(nodes, number, false, cases, alloc)?;
+    let elsewhere = kept(nodes, number, true, away, alloc)?;
+    joined(behind, elsewhere)
+}
+
+// The spots behind an element.
+fn behind_element(
+    nodes: &Nodes<'_>,
+    number: usize,
+    case: &Case,
+    element: &Element,
+    alloc: Global,
+) -> Result<Vec<Spot>, PathFault>
+    requires one { 0 < number }
+    requires last { number ≤ length nodes.now }
+    requires reads { IsRead nodes.now number (Some (seen element.now)) }
+    ensures { IfOk result (λ spots. GoOn nodes.now number case.now spots.items) }
+{
+    teco_law_facts::laws::whole_is_kept();
+    teco_law_expansion::laws::steps_go_along_nodes();
+    teco_law_expansion::laws::stays_loaded();
+    teco_law_expansion::laws::nodes_are_sound();
+    if !is_plain(nodes, number, element.kind) {
+        return Err(PathFault::NotTold(number));
+    }
+    let Ok(outcomes) = outcomes_of(case, element, false, alloc) else {
+        return Err(PathFault::NotTold(number));
+    };
+    let is_asked = are_so(case, &outcomes.conditions, alloc)?;
+    if !is_asked {
+        return Err(PathFault::Condition(number));
+    }
+    spots_of(nodes, number, outcomes, alloc)
+}
+
+// The spots behind a call, or behind the end of a text.
+fn behind_text(
+    nodes: &Nodes<'_>,
+    number: usize,
+    case: &Case,
+    alloc: Global,
+) -> Result<Vec<Spot>, PathFault>
+    requires one { 0 < number }
+    requires last { number ≤ length nodes.now }
+    requires reads { IsTextEnd nodes.now number }
+    ensures { IfOk result (λ spots. GoOn nodes.now number case.now spots.items) }
+{
+    teco_law_facts::laws::whole_is_kept();
+    teco_law_expansion::laws::steps_go_along_nodes();
+    teco_law_expansion::laws::stays_loaded();
+    teco_law_expansion::laws::nodes_are_sound();
+    if nodes.ways(number) != 1 {
+        return Err(PathFault::NotTold(number));
+    }
+    let outcomes = passing(case, alloc)?;
+    let is_asked = are_so(case, &outcomes.conditions, alloc)?;
+    if !is_asked {
+        return Err(PathFault::Condition(number));
+    }
+    spots_of(nodes, number, outcomes, alloc)
+}
+
+// The spots behind a node.
+fn behind_node(
+    nodes: &Nodes<'_>,
+    number: usize,
+    case: &Case,
+    alloc: Global,
+) -> Result<Vec<Spot>, PathFault>
+    requires one { 0 < number }
+    requires last { number ≤ length nodes.now }
+    ensures { IfOk result (λ spots. GoOn nodes.now number case.now spots.items) }
+{
+    match nodes.element(number) {
+        Some(element) => match element.kind {
+            Kind::Call(_) => behind_text(nodes, number, case, alloc),
+            _ => behind_element(nodes, number, case, &element, alloc),
+        },
+        None => behind_text(nodes, number, case, alloc),
+    }
+}
+
+/// The spots behind one, from which a run ends if it does so from them, and holds no more than it
+/// may.
+pub fn behind(
+    course: &Course<'_>,
+    number: usize,
+    case: &Case,
+    alloc: Global,
+) -> Result<Vec<Spot>, PathFault>
+    ensures { IfOk result (λ spots.
+        All (LeadsOn course.now) spots.items → Leads course.now 1 number case.now) }
+{
+    if number == 0 || number > course.nodes.len() {
+        return Err(PathFault::NoElement(number));
+    }
+    let is_within = is_small(course, case, alloc)?;
+    if !is_within {
+        return Err(PathFault::Size(number));
+    }
+    behind_node(course.nodes, number, case, alloc)
+}

@@ -1,0 +1,31 @@
+//! Whether claims hang together.
+ghost use Rattle.std.specs.Prelude.{OnOk};
+ghost use Rattle.teco_paths.specs.Sure.{IsCertain};
+
+use crate::course::Course;
+use crate::cut::case_of;
+use crate::entry::entry_cut;
+use crate::fault::PathFault;
+use crate::following::{follow_case, follow_cuts};
+use std::alloc::Global;
+use teco_model::ArgumentRange;
+
+/// Follows all paths of a macro that may be declared to take an argument: from its entry and from
+/// each cut point to the next, or to the end. Where nothing is refused, every run of it ends in time.
+pub fn check_claims(
+    course: &Course<'_>,
+    argument: Option<ArgumentRange>,
+    alloc: Global,
+) -> Result<(), PathFault>
+    ensures { OnOk result
+        (IsCertain course.now.nodes argument course.now.commands course.now.size) }
+{
+    teco_law_expansion::laws::steps_are_alike();
+    teco_law_expansion::laws::runs_are_alike();
+    teco_law_expansion::laws::readings_are_alike();
+    teco_law_expansion::laws::numbers_are_pending();
+    let cut = entry_cut(argument, course.size, alloc)?;
+    let case = case_of(&cut, alloc)?;
+    follow_cuts(course, alloc)?;
+    follow_case(course, 1, &case, alloc)
+}
