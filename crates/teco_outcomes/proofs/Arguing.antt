@@ -23,35 +23,35 @@ use Rattle.teco_model.specs.declared.arguments.Level.{Level}
 use Rattle.teco_model.specs.declared.arguments.Operator.{Operator}
 use Rattle.teco_model.specs.declared.kind.Argument.TheVariants as argument
 use Rattle.teco_outcomes.specs.declared.arguments.TheConstants.{STEPS, PARTS, OPENS}
-use Rattle.teco_outcomes.specs.declared.case.Case.{Case}
-use Rattle.teco_outcomes.specs.declared.levels.TheConstants.{STEP}
-use Rattle.teco_outcomes.specs.declared.measure.Family.TheVariants.{Number, Length, Turns, PushedNumber, PushedLength}
-use Rattle.teco_outcomes.specs.declared.measure.Family.TheVariants.{First, Value}
-use Rattle.teco_outcomes.specs.declared.measure.Measure.{Measure}
-use Rattle.teco_outcomes.specs.declared.measure.Measure.TheVariants.{One, Each}
-use Rattle.teco_outcomes.specs.declared.measure.Single.{Single}
-use Rattle.teco_outcomes.specs.declared.measure.Single.TheVariants.{Steps, Pointer, Size, Held, LineEnd, LineStart}
-use Rattle.teco_outcomes.specs.declared.measure.Single.TheVariants.{LastLength}
-use Rattle.teco_outcomes.specs.declared.outcomes.Outcomes.{Outcomes}
+use Rattle.teco_rows.specs.declared.case.Case.{Case}
+use Rattle.teco_rows.specs.declared.levels.TheConstants.{STEP}
+use Rattle.teco_rows.specs.declared.measure.Family.TheVariants.{Number, Length, Turns, PushedNumber, PushedLength}
+use Rattle.teco_rows.specs.declared.measure.Family.TheVariants.{First, Value}
+use Rattle.teco_rows.specs.declared.measure.Measure.{Measure}
+use Rattle.teco_rows.specs.declared.measure.Measure.TheVariants.{One, Each}
+use Rattle.teco_rows.specs.declared.measure.Single.{Single}
+use Rattle.teco_rows.specs.declared.measure.Single.TheVariants.{Steps, Pointer, Size, Held, LineEnd, LineStart}
+use Rattle.teco_rows.specs.declared.measure.Single.TheVariants.{LastLength}
+use Rattle.teco_rows.specs.declared.outcomes.Outcomes.{Outcomes}
 use Rattle.teco_outcomes.specs.declared.pairs.TheConstants.{PAIRS}
-use Rattle.teco_outcomes.specs.declared.row.Clause.{Clause}
-use Rattle.teco_outcomes.specs.declared.row.Places.{Places}
-use Rattle.teco_outcomes.specs.declared.row.Step.{Step}
-use Rattle.teco_outcomes.specs.Cases.{value_if}
-use Rattle.teco_outcomes.specs.Commands.{EndsWith, IsAtLevel, IsCommanded}
-use Rattle.teco_outcomes.specs.Foretold.{Describe, Gives, IsOne, Makes, Rearranges, Succeeds, level_of, with_level}
-use Rattle.teco_outcomes.specs.Levels.{GivesPair, IsDeeper, IsOpened, IsOutermost, IsOutside, IsPaired, IsParted}
-use Rattle.teco_outcomes.specs.Levels.{Leaves, PartsAt}
-use Rattle.teco_outcomes.specs.Levels.{first_of, pair_level, with_arguments}
-use Rattle.teco_outcomes.specs.Rows.{AreMet, Before, Holds, changed}
-use Rattle.teco_outcomes.specs.States.{Point, IsLed, IsShape, IsTrueOf, WaitsFor, behind, each, from_end, levels}
-use Rattle.teco_outcomes.specs.States.{measures_of}
-use Rattle.teco_outcomes.proofs.Commanding.{read_at}
-use Rattle.teco_outcomes.proofs.Describing.{described, led_to}
-use Rattle.teco_outcomes.proofs.Giving.{describes_one, given_alone, given_to}
-use Rattle.teco_outcomes.proofs.Leading.{leaves, left_alone}
-use Rattle.teco_outcomes.proofs.Pending.{depth, first_there, level_at, level_same}
-use Rattle.teco_outcomes.proofs.Ways.{leaves_singles, single_alone}
+use Rattle.teco_rows.specs.declared.row.Clause.{Clause}
+use Rattle.teco_rows.specs.declared.row.Places.{Places}
+use Rattle.teco_rows.specs.declared.row.Step.{Step}
+use Rattle.teco_rows.specs.Cases.{value_if}
+use Rattle.teco_rows.specs.Commands.{EndsWith, IsAtLevel, IsCommanded}
+use Rattle.teco_rows.specs.Foretold.{Describe, Gives, IsOne, Makes, Rearranges, Succeeds, level_of, with_level}
+use Rattle.teco_rows.specs.Levels.{GivesPair, IsDeeper, IsOpened, IsOutermost, IsOutside, IsPaired, IsParted}
+use Rattle.teco_rows.specs.Levels.{Leaves, PartsAt}
+use Rattle.teco_rows.specs.Levels.{first_of, pair_level, with_arguments}
+use Rattle.teco_rows.specs.Rows.{AreMet, Before, Holds, changed}
+use Rattle.teco_rows.specs.States.{Point, IsLed, IsShape, IsTrueOf, WaitsFor, behind, each, from_end, levels}
+use Rattle.teco_rows.specs.States.{measures_of}
+use Rattle.teco_rows.proofs.Commanding.{read_at}
+use Rattle.teco_rows.proofs.Describing.{described, led_to}
+use Rattle.teco_rows.proofs.Giving.{describes_one, given_alone, given_to}
+use Rattle.teco_rows.proofs.Leading.{leaves, left_alone}
+use Rattle.teco_rows.proofs.Pending.{depth, first_there, level_at, level_same}
+use Rattle.teco_rows.proofs.Ways.{leaves_singles, single_alone}
 
 -- a row says nothing but of levels
 pub record IsOfLevels (row : List Clause) : Type 0 where

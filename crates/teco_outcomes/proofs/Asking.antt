@@ -15,23 +15,23 @@ use Rattle.teco_model.specs.Storage.{number_in, text_in}
 use Rattle.teco_model.specs.declared.arguments.Operator.{Operator}
 use Rattle.teco_model.specs.declared.kind.Query.TheVariants.{Number, Mode}
 use Rattle.teco_model.specs.laws.Whole.{AreBytes, IsWhole, IsWholePair}
-use Rattle.teco_outcomes.specs.declared.case.Case.{Case}
-use Rattle.teco_outcomes.specs.declared.measure.Single.{Single}
-use Rattle.teco_outcomes.specs.declared.measure.Single.TheVariants.{Steps, Pointer, Size, Held, LineEnd, LineStart}
-use Rattle.teco_outcomes.specs.declared.measure.Single.TheVariants.{LastLength}
-use Rattle.teco_outcomes.specs.declared.outcomes.Outcomes.{Outcomes}
+use Rattle.teco_rows.specs.declared.case.Case.{Case}
+use Rattle.teco_rows.specs.declared.measure.Single.{Single}
+use Rattle.teco_rows.specs.declared.measure.Single.TheVariants.{Steps, Pointer, Size, Held, LineEnd, LineStart}
+use Rattle.teco_rows.specs.declared.measure.Single.TheVariants.{LastLength}
+use Rattle.teco_rows.specs.declared.outcomes.Outcomes.{Outcomes}
 use Rattle.teco_outcomes.specs.declared.queries.TheConstants.{CHARACTER}
-use Rattle.teco_outcomes.specs.declared.row.Places.{Places}
-use Rattle.teco_outcomes.specs.Commands.{IsAtLevel, IsCommanded, Leads, commanded}
-use Rattle.teco_outcomes.specs.Foretold.{Describe, Gives, IsOne, Succeeds, with_level}
-use Rattle.teco_outcomes.specs.Queries.{Asks, GivesAny, Stands}
-use Rattle.teco_outcomes.specs.Cases.{value_if}
-use Rattle.teco_outcomes.specs.declared.measure.Family.TheVariants.{Value}
-use Rattle.teco_outcomes.specs.States.{Point, IsShape, IsTrueOf, behind, each, single}
-use Rattle.teco_outcomes.proofs.Commanding.{read_at}
-use Rattle.teco_outcomes.proofs.Giving.{describes_one}
-use Rattle.teco_outcomes.proofs.Leading.{answers, leads}
-use Rattle.teco_outcomes.proofs.Pending.{value_there}
+use Rattle.teco_rows.specs.declared.row.Places.{Places}
+use Rattle.teco_rows.specs.Commands.{IsAtLevel, IsCommanded, Leads, commanded}
+use Rattle.teco_rows.specs.Foretold.{Describe, Gives, GivesAny, IsOne, Succeeds, with_level}
+use Rattle.teco_outcomes.specs.Queries.{Asks, Stands}
+use Rattle.teco_rows.specs.Cases.{value_if}
+use Rattle.teco_rows.specs.declared.measure.Family.TheVariants.{Value}
+use Rattle.teco_rows.specs.States.{Point, IsShape, IsTrueOf, behind, each, single}
+use Rattle.teco_rows.proofs.Commanding.{read_at}
+use Rattle.teco_rows.proofs.Giving.{describes_one}
+use Rattle.teco_rows.proofs.Leading.{answers, leads}
+use Rattle.teco_rows.proofs.Pending.{value_there}
 use Rattle.teco_outcomes.proofs.Valuing.{levels_succeed}
 
 -- ---- whether a value stands

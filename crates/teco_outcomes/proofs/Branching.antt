@@ -30,24 +30,24 @@ use Rattle.teco_model.specs.declared.kind.Goal.{Goal}
 use Rattle.teco_model.specs.declared.kind.Goal.TheVariants as goal
 use Rattle.teco_model.specs.declared.kind.Kind.TheVariants as kind
 use Rattle.teco_model.specs.declared.kind.Test.{Test}
-use Rattle.teco_outcomes.specs.declared.case.Case.{Case}
-use Rattle.teco_outcomes.specs.declared.commands.Taken.{Taken}
-use Rattle.teco_outcomes.specs.declared.outcomes.Outcomes.{Outcomes}
+use Rattle.teco_rows.specs.declared.case.Case.{Case}
+use Rattle.teco_rows.specs.declared.commands.Taken.{Taken}
+use Rattle.teco_rows.specs.declared.outcomes.Outcomes.{Outcomes}
 use Rattle.teco_outcomes.specs.declared.ranges.Range.{Range}
 use Rattle.teco_outcomes.specs.declared.ranges.Ranges.{Ranges}
-use Rattle.teco_outcomes.specs.Cases.{value_if}
-use Rattle.teco_outcomes.specs.Commands.{IsTaken}
+use Rattle.teco_rows.specs.Cases.{value_if}
+use Rattle.teco_rows.specs.Commands.{IsTaken}
 use Rattle.teco_outcomes.specs.Flow as outcome
 use Rattle.teco_outcomes.specs.Flow.{AreLater, Counts, Enters, IsAgain, IsCounted, IsEnded, IsLeft, IsTurnOf}
 use Rattle.teco_outcomes.specs.Flow.{IsUncounted}
 use Rattle.teco_outcomes.specs.Flow.{IsInnermost, IsLater, Returns, turned}
-use Rattle.teco_outcomes.specs.Foretold.{Succeeds}
+use Rattle.teco_rows.specs.Foretold.{Succeeds}
 use Rattle.teco_outcomes.specs.Law.{IsMatched, IsOfIteration, LeadsOn, place_away}
-use Rattle.teco_outcomes.specs.Levels.{IsOutermost, with_arguments}
+use Rattle.teco_rows.specs.Levels.{IsOutermost, with_arguments}
 use Rattle.teco_outcomes.specs.Ranges.{AreBehindIn, IsIn, IsInOne}
-use Rattle.teco_outcomes.specs.States.{Point, IsTrueOf, Describes, measures_of}
-use Rattle.teco_outcomes.specs.declared.measure.Family.TheVariants.{Turns}
-use Rattle.teco_outcomes.specs.declared.measure.Measure.TheVariants.{Each}
+use Rattle.teco_rows.specs.States.{Point, IsTrueOf, Describes, measures_of}
+use Rattle.teco_rows.specs.declared.measure.Family.TheVariants.{Turns}
+use Rattle.teco_rows.specs.declared.measure.Measure.TheVariants.{Each}
 use Rattle.teco_outcomes.proofs.Turning.{read_left}
 
 -- one of a list of one

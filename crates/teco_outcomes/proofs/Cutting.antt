@@ -22,35 +22,35 @@ use Rattle.teco_model.specs.State.{Kept}
 use Rattle.teco_model.specs.declared.kind.Unit.{Unit as Deleted}
 use Rattle.teco_model.specs.declared.kind.Unit.TheVariants.{Characters, Lines}
 use Rattle.teco_model.specs.laws.Whole.{IsWhole}
-use Rattle.teco_outcomes.specs.declared.case.Case.{Case}
-use Rattle.teco_outcomes.specs.declared.commands.Taken.{Taken}
-use Rattle.teco_outcomes.specs.declared.commands.Way as command
+use Rattle.teco_rows.specs.declared.case.Case.{Case}
+use Rattle.teco_rows.specs.declared.commands.Taken.{Taken}
+use Rattle.teco_rows.specs.declared.commands.Way as command
 use Rattle.teco_outcomes.specs.declared.deletions.TheConstants.{CUTS, CUTS_PAST, CUTS_BACK, CUTS_BACK_PAST}
 use Rattle.teco_outcomes.specs.declared.deletions.TheConstants.{LINES, LINES_BACK, PART, PART_BACK}
-use Rattle.teco_outcomes.specs.declared.measure.Single.{Single}
-use Rattle.teco_outcomes.specs.declared.measure.Single.TheVariants.{Steps, Pointer, Size, Held, LineEnd, LineStart}
-use Rattle.teco_outcomes.specs.declared.measure.Single.TheVariants.{LastLength}
-use Rattle.teco_outcomes.specs.declared.measure.Measure.TheVariants.{One}
-use Rattle.teco_outcomes.specs.declared.outcomes.Outcomes.{Outcomes}
-use Rattle.teco_outcomes.specs.declared.row.Clause.{Clause}
-use Rattle.teco_outcomes.specs.declared.row.Places.{Places}
-use Rattle.teco_outcomes.specs.Cases.{value_if}
-use Rattle.teco_outcomes.specs.Commands.{AreCommanded, Leads, Performs, commanded}
+use Rattle.teco_rows.specs.declared.measure.Single.{Single}
+use Rattle.teco_rows.specs.declared.measure.Single.TheVariants.{Steps, Pointer, Size, Held, LineEnd, LineStart}
+use Rattle.teco_rows.specs.declared.measure.Single.TheVariants.{LastLength}
+use Rattle.teco_rows.specs.declared.measure.Measure.TheVariants.{One}
+use Rattle.teco_rows.specs.declared.outcomes.Outcomes.{Outcomes}
+use Rattle.teco_rows.specs.declared.row.Clause.{Clause}
+use Rattle.teco_rows.specs.declared.row.Places.{Places}
+use Rattle.teco_rows.specs.Cases.{value_if}
+use Rattle.teco_rows.specs.Commands.{AreCommanded, Leads, Performs, commanded}
 use Rattle.teco_outcomes.specs.Deletions.{CutsLines, CutsTo, DeletesCharacters, DeletesLines, DeletesPart, IsDone}
 use Rattle.teco_outcomes.specs.Deletions.{kept_without}
-use Rattle.teco_outcomes.specs.Foretold.{Begins, Describe}
+use Rattle.teco_rows.specs.Foretold.{Begins, Describe}
 use Rattle.teco_outcomes.specs.Motions.{IsPlace}
-use Rattle.teco_outcomes.specs.Rows.{AreMet, Before, changed}
-use Rattle.teco_outcomes.specs.States.{Point, IsTrueOf, single}
-use Rattle.teco_outcomes.proofs.Commanding.{read_at}
-use Rattle.teco_outcomes.proofs.Leading.{is_of_singles, leads_singles, performed}
-use Rattle.teco_outcomes.proofs.Lines.{IsEnd, IsBegin, line_end, line_begin, one_end, one_begin, end_before}
-use Rattle.teco_outcomes.proofs.Lines.{begin_before}
-use Rattle.teco_outcomes.proofs.Lines.{above_or}
+use Rattle.teco_rows.specs.Rows.{AreMet, Before, changed}
+use Rattle.teco_rows.specs.States.{Point, IsTrueOf, single}
+use Rattle.teco_rows.proofs.Commanding.{read_at}
+use Rattle.teco_rows.proofs.Leading.{is_of_singles, leads_singles, performed}
+use Rattle.teco_rows.proofs.Lines.{IsEnd, IsBegin, line_end, line_begin, one_end, one_begin, end_before}
+use Rattle.teco_rows.proofs.Lines.{begin_before}
+use Rattle.teco_rows.proofs.Lines.{above_or}
 use Rattle.teco_outcomes.proofs.Lining.{Counted, ahead_within, back_within}
 use Rattle.teco_outcomes.proofs.Moving.{place_there}
-use Rattle.teco_outcomes.proofs.Texts.{begin_kept, end_behind, length_after}
-use Rattle.teco_outcomes.proofs.Ways.{IsWay, by}
+use Rattle.teco_rows.proofs.Texts.{begin_kept, end_behind, length_after}
+use Rattle.teco_rows.proofs.Ways.{IsWay, by}
 
 -- ---- a text without a part
 module _ (text : List ℕ) (a b : ℕ) (ordered : a ≤ b) (inside : b ≤ length text) where

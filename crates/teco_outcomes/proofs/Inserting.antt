@@ -9,6 +9,7 @@ use Rattle.std.proofs.lemmas.Int.{ints}
 use Rattle.std.proofs.lemmas.List.{append_assoc}
 use Rattle.std.proofs.lemmas.List.Elements.{All-head}
 use Rattle.std.specs.List.{All}
+use Rattle.teco_base.specs.Arithmetic.{byte_of}
 use Rattle.teco_base.specs.Lines.{line_place}
 use Rattle.teco_base.specs.Text.{text_after_insertion}
 use Rattle.teco_base.specs.declared.TheConstants.{LIMIT}
@@ -19,35 +20,35 @@ use Rattle.teco_linear.specs.Form.{Valuation, value}
 use Rattle.teco_linear.specs.Implied as linear
 use Rattle.teco_model.specs.Effect.{no_answer}
 use Rattle.teco_model.specs.Element.{Element}
-use Rattle.teco_model.specs.Insertion.{insertion, insertion_of}
+use Rattle.teco_model.specs.Insertion.{insertion, insertion_of, insertion_with}
 use Rattle.teco_model.specs.State.{Kept}
 use Rattle.teco_model.specs.Storage.{retrieval, storage, text_in}
 use Rattle.teco_model.specs.declared.kind.Insertion.{Insertion}
 use Rattle.teco_model.specs.declared.kind.Insertion.TheVariants.{Text, Tab}
 use Rattle.teco_model.specs.declared.kind.Storage.TheVariants.{Get}
 use Rattle.teco_model.specs.laws.Whole.{IsWhole}
-use Rattle.teco_outcomes.specs.declared.case.Case.{Case}
-use Rattle.teco_outcomes.specs.declared.commands.Taken.{Taken}
-use Rattle.teco_outcomes.specs.declared.commands.Way as command
+use Rattle.teco_rows.specs.declared.case.Case.{Case}
+use Rattle.teco_rows.specs.declared.commands.Taken.{Taken}
+use Rattle.teco_rows.specs.declared.commands.Way as command
 use Rattle.teco_outcomes.specs.declared.insertions.TheConstants.{GOES_ON, PUTS, STARTS}
-use Rattle.teco_outcomes.specs.declared.measure.Single.{Single}
-use Rattle.teco_outcomes.specs.declared.measure.Single.TheVariants.{Steps, Pointer, Size, Held, LineEnd, LineStart}
-use Rattle.teco_outcomes.specs.declared.measure.Single.TheVariants.{LastLength}
-use Rattle.teco_outcomes.specs.declared.measure.Measure.TheVariants.{One}
-use Rattle.teco_outcomes.specs.declared.outcomes.Outcomes.{Outcomes}
-use Rattle.teco_outcomes.specs.declared.row.Places.{Places}
-use Rattle.teco_outcomes.specs.Cases.{value_if}
-use Rattle.teco_outcomes.specs.Commands.{AreCommanded, Leads, Performs, commanded}
+use Rattle.teco_rows.specs.declared.measure.Single.{Single}
+use Rattle.teco_rows.specs.declared.measure.Single.TheVariants.{Steps, Pointer, Size, Held, LineEnd, LineStart}
+use Rattle.teco_rows.specs.declared.measure.Single.TheVariants.{LastLength}
+use Rattle.teco_rows.specs.declared.measure.Measure.TheVariants.{One}
+use Rattle.teco_rows.specs.declared.outcomes.Outcomes.{Outcomes}
+use Rattle.teco_rows.specs.declared.row.Places.{Places}
+use Rattle.teco_rows.specs.Cases.{value_if}
+use Rattle.teco_rows.specs.Commands.{AreCommanded, Leads, Performs, commanded}
 use Rattle.teco_outcomes.specs.Deletions.{IsDone}
-use Rattle.teco_outcomes.specs.Foretold.{Describe}
-use Rattle.teco_outcomes.specs.Insertions.{HasRoom, Inserts}
-use Rattle.teco_outcomes.specs.Rows.{Before, changed}
-use Rattle.teco_outcomes.specs.States.{Point, IsTrueOf, single}
-use Rattle.teco_outcomes.proofs.Commanding.{read_at}
-use Rattle.teco_outcomes.proofs.Leading.{leads_singles, performed}
-use Rattle.teco_outcomes.proofs.Lines.{ends, IsEnd, IsBegin, line_end, line_begin, one_end, one_begin, above_or}
-use Rattle.teco_outcomes.proofs.Texts.{begin_kept, begin_new, end_behind, length_after}
-use Rattle.teco_outcomes.proofs.Ways.{IsWay, by}
+use Rattle.teco_rows.specs.Foretold.{Describe}
+use Rattle.teco_outcomes.specs.Insertions.{HasRoom, Inserts, InsertsAny, InsertsByte}
+use Rattle.teco_rows.specs.Rows.{Before, changed}
+use Rattle.teco_rows.specs.States.{Point, IsTrueOf, single}
+use Rattle.teco_rows.proofs.Commanding.{read_at}
+use Rattle.teco_rows.proofs.Leading.{leads_singles, performed}
+use Rattle.teco_rows.proofs.Lines.{ends, IsEnd, IsBegin, line_end, line_begin, one_end, one_begin, above_or}
+use Rattle.teco_rows.proofs.Texts.{begin_kept, begin_new, end_behind, length_after}
+use Rattle.teco_rows.proofs.Ways.{IsWay, by}
 
 -- ---- where the last line of a text starts
 pub starts_at_first : (text : List ℕ) → line_place text 0 (pos 0) ≡ 0
@@ -315,3 +316,45 @@ gets case ways taken register colons long here all are w0 none long_is room e sa
         room n v s begins.true_of begins.conditions,
         long_is n v s begins.true_of begins.whole,
       )
+
+-- ---- nI
+pub inserts_any : (case : Case) (ways : List command.Way) (long : List Term) (here : Places) (all : Outcomes)
+    → AreCommanded case ways (long ∷ []) here all.cases.items → IsWay ways 0 PUTS
+    → ((n : ℕ) (v : Valuation) → value long n v ≡ pos 1) → HasRoom long case all.conditions.items → InsertsAny case all
+inserts_any case ways long here all are w0 long_is room n v s new begins one =
+    performed n all s _ (no_answer (kept_with new s.kept)) (inserted new s.kept fits)
+    (by n v case ways (long ∷ []) here all 0 PUTS s (kept_with new s.kept) None
+    (λ i. pos (line_place (text_after_insertion s.kept.text s.kept.pointer new) (s.kept.pointer + length new) (pos 0)))
+    are w0 begins.true_of
+    (puts s here (read_one long n v) _ new begins.whole.inside (long_is n v ∙ ap pos (sym one)) refl)) where
+      fits : length (text_after_insertion s.kept.text s.kept.pointer new) ≤ LIMIT
+      fits = omega (
+        arith,
+        ints,
+        grown_long s.kept.text new s.kept.pointer begins.whole.inside,
+        room n v s begins.true_of begins.conditions,
+        long_is n v,
+      )
+
+pub inserts_known : (case : Case) (form : List Term) (byte : ℕ) (all : Outcomes)
+    → ((n : ℕ) (v : Valuation) → byte_of (value form n v) ≡ byte) → Inserts (byte ∷ []) case all
+    → InsertsByte form case all
+inserts_known case form byte all is told n v s begins =
+    subst (λ b. IsDone n all s (insertion_of (b ∷ []) s.kept)) (sym (is n v)) (told n v s begins)
+
+pub inserts_unknown : (case : Case) (form : List Term) (all : Outcomes) → InsertsAny case all
+    → InsertsByte form case all
+inserts_unknown case form all told n v s begins = told n v s (byte_of (value form n v) ∷ []) begins refl
+
+no_text : (text : List ℕ) → length text ≡ 0 → text ≡ []
+no_text [] h = refl
+no_text (c ∷ text) h = absurd (omega arith)
+
+pub inserts_number : (case : Case) (kind : Insertion) (taken : Taken) (form : List Term) (text : List ℕ) (all : Outcomes)
+    → kind ≡ Text → taken.value ≡ Some form → length text ≡ 0 → InsertsByte form case all → (e : Element) → e.text ≡ text
+    → Performs (insertion kind e) taken case all
+inserts_number case kind taken form text all k value_is none told e same n v s begins =
+    subst (λ j. IsDone n all s (insertion_with j e.text (value_if taken.value n v) s.kept)) (sym k)
+    (subst (λ x. IsDone n all s (insertion_with Text e.text (value_if x n v) s.kept)) (sym value_is)
+    (subst (λ t. IsDone n all s (insertion_with Text t (Some (value form n v)) s.kept)) (sym (same ∙ no_text text none))
+    (told n v s begins)))

@@ -1,24 +1,10 @@
--- Lemmas of cases and rows.
-pub mod Sums
-pub mod Copies
-pub mod Following
-pub mod Applying
-pub mod Pending
-pub mod Describing
-pub mod Giving
-pub mod Commanding
-pub mod Leading
-pub mod Ways
+-- Lemmas of elements.
 pub mod Storing
-pub mod Lines
-pub mod Texts
 pub mod Moving
 pub mod Valuing
 pub mod Arguing
-pub mod Closing
 pub mod Asking
 pub mod Stepping
-pub mod Registering
 pub mod Ranging
 pub mod Turning
 pub mod Branching
@@ -26,3 +12,10 @@ pub mod Pushing
 pub mod Cutting
 pub mod Lining
 pub mod Inserting
+pub mod Matching
+pub mod Searching
+pub mod Seeking
+pub mod Reading
+pub mod Copying
+pub mod Writing
+pub mod Parting

@@ -14,28 +14,28 @@ use Rattle.teco_model.specs.Element.{Element}
 use Rattle.teco_model.specs.Motion.{motion}
 use Rattle.teco_model.specs.State.{Kept}
 use Rattle.teco_model.specs.declared.kind.Motion.TheVariants as kind
-use Rattle.teco_outcomes.specs.declared.case.Case.{Case}
-use Rattle.teco_outcomes.specs.declared.commands.Taken.{Taken}
-use Rattle.teco_outcomes.specs.declared.commands.Way as command
+use Rattle.teco_rows.specs.declared.case.Case.{Case}
+use Rattle.teco_rows.specs.declared.commands.Taken.{Taken}
+use Rattle.teco_rows.specs.declared.commands.Way as command
 use Rattle.teco_outcomes.specs.declared.line_motions.TheConstants.{STAYS, STEPS, LAST, STARTS, AHEAD, BACK}
-use Rattle.teco_outcomes.specs.declared.measure.Single.{Single}
-use Rattle.teco_outcomes.specs.declared.measure.Single.TheVariants.{Steps, Pointer, Size, Held, LineEnd, LineStart}
-use Rattle.teco_outcomes.specs.declared.measure.Single.TheVariants.{LastLength}
-use Rattle.teco_outcomes.specs.declared.measure.Measure.TheVariants.{One}
-use Rattle.teco_outcomes.specs.declared.outcomes.Outcomes.{Outcomes}
-use Rattle.teco_outcomes.specs.declared.row.Clause.{Clause}
-use Rattle.teco_outcomes.specs.declared.row.Places.{Places}
-use Rattle.teco_outcomes.specs.Cases.{value_if}
-use Rattle.teco_outcomes.specs.Commands.{AreCommanded, Leads, Performs, commanded}
-use Rattle.teco_outcomes.specs.Foretold.{Describe}
+use Rattle.teco_rows.specs.declared.measure.Single.{Single}
+use Rattle.teco_rows.specs.declared.measure.Single.TheVariants.{Steps, Pointer, Size, Held, LineEnd, LineStart}
+use Rattle.teco_rows.specs.declared.measure.Single.TheVariants.{LastLength}
+use Rattle.teco_rows.specs.declared.measure.Measure.TheVariants.{One}
+use Rattle.teco_rows.specs.declared.outcomes.Outcomes.{Outcomes}
+use Rattle.teco_rows.specs.declared.row.Clause.{Clause}
+use Rattle.teco_rows.specs.declared.row.Places.{Places}
+use Rattle.teco_rows.specs.Cases.{value_if}
+use Rattle.teco_rows.specs.Commands.{AreCommanded, Leads, Performs, commanded}
+use Rattle.teco_rows.specs.Foretold.{Describe}
 use Rattle.teco_outcomes.specs.LineMotions.{GoesBy, GoesLines, gone_by}
-use Rattle.teco_outcomes.specs.Rows.{Before, changed}
-use Rattle.teco_outcomes.specs.States.{IsTrueOf, Point, single}
-use Rattle.teco_outcomes.proofs.Commanding.{read_at}
-use Rattle.teco_outcomes.proofs.Leading.{leads_singles}
-use Rattle.teco_outcomes.proofs.Lines.{ends, IsEnd, IsBegin, line_end, line_begin, one_begin, end_before}
-use Rattle.teco_outcomes.proofs.Lines.{begin_before, begin_most, end_inside, end_least, clash, above_or}
-use Rattle.teco_outcomes.proofs.Ways.{IsWay, by}
+use Rattle.teco_rows.specs.Rows.{Before, changed}
+use Rattle.teco_rows.specs.States.{IsTrueOf, Point, single}
+use Rattle.teco_rows.proofs.Commanding.{read_at}
+use Rattle.teco_rows.proofs.Leading.{leads_singles}
+use Rattle.teco_rows.proofs.Lines.{ends, IsEnd, IsBegin, line_end, line_begin, one_begin, end_before}
+use Rattle.teco_rows.proofs.Lines.{begin_before, begin_most, end_inside, end_least, clash, above_or}
+use Rattle.teco_rows.proofs.Ways.{IsWay, by}
 
 -- ---- where line places may lie
 -- of each item, and of what stands for one that is not there

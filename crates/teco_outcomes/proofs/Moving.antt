@@ -17,30 +17,30 @@ use Rattle.teco_model.specs.declared.kind.Motion.TheVariants.{Forward, Backward,
 use Rattle.teco_model.specs.Places.{place_in}
 use Rattle.teco_model.specs.State.{Kept}
 use Rattle.teco_model.specs.laws.Whole.{IsWhole}
-use Rattle.teco_outcomes.specs.declared.case.Case.{Case}
-use Rattle.teco_outcomes.specs.declared.measure.Single.{Single}
-use Rattle.teco_outcomes.specs.declared.measure.Single.TheVariants.{Steps, Pointer, Size, Held, LineEnd, LineStart}
-use Rattle.teco_outcomes.specs.declared.measure.Single.TheVariants.{LastLength}
-use Rattle.teco_outcomes.specs.declared.measure.Measure.TheVariants.{One, Each}
-use Rattle.teco_outcomes.specs.declared.measure.Family.TheVariants.{Number, Length, Turns, PushedNumber, PushedLength}
-use Rattle.teco_outcomes.specs.declared.measure.Family.TheVariants.{First, Value}
-use Rattle.teco_outcomes.specs.Cases.{value_if}
-use Rattle.teco_outcomes.specs.declared.commands.Taken.{Taken}
-use Rattle.teco_outcomes.specs.declared.commands.Way as command
+use Rattle.teco_rows.specs.declared.case.Case.{Case}
+use Rattle.teco_rows.specs.declared.measure.Single.{Single}
+use Rattle.teco_rows.specs.declared.measure.Single.TheVariants.{Steps, Pointer, Size, Held, LineEnd, LineStart}
+use Rattle.teco_rows.specs.declared.measure.Single.TheVariants.{LastLength}
+use Rattle.teco_rows.specs.declared.measure.Measure.TheVariants.{One, Each}
+use Rattle.teco_rows.specs.declared.measure.Family.TheVariants.{Number, Length, Turns, PushedNumber, PushedLength}
+use Rattle.teco_rows.specs.declared.measure.Family.TheVariants.{First, Value}
+use Rattle.teco_rows.specs.Cases.{value_if}
+use Rattle.teco_rows.specs.declared.commands.Taken.{Taken}
+use Rattle.teco_rows.specs.declared.commands.Way as command
 use Rattle.teco_outcomes.specs.declared.motions.TheConstants.{AHEAD, WITHIN, BACK, FOUND, BEFORE, BEHIND}
-use Rattle.teco_outcomes.specs.declared.outcomes.Outcomes.{Outcomes}
-use Rattle.teco_outcomes.specs.declared.row.Clause.{Clause}
-use Rattle.teco_outcomes.specs.declared.row.Places.{Places}
-use Rattle.teco_outcomes.specs.Rows.{Before, AreMet, changed}
-use Rattle.teco_outcomes.specs.States.{Point, IsTrueOf, each, single}
-use Rattle.teco_outcomes.specs.Foretold.{Describe, Succeeds}
-use Rattle.teco_outcomes.specs.Commands.{AreCommanded, IsAtLevel, Leads, Performs, commanded, taken_by}
+use Rattle.teco_rows.specs.declared.outcomes.Outcomes.{Outcomes}
+use Rattle.teco_rows.specs.declared.row.Clause.{Clause}
+use Rattle.teco_rows.specs.declared.row.Places.{Places}
+use Rattle.teco_rows.specs.Rows.{Before, AreMet, changed}
+use Rattle.teco_rows.specs.States.{Point, IsTrueOf, each, single}
+use Rattle.teco_rows.specs.Foretold.{Describe, Succeeds}
+use Rattle.teco_rows.specs.Commands.{AreCommanded, IsAtLevel, Leads, Performs, commanded, taken_by}
 use Rattle.teco_outcomes.specs.Motions.{GoesTo, IsPlace, IsToPlace}
-use Rattle.teco_outcomes.proofs.Commanding.{read_at}
-use Rattle.teco_outcomes.proofs.Leading.{leads, leaves, left_alone, answers, performed}
-use Rattle.teco_outcomes.proofs.Ways.{IsWay, by, answering}
-use Rattle.teco_outcomes.proofs.Lines.{IsEnd, IsBegin, line_end, line_begin, end_before, begin_before, end_inside}
-use Rattle.teco_outcomes.proofs.Lines.{end_least, above_or}
+use Rattle.teco_rows.proofs.Commanding.{read_at}
+use Rattle.teco_rows.proofs.Leading.{leads, leaves, left_alone, answers, performed}
+use Rattle.teco_rows.proofs.Ways.{IsWay, by, answering}
+use Rattle.teco_rows.proofs.Lines.{IsEnd, IsBegin, line_end, line_begin, end_before, begin_before, end_inside}
+use Rattle.teco_rows.proofs.Lines.{end_least, above_or}
 
 -- what the line places are at another place
 pub record IsMoved (text : List ℕ) (p x e s f t : ℕ) : Type 0 where

@@ -19,29 +19,29 @@ use Rattle.teco_model.specs.Storage.{push}
 use Rattle.teco_model.specs.declared.arguments.Operator.{Operator}
 use Rattle.teco_model.specs.declared.kind.Stack.TheVariants.{Push, Pop}
 use Rattle.teco_model.specs.laws.Whole.{IsWhole}
-use Rattle.teco_outcomes.specs.declared.case.Case.{Case}
-use Rattle.teco_outcomes.specs.declared.case.Shape.{Shape}
-use Rattle.teco_outcomes.specs.declared.measure.Family.TheVariants.{Number, Length, Turns, PushedNumber, PushedLength}
-use Rattle.teco_outcomes.specs.declared.measure.Family.TheVariants.{First, Value}
-use Rattle.teco_outcomes.specs.declared.measure.Measure.{Measure}
-use Rattle.teco_outcomes.specs.declared.measure.Measure.TheVariants.{One, Each}
-use Rattle.teco_outcomes.specs.declared.measure.Single.TheVariants.{Steps, Pointer, Size, Held, LineEnd, LineStart}
-use Rattle.teco_outcomes.specs.declared.measure.Single.TheVariants.{LastLength}
-use Rattle.teco_outcomes.specs.declared.outcomes.Outcomes.{Outcomes}
+use Rattle.teco_rows.specs.declared.case.Case.{Case}
+use Rattle.teco_rows.specs.declared.case.Shape.{Shape}
+use Rattle.teco_rows.specs.declared.measure.Family.TheVariants.{Number, Length, Turns, PushedNumber, PushedLength}
+use Rattle.teco_rows.specs.declared.measure.Family.TheVariants.{First, Value}
+use Rattle.teco_rows.specs.declared.measure.Measure.{Measure}
+use Rattle.teco_rows.specs.declared.measure.Measure.TheVariants.{One, Each}
+use Rattle.teco_rows.specs.declared.measure.Single.TheVariants.{Steps, Pointer, Size, Held, LineEnd, LineStart}
+use Rattle.teco_rows.specs.declared.measure.Single.TheVariants.{LastLength}
+use Rattle.teco_rows.specs.declared.outcomes.Outcomes.{Outcomes}
 use Rattle.teco_outcomes.specs.declared.pushes.TheConstants.{PUSHES, POPS}
-use Rattle.teco_outcomes.specs.declared.row.Step.{Step}
-use Rattle.teco_outcomes.specs.Cases.{Carries, read_with}
-use Rattle.teco_outcomes.specs.Foretold.{Describe, Foretells, IsOne, Succeeds}
+use Rattle.teco_rows.specs.declared.row.Step.{Step}
+use Rattle.teco_rows.specs.Cases.{Carries, read_with}
+use Rattle.teco_rows.specs.Foretold.{Describe, Foretells, IsOne, Succeeds}
 use Rattle.teco_outcomes.specs.Pushes.{IsPopped, IsPushed, IsStacked, kept_with_popped}
-use Rattle.teco_outcomes.specs.Rows.{Before, Holds, changed}
-use Rattle.teco_outcomes.specs.States.{Describes, Point, IsLast, IsShape, IsTrueOf, WaitsFor, behind, from_end}
-use Rattle.teco_outcomes.specs.States.{length_of, measures_of}
-use Rattle.teco_outcomes.specs.States.{number_of, operators_of}
-use Rattle.teco_outcomes.proofs.Closing.{beyond, equal_is}
-use Rattle.teco_outcomes.proofs.Describing.{described}
-use Rattle.teco_outcomes.proofs.Giving.{describes_one}
-use Rattle.teco_outcomes.proofs.Pending.{innermost}
-use Rattle.teco_outcomes.proofs.Registering.{length_set, number_set, pair_there}
+use Rattle.teco_rows.specs.Rows.{Before, Holds, changed}
+use Rattle.teco_rows.specs.States.{Describes, Point, IsLast, IsShape, IsTrueOf, WaitsFor, behind, from_end}
+use Rattle.teco_rows.specs.States.{length_of, measures_of}
+use Rattle.teco_rows.specs.States.{number_of, operators_of}
+use Rattle.teco_rows.proofs.Closing.{beyond, equal_is}
+use Rattle.teco_rows.proofs.Describing.{described}
+use Rattle.teco_rows.proofs.Giving.{describes_one}
+use Rattle.teco_rows.proofs.Pending.{innermost}
+use Rattle.teco_rows.proofs.Registering.{length_set, number_set, pair_there}
 
 abbrev nothing : ℕ → ℤ
 nothing i = pos 0

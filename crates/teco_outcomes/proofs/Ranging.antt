@@ -9,10 +9,10 @@ use Rattle.teco_model.specs.Condition.{holds, is_code_of, is_negative, is_positi
 use Rattle.teco_model.specs.Flow.{leaves}
 use Rattle.teco_model.specs.declared.kind.Test.{Test}
 use Rattle.teco_model.specs.declared.kind.Test.TheVariants as test
-use Rattle.teco_outcomes.specs.declared.row.Clause.{Clause}
-use Rattle.teco_outcomes.specs.declared.row.Clause.TheVariants.{Wants}
-use Rattle.teco_outcomes.specs.declared.row.Of.TheVariants.{Given}
-use Rattle.teco_outcomes.specs.declared.levels.TheConstants.{NO}
+use Rattle.teco_rows.specs.declared.row.Clause.{Clause}
+use Rattle.teco_rows.specs.declared.row.Clause.TheVariants.{Wants}
+use Rattle.teco_rows.specs.declared.row.Of.TheVariants.{Given}
+use Rattle.teco_rows.specs.declared.levels.TheConstants.{NO}
 use Rattle.teco_outcomes.specs.declared.ranges.Range.{Range}
 use Rattle.teco_outcomes.specs.declared.ranges.Range.TheVariants.{Any, From, UpTo, Between}
 use Rattle.teco_outcomes.specs.declared.ranges.Ranges.{Ranges}

@@ -17,15 +17,15 @@ use Rattle.teco_model.specs.declared.kind.Kind.TheVariants as kind
 use Rattle.teco_model.specs.declared.kind.Query.{Query}
 use Rattle.teco_model.specs.declared.kind.Stack.{Stack}
 use Rattle.teco_model.specs.declared.kind.Value.{Value}
-use Rattle.teco_outcomes.specs.declared.case.Case.{Case}
-use Rattle.teco_outcomes.specs.declared.commands.Taken.{Taken}
-use Rattle.teco_outcomes.specs.declared.outcomes.Outcomes.{Outcomes}
-use Rattle.teco_outcomes.specs.Commands.{IsTaken, Performs, commanded, taken_by}
-use Rattle.teco_outcomes.specs.Foretold.{Describe, Foretells, Rearranges, Succeeds}
+use Rattle.teco_rows.specs.declared.case.Case.{Case}
+use Rattle.teco_rows.specs.declared.commands.Taken.{Taken}
+use Rattle.teco_rows.specs.declared.outcomes.Outcomes.{Outcomes}
+use Rattle.teco_rows.specs.Commands.{IsTaken, Performs, commanded, taken_by}
+use Rattle.teco_rows.specs.Foretold.{Describe, Foretells, Rearranges, Succeeds}
 use Rattle.teco_outcomes.specs.Flow.{IsTurnOf, Turns}
 use Rattle.teco_outcomes.specs.Law.{Goes, Law, StepsTo, loops_in, point_of}
 use Rattle.teco_outcomes.specs.Queries.{Asks}
-use Rattle.teco_outcomes.specs.States.{Point, behind}
+use Rattle.teco_rows.specs.States.{Point, behind}
 
 -- an element that works on the editor alone goes on behind itself
 pub editor_law : (e : Element) (case : Case) (all : Outcomes) (performed : Point → Result going.After Code)

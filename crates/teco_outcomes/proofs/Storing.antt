@@ -15,21 +15,21 @@ use Rattle.teco_model.specs.Element.{Element}
 use Rattle.teco_model.specs.Storage.{kept_with_number, number_in, storage}
 use Rattle.teco_model.specs.declared.kind.Storage.TheVariants.{SetNumber, Add}
 use Rattle.teco_model.specs.laws.Whole.{IsWhole}
-use Rattle.teco_outcomes.specs.declared.measure.Single.{Single}
-use Rattle.teco_outcomes.specs.declared.measure.Single.TheVariants.{Steps, Pointer, Size, Held, LineEnd, LineStart}
-use Rattle.teco_outcomes.specs.declared.measure.Single.TheVariants.{LastLength}
-use Rattle.teco_outcomes.specs.declared.case.Case.{Case}
-use Rattle.teco_outcomes.specs.declared.commands.Taken.{Taken}
-use Rattle.teco_outcomes.specs.declared.outcomes.Outcomes.{Outcomes}
-use Rattle.teco_outcomes.specs.Cases.{value_if}
-use Rattle.teco_outcomes.specs.Foretold.{IsOne}
-use Rattle.teco_outcomes.specs.declared.row.Places.{Places}
+use Rattle.teco_rows.specs.declared.measure.Single.{Single}
+use Rattle.teco_rows.specs.declared.measure.Single.TheVariants.{Steps, Pointer, Size, Held, LineEnd, LineStart}
+use Rattle.teco_rows.specs.declared.measure.Single.TheVariants.{LastLength}
+use Rattle.teco_rows.specs.declared.case.Case.{Case}
+use Rattle.teco_rows.specs.declared.commands.Taken.{Taken}
+use Rattle.teco_rows.specs.declared.outcomes.Outcomes.{Outcomes}
+use Rattle.teco_rows.specs.Cases.{value_if}
+use Rattle.teco_rows.specs.Foretold.{IsOne}
+use Rattle.teco_rows.specs.declared.row.Places.{Places}
 use Rattle.teco_outcomes.specs.declared.storages.TheConstants.{STORES, ADDS, ADDS_WRAPPED}
-use Rattle.teco_outcomes.specs.States.{Point, IsTrueOf, single, number_of, length_of}
-use Rattle.teco_outcomes.specs.Commands.{IsAtLevel, IsCommanded, Leads, Performs, commanded}
-use Rattle.teco_outcomes.proofs.Commanding.{read_at}
-use Rattle.teco_outcomes.proofs.Leading.{leads, answers, performed, by_row}
-use Rattle.teco_outcomes.proofs.Registering.{number_set, lengths_stay}
+use Rattle.teco_rows.specs.States.{Point, IsTrueOf, single, number_of, length_of}
+use Rattle.teco_rows.specs.Commands.{IsAtLevel, IsCommanded, Leads, Performs, commanded}
+use Rattle.teco_rows.proofs.Commanding.{read_at}
+use Rattle.teco_rows.proofs.Leading.{leads, answers, performed, by_row}
+use Rattle.teco_rows.proofs.Registering.{number_set, lengths_stay}
 
 module _ (s : Point) (here : Places) (given unknown : ℕ → ℤ) (x : ℤ) (whole : IsWhole s.kept)
     (in' : here.register < REGISTERS) where

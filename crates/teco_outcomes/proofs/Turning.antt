@@ -9,41 +9,41 @@ use Rattle.teco_linear.specs.Form.{Valuation, value}
 use Rattle.teco_model.specs.Arguments.{levels_after_taking}
 use Rattle.teco_model.specs.declared.arguments.Operator.{Operator}
 use Rattle.teco_model.specs.declared.flow.Loop.{Loop}
-use Rattle.teco_outcomes.specs.declared.case.Case.{Case}
-use Rattle.teco_outcomes.specs.declared.case.Shape.{Shape}
+use Rattle.teco_rows.specs.declared.case.Case.{Case}
+use Rattle.teco_rows.specs.declared.case.Shape.{Shape}
 use Rattle.teco_outcomes.specs.declared.arguments.TheConstants.{STEPS}
-use Rattle.teco_outcomes.specs.declared.commands.TheConstants.{TAKES}
+use Rattle.teco_rows.specs.declared.commands.TheConstants.{TAKES}
 use Rattle.teco_outcomes.specs.declared.flow.TheConstants.{AGAIN, COUNTS, COUNTS_NOT, ENDS, TURNS}
-use Rattle.teco_outcomes.specs.declared.measure.Family.TheVariants.{Number, Length, Turns, PushedNumber, PushedLength}
-use Rattle.teco_outcomes.specs.declared.measure.Family.TheVariants.{First, Value}
-use Rattle.teco_outcomes.specs.declared.measure.Measure.{Measure}
-use Rattle.teco_outcomes.specs.declared.measure.Measure.TheVariants.{One, Each}
-use Rattle.teco_outcomes.specs.declared.measure.Single.TheVariants.{Steps, Pointer, Size, Held, LineEnd, LineStart}
-use Rattle.teco_outcomes.specs.declared.measure.Single.TheVariants.{LastLength}
+use Rattle.teco_rows.specs.declared.measure.Family.TheVariants.{Number, Length, Turns, PushedNumber, PushedLength}
+use Rattle.teco_rows.specs.declared.measure.Family.TheVariants.{First, Value}
+use Rattle.teco_rows.specs.declared.measure.Measure.{Measure}
+use Rattle.teco_rows.specs.declared.measure.Measure.TheVariants.{One, Each}
+use Rattle.teco_rows.specs.declared.measure.Single.TheVariants.{Steps, Pointer, Size, Held, LineEnd, LineStart}
+use Rattle.teco_rows.specs.declared.measure.Single.TheVariants.{LastLength}
 use Rattle.teco_outcomes.specs.declared.ranges.Range.{Range}
 use Rattle.teco_outcomes.specs.declared.ranges.Ranges.{Ranges}
-use Rattle.teco_outcomes.specs.declared.row.Clause.{Clause}
-use Rattle.teco_outcomes.specs.declared.row.Clause.TheVariants.{Drops}
-use Rattle.teco_outcomes.specs.declared.row.Places.{Places}
-use Rattle.teco_outcomes.specs.declared.row.Step.{Step}
-use Rattle.teco_outcomes.specs.Cases.{Carries, read_with}
-use Rattle.teco_outcomes.specs.Commands.{IsAtLevel, IsCommanded, Leads, commanded}
+use Rattle.teco_rows.specs.declared.row.Clause.{Clause}
+use Rattle.teco_rows.specs.declared.row.Clause.TheVariants.{Drops}
+use Rattle.teco_rows.specs.declared.row.Places.{Places}
+use Rattle.teco_rows.specs.declared.row.Step.{Step}
+use Rattle.teco_rows.specs.Cases.{Carries, read_with}
+use Rattle.teco_rows.specs.Commands.{IsAtLevel, IsCommanded, Leads, commanded}
 use Rattle.teco_outcomes.specs.Flow.{HasIterations, IsAgain, IsCounted, IsEnded, IsInnermost, IsLater, IsLeft}
 use Rattle.teco_outcomes.specs.Flow.{IsNext, IsTurned, IsUncounted, turned}
 use Rattle.teco_outcomes.specs.Flow.{turns_left}
-use Rattle.teco_outcomes.specs.Levels.{IsOutermost, with_arguments}
+use Rattle.teco_rows.specs.Levels.{IsOutermost, with_arguments}
 use Rattle.teco_outcomes.specs.Ranges.{AreBehindIn, IsBehindIn, IsInOther, Says}
-use Rattle.teco_outcomes.specs.Rows.{AreMet, Before, Holds, changed}
-use Rattle.teco_outcomes.specs.States.{Describes, Point, IsLast, IsLed, IsTrueOf, WaitsFor, each, from_end, measures_of}
-use Rattle.teco_outcomes.specs.States.{operators_of}
-use Rattle.teco_outcomes.proofs.Applying.{changed-append}
-use Rattle.teco_outcomes.proofs.Closing.{beyond, equal_is}
+use Rattle.teco_rows.specs.Rows.{AreMet, Before, Holds, changed}
+use Rattle.teco_rows.specs.States.{Describes, Point, IsLast, IsLed, IsTrueOf, WaitsFor, each, from_end, measures_of}
+use Rattle.teco_rows.specs.States.{operators_of}
+use Rattle.teco_rows.proofs.Applying.{changed-append}
+use Rattle.teco_rows.proofs.Closing.{beyond, equal_is}
 use Rattle.teco_outcomes.proofs.Arguing.{of_levels, rearranges}
-use Rattle.teco_outcomes.proofs.Commanding.{read_at, takes}
-use Rattle.teco_outcomes.proofs.Describing.{described}
-use Rattle.teco_outcomes.proofs.Leading.{leaves as leaves_family, left_alone}
-use Rattle.teco_outcomes.proofs.Pending.{innermost}
-use Rattle.teco_outcomes.proofs.Ways.{leaves_singles, met_both, single_alone}
+use Rattle.teco_rows.proofs.Commanding.{read_at, takes}
+use Rattle.teco_rows.proofs.Describing.{described}
+use Rattle.teco_rows.proofs.Leading.{leaves as leaves_family, left_alone}
+use Rattle.teco_rows.proofs.Pending.{innermost}
+use Rattle.teco_rows.proofs.Ways.{leaves_singles, met_both, single_alone}
 
 -- ---- cases with other iterations
 abbrev nothing : ℕ → ℤ

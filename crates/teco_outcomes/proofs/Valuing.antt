@@ -15,11 +15,11 @@ use Rattle.teco_model.specs.declared.arguments.Level.{Level}
 use Rattle.teco_model.specs.declared.kind.Value.{Value}
 use Rattle.teco_model.specs.declared.kind.Value.TheVariants.{Begin, Size, Pointer, Whole, LastLength, LastText}
 use Rattle.teco_model.specs.laws.Whole.{IsWhole}
-use Rattle.teco_outcomes.specs.declared.case.Case.{Case}
-use Rattle.teco_outcomes.specs.declared.outcomes.Outcomes.{Outcomes}
-use Rattle.teco_outcomes.specs.States.{Point, IsTrueOf, behind}
-use Rattle.teco_outcomes.specs.Foretold.{Describe, Foretells, Gives, Succeeds, with_level}
-use Rattle.teco_outcomes.specs.Levels.{GivesPair}
+use Rattle.teco_rows.specs.declared.case.Case.{Case}
+use Rattle.teco_rows.specs.declared.outcomes.Outcomes.{Outcomes}
+use Rattle.teco_rows.specs.States.{Point, IsTrueOf, behind}
+use Rattle.teco_rows.specs.Foretold.{Describe, Foretells, Gives, Succeeds, with_level}
+use Rattle.teco_rows.specs.Levels.{GivesPair}
 
 -- a form is the number that a value gives
 pub record IsValue (kind : Value) (form : List Term) (case : Case) : Type 0 where

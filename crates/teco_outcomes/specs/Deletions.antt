@@ -8,12 +8,12 @@ use Rattle.teco_model.specs.Deletion.{character_deletion, deletion_between, part
 use Rattle.teco_model.specs.Effect.{Effect}
 use Rattle.teco_model.specs.Places.{span_between}
 use Rattle.teco_model.specs.State.{Kept}
-use Rattle.teco_outcomes.specs.declared.case.Case.{Case}
-use Rattle.teco_outcomes.specs.declared.outcomes.Outcomes.{Outcomes}
-use Rattle.teco_outcomes.specs.Cases.{value_if}
-use Rattle.teco_outcomes.specs.Commands.{commanded}
-use Rattle.teco_outcomes.specs.Foretold.{Begins, Describe, Succeeds}
-use Rattle.teco_outcomes.specs.States.{Point}
+use Rattle.teco_rows.specs.declared.case.Case.{Case}
+use Rattle.teco_rows.specs.declared.outcomes.Outcomes.{Outcomes}
+use Rattle.teco_rows.specs.Cases.{value_if}
+use Rattle.teco_rows.specs.Commands.{commanded}
+use Rattle.teco_rows.specs.Foretold.{Begins, Describe, Succeeds}
+use Rattle.teco_rows.specs.States.{Point}
 
 -- what is kept without the characters between two places
 abbrev pub kept_without : ℕ → ℕ → Kept → Kept

@@ -13,18 +13,18 @@ use Rattle.teco_model.specs.declared.flow.Loop.{Loop}
 use Rattle.teco_model.specs.declared.kind.Flow.{Flow}
 use Rattle.teco_model.specs.declared.kind.Flow.TheVariants as flow
 use Rattle.teco_model.specs.declared.kind.Kind.TheVariants as kind
-use Rattle.teco_outcomes.specs.declared.case.Case.{Case}
-use Rattle.teco_outcomes.specs.declared.measure.Measure.{Measure}
-use Rattle.teco_outcomes.specs.declared.outcomes.Outcomes.{Outcomes}
-use Rattle.teco_outcomes.specs.declared.row.Step.{Step}
+use Rattle.teco_rows.specs.declared.case.Case.{Case}
+use Rattle.teco_rows.specs.declared.measure.Measure.{Measure}
+use Rattle.teco_rows.specs.declared.outcomes.Outcomes.{Outcomes}
+use Rattle.teco_rows.specs.declared.row.Step.{Step}
 use Rattle.teco_outcomes.specs.declared.ranges.Range.{Range}
-use Rattle.teco_outcomes.specs.Cases.{Carries, read_with, value_if}
-use Rattle.teco_outcomes.specs.Commands.{commanded}
-use Rattle.teco_outcomes.specs.Foretold.{Begins, Succeeds}
+use Rattle.teco_rows.specs.Cases.{Carries, read_with, value_if}
+use Rattle.teco_rows.specs.Commands.{commanded}
+use Rattle.teco_rows.specs.Foretold.{Begins, Succeeds}
 use Rattle.teco_outcomes.specs.Law.{IsMatched, place_away}
 use Rattle.teco_outcomes.specs.Ranges.{IsIn}
-use Rattle.teco_outcomes.specs.Rows.{AreMet, changed}
-use Rattle.teco_outcomes.specs.States.{Point, IsLast, IsShape, IsTrueOf, Describes, measures_of}
+use Rattle.teco_rows.specs.Rows.{AreMet, changed}
+use Rattle.teco_rows.specs.States.{Point, IsLast, IsShape, IsTrueOf, Describes, measures_of}
 
 -- the state a step later, with these arguments and iterations
 abbrev pub turned : Point → Arguments → List Loop → Point

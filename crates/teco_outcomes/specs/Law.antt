@@ -15,10 +15,10 @@ use Rattle.teco_model.specs.declared.kind.Kind.{Kind}
 use Rattle.teco_model.specs.declared.kind.Kind.TheVariants as kind
 use Rattle.teco_model.specs.declared.skip.Route.{Route}
 use Rattle.teco_model.specs.declared.skip.Route.TheVariants.{Nowhere}
-use Rattle.teco_outcomes.specs.declared.case.Case.{Case}
-use Rattle.teco_outcomes.specs.declared.outcomes.Outcomes.{Outcomes}
-use Rattle.teco_outcomes.specs.Foretold.{Begins}
-use Rattle.teco_outcomes.specs.States.{Point, Describes}
+use Rattle.teco_rows.specs.declared.case.Case.{Case}
+use Rattle.teco_rows.specs.declared.outcomes.Outcomes.{Outcomes}
+use Rattle.teco_rows.specs.Foretold.{Begins}
+use Rattle.teco_rows.specs.States.{Point, Describes}
 
 -- the iterations that are open in texts, the innermost first
 abbrev pub loops_in : List Frame → List Loop

@@ -1,11 +1,4 @@
 -- What elements do to the measures of a state.
-pub mod Measures
-pub mod Rows
-pub mod Cases
-pub mod States
-pub mod Foretold
-pub mod Levels
-pub mod Commands
 pub mod Queries
 pub mod Law
 pub mod Motions
@@ -15,3 +8,8 @@ pub mod Pushes
 pub mod Deletions
 pub mod LineMotions
 pub mod Insertions
+pub mod Patterns
+pub mod Searches
+pub mod Characters
+pub mod Texts
+pub mod Typings

@@ -3,11 +3,11 @@ use Rattle.std.specs.Prelude.{ℕ, ℤ, List, None}
 use Rattle.teco_base.specs.Lines.{line_place}
 use Rattle.teco_linear.specs.declared.term.Term.{Term}
 use Rattle.teco_linear.specs.Form.{Valuation, value}
-use Rattle.teco_outcomes.specs.declared.case.Case.{Case}
-use Rattle.teco_outcomes.specs.declared.outcomes.Outcomes.{Outcomes}
-use Rattle.teco_outcomes.specs.Commands.{commanded}
-use Rattle.teco_outcomes.specs.Foretold.{Begins, Describe}
-use Rattle.teco_outcomes.specs.States.{Point}
+use Rattle.teco_rows.specs.declared.case.Case.{Case}
+use Rattle.teco_rows.specs.declared.outcomes.Outcomes.{Outcomes}
+use Rattle.teco_rows.specs.Commands.{commanded}
+use Rattle.teco_rows.specs.Foretold.{Begins, Describe}
+use Rattle.teco_rows.specs.States.{Point}
 
 -- the state behind a motion to the line place of a number
 abbrev pub gone_by : ℤ → Point → Point

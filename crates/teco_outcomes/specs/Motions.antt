@@ -6,11 +6,11 @@ use Rattle.teco_model.specs.Motion.{motion_to}
 use Rattle.teco_model.specs.Places.{place_in}
 use Rattle.teco_model.specs.declared.kind.Motion.{Motion}
 use Rattle.teco_model.specs.declared.kind.Motion.TheVariants.{Lines}
-use Rattle.teco_outcomes.specs.declared.case.Case.{Case}
-use Rattle.teco_outcomes.specs.declared.outcomes.Outcomes.{Outcomes}
-use Rattle.teco_outcomes.specs.Commands.{commanded}
-use Rattle.teco_outcomes.specs.Foretold.{Begins, Describe, Succeeds}
-use Rattle.teco_outcomes.specs.States.{Point}
+use Rattle.teco_rows.specs.declared.case.Case.{Case}
+use Rattle.teco_rows.specs.declared.outcomes.Outcomes.{Outcomes}
+use Rattle.teco_rows.specs.Commands.{commanded}
+use Rattle.teco_rows.specs.Foretold.{Begins, Describe, Succeeds}
+use Rattle.teco_rows.specs.States.{Point}
 
 -- all but L name a place
 abbrev pub IsToPlace : Motion → Type 0

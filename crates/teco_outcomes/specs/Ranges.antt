@@ -3,15 +3,15 @@ use Rattle.std.specs.Prelude.{◌≡◌, ℕ, ℤ, ◌≤ℤ◌, List, Option, S
 use Rattle.std.specs.List.{Any}
 use Rattle.teco_linear.specs.declared.term.Term.{Term}
 use Rattle.teco_linear.specs.Form.{Valuation, value}
-use Rattle.teco_outcomes.specs.declared.case.Case.{Case}
-use Rattle.teco_outcomes.specs.declared.measure.Measure.{Measure}
+use Rattle.teco_rows.specs.declared.case.Case.{Case}
+use Rattle.teco_rows.specs.declared.measure.Measure.{Measure}
 use Rattle.teco_outcomes.specs.declared.ranges.Range.{Range}
 use Rattle.teco_outcomes.specs.declared.ranges.Range.TheVariants as range
 use Rattle.teco_outcomes.specs.declared.ranges.Ranges.{Ranges}
-use Rattle.teco_outcomes.specs.declared.row.Clause.{Clause}
-use Rattle.teco_outcomes.specs.Commands.{commanded}
-use Rattle.teco_outcomes.specs.Rows.{Before, AreMet, changed}
-use Rattle.teco_outcomes.specs.States.{Point, IsTrueOf, Describes}
+use Rattle.teco_rows.specs.declared.row.Clause.{Clause}
+use Rattle.teco_rows.specs.Commands.{commanded}
+use Rattle.teco_rows.specs.Rows.{Before, AreMet, changed}
+use Rattle.teco_rows.specs.States.{Point, IsTrueOf, Describes}
 
 -- a number is in a range
 abbrev pub IsIn : Range → ℤ → Type 0

@@ -2,23 +2,23 @@
 ghost use Rattle.std.specs.Prelude.{◌≡◌, IfOk, slice_index_or, [], ◌∷◌, ◌++◌, None};
 ghost use Rattle.teco_model.specs.Arguments as model;
 ghost use Rattle.teco_model.specs.Step.{levels_after};
-ghost use Rattle.teco_outcomes.specs.Foretold.{Rearranges};
-ghost use Rattle.teco_outcomes.specs.Levels.{IsDeeper, IsOpened, IsParted, PartsAt};
+ghost use Rattle.teco_rows.specs.Foretold.{Rearranges};
+ghost use Rattle.teco_rows.specs.Levels.{IsDeeper, IsOpened, IsParted, PartsAt};
 
-use crate::applied::{applied, copied};
-use crate::case::{Case, Shape};
-use crate::commands::{Way, command, final_value};
-use crate::fault::Fault;
-use crate::levels::{FIRST, NO, STEP, VALUE, at_level, give, led, one, pending, waiting};
-use crate::measure::Family;
-use crate::outcomes::Outcomes;
-use crate::outside::{outermost, outside};
-use crate::row::{Clause, Of, Places, Step};
 use std::alloc::Global;
 use teco_base::arithmetic;
 use teco_linear::Form;
 use teco_model::Operator;
 use teco_model::kind::Argument;
+use teco_rows::applied::{applied, copied};
+use teco_rows::case::{Case, Shape};
+use teco_rows::commands::{Way, command, final_value};
+use teco_rows::fault::Fault;
+use teco_rows::levels::{FIRST, NO, STEP, VALUE, at_level, give, led, one, pending, waiting};
+use teco_rows::measure::Family;
+use teco_rows::outcomes::Outcomes;
+use teco_rows::outside::{outermost, outside};
+use teco_rows::row::{Clause, Of, Places, Step};
 
 /// A step, and all that is measured stays.
 pub const STEPS: [Clause; 1] = [STEP];

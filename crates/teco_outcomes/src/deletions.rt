@@ -4,24 +4,24 @@ ghost use Rattle.std.specs.List.{All};
 ghost use Rattle.teco_linear.specs.Form.{Valuation, value};
 ghost use Rattle.teco_linear.specs.Implied.{Holds};
 ghost use Rattle.teco_model.specs.Deletion.{deletion};
-ghost use Rattle.teco_outcomes.specs.Commands.{Performs};
+ghost use Rattle.teco_rows.specs.Commands.{Performs};
 ghost use Rattle.teco_outcomes.specs.Deletions.{CutsLines, CutsTo, DeletesCharacters, DeletesLines, DeletesPart};
 ghost use Rattle.teco_outcomes.specs.Motions.{IsPlace};
-ghost use Rattle.teco_outcomes.specs.States.{Point, IsTrueOf};
+ghost use Rattle.teco_rows.specs.States.{Point, IsTrueOf};
 
-use crate::applied::copied;
-use crate::case::Case;
-use crate::commands::{Taken, Way, argument, commands};
-use crate::fault::Fault;
-use crate::forms::{is_number, single};
-use crate::levels::{NO, at_level};
-use crate::measure::Single;
 use crate::motions::{LINE_END, LINE_START, POINTER, SIZE, in_buffer};
-use crate::outcomes::Outcomes;
-use crate::row::{Clause, Mark, Of};
 use std::alloc::Global;
 use teco_linear::Form;
 use teco_model::kind::Unit;
+use teco_rows::applied::copied;
+use teco_rows::case::Case;
+use teco_rows::commands::{Taken, Way, argument, commands};
+use teco_rows::fault::Fault;
+use teco_rows::forms::{is_number, single};
+use teco_rows::levels::{NO, at_level};
+use teco_rows::measure::Single;
+use teco_rows::outcomes::Outcomes;
+use teco_rows::row::{Clause, Mark, Of};
 
 pub const HELD: Mark = Mark::One(Single::Held);
 
@@ -277,8 +277,8 @@ fn delete_lines(case: &Case, value: Option<Form>, alloc: Global) -> Result<Outco
     Ok(all)
 }
 
-// The conditions that two places are in the buffer.
-fn both_in_buffer(
+/// The conditions that two places are in the buffer.
+pub fn both_in_buffer(
     case: &Case,
     first: &Form,
     second: &Form,

@@ -2,32 +2,39 @@
 ghost use Rattle.std.specs.Prelude.{◌≡◌, IfOk, if◌then◌else◌};
 ghost use Rattle.teco_model.specs.Element as model;
 ghost use Rattle.teco_model.specs.Element.{seen};
+ghost use Rattle.teco_model.specs.declared.kind.Kind.TheVariants as kinds;
 ghost use Rattle.teco_model.specs.Motion.{motion};
 ghost use Rattle.teco_model.specs.Storage.{storage};
+ghost use Rattle.teco_model.specs.declared.kind.Storage.TheVariants.{Get};
 ghost use Rattle.teco_model.specs.Step.{after_command};
-ghost use Rattle.teco_outcomes.specs.Commands.{Performs};
-ghost use Rattle.teco_outcomes.specs.Foretold.{Foretells};
+ghost use Rattle.teco_rows.specs.Commands.{Performs};
+ghost use Rattle.teco_rows.specs.Foretold.{Foretells};
 ghost use Rattle.teco_outcomes.specs.Law.{Law};
 
 use crate::arguments::change_arguments;
-use crate::case::Case;
-use crate::commands::{Taken, take_arguments};
+use crate::characters::turn_page;
 use crate::deletions::delete;
-use crate::fault::Fault;
 use crate::flow::turn;
 use crate::insertions::{get, insert};
 use crate::line_motions::move_lines;
 use crate::motions::move_to;
-use crate::outcomes::Outcomes;
 use crate::pushes::stack;
 use crate::queries::ask;
+use crate::searches::search;
 use crate::storages::{add_number, set_number};
+use crate::texts::set_text;
+use crate::typings::{type_register, type_text};
 use crate::values::give_value;
 use std::alloc::Global;
-use teco_model::kind::{Command, Motion, Storage};
+use teco_base::Reg;
+use teco_model::kind::{Command, Motion, Search, Storage};
 use teco_model::{Element, Kind};
+use teco_rows::case::Case;
+use teco_rows::commands::{Taken, take_arguments};
+use teco_rows::fault::Fault;
+use teco_rows::outcomes::Outcomes;
 
-// Whether there is a colon; more than one there is not at these elements.
+// Whether there is a colon. These elements have one at most.
 fn has_colon(colons: u8) -> Result<bool, Fault>
     ensures { IfOk result (λ colon. colons ≡ (if colon then 1 else 0)) }
 {
@@ -55,28 +62,54 @@ fn move_by(
     }
 }
 
-// How an element is written, and whether sums may wrap.
-#[derive(Clone, Copy)]
-struct Manner {
-    colons: u8,
-    may_wrap: bool,
-}
-
-// What comes of a command on a register. `X`, `^U` and `:G` are not told.
-fn store(
+// What comes of a command on the number of a register.
+fn store_number(
     case: &Case,
     kind: Storage,
     taken: Taken,
-    manner: Manner,
+    may_wrap: bool,
     alloc: Global,
 ) -> Result<Outcomes, Fault>
-    ensures { IfOk result (λ all. (e : model.Element) → e.colons ≡ manner.colons
-        → Performs (storage kind e) taken case.now all) }
+    ensures { IfOk result (λ all. (e : model.Element) → Performs (storage kind e) taken case.now all) }
 {
     match kind {
         Storage::SetNumber(register) => set_number(case, register, taken, alloc),
-        Storage::Add(register) => add_number(case, register, taken, manner.may_wrap, alloc),
-        Storage::Get(register) => get(case, register, manner.colons, taken, alloc),
+        Storage::Add(register) => add_number(case, register, taken, may_wrap, alloc),
+        _ => Err(Fault::NotTold),
+    }
+}
+
+// What comes of `G` and `:G`.
+fn retrieve(
+    case: &Case,
+    register: Reg,
+    colons: u8,
+    taken: Taken,
+    alloc: Global,
+) -> Result<Outcomes, Fault>
+    ensures { IfOk result (λ all. (e : model.Element) → e.colons ≡ colons
+        → Performs (storage (Get register) e) taken case.now all) }
+{
+    if colons == 0 {
+        get(case, register, colons, taken, alloc)
+    } else {
+        type_register(case, register, colons, taken, alloc)
+    }
+}
+
+// What comes of a command on its text. `X` is not told.
+fn store_text(
+    case: &Case,
+    kind: Storage,
+    element: &Element,
+    taken: Taken,
+    alloc: Global,
+) -> Result<Outcomes, Fault>
+    ensures { IfOk result (λ all. Performs (storage kind (seen element.now)) taken case.now all) }
+{
+    match kind {
+        Storage::Get(register) => retrieve(case, register, element.colons, taken, alloc),
+        Storage::SetText(register) => set_text(case, register, element, taken, alloc),
         _ => Err(Fault::NotTold),
     }
 }
@@ -100,12 +133,30 @@ fn perform(
         }
         Command::Deletion(unit) => delete(case, unit, taken, alloc),
         Command::Insertion(insertion) => insert(case, insertion, element.text, taken, alloc),
-        Command::Storage(storage) => {
-            let colons = element.colons;
-            store(case, storage, taken, Manner { colons, may_wrap }, alloc)
-        }
-        _ => Err(Fault::NotTold),
+        Command::Storage(storage) => match storage {
+            Storage::SetNumber(_) | Storage::Add(_) => {
+                store_number(case, storage, taken, may_wrap, alloc)
+            }
+            _ => store_text(case, storage, element, taken, alloc),
+        },
+        Command::Typing(typing) => type_text(case, typing, taken, alloc),
     }
+}
+
+// What comes of a search that has a colon. Whether one without it answers lies at what is behind
+// it: `search` tells of both.
+fn search_with_colon(
+    case: &Case,
+    kind: Search,
+    element: &Element,
+    alloc: Global,
+) -> Result<Outcomes, Fault>
+    ensures { IfOk result (λ all. element.now.kind ≡ kinds.Search kind → Law (seen element.now) case.now all) }
+{
+    if element.colons == 0 {
+        return Err(Fault::NotTold);
+    }
+    search(case, kind, element, true, alloc)
 }
 
 /// What may come of an element. A sum is taken to fit 32 bits, unless it `may_wrap`.
@@ -126,6 +177,8 @@ pub fn outcomes_of(
         Kind::Stack(kind) => stack(case, kind, alloc),
         Kind::Flow(flow) => turn(case, flow, element.colons, alloc),
         Kind::Command(command) => perform(case, command, element, may_wrap, alloc),
+        Kind::Search(kind) => search_with_colon(case, kind, element, alloc),
+        Kind::Page(page) => turn_page(case, page, alloc),
         _ => Err(Fault::NotTold),
     }
 }

@@ -1,27 +1,27 @@
 //! What comes of elements that decide where the text goes on.
 ghost use Rattle.std.specs.Prelude.{◌≡◌, ℕ, ℤ, IfOk, slice_index_or, [], true, false};
 ghost use Rattle.teco_model.specs.Flow.{leaves};
-ghost use Rattle.teco_outcomes.specs.Commands.{IsAtLevel};
+ghost use Rattle.teco_rows.specs.Commands.{IsAtLevel};
 ghost use Rattle.teco_outcomes.specs.Flow.{AreLater, Counts, Enters, HasIterations, IsAgain, IsCounted};
 ghost use Rattle.teco_outcomes.specs.Flow.{IsEnded, IsInnermost};
 ghost use Rattle.teco_outcomes.specs.Flow.{IsLater, IsLeft, IsNext, IsTurned, IsUncounted, Returns, Turns};
 ghost use Rattle.teco_outcomes.specs.Ranges.{IsIn, IsInOne};
 
-use crate::applied::applied;
 use crate::arguments::STEPS;
-use crate::case::Case;
-use crate::commands::{TAKES, Taken, take_arguments};
-use crate::fault::Fault;
-use crate::forms::measured;
-use crate::levels::{NO, at_level, led, one, waiting, with_operator};
-use crate::measure::{Family, Measure};
-use crate::outcomes::Outcomes;
-use crate::outside::outermost;
 use crate::ranges::{Range, Ranges, cases_in, only, row_in, where_it_fails, where_it_holds};
-use crate::row::{Clause, Mark, Of, Places, Step};
 use std::alloc::Global;
 use teco_linear::Form;
 use teco_model::kind::{Flow, Test};
+use teco_rows::applied::applied;
+use teco_rows::case::Case;
+use teco_rows::commands::{TAKES, Taken, take_arguments};
+use teco_rows::fault::Fault;
+use teco_rows::forms::measured;
+use teco_rows::levels::{NO, at_level, led, one, waiting, with_operator};
+use teco_rows::measure::{Family, Measure};
+use teco_rows::outcomes::Outcomes;
+use teco_rows::outside::outermost;
+use teco_rows::row::{Clause, Mark, Of, Places, Step};
 
 const TURNS: Mark = Mark::Here(Family::Turns);
 
@@ -221,8 +221,8 @@ fn leaving(colons: u8) -> Range
     }
 }
 
-// The case where an iteration is left, for a number in a range.
-fn left(case: &Case, range: Range, number: &[Form], alloc: Global) -> Result<Case, Fault>
+/// The case where an iteration is left, for a number in a range.
+pub fn left(case: &Case, range: Range, number: &[Form], alloc: Global) -> Result<Case, Fault>
     ensures { IfOk result (λ made. IsLeft case.now range (slice_index_or number.now 0 []) made) }
 {
     let outermost = outermost(case, alloc)?;

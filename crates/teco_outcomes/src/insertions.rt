@@ -1,5 +1,6 @@
 //! What comes of insertions of texts that are known.
-ghost use Rattle.std.specs.Prelude.{◌≡◌, ℕ, ◌+◌, ◌<◌, ◌∷◌, IfOk, pos, length as list_length};
+ghost use Rattle.std.specs.Prelude.{◌≡◌, ℕ, ◌+◌, ◌<◌, ◌∷◌, IfOk, IfSome, pos, length as list_length};
+ghost use Rattle.teco_base.specs.Arithmetic.{byte_of};
 ghost use Rattle.teco_base.specs.Lines.{line_place};
 ghost use Rattle.teco_base.specs.declared.bytes.TheConstants.{TAB};
 ghost use Rattle.teco_linear.specs.Form.{Valuation, value};
@@ -7,24 +8,25 @@ ghost use Rattle.teco_model.specs.Element as model;
 ghost use Rattle.teco_model.specs.Insertion.{insertion};
 ghost use Rattle.teco_model.specs.Storage.{storage};
 ghost use Rattle.teco_model.specs.declared.kind.Storage.TheVariants.{Get};
-ghost use Rattle.teco_outcomes.specs.Commands.{Performs};
-ghost use Rattle.teco_outcomes.specs.Insertions.{HasRoom, Inserts};
+ghost use Rattle.teco_rows.specs.Commands.{Performs};
+ghost use Rattle.teco_outcomes.specs.Insertions.{HasRoom, Inserts, InsertsAny, InsertsByte};
 
-use crate::case::Case;
-use crate::commands::{Taken, Way, commands};
 use crate::deletions::HELD;
-use crate::fault::Fault;
-use crate::forms::{length, single};
-use crate::levels::{NO, at_level};
-use crate::measure::Single;
 use crate::motions::{LINE_END, LINE_START, POINTER, SIZE};
-use crate::outcomes::Outcomes;
-use crate::row::{Clause, Mark, Of};
 use std::alloc::Global;
+use teco_base::arithmetic::byte_of;
 use teco_base::bytes::{TAB, is_line_end};
 use teco_base::{LIMIT, Reg};
 use teco_linear::Form;
 use teco_model::kind::Insertion;
+use teco_rows::case::Case;
+use teco_rows::commands::{Taken, Way, commands};
+use teco_rows::fault::Fault;
+use teco_rows::forms::{known, length, single};
+use teco_rows::levels::{NO, at_level};
+use teco_rows::measure::Single;
+use teco_rows::outcomes::Outcomes;
+use teco_rows::row::{Clause, Mark, Of};
 
 // How long the new text is, and where its last line starts.
 const LONG: Of = Of::Given(0);
@@ -77,8 +79,8 @@ const PUTS: [Clause; 8] = [
     Clause::Wants(0, [(1, Of::Was(POINTER)), (1, LONG), (-1, BEGIN), NO]),
 ];
 
-// Where the last line of a text starts.
-fn last_start(text: &[u8]) -> usize
+/// Where the last line of a text starts.
+pub fn last_start(text: &[u8]) -> usize
     ensures { result ≡ line_place text.now (list_length text.now) (pos 0) }
 {
     let mut start = 0;
@@ -101,8 +103,8 @@ fn start_behind(text: &[u8], place: usize, start: usize) -> usize
     }
 }
 
-// The form of a number.
-fn counted(number: usize, alloc: Global) -> Result<Form, Fault>
+/// The form of a number.
+pub fn counted(number: usize, alloc: Global) -> Result<Form, Fault>
     ensures { IfOk result (λ form. (n : ℕ) (v : Valuation) → value form n v ≡ pos number) }
 {
     match u32::try_from(number) {
@@ -163,7 +165,46 @@ fn insert_tab(case: &Case, text: &[u8], alloc: Global) -> Result<Outcomes, Fault
     insert_text(case, &new, alloc)
 }
 
-/// `I` and TAB insert a text. `nI` is not told.
+// The byte of a number, if that is plain.
+fn known_byte(number: &Form) -> Option<u8>
+    ensures { IfSome result (λ byte. (n : ℕ) (v : Valuation) → byte_of (value number.now n v) ≡ byte) }
+{
+    match i32::try_from(known(number)?) {
+        Ok(number) => Some(byte_of(number)),
+        Err(_) => None,
+    }
+}
+
+// Some character is inserted.
+fn insert_any(case: &Case, alloc: Global) -> Result<Outcomes, Fault>
+    ensures { IfOk result (λ all. InsertsAny case.now all) }
+{
+    let here = at_level(case)?;
+    let long = counted(1, alloc)?;
+    let conditions = room(case, &long, alloc)?;
+    let ways = [Way {
+        answers: &[],
+        does: &PUTS,
+    }];
+    let cases = commands(case, &ways, &[long], here, alloc)?;
+    Ok(Outcomes {
+        conditions,
+        cases,
+        away: Vec::new(alloc),
+    })
+}
+
+// The byte of a number is inserted.
+fn insert_byte(case: &Case, number: &Form, alloc: Global) -> Result<Outcomes, Fault>
+    ensures { IfOk result (λ all. InsertsByte number.now case.now all) }
+{
+    match known_byte(number) {
+        Some(byte) => insert_text(case, &[byte], alloc),
+        None => insert_any(case, alloc),
+    }
+}
+
+/// `I` and TAB insert a text, and `nI` without one the byte of a number.
 pub fn insert(
     case: &Case,
     kind: Insertion,
@@ -179,7 +220,15 @@ pub fn insert(
         value,
     } = taken;
     match value {
-        Some(_) => Err(Fault::NotTold),
+        Some(number) => match kind {
+            Insertion::Text => {
+                if !text.is_empty() {
+                    return Err(Fault::Argument);
+                }
+                insert_byte(case, &number, alloc)
+            }
+            Insertion::Tab => Err(Fault::Argument),
+        },
         None => match kind {
             Insertion::Text => insert_text(case, text, alloc),
             Insertion::Tab => insert_tab(case, text, alloc),

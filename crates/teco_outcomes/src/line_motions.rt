@@ -3,19 +3,19 @@ ghost use Rattle.std.specs.Prelude.{◌≡◌, IfOk, pos};
 ghost use Rattle.teco_model.specs.Element.{Element};
 ghost use Rattle.teco_model.specs.Motion.{motion};
 ghost use Rattle.teco_model.specs.declared.kind.Motion.TheVariants.{Lines};
-ghost use Rattle.teco_outcomes.specs.Commands.{Performs};
+ghost use Rattle.teco_rows.specs.Commands.{Performs};
 ghost use Rattle.teco_outcomes.specs.LineMotions.{GoesBy, GoesLines};
 
-use crate::case::Case;
-use crate::commands::{Taken, Way, argument, commands};
-use crate::fault::Fault;
-use crate::forms::is_number;
-use crate::levels::{NO, at_level};
 use crate::motions::{LINE_END, LINE_START, POINTER, SIZE};
-use crate::outcomes::Outcomes;
-use crate::row::{Clause, Of};
 use std::alloc::Global;
 use teco_linear::Form;
+use teco_rows::case::Case;
+use teco_rows::commands::{Taken, Way, argument, commands};
+use teco_rows::fault::Fault;
+use teco_rows::forms::is_number;
+use teco_rows::levels::{NO, at_level};
+use teco_rows::outcomes::Outcomes;
+use teco_rows::row::{Clause, Of};
 
 // What is not known: where the line ends, the place itself, and where the line starts.
 const END: Of = Of::Unknown(0);

@@ -5,22 +5,22 @@ ghost use Rattle.teco_linear.specs.Form.{Valuation, value};
 ghost use Rattle.teco_linear.specs.Implied.{Holds};
 ghost use Rattle.teco_model.specs.Element.{Element};
 ghost use Rattle.teco_model.specs.Motion.{motion, target};
-ghost use Rattle.teco_outcomes.specs.Cases.{value_if};
-ghost use Rattle.teco_outcomes.specs.Commands.{Performs};
+ghost use Rattle.teco_rows.specs.Cases.{value_if};
+ghost use Rattle.teco_rows.specs.Commands.{Performs};
 ghost use Rattle.teco_outcomes.specs.Motions.{GoesTo, IsPlace, IsToPlace};
-ghost use Rattle.teco_outcomes.specs.States.{Point, IsTrueOf};
+ghost use Rattle.teco_rows.specs.States.{Point, IsTrueOf};
 
-use crate::case::Case;
-use crate::commands::{Taken, Way, argument, commands};
-use crate::fault::Fault;
-use crate::forms::single;
-use crate::levels::{NO, VALUE, at_level};
-use crate::measure::Single;
-use crate::outcomes::Outcomes;
-use crate::row::{Clause, Mark, Of};
 use std::alloc::Global;
 use teco_linear::Form;
 use teco_model::kind::Motion;
+use teco_rows::case::Case;
+use teco_rows::commands::{Taken, Way, argument, commands};
+use teco_rows::fault::Fault;
+use teco_rows::forms::single;
+use teco_rows::levels::{NO, VALUE, at_level};
+use teco_rows::measure::Single;
+use teco_rows::outcomes::Outcomes;
+use teco_rows::row::{Clause, Mark, Of};
 
 pub const POINTER: Mark = Mark::One(Single::Pointer);
 

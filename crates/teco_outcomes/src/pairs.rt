@@ -1,19 +1,19 @@
 //! What comes of elements that give a pair of values.
 ghost use Rattle.std.specs.Prelude.{◌≡◌, IfOk, slice_index_or, []};
-ghost use Rattle.teco_outcomes.specs.Levels.{GivesPair, IsPaired, Leaves};
+ghost use Rattle.teco_rows.specs.Levels.{GivesPair, IsPaired, Leaves};
 
-use crate::applied::copied;
-use crate::case::Case;
-use crate::fault::Fault;
-use crate::forms::within_32_bits;
-use crate::levels::{
-    FIRST, NO, STEP, VALUE, at_level, led, left_value, made, one, pending, waiting,
-};
-use crate::measure::Family;
-use crate::outcomes::Outcomes;
-use crate::row::{Clause, Of, Step};
 use std::alloc::Global;
 use teco_linear::Form;
+use teco_rows::applied::copied;
+use teco_rows::case::Case;
+use teco_rows::fault::Fault;
+use teco_rows::forms::within_32_bits;
+use teco_rows::levels::{
+    FIRST, NO, STEP, VALUE, at_level, led, left_value, made, one, pending, waiting,
+};
+use teco_rows::measure::Family;
+use teco_rows::outcomes::Outcomes;
+use teco_rows::row::{Clause, Of, Step};
 
 // Both values are there.
 const PAIRS: [Clause; 3] = [

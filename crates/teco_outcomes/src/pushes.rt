@@ -2,20 +2,20 @@
 ghost use Rattle.std.specs.Prelude.{◌≡◌, ◌<◌, IfOk};
 ghost use Rattle.teco_base.specs.declared.TheConstants.{REGISTERS};
 ghost use Rattle.teco_model.specs.Step.{after_stack};
-ghost use Rattle.teco_outcomes.specs.Foretold.{Foretells};
+ghost use Rattle.teco_rows.specs.Foretold.{Foretells};
 ghost use Rattle.teco_outcomes.specs.Pushes.{IsPopped, IsPushed, IsStacked};
 
-use crate::applied::applied;
-use crate::case::Case;
-use crate::fault::Fault;
-use crate::levels::{NO, STEP, one, waiting, with_operator};
-use crate::measure::Family;
-use crate::outcomes::Outcomes;
-use crate::row::{Clause, Mark, Of, Places, Step};
 use crate::storages::NUMBER;
 use std::alloc::Global;
 use teco_base::Reg;
 use teco_model::kind::Stack;
+use teco_rows::applied::applied;
+use teco_rows::case::Case;
+use teco_rows::fault::Fault;
+use teco_rows::levels::{NO, STEP, one, waiting, with_operator};
+use teco_rows::measure::Family;
+use teco_rows::outcomes::Outcomes;
+use teco_rows::row::{Clause, Mark, Of, Places, Step};
 
 pub const LENGTH: Mark = Mark::Here(Family::Length);
 

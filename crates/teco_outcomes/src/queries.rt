@@ -2,19 +2,19 @@
 ghost use Rattle.std.specs.Prelude.{◌≡◌, ◌&&◌, ℕ, IfOk, is_none, is_some, true};
 ghost use Rattle.teco_outcomes.specs.Queries.{Asks, Stands};
 
-use crate::case::Case;
-use crate::commands::{Way, command};
-use crate::fault::Fault;
-use crate::forms::{length, number};
-use crate::levels::{NO, VALUE, at_level, give, give_any, one, pending, waiting};
-use crate::measure::Family;
-use crate::outcomes::Outcomes;
-use crate::row::{Clause, Of};
 use std::alloc::Global;
 use teco_base::Reg;
 use teco_linear::Form;
 use teco_model::Operator;
 use teco_model::kind::Query;
+use teco_rows::case::Case;
+use teco_rows::commands::{Way, command};
+use teco_rows::fault::Fault;
+use teco_rows::forms::{length, number};
+use teco_rows::levels::{NO, VALUE, at_level, give, give_any, one, pending, waiting};
+use teco_rows::measure::Family;
+use teco_rows::outcomes::Outcomes;
+use teco_rows::row::{Clause, Of};
 
 // A character or -1 is answered.
 const CHARACTER: [Clause; 3] = [

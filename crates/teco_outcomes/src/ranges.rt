@@ -1,17 +1,17 @@
 //! Ways of an element by the number that it takes: the ranges that the number may be in.
 ghost use Rattle.std.specs.Prelude.{◌≡◌, ℤ, IfOk, true, false, slice_index_or, [], neg_ℤ, ◌∷◌, pos, negsuc};
 ghost use Rattle.teco_model.specs.Condition.{holds};
-ghost use Rattle.teco_outcomes.specs.Commands.{IsAtLevel};
+ghost use Rattle.teco_rows.specs.Commands.{IsAtLevel};
 ghost use Rattle.teco_outcomes.specs.Ranges.{AreBehindIn, IsBehindIn, IsInOne, Says};
 
-use crate::case::Case;
-use crate::commands::{Way, command};
-use crate::fault::Fault;
-use crate::levels::NO;
-use crate::row::{Clause, Of, Places};
 use std::alloc::Global;
 use teco_linear::Form;
 use teco_model::kind::Test;
+use teco_rows::case::Case;
+use teco_rows::commands::{Way, command};
+use teco_rows::fault::Fault;
+use teco_rows::levels::NO;
+use teco_rows::row::{Clause, Of, Places};
 
 /// A range of numbers.
 #[derive(Clone, Copy)]

@@ -4,18 +4,18 @@ ghost use Rattle.teco_base.specs.declared.TheConstants.{REGISTERS};
 ghost use Rattle.teco_model.specs.Element.{Element};
 ghost use Rattle.teco_model.specs.Storage.{storage};
 ghost use Rattle.teco_model.specs.declared.kind.Storage.TheVariants.{SetNumber, Add};
-ghost use Rattle.teco_outcomes.specs.Commands.{IsAtLevel, Performs};
+ghost use Rattle.teco_rows.specs.Commands.{IsAtLevel, Performs};
 
-use crate::case::Case;
-use crate::commands::{Taken, Way, argument, command};
-use crate::fault::Fault;
-use crate::forms::{number, within_32_bits};
-use crate::levels::{NO, VALUE, at_level, one};
-use crate::measure::Family;
-use crate::outcomes::Outcomes;
-use crate::row::{Clause, Mark, Of, Places};
 use std::alloc::Global;
 use teco_base::Reg;
+use teco_rows::case::Case;
+use teco_rows::commands::{Taken, Way, argument, command};
+use teco_rows::fault::Fault;
+use teco_rows::forms::{number, within_32_bits};
+use teco_rows::levels::{NO, VALUE, at_level, one};
+use teco_rows::measure::Family;
+use teco_rows::outcomes::Outcomes;
+use teco_rows::row::{Clause, Mark, Of, Places};
 
 pub const NUMBER: Mark = Mark::Here(Family::Number);
 
@@ -36,8 +36,8 @@ const ADDS_WRAPPED: [Clause; 4] = [
     Clause::Wants((1 << 31) - 1, [(-1, Of::Unknown(0)), NO, NO, NO]),
 ];
 
-// The places at hand where an element names a register.
-fn at_register(case: &Case, register: Reg) -> Result<Places, Fault>
+/// The places at hand where an element names a register.
+pub fn at_register(case: &Case, register: Reg) -> Result<Places, Fault>
     ensures level { IfOk result (λ here. IsAtLevel here case.now) }
     ensures register { IfOk result (λ here. here.register ≡ register) }
     ensures within { IfOk result (λ here. here.register < REGISTERS) }

@@ -1,9 +1,5 @@
 // Outcomes that were worked out by hand.
-use crate::case::{Case, Shape};
-use crate::commands::Taken;
 use crate::elements::outcomes_of;
-use crate::fault::Fault;
-use crate::measure::{Family, Measure, Single};
 use crate::motions::move_to;
 use crate::storages::{add_number, set_number};
 use std::alloc::Global;
@@ -12,6 +8,10 @@ use teco_base::Reg;
 use teco_linear::Form;
 use teco_model::kind::{Argument, Command, Flow, Insertion, Motion, Stack, Unit, Value};
 use teco_model::{Element, Kind};
+use teco_rows::case::{Case, Shape};
+use teco_rows::commands::Taken;
+use teco_rows::fault::Fault;
+use teco_rows::measure::{Family, Measure, Single};
 
 // A state at the start of a run: the pointer, the size, what is held, and the line's end and start
 // are the symbols 0 to 4, and all else is 0.

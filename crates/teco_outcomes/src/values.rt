@@ -1,18 +1,18 @@
 //! What comes of elements that give a value of the machine's.
 ghost use Rattle.std.specs.Prelude.{IfOk};
 ghost use Rattle.teco_model.specs.Step.{after_value};
-ghost use Rattle.teco_outcomes.specs.Foretold.{Foretells};
+ghost use Rattle.teco_rows.specs.Foretold.{Foretells};
 
-use crate::case::Case;
-use crate::fault::Fault;
-use crate::forms::single;
-use crate::levels::give;
-use crate::measure::Single;
-use crate::outcomes::Outcomes;
 use crate::pairs::give_pair;
 use std::alloc::Global;
 use teco_linear::Form;
 use teco_model::kind::Value;
+use teco_rows::case::Case;
+use teco_rows::fault::Fault;
+use teco_rows::forms::single;
+use teco_rows::levels::give;
+use teco_rows::measure::Single;
+use teco_rows::outcomes::Outcomes;
 
 /// `B`, `Z`, `.` and `^S` give a number, and `H` and `^Y` a pair of them.
 pub fn give_value(

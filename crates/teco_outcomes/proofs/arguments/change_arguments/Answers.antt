@@ -3,7 +3,7 @@ use Rattle.std.proofs.Common.{sym, subst, ◌∙◌, rules, w32}
 use Rattle.std.proofs.lemmas.Int.{to_z-of_z}
 use Rattle.teco_model.specs.Arguments.{with_level, level_with}
 use Rattle.teco_model.specs.Step.{levels_after}
-use Rattle.teco_outcomes.specs.Foretold.{Rearranges}
+use Rattle.teco_rows.specs.Foretold.{Rearranges}
 use Rattle.teco_outcomes.proofs.arguments.change_arguments.Goals as goal
 
 pub returns-in-DropAll : goal.returns-in-DropAll

@@ -1,7 +1,7 @@
 use Rattle.std.proofs.Common.{◌≡◌, None, subst, arith}
 use Rattle.std.proofs.lemmas.Grind.{common_steps}
 use Rattle.std.proofs.lemmas.Result.{IfOk-weaker}
-use Rattle.teco_outcomes.specs.Commands.{EndsWith}
+use Rattle.teco_rows.specs.Commands.{EndsWith}
 use Rattle.teco_outcomes.proofs.Arguing.{is_alone, parts}
 use Rattle.teco_outcomes.proofs.arguments.part.Goals as goal
 

@@ -1,6 +1,6 @@
 use Rattle.std.proofs.Common.{sym, subst}
 use Rattle.std.proofs.lemmas.Result.{IfOk-weaker}
-use Rattle.teco_outcomes.specs.Commands.{Performs}
+use Rattle.teco_rows.specs.Commands.{Performs}
 use Rattle.teco_model.specs.Deletion.{deletion}
 use Rattle.teco_model.specs.declared.kind.Unit.TheVariants.{Characters, Lines}
 use Rattle.teco_outcomes.proofs.Cutting.{deletes_alone, deletes_part}

@@ -39,3 +39,11 @@ returns-in-Command c =
     IfOk-weaker c.perform.result _ _
     (λ all told. command_law (seen c.args.element.now) c.args.case.now all c.in-Command.command c.in-Command.is told)
     c.perform.ensures
+
+pub returns-in-Search : goal.returns-in-Search
+returns-in-Search c =
+    IfOk-weaker c.search_with_colon.result _ _ (λ all told. told c.in-Search.is) c.search_with_colon.ensures
+
+pub returns-in-Page : goal.returns-in-Page
+returns-in-Page c =
+    IfOk-weaker c.turn_page.result _ _ (λ all told. told (seen c.args.element.now) c.in-Page.is) c.turn_page.ensures

@@ -3,7 +3,7 @@ use Rattle.std.proofs.Common.{sym, subst, refl}
 use Rattle.teco_model.specs.Element.{seen}
 use Rattle.teco_model.specs.Step.{after_command}
 use Rattle.teco_model.specs.declared.kind.Command.TheVariants as command
-use Rattle.teco_outcomes.specs.Foretold.{Foretells}
+use Rattle.teco_rows.specs.Foretold.{Foretells}
 use Rattle.teco_outcomes.proofs.Stepping.{command_foretold}
 use Rattle.teco_outcomes.proofs.elements.perform.Goals as goal
 
@@ -18,15 +18,35 @@ returns-in_ok-colon-in-Motion c =
     c.in_ok-taken.ensures (performs (seen c.args.element.now) c.in_ok-colon-in-Motion.ensures)))
     c.move_by.ensures
 
-pub returns-in-Storage : goal.returns-in-Storage
-returns-in-Storage c =
-    IfOk-weaker c.store.result _ _
+pub returns-in-SetNumber : goal.returns-in-SetNumber
+returns-in-SetNumber c =
+    IfOk-weaker c.store_number.result _ _
     (λ all performs.
     subst (λ k. Foretells (λ s. after_command k (seen c.args.element.now) s.kept s.arguments) c.args.case.now all)
     (sym c.in-Storage.is)
-    (command_foretold (seen c.args.element.now) c.args.case.now c.in_ok-taken.taken all
-    (command.Storage c.in-Storage.storage) c.in_ok-taken.ensures (performs (seen c.args.element.now) refl)))
-    c.store.ensures
+    (command_foretold (seen c.args.element.now) c.args.case.now c.in_ok-taken.taken all (command.Storage c.in-Storage.storage)
+    c.in_ok-taken.ensures (performs (seen c.args.element.now))))
+    c.store_number.ensures
+
+pub returns-in_default : goal.returns-in_default
+returns-in_default c =
+    IfOk-weaker c.store_text.result _ _
+    (λ all performs.
+    subst (λ k. Foretells (λ s. after_command k (seen c.args.element.now) s.kept s.arguments) c.args.case.now all)
+    (sym c.in-Storage.is)
+    (command_foretold (seen c.args.element.now) c.args.case.now c.in_ok-taken.taken all (command.Storage c.in-Storage.storage)
+    c.in_ok-taken.ensures performs))
+    c.store_text.ensures
+
+pub returns-in-Typing : goal.returns-in-Typing
+returns-in-Typing c =
+    IfOk-weaker c.type_text.result _ _
+    (λ all performs.
+    subst (λ k. Foretells (λ s. after_command k (seen c.args.element.now) s.kept s.arguments) c.args.case.now all)
+    (sym c.in-Typing.is)
+    (command_foretold (seen c.args.element.now) c.args.case.now c.in_ok-taken.taken all (command.Typing c.in-Typing.typing)
+    c.in_ok-taken.ensures (performs (seen c.args.element.now))))
+    c.type_text.ensures
 
 pub returns-in-Deletion : goal.returns-in-Deletion
 returns-in-Deletion c =

@@ -1,7 +1,7 @@
 use Rattle.std.proofs.Common.{sym, subst}
 use Rattle.std.proofs.lemmas.Result.{IfOk-weaker}
 use Rattle.teco_model.specs.Step.{after_stack}
-use Rattle.teco_outcomes.specs.Foretold.{Foretells}
+use Rattle.teco_rows.specs.Foretold.{Foretells}
 use Rattle.teco_outcomes.proofs.pushes.stack.Goals as goal
 
 pub returns-in-Push : goal.returns-in-Push

@@ -1,7 +1,0 @@
-use Rattle.std.proofs.Common.{take}
-use Rattle.teco_outcomes.specs.Commands.{AreCommanded}
-use Rattle.teco_outcomes.proofs.commands.commands.Given as goal
-
--- the ways before this one are gone
-abbrev pub invariant-loop-way : goal.invariant-loop-way
-invariant-loop-way l = AreCommanded l.case (take l.way-index l.ways) l.given l.here l.cases.items

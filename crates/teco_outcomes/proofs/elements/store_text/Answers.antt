@@ -1,0 +1,22 @@
+use Rattle.std.proofs.Common.{refl, subst, sym}
+use Rattle.std.proofs.lemmas.Result.{IfOk-weaker}
+use Rattle.teco_model.specs.Element.{seen}
+use Rattle.teco_model.specs.Storage.{storage}
+use Rattle.teco_rows.specs.Commands.{Performs}
+use Rattle.teco_outcomes.proofs.elements.store_text.Goals as goal
+
+pub returns-in-Get : goal.returns-in-Get
+returns-in-Get c =
+    IfOk-weaker c.retrieve.result _ _
+    (λ all told.
+    subst (λ k. Performs (storage k (seen c.args.element.now)) c.args.taken c.args.case.now all) (sym c.in-Get.is)
+    (told (seen c.args.element.now) refl))
+    c.retrieve.ensures
+
+pub returns-in-SetText : goal.returns-in-SetText
+returns-in-SetText c =
+    IfOk-weaker c.set_text.result _ _
+    (λ all told.
+    subst (λ k. Performs (storage k (seen c.args.element.now)) c.args.taken c.args.case.now all) (sym c.in-SetText.is)
+    told)
+    c.set_text.ensures

@@ -1,7 +1,0 @@
-use Rattle.std.proofs.Common.{arith}
-use Rattle.std.proofs.lemmas.Grind.{common_steps}
-use Rattle.teco_outcomes.proofs.Pending.{depth}
-use Rattle.teco_outcomes.proofs.levels.at_level.Goals as goal
-
-pub returns-in-Ok : goal.returns-in-Ok
-returns-in-Ok c = λ s h. let d = depth c.args.case.now.shape s h in grind (arith, common_steps)

@@ -1,9 +1,0 @@
-use Rattle.std.proofs.Common.{ap, ◌∙◌}
-use Rattle.std.proofs.lemmas.Result.{IfOk-weaker}
-use Rattle.teco_outcomes.specs.States.{each}
-use Rattle.teco_outcomes.proofs.levels.pending.Goals as goal
-
-pub returns : goal.returns
-returns c =
-    IfOk-weaker c.measured.result _ _
-    (λ form is n v s h. is n v s h ∙ ap (each s c.args.family) (c.in_ok-here.ensures s h.shape)) c.measured.ensures

@@ -1,9 +1,0 @@
-use Rattle.std.proofs.Common.{◌∙◌, ap}
-use Rattle.teco_outcomes.specs.Measures.{place}
-use Rattle.teco_outcomes.proofs.Closing.{empties}
-use Rattle.teco_outcomes.proofs.outside.empty_level.Goals as goal
-
-pub returns : goal.returns
-returns c =
-    empties c.args.here _ _ _ c.place.result c.place-2.result (c.place.ensures ∙ ap place c.measure.ensures)
-    c.in_ok-put.ensures (c.place-2.ensures ∙ ap place c.measure-2.ensures) c.in_ok-put-2.ensures

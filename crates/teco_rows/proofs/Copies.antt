@@ -1,0 +1,10 @@
+-- Copies of forms.
+use Rattle.std.proofs.Common.{◌≡◌, ℕ, ◌<◌, List, Option, None, length, get_or}
+use Rattle.teco_linear.specs.declared.term.Term.{Term}
+use Rattle.teco_linear.specs.Form.{Valuation}
+use Rattle.teco_rows.specs.Cases.{value_if}
+
+pub record AreCopied (forms : List (Option (List Term))) (i : ℕ) (copies : List (Option (List Term))) : Type 0 where
+  pub count : length copies ≡ i
+  pub values : (n : ℕ) (v : Valuation) (k : ℕ) → k < i
+      → value_if (get_or copies k None) n v ≡ value_if (get_or forms k None) n v

@@ -1,0 +1,249 @@
+-- What giving a value does to the measures.
+use Rattle.std.proofs.Common.{◌≡◌, ℕ, ℤ, pos, ◌+ℤ◌, ◌*ℤ◌, List, [], ◌∷◌, length, Some, None, Result, Ok, Err, unwrap_or}
+use Rattle.std.proofs.Common.{Option, false}
+use Rattle.std.proofs.Common.{slice_index_or, zero, suc, negsuc, ◌-ℤ◌, subst, refl, sym, ap, ◌∙◌, arith, FitsSigned}
+use Rattle.std.proofs.lemmas.Int.{ints, SFits-int_wrap, int_wrap_fits}
+use Rattle.std.specs.Prelude.{int_div, IfOk}
+use Rattle.teco_base.specs.Arithmetic.{and, or}
+use Rattle.teco_base.specs.declared.code.Code.{Code}
+use Rattle.teco_model.specs.declared.arguments.Operator.TheVariants.{Plus, Minus, Times, Over, And, Or}
+use Rattle.teco_linear.specs.Implied as linear
+use Rattle.std.specs.List.{All}
+use Rattle.std.specs.Int.{w32}
+use Rattle.teco_linear.specs.declared.term.Term.{Term}
+use Rattle.teco_linear.specs.Form.{Valuation, value}
+use Rattle.teco_model.specs.Arguments.{level_with, value_with, result_of}
+use Rattle.teco_model.specs.declared.arguments.Level.{Level}
+use Rattle.teco_model.specs.declared.arguments.Operator.{Operator}
+use Rattle.teco_rows.specs.declared.case.Case.{Case}
+use Rattle.teco_rows.specs.declared.levels.TheConstants.{GIVES, WRAPS, STEP, VALUE, NO}
+use Rattle.teco_rows.specs.declared.row.Of.{Of}
+use Rattle.teco_rows.specs.declared.row.Of.TheVariants.{Given, Unknown}
+use Rattle.teco_rows.specs.declared.row.Clause.TheVariants.{Sets}
+use Rattle.teco_rows.specs.declared.measure.Single.TheVariants.{Steps, Pointer, Size, Held, LineEnd, LineStart}
+use Rattle.teco_rows.specs.declared.measure.Single.TheVariants.{LastLength}
+use Rattle.teco_rows.specs.declared.measure.Family.TheVariants.{Number, Length, Turns, PushedNumber, PushedLength}
+use Rattle.teco_rows.specs.declared.measure.Family.TheVariants.{First, Value}
+use Rattle.teco_rows.specs.declared.measure.Measure.{Measure}
+use Rattle.teco_rows.specs.declared.measure.Measure.TheVariants.{One, Each}
+use Rattle.teco_rows.specs.declared.outcomes.Outcomes.{Outcomes}
+use Rattle.teco_rows.specs.declared.row.Places.{Places}
+use Rattle.teco_rows.specs.declared.row.Step.{Step}
+use Rattle.teco_rows.specs.Rows.{Before, Holds, changed, weight}
+use Rattle.teco_rows.specs.Cases.{read_with}
+use Rattle.teco_rows.specs.States.{Point, IsShape, IsLed, IsTrueOf, Describes, WaitsFor, behind, measures_of}
+use Rattle.teco_rows.specs.Foretold.{Describe, Gives, IsAllowed, IsOne, IsValued, IsWrapped, Makes, Succeeds}
+use Rattle.teco_rows.specs.Foretold.{Values, Wraps, with_level, level_of, valued_at}
+use Rattle.teco_rows.specs.Foretold.{GivesAny, is_over}
+use Rattle.teco_rows.proofs.Pending.{level_at, level_same}
+use Rattle.teco_rows.proofs.Describing.{led_to, among}
+use Rattle.teco_model.specs.Checked.{◌>>=◌}
+
+-- with another value at the innermost level, the measures are as before but for that and the steps
+module _ (s : Point) (level : Level) (here : Places) (given unknown : ℕ
+    → ℤ) (at : here.level ≡ length s.arguments.outer)
+    (first : level.first ≡ s.arguments.level.first) where
+  before : Before
+  before = record { here = here; measures = measures_of s; given = given; unknown = unknown }
+
+  becomes : (x : ℤ) (of : Of) → level.value ≡ Some x → x ≡ weight before of → (m : Measure)
+      → measures_of (behind s (with_level s level)) m
+      ≡ changed (STEP ∷ Sets VALUE (pos 0) ((pos 1, of) ∷ NO ∷ NO ∷ NO ∷ []) ∷ []) before m (measures_of s m)
+  unfolding before
+  becomes x of value e (One Steps) = ap Some (omega (arith, ints))
+  becomes x of value e (One Pointer) = refl
+  becomes x of value e (One Size) = refl
+  becomes x of value e (One Held) = refl
+  becomes x of value e (One LineEnd) = refl
+  becomes x of value e (One LineStart) = refl
+  becomes x of value e (One LastLength) = refl
+  becomes x of value e (Each Number i) = refl
+  becomes x of value e (Each Length i) = refl
+  becomes x of value e (Each Turns i) = refl
+  becomes x of value e (Each PushedNumber i) = refl
+  becomes x of value e (Each PushedLength i) = refl
+  becomes x of value e (Each First i) = level_same s.arguments.level level s.arguments.outer i (λ l. l.first) first
+  becomes x of value e (Each Value i) =
+      level_at s.arguments.level level s.arguments.outer here.level i (λ l. l.value) _ at
+      (value ∙ ap Some (omega (arith, ints)))
+
+  pub gives_holds : (x : ℤ) → level.value ≡ Some x → given 0 ≡ x
+      → Holds GIVES (record { here = here; measures = measures_of s; given = given; unknown = unknown })
+      (measures_of (behind s (with_level s level)))
+  unfolding before
+  gives_holds x worth e = record { met = tt; becomes = becomes x (Given 0) worth (sym e) }
+
+  pub wraps_holds : (x : ℤ) → level.value ≡ Some x → unknown 0 ≡ x → FitsSigned w32 x
+      → Holds WRAPS (record { here = here; measures = measures_of s; given = given; unknown = unknown })
+      (measures_of (behind s (with_level s level)))
+  unfolding before
+  wraps_holds x worth e fits = record {
+    met = (omega (arith, ints), (omega (arith, ints), tt));
+    becomes = becomes x (Unknown 0) worth (sym e);
+  }
+
+pub is_valued : (case after : Case) (step : Step) → step.clauses.now ≡ GIVES
+    → ((s : Point) → IsShape case.shape s → step.here.level ≡ length s.arguments.outer) → IsLed case step None after
+    → IsValued case (slice_index_or step.given.now 0 []) after
+is_valued case after step row at led n v s true_of =
+    let x = value (slice_index_or step.given.now 0 []) n v in
+    let b = read_with step n v (measures_of s) (λ i. pos 0) in
+    let holds = gives_holds s (level_of s x) step.here b.given b.unknown (at s true_of.shape) refl x refl refl in
+    led_to n v case after step s (level_of s x) b.unknown led true_of
+    (subst (λ r. Holds r b (measures_of (valued_at s x))) (sym row) holds)
+
+pub is_wrapped : (case after : Case) (step : Step) → step.clauses.now ≡ WRAPS
+    → ((s : Point) → IsShape case.shape s → step.here.level ≡ length s.arguments.outer) → IsLed case step None after
+    → IsWrapped case after
+is_wrapped case after step row at led n v s x true_of fits =
+    let b = read_with step n v (measures_of s) (λ i. x) in
+    let holds = wraps_holds s (level_of s x) step.here b.given b.unknown (at s true_of.shape) refl x refl refl fits in
+    led_to n v case after step s (level_of s x) b.unknown led true_of
+    (subst (λ r. Holds r b (measures_of (valued_at s x))) (sym row) holds)
+
+-- ---- what an operator makes
+pub result_fits : (operator : Operator) (x y z : ℤ) → result_of operator x y ≡ Ok z → FitsSigned w32 z
+result_fits Plus x y z e = subst (λ r. IfOk r (FitsSigned w32)) e (SFits-int_wrap w32 (x +ℤ y))
+result_fits Minus x y z e = subst (λ r. IfOk r (FitsSigned w32)) e (SFits-int_wrap w32 (x -ℤ y))
+result_fits Times x y z e = subst (λ r. IfOk r (FitsSigned w32)) e (SFits-int_wrap w32 (x *ℤ y))
+result_fits Over x (pos zero) z e = cc
+result_fits Over x (pos (suc n)) z e =
+    subst (λ r. IfOk r (FitsSigned w32)) e (SFits-int_wrap w32 (int_div x (pos (suc n))))
+result_fits Over x (negsuc n) z e =
+    subst (λ r. IfOk r (FitsSigned w32)) e (SFits-int_wrap w32 (int_div x (negsuc n)))
+result_fits And x y z e = let h : FitsSigned w32 (and x y) =
+    omega (arith, ints) in subst (λ r. IfOk r (FitsSigned w32)) e h
+result_fits Or x y z e = let h : FitsSigned w32 (or x y) =
+    omega (arith, ints) in subst (λ r. IfOk r (FitsSigned w32)) e h
+
+-- a number is given where nothing waits, and where something does
+pub given_alone : (level : Level) (x : ℤ) → level.operator ≡ None
+    → level_with x level ≡ Ok (record { first = level.first; value = Some x; operator = None })
+given_alone level x e =
+    ap (λ o. value_with x level.value o >>= (λ given. Ok (record {
+      first = level.first;
+      value =
+          Some given;
+      operator = None;
+    }))) e
+
+pub given_to : (level : Level) (operator : Operator) (x : ℤ) → level.operator ≡ Some operator
+    → level_with x level
+    ≡ (result_of operator (unwrap_or level.value (pos 0)) x >>= (λ given. Ok (record {
+      first = level.first;
+      value =
+          Some given;
+      operator = None;
+    })))
+given_to level operator x e =
+    ap (λ o. value_with x level.value o >>= (λ given. Ok (record {
+      first = level.first;
+      value =
+          Some given;
+      operator = None;
+    }))) e
+
+-- one case is there
+pub describes_one : (n : ℕ) (conditions : List (List Term)) (after : Case) (all : Outcomes) (t : Point)
+    → IsOne conditions after all → Describes n after t → Describe n all t
+describes_one n conditions after all t one d = among n all after [] [] t one.cases d
+
+pub gives_alone : (case after : Case) (form : List Term) (conditions : List (List Term)) (all : Outcomes)
+    → WaitsFor None case
+    → IsValued case form after → IsOne conditions after all → Gives form case all
+gives_alone case after form conditions all alone valued one n v s begins =
+    subst (Succeeds (λ l. Describe n all (behind s (with_level s l))))
+    (sym (given_alone s.arguments.level (value form n v) (alone s begins.true_of.shape)))
+    (describes_one n conditions after all _ one (valued n v s begins.true_of))
+
+pub values_one : (case after : Case) (form : List Term) (conditions : List (List Term)) (all : Outcomes)
+    → ((n : ℕ) (v : Valuation) → All (linear.Holds n v) conditions → FitsSigned w32 (value form n v))
+    → IsValued case form after → IsOne conditions after all → Values form case all
+values_one case after form conditions all fits valued one n v s begins = (
+  fits n v (subst (All (linear.Holds n v)) one.conditions begins.conditions),
+  describes_one n conditions after all _ one (valued n v s begins.true_of),
+)
+
+pub gives_made : (case : Case) (left number form : List Term) (operator : Operator) (all : Outcomes)
+    → WaitsFor (Some operator) case
+    → ((n : ℕ) (v : Valuation) (s : Point) → IsTrueOf n v case s
+    → value left n v ≡ unwrap_or s.arguments.level.value (pos 0))
+    → Makes left operator number form → Values form case all → Gives number case all
+gives_made case left number form operator all waits left_is makes values n v s begins =
+    let r = values n v s begins in
+    let made = ap (λ x. result_of operator x (value number n v)) (sym (left_is n v s begins.true_of)) ∙ makes n v
+    ∙ ap Ok (int_wrap_fits w32 (value form n v) r.0) in
+    subst (Succeeds (λ l. Describe n all (behind s (with_level s l))))
+    (sym (given_to s.arguments.level operator (value number n v) (waits s begins.true_of.shape)
+    ∙ ap (λ z. z >>= (λ given. Ok (record {
+      first = s.arguments.level.first;
+      value = Some given;
+      operator =
+          None;
+    }))) made))
+    r.1
+
+pub gives_wrapped : (case : Case) (number : List Term) (operator : Operator) (all : Outcomes)
+    → WaitsFor (Some operator) case → Wraps operator number case all → Gives number case all
+gives_wrapped case number operator all waits wraps n v s begins =
+    subst (Succeeds (λ l. Describe n all (behind s (with_level s l))))
+    (sym (given_to s.arguments.level operator (value number n v) (waits s begins.true_of.shape)))
+    (passed (result_of operator (unwrap_or s.arguments.level.value (pos 0)) (value number n v))
+    (wraps n v s _ begins)) where
+      passed : (r : Result ℤ Code) → Succeeds (λ x. Describe n all (valued_at s x)) r
+          → Succeeds (λ l. Describe n all (behind s (with_level s l)))
+          (r >>= (λ given. Ok (record { first = s.arguments.level.first; value = Some given; operator = None })))
+      passed (Ok x) d = d
+      passed (Err c) d = d
+
+some_result : (operator : Operator) (x y : ℤ) → IsAllowed operator y → (z : ℤ) × (result_of operator x y ≡ Ok z)
+some_result Plus x y h = (_, refl)
+some_result Minus x y h = (_, refl)
+some_result Times x y h = (_, refl)
+some_result Over x (pos zero) h = absurd (omega (arith, ints))
+some_result Over x (pos (suc n)) h = (_, refl)
+some_result Over x (negsuc n) h = absurd (omega (arith, ints))
+some_result And x y h = (_, refl)
+some_result Or x y h = (_, refl)
+
+pub wraps_one : (case after : Case) (operator : Operator) (number : List Term) (conditions : List (List Term))
+    (all : Outcomes) → ((n : ℕ) (v : Valuation) → All (linear.Holds n v) conditions
+    → IsAllowed operator (value number n v))
+    → IsWrapped case after → IsOne conditions after all → Wraps operator number case all
+wraps_one case after operator number conditions all positive wrapped one n v s left begins =
+    let r = some_result operator left (value number n v)
+    (positive n v (subst (All (linear.Holds n v)) one.conditions begins.conditions)) in
+    subst (Succeeds (λ x. Describe n all (valued_at s x))) (sym r.1)
+    (describes_one n conditions after all _ one
+    (wrapped n v s r.0 begins.true_of (result_fits operator left (value number n v) r.0 r.1)))
+
+-- any number is given, where nothing is divided by it
+abbrev IsLevel : ℕ → Outcomes → Point → Result Level Code → Type 0
+IsLevel n all s made = Succeeds (λ level. Describe n all (behind s (with_level s level))) made
+
+pub gives_any : (case made : Case) (conditions : List (List Term)) (all : Outcomes)
+    → ((s : Point) → IsShape case.shape s → is_over s.arguments.level.operator ≡ false)
+    → IsWrapped case made → IsOne conditions made all → GivesAny case all
+gives_any case made conditions all divides wrapped one n v s x begins fits =
+    by s.arguments.level.operator refl (divides s begins.true_of.shape) where
+      wraps : (operator : Operator) → IsAllowed operator x → s.arguments.level.operator ≡ Some operator
+          → IsLevel n all s (level_with x s.arguments.level)
+      wraps operator allowed e =
+          let left = unwrap_or s.arguments.level.value (pos 0) in
+          let r = some_result operator left x allowed in
+          subst (IsLevel n all s) (sym (given_to s.arguments.level operator x e
+          ∙ ap (λ z. z >>= (λ given. Ok (level_of s given))) r.1))
+          (describes_one n conditions made all _ one
+          (wrapped n v s r.0 begins.true_of (result_fits operator left x r.0 r.1)))
+
+      by : (o : Option Operator) → s.arguments.level.operator ≡ o → is_over o ≡ false
+          → IsLevel n all s (level_with x s.arguments.level)
+      by None e h =
+          subst (IsLevel n all s) (sym (given_alone s.arguments.level x e))
+          (describes_one n conditions made all _ one (wrapped n v s x begins.true_of fits))
+      by (Some Plus) e h = wraps Plus tt e
+      by (Some Minus) e h = wraps Minus tt e
+      by (Some Times) e h = wraps Times tt e
+      by (Some Over) e h = absurd cc
+      by (Some And) e h = wraps And tt e
+      by (Some Or) e h = wraps Or tt e

@@ -1,0 +1,28 @@
+use Rattle.std.proofs.Common.{◌≡◌, ◌*ℤ◌, get_or, to_z, of_z, arith}
+use mir.Syntax.{w128}
+use Rattle.std.proofs.lemmas.Grind.{common_steps}
+use Rattle.std.proofs.lemmas.Int.{ints, to_z-of_z}
+use Rattle.teco_linear.specs.Form.{value}
+use Rattle.teco_rows.specs.Rows.{weight}
+use Rattle.teco_rows.specs.Cases.{read_by}
+use Rattle.teco_rows.proofs.Sums.{no_part, sum_of-drop, product_is}
+use Rattle.teco_rows.proofs.applied.sum.Goals as goal
+
+pub loop-times-preserved : goal.loop-times-preserved
+loop-times-preserved c = λ n v.
+    let b = read_by c.args.case.now c.args.step.now n v in
+    let parts = c.args.parts.now in
+    let i = c.loop-times.times-index in
+    let p = get_or parts i no_part in
+    let factor : to_z w128 (of_z w128 c.from-in-loop-times.result) ≡ p.0 = grind (arith, common_steps, to_z-of_z) in
+    let made : value c.in_ok-product.product n v ≡ p.0 *ℤ weight b p.1 =
+    product_is _ p.0 (value c.in_ok-form.form n v) _ (weight b p.1) n factor (c.in_ok-form.ensures n v)
+    (c.in_ok-product.ensures n v) in
+    omega (
+      arith,
+      ints,
+      c.loop-times.invariant n v,
+      c.in_ok-sum-2.ensures n v,
+      sum_of-drop b parts i no_part c.loop-times-test.true,
+      made,
+    )

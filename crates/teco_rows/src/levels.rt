@@ -1,0 +1,291 @@
+//! What becomes of pending arguments.
+ghost use Rattle.std.specs.Prelude.{◌≡◌, ◌∷◌, [], length, ℕ, IfOk, IfSome, slice_index_or, FitsSigned, ◌*ℤ◌, pos};
+ghost use Rattle.std.specs.Prelude.{unwrap_or};
+ghost use Rattle.std.specs.Int.{w32};
+ghost use Rattle.std.specs.List.{All};
+ghost use Rattle.teco_linear.specs.Form.{Valuation, value, scale_value};
+ghost use Rattle.teco_linear.specs.Implied.{Holds};
+ghost use Rattle.teco_rows.specs.Cases.{value_if};
+ghost use Rattle.teco_rows.specs.Foretold.{Gives, IsAllowed, IsOne, IsValued, IsWrapped, Makes, Values, Wraps};
+ghost use Rattle.teco_rows.specs.Foretold.{GivesAny, is_over};
+ghost use Rattle.teco_rows.specs.States.{Point, IsShape, IsTrueOf, IsLast, IsLed, WaitsFor, each, single};
+ghost use Rattle.teco_rows.specs.States.{measures_of};
+
+use crate::applied::applied;
+use crate::case::{Case, Shape};
+use crate::fault::Fault;
+use crate::forms::{measured, product, within_32_bits};
+use crate::measure::{Family, Measure, Single};
+use crate::outcomes::Outcomes;
+use crate::row::{Clause, Mark, Of, Part, Places, Step};
+use std::alloc::Global;
+use teco_linear::Form;
+use teco_model::Operator;
+
+/// No multiple.
+pub const NO: Part = (0, Of::Given(0));
+
+const STEPS: Mark = Mark::One(Single::Steps);
+
+pub const FIRST: Mark = Mark::Here(Family::First);
+
+pub const VALUE: Mark = Mark::Here(Family::Value);
+
+pub const STEP: Clause = Clause::Sets(STEPS, 1, [(1, Of::Was(STEPS)), NO, NO, NO]);
+
+// A number is given.
+const GIVES: [Clause; 2] = [
+    STEP,
+    Clause::Sets(VALUE, 0, [(1, Of::Given(0)), NO, NO, NO]),
+];
+
+// A number of 32 bits is given that is not known.
+const WRAPS: [Clause; 4] = [
+    STEP,
+    Clause::Sets(VALUE, 0, [(1, Of::Unknown(0)), NO, NO, NO]),
+    Clause::Wants(1 << 31, [(1, Of::Unknown(0)), NO, NO, NO]),
+    Clause::Wants((1 << 31) - 1, [(-1, Of::Unknown(0)), NO, NO, NO]),
+];
+
+// The places at hand where an element is about the innermost level.
+pub fn at_level(case: &Case) -> Result<Places, Fault>
+    ensures { IfOk result (λ here. (s : Point) → IsShape case.now.shape s → here.level ≡ length s.arguments.outer) }
+{
+    let Some(level) = case.shape.operators.len().checked_sub(1) else {
+        return Err(Fault::TooMany);
+    };
+    match u32::try_from(level) {
+        Ok(level) => Ok(Places {
+            register: 0,
+            iteration: 0,
+            push: 0,
+            level,
+        }),
+        Err(_) => Err(Fault::TooMany),
+    }
+}
+
+/// The same shape once more, with this operator at the innermost level.
+pub fn with_operator(
+    shape: &Shape,
+    operator: Option<Operator>,
+    alloc: Global,
+) -> Result<Shape, Fault>
+    ensures operators { IfOk result (λ after. IsLast operator shape.now.operators.items after.operators.items) }
+    ensures iterations { IfOk result (λ after. after.iterations ≡ shape.now.iterations) }
+    ensures pushes { IfOk result (λ after. after.pushes ≡ shape.now.pushes) }
+{
+    let mut operators = Vec::new(alloc);
+    operators.extend_from_slice(&shape.operators)?;
+    let _last = operators.pop();
+    operators.push(operator)?;
+    Ok(Shape {
+        operators,
+        iterations: shape.iterations,
+        pushes: shape.pushes,
+    })
+}
+
+// The operator that waits at the innermost level.
+pub fn waiting(case: &Case) -> Option<Operator>
+    ensures { (s : Point) → IsShape case.now.shape s → result ≡ s.arguments.level.operator }
+{
+    let operators = &case.shape.operators;
+    match operators.last() {
+        Some(operator) => *operator,
+        None => None,
+    }
+}
+
+// The case behind a row, with this operator at the innermost level.
+pub fn led(
+    case: &Case,
+    step: &Step,
+    operator: Option<Operator>,
+    alloc: Global,
+) -> Result<Case, Fault>
+    ensures { IfOk result (λ after. IsLed case.now step.now operator after) }
+{
+    let shape = with_operator(&case.shape, operator, alloc)?;
+    applied(case, step, shape, alloc)
+}
+
+/// What comes of an element where one case does.
+pub fn one(case: Case, conditions: Vec<Form>, alloc: Global) -> Result<Outcomes, Fault>
+    ensures { IfOk result (λ all. IsOne conditions.items case all) }
+{
+    let mut cases = Vec::new(alloc);
+    cases.push(case)?;
+    Ok(Outcomes {
+        conditions,
+        cases,
+        away: Vec::new(alloc),
+    })
+}
+
+/// The form of a value that is pending at the innermost level, if there is one.
+pub fn pending(case: &Case, family: Family, alloc: Global) -> Result<Option<Form>, Fault>
+    ensures { IfOk result (λ form. (n : ℕ) (v : Valuation) (s : Point) → IsTrueOf n v case.now s
+        → value_if form n v ≡ each s family (length s.arguments.outer)) }
+{
+    let here = at_level(case)?;
+    measured(case, Measure::Each(family, here.level), alloc)
+}
+
+/// The form of the value that an operator takes on its left: the pending one, or 0.
+pub fn left_value(case: &Case, alloc: Global) -> Result<Form, Fault>
+    ensures { IfOk result (λ form. (n : ℕ) (v : Valuation) (s : Point) → IsTrueOf n v case.now s
+        → value form n v ≡ unwrap_or s.arguments.level.value (pos 0)) }
+{
+    match pending(case, Family::Value, alloc)? {
+        Some(value) => Ok(value),
+        None => Ok(Form::zero(alloc)),
+    }
+}
+
+/// What an operator makes of two numbers before it is taken into 32 bits, where that is a form.
+pub fn made(
+    left: &Form,
+    operator: Operator,
+    right: &Form,
+    alloc: Global,
+) -> Result<Option<Form>, Fault>
+    ensures { IfOk result (λ form. IfSome form (λ form. Makes left.now operator right.now form)) }
+{
+    match operator {
+        Operator::Plus => Ok(Some(left.add(right, alloc)?)),
+        Operator::Minus => Ok(Some(left.sub(right, alloc)?)),
+        Operator::Times => {
+            let form = product(left, right, alloc)?;
+            Ok(form)
+        }
+        Operator::Over | Operator::And | Operator::Or => Ok(None),
+    }
+}
+
+// The case where the value at the innermost level is a form, and no operator waits.
+fn valued(case: &Case, form: &[Form], alloc: Global) -> Result<Case, Fault>
+    ensures { IfOk result (λ after. IsValued case.now (slice_index_or form.now 0 []) after) }
+{
+    let step = Step {
+        clauses: &GIVES,
+        here: at_level(case)?,
+        given: form,
+        unknowns: 0,
+    };
+    led(case, &step, None, alloc)
+}
+
+// The case where that value is some number of 32 bits.
+fn wrapped(case: &Case, alloc: Global) -> Result<Case, Fault>
+    ensures { IfOk result (λ after. IsWrapped case.now after) }
+{
+    let step = Step {
+        clauses: &WRAPS,
+        here: at_level(case)?,
+        given: &[],
+        unknowns: 1,
+    };
+    led(case, &step, None, alloc)
+}
+
+// A number is given where an operator waits: what it makes is a form, if that fits 32 bits.
+fn give_made(case: &Case, form: Form, alloc: Global) -> Result<Outcomes, Fault>
+    ensures { IfOk result (λ all. Values form case.now all) }
+{
+    let conditions = within_32_bits(&form, alloc)?;
+    let after = valued(case, &[form], alloc)?;
+    one(after, conditions, alloc)
+}
+
+// What an operator can be applied to: what is divided by is at least 1.
+fn allowed(operator: Operator, number: &Form, alloc: Global) -> Result<Vec<Form>, Fault>
+    ensures { IfOk result (λ conditions. (n : ℕ) (v : Valuation)
+        → All (Holds n v) conditions.items → IsAllowed operator (value number.now n v)) }
+{
+    let mut conditions = Vec::new(alloc);
+    match operator {
+        Operator::Over => {
+            let least = Form::constant(1, alloc)?;
+            conditions.push(number.sub(&least, alloc)?)?;
+            Ok(conditions)
+        }
+        _ => Ok(conditions),
+    }
+}
+
+// Or it is some number.
+fn give_wrapped(
+    case: &Case,
+    operator: Operator,
+    number: &Form,
+    alloc: Global,
+) -> Result<Outcomes, Fault>
+    ensures { IfOk result (λ all. Wraps operator number.now case.now all) }
+{
+    let conditions = allowed(operator, number, alloc)?;
+    let after = wrapped(case, alloc)?;
+    one(after, conditions, alloc)
+}
+
+// A number is given where nothing waits.
+fn give_alone(case: &Case, number: Form, alloc: Global) -> Result<Outcomes, Fault>
+    requires { WaitsFor None case.now }
+    ensures { IfOk result (λ all. Gives number case.now all) }
+{
+    let after = valued(case, &[number], alloc)?;
+    one(after, Vec::new(alloc), alloc)
+}
+
+// A number is given where an operator waits.
+fn give_to(
+    case: &Case,
+    operator: Operator,
+    number: &Form,
+    may_wrap: bool,
+    alloc: Global,
+) -> Result<Outcomes, Fault>
+    requires { WaitsFor (Some operator) case.now }
+    ensures { IfOk result (λ all. Gives number.now case.now all) }
+{
+    if may_wrap {
+        return give_wrapped(case, operator, number, alloc);
+    }
+    let left = left_value(case, alloc)?;
+    match made(&left, operator, number, alloc)? {
+        Some(form) => give_made(case, form, alloc),
+        None => give_wrapped(case, operator, number, alloc),
+    }
+}
+
+/// A number is given. What a waiting operator makes of it is a form if that is one, and is taken
+/// to fit 32 bits, unless it `may_wrap`; else it is some number of 32 bits.
+pub fn give(case: &Case, number: Form, may_wrap: bool, alloc: Global) -> Result<Outcomes, Fault>
+    ensures { IfOk result (λ all. Gives number case.now all) }
+{
+    match waiting(case) {
+        None => give_alone(case, number, alloc),
+        Some(operator) => give_to(case, operator, &number, may_wrap, alloc),
+    }
+}
+
+// Whether a division waits.
+fn is_over(operator: Option<Operator>) -> bool
+    ensures { result ≡ is_over operator }
+{
+    match operator {
+        Some(Operator::Over) => true,
+        _ => false,
+    }
+}
+
+/// Some number of 32 bits is given. What is divided by it is not told.
+pub fn give_any(case: &Case, alloc: Global) -> Result<Outcomes, Fault>
+    ensures { IfOk result (λ all. GivesAny case.now all) }
+{
+    if is_over(waiting(case)) {
+        return Err(Fault::NotTold);
+    }
+    let after = wrapped(case, alloc)?;
+    one(after, Vec::new(alloc), alloc)
+}
