@@ -350,8 +350,10 @@ no_text : (text : List ℕ) → length text ≡ 0 → text ≡ []
 no_text [] h = refl
 no_text (c ∷ text) h = absurd (omega arith)
 
-pub inserts_number : (case : Case) (kind : Insertion) (taken : Taken) (form : List Term) (text : List ℕ) (all : Outcomes)
-    → kind ≡ Text → taken.value ≡ Some form → length text ≡ 0 → InsertsByte form case all → (e : Element) → e.text ≡ text
+pub inserts_number : (case : Case) (kind : Insertion) (taken : Taken) (form : List Term) (text : List ℕ)
+    (all : Outcomes)
+    → kind ≡ Text → taken.value ≡ Some form → length text ≡ 0 → InsertsByte form case all → (e : Element)
+    → e.text ≡ text
     → Performs (insertion kind e) taken case all
 inserts_number case kind taken form text all k value_is none told e same n v s begins =
     subst (λ j. IsDone n all s (insertion_with j e.text (value_if taken.value n v) s.kept)) (sym k)

@@ -243,7 +243,8 @@ module _ (registers : Registers) (exact : Bool) where
       let one = class_closes exact c h text at m.0 m.1 in
       let there : m.0 ≡ end = m.2 in (at, omega (arith, one.0), one.1)
   last_closes (p ∷ front) c text at end h m =
-      let split = turn_split (items_of registers exact p) (items_in (front ++ part.Item (item.Is c) ∷ [])) text at end m in
+      let split = turn_split (items_of registers exact p) (items_in (front ++ part.Item
+      (item.Is c) ∷ [])) text at end m in
       last_closes front c text split.0 end h split.2
 
   pub match_closes : (ps : List Part) (text : List ℕ) (span : Span) → EndsLine ps → IsMatch (items_in ps) text span

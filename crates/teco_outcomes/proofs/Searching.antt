@@ -123,7 +123,8 @@ numbers span e t (suc zero) = pos span.end
 numbers span e t (suc (suc zero)) = pos e
 numbers span e t (suc (suc (suc i))) = pos t
 
--- What is so of a match with so many elements, where the line that holds its end ends at e, and the new one starts at t.
+-- What is so of a match with so many elements, where the line that holds its end ends at e, and the new one starts
+-- at t.
 record Facts (s : Point) (span : Span) (known : Known) (long e t : ℕ) : Type 0 where
   some : span.start < span.end
   reaches : span.start + long ≤ span.end
@@ -252,7 +253,8 @@ goes_on : (text : List ℕ) (a p t : ℕ) → IsBegin text p t
 goes_on text a p zero begin none = omega arith
 goes_on text a p (suc k) begin none = elim (above_or (suc k) a) as (λ x. suc k ≤ a) [
   | inl w ↦ w
-  | inr w ↦ absurd (clash (ends text k) (begin.one k (omega arith)) (none k (omega arith) (omega (arith, begin.before))))
+  | inr w ↦ absurd (clash (ends text k) (begin.one k (omega arith)) (none k (omega arith) (omega
+      (arith, begin.before))))
 ]
 
 -- ---- a text with another part
@@ -304,7 +306,8 @@ given_by forms n v i = value (slice_index_or forms i []) n v
 pub finds : (case made : Case) (parts : List Part) (direction : Direction) (known : Known) (least : List Term)
     (row more : List Clause) → IsKnown parts direction known → more ≡ extra_clauses known → row ≡ FOUND ++ more
     → IsLong parts case least → IsChanged case row (least ∷ []) made → IsFoundBy parts direction case made
-finds case made parts direction known least row more is extra row_is long changes n v s span kept true_of whole of found =
+finds case made parts direction known least row more is extra row_is long changes n v s span kept true_of whole of
+    found =
     let items = items_in s.kept.registers of.exact parts in
     let lies = match_lies items s.kept.text span of.matches in
     let end = line_end s.kept.text span.end lies.within in
@@ -330,7 +333,8 @@ finds case made parts direction known least row more is extra row_is long change
     subst (λ r. Changes r (read_given (least ∷ []) n v s (numbers span e t) here) s kept)
     (sym (row_is ∙ ap (λ r. FOUND ++ r) extra))
     (changes_more FOUND (extra_clauses known) _ s kept (wants_extras known)
-    (met_extras s span known (length items) e t (given_by (least ∷ []) n v) here facts (long of.exact n v s true_of whole))
+    (met_extras s span known (length items) e t (given_by (least ∷ []) n v) here facts
+    (long of.exact n v s true_of whole))
     refl
     (found_changes s span known (length items) e t (given_by (least ∷ []) n v) here facts
     (long of.exact n v s true_of whole) kept found refl refl begin.before)))
@@ -532,7 +536,8 @@ misses case made colons one changes n v s kept true_of whole missed =
       becomes here (Each Value i) = refl
 
 -- ---- room for a text in the stead of a match
-pub may_replace : (case : Case) (parts : List Part) (text : List ℕ) (size long most least free left condition : List Term)
+pub may_replace : (case : Case) (parts : List Part) (text : List ℕ)
+    (size long most least free left condition : List Term)
     → IsLong parts case least
     → ((n : ℕ) (v : Valuation) (s : Point) → IsTrueOf n v case s → value size n v ≡ pos (length s.kept.text))
     → ((n : ℕ) (v : Valuation) → value long n v ≡ pos (length text))
@@ -541,8 +546,8 @@ pub may_replace : (case : Case) (parts : List Part) (text : List ℕ) (size long
     → ((n : ℕ) (v : Valuation) → value left n v ≡ value free n v -ℤ value long n v)
     → ((n : ℕ) (v : Valuation) → value condition n v ≡ value left n v +ℤ value least n v)
     → MayReplace parts text case condition
-may_replace case parts text size long most least free left condition least_is size_is long_is most_is free_is left_is sum_is
-    n v s span direction true_of whole of holds =
+may_replace case parts text size long most least free left condition least_is size_is long_is most_is free_is
+    left_is sum_is n v s span direction true_of whole of holds =
     let lies = match_lies (items_in s.kept.registers of.exact parts) s.kept.text span of.matches in
     let ordered : span.start ≤ span.end = omega (arith, lies.some) in
     omega (

@@ -23,7 +23,8 @@ use Rattle.teco_model.specs.Flow.{turn_along, turn_to}
 use Rattle.teco_model.specs.Going as going
 use Rattle.teco_model.specs.Match.{backward, forward, here}
 use Rattle.teco_model.specs.Pattern.{Pattern, items_of, pattern, parts}
-use Rattle.teco_model.specs.Search.{Finding, Found, Missed, count_of, finding_of, kept_after, kept_at, match_of, pattern_of, search}
+use Rattle.teco_model.specs.Search.{Finding, Found, Missed, count_of, finding_of, kept_after, kept_at, match_of}
+use Rattle.teco_model.specs.Search.{pattern_of, search}
 use Rattle.teco_model.specs.Search.{search_text_of, text_or}
 use Rattle.teco_model.specs.Searching.{Miss, found, found_in_buffer, has_colon, kept_by_miss, miss_of, miss_where}
 use Rattle.teco_model.specs.Searching.{miss_within, search_reply}
@@ -292,7 +293,8 @@ module _ (x : Search) (answering : Bool) (e : Element) (taken : Taken) (case beh
         (by_match c.0 c.2 (match_of sought e.colons c.0 s.kept.text s.kept.pointer) refl)
 
 pub keeps_found : (e : Element) (case behind : Case) (ps : List Part) (direction : Direction)
-    (conditions : List (List Term)) → IsFoundBy ps direction case behind → Keeps Find e ps direction case behind conditions
+    (conditions : List (List Term)) → IsFoundBy ps direction case behind
+    → Keeps Find e ps direction case behind conditions
 keeps_found e case behind ps direction conditions by n v s span text true_of whole holds of =
     let kept = kept_at span (record s.kept { search_text = text }) in (
       kept,
@@ -304,7 +306,8 @@ pub keeps_replaced : (e : Element) (case behind : Case) (ps : List Part) (direct
     (others conditions : List (List Term)) → conditions ≡ others ++ condition ∷ []
     → IsReplacedBy ps direction e.second case behind → MayReplace ps e.second case condition
     → Keeps Replace e ps direction case behind conditions
-keeps_replaced e case behind ps direction condition others conditions same by room n v s span text true_of whole holds of =
+keeps_replaced e case behind ps direction condition others conditions same by room n v s span text true_of whole
+    holds of =
     let new = text_after_replacement s.kept.text span.start span.end e.second in
     let kept = record s.kept {
       search_text = text;
@@ -336,7 +339,8 @@ left_by x e frame loop inner there is colon loops to =
       along : (skip : Skip) → skip.to ≡ Some there → skip.leaves ≡ 1
           → turn_along code.Utc skip no_arguments frame ≡ Ok (turn_to no_arguments there inner frame)
       along skip f g =
-          ap (λ o. ok_or o code.Utc >>= (λ place. Ok (turn_to no_arguments place (drop skip.leaves frame.loops) frame))) f
+          ap (λ o. ok_or o code.Utc >>= (λ place. Ok (turn_to no_arguments place
+          (drop skip.leaves frame.loops) frame))) f
           ∙ ap (λ k. Ok (turn_to no_arguments there (drop k frame.loops) frame)) g
           ∙ ap (λ ls. Ok (turn_to no_arguments there (drop 1 ls) frame)) loops
 
@@ -364,7 +368,8 @@ search_law x answering e case taken all replies is takes foretold n v s steps be
       by : (b : Bool) → IsAsked b e s.frames.running → (r : Result Finding Code)
           → Succeeds (IsForeseen b n all e.colons (point_of steps below s)) r
           → StepsTo (Goes n all e steps below s)
-          (going.settle e s (r >>- found e (miss_of e s.frames.running) s.left (levels_after_taking s.arguments) s.world))
+          (going.settle e s (r >>- found e (miss_of e s.frames.running) s.left
+          (levels_after_taking s.arguments) s.world))
       by b a (Err c) d = absurd d
       by true a (Ok (Found kept)) d =
           subst (λ m. StepsTo (Goes n all e steps below s) (going.settle e s (Ok (found e m s.left
@@ -372,7 +377,8 @@ search_law x answering e case taken all replies is takes foretold n v s steps be
           (inl (record { described = d; there = refl; left = refl }))
       by true a (Ok (Missed kept)) d =
           subst (λ m. StepsTo (Goes n all e steps below s) (going.settle e s (Ok (found e m s.left
-          (levels_after_taking s.arguments) s.world (Missed kept))))) (sym (ap (λ b. miss_where b e s.frames.running) a))
+          (levels_after_taking s.arguments) s.world (Missed kept))))) (sym (ap
+          (λ b. miss_where b e s.frames.running) a))
           (inl (record { described = d; there = refl; left = refl }))
       by false a (Ok (Found kept)) d =
           let l = nonempty s.frames.running.loops a.1 in

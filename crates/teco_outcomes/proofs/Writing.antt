@@ -48,7 +48,8 @@ typed s bytes LastLength = refl
 pub types : (case after : Case) (given : List (List Term)) (here : Places) (wanted : List (List Term)) (all : Outcomes)
     → IsCommanded case [] given here after → IsOne wanted after all → Types case all
 types case after given here wanted all led one n v s bytes true_of =
-    by_row n v case after [] given here all [] [] s (typing_of bytes s.kept).kept None (λ i. pos 0) led one.cases true_of
+    by_row n v case after [] given here all [] [] s (typing_of bytes s.kept).kept None
+    (λ i. pos 0) led one.cases true_of
     (leads [] _ s (typing_of bytes s.kept).kept None refl refl refl refl (record {
       met = tt;
       singles = typed s bytes;

@@ -1,12 +1,15 @@
 // Outcomes that were worked out by hand.
 use crate::elements::outcomes_of;
 use crate::motions::move_to;
+use crate::searches::search;
 use crate::storages::{add_number, set_number};
 use std::alloc::Global;
 use std::test::Fail;
 use teco_base::Reg;
 use teco_linear::Form;
-use teco_model::kind::{Argument, Command, Flow, Insertion, Motion, Stack, Unit, Value};
+use teco_model::kind::{
+    Argument, Command, Flow, Insertion, Motion, Page, Search, Stack, Storage, Unit, Value,
+};
 use teco_model::{Element, Kind};
 use teco_rows::case::{Case, Shape};
 use teco_rows::commands::Taken;
@@ -223,5 +226,119 @@ fn inserts_a_line(rt: HostRuntime) -> Result<(), Fail> {
     assert!(rt; is_sum(after, Measure::One(Single::Pointer), Some(0), 3, alloc)?);
     assert!(rt; is_sum(after, Measure::One(Single::LineStart), Some(0), 2, alloc)?);
     assert!(rt; is_sum(after, Measure::One(Single::LastLength), None, 3, alloc)?);
+    Ok(())
+}
+
+// :S of b and a line end: what is found ends behind the pointer, where a line starts, and answers
+// -1; where nothing is, the pointer is at 0, and so is the answer.
+#[test]
+fn finds_a_line_end(rt: HostRuntime) -> Result<(), Fail> {
+    let alloc = rt.alloc();
+    let case = start(alloc)?;
+    let find = Element {
+        colons: 1,
+        text: b"b^J",
+        ..letter(Kind::Search(Search::Find))
+    };
+    let all = outcomes_of(&case, &find, false, alloc)?;
+    assert_eq!(rt; all.cases.len(), 2);
+    assert_eq!(rt; all.away.len(), 0);
+    let found = all.cases.first().expect(&rt, "a case");
+    assert!(rt; is_sum(found, Measure::One(Single::Pointer), Some(6), 0, alloc)?);
+    assert!(rt; is_sum(found, Measure::One(Single::LineStart), Some(8), 0, alloc)?);
+    assert!(rt; is_sum(found, Measure::Each(Family::Value, 0), None, -1, alloc)?);
+    assert_eq!(rt; found.constraints.len(), 12);
+    let missed = all.cases.get(1).expect(&rt, "a second case");
+    assert!(rt; is_sum(missed, Measure::One(Single::Pointer), None, 0, alloc)?);
+    assert!(rt; is_sum(missed, Measure::Each(Family::Value, 0), None, 0, alloc)?);
+    assert!(rt; is_sum(missed, Measure::One(Single::Steps), None, 1, alloc)?);
+    Ok(())
+}
+
+// FS in an iteration: one character is put where the match starts; where none is, it is left.
+#[test]
+fn replaces_or_leaves(rt: HostRuntime) -> Result<(), Fail> {
+    let alloc = rt.alloc();
+    let case = start(alloc)?;
+    let entered = outcomes_of(&case, &letter(Kind::Flow(Flow::Iterate)), false, alloc)?;
+    let body = entered.cases.first().expect(&rt, "a body");
+    let replace = Element {
+        text: b"ab",
+        second: b"c",
+        ..letter(Kind::Search(Search::Replace))
+    };
+    let all = search(body, Search::Replace, &replace, false, alloc)?;
+    assert_eq!(rt; all.cases.len(), 1);
+    assert_eq!(rt; all.conditions.len(), 1);
+    let found = all.cases.first().expect(&rt, "a case");
+    assert!(rt; is_sum(found, Measure::One(Single::Pointer), Some(5), 1, alloc)?);
+    assert!(rt; is_sum(found, Measure::One(Single::LastLength), None, 1, alloc)?);
+    let left = all.away.first().expect(&rt, "a way out");
+    assert!(rt; is_sum(left, Measure::One(Single::Pointer), None, 0, alloc)?);
+    assert_eq!(rt; left.shape.iterations, 0);
+    Ok(())
+}
+
+// 1A: a character that is not known, or -1 before the buffer and behind it.
+#[test]
+fn reads_a_character(rt: HostRuntime) -> Result<(), Fail> {
+    let alloc = rt.alloc();
+    let case = start(alloc)?;
+    let one = Element {
+        text: b"1",
+        ..letter(Kind::Argument(Argument::Digits))
+    };
+    let given = outcomes_of(&case, &one, false, alloc)?;
+    let given = given.cases.first().expect(&rt, "a case");
+    let all = outcomes_of(given, &letter(Kind::Page(Page::Append)), false, alloc)?;
+    assert_eq!(rt; all.cases.len(), 3);
+    let inside = all.cases.first().expect(&rt, "a case");
+    assert!(rt; is_sum(inside, Measure::Each(Family::Value, 0), Some(5), 0, alloc)?);
+    let behind = all.cases.get(2).expect(&rt, "a third case");
+    assert!(rt; is_sum(behind, Measure::Each(Family::Value, 0), None, -1, alloc)?);
+    Ok(())
+}
+
+// 9I puts TAB at the pointer, and the line goes on; then its length is 1.
+#[test]
+fn inserts_a_character(rt: HostRuntime) -> Result<(), Fail> {
+    let alloc = rt.alloc();
+    let case = start(alloc)?;
+    let nine = Element {
+        text: b"9",
+        ..letter(Kind::Argument(Argument::Digits))
+    };
+    let given = outcomes_of(&case, &nine, false, alloc)?;
+    let given = given.cases.first().expect(&rt, "a case");
+    let insert = letter(Kind::Command(Command::Insertion(Insertion::Text)));
+    let all = outcomes_of(given, &insert, false, alloc)?;
+    let after = all.cases.first().expect(&rt, "a case");
+    assert!(rt; is_sum(after, Measure::One(Single::Pointer), Some(0), 1, alloc)?);
+    assert!(rt; is_sum(after, Measure::One(Single::LineStart), Some(4), 0, alloc)?);
+    assert!(rt; is_sum(after, Measure::One(Single::LastLength), None, 1, alloc)?);
+    Ok(())
+}
+
+// ^UB and :^UB: the text has 3 characters, and then 5.
+#[test]
+fn stores_a_text(rt: HostRuntime) -> Result<(), Fail> {
+    let alloc = rt.alloc();
+    let case = start(alloc)?;
+    let register = Reg::of(b'B').expect(&rt, "a register");
+    let set = Element {
+        text: b"abc",
+        ..letter(Kind::Command(Command::Storage(Storage::SetText(register))))
+    };
+    let set = outcomes_of(&case, &set, false, alloc)?;
+    let set = set.cases.first().expect(&rt, "a case");
+    assert!(rt; is_sum(set, Measure::Each(Family::Length, 1), None, 3, alloc)?);
+    let more = Element {
+        colons: 1,
+        text: b"de",
+        ..letter(Kind::Command(Command::Storage(Storage::SetText(register))))
+    };
+    let all = outcomes_of(set, &more, false, alloc)?;
+    let after = all.cases.first().expect(&rt, "a case");
+    assert!(rt; is_sum(after, Measure::Each(Family::Length, 1), None, 5, alloc)?);
     Ok(())
 }

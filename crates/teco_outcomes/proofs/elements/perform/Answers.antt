@@ -24,7 +24,8 @@ returns-in-SetNumber c =
     (λ all performs.
     subst (λ k. Foretells (λ s. after_command k (seen c.args.element.now) s.kept s.arguments) c.args.case.now all)
     (sym c.in-Storage.is)
-    (command_foretold (seen c.args.element.now) c.args.case.now c.in_ok-taken.taken all (command.Storage c.in-Storage.storage)
+    (command_foretold (seen c.args.element.now) c.args.case.now c.in_ok-taken.taken all
+    (command.Storage c.in-Storage.storage)
     c.in_ok-taken.ensures (performs (seen c.args.element.now))))
     c.store_number.ensures
 
@@ -34,7 +35,8 @@ returns-in_default c =
     (λ all performs.
     subst (λ k. Foretells (λ s. after_command k (seen c.args.element.now) s.kept s.arguments) c.args.case.now all)
     (sym c.in-Storage.is)
-    (command_foretold (seen c.args.element.now) c.args.case.now c.in_ok-taken.taken all (command.Storage c.in-Storage.storage)
+    (command_foretold (seen c.args.element.now) c.args.case.now c.in_ok-taken.taken all
+    (command.Storage c.in-Storage.storage)
     c.in_ok-taken.ensures performs))
     c.store_text.ensures
 
@@ -44,7 +46,8 @@ returns-in-Typing c =
     (λ all performs.
     subst (λ k. Foretells (λ s. after_command k (seen c.args.element.now) s.kept s.arguments) c.args.case.now all)
     (sym c.in-Typing.is)
-    (command_foretold (seen c.args.element.now) c.args.case.now c.in_ok-taken.taken all (command.Typing c.in-Typing.typing)
+    (command_foretold (seen c.args.element.now) c.args.case.now c.in_ok-taken.taken all
+    (command.Typing c.in-Typing.typing)
     c.in_ok-taken.ensures (performs (seen c.args.element.now))))
     c.type_text.ensures
 

@@ -7,14 +7,16 @@ use Rattle.teco_outcomes.proofs.insertions.insert.Goals as goal
 pub returns-in-Text : goal.returns-in-Text
 returns-in-Text c =
     IfOk-weaker c.insert_byte.result _ _
-    (λ all told. inserts_number c.args.case.now c.args.kind c.args.taken c.in-Some.number c.args.text.now all c.in-Text.is
+    (λ all told. inserts_number c.args.case.now c.args.kind c.args.taken c.in-Some.number c.args.text.now all
+    c.in-Text.is
     c.in-Some.is (grind (arith, common_steps)) told)
     c.insert_byte.ensures
 
 pub returns-in-Text-kind : goal.returns-in-Text-kind
 returns-in-Text-kind c =
     IfOk-weaker c.insert_text.result _ _
-    (λ all told. inserts_text c.args.case.now c.args.kind c.args.taken c.args.text.now all c.in-Text-kind.is c.in-None.is
+    (λ all told. inserts_text c.args.case.now c.args.kind c.args.taken c.args.text.now all c.in-Text-kind.is
+    c.in-None.is
     told)
     c.insert_text.ensures
 

@@ -7,7 +7,8 @@ use Rattle.teco_outcomes.proofs.patterns.least.Goals as goal
 
 pub loop-part-preserved : goal.loop-part-preserved
 loop-part-preserved c = λ exact n v s true_of whole.
-    let at : c.part-item.result ≡ get_or c.args.parts.now c.loop-part.part-index no_part = grind (arith, common_steps) in
+    let at : c.part-item.result ≡ get_or c.args.parts.now c.loop-part.part-index no_part = grind
+    (arith, common_steps) in
     let more = subst (λ p. value c.in_ok-more.more n v ≡ pos (count s.kept.registers exact (p ∷ []))) at
     (c.in_ok-more.ensures exact n v s true_of whole) in
     omega (

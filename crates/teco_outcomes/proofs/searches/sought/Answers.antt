@@ -17,7 +17,11 @@ returns-in_default c =
 
 pub returns-in-Some-known : goal.returns-in-Some-known
 returns-in-Some-known c =
-    let aim : Aim = record { direction = c.directed-direction-in-Some-known.result; conditions = c.new-conditions.result } in
+    let aim : Aim = record {
+      direction = c.directed-direction-in-Some-known.result;
+      conditions =
+          c.new-conditions.result;
+    } in
     subst (λ o. Aims o c.args.colons aim) (sym c.in-Some.is)
     (aims_known c.in-Some.form _ _ c.args.colons aim c.directed-direction-in-Some-known.ensures c.in-Some-known.ensures
     (λ so. grind (arith, ints, common_steps)) (λ so. grind (arith, ints, common_steps, c.in-Some-known.number-is)))

@@ -6,5 +6,6 @@ use Rattle.teco_outcomes.proofs.searches.told.Goals as goal
 pub returns : goal.returns
 returns c =
     IfOk-weaker c.command.result _ _
-    (λ made led x same. tells c.args.case.now made x c.args.answer.now [] c.in_ok-here.here same c.in_ok-here.ensures led)
+    (λ made led x same. tells c.args.case.now made x c.args.answer.now [] c.in_ok-here.here same
+    c.in_ok-here.ensures led)
     c.command.ensures

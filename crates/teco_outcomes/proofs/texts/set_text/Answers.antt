@@ -12,6 +12,7 @@ returns c =
     (λ all one.
     sets_text c.args.case.now c.in_ok-after.after c.args.taken c.args.register c.in_ok-here.here
     (seen c.args.element.now) c.in_ok-rest.rest c.in_ok-more.more c.in_ok-long.long c.in_ok-condition.condition _ all
-    c.in_ok-here.ensures.register c.in_ok-here.ensures.within (sym c.is_some.ensures ∙ c.if-is_some.false) c.in_ok-rest.ensures c.in_ok-more.ensures
+    c.in_ok-here.ensures.register c.in_ok-here.ensures.within (sym c.is_some.ensures
+    ∙ c.if-is_some.false) c.in_ok-rest.ensures c.in_ok-more.ensures
     c.in_ok-long.ensures c.in_ok-condition.ensures items c.in_ok-after.ensures one)
     c.one.ensures

@@ -21,28 +21,32 @@ pub returns-in-Part : goal.returns-in-Part
 returns-in-Part c =
     IfOk-weaker c.stepped-in-None.result _ _
     (λ all told e.
-    subst (λ k. Performs (typing k e) c.args.taken c.args.case.now all) (sym c.in-Part.is) (lines_typed c.args.case.now c.args.taken all e c.in-None.is told))
+    subst (λ k. Performs (typing k e) c.args.taken c.args.case.now all) (sym c.in-Part.is)
+    (lines_typed c.args.case.now c.args.taken all e c.in-None.is told))
     c.stepped-in-None.ensures.types
 
 pub returns-in-View : goal.returns-in-View
 returns-in-View c =
     IfOk-weaker c.stepped-in-View.result _ _
     (λ all told e.
-    subst (λ k. Performs (typing k e) c.args.taken c.args.case.now all) (sym c.in-View.is) (view_typed c.args.case.now c.args.taken all e told))
+    subst (λ k. Performs (typing k e) c.args.taken c.args.case.now all) (sym c.in-View.is)
+    (view_typed c.args.case.now c.args.taken all e told))
     c.stepped-in-View.ensures.types
 
 pub returns-in-Message : goal.returns-in-Message
 returns-in-Message c =
     IfOk-weaker c.stepped-in-Message.result _ _
     (λ all told e.
-    subst (λ k. Performs (typing k e) c.args.taken c.args.case.now all) (sym c.in-Message.is) (text_typed c.args.case.now c.args.taken all e told))
+    subst (λ k. Performs (typing k e) c.args.taken c.args.case.now all) (sym c.in-Message.is)
+    (text_typed c.args.case.now c.args.taken all e told))
     c.stepped-in-Message.ensures.types
 
 pub returns-in-Byte : goal.returns-in-Byte
 returns-in-Byte c =
     IfOk-weaker c.with_number.result _ _
     (λ all told e.
-    subst (λ k. Performs (typing k e) c.args.taken c.args.case.now all) (sym c.in-Byte.is) (byte_typed c.args.case.now c.args.taken all e told))
+    subst (λ k. Performs (typing k e) c.args.taken c.args.case.now all) (sym c.in-Byte.is)
+    (byte_typed c.args.case.now c.args.taken all e told))
     c.with_number.ensures
 
 pub returns : goal.returns
