@@ -12,13 +12,13 @@ use Rattle.teco_model.specs.Arguments.{Arguments}
 use Rattle.teco_model.specs.Macros.{ArgumentRange, IsAsked}
 use Rattle.teco_model.specs.Registers.{Pair}
 use Rattle.teco_model.specs.declared.arguments.Level.{Level}
-use Rattle.teco_outcomes.specs.declared.measure.Family.{Family}
-use Rattle.teco_outcomes.specs.declared.measure.Family.TheVariants.{Number, Length, Turns, PushedNumber, PushedLength}
-use Rattle.teco_outcomes.specs.declared.measure.Family.TheVariants.{First, Value}
-use Rattle.teco_outcomes.specs.declared.measure.Measure.{Measure}
-use Rattle.teco_outcomes.specs.declared.measure.Measure.TheVariants.{One, Each}
-use Rattle.teco_outcomes.specs.Measures.{place}
-use Rattle.teco_outcomes.specs.States.{Point, from_end, levels, measures_of, number_of, length_of, operators_of}
+use Rattle.teco_rows.specs.declared.measure.Family.{Family}
+use Rattle.teco_rows.specs.declared.measure.Family.TheVariants.{Number, Length, Turns, PushedNumber, PushedLength}
+use Rattle.teco_rows.specs.declared.measure.Family.TheVariants.{First, Value}
+use Rattle.teco_rows.specs.declared.measure.Measure.{Measure}
+use Rattle.teco_rows.specs.declared.measure.Measure.TheVariants.{One, Each}
+use Rattle.teco_rows.specs.Measures.{place}
+use Rattle.teco_rows.specs.States.{Point, from_end, levels, measures_of, number_of, length_of, operators_of}
 use Rattle.teco_paths.specs.declared.cut.Cut.{Cut}
 use Rattle.teco_paths.specs.Claims.{AreClaimed}
 use Rattle.teco_paths.specs.Entry.{AreThere, IsEntered, IsEntryClaim, IsEntryCut, family_is_there, is_there}

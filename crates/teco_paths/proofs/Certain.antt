@@ -17,7 +17,7 @@ use Rattle.teco_model.specs.Files.{Input}
 use Rattle.teco_model.specs.Macros.{Library, ArgumentRange, IsAsked}
 use Rattle.teco_model.specs.Run.{Reaches, Ends, run}
 use Rattle.teco_model.specs.State.{World, State, Outcome, Next, End, start}
-use Rattle.teco_outcomes.specs.declared.case.Case.{Case}
+use Rattle.teco_rows.specs.declared.case.Case.{Case}
 use Rattle.teco_outcomes.specs.Law.{point_of, unread_in}
 use Rattle.teco_paths.specs.declared.cut.Cut.{Cut}
 use Rattle.teco_paths.specs.Claims.{IsCaseOf}

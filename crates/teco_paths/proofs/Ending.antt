@@ -6,9 +6,9 @@ use Rattle.teco_law_tables.specs.Staying.{ReadsNoFileCommand}
 use Rattle.teco_model.specs.Run.{Reaches, run}
 use Rattle.teco_model.specs.State.{State, Next, End}
 use Rattle.teco_model.specs.Step.{step}
-use Rattle.teco_outcomes.specs.declared.case.Case.{Case}
+use Rattle.teco_rows.specs.declared.case.Case.{Case}
 use Rattle.teco_outcomes.specs.Law.{point_of}
-use Rattle.teco_outcomes.specs.States.{Describes}
+use Rattle.teco_rows.specs.States.{Describes}
 use Rattle.teco_paths.specs.declared.cut.Cut.{Cut}
 use Rattle.teco_paths.specs.Paths.{Course, Ends, IsAtCut, CutsEnd, IsFollowed, Leads}
 use Rattle.teco_paths.specs.Runs.{Ground, IsAt, EndsBy, held_in}

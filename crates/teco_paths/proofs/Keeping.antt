@@ -2,11 +2,11 @@
 use Rattle.std.proofs.Common.{◌≡◌, ◌⊎◌, inl, inr, ℕ, zero, suc, ◌+◌, ◌<◌, ◌≤◌, refl, sym, subst, arith, List, [], ◌∷◌}
 use Rattle.std.proofs.Common.{◌++◌, length, Bool, true, false}
 use Rattle.std.specs.List.{Any}
-use Rattle.teco_outcomes.specs.declared.case.Case.{Case}
+use Rattle.teco_rows.specs.declared.case.Case.{Case}
 use Rattle.teco_paths.specs.declared.spot.Spot.{Spot}
-use Rattle.teco_outcomes.specs.declared.outcomes.Outcomes.{Outcomes}
+use Rattle.teco_rows.specs.declared.outcomes.Outcomes.{Outcomes}
 use Rattle.teco_outcomes.specs.Law.{point_of}
-use Rattle.teco_outcomes.specs.States.{Describes}
+use Rattle.teco_rows.specs.States.{Describes}
 use Rattle.teco_paths.specs.Steps.{AreKept, AreLeft, AreSpots, IsImpossible, IsTarget, IsThere}
 use Rattle.teco_paths.proofs.Lists.{any_back, any_front}
 use Rattle.teco_verifier.specs.expansion.Node.{Node}

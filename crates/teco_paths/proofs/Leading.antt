@@ -14,9 +14,9 @@ use Rattle.teco_model.specs.Element.{Element}
 use Rattle.teco_model.specs.Flow.{Turn}
 use Rattle.teco_model.specs.Skip.{skip_of}
 use Rattle.teco_model.specs.State.{Frames, State}
-use Rattle.teco_outcomes.specs.declared.case.Case.{Case}
+use Rattle.teco_rows.specs.declared.case.Case.{Case}
 use Rattle.teco_outcomes.specs.Law.{loops_in, place_away, point_of}
-use Rattle.teco_outcomes.specs.States.{IsShape}
+use Rattle.teco_rows.specs.States.{IsShape}
 use Rattle.teco_paths.specs.Runs.{Ground, StandsBy}
 use Rattle.teco_paths.specs.Steps.{AreApart, GoesBy, IsTarget, IsTest, IsTold, IsToldApart, Steps}
 use Rattle.teco_paths.proofs.Lists.{node_of, none_behind, none_third}

@@ -9,13 +9,13 @@ use Rattle.teco_model.specs.declared.kind.Kind.TheVariants as kind
 use Rattle.teco_model.specs.Element.{Element}
 use Rattle.teco_model.specs.Flow.{turn_past}
 use Rattle.teco_model.specs.State.{Frame}
-use Rattle.teco_outcomes.specs.declared.case.Case.{Case}
-use Rattle.teco_outcomes.specs.declared.fault.Fault.{Fault}
-use Rattle.teco_outcomes.specs.declared.outcomes.Outcomes.{Outcomes}
+use Rattle.teco_rows.specs.declared.case.Case.{Case}
+use Rattle.teco_rows.specs.declared.fault.Fault.{Fault}
+use Rattle.teco_rows.specs.declared.outcomes.Outcomes.{Outcomes}
 use Rattle.teco_outcomes.specs.Flow.{IsTurnOf, Turns, turned}
-use Rattle.teco_outcomes.specs.Foretold.{Begins}
+use Rattle.teco_rows.specs.Foretold.{Begins}
 use Rattle.teco_outcomes.specs.Law.{IsMatched}
-use Rattle.teco_outcomes.specs.States.{Point, Describes}
+use Rattle.teco_rows.specs.States.{Point, Describes}
 use Rattle.teco_paths.specs.Steps.{Passes}
 
 abbrev here : Element

@@ -31,12 +31,12 @@ use Rattle.teco_model.specs.Step.{step, end_outcome, end_of_text, outcome_at, ou
 use Rattle.teco_model.specs.Storage.{text_in}
 use Rattle.teco_model.specs.Going.{frames_in}
 use Rattle.teco_model.proofs.Chains.{ok, bound, some_of}
-use Rattle.teco_outcomes.specs.declared.case.Case.{Case}
-use Rattle.teco_outcomes.specs.declared.outcomes.Outcomes.{Outcomes}
+use Rattle.teco_rows.specs.declared.case.Case.{Case}
+use Rattle.teco_rows.specs.declared.outcomes.Outcomes.{Outcomes}
 use Rattle.teco_outcomes.specs.Flow.{turned}
-use Rattle.teco_outcomes.specs.Foretold.{Begins}
+use Rattle.teco_rows.specs.Foretold.{Begins}
 use Rattle.teco_outcomes.specs.Law.{Arrives, ArrivesAway, Goes, Law, LeadsOn, IsMatched, IsOfIteration, StandsAt, StepsTo, loops_in, point_of, frames_on}
-use Rattle.teco_outcomes.specs.States.{Point, Describes, IsTrueOf}
+use Rattle.teco_rows.specs.States.{Point, Describes, IsTrueOf}
 use Rattle.teco_paths.specs.declared.spot.Spot.{Spot}
 use Rattle.teco_paths.specs.Runs.{Ground, IsAt}
 use Rattle.teco_paths.specs.Steps.{AreSpots, GoOn, GoesBy, GoesOn, IsCall, IsEndOrCall, IsPlain, IsRead, IsTextEnd, IsThere, IsTold, Passes, Steps, cases_by}

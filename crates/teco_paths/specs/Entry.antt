@@ -9,12 +9,12 @@ use Rattle.teco_linear.specs.DifferenceBounds.{slack}
 use Rattle.teco_model.specs.Macros.{ArgumentRange, IsAsked}
 use Rattle.teco_model.specs.State.{held_length}
 use Rattle.teco_model.specs.laws.Whole.{IsWhole}
-use Rattle.teco_outcomes.specs.declared.measure.Family.{Family}
-use Rattle.teco_outcomes.specs.declared.measure.Family.TheVariants.{Number, Length, Turns, PushedNumber, PushedLength}
-use Rattle.teco_outcomes.specs.declared.measure.Family.TheVariants.{First, Value}
-use Rattle.teco_outcomes.specs.declared.measure.Measure.{Measure}
-use Rattle.teco_outcomes.specs.declared.measure.Measure.TheVariants.{One, Each}
-use Rattle.teco_outcomes.specs.States.{Point}
+use Rattle.teco_rows.specs.declared.measure.Family.{Family}
+use Rattle.teco_rows.specs.declared.measure.Family.TheVariants.{Number, Length, Turns, PushedNumber, PushedLength}
+use Rattle.teco_rows.specs.declared.measure.Family.TheVariants.{First, Value}
+use Rattle.teco_rows.specs.declared.measure.Measure.{Measure}
+use Rattle.teco_rows.specs.declared.measure.Measure.TheVariants.{One, Each}
+use Rattle.teco_rows.specs.States.{Point}
 use Rattle.teco_paths.specs.declared.cut.Cut.{Cut}
 use Rattle.teco_paths.specs.Claims.{AreClaimed, ClaimHolds}
 use Rattle.teco_paths.specs.Symbols.{measure_of, numbers_of}

@@ -4,9 +4,9 @@ use Rattle.std.specs.List.{All, Any}
 use Rattle.teco_law_expansion.specs.Linked.{AreLinked}
 use Rattle.teco_model.specs.Run.{Reaches}
 use Rattle.teco_model.specs.State.{State}
-use Rattle.teco_outcomes.specs.declared.case.Case.{Case}
+use Rattle.teco_rows.specs.declared.case.Case.{Case}
 use Rattle.teco_outcomes.specs.Law.{point_of}
-use Rattle.teco_outcomes.specs.States.{Describes}
+use Rattle.teco_rows.specs.States.{Describes}
 use Rattle.teco_paths.specs.declared.cut.Cut.{Cut}
 use Rattle.teco_paths.specs.declared.spot.Spot.{Spot}
 use Rattle.teco_paths.specs.Claims.{AreClaimed}

@@ -13,12 +13,12 @@ use Rattle.teco_model.specs.Element.{Element}
 use Rattle.teco_model.specs.Macros.{IsLoaded}
 use Rattle.teco_model.specs.State.{State, Next}
 use Rattle.teco_model.specs.Step.{step}
-use Rattle.teco_outcomes.specs.declared.case.Case.{Case}
-use Rattle.teco_outcomes.specs.declared.outcomes.Outcomes.{Outcomes}
+use Rattle.teco_rows.specs.declared.case.Case.{Case}
+use Rattle.teco_rows.specs.declared.outcomes.Outcomes.{Outcomes}
 use Rattle.teco_outcomes.specs.Flow.{turned}
-use Rattle.teco_outcomes.specs.Foretold.{Begins}
+use Rattle.teco_rows.specs.Foretold.{Begins}
 use Rattle.teco_outcomes.specs.Law.{frames_on, place_away, point_of}
-use Rattle.teco_outcomes.specs.States.{Point, IsShape, Describes}
+use Rattle.teco_rows.specs.States.{Point, IsShape, Describes}
 use Rattle.teco_paths.specs.declared.spot.Spot.{Spot}
 use Rattle.teco_paths.specs.Runs.{Ground, StandsBy, IsAt}
 use Rattle.teco_paths.specs.Paths.{Course}

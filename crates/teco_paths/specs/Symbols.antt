@@ -1,15 +1,15 @@
 -- What the symbols of a claim stand for: each for the measure in whose place a case has its form.
 use Rattle.std.specs.Prelude.{ℕ, zero, suc, ◌-◌, ◌/◌, ◌%◌, pos, nat_lt, if◌then◌else◌, unwrap_or}
 use Rattle.teco_linear.specs.Form.{Valuation}
-use Rattle.teco_outcomes.specs.declared.measure.Single.{Single}
-use Rattle.teco_outcomes.specs.declared.measure.Single.TheVariants.{Steps, Pointer, Size, Held, LineEnd, LineStart}
-use Rattle.teco_outcomes.specs.declared.measure.Single.TheVariants.{LastLength}
-use Rattle.teco_outcomes.specs.declared.measure.Family.{Family}
-use Rattle.teco_outcomes.specs.declared.measure.Family.TheVariants.{Number, Length, Turns, PushedNumber, PushedLength}
-use Rattle.teco_outcomes.specs.declared.measure.Family.TheVariants.{First, Value}
-use Rattle.teco_outcomes.specs.declared.measure.Measure.{Measure}
-use Rattle.teco_outcomes.specs.declared.measure.Measure.TheVariants.{One, Each}
-use Rattle.teco_outcomes.specs.States.{Point, measures_of}
+use Rattle.teco_rows.specs.declared.measure.Single.{Single}
+use Rattle.teco_rows.specs.declared.measure.Single.TheVariants.{Steps, Pointer, Size, Held, LineEnd, LineStart}
+use Rattle.teco_rows.specs.declared.measure.Single.TheVariants.{LastLength}
+use Rattle.teco_rows.specs.declared.measure.Family.{Family}
+use Rattle.teco_rows.specs.declared.measure.Family.TheVariants.{Number, Length, Turns, PushedNumber, PushedLength}
+use Rattle.teco_rows.specs.declared.measure.Family.TheVariants.{First, Value}
+use Rattle.teco_rows.specs.declared.measure.Measure.{Measure}
+use Rattle.teco_rows.specs.declared.measure.Measure.TheVariants.{One, Each}
+use Rattle.teco_rows.specs.States.{Point, measures_of}
 
 -- the measures that a state has once, by their places
 abbrev pub single_of : ℕ → Single

@@ -4,7 +4,7 @@ ghost use Rattle.std.specs.Bool.{OnTrue};
 ghost use Rattle.std.specs.List.{All};
 ghost use Rattle.teco_linear.specs.Form.{Valuation, value, values};
 ghost use Rattle.teco_linear.specs.Implied.{Holds};
-ghost use Rattle.teco_outcomes.specs.Cases.{value_if};
+ghost use Rattle.teco_rows.specs.Cases.{value_if};
 ghost use Rattle.teco_paths.specs.Claims.{AreFilled, ArePresent, AreSymbols, ComesTo, IsCaseOf, filled_by};
 
 use crate::fault::PathFault;
@@ -12,8 +12,8 @@ use crate::implied::is_so;
 use std::alloc::Global;
 use teco_linear::Form;
 use teco_model::Operator;
-use teco_outcomes::applied::{copied_constraints, form_at};
-use teco_outcomes::case::{Case, Shape};
+use teco_rows::applied::{copied_constraints, form_at};
+use teco_rows::case::{Case, Shape};
 
 /// A cut point: where it stands, the shape of a state there, which measures it has, by their places,
 /// and what is claimed of these: each symbol is the measure in its place.

@@ -14,7 +14,7 @@ use std::alloc::Global;
 use teco_base::{LIMIT, REGISTERS};
 use teco_linear::{Form, Term};
 use teco_model::ArgumentRange;
-use teco_outcomes::case::Shape;
+use teco_rows::case::Shape;
 
 // The places of the steps that were done, and of what is held.
 const STEPS: u32 = 0;

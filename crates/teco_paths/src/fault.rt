@@ -4,7 +4,7 @@ ghost use Rattle.teco_paths.specs.declared.fault.PathFault.TheVariants.{Memory, 
 
 use std::alloc::{AllocError, AllocFailed};
 use teco_linear::LinearFault;
-use teco_outcomes::fault::Fault;
+use teco_rows::fault::Fault;
 use teco_simplex::SimplexFault;
 use thiserror::Error;
 

@@ -10,7 +10,7 @@ use crate::fault::PathFault;
 use crate::spot::Spot;
 use crate::steps::{behind, is_in_time, is_small};
 use std::alloc::Global;
-use teco_outcomes::case::Case;
+use teco_rows::case::Case;
 
 /// The most spots that paths may come to from a cut point.
 pub const MOST_SPOTS: usize = 20_000;

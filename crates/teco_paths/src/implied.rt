@@ -9,7 +9,7 @@ use crate::fault::PathFault;
 use crate::multipliers::{Found, find};
 use std::alloc::Global;
 use teco_linear::{Form, LinearFault, is_implied};
-use teco_outcomes::case::Case;
+use teco_rows::case::Case;
 
 // Whether multipliers show it. Where a number passes its bounds, they do not.
 fn is_shown(

@@ -1,6 +1,6 @@
 //! Where a path has come to.
 
-use teco_outcomes::case::Case;
+use teco_rows::case::Case;
 
 /// A node by its number, and a case that describes the states there.
 #[derive(Drop)]

@@ -16,13 +16,13 @@ use teco_expansion::Nodes;
 use teco_linear::Form;
 use teco_model::kind::{Command, Flow, Stack, Storage};
 use teco_model::{Element, Kind};
-use teco_outcomes::case::Case;
+use teco_rows::case::Case;
 use teco_outcomes::elements::outcomes_of;
-use teco_outcomes::fault::Fault;
+use teco_rows::fault::Fault;
 use teco_outcomes::flow::turn;
-use teco_outcomes::forms::single;
-use teco_outcomes::measure::Single;
-use teco_outcomes::outcomes::Outcomes;
+use teco_rows::forms::single;
+use teco_rows::measure::Single;
+use teco_rows::outcomes::Outcomes;
 
 // The most cases that an element may have.
 const MOST_CASES: usize = 4096;

@@ -7,7 +7,7 @@ use crate::fault::PathFault;
 use teco_expansion::Nodes;
 use teco_model::Kind;
 use teco_model::kind::Flow;
-use teco_outcomes::case::Case;
+use teco_rows::case::Case;
 
 // Whether a conditional stands at a node.
 fn is_test(nodes: &Nodes<'_>, number: usize) -> bool

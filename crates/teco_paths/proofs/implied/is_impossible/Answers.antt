@@ -5,7 +5,7 @@ use Rattle.std.specs.Bool.{OnTrue}
 use Rattle.teco_linear.specs.declared.term.Term.{Term}
 use Rattle.teco_linear.specs.Form.{Valuation, value}
 use Rattle.teco_linear.specs.Implied.{Implies}
-use Rattle.teco_outcomes.specs.declared.case.Case.{Case}
+use Rattle.teco_rows.specs.declared.case.Case.{Case}
 use Rattle.teco_paths.specs.declared.fault.PathFault.{PathFault}
 use Rattle.teco_paths.specs.Steps.{IsImpossible}
 use Rattle.teco_paths.proofs.implied.is_impossible.Goals as goal

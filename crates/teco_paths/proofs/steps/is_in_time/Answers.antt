@@ -1,7 +1,7 @@
 use Rattle.std.proofs.Common.{◌≡◌, ◌+◌, length, subst}
 use Rattle.std.specs.Bool.{OnTrue}
 use Rattle.teco_linear.specs.Implied.{Implies}
-use Rattle.teco_outcomes.specs.States.{Point}
+use Rattle.teco_rows.specs.States.{Point}
 use Rattle.teco_paths.specs.Paths.{Course}
 use Rattle.teco_paths.specs.Steps.{IsInTime}
 use Rattle.teco_poly.specs.Polynomial.{value}
