@@ -52,6 +52,7 @@ use Rattle.teco_rows.proofs.Giving.{describes_one, given_alone, given_to}
 use Rattle.teco_rows.proofs.Leading.{leaves, left_alone}
 use Rattle.teco_rows.proofs.Pending.{depth, first_there, level_at, level_same}
 use Rattle.teco_rows.proofs.Ways.{leaves_singles, single_alone}
+use Rattle.teco_outcomes.specs.Flow.{IsDropped}
 
 -- a row says nothing but of levels
 pub record IsOfLevels (row : List Clause) : Type 0 where
@@ -343,14 +344,17 @@ closes case outside form all deep alone ends is_outside gives n v s begins = clo
       (passed outer (level_with (value form n v) level) given)
 
 -- ---- ESC
-pub drops : (case outermost made : Case) (given : List (List Term)) (here : Places) (conditions : List (List Term))
-    (all : Outcomes) → IsOutermost case outermost → IsCommanded outermost [] given here made
-    → IsOne conditions made all → Rearranges (levels_after argument.DropAll []) case all
-drops case outermost made given here conditions all out commanded one n v s begins =
-    let o = out n v s begins.true_of in
+pub is_dropped : (case outermost made : Case) (given : List (List Term)) (here : Places) → IsOutermost case outermost
+    → IsCommanded outermost [] given here made → IsDropped case made
+is_dropped case outermost made given here out commanded n v s true_of =
+    let o = out n v s true_of in
     let t = with_arguments s (record { level = o.0; outer = [] }) in
-    describes_one n conditions made all _ one
-    (commanded n v t s.kept None nothing o.1 (record { met = tt; becomes = λ m. refl; pushes = refl }))
+    commanded n v t s.kept None nothing o.1 (record { met = tt; becomes = λ m. refl; pushes = refl })
+
+pub drops : (case made : Case) (conditions : List (List Term)) (all : Outcomes) → IsDropped case made
+    → IsOne conditions made all → Rearranges (levels_after argument.DropAll []) case all
+drops case made conditions all is one n v s begins =
+    describes_one n conditions made all _ one (is n v s begins.true_of)
 
 -- ---- digits
 pub number_given : (case : Case) (form : List Term) (number : ℤ) (all : Outcomes)

@@ -128,7 +128,7 @@ mode_asked case all none gives colons e same n v s begins =
     subst (λ o. P (after_query_with Mode e.colons o s.kept s.arguments))
     (sym (missing (standing_value s.arguments.level) (none n v s begins.true_of)))
     (levels_succeed n all s (level_with s.kept.mode s.arguments.level)
-    (gives n v s s.kept.mode begins begins.whole.mode))
+    (gives n v s s.kept.mode begins.true_of begins.whole.mode))
 
 -- ---- what is done with a value that stands
 module _ (s : Point) (here : Places) (given : ℕ → ℤ) where

@@ -1,6 +1,6 @@
 -- How flow elements go.
 use Rattle.std.proofs.Common.{◌≡◌, ℕ, suc, zero, ◌≤◌, ℤ, pos, negsuc, ◌≤ℤ◌, List, [], ◌∷◌, ◌++◌, length, drop, Bool}
-use Rattle.std.proofs.Common.{true}
+use Rattle.std.proofs.Common.{true, ◌⊎◌}
 use Rattle.std.proofs.Common.{false, Option, Some, None, is_some, option_map, Result, Ok, inl, inr, refl, sym, ap}
 use Rattle.std.proofs.Common.{subst, ◌∙◌, arith}
 use Rattle.std.proofs.lemmas.Int.{ints}
@@ -17,7 +17,7 @@ use Rattle.teco_model.specs.Condition.{holds}
 use Rattle.teco_model.specs.Effect.{needed_value}
 use Rattle.teco_model.specs.Element.{Element}
 use Rattle.teco_model.specs.Flow.{Turn, conditional, to_turn_end, iteration, jump, leaves, leaving, leaving_where}
-use Rattle.teco_model.specs.Flow.{next_turn}
+use Rattle.teco_model.specs.Flow.{next_turn, without_value}
 use Rattle.teco_model.specs.Flow.{turn_end, turn_of, turn_past, turn_to}
 use Rattle.teco_model.specs.Going.{with_taken}
 use Rattle.teco_model.specs.Skip.{route_of, skip_of, skip_on}
@@ -28,6 +28,7 @@ use Rattle.teco_model.specs.declared.kind.Flow.{Flow}
 use Rattle.teco_model.specs.declared.kind.Flow.TheVariants as flow
 use Rattle.teco_model.specs.declared.kind.Goal.{Goal}
 use Rattle.teco_model.specs.declared.kind.Goal.TheVariants as goal
+use Rattle.teco_model.specs.declared.kind.Kind.{Kind}
 use Rattle.teco_model.specs.declared.kind.Kind.TheVariants as kind
 use Rattle.teco_model.specs.declared.kind.Test.{Test}
 use Rattle.teco_rows.specs.declared.case.Case.{Case}
@@ -39,12 +40,13 @@ use Rattle.teco_rows.specs.Cases.{value_if}
 use Rattle.teco_rows.specs.Commands.{IsTaken}
 use Rattle.teco_outcomes.specs.Flow as outcome
 use Rattle.teco_outcomes.specs.Flow.{AreLater, Counts, Enters, IsAgain, IsCounted, IsEnded, IsLeft, IsTurnOf}
-use Rattle.teco_outcomes.specs.Flow.{IsUncounted}
+use Rattle.teco_outcomes.specs.Flow.{IsDropped, IsUncounted, JumpsOut}
 use Rattle.teco_outcomes.specs.Flow.{IsInnermost, IsLater, Returns, turned}
 use Rattle.teco_rows.specs.Foretold.{Succeeds}
 use Rattle.teco_outcomes.specs.Law.{IsMatched, IsOfIteration, LeadsOn, place_away}
 use Rattle.teco_rows.specs.Levels.{IsOutermost, with_arguments}
 use Rattle.teco_outcomes.specs.Ranges.{AreBehindIn, IsIn, IsInOne}
+use Rattle.teco_outcomes.specs.declared.ranges.Range.TheVariants as range
 use Rattle.teco_rows.specs.States.{Point, IsTrueOf, Describes, measures_of}
 use Rattle.teco_rows.specs.declared.measure.Family.TheVariants.{Turns}
 use Rattle.teco_rows.specs.declared.measure.Measure.TheVariants.{Each}
@@ -425,3 +427,79 @@ counts case number form answer e inner is n v s loop outer true_of loops =
       both (Some k) x (Some f) a b = refl
       both None x (Some f) a b = cc
       both (Some k) x None a b = cc
+
+-- ---- O
+-- at most one iteration is left where no more are open
+choose : (inner outer : List Loop) (left : ℕ) → length (inner ++ outer) ≤ 1
+    → (inner ++ outer ≡ drop left inner ++ outer)
+    ⊎ ((loop : Loop) × (inner ++ outer ≡ loop ∷ []) × ([] ≡ drop left inner ++ outer))
+choose [] outer zero h = inl refl
+choose [] outer (suc left) h = inl refl
+choose (loop ∷ inner) outer zero h = inl refl
+choose (loop ∷ []) [] (suc zero) h = inr (loop, refl, refl)
+choose (loop ∷ []) [] (suc (suc left)) h = inr (loop, refl, refl)
+choose (loop ∷ []) (x ∷ outer) (suc left) h = absurd (omega arith)
+choose (loop ∷ x ∷ inner) outer (suc left) h = absurd (omega arith)
+
+pub jumps_inside : (case stays : Case) (away : List Case) → case.shape.iterations ≡ 0 → IsDropped case stays
+    → away ≡ stays ∷ [] → JumpsOut case away
+jumps_inside case stays away none dropped is n v s inner outer left true_of loops =
+    let long : length (inner ++ outer) ≡ 0 = sym (ap length loops) ∙ sym true_of.shape.iterations ∙ none in
+    subst (Any (λ made. Describes n made (turned s no_arguments (drop left inner ++ outer)))) (sym is)
+    (elim (choose inner outer left (omega (arith, long))) [
+      | inl e ↦ (
+        0,
+        stays,
+        omega arith,
+        refl,
+        subst (λ ls. Describes n stays (turned s no_arguments ls)) (loops ∙ e)
+            (dropped n v s true_of),
+      )
+      | inr e ↦ absurd (omega (arith, long, ap length e.1))
+    ])
+
+pub jumps_out : (case stays gone : Case) (form : List Term) (away : List Case) → case.shape.iterations ≤ 1
+    → IsDropped case stays → IsLeft case range.Any form gone → away ≡ stays ∷ gone ∷ [] → JumpsOut case away
+jumps_out case stays gone form away few dropped leaves is n v s inner outer left true_of loops =
+    let long : length (inner ++ outer) ≡ case.shape.iterations =
+    sym (ap length loops) ∙ sym true_of.shape.iterations in
+    subst (Any (λ made. Describes n made (turned s no_arguments (drop left inner ++ outer)))) (sym is)
+    (elim (choose inner outer left (omega (arith, long, few))) [
+      | inl e ↦ (
+        0,
+        stays,
+        omega arith,
+        refl,
+        subst (λ ls. Describes n stays (turned s no_arguments ls)) (loops ∙ e)
+            (dropped n v s true_of),
+      )
+      | inr e ↦ (
+        1,
+        gone,
+        omega arith,
+        refl,
+        subst (λ ls. Describes n gone (turned s no_arguments ls)) e.2
+            (leaves n v s e.0 [] true_of (loops ∙ e.1) tt),
+      )
+    ])
+
+pub goes_to : (case : Case) (taken : Taken) (all : Outcomes) → IsTaken case taken → is_some taken.value ≡ false
+    → JumpsOut case all.away.items → (colons : ℕ) → outcome.Turns flow.GoTo colons case all
+goes_to case taken all takes none jumps colons e frame outer n v s kind_is same matched loops begins =
+    let h = skips e frame flow.GoTo kind_is matched in
+    let left = (skip_of frame.text (Whole e)).leaves in
+    let turn = turn_to no_arguments h.0 (drop left frame.loops) frame in
+    subst (Succeeds (IsTurnOf n all.cases.items all.away.items e frame outer s))
+    (sym (ap (λ r. r >>= (λ taken. jump code.Tag e no_arguments frame >>= (λ turn. without_value taken.value turn)))
+    (takes n v s begins.true_of)
+    ∙ ap (λ r. r >>= (λ turn. without_value (value_if taken.value n v) turn))
+    (jump_is code.Tag e no_arguments frame left (record { place = h.0; leads = h.1; leaves = refl }))
+    ∙ ap (λ o. without_value o turn) (no_value taken.value none)))
+    (inr (
+      h.0,
+      ap (λ (k : Kind). place_away k e frame) kind_is ∙ h.1,
+      record { described = jumps n v s frame.loops outer left begins.true_of loops; there = refl },
+    )) where
+      no_value : (o : Option (List Term)) → is_some o ≡ false → value_if o n v ≡ None
+      no_value None k = refl
+      no_value (Some form) k = absurd cc

@@ -121,7 +121,7 @@ module _ (text new : List ℕ) (p : ℕ) (inside : p ≤ length text) where
       (subst (λ x. IsBegin x (p + length new) (p + t)) joined
       (begin_new text new p p (omega arith) inside t (line_begin new (length new)) one))
 
-abbrev kept_with : List ℕ → Kept → Kept
+abbrev pub kept_with : List ℕ → Kept → Kept
 kept_with new kept = record kept {
   text = text_after_insertion kept.text kept.pointer new;
   pointer = kept.pointer + length new;
@@ -170,7 +170,7 @@ module _ (s : Point) (here : Places) (given unknown : ℕ → ℤ) (new : List �
 abbrev read_by : List Term → List Term → ℕ → Valuation → ℕ → ℤ
 read_by long start n v i = value (slice_index_or (long ∷ start ∷ []) i []) n v
 
-inserted : (new : List ℕ) (kept : Kept) → length (text_after_insertion kept.text kept.pointer new) ≤ LIMIT
+pub inserted : (new : List ℕ) (kept : Kept) → length (text_after_insertion kept.text kept.pointer new) ≤ LIMIT
     → insertion_of new kept ≡ Ok (no_answer (kept_with new kept))
 inserted new kept h =
     let fits : nat_le (length (text_after_insertion kept.text kept.pointer new)) LIMIT ≡ true =

@@ -13,9 +13,12 @@ pub mod Cutting
 pub mod Lining
 pub mod Inserting
 pub mod Matching
+pub mod Changing
 pub mod Searching
 pub mod Seeking
 pub mod Reading
+pub mod Converting
+pub mod Paging
 pub mod Copying
 pub mod Writing
 pub mod Parting

@@ -11,7 +11,6 @@ use Rattle.teco_base.specs.declared.TheConstants.{LIMIT}
 use Rattle.teco_linear.specs.declared.term.Term.{Term}
 use Rattle.teco_linear.specs.Form.{Valuation, value}
 use Rattle.teco_model.specs.State.{Kept}
-use Rattle.teco_model.specs.declared.arguments.Operator.{Operator}
 use Rattle.teco_model.specs.declared.pattern.Item.{Item}
 use Rattle.teco_model.specs.declared.pattern.Part.{Part}
 use Rattle.teco_model.specs.declared.pattern.Span.{Span}
@@ -25,41 +24,27 @@ use Rattle.teco_rows.specs.declared.measure.Single.TheVariants.{LastLength}
 use Rattle.teco_rows.specs.declared.row.Clause.{Clause}
 use Rattle.teco_rows.specs.declared.row.Clause.TheVariants.{Sets, Drops, Wants}
 use Rattle.teco_rows.specs.declared.row.Places.{Places}
-use Rattle.teco_rows.specs.declared.row.Step.{Step}
 use Rattle.teco_rows.specs.Rows.{AreMet, Before, changed}
-use Rattle.teco_rows.specs.States.{Point, IsLed, IsTrueOf, WaitsFor, from_end, length_of, measures_of}
-use Rattle.teco_rows.specs.States.{number_of, operators_of}
+use Rattle.teco_rows.specs.States.{Point, IsTrueOf, from_end, length_of, measures_of}
+use Rattle.teco_rows.specs.States.{number_of}
 use Rattle.teco_outcomes.specs.declared.searches.Direction.{Direction}
 use Rattle.teco_outcomes.specs.declared.searches.Direction.TheVariants.{Ahead, Back, Here}
 use Rattle.teco_outcomes.specs.declared.searches.Known.{Known}
 use Rattle.teco_outcomes.specs.declared.searches.TheConstants.{EXACT, FOUND, LIES, NEW_LINE}
 use Rattle.teco_outcomes.specs.declared.searches.TheConstants.{OTHER_LINE, REPLACED, SAME_LINE, STARTED}
 use Rattle.teco_outcomes.specs.Patterns.{IsLong, IsSingle}
-use Rattle.teco_outcomes.specs.Searches.{Changes, HasFound, HasReplaced, IsChanged, IsFoundBy, IsKnown}
+use Rattle.teco_outcomes.specs.Changes.{Changes, IsChanged, read_given, with_kept}
+use Rattle.teco_outcomes.specs.Searches.{HasFound, HasReplaced, IsFoundBy, IsKnown}
 use Rattle.teco_outcomes.specs.Searches.{IsMissed, IsMissedPlace, IsReplacedBy, LiesTo, MayReplace}
-use Rattle.teco_outcomes.specs.Searches.{direction_clauses, extra_clauses, read_given, with_kept}
+use Rattle.teco_outcomes.specs.Searches.{direction_clauses, extra_clauses}
 use Rattle.teco_rows.proofs.Applying.{changed-append}
-use Rattle.teco_rows.proofs.Describing.{described}
 use Rattle.teco_rows.proofs.Lines.{IsBegin, IsEnd, above_or, begin_before, begin_most, clash, end_before, ends}
 use Rattle.teco_rows.proofs.Lines.{line_begin, line_end, one_begin, one_end}
 use Rattle.teco_rows.proofs.Texts.{begin_kept, begin_new, end_behind, length_after}
 use Rattle.teco_rows.proofs.Ways.{met_both}
 use Rattle.teco_outcomes.proofs.Matching.{Lies, items_in, match_closes, match_exact, match_lies, match_stays}
 
--- ---- a row that changes what is kept
-pub is_changed : (case made : Case) (step : Step) (operator : Option Operator) → WaitsFor operator case
-    → IsLed case step operator made → IsChanged case step.clauses.now step.given.now made
-is_changed case made step operator waits led n v s kept unknown true_of changes =
-    let h = changes step.here in
-    let here = subst (λ o. IsLed case step o made) (sym (waits s true_of.shape)) led in
-    described n v case made step s (with_kept s kept) unknown led.carries true_of
-    (record { met = h.met; becomes = h.becomes })
-    (record {
-      operators = here.last (operators_of s.arguments.outer) s.arguments.level.operator true_of.shape.operators;
-      iterations = led.iterations ∙ true_of.shape.iterations;
-      pushes = ap (λ k. s.below + k) led.pushes ∙ true_of.shape.pushes ∙ sym h.pushes;
-    })
-
+-- ---- rows that change what is kept
 -- a row that wants, and does no more
 abbrev wants_alone : List Clause → Bool
 wants_alone [] = true
@@ -81,7 +66,8 @@ wants_both (Drops mark ∷ a) b h k = absurd cc
 wants_both (Wants constant parts ∷ a) b h k = wants_both a b h k
 
 changes_more : (base extra : List Clause) (b : Before) (s : Point) (kept : Kept) → wants_alone extra ≡ true
-    → AreMet extra b → b.measures ≡ measures_of s → Changes base b s kept → Changes (base ++ extra) b s kept
+    → AreMet extra b → b.measures ≡ measures_of s → Changes base b s (with_kept s kept)
+    → Changes (base ++ extra) b s (with_kept s kept)
 changes_more base extra b s kept alone met same c = record {
   met = met_both base extra b c.met met;
   becomes = λ m.
@@ -181,7 +167,7 @@ module _ (s : Point) (span : Span) (known : Known) (long e t : ℕ) (given : ℕ
   -- S
   found_changes : (kept : Kept) → HasFound span s.kept kept
       → e ≡ line_place s.kept.text span.end (pos 1) → t ≡ line_place s.kept.text span.end (pos 0) → t ≤ span.end
-      → Changes FOUND b s kept
+      → Changes FOUND b s (with_kept s kept)
   found_changes kept found e_is t_is before = record {
     met = (omega (arith, ints), tt);
     becomes = becomes;
@@ -210,7 +196,8 @@ module _ (s : Point) (span : Span) (known : Known) (long e t : ℕ) (given : ℕ
   replaced_changes : (text : List ℕ) (kept : Kept) → HasReplaced span text s.kept kept → given 1 ≡ pos (length text)
       → length kept.text + span.end ≡ span.start + length text + length s.kept.text
       → line_place kept.text kept.pointer (pos 1) + span.end ≡ e + span.start + length text
-      → t ≡ line_place kept.text kept.pointer (pos 0) → t ≤ span.start + length text → Changes REPLACED b s kept
+      → t ≡ line_place kept.text kept.pointer (pos 0) → t ≤ span.start + length text
+      → Changes REPLACED b s (with_kept s kept)
   replaced_changes text kept replaced given_is long_now end_now t_is before = record {
     met = (omega (arith, ints), tt);
     becomes = becomes;
@@ -329,8 +316,8 @@ finds case made parts direction known least row more is extra row_is long change
           goes_on s.kept.text span.start span.end t begin
           (λ k a b. match_stays s.kept.registers of.exact parts s.kept.text span k (is.stays so) of.matches a b);
     } in
-    changes n v s kept (numbers span e t) true_of (λ here.
-    subst (λ r. Changes r (read_given (least ∷ []) n v s (numbers span e t) here) s kept)
+    changes n v s kept s.unread (numbers span e t) true_of (λ here.
+    subst (λ r. Changes r (read_given (least ∷ []) n v s (numbers span e t) here) s (with_kept s kept))
     (sym (row_is ∙ ap (λ r. FOUND ++ r) extra))
     (changes_more FOUND (extra_clauses known) _ s kept (wants_extras known)
     (met_extras s span known (length items) e t (given_by (least ∷ []) n v) here facts
@@ -357,8 +344,8 @@ pub replaces : (case made : Case) (parts : List Part) (direction : Direction) (k
     → IsChanged case row (least ∷ long ∷ last ∷ []) made → IsReplacedBy parts direction text case made
 replaces case made parts direction known other text least long last row more towards exact stead extra row_is least_is
     long_is last_is changes n v s span kept true_of whole of replaced =
-    changes n v s kept (numbers span e t) true_of (λ here.
-    subst (λ r. Changes r (read_given (least ∷ long ∷ last ∷ []) n v s (numbers span e t) here) s kept)
+    changes n v s kept s.unread (numbers span e t) true_of (λ here.
+    subst (λ r. Changes r (read_given (least ∷ long ∷ last ∷ []) n v s (numbers span e t) here) s (with_kept s kept))
     (sym (row_is ∙ ap (λ r. (REPLACED ++ r) ++ (if other then OTHER_LINE else [])) extra))
     (changes_more (REPLACED ++ extra_clauses known) (if other then OTHER_LINE else []) _ s kept
     (wants_if other OTHER_LINE refl) (met_if other OTHER_LINE _ (λ so.
@@ -483,7 +470,7 @@ stays_there (suc (suc colons)) old new h k = k
 
 pub misses_here : (case made : Case) (colons : ℕ) → 2 ≤ colons → IsChanged case [] [] made → IsMissed colons case made
 misses_here case made colons two changes n v s kept true_of whole missed =
-    changes n v s kept (λ i. pos 0) true_of (λ here. record {
+    changes n v s kept s.unread (λ i. pos 0) true_of (λ here. record {
       met = tt;
       becomes = same_kept s kept missed.text
           (stays_there colons s.kept.pointer kept.pointer two missed.pointer) missed.registers missed.last;
@@ -498,7 +485,7 @@ starts_there (suc (suc colons)) old new h k = absurd (omega arith)
 pub misses : (case made : Case) (colons : ℕ) → colons < 2 → IsChanged case STARTED [] made
     → IsMissed colons case made
 misses case made colons one changes n v s kept true_of whole missed =
-    changes n v s kept (λ i. pos e) true_of (λ here. record {
+    changes n v s kept s.unread (λ i. pos e) true_of (λ here. record {
       met = (omega (arith, ints), (omega (arith, ints, end.within), tt));
       becomes = becomes here;
       pushes = ap (λ r. length r.stack) missed.registers;

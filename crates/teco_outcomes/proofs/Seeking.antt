@@ -7,7 +7,7 @@ use Rattle.std.proofs.lemmas.Bool.Decides.{nat_tests}
 use Rattle.std.proofs.lemmas.List.Elements.{All-pop}
 use Rattle.std.specs.List.{All, Any}
 use Rattle.std.specs.Option.{ok_or}
-use Rattle.std.specs.Prelude.{flat_map, if◌then◌else◌, nat_le, nat_lt, not, slice_index_or, ◌||◌}
+use Rattle.std.specs.Prelude.{flat_map, if◌then◌else◌, nat_le, nat_lt, not, ◌||◌}
 use Rattle.teco_model.specs.Condition.{is_zero}
 use Rattle.teco_model.specs.laws.Whole.{IsWhole}
 use Rattle.teco_base.specs.declared.code.Code.{Code}
@@ -21,7 +21,7 @@ use Rattle.teco_model.specs.Checked.{◌>>=◌, ◌>>-◌}
 use Rattle.teco_model.specs.Element.{Element, element_at}
 use Rattle.teco_model.specs.Flow.{turn_along, turn_to}
 use Rattle.teco_model.specs.Going as going
-use Rattle.teco_model.specs.Match.{backward, forward, here}
+use Rattle.teco_model.specs.Match.{backward, forward}
 use Rattle.teco_model.specs.Pattern.{Pattern, items_of, pattern, parts}
 use Rattle.teco_model.specs.Search.{Finding, Found, Missed, count_of, finding_of, kept_after, kept_at, match_of}
 use Rattle.teco_model.specs.Search.{pattern_of, search}
@@ -47,27 +47,21 @@ use Rattle.teco_model.specs.laws.Matching.{IsNth}
 use Rattle.teco_model.proofs.Searches.{backward_finds, forward_finds, here_finds}
 use Rattle.teco_rows.specs.declared.case.Case.{Case}
 use Rattle.teco_rows.specs.declared.commands.Taken.{Taken}
-use Rattle.teco_rows.specs.declared.measure.Single.{Single}
-use Rattle.teco_rows.specs.declared.measure.Single.TheVariants.{Steps, Pointer, Size, Held, LineEnd, LineStart}
-use Rattle.teco_rows.specs.declared.measure.Single.TheVariants.{LastLength}
 use Rattle.teco_rows.specs.declared.outcomes.Outcomes.{Outcomes}
-use Rattle.teco_rows.specs.declared.row.Clause.{Clause}
-use Rattle.teco_rows.specs.declared.row.Places.{Places}
 use Rattle.teco_rows.specs.Cases.{value_if}
-use Rattle.teco_rows.specs.Commands.{IsAtLevel, IsCommanded, IsTaken, Leads, commanded, taken_by}
+use Rattle.teco_rows.specs.Commands.{IsTaken, taken_by}
 use Rattle.teco_rows.specs.Foretold.{Succeeds}
-use Rattle.teco_rows.specs.States.{Point, IsTrueOf, Describes, single}
-use Rattle.teco_rows.proofs.Commanding.{read_at}
+use Rattle.teco_rows.specs.States.{Point, IsTrueOf, Describes}
 use Rattle.teco_rows.proofs.Describing.{among}
-use Rattle.teco_rows.proofs.Leading.{answers, leads}
 use Rattle.teco_outcomes.specs.declared.ranges.Range.TheVariants as range
 use Rattle.teco_outcomes.specs.declared.searches.Aim.{Aim}
 use Rattle.teco_outcomes.specs.declared.searches.Direction.{Direction}
+use Rattle.teco_outcomes.specs.Changes.{IsTold, with_kept}
 use Rattle.teco_outcomes.specs.Flow.{IsLeft, turned}
 use Rattle.teco_outcomes.specs.Law.{Goes, Law, StepsTo, loops_in, place_away, point_of}
 use Rattle.teco_outcomes.specs.Searches.{Aims, Answers, Ends, HasMissed, IsAsked, IsForeseen}
-use Rattle.teco_outcomes.specs.Searches.{IsFoundBy, IsMissed, IsOf, IsReplacedBy, IsTold, Leaves, Looks, MayReplace}
-use Rattle.teco_outcomes.specs.Searches.{SearchLaw, Searches, aimed, answer_row, kept_by_leaving, with_kept}
+use Rattle.teco_outcomes.specs.Searches.{IsFoundBy, IsMissed, IsOf, IsReplacedBy, Leaves, Looks, MayReplace}
+use Rattle.teco_outcomes.specs.Searches.{SearchLaw, Searches, aimed, kept_by_leaving}
 use Rattle.teco_outcomes.proofs.Matching.{match_lies}
 
 -- ---- where a search looks
@@ -144,43 +138,6 @@ aims_known form number false colons aim towards is most least =
     aims_ahead form colons aim towards (λ n v h. subst (λ x. pos 1 ≤ℤ x) (sym (is n v)) (least refl))
 
 -- ---- what is answered
-module _ (s : Point) (here : Places) (given unknown : ℕ → ℤ) where
-  stays : (answer : Option ℤ) (which : Single)
-      → Some (pos (single (commanded s s.kept answer) which)) ≡ Some (pos (single (commanded s s.kept None) which))
-  stays answer Steps = refl
-  stays answer Pointer = refl
-  stays answer Size = refl
-  stays answer Held = refl
-  stays answer LineEnd = refl
-  stays answer LineStart = refl
-  stays answer LastLength = refl
-
-  leads_to_answer : (answer : Option ℤ) → here.level ≡ length s.arguments.outer
-      → Leads (answer_row answer) (read_at s here given unknown) s s.kept answer
-  leads_to_answer None at = leads [] _ s s.kept None refl refl refl refl (record {
-    met = tt;
-    singles = stays None;
-    numbers = λ i. refl;
-    lengths = λ i. refl;
-    values = λ i. refl;
-    stack = refl;
-  })
-  leads_to_answer (Some x) at = leads (answer_row (Some x)) _ s s.kept (Some x) refl refl refl refl (record {
-    met = tt;
-    singles = stays (Some x);
-    numbers = λ i. refl;
-    lengths = λ i. refl;
-    values = λ i. answers s s.kept here i x _ at (ap Some (omega (arith, ints)));
-    stack = refl;
-  })
-
-pub tells : (case made : Case) (answer : Option ℤ) (row : List Clause) (given : List (List Term)) (here : Places)
-    → row ≡ answer_row answer → IsAtLevel here case → IsCommanded case row given here made → IsTold case answer made
-tells case made answer row given here e at led n v s true_of =
-    led n v s s.kept answer (λ i. pos 0) true_of
-    (subst (λ r. Leads r (read_at s here (λ i. value (slice_index_or given i []) n v) (λ i. pos 0)) s s.kept answer)
-    (sym e) (leads_to_answer s here _ (λ i. pos 0) answer (at s true_of.shape)))
-
 pub answers_both : (behind start good bad : Case) (all : Outcomes) → IsTold behind (Some (negsuc 0)) good
     → IsTold start (Some (pos 0)) bad → all.cases.items ≡ good ∷ bad ∷ [] → Answers behind start all
 answers_both behind start good bad all told_good told_bad e = record {

@@ -1,6 +1,6 @@
 -- Where a running text goes on.
 use Rattle.std.specs.Prelude.{◌≡◌, ℕ, ℤ, ◌+◌, suc, pos, List, [], ◌∷◌, ◌++◌, length, Bool, Option, Some, None}
-use Rattle.std.specs.Prelude.{option_map}
+use Rattle.std.specs.Prelude.{drop, option_map}
 use Rattle.std.specs.Prelude.{is_some, ◌⊎◌}
 use Rattle.std.specs.List.{Any}
 use Rattle.teco_linear.specs.declared.term.Term.{Term}
@@ -153,3 +153,15 @@ Returns answer case cases away =
     → e.kind ≡ kind.Flow flow.EndTurn → frame.loops ≡ loop ∷ inner → s.loops ≡ loop ∷ (inner ++ outer)
     → is_some loop.turns ≡ answer → s.arguments.outer ≡ [] → IsTrueOf n v case s
     → IsTurnOf n cases away e frame outer s (next_turn e loop inner frame)
+
+-- a case describes the state a step later, with no argument
+abbrev pub IsDropped : Case → Case → Type 0
+IsDropped case made =
+    (n : ℕ) (v : Valuation) (s : Point) → IsTrueOf n v case s → Describes n made (turned s no_arguments s.loops)
+
+-- one of the cases describes it where any number of the iterations of a text are left
+abbrev pub JumpsOut : Case → List Case → Type 0
+JumpsOut case away =
+    (n : ℕ) (v : Valuation) (s : Point) (inner outer : List Loop) (left : ℕ)
+    → IsTrueOf n v case s → s.loops ≡ inner ++ outer
+    → Any (λ made. Describes n made (turned s no_arguments (drop left inner ++ outer))) away

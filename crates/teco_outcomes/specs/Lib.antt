@@ -8,8 +8,11 @@ pub mod Pushes
 pub mod Deletions
 pub mod LineMotions
 pub mod Insertions
+pub mod Changes
 pub mod Patterns
 pub mod Searches
 pub mod Characters
+pub mod Conversions
+pub mod Pages
 pub mod Texts
 pub mod Typings

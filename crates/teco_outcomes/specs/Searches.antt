@@ -1,11 +1,11 @@
 -- What is asked of searches in the buffer.
 use Rattle.std.specs.Prelude.{◌≡◌, ℕ, suc, ◌+◌, ◌-◌, ◌≤◌, ◌<◌, ℤ, pos, negsuc, List, [], ◌∷◌, ◌++◌, length}
-use Rattle.std.specs.Prelude.{Bool, true, false, if◌then◌else◌, flat_map, Option, Some, None, Ok, slice_index_or}
+use Rattle.std.specs.Prelude.{Bool, true, false, if◌then◌else◌, flat_map, Option, Some, None, Ok}
 use Rattle.std.specs.List.{All, Any}
 use Rattle.teco_base.specs.Text.{text_after_replacement}
 use Rattle.teco_base.specs.declared.TheConstants.{LIMIT}
 use Rattle.teco_linear.specs.declared.term.Term.{Term}
-use Rattle.teco_linear.specs.Form.{Valuation, value}
+use Rattle.teco_linear.specs.Form.{Valuation}
 use Rattle.teco_linear.specs.Implied.{Holds}
 use Rattle.teco_model.specs.Ahead.{Whole}
 use Rattle.teco_model.specs.Arguments.{no_arguments}
@@ -25,52 +25,21 @@ use Rattle.teco_model.specs.laws.Matching.{IsMatch}
 use Rattle.teco_model.specs.laws.Whole.{IsWhole}
 use Rattle.teco_rows.specs.declared.case.Case.{Case}
 use Rattle.teco_rows.specs.declared.commands.Taken.{Taken}
-use Rattle.teco_rows.specs.declared.measure.Measure.{Measure}
 use Rattle.teco_rows.specs.declared.outcomes.Outcomes.{Outcomes}
-use Rattle.teco_rows.specs.declared.levels.TheConstants.{NO, VALUE}
 use Rattle.teco_rows.specs.declared.row.Clause.{Clause}
-use Rattle.teco_rows.specs.declared.row.Clause.TheVariants.{Sets}
-use Rattle.teco_rows.specs.declared.row.Places.{Places}
 use Rattle.teco_rows.specs.Cases.{value_if}
 use Rattle.teco_rows.specs.Commands.{commanded, taken_by}
 use Rattle.teco_rows.specs.Foretold.{Begins, Describe, Succeeds}
-use Rattle.teco_rows.specs.Rows.{AreMet, Before, changed}
-use Rattle.teco_rows.specs.States.{Point, IsTrueOf, Describes, measures_of}
+use Rattle.teco_rows.specs.States.{Point, IsTrueOf, Describes}
 use Rattle.teco_outcomes.specs.declared.searches.Aim.{Aim}
 use Rattle.teco_outcomes.specs.declared.searches.Direction.{Direction}
 use Rattle.teco_outcomes.specs.declared.searches.Direction.TheVariants.{Ahead, Back, Here}
 use Rattle.teco_outcomes.specs.declared.searches.Known.{Known}
 use Rattle.teco_outcomes.specs.declared.searches.TheConstants as rows
+use Rattle.teco_outcomes.specs.Changes.{with_kept}
 use Rattle.teco_outcomes.specs.Flow.{turned}
 use Rattle.teco_outcomes.specs.Law.{Goes, StepsTo, point_of}
 use Rattle.teco_outcomes.specs.Patterns.{EndsLine, IsSingle, StaysInLine}
-
--- ---- rows that change what is kept
--- the state with this kept
-abbrev pub with_kept : Point → Kept → Point
-with_kept s kept = record s { kept = kept }
-
--- A row holds from a state to the same with this kept.
-pub record Changes (row : List Clause) (b : Before) (s : Point) (kept : Kept) : Type 0 where
-  pub met : AreMet row b
-  pub becomes : (m : Measure) → measures_of (with_kept s kept) m ≡ changed row b m (measures_of s m)
-  pub pushes : length kept.registers.stack ≡ length s.kept.registers.stack
-
--- a row is read with the values of forms, and some places at hand
-abbrev pub read_given : List (List Term) → ℕ → Valuation → Point → (ℕ → ℤ) → Places → Before
-read_given given n v s unknown here = record {
-  here = here;
-  measures = measures_of s;
-  given = λ i. value (slice_index_or given i []) n v;
-  unknown = unknown;
-}
-
--- where a row does, the other case describes the state with this kept
-abbrev pub IsChanged : Case → List Clause → List (List Term) → Case → Type 0
-IsChanged case row given made =
-    (n : ℕ) (v : Valuation) (s : Point) (kept : Kept) (unknown : ℕ → ℤ)
-    → IsTrueOf n v case s → ((here : Places) → Changes row (read_given given n v s unknown here) s kept)
-    → Describes n made (with_kept s kept)
 
 -- ---- where a search looks
 -- a match lies so to a place
@@ -177,16 +146,6 @@ MayReplace parts text case condition =
     → length (text_after_replacement s.kept.text span.start span.end text) ≤ LIMIT
 
 -- ---- what is answered
--- the row of an answer
-abbrev pub answer_row : Option ℤ → List Clause
-answer_row None = []
-answer_row (Some x) = Sets VALUE x (NO ∷ NO ∷ NO ∷ NO ∷ []) ∷ []
-
--- a case describes the state a step later, where the arguments are taken and this is answered, or nothing
-abbrev pub IsTold : Case → Option ℤ → Case → Type 0
-IsTold case answer made =
-    (n : ℕ) (v : Valuation) (s : Point) → IsTrueOf n v case s → Describes n made (commanded s s.kept answer)
-
 -- what is found and what is missed is answered
 pub record Answers (found missed : Case) (all : Outcomes) : Type 0 where
   pub yes : (n : ℕ) (s : Point) → Describes n found s → Describe n all (commanded s s.kept (Some (negsuc 0)))

@@ -4,6 +4,7 @@ ghost use Rattle.teco_model.specs.Arguments as model;
 ghost use Rattle.teco_model.specs.Step.{levels_after};
 ghost use Rattle.teco_rows.specs.Foretold.{Rearranges};
 ghost use Rattle.teco_rows.specs.Levels.{IsDeeper, IsOpened, IsParted, PartsAt};
+ghost use Rattle.teco_outcomes.specs.Flow.{IsDropped};
 
 use std::alloc::Global;
 use teco_base::arithmetic;
@@ -173,9 +174,9 @@ fn close(case: &Case, may_wrap: bool, alloc: Global) -> Result<Outcomes, Fault>
     }
 }
 
-// All arguments are dropped.
-fn drop_all(case: &Case, alloc: Global) -> Result<Outcomes, Fault>
-    ensures { IfOk result (λ all. Rearranges (levels_after Argument.DropAll []) case.now all) }
+/// The case a step later without any argument.
+pub fn dropped(case: &Case, alloc: Global) -> Result<Case, Fault>
+    ensures { IfOk result (λ made. IsDropped case.now made) }
 {
     let outermost = outermost(case, alloc)?;
     let here = at_level(&outermost)?;
@@ -183,7 +184,14 @@ fn drop_all(case: &Case, alloc: Global) -> Result<Outcomes, Fault>
         answers: &[],
         does: &[],
     };
-    let after = command(&outermost, &nothing, &[], here, alloc)?;
+    command(&outermost, &nothing, &[], here, alloc)
+}
+
+// All arguments are dropped.
+fn drop_all(case: &Case, alloc: Global) -> Result<Outcomes, Fault>
+    ensures { IfOk result (λ all. Rearranges (levels_after Argument.DropAll []) case.now all) }
+{
+    let after = dropped(case, alloc)?;
     one(after, Vec::new(alloc), alloc)
 }
 

@@ -71,8 +71,8 @@ fn character_at(case: &Case, by: Form, alloc: Global) -> Result<Outcomes, Fault>
     })
 }
 
-/// `nA` answers the code of a character. What becomes of pages is not told: whether files are open
-/// is in no case.
+/// `nA` answers the code of a character. What becomes of pages is told elsewhere, under a premise
+/// on the files that are open.
 pub fn turn_page(case: &Case, page: Page, alloc: Global) -> Result<Outcomes, Fault>
     ensures { IfOk result (λ all. (e : model.Element) → e.kind ≡ kinds.Page page → Law e case.now all) }
 {

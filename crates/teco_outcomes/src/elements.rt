@@ -22,7 +22,7 @@ use crate::pushes::stack;
 use crate::queries::ask;
 use crate::searches::search;
 use crate::storages::{add_number, set_number};
-use crate::texts::set_text;
+use crate::texts::{copy, set_text};
 use crate::typings::{type_register, type_text};
 use crate::values::give_value;
 use std::alloc::Global;
@@ -97,7 +97,7 @@ fn retrieve(
     }
 }
 
-// What comes of a command on its text. `X` is not told.
+// What comes of a command on its text.
 fn store_text(
     case: &Case,
     kind: Storage,
@@ -109,6 +109,7 @@ fn store_text(
 {
     match kind {
         Storage::Get(register) => retrieve(case, register, element.colons, taken, alloc),
+        Storage::Copy(register) => copy(case, register, element.colons, taken, alloc),
         Storage::SetText(register) => set_text(case, register, element, taken, alloc),
         _ => Err(Fault::NotTold),
     }

@@ -3,11 +3,11 @@ ghost use Rattle.std.specs.Prelude.{◌≡◌, ℕ, ℤ, IfOk, slice_index_or, [
 ghost use Rattle.teco_model.specs.Flow.{leaves};
 ghost use Rattle.teco_rows.specs.Commands.{IsAtLevel};
 ghost use Rattle.teco_outcomes.specs.Flow.{AreLater, Counts, Enters, HasIterations, IsAgain, IsCounted};
-ghost use Rattle.teco_outcomes.specs.Flow.{IsEnded, IsInnermost};
+ghost use Rattle.teco_outcomes.specs.Flow.{IsEnded, IsInnermost, JumpsOut};
 ghost use Rattle.teco_outcomes.specs.Flow.{IsLater, IsLeft, IsNext, IsTurned, IsUncounted, Returns, Turns};
 ghost use Rattle.teco_outcomes.specs.Ranges.{IsIn, IsInOne};
 
-use crate::arguments::STEPS;
+use crate::arguments::{STEPS, dropped};
 use crate::ranges::{Range, Ranges, cases_in, only, row_in, where_it_fails, where_it_holds};
 use std::alloc::Global;
 use teco_linear::Form;
@@ -367,7 +367,47 @@ fn go_away(case: &Case, alloc: Global) -> Result<Outcomes, Fault>
     })
 }
 
-/// What comes of an element that decides where the text goes on. `O` is not told.
+// The cases behind a tag, without any argument: in the same iterations, or out of one. Out of more
+// it is not told.
+fn behind_tag(case: &Case, alloc: Global) -> Result<Vec<Case>, Fault>
+    ensures { IfOk result (λ away. JumpsOut case.now away.items) }
+{
+    let iterations = case.shape.iterations;
+    if iterations > 1 {
+        return Err(Fault::NotTold);
+    }
+    let stays = dropped(case, alloc)?;
+    let mut away = Vec::new(alloc);
+    away.push(stays)?;
+    if iterations == 0 {
+        return Ok(away);
+    }
+    let gone = left(case, Range::Any, &[], alloc)?;
+    away.push(gone)?;
+    Ok(away)
+}
+
+// O takes no value.
+fn go_to(case: &Case, alloc: Global) -> Result<Outcomes, Fault>
+    ensures { IfOk result (λ all. (colons : ℕ) → Turns Flow.GoTo colons case.now all) }
+{
+    let taken = take_arguments(case, alloc)?;
+    let Taken {
+        first: _first,
+        value,
+    } = taken;
+    if value.is_some() {
+        return Err(Fault::Argument);
+    }
+    let away = behind_tag(case, alloc)?;
+    Ok(Outcomes {
+        conditions: Vec::new(alloc),
+        cases: Vec::new(alloc),
+        away,
+    })
+}
+
+/// What comes of an element that decides where the text goes on.
 pub fn turn(case: &Case, flow: Flow, colons: u8, alloc: Global) -> Result<Outcomes, Fault>
     ensures { IfOk result (λ all. Turns flow colons case.now all) }
 {
@@ -380,6 +420,6 @@ pub fn turn(case: &Case, flow: Flow, colons: u8, alloc: Global) -> Result<Outcom
         Flow::GoAhead(_) => go_away(case, alloc),
         Flow::EndTest => go_past(case, alloc),
         Flow::Comment => go_past(case, alloc),
-        Flow::GoTo => Err(Fault::NotTold),
+        Flow::GoTo => go_to(case, alloc),
     }
 }

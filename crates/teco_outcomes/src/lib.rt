@@ -3,13 +3,16 @@
 #![tactic(auto)]
 
 pub mod arguments;
+pub mod changes;
 pub mod characters;
+pub mod conversions;
 pub mod deletions;
 pub mod elements;
 pub mod flow;
 pub mod insertions;
 pub mod line_motions;
 pub mod motions;
+pub mod pages;
 pub mod pairs;
 pub mod patterns;
 pub mod pushes;

@@ -2,6 +2,7 @@
 ghost use Rattle.std.specs.Prelude.{◌≡◌, ◌&&◌, ℕ, IfOk, is_none, is_some, true};
 ghost use Rattle.teco_outcomes.specs.Queries.{Asks, Stands};
 
+use crate::conversions::convert;
 use std::alloc::Global;
 use teco_base::Reg;
 use teco_linear::Form;
@@ -87,7 +88,7 @@ fn ask_mode(case: &Case, alloc: Global) -> Result<Outcomes, Fault>
 }
 
 /// `Q` gives the number of a register, `:Q` the length of its text, and `nQ` a character of that;
-/// `^X` gives or sets the search mode. What `\` does is not told.
+/// `^X` gives or sets the search mode, and `\` reads or writes a number.
 pub fn ask(
     case: &Case,
     query: Query,
@@ -106,6 +107,6 @@ pub fn ask(
             }
         }
         Query::Mode => ask_mode(case, alloc),
-        Query::Conversion => Err(Fault::NotTold),
+        Query::Conversion => convert(case, alloc),
     }
 }

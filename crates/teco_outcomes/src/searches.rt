@@ -1,14 +1,15 @@
 //! What comes of searches in the buffer.
-ghost use Rattle.std.specs.Prelude.{◌≡◌, ℕ, ℤ, Option, IfOk, OnOk, if◌then◌else◌, [], ◌++◌};
+ghost use Rattle.std.specs.Prelude.{◌≡◌, ℕ, IfOk, OnOk, if◌then◌else◌, [], ◌++◌};
 ghost use Rattle.std.specs.List.{All};
 ghost use Rattle.teco_linear.specs.Form.{Valuation};
 ghost use Rattle.teco_linear.specs.Implied.{Holds};
 ghost use Rattle.teco_model.specs.Element.{seen};
 ghost use Rattle.teco_model.specs.declared.kind.Kind.TheVariants as kinds;
-ghost use Rattle.teco_outcomes.specs.Searches.{Aims, Answers, Ends, IsChanged, IsFoundBy, IsKnown, IsMissed};
-ghost use Rattle.teco_outcomes.specs.Searches.{IsReplacedBy, IsTold, Leaves, MayReplace, SearchLaw};
-ghost use Rattle.teco_outcomes.specs.Searches.{aimed, answer_row, direction_clauses, extra_clauses};
+ghost use Rattle.teco_outcomes.specs.Searches.{Aims, Answers, Ends, IsFoundBy, IsKnown, IsMissed};
+ghost use Rattle.teco_outcomes.specs.Searches.{IsReplacedBy, Leaves, MayReplace, SearchLaw};
+ghost use Rattle.teco_outcomes.specs.Searches.{aimed, direction_clauses, extra_clauses};
 
+use crate::changes::{changed, told};
 use crate::deletions::HELD;
 use crate::flow::left;
 use crate::insertions::{counted, last_start};
@@ -22,13 +23,13 @@ use teco_model::Element;
 use teco_model::kind::Search;
 use teco_model::pattern::Part;
 use teco_rows::case::Case;
-use teco_rows::commands::{Taken, Way, command, take_arguments};
+use teco_rows::commands::{Taken, take_arguments};
 use teco_rows::fault::Fault;
 use teco_rows::forms::{known, single};
-use teco_rows::levels::{NO, VALUE, at_level, led, waiting};
+use teco_rows::levels::{NO, VALUE};
 use teco_rows::measure::Single;
 use teco_rows::outcomes::Outcomes;
-use teco_rows::row::{Clause, Mark, Of, Step};
+use teco_rows::row::{Clause, Mark, Of};
 
 /// Where a search looks: ahead of the pointer, back from it, or at it.
 #[derive(Clone, Copy)]
@@ -205,19 +206,6 @@ fn known_of(parts: &[Part], direction: Direction) -> Known
     }
 }
 
-// The case where a row changes what is kept, and no step is done.
-fn changed(case: &Case, row: &[Clause], given: &[Form], alloc: Global) -> Result<Case, Fault>
-    ensures { IfOk result (λ made. IsChanged case.now row.now given.now made) }
-{
-    let step = Step {
-        clauses: row,
-        here: at_level(case)?,
-        given,
-        unknowns: 4,
-    };
-    led(case, &step, waiting(case), alloc)
-}
-
 // The case where the pointer is behind a match.
 fn find(case: &Case, parts: &[Part], direction: Direction, alloc: Global) -> Result<Case, Fault>
     ensures { IfOk result (λ made. IsFoundBy parts.now direction case.now made) }
@@ -280,18 +268,6 @@ fn missed(case: &Case, colons: u8, alloc: Global) -> Result<Case, Fault>
     } else {
         changed(case, &STARTED, &[], alloc)
     }
-}
-
-// The case a step later, where this is answered.
-fn told(case: &Case, answer: &[Clause], alloc: Global) -> Result<Case, Fault>
-    ensures { IfOk result (λ made. (x : Option ℤ) → answer.now ≡ answer_row x → IsTold case.now x made) }
-{
-    let here = at_level(case)?;
-    let way = Way {
-        answers: &[],
-        does: answer,
-    };
-    command(case, &way, &[], here, alloc)
 }
 
 // A search that answers goes on behind itself.

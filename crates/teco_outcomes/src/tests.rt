@@ -1,6 +1,7 @@
 // Outcomes that were worked out by hand.
 use crate::elements::outcomes_of;
 use crate::motions::move_to;
+use crate::pages::{read_pages, write_pages};
 use crate::searches::search;
 use crate::storages::{add_number, set_number};
 use std::alloc::Global;
@@ -8,7 +9,7 @@ use std::test::Fail;
 use teco_base::Reg;
 use teco_linear::Form;
 use teco_model::kind::{
-    Argument, Command, Flow, Insertion, Motion, Page, Search, Stack, Storage, Unit, Value,
+    Argument, Command, Flow, Insertion, Motion, Page, Query, Search, Stack, Storage, Unit, Value,
 };
 use teco_model::{Element, Kind};
 use teco_rows::case::{Case, Shape};
@@ -340,5 +341,136 @@ fn stores_a_text(rt: HostRuntime) -> Result<(), Fail> {
     let all = outcomes_of(set, &more, false, alloc)?;
     let after = all.cases.first().expect(&rt, "a case");
     assert!(rt; is_sum(after, Measure::Each(Family::Length, 1), None, 5, alloc)?);
+    Ok(())
+}
+
+// HXB and 0,3:XB: the text is as long as the buffer, and then longer by 3.
+#[test]
+fn copies_a_part(rt: HostRuntime) -> Result<(), Fail> {
+    let alloc = rt.alloc();
+    let case = start(alloc)?;
+    let register = Reg::of(b'B').expect(&rt, "a register");
+    let copy = letter(Kind::Command(Command::Storage(Storage::Copy(register))));
+    let whole = letter(Kind::Value(Value::Whole));
+    let given = outcomes_of(&case, &whole, false, alloc)?;
+    let given = given.cases.first().expect(&rt, "a case");
+    let all = outcomes_of(given, &copy, false, alloc)?;
+    assert_eq!(rt; all.conditions.len(), 6);
+    assert_eq!(rt; all.cases.len(), 2);
+    let after = all.cases.first().expect(&rt, "a case");
+    assert!(rt; is_sum(after, Measure::Each(Family::Length, 1), Some(1), 0, alloc)?);
+    let zero = Element {
+        text: b"0",
+        ..letter(Kind::Argument(Argument::Digits))
+    };
+    let three = Element {
+        text: b"3",
+        ..letter(Kind::Argument(Argument::Digits))
+    };
+    let given = outcomes_of(after, &zero, false, alloc)?;
+    let given = given.cases.first().expect(&rt, "a case");
+    let given = outcomes_of(
+        given,
+        &letter(Kind::Argument(Argument::Comma)),
+        false,
+        alloc,
+    )?;
+    let given = given.cases.first().expect(&rt, "a case");
+    let given = outcomes_of(given, &three, false, alloc)?;
+    let given = given.cases.first().expect(&rt, "a case");
+    let append = Element { colons: 1, ..copy };
+    let all = outcomes_of(given, &append, false, alloc)?;
+    let after = all.cases.first().expect(&rt, "a case");
+    assert!(rt; is_sum(after, Measure::Each(Family::Length, 1), Some(1), 3, alloc)?);
+    Ok(())
+}
+
+// \ goes to a place in the line, and gives a number that is not known; 5\ puts 1 to 10 characters.
+#[test]
+fn reads_and_writes_a_number(rt: HostRuntime) -> Result<(), Fail> {
+    let alloc = rt.alloc();
+    let case = start(alloc)?;
+    let convert = letter(Kind::Query(Query::Conversion));
+    let all = outcomes_of(&case, &convert, false, alloc)?;
+    assert_eq!(rt; all.cases.len(), 1);
+    let read = all.cases.first().expect(&rt, "a case");
+    assert!(rt; is_sum(read, Measure::One(Single::Pointer), Some(5), 0, alloc)?);
+    assert!(rt; is_sum(read, Measure::One(Single::LineStart), Some(4), 0, alloc)?);
+    assert!(rt; is_sum(read, Measure::Each(Family::Value, 0), Some(9), 0, alloc)?);
+    assert!(rt; is_sum(read, Measure::One(Single::Steps), None, 1, alloc)?);
+    let five = Element {
+        text: b"5",
+        ..letter(Kind::Argument(Argument::Digits))
+    };
+    let given = outcomes_of(&case, &five, false, alloc)?;
+    let given = given.cases.first().expect(&rt, "a case");
+    let all = outcomes_of(given, &convert, false, alloc)?;
+    assert_eq!(rt; all.conditions.len(), 3);
+    assert_eq!(rt; all.cases.len(), 2);
+    let written = all.cases.first().expect(&rt, "a case");
+    assert!(rt; is_sum(written, Measure::One(Single::LastLength), Some(5), 0, alloc)?);
+    assert!(rt; is_sum(written, Measure::One(Single::LineStart), Some(4), 0, alloc)?);
+    Ok(())
+}
+
+// P where nothing is unread empties the buffer; else the page and the rest are not known.
+#[test]
+fn turns_a_page(rt: HostRuntime) -> Result<(), Fail> {
+    let alloc = rt.alloc();
+    let case = start(alloc)?;
+    let all = write_pages(&case, Page::Next, alloc)?;
+    assert_eq!(rt; all.conditions.len(), 1);
+    assert_eq!(rt; all.cases.len(), 2);
+    let emptied = all.cases.first().expect(&rt, "a case");
+    assert!(rt; is_sum(emptied, Measure::One(Single::Held), None, 0, alloc)?);
+    let turned = all.cases.get(1).expect(&rt, "a second case");
+    assert!(rt; is_sum(turned, Measure::One(Single::Size), Some(5), 0, alloc)?);
+    assert!(rt; is_sum(turned, Measure::One(Single::Pointer), None, 0, alloc)?);
+    assert!(rt; is_sum(turned, Measure::One(Single::Steps), None, 1, alloc)?);
+    let all = write_pages(&case, Page::Write, alloc)?;
+    assert_eq!(rt; all.conditions.len(), 0);
+    let written = all.cases.first().expect(&rt, "a case");
+    assert!(rt; is_sum(written, Measure::One(Single::Held), Some(2), 0, alloc)?);
+    Ok(())
+}
+
+// A puts a page behind the buffer, whose line may go on; Y wants the buffer to be empty.
+#[test]
+fn reads_a_page(rt: HostRuntime) -> Result<(), Fail> {
+    let alloc = rt.alloc();
+    let case = start(alloc)?;
+    let all = read_pages(&case, Page::Append, alloc)?;
+    assert_eq!(rt; all.conditions.len(), 1);
+    assert_eq!(rt; all.cases.len(), 2);
+    let same = all.cases.first().expect(&rt, "a case");
+    assert!(rt; is_sum(same, Measure::One(Single::Size), Some(1), 0, alloc)?);
+    let longer = all.cases.get(1).expect(&rt, "a second case");
+    assert!(rt; is_sum(longer, Measure::One(Single::Pointer), Some(0), 0, alloc)?);
+    assert!(rt; is_sum(longer, Measure::One(Single::LineStart), Some(4), 0, alloc)?);
+    assert!(rt; is_sum(longer, Measure::One(Single::LineEnd), Some(7), 0, alloc)?);
+    let all = read_pages(&case, Page::Yank, alloc)?;
+    assert_eq!(rt; all.conditions.len(), 2);
+    let turned = all.cases.get(1).expect(&rt, "a second case");
+    assert!(rt; is_sum(turned, Measure::One(Single::Size), Some(5), 0, alloc)?);
+    Ok(())
+}
+
+// O in an iteration goes on in it, or out of it.
+#[test]
+fn goes_to_a_tag(rt: HostRuntime) -> Result<(), Fail> {
+    let alloc = rt.alloc();
+    let case = start(alloc)?;
+    let go = letter(Kind::Flow(Flow::GoTo));
+    let all = outcomes_of(&case, &go, false, alloc)?;
+    assert_eq!(rt; all.away.len(), 1);
+    let entered = outcomes_of(&case, &letter(Kind::Flow(Flow::Iterate)), false, alloc)?;
+    let body = entered.cases.first().expect(&rt, "a body");
+    let all = outcomes_of(body, &go, false, alloc)?;
+    assert_eq!(rt; all.cases.len(), 0);
+    assert_eq!(rt; all.away.len(), 2);
+    let inside = all.away.first().expect(&rt, "a way");
+    assert_eq!(rt; inside.shape.iterations, 1);
+    let outside = all.away.get(1).expect(&rt, "a way out");
+    assert_eq!(rt; outside.shape.iterations, 0);
     Ok(())
 }

@@ -224,8 +224,8 @@ IsLevel n all s made = Succeeds (λ level. Describe n all (behind s (with_level 
 pub gives_any : (case made : Case) (conditions : List (List Term)) (all : Outcomes)
     → ((s : Point) → IsShape case.shape s → is_over s.arguments.level.operator ≡ false)
     → IsWrapped case made → IsOne conditions made all → GivesAny case all
-gives_any case made conditions all divides wrapped one n v s x begins fits =
-    by s.arguments.level.operator refl (divides s begins.true_of.shape) where
+gives_any case made conditions all divides wrapped one n v s x true_of fits =
+    by s.arguments.level.operator refl (divides s true_of.shape) where
       wraps : (operator : Operator) → IsAllowed operator x → s.arguments.level.operator ≡ Some operator
           → IsLevel n all s (level_with x s.arguments.level)
       wraps operator allowed e =
@@ -234,13 +234,13 @@ gives_any case made conditions all divides wrapped one n v s x begins fits =
           subst (IsLevel n all s) (sym (given_to s.arguments.level operator x e
           ∙ ap (λ z. z >>= (λ given. Ok (level_of s given))) r.1))
           (describes_one n conditions made all _ one
-          (wrapped n v s r.0 begins.true_of (result_fits operator left x r.0 r.1)))
+          (wrapped n v s r.0 true_of (result_fits operator left x r.0 r.1)))
 
       by : (o : Option Operator) → s.arguments.level.operator ≡ o → is_over o ≡ false
           → IsLevel n all s (level_with x s.arguments.level)
       by None e h =
           subst (IsLevel n all s) (sym (given_alone s.arguments.level x e))
-          (describes_one n conditions made all _ one (wrapped n v s x begins.true_of fits))
+          (describes_one n conditions made all _ one (wrapped n v s x true_of fits))
       by (Some Plus) e h = wraps Plus tt e
       by (Some Minus) e h = wraps Minus tt e
       by (Some Times) e h = wraps Times tt e

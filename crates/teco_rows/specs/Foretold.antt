@@ -55,7 +55,7 @@ Gives form case outcomes =
 abbrev pub GivesAny : Case → Outcomes → Type 0
 GivesAny case all =
     (n : ℕ) (v : Valuation) (s : Point) (x : ℤ)
-    → Begins n v case all s → FitsSigned w32 x
+    → IsTrueOf n v case s → FitsSigned w32 x
     → Succeeds (λ level. Describe n all (behind s (with_level s level))) (level_with x s.arguments.level)
 
 -- does a division wait?

@@ -1,4 +1,3 @@
-use Rattle.std.proofs.Common.{[]}
 use Rattle.std.proofs.lemmas.Result.{IfOk-weaker}
 use Rattle.teco_outcomes.proofs.Arguing.{drops}
 use Rattle.teco_outcomes.proofs.arguments.drop_all.Goals as goal
@@ -6,7 +5,5 @@ use Rattle.teco_outcomes.proofs.arguments.drop_all.Goals as goal
 pub returns : goal.returns
 returns c =
     IfOk-weaker c.one.result _ _
-    (λ all one.
-    drops c.args.case.now c.in_ok-outermost.outermost c.in_ok-after.after [] _ _ all c.in_ok-outermost.ensures
-    c.in_ok-after.ensures one)
+    (λ all one. drops c.args.case.now c.in_ok-after.after _ all c.in_ok-after.ensures one)
     c.one.ensures

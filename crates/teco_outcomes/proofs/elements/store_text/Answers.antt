@@ -13,6 +13,14 @@ returns-in-Get c =
     (told (seen c.args.element.now) refl))
     c.retrieve.ensures
 
+pub returns-in-Copy : goal.returns-in-Copy
+returns-in-Copy c =
+    IfOk-weaker c.copy.result _ _
+    (λ all told.
+    subst (λ k. Performs (storage k (seen c.args.element.now)) c.args.taken c.args.case.now all) (sym c.in-Copy.is)
+    (told (seen c.args.element.now) refl))
+    c.copy.ensures
+
 pub returns-in-SetText : goal.returns-in-SetText
 returns-in-SetText c =
     IfOk-weaker c.set_text.result _ _

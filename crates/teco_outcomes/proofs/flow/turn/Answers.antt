@@ -56,3 +56,9 @@ returns-in-Comment c =
     (λ all told. subst (λ f. Turns f c.args.colons c.args.case.now all) (sym c.in-Comment.is)
     (goes_past c.args.case.now flow.Comment all (λ e arguments frame. refl) told c.args.colons))
     c.go_past-in-Comment.ensures
+
+pub returns-in-GoTo : goal.returns-in-GoTo
+returns-in-GoTo c =
+    IfOk-weaker c.go_to.result _ _
+    (λ all told. subst (λ f. Turns f c.args.colons c.args.case.now all) (sym c.in-GoTo.is) (told c.args.colons))
+    c.go_to.ensures

@@ -20,3 +20,9 @@ returns-in-Mode c =
     IfOk-weaker c.ask_mode.result _ _
     (λ all told. subst (λ q. Asks q c.args.colons c.args.case.now all) (sym c.in-Mode.is) (told c.args.colons))
     c.ask_mode.ensures
+
+pub returns-in-Conversion : goal.returns-in-Conversion
+returns-in-Conversion c =
+    IfOk-weaker c.convert.result _ _
+    (λ all asks. subst (λ q. Asks q c.args.colons c.args.case.now all) (sym c.in-Conversion.is) (asks c.args.colons))
+    c.convert.ensures

@@ -1,7 +1,7 @@
 use Rattle.std.proofs.Common.{sym}
 use Rattle.std.proofs.lemmas.Result.{IfOk-weaker}
-use Rattle.teco_outcomes.proofs.Searching.{is_changed}
-use Rattle.teco_outcomes.proofs.searches.changed.Goals as goal
+use Rattle.teco_outcomes.proofs.Changing.{is_changed}
+use Rattle.teco_outcomes.proofs.changes.changed.Goals as goal
 
 pub returns : goal.returns
 returns c =

@@ -1,7 +1,7 @@
 use Rattle.std.proofs.lemmas.Result.{IfOk-weaker}
 use Rattle.std.proofs.Common.{[]}
-use Rattle.teco_outcomes.proofs.Seeking.{tells}
-use Rattle.teco_outcomes.proofs.searches.told.Goals as goal
+use Rattle.teco_outcomes.proofs.Changing.{tells}
+use Rattle.teco_outcomes.proofs.changes.told.Goals as goal
 
 pub returns : goal.returns
 returns c =

@@ -1,0 +1,387 @@
+-- Numbers that are read and written.
+use Rattle.std.proofs.Common.{◌≡◌, ℕ, zero, suc, ◌+◌, ◌-◌, ◌^◌, ◌%◌, ◌<◌, ◌≤◌, inl, inr, ℤ, pos, negsuc}
+use Rattle.std.proofs.Common.{List, [], ◌∷◌, ◌++◌, length, Bool, true, false, Option, Some, None, Result, Ok, Err}
+use Rattle.std.proofs.Common.{if◌then◌else◌}
+use Rattle.std.proofs.Common.{get_or, take, drop, codes, slice_index_or, refl, sym, ap, subst, ◌∙◌, arith}
+use Rattle.std.proofs.Common.{length-drop, FitsSigned, w32}
+use Rattle.std.proofs.lemmas.Bool.Decides.{nat_tests}
+use Rattle.std.proofs.lemmas.Fmt.{decimal_by_steps, decimal_nonempty, length-decimal-le}
+use Rattle.std.proofs.lemmas.Int.{ints, SFits-int_wrap}
+use Rattle.std.proofs.lemmas.List.{get_or-drop}
+use Rattle.std.proofs.lemmas.List.Folds.{length-prefix_len}
+use Rattle.std.proofs.lemmas.List.Sums.{prefix_len_passes, prefix_len-le-length}
+use Rattle.std.specs.Fmt as fmt
+use Rattle.std.specs.List.{All, prefix_len}
+use Rattle.teco_base.specs.Bytes.{is_among, is_digit, is_line_end}
+use Rattle.teco_base.specs.Lines.{line_place}
+use Rattle.teco_base.specs.NumberText.{decimal}
+use Rattle.teco_base.specs.Text.{text_after_insertion}
+use Rattle.teco_base.specs.declared.TheConstants.{LIMIT}
+use Rattle.teco_base.specs.declared.code.Code.{Code}
+use Rattle.teco_linear.specs.declared.term.Term.{Term}
+use Rattle.teco_linear.specs.Form.{Valuation, value}
+use Rattle.teco_linear.specs.Implied as linear
+use Rattle.teco_model.specs.Arguments.{level_with, levels_after_answer, levels_after_taking, value_beside}
+use Rattle.teco_model.specs.Checked.{◌>>=◌}
+use Rattle.teco_model.specs.Conversion.{is_minus, number_at, number_here, reading, sign_len, signed_value}
+use Rattle.teco_model.specs.Effect.{Effect, no_answer}
+use Rattle.teco_model.specs.Going.{after}
+use Rattle.teco_model.specs.Insertion.{insertion_of}
+use Rattle.teco_model.specs.State.{Kept}
+use Rattle.teco_model.specs.Step.{after_query_with}
+use Rattle.teco_model.specs.declared.arguments.Operator.{Operator}
+use Rattle.teco_model.specs.declared.kind.Query.TheVariants.{Conversion}
+use Rattle.teco_rows.specs.declared.case.Case.{Case}
+use Rattle.teco_rows.specs.declared.commands.Way as command
+use Rattle.teco_rows.specs.declared.measure.Family.TheVariants.{Value}
+use Rattle.teco_rows.specs.declared.measure.Measure.TheVariants.{One}
+use Rattle.teco_rows.specs.declared.measure.Single.{Single}
+use Rattle.teco_rows.specs.declared.measure.Single.TheVariants.{Steps, Pointer, Size, Held, LineEnd, LineStart}
+use Rattle.teco_rows.specs.declared.measure.Single.TheVariants.{LastLength}
+use Rattle.teco_rows.specs.declared.outcomes.Outcomes.{Outcomes}
+use Rattle.teco_rows.specs.declared.row.Places.{Places}
+use Rattle.teco_rows.specs.Cases.{value_if}
+use Rattle.teco_rows.specs.Commands.{AreCommanded, Leads, commanded}
+use Rattle.teco_rows.specs.Foretold.{Describe, GivesAny, Succeeds}
+use Rattle.teco_rows.specs.Rows.{AreMet, Before, changed}
+use Rattle.teco_rows.specs.States.{Point, IsShape, IsTrueOf, behind, each, single}
+use Rattle.teco_rows.proofs.Commanding.{read_at}
+use Rattle.teco_rows.proofs.Leading.{leads_singles, performed}
+use Rattle.teco_rows.proofs.Lines.{IsEnd, above_or, clash, ends, line_begin, line_end, one_begin, one_end}
+use Rattle.teco_rows.proofs.Pending.{value_there}
+use Rattle.teco_rows.proofs.Ways.{IsWay, by}
+use Rattle.teco_outcomes.specs.declared.conversions.TheConstants.{READS, WRITES, WRITES_SIGN}
+use Rattle.teco_outcomes.specs.Changes.{IsChanged, read_given, with_kept}
+use Rattle.teco_outcomes.specs.Conversions.{IsBehindNumber, IsStanding, ReadsNumber, WritesNumber}
+use Rattle.teco_outcomes.specs.Conversions.{kept_behind_number}
+use Rattle.teco_outcomes.specs.Deletions.{IsDone}
+use Rattle.teco_outcomes.specs.Queries.{Asks}
+use Rattle.teco_outcomes.proofs.Changing.{changes_singles}
+use Rattle.teco_outcomes.proofs.Inserting.{grown_end, grown_kept, grown_long, inserted, kept_with}
+use Rattle.teco_outcomes.proofs.Valuing.{levels_succeed}
+
+-- ---- a place further on in the line
+module _ (text : List ℕ) (p k : ℕ) (order : p ≤ k) (inside : k ≤ length text)
+    (plain : (i : ℕ) → p ≤ i → i < k → ends text i ≡ false) where
+  before_end : (e : ℕ) → IsEnd text p e → e < length text → k < e
+  before_end zero end l = absurd (omega (arith, end.more l))
+  before_end (suc j) end l = elim (above_or k j) as (λ x. k < suc j) [
+    | inl w ↦ omega arith
+    | inr w ↦ absurd (clash _ (end.one j (omega arith) l) (plain j (omega (arith, end.more l)) w))
+  ]
+
+  pub reached : k ≤ line_place text p (pos 1)
+  reached =
+      let e = line_place text p (pos 1) in
+      let end = line_end text p (omega arith) in
+      elim (above_or (length text) e) as (λ x. k ≤ e) [
+        | inl w ↦ omega arith
+        | inr w ↦ omega (arith, before_end e end w)
+      ]
+
+  pub same_end : line_place text k (pos 1) ≡ line_place text p (pos 1)
+  same_end =
+      let e = line_place text p (pos 1) in
+      let end = line_end text p (omega arith) in
+      one_end text k (line_place text k (pos 1)) e (line_end text k inside) (record {
+        after = reached;
+        within = end.within;
+        more = before_end e end;
+        none = λ i a b. end.none i (omega arith) b;
+        one = end.one;
+      })
+
+  pub same_start : line_place text k (pos 0) ≡ line_place text p (pos 0)
+  same_start =
+      let s = line_place text p (pos 0) in
+      let start = line_begin text p in
+      one_begin text k (line_place text k (pos 0)) s (line_begin text k) (record {
+        before = omega (arith, start.before);
+        none = λ i a b. elim (above_or p i) as (λ x. ends text i ≡ false) [
+          | inl w ↦ plain i w b
+          | inr w ↦ start.none i a w
+        ];
+        one = start.one;
+      })
+
+-- ---- no line end is in a number that is read
+sign_plain : (x : Bool) (b : ℕ) (text : List ℕ) (i : ℕ) → is_among b (codes "+-") ≡ x → i < (if x then 1 else 0)
+    → ends (b ∷ text) i ≡ false
+sign_plain false b text i e h = absurd (omega arith)
+sign_plain true b text zero e h = grind (arith, nat_tests)
+sign_plain true b text (suc i) e h = absurd (omega arith)
+
+signs_plain : (text : List ℕ) (i : ℕ) → i < sign_len text → ends text i ≡ false
+signs_plain [] i h = absurd (omega arith)
+signs_plain (b ∷ text) i h = sign_plain (is_among b (codes "+-")) b text i refl h
+
+digit_plain : (c : ℕ) → is_digit c ≡ true → is_line_end c ≡ false
+digit_plain c e = grind (arith, nat_tests)
+
+sign_short : (text : List ℕ) → sign_len text ≤ length text
+sign_short [] = omega arith
+sign_short (b ∷ text) = short (is_among b (codes "+-")) where
+  short : (x : Bool) → (if x then 1 else 0) ≤ suc (length text)
+  short true = omega arith
+  short false = omega arith
+
+read_short : (minus : Bool) (sign : ℕ) (digits : List ℕ) → (reading minus sign digits).len ≤ sign + length digits
+read_short minus sign [] = omega arith
+read_short minus sign (d ∷ digits) = omega arith
+
+-- the digits that follow the sign
+digits_at : (text : List ℕ) → (number_at text).len ≤ sign_len text + prefix_len is_digit (drop (sign_len text) text)
+digits_at text =
+    let behind = drop (sign_len text) text in
+    omega (
+      arith,
+      read_short (is_minus text) (sign_len text) (take (prefix_len is_digit behind) behind),
+      length-prefix_len is_digit behind,
+    )
+
+number_plain : (text : List ℕ) (i : ℕ) → i < (number_at text).len → ends text i ≡ false
+number_plain text i h = elim (above_or (sign_len text) i) as (λ x. ends text i ≡ false) [
+  | inl w ↦ ap is_line_end (sym (get_or-drop (sign_len text) text (i - sign_len text) 0
+      ∙ ap (λ k. get_or text k 0) (omega arith)))
+      ∙ digit_plain (get_or (drop (sign_len text) text) (i - sign_len text) 0)
+      (prefix_len_passes is_digit (drop (sign_len text) text) (i - sign_len text) 0 (omega (arith, digits_at text)))
+  | inr w ↦ signs_plain text i w
+]
+
+number_short : (text : List ℕ) → (number_at text).len ≤ length text
+number_short text =
+    omega (
+      arith,
+      digits_at text,
+      sign_short text,
+      prefix_len-le-length is_digit (drop (sign_len text) text),
+      length-drop (sign_len text) text,
+    )
+
+-- and it is one of 32 bits
+signed_fits : (minus : Bool) (digits : List ℕ) → FitsSigned w32 (signed_value minus digits)
+signed_fits true digits = SFits-int_wrap w32 _
+signed_fits false digits = SFits-int_wrap w32 _
+
+read_fits : (minus : Bool) (sign : ℕ) (digits : List ℕ) → FitsSigned w32 (reading minus sign digits).number
+read_fits minus sign [] = omega (arith, ints)
+read_fits minus sign (d ∷ digits) = signed_fits minus (d ∷ digits)
+
+pub number_fits : (text : List ℕ) → FitsSigned w32 (number_at text).number
+number_fits text =
+    let behind = drop (sign_len text) text in
+    read_fits (is_minus text) (sign_len text) (take (prefix_len is_digit behind) behind)
+
+-- ---- the pointer goes behind it
+pub goes_behind : (case made : Case) → IsChanged case READS [] made → IsBehindNumber case made
+goes_behind case made changes n v s true_of whole =
+    changes n v s kept s.unread (λ i. pos k) true_of (λ here.
+    changes_singles READS (read_given [] n v s (λ i. pos k) here) s kept s.unread refl refl
+    (omega (arith, ints), (omega (arith, ints, reached text p k order inside plain), tt)) (singles here)) where
+      text : List ℕ
+      text = s.kept.text
+
+      p : ℕ
+      p = s.kept.pointer
+
+      kept : Kept
+      kept = kept_behind_number s.kept
+
+      k : ℕ
+      k = kept.pointer
+
+      short : (number_here s.kept).len ≤ length (drop p text)
+      short = number_short (drop p text)
+
+      order : p ≤ k
+      order = omega arith
+
+      inside : k ≤ length text
+      inside = omega (arith, short, length-drop p text, whole.inside)
+
+      plain : (i : ℕ) → p ≤ i → i < k → ends text i ≡ false
+      plain i a b =
+          ap is_line_end (sym (get_or-drop p text (i - p) 0 ∙ ap (λ j. get_or text j 0) (omega arith)))
+          ∙ number_plain (drop p text) (i - p) (omega arith)
+
+      singles : (here : Places) (which : Single)
+          → Some (pos (single (record s { kept = kept; unread = s.unread }) which))
+          ≡ changed READS (read_given [] n v s (λ i. pos k) here) (One which) (Some (pos (single s which)))
+      singles here Steps = refl
+      singles here Pointer = ap Some (omega (arith, ints))
+      singles here Size = refl
+      singles here Held = refl
+      singles here LineEnd = ap (λ x. Some (pos x)) (same_end text p k order inside plain)
+      singles here LineStart = ap (λ x. Some (pos x)) (same_start text p k order inside plain)
+      singles here LastLength = refl
+
+-- ---- no line end is in a number that is written
+single_plain : (c : ℕ) → 48 ≤ c → (i : ℕ) → ends (c ∷ []) i ≡ false
+single_plain c h zero = grind (arith, nat_tests)
+single_plain c h (suc i) = refl
+
+pushed_plain : (digits : List ℕ) (c : ℕ) → 48 ≤ c → ((i : ℕ) → ends digits i ≡ false) → (i : ℕ)
+    → ends (digits ++ c ∷ []) i ≡ false
+pushed_plain [] c h f i = single_plain c h i
+pushed_plain (d ∷ digits) c h f zero = f zero
+pushed_plain (d ∷ digits) c h f (suc i) = pushed_plain digits c h (λ j. f (suc j)) i
+
+digits_plain : (m : ℕ) → m < 2 ^ 64 → (i : ℕ) → ends (fmt.decimal m) i ≡ false
+digits_plain =
+    decimal_by_steps (λ m digits. (i : ℕ) → ends digits i ≡ false) (λ m h. single_plain (48 + m) (omega arith))
+    (λ m digits h f. pushed_plain digits (48 + m % 10) (omega arith) f)
+
+written_plain : (x : ℤ) → FitsSigned w32 x → (i : ℕ) → ends (decimal x) i ≡ false
+written_plain (pos m) fits i = digits_plain m (omega (arith, ints)) i
+written_plain (negsuc m) fits zero = refl
+written_plain (negsuc m) fits (suc i) = digits_plain (suc m) (omega (arith, ints)) i
+
+-- a text without one is of one line
+one_line : (text : List ℕ) → ((i : ℕ) → ends text i ≡ false) → line_place text (length text) (pos 0) ≡ 0
+one_line text plain =
+    one_begin text (length text) (line_place text (length text) (pos 0)) 0 (line_begin text (length text)) (record {
+      before = omega arith;
+      none = λ i a b. plain i;
+      one = λ k e. absurd (omega arith);
+    })
+
+-- ---- how long it is
+few_digits : (m : ℕ) → m < 10 ^ 10 → (1 ≤ length (fmt.decimal m)) × (length (fmt.decimal m) ≤ 10)
+few_digits m h = (
+  omega (arith, decimal_nonempty m (omega arith)),
+  length-decimal-le 10 m (omega arith) h (omega arith),
+)
+
+-- ---- it is inserted
+module _ (s : Point) (here : Places) (given : ℕ → ℤ) (new : List ℕ) (inside : s.kept.pointer ≤ length s.kept.text)
+    (plain : line_place new (length new) (pos 0) ≡ 0) where
+  abbrev before : Before
+  before = read_at s here given (λ i. pos (length new))
+
+  long : length (text_after_insertion s.kept.text s.kept.pointer new) ≡ length new + length s.kept.text
+  long = grown_long s.kept.text new s.kept.pointer inside
+
+  end : line_place (text_after_insertion s.kept.text s.kept.pointer new) (s.kept.pointer + length new) (pos 1)
+      ≡ line_place s.kept.text s.kept.pointer (pos 1) + length new
+  end = grown_end s.kept.text new s.kept.pointer inside
+
+  writes : AreMet WRITES before → Leads WRITES before s (kept_with new s.kept) None
+  writes met = leads_singles WRITES before s (kept_with new s.kept) refl refl met singles where
+    singles : (which : Single) → Some (pos (single (commanded s (kept_with new s.kept) None) which))
+        ≡ changed WRITES before (One which) (Some (pos (single (commanded s s.kept None) which)))
+    singles Steps = refl
+    singles Pointer = ap Some (omega (arith, ints))
+    singles Size = ap Some (omega (arith, ints, long))
+    singles Held = ap Some (omega (arith, ints, long))
+    singles LineEnd = ap Some (omega (arith, ints, end))
+    singles LineStart = ap (λ x. Some (pos x)) (grown_kept s.kept.text new s.kept.pointer inside plain)
+    singles LastLength = ap Some (omega (arith, ints))
+
+  writes_sign : AreMet WRITES_SIGN before → Leads WRITES_SIGN before s (kept_with new s.kept) None
+  writes_sign met = leads_singles WRITES_SIGN before s (kept_with new s.kept) refl refl met singles where
+    singles : (which : Single) → Some (pos (single (commanded s (kept_with new s.kept) None) which))
+        ≡ changed WRITES_SIGN before (One which) (Some (pos (single (commanded s s.kept None) which)))
+    singles Steps = refl
+    singles Pointer = ap Some (omega (arith, ints))
+    singles Size = ap Some (omega (arith, ints, long))
+    singles Held = ap Some (omega (arith, ints, long))
+    singles LineEnd = ap Some (omega (arith, ints, end))
+    singles LineStart = ap (λ x. Some (pos x)) (grown_kept s.kept.text new s.kept.pointer inside plain)
+    singles LastLength = ap Some (omega (arith, ints))
+
+pub writes_number : (case : Case) (ways : List command.Way) (form : List Term) (here : Places) (all : Outcomes)
+    → AreCommanded case ways (form ∷ []) here all.cases.items → IsWay ways 0 WRITES → IsWay ways 1 WRITES_SIGN
+    → ((n : ℕ) (v : Valuation) (s : Point) → IsTrueOf n v case s → All (linear.Holds n v) all.conditions.items
+    → FitsSigned w32 (value form n v) × (length s.kept.text + 11 ≤ LIMIT))
+    → WritesNumber form case all
+writes_number case ways form here all are w0 w1 room n v s begins =
+    performed n all s _ (no_answer (kept_with new s.kept)) (inserted new s.kept small) (by_sign x refl) where
+      x : ℤ
+      x = value form n v
+
+      new : List ℕ
+      new = decimal x
+
+      given : ℕ → ℤ
+      given i = value (slice_index_or (form ∷ []) i []) n v
+
+      r : FitsSigned w32 x × (length s.kept.text + 11 ≤ LIMIT)
+      r = room n v s begins.true_of begins.conditions
+
+      plain : line_place new (length new) (pos 0) ≡ 0
+      plain = one_line new (written_plain x r.0)
+
+      D : Type 0
+      D = Describe n all (commanded s (kept_with new s.kept) None)
+
+      short : (y : ℤ) → x ≡ y → length new ≤ 11
+      short (pos m) e =
+          let few = few_digits m (omega (arith, ints, r.0)) in
+          subst (λ z. length (decimal z) ≤ 11) (sym e) (omega (arith, few.1))
+      short (negsuc m) e =
+          let few = few_digits (suc m) (omega (arith, ints, r.0)) in
+          subst (λ z. length (decimal z) ≤ 11) (sym e) (omega (arith, few.1))
+
+      small : length (text_after_insertion s.kept.text s.kept.pointer new) ≤ LIMIT
+      small = omega (arith, grown_long s.kept.text new s.kept.pointer begins.whole.inside, short x refl, r.1)
+
+      by_sign : (y : ℤ) → x ≡ y → D
+      by_sign (pos m) e =
+          let few = few_digits m (omega (arith, ints, r.0)) in
+          let long : length new ≡ length (decimal (pos m)) = ap (λ z. length (decimal z)) e in
+          by n v case ways (form ∷ []) here all 0 WRITES s (kept_with new s.kept) None (λ i. pos (length new)) are w0
+          begins.true_of
+          (writes s here given new begins.whole.inside plain
+          (omega (arith, ints, e), (omega (arith, ints, few.0, long), (omega (arith, ints, few.1, long), tt))))
+      by_sign (negsuc m) e =
+          let few = few_digits (suc m) (omega (arith, ints, r.0)) in
+          let long : length new ≡ length (decimal (negsuc m)) = ap (λ z. length (decimal z)) e in
+          by n v case ways (form ∷ []) here all 1 WRITES_SIGN s (kept_with new s.kept) None (λ i. pos (length new)) are
+          w1 begins.true_of
+          (writes_sign s here given new begins.whole.inside plain
+          (omega (arith, ints, e), (omega (arith, ints, few.0, long), (omega (arith, ints, few.1, long), tt))))
+
+-- ---- what is asked
+pub stands_alone : (case : Case) (form : Option (List Term)) (operator : Option Operator) → operator ≡ None
+    → ((s : Point) → IsShape case.shape s → operator ≡ s.arguments.level.operator)
+    → ((n : ℕ) (v : Valuation) (s : Point) → IsTrueOf n v case s
+    → value_if form n v ≡ each s Value (length s.arguments.outer))
+    → IsStanding case form
+stands_alone case form operator none waits is n v s true_of =
+    is n v s true_of ∙ value_there s
+    ∙ ap (λ o. value_beside o s.arguments.level.value) (sym none ∙ waits s true_of.shape)
+
+pub stands_not : (case : Case) (operator : Option Operator) (o : Operator) → operator ≡ Some o
+    → ((s : Point) → IsShape case.shape s → operator ≡ s.arguments.level.operator) → IsStanding case None
+stands_not case operator o some waits n v s true_of =
+    ap (λ o. value_beside o s.arguments.level.value) (sym some ∙ waits s true_of.shape)
+
+pub reads_number : (case behind : Case) (all : Outcomes) → IsBehindNumber case behind → GivesAny behind all
+    → ReadsNumber case all
+reads_number case behind all is gives n v s begins =
+    let d = is n v s begins.true_of begins.whole in
+    gives n d.0 (with_kept s (kept_behind_number s.kept)) (number_here s.kept).number d.1
+    (number_fits (drop s.kept.pointer s.kept.text))
+
+pub read_asked : (case : Case) (form : Option (List Term)) (all : Outcomes) → form ≡ None → IsStanding case form
+    → ReadsNumber case all → (colons : ℕ) → Asks Conversion colons case all
+read_asked case form all none is reads colons e same n v s begins =
+    let P = Succeeds (λ done. Describe n all (behind s done)) in
+    subst (λ o. P (after_query_with Conversion e.colons o s.kept s.arguments))
+    (ap (λ o. value_if o n v) (sym none) ∙ is n v s begins.true_of)
+    (levels_succeed n all (with_kept s (kept_behind_number s.kept))
+    (level_with (number_here s.kept).number s.arguments.level) (reads n v s begins))
+
+pub written_asked : (case : Case) (form : Option (List Term)) (number : List Term) (all : Outcomes)
+    → form ≡ Some number → IsStanding case form → WritesNumber number case all → (colons : ℕ)
+    → Asks Conversion colons case all
+written_asked case form number all some is writes colons e same n v s begins =
+    let P = Succeeds (λ done. Describe n all (behind s done)) in
+    subst (λ o. P (after_query_with Conversion e.colons o s.kept s.arguments))
+    (ap (λ o. value_if o n v) (sym some) ∙ is n v s begins.true_of)
+    (passed (insertion_of (decimal (value number n v)) s.kept) (writes n v s begins)) where
+      passed : (r : Result Effect Code) → IsDone n all s r
+          → Succeeds (λ done. Describe n all (behind s done)) (r >>= (λ effect. Ok (after effect.kept
+          (levels_after_answer effect.answer (levels_after_taking s.arguments)))))
+      passed (Ok effect) d = d
+      passed (Err c) d = d
