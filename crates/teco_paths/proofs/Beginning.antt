@@ -1,16 +1,17 @@
 -- The state at the entry is as the cut point there says.
-use Rattle.std.proofs.Common.{◌≡◌, ℕ, zero, suc, ◌+◌, ◌-◌, ◌*◌, ◌/◌, ◌%◌, ◌<◌, ◌≤◌, refl, sym, ap, ◌∙◌, subst, arith, List, [], ◌∷◌, length}
+use Rattle.std.proofs.Common.{◌≡◌, ℕ, zero, suc, ◌+◌, ◌-◌, ◌*◌, ◌/◌, ◌%◌, ◌<◌, ◌≤◌, refl, sym, ap, ◌∙◌, arith, List, [], ◌∷◌, length}
 use Rattle.std.proofs.Common.{eqb-true, Bool, true, false, Option, Some, None, nat_lt, slice_get, ◌==◌, if◌then◌else◌}
-use Rattle.std.specs.Prelude.{ℤ, pos, ◌-ℤ◌, ◌≤ℤ◌, is_some, option_map, option_and_then, slice_index_or, ◌&&◌}
+use Rattle.std.specs.Prelude.{ℤ, pos, unwrap_or, ◌+ℤ◌, ◌-ℤ◌, is_some, option_map, option_and_then, slice_index_or, ◌&&◌}
 use Rattle.std.proofs.lemmas.Bool.{ltb-true, ltb-false}
 use Rattle.std.proofs.lemmas.Int.{ints}
-use Rattle.std.specs.List.{All}
-use Rattle.teco_base.specs.declared.TheConstants.{LIMIT, REGISTERS}
+use Rattle.std.proofs.lemmas.List.Sums.{sum_by-cons}
+use Rattle.std.specs.List.{All, sum_by}
+use Rattle.teco_base.specs.declared.TheConstants.{REGISTERS}
 use Rattle.teco_linear.specs.declared.term.Term.{Term}
 use Rattle.teco_linear.specs.Form.{Valuation, value}
 use Rattle.teco_model.specs.Arguments.{Arguments}
 use Rattle.teco_model.specs.Macros.{ArgumentRange, IsAsked}
-use Rattle.teco_model.specs.Registers.{Pair}
+use Rattle.teco_model.specs.Registers.{Pair, held_length_of_pair}
 use Rattle.teco_model.specs.declared.arguments.Level.{Level}
 use Rattle.teco_rows.specs.declared.measure.Family.{Family}
 use Rattle.teco_rows.specs.declared.measure.Family.TheVariants.{Number, Length, Turns, PushedNumber, PushedLength}
@@ -20,12 +21,9 @@ use Rattle.teco_rows.specs.declared.measure.Measure.TheVariants.{One, Each}
 use Rattle.teco_rows.specs.Measures.{place}
 use Rattle.teco_rows.specs.States.{Point, from_end, levels, measures_of, number_of, length_of, operators_of}
 use Rattle.teco_paths.specs.declared.cut.Cut.{Cut}
-use Rattle.teco_paths.specs.Claims.{AreClaimed}
-use Rattle.teco_paths.specs.Entry.{AreThere, IsEntered, IsEntryClaim, IsEntryCut, family_is_there, is_there}
+use Rattle.teco_paths.specs.Entry.{AreThere, IsEntered, IsEntryClaim, IsEntryCut, family_is_there, is_there, lengths}
 use Rattle.teco_paths.specs.Symbols.{family_of, measure_of, numbers_of, single_of}
 use Rattle.teco_paths.proofs.Symbols.{measure_again}
-use Rattle.teco_poly.specs.Polynomial as poly
-use Rattle.teco_poly.specs.Polynomial.{Polynomial}
 use Rattle.teco_verifier.specs.facts.Argument.{arguments_given}
 use Rattle.teco_verifier.specs.table.Printed.{steps_before}
 
@@ -99,8 +97,47 @@ value_of None None i asked = value_none i
 value_of (Some range) (Some n) i asked = value_some n i
 value_of argument given i asked = absurd (grind arith)
 
-module _ (argument : Option ArgumentRange) (size : Polynomial) (n : ℕ) (given : Option ℕ) (s : Point)
-    (e : IsEntered argument size n given s) where
+-- the argument is the value at the only level
+given_is : (given : ℕ) (s : Point) → s.arguments ≡ arguments_given (Some given) → numbers_of s 13 ≡ pos given
+given_is given s e =
+    ap (λ (a : Arguments). unwrap_or (option_and_then (λ (level : Level). level.value) (from_end (levels a) 0)) (pos 0)) e
+
+-- ---- the texts of registers are held
+pub lengths_more : (v : Valuation) (k : ℕ) → lengths v (k + 1) ≡ lengths v k +ℤ v (8 + 7 * k)
+lengths_more v k = let z : k + 1 ≡ suc k = omega arith in rw z refl
+
+abbrev texts_in : List Pair → ℕ → ℤ
+texts_in pairs zero = pos 0
+texts_in pairs (suc k) = texts_in pairs k +ℤ unwrap_or (length_of (slice_get pairs k)) (pos 0)
+
+same_lengths : (s : Point) (k : ℕ) → lengths (numbers_of s) k ≡ texts_in s.kept.registers.pairs k
+same_lengths s zero = refl
+same_lengths s (suc k) =
+    let m : measure_of (8 + 7 * k) ≡ Each Length k =
+    ap measure_of (omega arith) ∙ measure_again (Each Length k) in
+    let here : numbers_of s (8 + 7 * k) ≡ unwrap_or (length_of (slice_get s.kept.registers.pairs k)) (pos 0) =
+    ap (λ m. unwrap_or (measures_of s m) (pos 0)) m in
+    omega (arith, ints, here, same_lengths s k)
+
+texts_of_more : (p : Pair) (pairs : List Pair) (k : ℕ)
+    → texts_in (p ∷ pairs) (suc k) ≡ pos (length p.text) +ℤ texts_in pairs k
+texts_of_more p pairs zero = omega (arith, ints)
+texts_of_more p pairs (suc k) = let rest = texts_of_more p pairs k in omega (arith, ints, rest)
+
+texts_most : (pairs : List Pair) (k : ℕ) → k ≡ length pairs → texts_in pairs k ≡ pos (sum_by held_length_of_pair pairs)
+texts_most [] zero e = refl
+texts_most [] (suc k) e = absurd (omega (arith, e))
+texts_most (p ∷ pairs) zero e = absurd (omega (arith, e))
+texts_most (p ∷ pairs) (suc k) e =
+    let rest = texts_most pairs k (omega (arith, e)) in
+    omega (arith, ints, texts_of_more p pairs k, rest, sum_by-cons held_length_of_pair p pairs)
+
+lengths_most : (s : Point) (k : ℕ) → length s.kept.registers.pairs ≡ k
+    → lengths (numbers_of s) k ≡ pos (sum_by held_length_of_pair s.kept.registers.pairs)
+lengths_most s k e = same_lengths s k ∙ texts_most s.kept.registers.pairs k (sym e)
+
+module _ (argument : Option ArgumentRange) (n : ℕ) (given : Option ℕ) (s : Point)
+    (e : IsEntered argument n given s) where
   there : (m : Measure) → is_some (measures_of s m) ≡ is_there (is_some argument) m
   there (One single) = refl
   there (Each Number i) = some_mapped (λ p. p.number) (slice_get s.kept.registers.pairs i) ∙ of_pair s.kept.registers.pairs i e.whole.count
@@ -124,34 +161,48 @@ module _ (argument : Option ArgumentRange) (size : Polynomial) (n : ℕ) (given 
       there m ∙ sym (are (place m) ∙ ap (is_there (is_some argument)) (measure_again m))
 
 -- ---- the claims
-module _ (argument : Option ArgumentRange) (size : Polynomial) (form : List Term) where
-  pub least_steps_claim : ((n : ℕ) (v : Valuation) → value form n v ≡ v 0 -ℤ pos (steps_before argument)) → IsEntryClaim argument size form
+module _ (argument : Option ArgumentRange) (form : List Term) where
+  pub least_steps_claim : ((n : ℕ) (v : Valuation) → value form n v ≡ v 0 -ℤ pos (steps_before argument))
+      → IsEntryClaim argument form
   least_steps_claim is n given s e = omega (arith, ints, is n (numbers_of s), e.steps)
 
-  pub most_steps_claim : ((n : ℕ) (v : Valuation) → value form n v ≡ pos (steps_before argument) -ℤ v 0) → IsEntryClaim argument size form
+  pub most_steps_claim : ((n : ℕ) (v : Valuation) → value form n v ≡ pos (steps_before argument) -ℤ v 0)
+      → IsEntryClaim argument form
   most_steps_claim is n given s e = omega (arith, ints, is n (numbers_of s), e.steps)
 
-  pub most_held_claim : ((n : ℕ) (v : Valuation) → value form n v ≡ pos n -ℤ v 3) → IsEntryClaim argument size form
-  most_held_claim is n given s e = omega (arith, ints, is n (numbers_of s), e.held)
+  pub most_held_claim : ((n : ℕ) (v : Valuation) → value form n v ≡ (pos n -ℤ v 3) -ℤ lengths v REGISTERS)
+      → IsEntryClaim argument form
+  most_held_claim is n given s e =
+      omega (arith, ints, is n (numbers_of s), e.held, lengths_most s REGISTERS e.whole.count)
 
-  pub most_size_claim : ((n : ℕ) (v : Valuation) → value form n v ≡ pos LIMIT -ℤ pos (poly.value size n)) → IsEntryClaim argument size form
-  most_size_claim is n given s e = omega (arith, ints, is n (numbers_of s), e.small)
+module _ (range : ArgumentRange) (form : List Term) where
+  pub least_argument_claim : ((n : ℕ) (v : Valuation) → value form n v ≡ v 13 -ℤ pos range.low)
+      → IsEntryClaim (Some range) form
+  least_argument_claim is n None s e = absurd e.asked
+  least_argument_claim is n (Some given) s e =
+      omega (arith, ints, is n (numbers_of s), given_is given s e.arguments, e.asked.low)
+
+  pub most_argument_claim : ((n : ℕ) (v : Valuation) → value form n v ≡ pos range.high -ℤ v 13)
+      → IsEntryClaim (Some range) form
+  most_argument_claim is n None s e = absurd e.asked
+  most_argument_claim is n (Some given) s e =
+      omega (arith, ints, is n (numbers_of s), given_is given s e.arguments, e.asked.high)
 
 -- ---- all of it
 waits_none : (given : Option ℕ) (a : Arguments) → a ≡ arguments_given given → None ∷ [] ≡ operators_of (levels a)
 waits_none None a e = ap (λ (a : Arguments). operators_of (levels a)) (sym e)
 waits_none (Some n) a e = ap (λ (a : Arguments). operators_of (levels a)) (sym e)
 
-pub is_entry_cut : (argument : Option ArgumentRange) (size : Polynomial) (cut : Cut) → cut.shape.operators.items ≡ None ∷ []
+pub is_entry_cut : (argument : Option ArgumentRange) (cut : Cut) → cut.shape.operators.items ≡ None ∷ []
     → cut.shape.iterations ≡ 0 → cut.shape.pushes ≡ 0 → AreThere (is_some argument) cut.present.items
-    → All (IsEntryClaim argument size) cut.claims.items → IsEntryCut argument size cut
-is_entry_cut argument size cut operators iterations pushes present claims n given s e = record {
+    → All (IsEntryClaim argument) cut.claims.items → IsEntryCut argument cut
+is_entry_cut argument cut operators iterations pushes present claims n given s e = record {
   shape = record {
     operators = operators ∙ waits_none given s.arguments e.arguments;
     iterations = iterations ∙ sym (ap length e.loops);
     pushes = omega (arith, pushes, e.below);
   };
-  present = has_present argument size n given s e cut.present.items present;
+  present = has_present argument n given s e cut.present.items present;
   claims = λ k d l. claims k d l n given s e;
 }
 

@@ -1,6 +1,6 @@
 -- Every run of a macro whose claims hang together ends in time.
-use Rattle.std.proofs.Common.{◌≡◌, ℕ, zero, suc, ◌+◌, ◌≤◌, ◌<◌, ◌^◌, refl, sym, ap, ◌∙◌, subst, arith, List, length, false}
-use Rattle.std.proofs.Common.{Option, Some, None, option_map, [], ◌∷◌}
+use Rattle.std.proofs.Common.{◌≡◌, ℕ, zero, suc, ◌+◌, ◌≤◌, ◌<◌, ◌^◌, refl, sym, ap, ◌∙◌, subst, arith, length, false}
+use Rattle.std.proofs.Common.{Option, Some, None, option_map, []}
 use Rattle.std.proofs.lemmas.Int.{ints}
 use Rattle.std.specs.List.{All}
 use Rattle.std.specs.Option.{option_map_or}
@@ -8,14 +8,14 @@ use Rattle.teco_base.specs.declared.TheConstants.{REGISTERS}
 use Rattle.teco_law_expansion.specs.Alike.{AreAlike, AreOutcomesAlike, StepsAreAlike, RunsAreAlike, ReadingsAreAlike, kind_of}
 use Rattle.teco_law_expansion.specs.Given.{call_given, start_pending, BeginsPending, NumbersArePending}
 use Rattle.teco_law_expansion.specs.Linked.{AreLinked}
-use Rattle.teco_law_facts.specs.Wholeness.{AreWholeArguments, IsWholeState}
-use Rattle.teco_law_tables.specs.Ending.{EndsWithin, start_given}
+use Rattle.teco_law_facts.specs.Wholeness.{AreWholeArguments}
+use Rattle.teco_law_tables.specs.Ending.{start_given}
 use Rattle.teco_law_tables.specs.Staying.{is_of_files, changes_files, NoFileCommands}
 use Rattle.teco_law_tables.specs.Verified.{IsReady}
 use Rattle.teco_model.specs.Element.{Element}
 use Rattle.teco_model.specs.Files.{Input}
 use Rattle.teco_model.specs.Macros.{Library, ArgumentRange, IsAsked}
-use Rattle.teco_model.specs.Run.{Reaches, Ends, run}
+use Rattle.teco_model.specs.Run.{Reaches, Ends}
 use Rattle.teco_model.specs.State.{World, State, Outcome, Next, End, start}
 use Rattle.teco_rows.specs.declared.case.Case.{Case}
 use Rattle.teco_outcomes.specs.Law.{point_of, unread_in}
@@ -25,11 +25,10 @@ use Rattle.teco_paths.specs.Entry.{IsEntered, IsEntryCut}
 use Rattle.teco_paths.specs.Paths as paths
 use Rattle.teco_paths.specs.Paths.{Course, IsFollowed, Leads}
 use Rattle.teco_paths.specs.Runs.{Ground, IsAt, EndsBy, held_in}
-use Rattle.teco_paths.specs.Sure.{n_of, IsCertain}
+use Rattle.teco_paths.specs.Sure.{n_of, CertainEnd, IsCertain}
 use Rattle.teco_paths.specs.Symbols.{numbers_of}
 use Rattle.teco_paths.proofs.Ending.{run_ends}
 use Rattle.teco_paths.proofs.Walking.{none_more, none_on, none_yet, one_step, reached_none, reaches_here, reaches_on, reads_none, run_on}
-use Rattle.teco_poly.specs.Polynomial.{Polynomial, value}
 use Rattle.teco_verifier.specs.expansion.Node.{beginning}
 use Rattle.teco_verifier.specs.facts.Argument.{arguments_given}
 use Rattle.teco_verifier.specs.table.Printed.{steps_before}
@@ -47,7 +46,7 @@ argument_whole (Some range) (Some n) asked =
 argument_whole argument given asked = absurd (grind arith)
 
 module _ (course : Course) (argument : Option ArgumentRange) (cut : Cut) (case : Case)
-    (is_case : IsCaseOf cut case) (is_entry : IsEntryCut argument course.size cut) (leads : Leads course 1 1 case)
+    (is_case : IsCaseOf course.size cut case) (is_entry : IsEntryCut argument cut) (leads : Leads course 1 1 case)
     (followed : All (IsFollowed course) course.cuts) (library : Library) (entry : ℕ) (given : Option ℕ) (world : World)
     (linked : AreLinked library entry course.nodes) (asked : IsAsked argument given)
     (ready : IsReady library entry course.size (n_of world) world) where
@@ -69,12 +68,11 @@ module _ (course : Course) (argument : Option ArgumentRange) (cut : Cut) (case :
     };
   }
 
-  entered : IsEntered argument course.size (n_of world) given (point_of (steps_before argument) ground.below first)
+  entered : IsEntered argument (n_of world) given (point_of (steps_before argument) ground.below first)
   entered = record {
     whole = ready.whole.kept;
     steps = refl;
     held = let e = same_unread world.files.input in omega (arith, e);
-    small = ready.small;
     asked = asked;
     arguments = refl;
     loops = refl;
@@ -83,9 +81,9 @@ module _ (course : Course) (argument : Option ArgumentRange) (cut : Cut) (case :
 
   pub pending_ends : paths.Ends course ground (steps_before argument) first
   pending_ends =
-      run_ends course ground linked followed 1 (steps_before argument) case first leads at (
+      run_ends course ground (record { linked = linked; room = ready.small }) followed 1 (steps_before argument) case first leads at (
         numbers_of (point_of (steps_before argument) ground.below first),
-        is_case (n_of world) _ (is_entry (n_of world) given _ entered),
+        is_case (n_of world) _ ready.whole.kept ready.small (is_entry (n_of world) given _ entered),
       )
 
 -- ---- the digits before the call
@@ -202,8 +200,19 @@ in_all laws entry (Some range) (Some n) world most held named asked ends =
 in_all laws entry argument given world most held named asked ends = absurd (grind arith)
 
 pub certain : CallLaws → (course : Course) (argument : Option ArgumentRange) (cut : Cut) (case : Case)
-    → IsCaseOf cut case → IsEntryCut argument course.size cut → Leads course 1 1 case
+    → IsCaseOf course.size cut case → IsEntryCut argument cut → Leads course 1 1 case
     → All (IsFollowed course) course.cuts → IsCertain course.nodes argument course.commands course.size
 certain laws course argument cut case is_case is_entry leads followed library entry given world linked asked ready =
     in_all laws entry argument given world _ _ ready.named asked
     (pending_ends course argument cut case is_case is_entry leads followed library entry given world linked asked ready)
+
+pub certain_end : CertainEnd
+certain_end nodes argument commands size is library entry given world linked asked ready =
+    let ends = is library entry given world linked asked ready in
+    record {
+      steps = ends.more;
+      new = ends.new;
+      few = omega (arith, ends.within);
+      none = ends.none;
+      ends = ends.ends;
+    }

@@ -1,6 +1,6 @@
 -- Cut points and cases.
-use Rattle.std.proofs.Common.{◌≡◌, ℕ, refl, sym, ap, ◌∙◌, subst, arith, List, [], ◌∷◌, Bool, true, false, Option, Some, None}
-use Rattle.std.specs.Prelude.{ℤ, pos, ◌≤ℤ◌, ◌-ℤ◌, ◌+◌, ◌≤◌, is_some, unwrap_or, slice_index_or}
+use Rattle.std.proofs.Common.{◌≡◌, ℕ, refl, sym, ap, ◌∙◌, subst, arith, List, ◌++◌, Bool, Option, Some, None}
+use Rattle.std.specs.Prelude.{pos, ◌≤ℤ◌, ◌-ℤ◌, ◌+◌, ◌≤◌, is_some, unwrap_or, slice_index_or}
 use Rattle.std.proofs.lemmas.Int.{ints}
 use Rattle.std.specs.List.{All}
 use Rattle.teco_linear.specs.declared.term.Term.{Term}
@@ -8,24 +8,26 @@ use Rattle.teco_linear.specs.Form.{Valuation, value, values}
 use Rattle.teco_linear.specs.Implied.{Holds, Implies}
 use Rattle.teco_rows.specs.declared.case.Case.{Case}
 use Rattle.teco_rows.specs.declared.case.Shape.{Shape}
-use Rattle.teco_rows.specs.declared.measure.Measure.{Measure}
 use Rattle.teco_rows.specs.Cases.{value_if}
 use Rattle.teco_rows.specs.Measures.{place}
-use Rattle.teco_rows.specs.States.{Point, IsShape, IsTrueOf, Describes, measures_of}
+use Rattle.teco_rows.specs.States.{Point, IsShape, IsTrueOf, Describes}
 use Rattle.teco_paths.specs.declared.cut.Cut.{Cut}
-use Rattle.teco_paths.specs.Claims.{AreClaimed, AreFilled, ArePresent, AreSymbols, ClaimHolds, ComesTo, HasPresent, filled_by}
+use Rattle.teco_paths.specs.Claims.{AreClaimed, AreFilled, AreKnown, ArePresent, AreSymbols, ClaimHolds, ComesTo, HasPresent, filled_by}
+use Rattle.teco_paths.specs.Facts.{IsFact}
 use Rattle.teco_paths.specs.Symbols.{measure_of, numbers_of}
+use Rattle.teco_paths.proofs.Lists.{all_joined}
 use Rattle.teco_paths.proofs.Symbols.{marked, place_again, value_same}
+use Rattle.teco_poly.specs.Polynomial.{Polynomial}
 
 -- a case of symbols is true of a state that is as a cut point says
 pub case_holds : (cut : Cut) (case : Case) (n : ℕ) (s : Point)
     → AreSymbols cut.present.items case.forms.items
-    → ((v : Valuation) → All (Holds n v) cut.claims.items → All (Holds n v) case.constraints.items)
+    → All (Holds n (numbers_of s)) case.constraints.items
     → IsShape case.shape s → AreClaimed n cut s → IsTrueOf n (numbers_of s) case s
 case_holds cut case n s symbols constraints shape claimed = record {
   fits = record {
     measures = λ m. symbols n (numbers_of s) (place m) ∙ marked cut.present.items s m (claimed.present m);
-    constraints = constraints (numbers_of s) claimed.claims;
+    constraints = constraints;
   };
   shape = shape;
 }
@@ -91,3 +93,12 @@ shaped shape copy s operators iterations pushes h = record {
   iterations = iterations ∙ h.iterations;
   pushes = ap (λ k. s.below + k) pushes ∙ h.pushes;
 }
+
+-- what is claimed, and facts behind it
+pub all_known : (size : Polynomial) (cut : Cut) (copies facts all : List (List Term))
+    → ((n : ℕ) (v : Valuation) → All (Holds n v) cut.claims.items → All (Holds n v) copies)
+    → All (IsFact size) facts → all ≡ copies ++ facts → AreKnown size cut all
+all_known size cut copies facts all copied are e n s whole room claimed =
+    subst (All (Holds n (numbers_of s))) (sym e)
+    (all_joined (Holds n (numbers_of s)) copies facts (copied n (numbers_of s) claimed)
+    (λ k d l. are k d l n s whole room))

@@ -1,16 +1,14 @@
 -- Runs end from cut points.
-use Rattle.std.proofs.Common.{◌≡◌, ℕ, zero, suc, ◌+◌, ◌≤◌, refl, sym, ap, ◌∙◌, subst, arith, List}
+use Rattle.std.proofs.Common.{◌≡◌, ℕ, zero, suc, ◌+◌, ◌≤◌, sym, ◌∙◌, subst, arith}
 use Rattle.std.specs.List.{All, Any}
-use Rattle.teco_law_expansion.specs.Linked.{AreLinked}
 use Rattle.teco_law_tables.specs.Staying.{ReadsNoFileCommand}
-use Rattle.teco_model.specs.Run.{Reaches, run}
+use Rattle.teco_model.specs.Run.{Reaches}
 use Rattle.teco_model.specs.State.{State, Next, End}
 use Rattle.teco_model.specs.Step.{step}
 use Rattle.teco_rows.specs.declared.case.Case.{Case}
 use Rattle.teco_outcomes.specs.Law.{point_of}
 use Rattle.teco_rows.specs.States.{Describes}
-use Rattle.teco_paths.specs.declared.cut.Cut.{Cut}
-use Rattle.teco_paths.specs.Paths.{Course, Ends, IsAtCut, CutsEnd, IsFollowed, Leads}
+use Rattle.teco_paths.specs.Paths.{Course, Ends, IsAtCut, IsOf, CutsEnd, IsFollowed, Leads}
 use Rattle.teco_paths.specs.Runs.{Ground, IsAt, EndsBy, held_in}
 use Rattle.teco_paths.proofs.Walking.{none_more, none_on, none_yet, one_step, reached_none, reaches_here, reaches_on, run_on}
 use Rattle.teco_poly.specs.Polynomial.{value}
@@ -77,12 +75,12 @@ cut_here course ground steps s cuts any =
     (cuts 0 s (omega arith) (reaches_here s) (subst (λ m. Any (IsAtCut course ground m s) course.cuts) (sym e) any))
 
 -- a run ends from each cut point, by how many commands are left
-module _ (course : Course) (ground : Ground) (linked : AreLinked ground.library ground.entry course.nodes)
+module _ (course : Course) (ground : Ground) (of : IsOf course ground)
     (followed : All (IsFollowed course) course.cuts) where
   from_cut : (steps : ℕ) (s : State) (any : Any (IsAtCut course ground steps s) course.cuts)
       → CutsEnd course ground 1 steps s → Ends course ground steps s
   from_cut steps s any cuts =
-      subst (IsFollowed course) any.3 (followed any.0 any.1 any.2) ground steps s linked any.4 cuts
+      subst (IsFollowed course) any.3 (followed any.0 any.1 any.2) ground steps s of any.4 cuts
 
   pub cuts_end : (left steps : ℕ) (s : State) → value course.commands ground.n ≤ steps + left
       → Any (IsAtCut course ground steps s) course.cuts → Ends course ground steps s
@@ -95,5 +93,5 @@ module _ (course : Course) (ground : Ground) (linked : AreLinked ground.library 
       → IsAt course.nodes ground number s → Describes ground.n case (point_of steps ground.below s)
       → Ends course ground steps s
   run_ends number steps case s leads at described =
-      leads ground steps s linked at described
+      leads ground steps s of at described
       (λ k t least r any. cuts_end (value course.commands ground.n) (steps + k) t (omega arith) any)

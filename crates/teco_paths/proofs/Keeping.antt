@@ -1,5 +1,5 @@
 -- The cases behind a node, one by one.
-use Rattle.std.proofs.Common.{◌≡◌, ◌⊎◌, inl, inr, ℕ, zero, suc, ◌+◌, ◌<◌, ◌≤◌, refl, sym, subst, arith, List, [], ◌∷◌}
+use Rattle.std.proofs.Common.{◌≡◌, ◌⊎◌, inl, inr, ℕ, zero, suc, refl, sym, subst, arith, List, [], ◌∷◌}
 use Rattle.std.proofs.Common.{◌++◌, length, Bool, true, false}
 use Rattle.std.specs.List.{Any}
 use Rattle.teco_rows.specs.declared.case.Case.{Case}
@@ -7,12 +7,12 @@ use Rattle.teco_paths.specs.declared.spot.Spot.{Spot}
 use Rattle.teco_rows.specs.declared.outcomes.Outcomes.{Outcomes}
 use Rattle.teco_outcomes.specs.Law.{point_of}
 use Rattle.teco_rows.specs.States.{Describes}
-use Rattle.teco_paths.specs.Steps.{AreKept, AreLeft, AreSpots, IsImpossible, IsTarget, IsThere}
+use Rattle.teco_paths.specs.Steps.{AreKept, AreLeft, ArePossible, AreSpots, IsTarget, IsThere, Steps, cases_by}
 use Rattle.teco_paths.proofs.Lists.{any_back, any_front}
 use Rattle.teco_verifier.specs.expansion.Node.{Node}
 
 -- one of the first, or the last
-any_split : {X : Type 0} (P : X → Type 0) (xs : List X) (y : X) → Any P (xs ++ y ∷ []) → Any P xs ⊎ P y
+pub any_split : {X : Type 0} (P : X → Type 0) (xs : List X) (y : X) → Any P (xs ++ y ∷ []) → Any P xs ⊎ P y
 any_split P [] y (zero, x, l, e, p) = inr (subst P (sym e) p)
 any_split P [] y (suc k, x, l, e, p) = absurd (omega (arith, l))
 any_split P (z ∷ xs) y (zero, x, l, e, p) = inl (0, x, omega arith, e, p)
@@ -22,7 +22,7 @@ any_split P (z ∷ xs) y (suc k, x, l, e, p) = by (any_split P xs y (k, x, omega
     by (inl a) = inl (suc a.0, a.1, omega (arith, a.2), a.3, a.4)
     by (inr p) = inr p
 
-any_one : {X : Type 0} (P : X → Type 0) (x : X) → P x → Any P (x ∷ [])
+pub any_one : {X : Type 0} (P : X → Type 0) (x : X) → P x → Any P (x ∷ [])
 any_one P x p = (0, x, omega arith, refl, p)
 
 pub left_first : (nodes : List Node) (number : ℕ) (away : Bool) (cases : List Case) → AreLeft nodes number away cases cases []
@@ -38,44 +38,46 @@ left_none nodes number away cases rest spots none left ground steps s t st any =
     by (inr a) = a
 
 module _ (nodes : List Node) (number : ℕ) (away : Bool) (cases rest : List Case) (case : Case) (spots : List Spot)
-    (left : AreLeft nodes number away cases (rest ++ case ∷ []) spots) where
-  pub one_less : IsImpossible case → AreLeft nodes number away cases rest spots
-  one_less none ground steps s t st any = by (left ground steps s t st any)
-    where
-      split : Any (λ c. Describes ground.n c (point_of steps ground.below t)) rest ⊎ Describes ground.n case (point_of steps ground.below t)
-          → Any (λ c. Describes ground.n c (point_of steps ground.below t)) rest ⊎ Any (IsThere nodes ground steps t) spots
-      split (inl a) = inl a
-      split (inr d) = absurd (none ground.n _ d)
+    (left : AreLeft nodes number away cases (rest ++ case ∷ []) spots) (target : ℕ)
+    (is : IsTarget nodes number away case target) where
+  abbrev spot : Spot
+  spot = record { number = target; case = case }
 
-      by : Any (λ c. Describes ground.n c (point_of steps ground.below t)) (rest ++ case ∷ []) ⊎ Any (IsThere nodes ground steps t) spots
-          → Any (λ c. Describes ground.n c (point_of steps ground.below t)) rest ⊎ Any (IsThere nodes ground steps t) spots
-      by (inl a) = split (any_split (λ c. Describes ground.n c (point_of steps ground.below t)) rest case a)
-      by (inr a) = inr a
-
-  pub one_kept : (target : ℕ) → IsTarget nodes number away case target
-      → AreLeft nodes number away cases rest (spots ++ record { number = target; case = case } ∷ [])
-  one_kept target is ground steps s t st any = by (left ground steps s t st any)
+  pub one_kept : AreLeft nodes number away cases rest (spots ++ spot ∷ [])
+  one_kept ground steps s t st any = by (left ground steps s t st any)
     where
-      split : Any (λ c. Describes ground.n c (point_of steps ground.below t)) rest ⊎ Describes ground.n case (point_of steps ground.below t)
-          → Any (λ c. Describes ground.n c (point_of steps ground.below t)) rest ⊎ Any (IsThere nodes ground steps t) (spots ++ record { number = target; case = case } ∷ [])
+      Is : Case → Type 0
+      Is c = Describes ground.n c (point_of steps ground.below t)
+
+      There : Spot → Type 0
+      There = IsThere nodes ground steps t
+
+      split : Any Is rest ⊎ Is case → Any Is rest ⊎ Any There (spots ++ spot ∷ [])
       split (inl a) = inl a
       split (inr d) =
-          inr (any_back (IsThere nodes ground steps t) spots (record { number = target; case = case } ∷ [])
-          (any_one (IsThere nodes ground steps t) (record { number = target; case = case })
-          (record { stands = is ground steps s t st d.1.shape; described = d })))
+          inr (any_back There spots (spot ∷ [])
+          (any_one There spot (record { stands = is ground steps s t st d.1.shape; described = d })))
 
-      by : Any (λ c. Describes ground.n c (point_of steps ground.below t)) (rest ++ case ∷ []) ⊎ Any (IsThere nodes ground steps t) spots
-          → Any (λ c. Describes ground.n c (point_of steps ground.below t)) rest ⊎ Any (IsThere nodes ground steps t) (spots ++ record { number = target; case = case } ∷ [])
-      by (inl a) = split (any_split (λ c. Describes ground.n c (point_of steps ground.below t)) rest case a)
-      by (inr a) = inr (any_front (IsThere nodes ground steps t) spots (record { number = target; case = case } ∷ []) a)
+      by : Any Is (rest ++ case ∷ []) ⊎ Any There spots → Any Is rest ⊎ Any There (spots ++ spot ∷ [])
+      by (inl a) = split (any_split Is rest case a)
+      by (inr a) = inr (any_front There spots (spot ∷ []) a)
 
 -- of both ways
-pub spots_both : (nodes : List Node) (number : ℕ) (outcomes : Outcomes) (behind elsewhere all : List Spot)
-    → all ≡ behind ++ elsewhere → AreKept nodes number false outcomes.cases.items behind
-    → AreKept nodes number true outcomes.away.items elsewhere → AreSpots nodes number outcomes all
-spots_both nodes number outcomes behind elsewhere all e one other ground steps s t false st any =
-    subst (Any (IsThere nodes ground steps t)) (sym e)
-    (any_front (IsThere nodes ground steps t) behind elsewhere (one ground steps s t st any))
-spots_both nodes number outcomes behind elsewhere all e one other ground steps s t true st any =
-    subst (Any (IsThere nodes ground steps t)) (sym e)
-    (any_back (IsThere nodes ground steps t) behind elsewhere (other ground steps s t st any))
+pub spots_both : (nodes : List Node) (number : ℕ) (outcomes : Outcomes) (here there : List Case)
+    (behind elsewhere all : List Spot) → all ≡ behind ++ elsewhere
+    → ArePossible outcomes.cases.items here → ArePossible outcomes.away.items there
+    → AreKept nodes number false here behind → AreKept nodes number true there elsewhere
+    → AreSpots nodes number outcomes all
+spots_both nodes number outcomes here there behind elsewhere all e one_may other_may one other ground steps s t = by
+  where
+    by : (away : Bool) → Steps nodes ground number away s t
+        → Any (λ case. Describes ground.n case (point_of steps ground.below t)) (cases_by away outcomes)
+        → Any (IsThere nodes ground steps t) all
+    by false st any =
+        subst (Any (IsThere nodes ground steps t)) (sym e)
+        (any_front (IsThere nodes ground steps t) behind elsewhere
+        (one ground steps s t st (one_may ground.n (point_of steps ground.below t) any)))
+    by true st any =
+        subst (Any (IsThere nodes ground steps t)) (sym e)
+        (any_back (IsThere nodes ground steps t) behind elsewhere
+        (other ground steps s t st (other_may ground.n (point_of steps ground.below t) any)))

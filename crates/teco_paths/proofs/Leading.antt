@@ -1,13 +1,11 @@
 -- To which node a step leads.
-use Rattle.std.proofs.Common.{◌≡◌, ◌⊎◌, inl, inr, ℕ, zero, suc, ◌+◌, ◌<◌, ◌≤◌, refl, sym, ap, ◌∙◌, subst, arith, List, [], ◌∷◌, ◌++◌, length}
+use Rattle.std.proofs.Common.{◌≡◌, ◌⊎◌, inl, inr, ℕ, zero, suc, ◌≤◌, refl, sym, ap, ◌∙◌, subst, arith, List, ◌++◌, length}
 use Rattle.std.proofs.Common.{Bool, true, false, Option, Some, None, slice_get}
 use Rattle.teco_law_expansion.specs.Iterations.{IterationsAreOpen}
 use Rattle.teco_law_expansion.specs.Run.{GoesTo, StepsGoAlongNodes}
-use Rattle.teco_law_expansion.specs.Turns as turns
 use Rattle.teco_law_expansion.specs.Was.{Turns, ElementWas, StepWas}
 use Rattle.teco_model.specs.Ahead.{Whole}
 use Rattle.teco_model.specs.declared.kind.Flow.TheVariants as flow
-use Rattle.teco_model.specs.declared.kind.Kind.{Kind}
 use Rattle.teco_model.specs.declared.kind.Kind.TheVariants as kind
 use Rattle.teco_model.specs.declared.kind.Test.{Test}
 use Rattle.teco_model.specs.Element.{Element}

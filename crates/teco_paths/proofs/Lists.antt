@@ -1,6 +1,6 @@
 -- Lists by place.
 use Rattle.std.proofs.Common.{◌≡◌, ◌⊎◌, inl, inr, ℕ, zero, suc, ◌+◌, ◌<◌, ◌≤◌, refl, sym, ap, ◌∙◌, subst, arith}
-use Rattle.std.proofs.Common.{List, [], ◌∷◌, ◌++◌, map, length, Option, Some, None, slice_get}
+use Rattle.std.proofs.Common.{List, [], ◌∷◌, ◌++◌, map, length, Some, None, slice_get}
 use Rattle.std.specs.Prelude.{slice_index_or}
 use Rattle.std.proofs.lemmas.Bool.{cases_order}
 use Rattle.std.specs.List.{All, Any}
@@ -152,3 +152,9 @@ all_last P xs ys x e h p = subst (All P) (sym e) (pushed xs h)
 
 pub all_none : {X : Type 0} (P : X → Type 0) (xs : List X) → xs ≡ [] → All P xs
 all_none P xs e = subst (All P) (sym e) (λ k d l. absurd (omega (arith, l)))
+
+pub all_joined : {X : Type 0} (P : X → Type 0) (xs ys : List X) → All P xs → All P ys → All P (xs ++ ys)
+all_joined P [] ys h g k d l = g k d l
+all_joined P (x ∷ xs) ys h g zero d l = h 0 d (omega arith)
+all_joined P (x ∷ xs) ys h g (suc k) d l =
+    all_joined P xs ys (λ j e m. h (suc j) e (omega (arith, m))) g k d (omega (arith, l))

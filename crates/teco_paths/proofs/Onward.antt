@@ -1,17 +1,17 @@
 -- Paths from spot to spot.
 use Rattle.std.proofs.lemmas.Bool.{cases_order}
-use Rattle.std.proofs.Common.{◌≡◌, ◌⊎◌, inl, inr, ℕ, zero, suc, ◌+◌, ◌-◌, ◌<◌, ◌≤◌, refl, sym, ap, ◌∙◌, subst, arith, List, [], ◌∷◌, ◌++◌, length}
+use Rattle.std.proofs.Common.{◌≡◌, ◌⊎◌, inl, inr, ℕ, zero, suc, ◌+◌, ◌-◌, ◌<◌, refl, sym, ap, ◌∙◌, subst, arith, List, [], ◌∷◌, ◌++◌, length}
 use Rattle.std.specs.Prelude.{slice_index_or}
-use Rattle.std.specs.List.{All, Any}
+use Rattle.std.specs.List.{All}
 use Rattle.teco_law_expansion.specs.Run.{RunsEnd}
 use Rattle.teco_rows.specs.declared.case.Case.{Case}
 use Rattle.teco_outcomes.specs.Law.{point_of}
 use Rattle.teco_paths.specs.declared.cut.Cut.{Cut}
 use Rattle.teco_paths.specs.declared.spot.Spot.{Spot}
 use Rattle.teco_paths.specs.Claims.{ComesTo, IsCaseOf}
-use Rattle.teco_paths.specs.Paths.{Arrives, Course, IsAtCut, IsFollowed, Leads, LeadsOn}
+use Rattle.teco_paths.specs.Paths.{Arrives, Course, IsFollowed, Leads, LeadsOn}
 use Rattle.teco_paths.specs.Runs.{IsAt}
-use Rattle.teco_paths.specs.Steps.{GoOn, IsInTime, IsSmall, IsThere}
+use Rattle.teco_paths.specs.Steps.{GoOn, IsInTime, IsSharper, IsSmall, IsThere}
 use Rattle.teco_paths.proofs.Ending.{cut_here, cuts_later, cuts_on, ends_here, ends_on}
 use Rattle.teco_paths.proofs.Lists.{all_both, over_behind}
 use Rattle.teco_paths.specs.Symbols.{numbers_of}
@@ -21,13 +21,13 @@ use Rattle.teco_verifier.specs.expansion.Node.{Stand, stands, numbered}
 -- from the spots behind one
 pub leads_by : (course : Course) (number : ℕ) (case : Case) (spots : List Spot) → IsSmall course case
     → GoOn course.nodes number case spots → All (LeadsOn course) spots → Leads course 1 number case
-leads_by course number case spots small go all ground steps s linked at d cuts =
-    let g = go ground steps s linked at d in
+leads_by course number case spots small go all ground steps s of at d cuts =
+    let g = go ground steps s of.linked at d in
     let any = g.there in
     let there : IsThere course.nodes ground (steps + 1) g.next any.1 = any.4 in
     let leads : LeadsOn course any.1 = subst (LeadsOn course) any.3 (all any.0 any.1 any.2) in
     ends_on (value course.commands ground.n) (value course.size ground.n) steps s g.next g.goes (small ground.n _ d)
-    (leads ground (steps + 1) g.next linked
+    (leads ground (steps + 1) g.next of
     (record { stands = there.stands; begins = g.begins; loaded = g.loaded; whole = g.whole }) there.described
     (cuts_on course ground steps s g.next g.goes cuts))
     g.none
@@ -35,6 +35,12 @@ leads_by course number case spots small go all ground steps s linked at d cuts =
 pub leads_at_once : (course : Course) (spot : Spot) → Leads course 1 spot.number spot.case → LeadsOn course spot
 leads_at_once course spot leads ground steps s linked at d cuts =
     leads ground steps s linked at d (cuts_later course ground steps s cuts)
+
+-- from a case of which more is known
+pub sharper_leads : (course : Course) (number : ℕ) (case sharp : Case) → IsSharper case sharp
+    → LeadsOn course (record { number = number; case = sharp }) → LeadsOn course (record { number = number; case = case })
+sharper_leads course number case sharp is leads ground steps s of at d cuts =
+    leads ground steps s of at (is ground.n (point_of steps ground.below s) at.whole.world.kept d) cuts
 
 -- at the end
 pub over_leads : RunsEnd → (course : Course) (spot : Spot) → 0 < spot.number → spot.number - 1 ≡ length course.nodes
@@ -63,11 +69,14 @@ cut_leads course spot k cut l e arrived ground steps s linked at d cuts =
     cut_here course ground steps s cuts (k, cut, l, e, arrived ground steps s at d)
 
 -- from a cut point
-pub cut_followed : (course : Course) (cut : Cut) (case : Case) → IsCaseOf cut case → Leads course 1 cut.number case
-    → IsFollowed course cut
-cut_followed course cut case is leads ground steps s linked at cuts =
-    leads ground steps s linked at.at
-    (numbers_of (point_of steps ground.below s), is ground.n (point_of steps ground.below s) at.claimed) cuts
+pub cut_followed : (course : Course) (cut : Cut) (case : Case) → IsCaseOf course.size cut case
+    → Leads course 1 cut.number case → IsFollowed course cut
+cut_followed course cut case is leads ground steps s of at cuts =
+    leads ground steps s of at.at (
+      numbers_of (point_of steps ground.below s),
+      is ground.n (point_of steps ground.below s) at.at.whole.world.kept of.room at.claimed,
+    )
+    cuts
 
 -- one spot ahead, and those behind it in its place
 all_and_one : (P : Spot → Type 0) (xs : List Spot) (x : Spot) → All P xs → P x → All P (xs ++ x ∷ [])

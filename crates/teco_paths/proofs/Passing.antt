@@ -1,9 +1,7 @@
 -- A step that changes nothing but the text that is executed.
-use Rattle.std.proofs.Common.{◌≡◌, ◌⊎◌, inl, inr, ℕ, refl, sym, subst, List, [], ◌++◌, false, Result, Ok, Err, IfOk}
+use Rattle.std.proofs.Common.{◌⊎◌, inl, inr, refl, sym, subst, List, [], ◌++◌, false, Result, Ok, Err, IfOk}
 use Rattle.std.specs.List.{Any}
 use Rattle.std.proofs.lemmas.List.{append-nil}
-use Rattle.teco_linear.specs.Form.{Valuation}
-use Rattle.teco_model.specs.declared.flow.Loop.{Loop}
 use Rattle.teco_model.specs.declared.kind.Flow.TheVariants as flow
 use Rattle.teco_model.specs.declared.kind.Kind.TheVariants as kind
 use Rattle.teco_model.specs.Element.{Element}
@@ -13,7 +11,6 @@ use Rattle.teco_rows.specs.declared.case.Case.{Case}
 use Rattle.teco_rows.specs.declared.fault.Fault.{Fault}
 use Rattle.teco_rows.specs.declared.outcomes.Outcomes.{Outcomes}
 use Rattle.teco_outcomes.specs.Flow.{IsTurnOf, Turns, turned}
-use Rattle.teco_rows.specs.Foretold.{Begins}
 use Rattle.teco_outcomes.specs.Law.{IsMatched}
 use Rattle.teco_rows.specs.States.{Point, Describes}
 use Rattle.teco_paths.specs.Steps.{Passes}

@@ -1,5 +1,5 @@
 -- A test that does not hold leads further than one that does.
-use Rattle.std.proofs.Common.{◌≡◌, ℕ, zero, suc, ◌+◌, ◌<◌, ◌≤◌, refl, sym, ap, ◌∙◌, subst, arith, List, [], ◌∷◌, length}
+use Rattle.std.proofs.Common.{◌≡◌, ℕ, zero, suc, ◌<◌, refl, subst, arith, List, [], ◌∷◌, length}
 use Rattle.std.proofs.Common.{Option, Some, None, option_map}
 use Rattle.teco_model.specs.Ahead.{Reading, Whole, Faulty, next_of, reading_at, first_readings, readings}
 use Rattle.teco_model.specs.Element.{Element}
@@ -9,7 +9,7 @@ use Rattle.teco_model.specs.declared.kind.Kind.TheVariants as kind
 use Rattle.teco_model.specs.declared.kind.Test.{Test}
 use Rattle.teco_model.specs.declared.skip.Pairs.{Pairs}
 use Rattle.teco_model.specs.declared.skip.Pairs.TheVariants.{Branches}
-use Rattle.teco_model.proofs.Ahead.{Advances, reading_at-advances}
+use Rattle.teco_model.proofs.Ahead.{reading_at-advances}
 
 advance : (text : List ℕ) (at : ℕ) (r : Reading) → reading_at text at ≡ Some r → at < next_of r
 advance text at r h = let a = reading_at-advances text at r h in omega (arith, a.stands, a.on)

@@ -1,12 +1,12 @@
 -- Where a run stands, and what is read there.
-use Rattle.std.proofs.Common.{◌≡◌, ℕ, zero, suc, ◌+◌, ◌<◌, ◌≤◌, refl, sym, ap, ◌∙◌, subst, arith, List, [], ◌∷◌, ◌++◌, map, length}
-use Rattle.std.proofs.Common.{Bool, true, false, Option, Some, None, Result, Ok, length-append, slice_get}
-use Rattle.teco_law_expansion.specs.Iterations.{AreOpenIn, AreOpen, IsOpen, IterationsAreOpen}
+use Rattle.std.proofs.Common.{◌≡◌, ℕ, suc, ◌+◌, refl, sym, ap, ◌∙◌, subst, arith, List, [], ◌∷◌, ◌++◌, map, length}
+use Rattle.std.proofs.Common.{Some, None, Ok, length-append}
+use Rattle.teco_law_expansion.specs.Iterations.{AreOpenIn, AreOpen, IterationsAreOpen}
 use Rattle.teco_law_expansion.specs.Linked.{AreLinked, IsLinked, NodesAreSound}
 use Rattle.teco_law_expansion.specs.Run.{GoesTo, MovesFrom, Went, Stayed, StepsGoAlongNodes}
 use Rattle.teco_law_expansion.specs.Steps.{IsLeftAt}
 use Rattle.teco_model.specs.declared.flow.Loop.{Loop}
-use Rattle.teco_model.specs.Element.{Element, element_at}
+use Rattle.teco_model.specs.Element.{element_at}
 use Rattle.teco_model.specs.State.{Frame, State, Next}
 use Rattle.teco_model.specs.Step.{step}
 use Rattle.teco_model.proofs.Ahead.{element_at-again}
@@ -34,7 +34,7 @@ in_texts nodes entry below (spot ∷ callers) numbers h =
     (λ rest open_rest. in_texts nodes entry below callers rest open_rest) h
     ∙ sym (length-append spot.starts (starts_in callers))
 
-mapped : (loops : List Loop) → length (map start_of loops) ≡ length loops
+pub mapped : (loops : List Loop) → length (map start_of loops) ≡ length loops
 mapped [] = refl
 mapped (loop ∷ loops) = ap suc (mapped loops)
 

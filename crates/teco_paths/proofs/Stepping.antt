@@ -1,10 +1,9 @@
 -- One step of a path.
-use Rattle.std.proofs.Common.{◌≡◌, ◌⊎◌, inl, inr, ℕ, zero, suc, ◌+◌, ◌<◌, ◌≤◌, refl, sym, ap, ◌∙◌, subst, arith, List, [], ◌∷◌, ◌++◌}
-use Rattle.std.proofs.Common.{map, length, Bool, true, false, Option, Some, None, Result, Ok, Err, slice_get, ok_or}
-use Rattle.std.specs.Prelude.{⊤}
+use Rattle.std.proofs.Common.{◌≡◌, ◌⊎◌, inl, inr, ℕ, ◌+◌, ◌<◌, ◌≤◌, refl, sym, ap, ◌∙◌, subst, arith, List, [], ◌∷◌, ◌++◌}
+use Rattle.std.proofs.Common.{map, length, Bool, true, false, Option, Some, None, Ok}
 use Rattle.std.specs.List.{All, Any}
 use Rattle.std.specs.Option.{option_map_or}
-use Rattle.teco_law_expansion.specs.Linked.{AreLinked, IsLinked, Lead, NodesAreSound}
+use Rattle.teco_law_expansion.specs.Linked.{AreLinked, Lead, NodesAreSound}
 use Rattle.teco_law_expansion.specs.Loaded.{StaysLoaded}
 use Rattle.teco_law_expansion.specs.Run.{StepsGoAlongNodes}
 use Rattle.teco_law_facts.specs.Wholeness.{IsWholeState, IsWholeOutcome, WholeIsKept}
@@ -12,42 +11,37 @@ use Rattle.teco_law_tables.specs.Staying.{changes_files, is_of_files}
 use Rattle.teco_linear.specs.declared.term.Term.{Term}
 use Rattle.teco_linear.specs.Form.{Valuation}
 use Rattle.teco_linear.specs.Implied.{Holds, Implies}
-use Rattle.teco_model.specs.Ahead.{Whole}
 use Rattle.teco_model.specs.declared.flow.Loop.{Loop}
 use Rattle.teco_model.specs.declared.kind.Call.{Call}
 use Rattle.teco_model.specs.declared.kind.Command.TheVariants as command
-use Rattle.teco_model.specs.declared.kind.Flow.{Flow}
-use Rattle.teco_model.specs.declared.kind.Flow.TheVariants as flow
-use Rattle.teco_model.specs.declared.kind.Goal.TheVariants as goal
 use Rattle.teco_model.specs.declared.kind.Kind.{Kind}
 use Rattle.teco_model.specs.declared.kind.Kind.TheVariants as kind
 use Rattle.teco_model.specs.declared.kind.Stack.TheVariants as stack
 use Rattle.teco_model.specs.declared.kind.Storage.TheVariants as storage
 use Rattle.teco_model.specs.Element.{Element, element_at}
-use Rattle.teco_model.specs.Macros.{Library, IsLoaded, is_macro}
-use Rattle.teco_model.specs.Skip.{skip_of, route_of}
-use Rattle.teco_model.specs.State.{Frame, Frames, State, Outcome, Next, End}
+use Rattle.teco_model.specs.Macros.{Library, is_macro}
+use Rattle.teco_model.specs.State.{Frame, State, Outcome, Next}
 use Rattle.teco_model.specs.Step.{step, end_outcome, end_of_text, outcome_at, outcome_of, reply_of}
 use Rattle.teco_model.specs.Storage.{text_in}
 use Rattle.teco_model.specs.Going.{frames_in}
-use Rattle.teco_model.proofs.Chains.{ok, bound, some_of}
+use Rattle.teco_model.proofs.Chains.{ok}
 use Rattle.teco_rows.specs.declared.case.Case.{Case}
 use Rattle.teco_rows.specs.declared.outcomes.Outcomes.{Outcomes}
 use Rattle.teco_outcomes.specs.Flow.{turned}
 use Rattle.teco_rows.specs.Foretold.{Begins}
-use Rattle.teco_outcomes.specs.Law.{Arrives, ArrivesAway, Goes, Law, LeadsOn, IsMatched, IsOfIteration, StandsAt, StepsTo, loops_in, point_of, frames_on}
-use Rattle.teco_rows.specs.States.{Point, Describes, IsTrueOf}
+use Rattle.teco_outcomes.specs.Law.{Goes, StepsTo, loops_in, point_of}
+use Rattle.teco_rows.specs.States.{Describes, IsTrueOf}
 use Rattle.teco_paths.specs.declared.spot.Spot.{Spot}
 use Rattle.teco_paths.specs.Runs.{Ground, IsAt}
-use Rattle.teco_paths.specs.Steps.{AreSpots, GoOn, GoesBy, GoesOn, IsCall, IsEndOrCall, IsPlain, IsRead, IsTextEnd, IsThere, IsTold, Passes, Steps, cases_by}
+use Rattle.teco_paths.specs.Steps.{AreSpots, GoOn, GoesBy, GoesOn, IsCall, IsEndOrCall, IsPlain, IsRead}
+use Rattle.teco_paths.specs.Steps.{IsTextEnd, IsTold, LawAt, Passes, cases_by}
 use Rattle.teco_paths.proofs.Lists.{node_of}
 use Rattle.teco_paths.proofs.Standing.{position_here, linked_here, reads_here, reads_there}
 use Rattle.teco_paths.proofs.Walking.{reads_none}
-use Rattle.teco_verifier.specs.expansion.Names.{named_by, named_by_query, named_by_stack, named_by_storage, written_by, names_macro, writes_macro}
-use Rattle.teco_verifier.specs.expansion.Node.{Node, Stand, stands, numbered}
-use Rattle.teco_verifier.specs.expansion.Position.{Position, moved_to, start_of, spot_of, position_of}
-use Rattle.teco_verifier.specs.expansion.Refusal.{Reason, Unpaired}
-use Rattle.teco_verifier.specs.expansion.Ways.{past, jumped, jump_way, way_or_jump, end_ways, leave_ways, ahead_ways, flow_ways, return_ways, element_ways, ways_at}
+use Rattle.teco_verifier.specs.expansion.Names.{named_by, written_by, names_macro, writes_macro}
+use Rattle.teco_verifier.specs.expansion.Node.{Node, Stand, numbered}
+use Rattle.teco_verifier.specs.expansion.Position.{Position, start_of, spot_of}
+use Rattle.teco_verifier.specs.expansion.Ways.{return_ways, ways_at}
 
 -- ---- what comes of a step
 steps_to : (P : State → Type 0) (o : Outcome) → StepsTo P o → (t : State) × (o ≡ Next t) × P t
@@ -56,83 +50,6 @@ steps_to P o h = absurd (grind arith)
 
 whole_next : (whole : WholeIsKept) (s t : State) → IsWholeState s → step s ≡ Next t → IsWholeState t
 whole_next whole s t h goes = subst IsWholeOutcome goes (whole.steps s h)
-
--- ---- an element has its pair
-abbrev JumpPlace : Element → Position → Type 0
-JumpPlace e p = (place : ℕ) × ((skip_of p.running.text (Whole e)).to ≡ Some place)
-
-jump_place : (e : Element) (p q : Position) → jumped e p ≡ Ok q → JumpPlace e p
-jump_place e p q h =
-    let b = bound (ok_or (skip_of p.running.text (Whole e)).to Unpaired) _ q h in
-    (b.before, some_of (skip_of p.running.text (Whole e)).to Unpaired b.before b.was)
-
-either_place : (first : Position) (e : Element) (p : Position) (targets : List Position)
-    → way_or_jump first e p ≡ Ok targets → JumpPlace e p
-either_place first e p targets h = let b = bound (jumped e p) _ targets h in jump_place e p b.before b.was
-
-only_place : (e : Element) (p : Position) (targets : List Position) → jump_way e p ≡ Ok targets → JumpPlace e p
-only_place e p targets h = let b = bound (jumped e p) _ targets h in jump_place e p b.before b.was
-
--- an iteration of the text is open
-abbrev HasStart : List ℕ → Type 0
-HasStart [] = ⊥
-HasStart (start ∷ outer) = ⊤
-
-leave_place : (starts : List ℕ) (e : Element) (p : Position) (targets : List Position)
-    → leave_ways starts e p ≡ Ok targets → HasStart starts × JumpPlace e p
-leave_place [] e p targets h = absurd (cc)
-leave_place (start ∷ outer) e p targets h = (tt, either_place (past e p) e p targets h)
-
-end_start : (starts : List ℕ) (e : Element) (p : Position) (targets : List Position)
-    → end_ways starts e p ≡ Ok targets → HasStart starts
-end_start [] e p targets h = absurd (cc)
-end_start (start ∷ outer) e p targets h = tt
-
-ahead_place : (starts : List ℕ) (e : Element) (p : Position) (targets : List Position)
-    → ahead_ways goal.EndTurn starts e p ≡ Ok targets → HasStart starts × JumpPlace e p
-ahead_place [] e p targets h = absurd (cc)
-ahead_place (start ∷ outer) e p targets h = (tt, only_place e p targets h)
-
-inside : (loops : List Loop) → HasStart (map start_of loops) → 1 ≤ length loops
-inside [] h = absurd h
-inside (loop ∷ outer) h = omega arith
-
-abbrev Matched : Kind → Element → State → Type 0
-Matched k e s =
-    LeadsOn (route_of k) (skip_of s.frames.running.text (Whole e)).to × IsOfIteration k s.frames.running.loops
-
-flow_matched : (f : Flow) (e : Element) (s : State) (targets : List Position)
-    → flow_ways f e (position_of s) ≡ Ok targets → Matched (kind.Flow f) e s
-unfolding flow_ways
-flow_matched flow.Iterate e s targets h = (either_place _ e (position_of s) targets h, tt)
-flow_matched flow.EndTurn e s targets h =
-    (tt, inside s.frames.running.loops (end_start (map start_of s.frames.running.loops) e (position_of s) targets h))
-flow_matched flow.Leave e s targets h =
-    let l = leave_place (map start_of s.frames.running.loops) e (position_of s) targets h in
-    (l.1, inside s.frames.running.loops l.0)
-flow_matched (flow.Test t) e s targets h = (either_place _ e (position_of s) targets h, tt)
-flow_matched flow.Otherwise e s targets h = (only_place e (position_of s) targets h, tt)
-flow_matched flow.EndTest e s targets h = (tt, tt)
-flow_matched flow.GoTo e s targets h = (only_place e (position_of s) targets h, tt)
-flow_matched flow.Comment e s targets h = (tt, tt)
-flow_matched (flow.GoAhead goal.EndTurn) e s targets h =
-    let l = ahead_place (map start_of s.frames.running.loops) e (position_of s) targets h in
-    (l.1, inside s.frames.running.loops l.0)
-flow_matched (flow.GoAhead goal.EndTest) e s targets h = (only_place e (position_of s) targets h, tt)
-flow_matched (flow.GoAhead goal.Otherwise) e s targets h = (only_place e (position_of s) targets h, tt)
-
-kind_matched : (library : Library) (k : Kind) (e : Element) (s : State) (targets : List Position) → IsTold k
-    → element_ways library k e (position_of s) ≡ Ok targets → Matched k e s
-kind_matched library (kind.Flow f) e s targets told h = flow_matched f e s targets h
-kind_matched library (kind.Argument a) e s targets told h = (tt, tt)
-kind_matched library (kind.Value a) e s targets told h = (tt, tt)
-kind_matched library (kind.Query a) e s targets told h = (tt, tt)
-kind_matched library (kind.Stack a) e s targets told h = (tt, tt)
-kind_matched library (kind.Command a) e s targets told h = (tt, tt)
-kind_matched library (kind.Page a) e s targets told h = (tt, tt)
-kind_matched library (kind.Call a) e s targets told h = absurd told
-kind_matched library (kind.Search a) e s targets told h = absurd told
-kind_matched library (kind.File a) e s targets told h = absurd told
 
 -- ---- no text of the library is written, and no file is touched
 named_too : (k : Kind) (r : ℕ) → written_by k ≡ Some r → named_by k ≡ Some r
@@ -205,22 +122,10 @@ module _ (laws : Laws) (nodes : List Node) (number : ℕ) (case : Case) (all : O
   }
 
   -- an element whose law is told
-  module _ (e : Element) (element_is : node.element ≡ Some e) (plain : IsPlain nodes number e.kind) (law : Law e case all) where
+  module _ (e : Element) (element_is : node.element ≡ Some e) (plain : IsPlain nodes number e.kind)
+      (law : LawAt nodes number e case all) where
     same_element : (f : Element) → node.element ≡ Some f → e ≡ f
     same_element f h = let z : Some e ≡ Some f = sym element_is ∙ h in cc
-
-    ways_here : element_ways ground.library e.kind e (position_of s) ≡ Ok (linked_here nodes ground number s node linked is at).targets
-    unfolding ways_at
-    ways_here =
-        subst (λ (p : Position). element_ways ground.library e.kind e p ≡ Ok (linked_here nodes ground number s node linked is at).targets)
-        (position_here nodes ground number s node linked is at)
-        (ap (λ read. ways_at ground.library read node.stand.position) (sym element_is)
-        ∙ (linked_here nodes ground number s node linked is at).goes)
-
-    stands_at : StandsAt e s
-    stands_at =
-        let m = kind_matched ground.library e.kind e s _ plain.told ways_here in
-        record { reads = reads ∙ ap Ok element_is; matched = record { leads = m.0; inside = m.1 } }
 
     by_writes : (written_by e.kind ≡ None) ⊎ (node.names_macro ≡ false) → option_map_or (is_macro ground.library) (written_by e.kind) false ≡ false
     by_writes (inl none) = ap (λ o. option_map_or (is_macro ground.library) o false) none
@@ -246,7 +151,7 @@ module _ (laws : Laws) (nodes : List Node) (number : ℕ) (case : Case) (all : O
 
     pub element_goes : GoesOn nodes ground steps s spots
     element_goes =
-        let next = steps_to (Goes ground.n all e steps ground.below s) (step s) (law ground.n v s steps ground.below stands_at begins) in
+        let next = steps_to (Goes ground.n all e steps ground.below s) (step s) (law ground v s steps linked at begins) in
         by_goes next.0 next.1 next.2
 
   -- a call, or the end of a text
@@ -366,8 +271,8 @@ module _ (laws : Laws) (nodes : List Node) (number : ℕ) (case : Case) (all : O
 module _ (laws : Laws) (nodes : List Node) (number : ℕ) (case : Case) (all : Outcomes) (spots : List Spot)
     (asked : All (Implies case.constraints.items) all.conditions.items) (are : AreSpots nodes number all spots)
     (one : 0 < number) (last : number ≤ length nodes) where
-  pub go_on_element : (e : Element) → IsRead nodes number (Some e) → IsPlain nodes number e.kind → Law e case all
-      → GoOn nodes number case spots
+  pub go_on_element : (e : Element) → IsRead nodes number (Some e) → IsPlain nodes number e.kind
+      → LawAt nodes number e case all → GoOn nodes number case spots
   go_on_element e read plain law ground steps s linked at d =
       let n = node_of nodes number one last in
       element_goes laws nodes number case all spots asked are ground steps s linked at d.0 d.1 n.0 n.1 e (read n.0 n.1) plain law

@@ -1,10 +1,12 @@
 -- What is claimed at a cut point.
-use Rattle.std.specs.Prelude.{◌≡◌, ℕ, List, [], Bool, true, false, is_some, Option, None, slice_index_or}
+use Rattle.std.specs.Prelude.{◌≡◌, ℕ, ◌≤◌, List, [], Bool, false, is_some, Option, None, slice_index_or}
 use Rattle.std.specs.Prelude.{Some, if◌then◌else◌}
 use Rattle.std.specs.List.{All}
+use Rattle.teco_base.specs.declared.TheConstants.{LIMIT}
 use Rattle.teco_linear.specs.declared.term.Term.{Term}
 use Rattle.teco_linear.specs.Form.{Valuation, value}
 use Rattle.teco_linear.specs.Implied.{Holds}
+use Rattle.teco_model.specs.laws.Whole.{IsWhole}
 use Rattle.teco_rows.specs.declared.case.Case.{Case}
 use Rattle.teco_rows.specs.declared.measure.Measure.{Measure}
 use Rattle.teco_rows.specs.Cases.{value_if}
@@ -12,6 +14,8 @@ use Rattle.teco_rows.specs.Measures.{place}
 use Rattle.teco_rows.specs.States.{Point, IsShape, IsTrueOf, measures_of}
 use Rattle.teco_paths.specs.declared.cut.Cut.{Cut}
 use Rattle.teco_paths.specs.Symbols.{numbers_of}
+use Rattle.teco_poly.specs.Polynomial as poly
+use Rattle.teco_poly.specs.Polynomial.{Polynomial}
 
 -- A claim holds at a state: its form is at least 0, where each symbol is the measure in its place.
 abbrev pub ClaimHolds : ℕ → Point → List Term → Type 0
@@ -33,10 +37,17 @@ AreSymbols present forms =
     (n : ℕ) (v : Valuation) (k : ℕ)
     → value_if (slice_index_or forms k None) n v ≡ (if slice_index_or present k false then Some (v k) else None)
 
--- a case describes each state that is as a cut point says
-abbrev pub IsCaseOf : Cut → Case → Type 0
-IsCaseOf cut case =
-    (n : ℕ) (s : Point) → AreClaimed n cut s → IsTrueOf n (numbers_of s) case s
+-- what is claimed at a cut point makes all of these hold, at a whole state, where the size may be held
+abbrev pub AreKnown : Polynomial → Cut → List (List Term) → Type 0
+AreKnown size cut all =
+    (n : ℕ) (s : Point)
+    → IsWhole s.kept → poly.value size n ≤ LIMIT → All (ClaimHolds n s) cut.claims.items → All (ClaimHolds n s) all
+
+-- a case describes each whole state that is as a cut point says, where the size may be held
+abbrev pub IsCaseOf : Polynomial → Cut → Case → Type 0
+IsCaseOf size cut case =
+    (n : ℕ) (s : Point)
+    → IsWhole s.kept → poly.value size n ≤ LIMIT → AreClaimed n cut s → IsTrueOf n (numbers_of s) case s
 
 -- forms are marked just where they are there
 abbrev pub ArePresent : List Bool → List (Option (List Term)) → Type 0

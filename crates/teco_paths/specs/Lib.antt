@@ -1,5 +1,6 @@
 -- When claims at cut points hang together, and what that says of runs.
 pub mod Symbols
+pub mod Facts
 pub mod Claims
 pub mod Runs
 pub mod Paths

@@ -1,6 +1,7 @@
 -- Paths from cut point to cut point.
-use Rattle.std.specs.Prelude.{◌≡◌, ℕ, ◌+◌, ◌≤◌, List}
-use Rattle.std.specs.List.{All, Any}
+use Rattle.std.specs.Prelude.{ℕ, ◌+◌, ◌≤◌, List}
+use Rattle.std.specs.List.{Any}
+use Rattle.teco_base.specs.declared.TheConstants.{LIMIT}
 use Rattle.teco_law_expansion.specs.Linked.{AreLinked}
 use Rattle.teco_model.specs.Run.{Reaches}
 use Rattle.teco_model.specs.State.{State}
@@ -20,6 +21,11 @@ pub record Course : Type 0 where
   pub cuts : List Cut
   pub commands : Polynomial
   pub size : Polynomial
+
+-- A run is of the nodes of a course, and the size may be held.
+pub record IsOf (course : Course) (ground : Ground) : Type 0 where
+  pub linked : AreLinked ground.library ground.entry course.nodes
+  pub room : value course.size ground.n ≤ LIMIT
 
 -- A run ends in time from a state, so many steps after its entry.
 abbrev pub Ends : Course → Ground → ℕ → State → Type 0
@@ -43,7 +49,7 @@ CutsEnd course ground least steps s =
 abbrev pub Leads : Course → ℕ → ℕ → Case → Type 0
 Leads course least number case =
     (ground : Ground) (steps : ℕ) (s : State)
-    → AreLinked ground.library ground.entry course.nodes → IsAt course.nodes ground number s
+    → IsOf course ground → IsAt course.nodes ground number s
     → Describes ground.n case (point_of steps ground.below s) → CutsEnd course ground least steps s
     → Ends course ground steps s
 
@@ -55,7 +61,7 @@ LeadsOn course spot = Leads course 0 spot.number spot.case
 abbrev pub IsFollowed : Course → Cut → Type 0
 IsFollowed course cut =
     (ground : Ground) (steps : ℕ) (s : State)
-    → AreLinked ground.library ground.entry course.nodes → IsAtCut course ground steps s cut
+    → IsOf course ground → IsAtCut course ground steps s cut
     → CutsEnd course ground 1 steps s → Ends course ground steps s
 
 -- Each state that a spot describes, as a run comes to it, is at a cut point in time.

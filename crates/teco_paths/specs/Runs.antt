@@ -1,6 +1,5 @@
 -- Runs of a macro among the nodes of its expansion.
-use Rattle.std.specs.Prelude.{◌≡◌, ℕ, ◌+◌, ◌≤◌, List, length, Option, Some, None}
-use Rattle.teco_law_expansion.specs.Linked.{AreLinked}
+use Rattle.std.specs.Prelude.{◌≡◌, ℕ, ◌+◌, ◌≤◌, List, length, Some, None}
 use Rattle.teco_law_facts.specs.Wholeness.{IsWholeState}
 use Rattle.teco_law_tables.specs.Staying.{NoFileCommands}
 use Rattle.teco_model.specs.Macros.{Library, IsLoaded}

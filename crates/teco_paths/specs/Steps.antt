@@ -1,8 +1,10 @@
 -- One step of a path.
 use Rattle.std.specs.Prelude.{◌≡◌, ◌≢◌, ℕ, ◌+◌, ◌≤◌, ◌<◌, List, length, Bool, true, false, Option, Some, None, ◌⊎◌, ⊤}
-use Rattle.std.specs.List.{Any}
+use Rattle.std.specs.List.{All, Any}
 use Rattle.teco_law_expansion.specs.Linked.{AreLinked}
+use Rattle.teco_linear.specs.declared.term.Term.{Term}
 use Rattle.teco_linear.specs.Form.{Valuation}
+use Rattle.teco_linear.specs.Implied.{Holds, Implies}
 use Rattle.teco_law_facts.specs.Wholeness.{IsWholeState}
 use Rattle.teco_law_tables.specs.Staying.{ReadsNoFileCommand}
 use Rattle.teco_model.specs.declared.kind.Flow.TheVariants as flow
@@ -10,6 +12,7 @@ use Rattle.teco_model.specs.declared.kind.Kind.{Kind}
 use Rattle.teco_model.specs.declared.kind.Kind.TheVariants as kind
 use Rattle.teco_model.specs.declared.kind.Test.{Test}
 use Rattle.teco_model.specs.Element.{Element}
+use Rattle.teco_model.specs.laws.Whole.{IsWhole}
 use Rattle.teco_model.specs.Macros.{IsLoaded}
 use Rattle.teco_model.specs.State.{State, Next}
 use Rattle.teco_model.specs.Step.{step}
@@ -17,8 +20,8 @@ use Rattle.teco_rows.specs.declared.case.Case.{Case}
 use Rattle.teco_rows.specs.declared.outcomes.Outcomes.{Outcomes}
 use Rattle.teco_outcomes.specs.Flow.{turned}
 use Rattle.teco_rows.specs.Foretold.{Begins}
-use Rattle.teco_outcomes.specs.Law.{frames_on, place_away, point_of}
-use Rattle.teco_rows.specs.States.{Point, IsShape, Describes}
+use Rattle.teco_outcomes.specs.Law.{Goes, StepsTo, frames_on, place_away, point_of}
+use Rattle.teco_rows.specs.States.{Point, IsShape, IsTrueOf, Describes}
 use Rattle.teco_paths.specs.declared.spot.Spot.{Spot}
 use Rattle.teco_paths.specs.Runs.{Ground, StandsBy, IsAt}
 use Rattle.teco_paths.specs.Paths.{Course}
@@ -34,12 +37,26 @@ GoesBy true e s t =
     × (place_away e.kind e s.frames.running ≡ Some place)
     × (t.frames ≡ frames_on place t.frames.running.loops s.frames)
 
--- neither a command of files, nor a search, nor a call
+-- neither a command of files nor a call
 abbrev pub IsTold : Kind → Type 0
 IsTold (kind.File f) = ⊥
-IsTold (kind.Search x) = ⊥
 IsTold (kind.Call c) = ⊥
 IsTold k = ⊤
+
+-- nor a search: what may skip has its pair wherever it stands
+abbrev pub HasPair : Kind → Type 0
+HasPair (kind.File f) = ⊥
+HasPair (kind.Search x) = ⊥
+HasPair (kind.Call c) = ⊥
+HasPair k = ⊤
+
+-- The law of an element, where a run stands at its node.
+abbrev pub LawAt : List Node → ℕ → Element → Case → Outcomes → Type 0
+LawAt nodes number e case all =
+    (ground : Ground) (v : Valuation) (s : State) (steps : ℕ)
+    → AreLinked ground.library ground.entry nodes → IsAt nodes ground number s
+    → Begins ground.n v case all (point_of steps ground.below s)
+    → StepsTo (Goes ground.n all e steps ground.below s) (step s)
 
 -- a step from the node of a number goes by a way
 pub record Steps (nodes : List Node) (ground : Ground) (number : ℕ) (away : Bool) (s t : State) : Type 0 where
@@ -100,6 +117,32 @@ AreKept nodes number away cases spots =
     → Steps nodes ground number away s t
     → Any (λ case. Describes ground.n case (point_of steps ground.below t)) cases
     → Any (IsThere nodes ground steps t) spots
+
+-- such a law, and a case implies the conditions
+pub record IsAskedAt (nodes : List Node) (number : ℕ) (e : Element) (case : Case) (all : Outcomes) : Type 0 where
+  pub law : LawAt nodes number e case all
+  pub asked : All (Implies case.constraints.items) all.conditions.items
+
+-- a case with one constraint more
+abbrev pub IsWith : Case → List Term → Case → Type 0
+IsWith case form more =
+    (n : ℕ) (v : Valuation) (s : Point) → IsTrueOf n v case s → Holds n v form → IsTrueOf n v more s
+
+-- the other case describes each whole state that this one does
+abbrev pub IsSharper : Case → Case → Type 0
+IsSharper case sharp = (n : ℕ) (s : Point) → IsWhole s.kept → Describes n case s → Describes n sharp s
+
+-- a state as which one of the cases is, is as one of those found
+abbrev pub ArePossible : List Case → List Case → Type 0
+ArePossible cases found =
+    (n : ℕ) (s : Point) → Any (λ case. Describes n case s) cases → Any (λ case. Describes n case s) found
+
+-- or as one of the cases that are left
+abbrev pub AreSifted : List Case → List Case → List Case → Type 0
+AreSifted cases rest found =
+    (n : ℕ) (s : Point)
+    → Any (λ case. Describes n case s) cases
+    → Any (λ case. Describes n case s) rest ⊎ Any (λ case. Describes n case s) found
 
 -- or one of the cases that are left does
 abbrev pub AreLeft : List Node → ℕ → Bool → List Case → List Case → List Spot → Type 0

@@ -5,8 +5,10 @@ ghost use Rattle.std.specs.List.{All};
 ghost use Rattle.teco_linear.specs.Form.{Valuation, value, values};
 ghost use Rattle.teco_linear.specs.Implied.{Holds};
 ghost use Rattle.teco_rows.specs.Cases.{value_if};
-ghost use Rattle.teco_paths.specs.Claims.{AreFilled, ArePresent, AreSymbols, ComesTo, IsCaseOf, filled_by};
+ghost use Rattle.teco_paths.specs.Claims.{AreFilled, AreKnown, ArePresent, AreSymbols, ComesTo, IsCaseOf};
+ghost use Rattle.teco_paths.specs.Claims.{filled_by};
 
+use crate::facts::facts;
 use crate::fault::PathFault;
 use crate::implied::is_so;
 use std::alloc::Global;
@@ -65,15 +67,25 @@ fn symbols_of(present: &[bool], alloc: Global) -> Result<Vec<Option<Form>>, Path
     Ok(forms)
 }
 
+// What is claimed at a cut point, and what always holds.
+fn known(size: &[u64], cut: &Cut, alloc: Global) -> Result<Vec<Form>, PathFault>
+    ensures { IfOk result (λ all. AreKnown size.now cut.now all.items) }
+{
+    let mut all = copied_constraints(&cut.claims, alloc)?;
+    let mut facts = facts(size, &cut.present, alloc)?;
+    all.append(&mut facts)?;
+    Ok(all)
+}
+
 /// The case of the states that are as a cut point says: each measure is a symbol.
-pub fn case_of(cut: &Cut, alloc: Global) -> Result<Case, PathFault>
-    ensures { IfOk result (λ case. IsCaseOf cut.now case) }
+pub fn case_of(size: &[u64], cut: &Cut, alloc: Global) -> Result<Case, PathFault>
+    ensures { IfOk result (λ case. IsCaseOf size.now cut.now case) }
 {
     let Ok(symbols) = u32::try_from(cut.present.len()) else {
         return Err(PathFault::Unknown);
     };
     let forms = symbols_of(&cut.present, alloc)?;
-    let constraints = copied_constraints(&cut.claims, alloc)?;
+    let constraints = known(size, cut, alloc)?;
     let shape = copied_shape(&cut.shape, alloc)?;
     Ok(Case {
         symbols,
@@ -123,8 +135,8 @@ fn are_same_waits(one: &[Option<Operator>], other: &[Option<Operator>]) -> bool
     true
 }
 
-// Whether two shapes are the same.
-fn is_same_shape(one: &Shape, other: &Shape) -> bool
+/// Whether two shapes are the same.
+pub fn is_same_shape(one: &Shape, other: &Shape) -> bool
     ensures operators { OnTrue result (one.now.operators.items ≡ other.now.operators.items) }
     ensures iterations { OnTrue result (one.now.iterations ≡ other.now.iterations) }
     ensures pushes { OnTrue result (one.now.pushes ≡ other.now.pushes) }

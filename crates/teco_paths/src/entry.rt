@@ -1,32 +1,36 @@
 //! What is known at the entry of a macro.
-ghost use Rattle.std.specs.Prelude.{◌≡◌, ◌-ℤ◌, ℕ, pos, IfOk, is_some};
+ghost use Rattle.std.specs.Prelude.{◌≡◌, ◌-ℤ◌, ℕ, pos, IfOk, OnOk, is_some};
 ghost use Rattle.std.specs.List.{All};
 ghost use Rattle.teco_linear.specs.Form.{Valuation, value};
-ghost use Rattle.teco_paths.specs.Entry.{AreThere, IsEntryClaim, IsEntryCut, is_there};
+ghost use Rattle.teco_paths.specs.Entry.{AreThere, IsEntryClaim, IsEntryCut, is_there, lengths};
 ghost use Rattle.teco_paths.specs.Symbols.{measure_of};
-ghost use Rattle.teco_poly.specs.Polynomial as poly;
 ghost use Rattle.teco_verifier.specs.table.Printed.{steps_before};
 
-use crate::course::form_of;
 use crate::cut::Cut;
+use crate::facts::{no_less, no_more};
 use crate::fault::PathFault;
 use std::alloc::Global;
-use teco_base::{LIMIT, REGISTERS};
+use teco_base::REGISTERS;
 use teco_linear::{Form, Term};
 use teco_model::ArgumentRange;
 use teco_rows::case::Shape;
 
-// The places of the steps that were done, and of what is held.
+// The places of the steps that were done, of what is held, of the length of the first register's
+// text, and of the pending argument.
 const STEPS: u32 = 0;
 
 const HELD: u32 = 3;
+
+const FIRST_LENGTH: u32 = 8;
+
+const ARGUMENT: u32 = 13;
 
 // How many places there are at an entry.
 const PLACES: usize = 7 + 7 * REGISTERS;
 
 // How many steps were done there.
-fn steps_done(argument: Option<ArgumentRange>) -> i128
-    ensures { result ≡ pos (steps_before argument) }
+fn steps_done(argument: Option<ArgumentRange>) -> u32
+    ensures { result ≡ steps_before argument }
 {
     match argument {
         Some(_) => 1,
@@ -34,28 +38,7 @@ fn steps_done(argument: Option<ArgumentRange>) -> i128
     }
 }
 
-// They are no fewer, and no more.
-fn least_steps(argument: Option<ArgumentRange>, alloc: Global) -> Result<Form, PathFault>
-    ensures { IfOk result (λ form. (n : ℕ) (v : Valuation)
-        → value form n v ≡ v STEPS -ℤ pos (steps_before argument)) }
-{
-    let steps = Form::symbol(STEPS, alloc)?;
-    let done = Form::constant(steps_done(argument), alloc)?;
-    let form = steps.sub(&done, alloc)?;
-    Ok(form)
-}
-
-fn most_steps(argument: Option<ArgumentRange>, alloc: Global) -> Result<Form, PathFault>
-    ensures { IfOk result (λ form. (n : ℕ) (v : Valuation)
-        → value form n v ≡ pos (steps_before argument) -ℤ v STEPS) }
-{
-    let steps = Form::symbol(STEPS, alloc)?;
-    let done = Form::constant(steps_done(argument), alloc)?;
-    let form = done.sub(&steps, alloc)?;
-    Ok(form)
-}
-
-// N is no less than what is held.
+// N, less what is held.
 fn most_held(alloc: Global) -> Result<Form, PathFault>
     ensures { IfOk result (λ form. (n : ℕ) (v : Valuation) → value form n v ≡ pos n -ℤ v HELD) }
 {
@@ -72,30 +55,45 @@ fn most_held(alloc: Global) -> Result<Form, PathFault>
     Ok(form)
 }
 
-// The size that is claimed may be held.
-fn most_size(size: &[u64], alloc: Global) -> Result<Form, PathFault>
+// N is no less than what is held with the texts of all registers.
+fn most_in_all(alloc: Global) -> Result<Form, PathFault>
     ensures { IfOk result (λ form. (n : ℕ) (v : Valuation)
-        → value form n v ≡ pos LIMIT -ℤ pos (poly.value size.now n)) }
+        → value form n v ≡ (pos n -ℤ v HELD) -ℤ lengths v REGISTERS) }
 {
-    let limit = Form::constant(LIMIT as i128, alloc)?;
-    let size = form_of(size, alloc)?;
-    let form = limit.sub(&size, alloc)?;
+    let mut form = most_held(alloc)?;
+    for register in 0..REGISTERS as u32 {
+        let length = Form::symbol(FIRST_LENGTH + 7 * register, alloc)?;
+        form = form.sub(&length, alloc)?;
+    }
     Ok(form)
 }
 
-// What is claimed at the entry.
-fn entry_claims(
+// Adds that an argument is in its range, if there is one.
+fn add_range(
+    claims: &mut Vec<Form>,
     argument: Option<ArgumentRange>,
-    size: &[u64],
     alloc: Global,
-) -> Result<Vec<Form>, PathFault>
-    ensures { IfOk result (λ claims. All (IsEntryClaim argument size.now) claims.items) }
+) -> Result<(), PathFault>
+    ensures { OnOk result (All (IsEntryClaim argument) claims.old.items
+        → All (IsEntryClaim argument) claims.new.items) }
 {
+    if let Some(range) = argument {
+        claims.push(no_less(ARGUMENT, range.low(), alloc)?)?;
+        claims.push(no_more(ARGUMENT, range.high(), alloc)?)?;
+    }
+    Ok(())
+}
+
+// What is claimed at the entry.
+fn entry_claims(argument: Option<ArgumentRange>, alloc: Global) -> Result<Vec<Form>, PathFault>
+    ensures { IfOk result (λ claims. All (IsEntryClaim argument) claims.items) }
+{
+    let done = steps_done(argument);
     let mut claims = Vec::new(alloc);
-    claims.push(least_steps(argument, alloc)?)?;
-    claims.push(most_steps(argument, alloc)?)?;
-    claims.push(most_held(alloc)?)?;
-    claims.push(most_size(size, alloc)?)?;
+    claims.push(no_less(STEPS, done, alloc)?)?;
+    claims.push(no_more(STEPS, done, alloc)?)?;
+    claims.push(most_in_all(alloc)?)?;
+    add_range(&mut claims, argument, alloc)?;
     Ok(claims)
 }
 
@@ -130,15 +128,11 @@ fn present(has_argument: bool, alloc: Global) -> Result<Vec<bool>, PathFault>
 }
 
 /// The cut point that the state at an entry is as: what it says is so.
-pub fn entry_cut(
-    argument: Option<ArgumentRange>,
-    size: &[u64],
-    alloc: Global,
-) -> Result<Cut, PathFault>
-    ensures { IfOk result (λ cut. IsEntryCut argument size.now cut) }
+pub fn entry_cut(argument: Option<ArgumentRange>, alloc: Global) -> Result<Cut, PathFault>
+    ensures { IfOk result (λ cut. IsEntryCut argument cut) }
 {
     let present = present(argument.is_some(), alloc)?;
-    let claims = entry_claims(argument, size, alloc)?;
+    let claims = entry_claims(argument, alloc)?;
     let mut operators = Vec::new(alloc);
     operators.push(None)?;
     Ok(Cut {

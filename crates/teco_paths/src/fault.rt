@@ -29,6 +29,9 @@ pub enum PathFault {
     /// The claims at an element are not implied where a path comes to it.
     #[error("the claims at element {0} are not implied")]
     Claims(usize),
+    /// A claim at an element speaks of what a state has not there.
+    #[error("a claim at element {0} speaks of what is not there")]
+    Unread(usize),
     /// A path is too long, or there are too many.
     #[error("the paths have too many elements")]
     TooLong,

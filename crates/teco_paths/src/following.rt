@@ -7,6 +7,7 @@ ghost use Rattle.teco_paths.specs.Paths.{Arrives, IsFollowed, Leads, LeadsOn};
 use crate::course::Course;
 use crate::cut::{Cut, case_of, comes_to};
 use crate::fault::PathFault;
+use crate::sharp::sharpened;
 use crate::spot::Spot;
 use crate::steps::{behind, is_in_time, is_small};
 use std::alloc::Global;
@@ -58,7 +59,7 @@ fn has_cut(course: &Course<'_>, number: usize) -> bool {
 }
 
 // The spots behind one at which a path is neither over nor at a cut point.
-fn onward(course: &Course<'_>, spot: &Spot, alloc: Global) -> Result<Vec<Spot>, PathFault>
+fn spots_ahead(course: &Course<'_>, spot: &Spot, alloc: Global) -> Result<Vec<Spot>, PathFault>
     ensures { IfOk result (λ spots.
         All (LeadsOn course.now) spots.items → LeadsOn course.now spot.now) }
 {
@@ -79,6 +80,16 @@ fn onward(course: &Course<'_>, spot: &Spot, alloc: Global) -> Result<Vec<Spot>, 
     behind(course, spot.number, &spot.case, alloc)
 }
 
+// The spots behind one, of whose case all is taken that is known.
+fn onward(course: &Course<'_>, spot: Spot, alloc: Global) -> Result<Vec<Spot>, PathFault>
+    ensures { IfOk result (λ spots.
+        All (LeadsOn course.now) spots.items → LeadsOn course.now spot) }
+{
+    let Spot { number, case } = spot;
+    let case = sharpened(case, alloc)?;
+    spots_ahead(course, &Spot { number, case }, alloc)
+}
+
 // Follows all paths from some spots, to cut points and to the end.
 fn follow(course: &Course<'_>, spots: Vec<Spot>, alloc: Global) -> Result<(), PathFault>
     ensures { OnOk result (All (LeadsOn course.now) spots.items) }
@@ -88,7 +99,7 @@ fn follow(course: &Course<'_>, spots: Vec<Spot>, alloc: Global) -> Result<(), Pa
         let Some(spot) = ahead.pop() else {
             return Ok(());
         };
-        let mut more = onward(course, &spot, alloc)?;
+        let mut more = onward(course, spot, alloc)?;
         ahead.append(&mut more)?;
     }
     Err(PathFault::TooLong)
@@ -111,7 +122,7 @@ pub fn follow_case(
 fn follow_cut(course: &Course<'_>, cut: &Cut, alloc: Global) -> Result<(), PathFault>
     ensures { OnOk result (IsFollowed course.now cut.now) }
 {
-    let case = case_of(cut, alloc)?;
+    let case = case_of(course.size, cut, alloc)?;
     follow_case(course, cut.number, &case, alloc)
 }
 

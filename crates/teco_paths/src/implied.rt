@@ -33,14 +33,23 @@ fn is_shown(
     }
 }
 
+// Whether multipliers are found that show it, by way of what shares symbols with the seeds.
+fn is_found(case: &Case, seeds: &[Form], target: &Form, alloc: Global) -> Result<bool, PathFault>
+    ensures { IfOk result (λ answer. OnTrue answer (Implies case.now.constraints.items target.now)) }
+{
+    let Some(found) = find(&case.constraints, seeds, target, alloc)? else {
+        return Ok(false);
+    };
+    is_shown(&case.constraints, &found, target, alloc)
+}
+
 /// Whether a form is found to be at least 0 wherever the constraints of a case hold.
 pub fn is_so(case: &Case, target: &Form, alloc: Global) -> Result<bool, PathFault>
     ensures { IfOk result (λ answer. OnTrue answer (Implies case.now.constraints.items target.now)) }
 {
-    let Some(found) = find(&case.constraints, target, alloc)? else {
-        return Ok(false);
-    };
-    is_shown(&case.constraints, &found, target, alloc)
+    let mut seeds = Vec::new(alloc);
+    seeds.push(target.add(&Form::zero(alloc), alloc)?)?;
+    is_found(case, &seeds, target, alloc)
 }
 
 /// Whether all of these are.
@@ -56,10 +65,12 @@ pub fn are_so(case: &Case, targets: &[Form], alloc: Global) -> Result<bool, Path
     Ok(true)
 }
 
-/// Whether no state is found to be as a case says: its constraints imply that -1 is at least 0.
-pub fn is_impossible(case: &Case, alloc: Global) -> Result<bool, PathFault>
+/// Whether no state is found to be as a case says, of whose constraints so many can all hold: they
+/// imply that -1 is at least 0.
+pub fn is_impossible(case: &Case, known: usize, alloc: Global) -> Result<bool, PathFault>
     ensures { IfOk result (λ answer. OnTrue answer (IsImpossible case.now)) }
 {
     let below = Form::constant(-1, alloc)?;
-    is_so(case, &below, alloc)
+    let new = case.constraints.get(known..).unwrap_or(&[]);
+    is_found(case, new, &below, alloc)
 }

@@ -2,16 +2,27 @@
 //! time: paths of cases from cut point to cut point.
 #![tactic(auto)]
 
+mod chains;
+pub mod claimed;
 pub mod course;
 pub mod cut;
 pub mod entry;
+mod facts;
 pub mod fault;
 pub mod following;
 pub mod implied;
+mod kinds;
+pub mod laws;
 pub mod multipliers;
+pub mod outcomes;
+mod possible;
+mod relevant;
+pub mod shapes;
+mod sharp;
 pub mod spot;
 pub mod steps;
 pub mod targets;
 #[cfg(test)]
 mod tests;
+pub mod translated;
 pub mod verdict;

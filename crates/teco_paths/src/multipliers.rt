@@ -1,12 +1,18 @@
 //! Which multipliers show that constraints imply a form. Nothing is promised of what is found.
 
+use crate::chains::chain;
 use crate::fault::PathFault;
+use crate::kinds::{Kind, highest, highest_in, kinds_of};
+use crate::relevant::relevant;
 use std::alloc::Global;
-use teco_linear::{Form, Multiplier, Term};
+use teco_linear::{Form, Multiplier};
 use teco_simplex::{Answer, Program, Relation, Row, Sign, SimplexFault, Values};
 
 // The most steps of the search.
 const PIVOTS: usize = 2000;
+
+// The highest power of N that constraints are multiplied with.
+const MOST_POWER: u32 = 2;
 
 /// Multipliers, and the divisor.
 #[derive(Drop)]
@@ -15,63 +21,58 @@ pub struct Found {
     pub divisor: u64,
 }
 
-// What terms are multiples of: a symbol or none, times a power of N.
+// A constraint times a power of N.
 #[derive(Clone, Copy)]
-struct Kind {
-    symbol: Option<u32>,
+struct Column {
+    constraint: usize,
     power: u32,
 }
 
-impl Kind {
-    fn of(term: &Term) -> Kind {
-        Kind {
-            symbol: term.symbol,
-            power: term.power,
-        }
-    }
-
-    fn is(self, other: Kind) -> bool {
-        let is_same = match (self.symbol, other.symbol) {
-            (Some(one), Some(other)) => one == other,
-            (None, None) => true,
-            _ => false,
-        };
-        is_same && self.power == other.power
-    }
-
-    // How often it is in a form.
-    fn coefficient(self, form: &Form) -> i128 {
-        for term in form.terms() {
-            if self.is(Kind::of(term)) {
-                return term.coefficient;
+// Of each constraint, times each power of N that stands at no higher one than the target has use for.
+fn columns_of(
+    constraints: &[Form],
+    places: &[usize],
+    most: u32,
+    alloc: Global,
+) -> Result<Vec<Column>, PathFault> {
+    let mut columns = Vec::new(alloc);
+    for place in places {
+        if let Some(constraint) = constraints.get(*place) {
+            let highest = highest_in(constraint);
+            for power in 0..=most.saturating_sub(highest) {
+                columns.push(Column {
+                    constraint: *place,
+                    power,
+                })?;
             }
         }
-        0
     }
+    Ok(columns)
 }
 
-// Notes the kinds of a form's terms.
-fn note(kinds: &mut Vec<Kind>, form: &Form) -> Result<(), PathFault> {
-    for term in form.terms() {
-        let kind = Kind::of(term);
-        if !kinds.iter().any(|other| other.is(kind)) {
-            kinds.push(kind)?;
-        }
+// How often a kind is in a constraint times a power of N.
+fn coefficient(constraints: &[Form], column: Column, kind: Kind) -> i128 {
+    match (
+        constraints.get(column.constraint),
+        kind.power.checked_sub(column.power),
+    ) {
+        (Some(constraint), Some(power)) => Kind { power, ..kind }.coefficient(constraint),
+        _ => 0,
     }
-    Ok(())
 }
 
 // What the multipliers must do to the terms of a kind: none with a symbol may stay, nor a negative
 // one without.
 fn row_of(
     constraints: &[Form],
+    columns: &[Column],
     target: &Form,
     kind: Kind,
     alloc: Global,
 ) -> Result<Row, PathFault> {
     let mut terms = Vec::new(alloc);
-    for variable in 0..constraints.len() {
-        let coefficient = kind.coefficient(&constraints[variable]);
+    for variable in 0..columns.len() {
+        let coefficient = coefficient(constraints, columns[variable], kind);
         if coefficient != 0 {
             terms.push(teco_simplex::Term {
                 variable,
@@ -91,39 +92,65 @@ fn row_of(
     })
 }
 
-// The program whose values are multipliers.
-fn program_of(constraints: &[Form], target: &Form, alloc: Global) -> Result<Program, PathFault> {
-    let mut kinds = Vec::new(alloc);
-    note(&mut kinds, target)?;
-    for constraint in constraints {
-        note(&mut kinds, constraint)?;
+// The kinds that stand in the columns or in the target.
+fn all_kinds(
+    constraints: &[Form],
+    columns: &[Column],
+    target: &Form,
+    alloc: Global,
+) -> Result<Vec<Kind>, PathFault> {
+    let mut kinds = kinds_of(&[target], alloc)?;
+    for column in columns {
+        if let Some(constraint) = constraints.get(column.constraint) {
+            for term in constraint.terms() {
+                let kind = Kind {
+                    symbol: term.symbol,
+                    power: term.power.saturating_add(column.power),
+                };
+                crate::kinds::placed(&mut kinds, kind)?;
+            }
+        }
     }
+    Ok(kinds)
+}
+
+// The program whose values are multipliers.
+fn program_of(
+    constraints: &[Form],
+    columns: &[Column],
+    target: &Form,
+    alloc: Global,
+) -> Result<Program, PathFault> {
+    let kinds = all_kinds(constraints, columns, target, alloc)?;
     let mut program = Program::new(alloc);
-    for _ in constraints {
+    for _ in columns {
         program.add_variable(Sign::NonNegative)?;
     }
     for kind in &kinds {
-        program.add_row(row_of(constraints, target, *kind, alloc)?)?;
+        program.add_row(row_of(constraints, columns, target, *kind, alloc)?)?;
     }
     Ok(program)
 }
 
 // Values as multipliers, if these numbers hold them.
-fn multipliers_of(values: &Values, alloc: Global) -> Result<Option<Found>, PathFault> {
+fn multipliers_of(
+    columns: &[Column],
+    values: &Values,
+    alloc: Global,
+) -> Result<Option<Found>, PathFault> {
     let Ok(divisor) = u64::try_from(values.denominator) else {
         return Ok(None);
     };
     let mut multipliers = Vec::new(alloc);
-    for constraint in 0..values.numerators.len() {
-        let numerator = values.numerators[constraint];
-        if numerator != 0 {
-            let Ok(factor) = u64::try_from(numerator) else {
+    for (column, numerator) in columns.iter().zip(&values.numerators) {
+        if *numerator != 0 {
+            let Ok(factor) = u64::try_from(*numerator) else {
                 return Ok(None);
             };
             multipliers.push(Multiplier {
-                constraint,
+                constraint: column.constraint,
                 factor,
-                power: 0,
+                power: column.power,
             })?;
         }
     }
@@ -133,16 +160,53 @@ fn multipliers_of(values: &Values, alloc: Global) -> Result<Option<Found>, PathF
     }))
 }
 
-/// Looks for multipliers.
-pub fn find(
+// Each of these constraints once.
+fn once(places: &[usize], alloc: Global) -> Result<Found, PathFault> {
+    let mut multipliers = Vec::new(alloc);
+    for place in places {
+        multipliers.push(Multiplier {
+            constraint: *place,
+            factor: 1,
+            power: 0,
+        })?;
+    }
+    Ok(Found {
+        multipliers,
+        divisor: 1,
+    })
+}
+
+// By a linear program.
+fn by_program(
     constraints: &[Form],
+    places: &[usize],
     target: &Form,
     alloc: Global,
 ) -> Result<Option<Found>, PathFault> {
-    let program = program_of(constraints, target, alloc)?;
+    let most = highest(constraints).max(highest_in(target)).min(MOST_POWER);
+    let columns = columns_of(constraints, places, most, alloc)?;
+    let program = program_of(constraints, &columns, target, alloc)?;
     match program.solve(alloc, PIVOTS) {
-        Ok(Answer::Found(values)) => multipliers_of(&values, alloc),
+        Ok(Answer::Found(values)) => multipliers_of(&columns, &values, alloc),
         Err(SimplexFault::Memory) => Err(PathFault::Memory),
         _ => Ok(None),
+    }
+}
+
+/// Looks for multipliers that show a target, by way of the constraints that share symbols with the
+/// seeds: for chains of differences first, and then by a linear program.
+pub fn find(
+    constraints: &[Form],
+    seeds: &[Form],
+    target: &Form,
+    alloc: Global,
+) -> Result<Option<Found>, PathFault> {
+    if target.is_harmless() {
+        return Ok(Some(once(&[], alloc)?));
+    }
+    let places = relevant(constraints, seeds, alloc)?;
+    match chain(constraints, &places, target, alloc)? {
+        Some(found) => Ok(Some(once(&found, alloc)?)),
+        None => by_program(constraints, &places, target, alloc),
     }
 }

@@ -2,32 +2,28 @@
 ghost use Rattle.std.specs.Prelude.{◌≡◌, ◌<◌, ◌≤◌, ◌++◌, length, IfOk};
 ghost use Rattle.std.specs.Bool.{OnTrue};
 ghost use Rattle.std.specs.List.{All};
-ghost use Rattle.teco_paths.specs.Paths.{Leads, LeadsOn};
 ghost use Rattle.teco_model.specs.Element.{seen};
-ghost use Rattle.teco_paths.specs.Steps.{AreKept, AreSpots, GoOn, IsInTime, IsPlain, IsRead, IsSmall, IsTextEnd, Passes};
+ghost use Rattle.teco_paths.specs.Paths.{Leads, LeadsOn};
+ghost use Rattle.teco_paths.specs.Steps.{AreKept, AreSpots, GoOn, IsAskedAt, IsInTime, IsPlain, IsRead};
+ghost use Rattle.teco_paths.specs.Steps.{IsSmall, IsTextEnd};
 
 use crate::course::{Course, form_of};
 use crate::fault::PathFault;
-use crate::implied::{are_so, is_impossible, is_so};
+use crate::implied::{are_so, is_so};
+use crate::outcomes::{outcomes_at, passing, wrapped_at};
+use crate::possible::{MOST_CASES, possible};
 use crate::spot::Spot;
 use crate::targets::target;
 use std::alloc::Global;
 use teco_expansion::Nodes;
-use teco_linear::Form;
-use teco_model::kind::{Command, Flow, Stack, Storage};
+use teco_model::kind::{Command, Stack, Storage};
 use teco_model::{Element, Kind};
 use teco_rows::case::Case;
-use teco_outcomes::elements::outcomes_of;
-use teco_rows::fault::Fault;
-use teco_outcomes::flow::turn;
 use teco_rows::forms::single;
 use teco_rows::measure::Single;
 use teco_rows::outcomes::Outcomes;
 
-// The most cases that an element may have.
-const MOST_CASES: usize = 4096;
-
-// The spots of the cases that are possible behind a node, by the way.
+// The spots of cases behind a node, by the way.
 fn kept(
     nodes: &Nodes<'_>,
     number: usize,
@@ -45,31 +41,21 @@ fn kept(
         let Some(case) = rest.pop() else {
             return Ok(spots);
         };
-        let is_none = is_impossible(&case, alloc)?;
-        if !is_none {
-            let number = target(nodes, number, is_away, &case)?;
-            spots.push(Spot { number, case })?;
-        }
+        let number = target(nodes, number, is_away, &case)?;
+        spots.push(Spot { number, case })?;
     }
     Err(PathFault::TooLong)
 }
 
-// The outcomes of a step that changes nothing but the text that is executed.
-fn passing(case: &Case, alloc: Global) -> Result<Outcomes, Fault>
-    ensures { IfOk result (λ all. Passes case.now all) }
-{
-    turn(case, Flow::EndTest, 0, alloc)
-}
-
-// Whether an element may be followed: it writes no text of the library, is no command of files, and
-// its outcomes are told with where it leads.
-fn is_plain(nodes: &Nodes<'_>, number: usize, kind: Kind) -> bool
+/// Whether an element may be followed: it writes no text of the library, and is no command of
+/// files.
+pub fn is_plain(nodes: &Nodes<'_>, number: usize, kind: Kind) -> bool
     requires one { 0 < number }
     requires last { number ≤ length nodes.now }
     ensures { OnTrue result (IsPlain nodes.now number kind) }
 {
     match kind {
-        Kind::File(_) | Kind::Search(_) | Kind::Call(_) => false,
+        Kind::File(_) | Kind::Call(_) => false,
         Kind::Stack(Stack::Pop(_)) => !nodes.names_macro(number),
         Kind::Command(Command::Storage(Storage::Copy(_))) => !nodes.names_macro(number),
         Kind::Command(Command::Storage(Storage::SetText(_))) => !nodes.names_macro(number),
@@ -105,10 +91,11 @@ fn joined(first: Vec<Spot>, second: Vec<Spot>) -> Result<Vec<Spot>, PathFault>
     Ok(all)
 }
 
-// The spots of outcomes behind a node.
+// The spots of outcomes behind a node, where so many constraints are those of the case before.
 fn spots_of(
     nodes: &Nodes<'_>,
     number: usize,
+    known: usize,
     outcomes: Outcomes,
     alloc: Global,
 ) -> Result<Vec<Spot>, PathFault>
@@ -121,9 +108,38 @@ fn spots_of(
         cases,
         away,
     } = outcomes;
-    let behind = kept(nodes, number, false, cases, alloc)?;
-    let elsewhere = kept(nodes, number, true, away, alloc)?;
+    let here = possible(cases, known, alloc)?;
+    let there = possible(away, known, alloc)?;
+    let behind = kept(nodes, number, false, here, alloc)?;
+    let elsewhere = kept(nodes, number, true, there, alloc)?;
     joined(behind, elsewhere)
+}
+
+// The outcomes of an element whose conditions a case implies: those where a sum fits 32 bits, or else
+// those where it may not.
+fn asked_at(
+    nodes: &Nodes<'_>,
+    number: usize,
+    case: &Case,
+    element: &Element,
+    alloc: Global,
+) -> Result<Outcomes, PathFault>
+    requires one { 0 < number }
+    requires last { number ≤ length nodes.now }
+    requires reads { IsRead nodes.now number (Some (seen element.now)) }
+    ensures { IfOk result (λ all. IsAskedAt nodes.now number (seen element.now) case.now all) }
+{
+    let outcomes = outcomes_at(nodes, number, case, element, alloc)?;
+    let is_asked = are_so(case, &outcomes.conditions, alloc)?;
+    if is_asked {
+        return Ok(outcomes);
+    }
+    let wrapped = wrapped_at(nodes, number, case, element, alloc)?;
+    let is_so = are_so(case, &wrapped.conditions, alloc)?;
+    if !is_so {
+        return Err(PathFault::Condition(number));
+    }
+    Ok(wrapped)
 }
 
 // The spots behind an element.
@@ -146,14 +162,8 @@ fn behind_element(
     if !is_plain(nodes, number, element.kind) {
         return Err(PathFault::NotTold(number));
     }
-    let Ok(outcomes) = outcomes_of(case, element, false, alloc) else {
-        return Err(PathFault::NotTold(number));
-    };
-    let is_asked = are_so(case, &outcomes.conditions, alloc)?;
-    if !is_asked {
-        return Err(PathFault::Condition(number));
-    }
-    spots_of(nodes, number, outcomes, alloc)
+    let outcomes = asked_at(nodes, number, case, element, alloc)?;
+    spots_of(nodes, number, case.constraints.len(), outcomes, alloc)
 }
 
 // The spots behind a call, or behind the end of a text.
@@ -180,7 +190,7 @@ fn behind_text(
     if !is_asked {
         return Err(PathFault::Condition(number));
     }
-    spots_of(nodes, number, outcomes, alloc)
+    spots_of(nodes, number, case.constraints.len(), outcomes, alloc)
 }
 
 // The spots behind a node.

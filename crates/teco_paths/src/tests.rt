@@ -37,9 +37,9 @@ fn sum(constant: i128, count: i128, steps: i128, alloc: Global) -> Result<Form, 
 }
 
 // At the start of the body 1 is from 1 to 10, and 7 steps come with each of its turns.
-fn body(size: &[u64], per_turn: i32, alloc: Global) -> Result<Cut, PathFault> {
+fn body(per_turn: i32, alloc: Global) -> Result<Cut, PathFault> {
     let per_turn = i128::from(per_turn);
-    let entry = entry_cut(None, size, alloc)?;
+    let entry = entry_cut(None, alloc)?;
     let Cut {
         number: _number,
         shape,
@@ -73,7 +73,7 @@ fn verdict(alloc: Global, commands: u64, per_turn: i32) -> Result<(), PathFault>
         return Err(PathFault::NoElement(1));
     };
     let size = [0, 1];
-    let cuts = [body(&size, per_turn, alloc)?];
+    let cuts = [body(per_turn, alloc)?];
     let course = Course {
         nodes: &nodes,
         cuts: &cuts,

@@ -24,8 +24,8 @@ pub fn check_claims(
     teco_law_expansion::laws::runs_are_alike();
     teco_law_expansion::laws::readings_are_alike();
     teco_law_expansion::laws::numbers_are_pending();
-    let cut = entry_cut(argument, course.size, alloc)?;
-    let case = case_of(&cut, alloc)?;
+    let cut = entry_cut(argument, alloc)?;
+    let case = case_of(course.size, &cut, alloc)?;
     follow_cuts(course, alloc)?;
     follow_case(course, 1, &case, alloc)
 }

@@ -1,4 +1,4 @@
-use Rattle.std.proofs.Common.{◌≡◌, sym, ap, ◌∙◌, None, slice_index_or}
+use Rattle.std.proofs.Common.{sym, ap, ◌∙◌, None, slice_index_or}
 use Rattle.std.specs.Prelude.{pos, unwrap_or}
 use Rattle.teco_linear.specs.Form.{value}
 use Rattle.teco_rows.specs.Cases.{value_if}

@@ -1,3 +1,6 @@
+use Rattle.std.proofs.Common.{subst}
+use Rattle.teco_paths.specs.Claims.{IsCaseOf}
+use Rattle.teco_paths.specs.Paths.{Course}
 use Rattle.teco_paths.proofs.Answered.{on_ok}
 use Rattle.teco_paths.proofs.Onward.{cut_followed}
 use Rattle.teco_paths.proofs.following.follow_cut.Goals as goal
@@ -5,5 +8,7 @@ use Rattle.teco_paths.proofs.following.follow_cut.Goals as goal
 pub returns : goal.returns
 returns c =
     on_ok c.follow_case.result
-    (λ leads. cut_followed c.args.course.now c.args.cut.now c.in_ok-case.case c.in_ok-case.ensures leads)
+    (λ leads. cut_followed c.args.course.now c.args.cut.now c.in_ok-case.case
+    (subst (λ (x : Course). IsCaseOf x.size c.args.cut.now c.in_ok-case.case) c.course.view_is c.in_ok-case.ensures)
+    leads)
     c.follow_case.ensures

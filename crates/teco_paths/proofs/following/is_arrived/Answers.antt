@@ -1,4 +1,4 @@
-use Rattle.std.proofs.Common.{◌≡◌, subst, arith}
+use Rattle.std.proofs.Common.{subst, arith}
 use Rattle.std.specs.Bool.{OnTrue}
 use Rattle.teco_paths.specs.Claims.{ComesTo}
 use Rattle.teco_paths.proofs.Answered.{on_true}

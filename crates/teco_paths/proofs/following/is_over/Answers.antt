@@ -1,4 +1,4 @@
-use Rattle.std.proofs.Common.{◌≡◌, subst, ap, length, arith}
+use Rattle.std.proofs.Common.{subst, ap, length, arith}
 use Rattle.std.specs.Bool.{OnTrue}
 use Rattle.teco_paths.specs.Paths.{Course}
 use Rattle.teco_paths.specs.Steps.{IsInTime}

@@ -1,13 +1,16 @@
 use Rattle.std.specs.List.{All}
-use Rattle.teco_paths.specs.Paths.{Leads, LeadsOn}
+use Rattle.teco_paths.specs.declared.spot.Spot.{Spot}
+use Rattle.teco_paths.specs.Paths.{LeadsOn}
 use Rattle.teco_paths.proofs.Answered.{if_ok}
-use Rattle.teco_paths.proofs.Onward.{leads_at_once}
+use Rattle.teco_paths.proofs.Onward.{sharper_leads}
 use Rattle.teco_paths.proofs.following.onward.Goals as goal
 
 pub returns : goal.returns
 returns c =
     if_ok (λ spots. All (LeadsOn c.args.course.now) spots.items
-    → Leads c.args.course.now 1 c.args.spot.now.number c.args.spot.now.case)
-    (λ spots. All (LeadsOn c.args.course.now) spots.items → LeadsOn c.args.course.now c.args.spot.now) c.behind.result
-    (λ spots leads all. leads_at_once c.args.course.now c.args.spot.now (leads all))
-    c.behind.ensures
+    → LeadsOn c.args.course.now (record { number = c.args.spot.number; case = c.in_ok-case.case }))
+    (λ spots. All (LeadsOn c.args.course.now) spots.items → LeadsOn c.args.course.now c.args.spot)
+    c.spots_ahead.result
+    (λ spots leads all. sharper_leads c.args.course.now c.args.spot.number c.args.spot.case c.in_ok-case.case
+    c.in_ok-case.ensures (leads all))
+    c.spots_ahead.ensures

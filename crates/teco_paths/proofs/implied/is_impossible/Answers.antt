@@ -1,5 +1,5 @@
-use Rattle.std.proofs.Common.{◌≡◌, arith, Bool, true, false, Result, Ok, Err, IfOk, subst}
-use Rattle.std.specs.Prelude.{ℤ, pos, negsuc, ◌≤ℤ◌, ℕ, List}
+use Rattle.std.proofs.Common.{◌≡◌, arith, Bool, true, false, Result, Ok, Err, IfOk}
+use Rattle.std.specs.Prelude.{pos, negsuc, ◌≤ℤ◌, ℕ, List}
 use Rattle.std.proofs.lemmas.Int.{ints}
 use Rattle.std.specs.Bool.{OnTrue}
 use Rattle.teco_linear.specs.declared.term.Term.{Term}
@@ -28,4 +28,4 @@ by_result form is case (Ok answer) h = by_answer form is case answer h
 by_result form is case (Err e) h = tt
 
 pub returns : goal.returns
-returns c = by_result c.in_ok-below.below c.in_ok-below.ensures c.args.case.now c.is_so.result c.is_so.ensures
+returns c = by_result c.in_ok-below.below c.in_ok-below.ensures c.args.case.now c.is_found.result c.is_found.ensures

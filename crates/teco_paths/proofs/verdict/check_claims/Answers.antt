@@ -1,5 +1,5 @@
 use Rattle.std.proofs.Common.{subst}
-use Rattle.teco_paths.specs.Entry.{IsEntryCut}
+use Rattle.teco_paths.specs.Claims.{IsCaseOf}
 use Rattle.teco_paths.specs.Paths.{Course}
 use Rattle.teco_paths.proofs.Answered.{on_ok}
 use Rattle.teco_paths.proofs.Certain.{certain}
@@ -13,7 +13,8 @@ returns c =
       runs = c.runs_are_alike.ensures;
       readings = c.readings_are_alike.ensures;
       pending = c.numbers_are_pending.ensures;
-    }) c.args.course.now c.args.argument c.in_ok-cut.cut c.in_ok-case.case c.in_ok-case.ensures
-    (subst (λ (x : Course). IsEntryCut c.args.argument x.size c.in_ok-cut.cut) c.course.view_is c.in_ok-cut.ensures) leads
+    }) c.args.course.now c.args.argument c.in_ok-cut.cut c.in_ok-case.case
+    (subst (λ (x : Course). IsCaseOf x.size c.in_ok-cut.cut c.in_ok-case.case) c.course.view_is c.in_ok-case.ensures)
+    c.in_ok-cut.ensures leads
     c.in_ok-follow_cuts.ensures)
     c.follow_case.ensures

@@ -1,0 +1,51 @@
+-- What is known of a case besides.
+use Rattle.std.proofs.Common.{◌≡◌, ◌⊎◌, inl, inr, ℕ, ◌+◌, ◌<◌, ◌≤◌, subst, sym, arith, List, [], ◌∷◌, ◌++◌, length}
+use Rattle.std.specs.Prelude.{ℤ, pos, ◌+ℤ◌, ◌-ℤ◌, ◌≤ℤ◌}
+use Rattle.std.proofs.lemmas.Bool.{cases_order}
+use Rattle.std.proofs.lemmas.Int.{ints}
+use Rattle.std.specs.List.{All}
+use Rattle.teco_base.specs.Lines.{line_place}
+use Rattle.teco_linear.specs.declared.term.Term.{Term}
+use Rattle.teco_linear.specs.Form.{Valuation, value}
+use Rattle.teco_linear.specs.Implied.{Holds, Implies}
+use Rattle.teco_model.specs.laws.Whole.{IsWhole}
+use Rattle.teco_rows.specs.declared.case.Case.{Case}
+use Rattle.teco_rows.specs.declared.measure.Single.{Single}
+use Rattle.teco_rows.specs.declared.measure.Single.TheVariants.{Pointer, Size, LineEnd}
+use Rattle.teco_rows.specs.States.{Point, IsTrueOf, single}
+use Rattle.teco_rows.proofs.Lines.{IsEnd, line_end}
+use Rattle.teco_paths.specs.Steps.{IsSharper, IsWith}
+
+-- a form is the measure that a state has once
+abbrev Measures : Case → Single → List Term → Type 0
+Measures case which form =
+    (n : ℕ) (v : Valuation) (s : Point) → IsTrueOf n v case s → value form n v ≡ pos (single s which)
+
+-- in front of the end of the buffer a line goes on
+ends_behind : (text : List ℕ) (p e : ℕ) → IsEnd text p e → p + 1 ≤ length text → p + 1 ≤ e
+ends_behind text p e is before = by (cases_order e (length text))
+  where
+    by : (e ≡ length text) ⊎ ((e < length text) ⊎ (length text < e)) → p + 1 ≤ e
+    by (inl same) = omega (arith, same, before)
+    by (inr (inl less)) = omega (arith, is.more less)
+    by (inr (inr more)) = omega (arith, is.within, more)
+
+pub sharper : (case sharp : Case) (one pointer behind size end ahead more : List Term)
+    → ((n : ℕ) (v : Valuation) → value one n v ≡ pos 1)
+    → Measures case Pointer pointer → Measures case Size size → Measures case LineEnd end
+    → ((n : ℕ) (v : Valuation) → value behind n v ≡ value pointer n v +ℤ value one n v)
+    → ((n : ℕ) (v : Valuation) → value ahead n v ≡ value size n v -ℤ value behind n v)
+    → ((n : ℕ) (v : Valuation) → value more n v ≡ value end n v -ℤ value behind n v)
+    → Implies case.constraints.items ahead → IsWith case more sharp → IsSharper case sharp
+sharper case sharp one pointer behind size end ahead more one_is pointer_is size_is end_is behind_is ahead_is more_is
+    implied with n s whole d =
+    let v = d.0 in
+    let room : pos 0 ≤ℤ value ahead n v = implied n v d.1.fits.constraints in
+    let before : s.kept.pointer + 1 ≤ length s.kept.text =
+    omega (arith, ints, room, one_is n v, pointer_is n v s d.1, size_is n v s d.1, behind_is n v, ahead_is n v) in
+    let line = ends_behind s.kept.text s.kept.pointer (line_place s.kept.text s.kept.pointer (pos 1))
+    (line_end s.kept.text s.kept.pointer whole.inside) before in (
+      v,
+      with n v s d.1
+          (omega (arith, ints, line, one_is n v, pointer_is n v s d.1, end_is n v s d.1, behind_is n v, more_is n v)),
+    )

@@ -1,0 +1,13 @@
+use Rattle.std.specs.List.{All}
+use Rattle.teco_paths.specs.Paths.{Leads, LeadsOn}
+use Rattle.teco_paths.proofs.Answered.{if_ok}
+use Rattle.teco_paths.proofs.Onward.{leads_at_once}
+use Rattle.teco_paths.proofs.following.spots_ahead.Goals as goal
+
+pub returns : goal.returns
+returns c =
+    if_ok (λ spots. All (LeadsOn c.args.course.now) spots.items
+    → Leads c.args.course.now 1 c.args.spot.now.number c.args.spot.now.case)
+    (λ spots. All (LeadsOn c.args.course.now) spots.items → LeadsOn c.args.course.now c.args.spot.now) c.behind.result
+    (λ spots leads all. leads_at_once c.args.course.now c.args.spot.now (leads all))
+    c.behind.ensures

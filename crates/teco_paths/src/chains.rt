@@ -1,0 +1,213 @@
+//! Multipliers of constraints that bound differences: chains of them.
+
+use crate::fault::PathFault;
+use crate::kinds::{CONSTANT, Kind, placed};
+use std::alloc::Global;
+use teco_linear::Form;
+
+// That one kind is above another by at most a number: what a constraint says, or is to be shown.
+#[derive(Clone, Copy)]
+struct Edge {
+    from: usize,
+    to: usize,
+    most: i128,
+    constraint: usize,
+}
+
+// The kinds that differences are of, and what constraints say of these.
+#[derive(Drop)]
+struct Graph {
+    kinds: Vec<Kind>,
+    edges: Vec<Edge>,
+}
+
+// What a form says, if it bounds a difference.
+fn edge_of(
+    kinds: &mut Vec<Kind>,
+    form: &Form,
+    constraint: usize,
+) -> Result<Option<Edge>, PathFault> {
+    let mut most = 0;
+    let mut from = None;
+    let mut to = None;
+    for term in form.terms() {
+        let kind = Kind::of(term);
+        if kind == CONSTANT {
+            most = term.coefficient;
+        } else if term.coefficient == 1 && from.is_none() {
+            from = Some(kind);
+        } else if term.coefficient == -1 && to.is_none() {
+            to = Some(kind);
+        } else {
+            return Ok(None);
+        }
+    }
+    Ok(Some(Edge {
+        from: placed(kinds, from.unwrap_or(CONSTANT))?,
+        to: placed(kinds, to.unwrap_or(CONSTANT))?,
+        most,
+        constraint,
+    }))
+}
+
+// What those of the constraints say that bound differences.
+fn graph_of(constraints: &[Form], places: &[usize], alloc: Global) -> Result<Graph, PathFault> {
+    let mut kinds = Vec::new(alloc);
+    kinds.push(CONSTANT)?;
+    let mut edges = Vec::new(alloc);
+    for place in places {
+        if let Some(form) = constraints.get(*place) {
+            if let Some(edge) = edge_of(&mut kinds, form, *place)? {
+                edges.push(edge)?;
+            }
+        }
+    }
+    Ok(Graph { kinds, edges })
+}
+
+// How far kinds are above where a search began at most, and by which edge.
+#[derive(Drop)]
+struct Distances {
+    least: Vec<Option<i128>>,
+    by: Vec<Option<usize>>,
+}
+
+impl Distances {
+    fn far(&self, kind: usize) -> Option<i128> {
+        match self.least.get(kind) {
+            Some(least) => *least,
+            None => None,
+        }
+    }
+
+    fn edge(&self, kind: usize) -> Option<usize> {
+        match self.by.get(kind) {
+            Some(by) => *by,
+            None => None,
+        }
+    }
+
+    // Lowers the distance of where an edge leads, and says whether it did.
+    fn lower(&mut self, edge: &Edge, place: usize) -> bool {
+        let Some(from) = self.far(edge.from) else {
+            return false;
+        };
+        let Some(through) = from.checked_add(edge.most) else {
+            return false;
+        };
+        if self.far(edge.to).is_some_and(|known| known <= through) {
+            return false;
+        }
+        if let Some(least) = self.least.get_mut(edge.to) {
+            *least = Some(through);
+        }
+        if let Some(by) = self.by.get_mut(edge.to) {
+            *by = Some(place);
+        }
+        true
+    }
+
+    // Lowers them by all edges, and tells a kind whose distance was lowered.
+    fn pass(&mut self, edges: &[Edge]) -> Option<usize> {
+        let mut last = None;
+        for place in 0..edges.len() {
+            if self.lower(&edges[place], place) {
+                last = Some(edges[place].to);
+            }
+        }
+        last
+    }
+}
+
+impl Graph {
+    // The constraints by which a kind was reached, back to another.
+    fn back(
+        &self,
+        distances: &Distances,
+        first: usize,
+        last: usize,
+        alloc: Global,
+    ) -> Result<Option<Vec<usize>>, PathFault> {
+        let mut places = Vec::new(alloc);
+        let mut at = last;
+        for _ in 0..=self.kinds.len() {
+            let Some(edge) = distances.edge(at).and_then(|place| self.edges.get(place)) else {
+                return Ok(None);
+            };
+            places.push(edge.constraint)?;
+            at = edge.from;
+            if at == first {
+                return Ok(Some(places));
+            }
+        }
+        Ok(None)
+    }
+
+    // Distances before the search.
+    fn begun(&self, least: Option<i128>, alloc: Global) -> Result<Distances, PathFault> {
+        Ok(Distances {
+            least: Vec::from_elem(alloc, least, self.kinds.len())?,
+            by: Vec::from_elem(alloc, None, self.kinds.len())?,
+        })
+    }
+
+    // A chain that shows that a difference is within a bound.
+    fn chain(&self, wanted: &Edge, alloc: Global) -> Result<Option<Vec<usize>>, PathFault> {
+        let mut distances = self.begun(None, alloc)?;
+        if let Some(least) = distances.least.get_mut(wanted.from) {
+            *least = Some(0);
+        }
+        for _ in 0..self.kinds.len() {
+            if distances.pass(&self.edges).is_none() {
+                break;
+            }
+        }
+        match distances.far(wanted.to) {
+            Some(far) if far <= wanted.most => {
+                self.back(&distances, wanted.from, wanted.to, alloc)
+            }
+            _ => Ok(None),
+        }
+    }
+
+    // A chain that comes back to where it began, below it.
+    fn circle(&self, alloc: Global) -> Result<Option<Vec<usize>>, PathFault> {
+        let mut distances = self.begun(Some(0), alloc)?;
+        let mut lowered = None;
+        for _ in 0..=self.kinds.len() {
+            lowered = distances.pass(&self.edges);
+            if lowered.is_none() {
+                return Ok(None);
+            }
+        }
+        let Some(mut at) = lowered else {
+            return Ok(None);
+        };
+        for _ in 0..self.kinds.len() {
+            match distances.edge(at).and_then(|place| self.edges.get(place)) {
+                Some(edge) => at = edge.from,
+                None => return Ok(None),
+            }
+        }
+        self.back(&distances, at, at, alloc)
+    }
+}
+
+/// The constraints, of those at these places, whose sum shows a bound on a difference, or that they
+/// can't all hold, where the target is -1.
+pub fn chain(
+    constraints: &[Form],
+    places: &[usize],
+    target: &Form,
+    alloc: Global,
+) -> Result<Option<Vec<usize>>, PathFault> {
+    let mut graph = graph_of(constraints, places, alloc)?;
+    let Some(wanted) = edge_of(&mut graph.kinds, target, 0)? else {
+        return Ok(None);
+    };
+    if wanted.from == wanted.to {
+        graph.circle(alloc)
+    } else {
+        graph.chain(&wanted, alloc)
+    }
+}

@@ -1,0 +1,105 @@
+//! Which constraints may matter to a target.
+
+use crate::fault::PathFault;
+use std::alloc::Global;
+use teco_linear::{Form, Term};
+
+// The symbols that are reached, and whether N is.
+#[derive(Drop)]
+struct Reached {
+    symbols: Vec<bool>,
+    is_n: bool,
+}
+
+impl Reached {
+    // Nothing is reached yet of these constraints and the seeds.
+    fn none(constraints: &[Form], seeds: &[Form], alloc: Global) -> Result<Reached, PathFault> {
+        let most = most_symbol(constraints).max(most_symbol(seeds));
+        Ok(Reached {
+            symbols: Vec::from_elem(alloc, false, most as usize + 1)?,
+            is_n: false,
+        })
+    }
+
+    // Whether what a term is a multiple of is reached.
+    fn has(&self, term: &Term) -> bool {
+        match term.symbol {
+            Some(symbol) => self.symbols.get(symbol as usize) == Some(&true),
+            None => term.power > 0 && self.is_n,
+        }
+    }
+
+    // Reaches what the terms of a form are multiples of.
+    fn add(&mut self, form: &Form) {
+        for term in form.terms() {
+            match term.symbol {
+                Some(symbol) => {
+                    if let Some(mark) = self.symbols.get_mut(symbol as usize) {
+                        *mark = true;
+                    }
+                }
+                None => self.is_n = self.is_n || term.power > 0,
+            }
+        }
+    }
+
+    // Whether a form shares a symbol, or N, with what is reached. One without any is always taken.
+    fn touches(&self, form: &Form) -> bool {
+        let is_number = form
+            .terms()
+            .iter()
+            .all(|term| term.symbol.is_none() && term.power == 0);
+        is_number || form.terms().iter().any(|term| self.has(term))
+    }
+}
+
+// The greatest symbol of some forms.
+fn most_symbol(forms: &[Form]) -> u32 {
+    let mut most = 0;
+    for form in forms {
+        for term in form.terms() {
+            most = most.max(term.symbol.unwrap_or(0));
+        }
+    }
+    most
+}
+
+// Takes the constraints that touch what is reached, and says whether there were some.
+fn spread(constraints: &[Form], reached: &mut Reached, taken: &mut [bool]) -> bool {
+    let mut is_more = false;
+    for place in 0..constraints.len() {
+        if taken.get(place) == Some(&false) && reached.touches(&constraints[place]) {
+            if let Some(mark) = taken.get_mut(place) {
+                *mark = true;
+            }
+            reached.add(&constraints[place]);
+            is_more = true;
+        }
+    }
+    is_more
+}
+
+/// The places of the constraints that share a symbol with the seeds, or with another that does.
+pub fn relevant(
+    constraints: &[Form],
+    seeds: &[Form],
+    alloc: Global,
+) -> Result<Vec<usize>, PathFault> {
+    let mut reached = Reached::none(constraints, seeds, alloc)?;
+    for seed in seeds {
+        reached.add(seed);
+    }
+    let mut taken = Vec::from_elem(alloc, false, constraints.len())?;
+    for _ in 0..constraints.len() {
+        if !spread(constraints, &mut reached, &mut taken) {
+            break;
+        }
+    }
+    let mut places = Vec::new(alloc);
+    for place in 0..taken.len() {
+        if taken[place] {
+            places.push(place)?;
+        }
+    }
+    Ok(places)
+}

@@ -1,0 +1,133 @@
+//! Which shapes states have at the nodes of a macro, and which measures: what paths come to, where
+//! nothing is asked of numbers. Nothing is promised of what is found.
+ghost use Rattle.std.specs.Prelude.{◌<◌, ◌≤◌, length};
+
+use crate::cut::{Cut, case_of, copied_shape, is_same_shape};
+use crate::fault::PathFault;
+use crate::outcomes::{outcomes_at, passing};
+use crate::spot::Spot;
+use crate::targets::target;
+use std::alloc::Global;
+use teco_expansion::Nodes;
+use teco_linear::Form;
+use teco_model::Kind;
+use teco_rows::case::Case;
+use teco_rows::outcomes::Outcomes;
+
+// The most nodes with shapes that are gone through.
+const MOST_SHAPES: usize = 20_000;
+
+// Which measures a case has.
+fn present_in(forms: &[Option<Form>], alloc: Global) -> Result<Vec<bool>, PathFault> {
+    let mut present = Vec::new(alloc);
+    for form in forms {
+        present.push(form.is_some())?;
+    }
+    Ok(present)
+}
+
+// Whether two have the same measures.
+fn are_same(one: &[bool], other: &[bool]) -> bool {
+    for place in 0..one.len().max(other.len()) {
+        let here = one.get(place) == Some(&true);
+        let there = other.get(place) == Some(&true);
+        if here != there {
+            return false;
+        }
+    }
+    true
+}
+
+// The cut point of a spot, at which nothing is claimed.
+fn stand_of(spot: &Spot, alloc: Global) -> Result<Cut, PathFault> {
+    Ok(Cut {
+        number: spot.number,
+        shape: copied_shape(&spot.case.shape, alloc)?,
+        present: present_in(&spot.case.forms, alloc)?,
+        claims: Vec::new(alloc),
+    })
+}
+
+// Whether it is among those that were found.
+fn is_known(found: &[Cut], stand: &Cut) -> bool {
+    found.iter().any(|other| {
+        other.number == stand.number
+            && is_same_shape(&other.shape, &stand.shape)
+            && are_same(&other.present, &stand.present)
+    })
+}
+
+// What comes of the element of a node, or of the end of a text.
+fn outcomes_behind(
+    nodes: &Nodes<'_>,
+    number: usize,
+    case: &Case,
+    alloc: Global,
+) -> Result<Outcomes, PathFault>
+    requires one { 0 < number }
+    requires last { number ≤ length nodes.now }
+{
+    match nodes.element(number) {
+        Some(element) => match element.kind {
+            Kind::Call(_) => Ok(passing(case, alloc)?),
+            _ => outcomes_at(nodes, number, case, &element, alloc),
+        },
+        None => Ok(passing(case, alloc)?),
+    }
+}
+
+// Adds the spots of cases. Where it is not told to which node a way leads, it is left out.
+fn add_spots(
+    spots: &mut Vec<Spot>,
+    nodes: &Nodes<'_>,
+    number: usize,
+    is_away: bool,
+    cases: Vec<Case>,
+) -> Result<(), PathFault>
+    requires one { 0 < number }
+    requires last { number ≤ length nodes.now }
+{
+    let mut cases = cases;
+    for case in cases.iter_mut() {
+        case.constraints.clear();
+    }
+    for case in cases.into_iter() {
+        if let Ok(number) = target(nodes, number, is_away, &case) {
+            spots.push(Spot { number, case })?;
+        }
+    }
+    Ok(())
+}
+
+/// Goes through a macro from a case at its first node, and tells each node that is come to with its
+/// shapes.
+pub fn shapes(nodes: &Nodes<'_>, first: Case, alloc: Global) -> Result<Vec<Cut>, PathFault> {
+    let mut found = Vec::new(alloc);
+    let mut ahead = Vec::new(alloc);
+    ahead.push(Spot {
+        number: 1,
+        case: first,
+    })?;
+    for _ in 0..MOST_SHAPES {
+        let Some(spot) = ahead.pop() else {
+            return Ok(found);
+        };
+        if spot.number == 0 || spot.number > nodes.len() {
+            continue;
+        }
+        let stand = stand_of(&spot, alloc)?;
+        if is_known(&found, &stand) {
+            continue;
+        }
+        found.push(stand)?;
+        let outcomes = outcomes_behind(nodes, spot.number, &spot.case, alloc)?;
+        let Outcomes {
+            conditions: _conditions,
+            cases,
+            away,
+        } = outcomes;
+        add_spots(&mut ahead, nodes, spot.number, false, cases)?;
+        add_spots(&mut ahead, nodes, spot.number, true, away)?;
+    }
+    Err(PathFault::TooLong)
+}

@@ -1,0 +1,186 @@
+//! Claims as they are read, as cut points.
+ghost use Rattle.std.specs.Prelude.{◌<◌, ◌≤◌, length};
+
+use crate::cut::{Cut, copied_shape};
+use crate::fault::PathFault;
+use std::alloc::Global;
+use teco_expansion::Nodes;
+use teco_linear::{Form, Term};
+use teco_rows::measure::{Family, Measure, Single};
+
+// The measure that a state has once.
+fn single_of(single: teco_claims::Single) -> Single {
+    match single {
+        teco_claims::Single::Steps => Single::Steps,
+        teco_claims::Single::Pointer => Single::Pointer,
+        teco_claims::Single::Size => Single::Size,
+        teco_claims::Single::Held => Single::Held,
+        teco_claims::Single::LineEnd => Single::LineEnd,
+        teco_claims::Single::LineStart => Single::LineStart,
+        teco_claims::Single::LastLength => Single::LastLength,
+    }
+}
+
+// Which of the open iterations begins at an element, from 0 for the outermost.
+fn iteration_of(nodes: &Nodes<'_>, number: usize, begin: u32) -> Option<u32>
+    requires one { 0 < number }
+    requires last { number ≤ length nodes.now }
+{
+    let open = nodes.open(number);
+    for at in 0..open {
+        if nodes.iteration(number, at) == Some(begin as usize) {
+            return u32::try_from(open - 1 - at).ok();
+        }
+    }
+    None
+}
+
+// The measure of which is claimed at a node.
+fn measure_of(nodes: &Nodes<'_>, number: usize, measure: teco_claims::Measure) -> Option<Measure>
+    requires one { 0 < number }
+    requires last { number ≤ length nodes.now }
+{
+    match measure {
+        teco_claims::Measure::One(single) => Some(Measure::One(single_of(single))),
+        teco_claims::Measure::Number(register) => {
+            Some(Measure::Each(Family::Number, register.index() as u32))
+        }
+        teco_claims::Measure::Length(register) => {
+            Some(Measure::Each(Family::Length, register.index() as u32))
+        }
+        teco_claims::Measure::Turns(begin) => {
+            let at = iteration_of(nodes, number, begin)?;
+            Some(Measure::Each(Family::Turns, at))
+        }
+        teco_claims::Measure::PushedNumber(pair) => Some(Measure::Each(Family::PushedNumber, pair)),
+        teco_claims::Measure::PushedLength(pair) => Some(Measure::Each(Family::PushedLength, pair)),
+    }
+}
+
+// The greatest common divisor.
+fn common(one: u128, other: u128) -> u128 {
+    let (mut first, mut second) = (one, other);
+    for _ in 0..200 {
+        if second == 0 {
+            return first;
+        }
+        (first, second) = (second, first % second);
+    }
+    1
+}
+
+// The least number that all divisors of a claim divide.
+fn whole(claim: &teco_claims::Claim) -> Option<u128> {
+    let mut least = 1u128;
+    for term in &claim.terms {
+        let divisor = term.coefficient.divisor;
+        let shared = common(least, divisor);
+        if shared == 0 {
+            return None;
+        }
+        least = (least / shared).checked_mul(divisor)?;
+    }
+    Some(least)
+}
+
+// The coefficient of a term that is taken so many times.
+fn coefficient_of(term: &teco_claims::Term, times: u128) -> Option<i128> {
+    let divisor = term.coefficient.divisor;
+    if divisor == 0 {
+        return None;
+    }
+    let factor = (times / divisor).checked_mul(term.coefficient.numerator)?;
+    let number = i128::try_from(factor).ok()?;
+    if term.is_negative {
+        number.checked_neg()
+    } else {
+        Some(number)
+    }
+}
+
+// A term as one of a form.
+fn term_of(nodes: &Nodes<'_>, number: usize, term: &teco_claims::Term, times: u128) -> Option<Term>
+    requires one { 0 < number }
+    requires last { number ≤ length nodes.now }
+{
+    let coefficient = coefficient_of(term, times)?;
+    let symbol = match term.measure {
+        Some(measure) => {
+            let place = measure_of(nodes, number, measure)?.place();
+            Some(u32::try_from(place).ok()?)
+        }
+        None => None,
+    };
+    Some(Term {
+        symbol,
+        power: term.power,
+        coefficient,
+    })
+}
+
+// A claim at a node as a form.
+fn form_of(
+    nodes: &Nodes<'_>,
+    number: usize,
+    claim: &teco_claims::Claim,
+    alloc: Global,
+) -> Result<Form, PathFault>
+    requires one { 0 < number }
+    requires last { number ≤ length nodes.now }
+{
+    let Some(times) = whole(claim) else {
+        return Err(PathFault::Unknown);
+    };
+    let mut form = Form::zero(alloc);
+    for term in &claim.terms {
+        let Some(term) = term_of(nodes, number, term, times) else {
+            return Err(PathFault::Unread(number));
+        };
+        form = form.add(&Form::term(term, alloc)?, alloc)?;
+    }
+    Ok(form)
+}
+
+// A cut point with the shape that was found there.
+fn cut_of(
+    nodes: &Nodes<'_>,
+    cut: &teco_claims::Cut,
+    stand: &Cut,
+    alloc: Global,
+) -> Result<Cut, PathFault> {
+    let number = cut.point;
+    if number == 0 || number > nodes.len() {
+        return Err(PathFault::NoElement(number));
+    }
+    let mut claims = Vec::new(alloc);
+    for claim in &cut.claims {
+        claims.push(form_of(nodes, number, claim, alloc)?)?;
+    }
+    let mut present = Vec::new(alloc);
+    present.extend_from_slice(&stand.present)?;
+    Ok(Cut {
+        number,
+        shape: copied_shape(&stand.shape, alloc)?,
+        present,
+        claims,
+    })
+}
+
+/// The cut points of claims, each with the shapes that were found at its node. Those at the first
+/// node are left out: what is known at the entry is known without them.
+pub fn cuts_of(
+    nodes: &Nodes<'_>,
+    claimed: &teco_claims::Claims,
+    stands: &[Cut],
+    alloc: Global,
+) -> Result<Vec<Cut>, PathFault> {
+    let mut cuts = Vec::new(alloc);
+    for cut in &claimed.cuts {
+        for stand in stands {
+            if stand.number == cut.point && cut.point != 1 {
+                cuts.push(cut_of(nodes, cut, stand, alloc)?)?;
+            }
+        }
+    }
+    Ok(cuts)
+}
