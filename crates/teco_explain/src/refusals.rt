@@ -1,4 +1,7 @@
 //! What the refusals of the verifier mean.
+ghost use Rattle.std.specs.Prelude.{◌≡◌};
+ghost use Rattle.teco_explain.specs.Numbers as numbers;
+
 use crate::note::Note;
 use teco_verifier::Refusal;
 
@@ -25,7 +28,9 @@ pub const REFUSALS: [Refusal; 18] = [
 ];
 
 /// The number of a reason, from 1 to 18, as it is printed behind an X.
-pub fn number_of(refusal: Refusal) -> u8 {
+pub fn number_of(refusal: Refusal) -> u8
+    ensures { result ≡ numbers.number_of refusal }
+{
     match refusal {
         Refusal::Library => 1,
         Refusal::Fault => 2,

@@ -17,7 +17,8 @@ const NO_REFUSALS: &str = "X0 X19 X 7  Y1 X-1";
 
 // The number of the refusal of a name.
 fn number_named(name: &str) -> Option<usize> {
-    refusal_numbered(name).map(number_of).map(usize::from)
+    let refusal = refusal_numbered(name)?;
+    Some(usize::from(number_of(refusal)))
 }
 
 #[test]

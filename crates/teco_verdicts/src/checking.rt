@@ -1,6 +1,7 @@
 //! `check`: certificates are checked.
-ghost use Rattle.std.specs.Prelude.{◌≡◌, IfOk};
-ghost use Rattle.teco_verdicts.specs.Certificates.{IsCertificate};
+ghost use Rattle.std.specs.Prelude.{◌≡◌, IfOk, codes};
+ghost use Rattle.teco_verdicts.specs.Answers.{Answers, AnswersFor, CheckIn, ChecksFor, OfText, Refuses};
+ghost use Rattle.teco_verdicts.specs.Output.{Writes};
 ghost use Rattle.teco_verdicts.specs.declared.outcome.Outcome.TheVariants.{Done, Refused};
 
 use crate::blame::tell_premise;
@@ -9,12 +10,14 @@ use crate::console::Console;
 use crate::dollars::tell_dollars;
 use crate::editions::{Editions, tell_edition};
 use crate::fault::AnswerFault;
-use crate::library::{Sourced, explained, read_library};
+use crate::files::Shelf;
+use crate::library::{Sourced, explained, library_of};
 use crate::outcome::Outcome;
 use crate::request::Request;
 use crate::verdict::Verdict;
-use std::io::{Input, Write};
-use std::rt::Files;
+use crate::verifying::refuse;
+use crate::written::read_source;
+use std::io::Write;
 use teco_base::Reg;
 use teco_source::{Shown, Source};
 use teco_verifier::Rules;
@@ -57,7 +60,9 @@ fn tell_difference<O: Write + Drop, E: Write + Drop>(
     name: &str,
     found: &[u8],
     wanted: &[u8],
-) {
+)
+    ensures { console.new.out ≡ console.old.out }
+{
     let name = Shown(name.as_bytes());
     match first_difference(found, wanted) {
         None => console.say(format_args!("{name}: its line ends are not those of a certificate")),
@@ -92,7 +97,9 @@ fn tell_other_edition<O: Write + Drop, E: Write + Drop>(
     console: &mut Console<O, E>,
     name: &str,
     edition: Rules,
-) {
+)
+    ensures { console.new.out ≡ console.old.out }
+{
     let name = Shown(name.as_bytes());
     let (edition, option) = match edition {
         Rules::First => ("first", 1),
@@ -109,7 +116,9 @@ fn tell_wanted<O: Write + Drop, E: Write + Drop>(
     console: &mut Console<O, E>,
     claim: &Claim<'_>,
     verified: &Verified<'_>,
-) -> Result<(), AnswerFault> {
+) -> Result<(), AnswerFault>
+    ensures { console.new.out ≡ console.old.out }
+{
     let wanted = verified.certificate(console.alloc)?;
     tell_difference(console, claim.name, &claim.bytes, &wanted);
     Ok(())
@@ -121,7 +130,9 @@ fn tell_refusal<O: Write + Drop, E: Write + Drop>(
     source: &Source,
     refusal: &Refusal,
     rules: Rules,
-) {
+)
+    ensures { console.new.out ≡ console.old.out }
+{
     if let Some(told) = explained(source, refusal, rules) {
         console.say(told);
     }
@@ -134,7 +145,9 @@ fn tell_why<O: Write + Drop, E: Write + Drop>(
     sourced: &Sourced,
     entry: Reg,
     claim: &Claim<'_>,
-) -> Result<(), AnswerFault> {
+) -> Result<(), AnswerFault>
+    ensures { console.new.out ≡ console.old.out }
+{
     let rules = claim.edition_among(sourced.editions);
     match verify_by(console.alloc, &sourced.library, entry, rules) {
         Ok(verified) => tell_wanted(console, claim, &verified),
@@ -146,6 +159,7 @@ fn tell_why<O: Write + Drop, E: Write + Drop>(
 }
 
 /// Prints why a certificate is refused, and says in which line it is another.
+#[tactic(auto, using(crate::proofs::Fronts::nothing, crate::proofs::Fronts::whole_front))]
 pub fn refuse_claim<O: Write + Drop, E: Write + Drop>(
     console: &mut Console<O, E>,
     sourced: &Sourced,
@@ -153,7 +167,9 @@ pub fn refuse_claim<O: Write + Drop, E: Write + Drop>(
     claim: &Claim<'_>,
     refusal: Refusal,
 ) -> Result<Outcome, AnswerFault>
-    ensures { IfOk result (λ outcome. outcome ≡ Refused) }
+    ensures outcome { IfOk result (λ outcome. outcome ≡ Refused) }
+    ensures line { Refuses (O.contents console.old.out) (O.contents console.new.out) refusal
+        result }
 {
     let Some(verdict) = Verdict::of(&refusal) else {
         return Err(AnswerFault::Memory);
@@ -167,11 +183,16 @@ pub fn refuse_claim<O: Write + Drop, E: Write + Drop>(
 }
 
 // Says that a certificate is accepted.
+#[tactic(auto, using(crate::proofs::Fronts::whole_front))]
 fn tell_accepted<O: Write + Drop, E: Write + Drop>(
     console: &mut Console<O, E>,
     sourced: &Sourced,
     verified: &Verified<'_>,
-) -> Result<Outcome, AnswerFault> {
+) -> Result<Outcome, AnswerFault>
+    ensures outcome { IfOk result (λ outcome. outcome ≡ Done) }
+    ensures line { Writes (O.contents console.old.out) (O.contents console.new.out)
+        (codes "accepted\n") result }
+{
     console.answer("accepted\n")?;
     tell_edition(&mut console.voice, sourced.editions, verified);
     tell_premise(&mut console.voice, &sourced.source, verified)?;
@@ -179,14 +200,15 @@ fn tell_accepted<O: Write + Drop, E: Write + Drop>(
 }
 
 // Accepts a certificate, or says why not.
+#[tactic(auto, using(crate::proofs::Answering::of_accepted, crate::proofs::Answering::of_denied))]
 fn check_claim<O: Write + Drop, E: Write + Drop>(
     console: &mut Console<O, E>,
     sourced: &Sourced,
     entry: Reg,
     claim: &Claim<'_>,
 ) -> Result<Outcome, AnswerFault>
-    ensures { IfOk result (λ outcome. outcome ≡ Done
-        → IsCertificate sourced.now.library entry claim.now.bytes.items) }
+    ensures { Answers (CheckIn sourced.now.editions claim.now.bytes.items sourced.now.library entry)
+        (O.contents console.old.out) (O.contents console.new.out) result }
 {
     match claim.accept(console.alloc, &sourced.library, entry, sourced.editions) {
         Ok(verified) => {
@@ -197,28 +219,58 @@ fn check_claim<O: Write + Drop, E: Write + Drop>(
     }
 }
 
+// Checks a certificate of a macro of the library that a source says.
+#[tactic(auto, using(crate::proofs::Answering::of_library, crate::proofs::Answering::of_no_library))]
+fn check_source<O: Write + Drop, E: Write + Drop>(
+    console: &mut Console<O, E>,
+    source: Source,
+    editions: Editions,
+    entry: Reg,
+    claim: &Claim<'_>,
+) -> Result<Outcome, AnswerFault>
+    ensures { Answers (OfText (λ library. CheckIn editions claim.now.bytes.items library entry)
+        source) (O.contents console.old.out) (O.contents console.new.out) result }
+{
+    match library_of(console.alloc, &source) {
+        Ok(library) => {
+            let sourced = Sourced {
+                source,
+                library,
+                editions,
+            };
+            check_claim(console, &sourced, entry, claim)
+        }
+        Err(refusal) => refuse(console, &source, refusal, Rules::First),
+    }
+}
+
 // Checks a certificate of a macro of the library that a request names.
-fn check_in<R: Files + Input, O: Write + Drop, E: Write + Drop>(
+fn check_in<R: Shelf, O: Write + Drop, E: Write + Drop>(
     rt: &R,
     console: &mut Console<O, E>,
     request: Request<'_>,
     entry: Reg,
     claim: &Claim<'_>,
-) -> Result<Outcome, AnswerFault> {
-    match read_library(rt, console, request)? {
-        Some(sourced) => check_claim(console, &sourced, entry, claim),
-        None => Ok(Outcome::Refused),
-    }
+) -> Result<Outcome, AnswerFault>
+    ensures { AnswersFor (R.holds rt.now) request.entry
+        (λ library. CheckIn request.entry.editions claim.now.bytes.items library entry)
+        (O.contents console.old.out) (O.contents console.new.out) result }
+{
+    let source = read_source(rt, console.alloc, request)?;
+    check_source(console, source, request.editions, entry, claim)
 }
 
 /// Checks a certificate of a macro of a library.
-pub fn check_macro<R: Files + Input, O: Write + Drop, E: Write + Drop>(
+pub fn check_macro<R: Shelf, O: Write + Drop, E: Write + Drop>(
     rt: &R,
     console: &mut Console<O, E>,
     request: Request<'_>,
     entry: Reg,
     name: &str,
-) -> Result<Outcome, AnswerFault> {
+) -> Result<Outcome, AnswerFault>
+    ensures { ChecksFor (R.holds rt.now) request.entry entry name.now
+        (O.contents console.old.out) (O.contents console.new.out) result }
+{
     let claim = Claim::read(rt, console.alloc, name)?;
     check_in(rt, console, request, entry, &claim)
 }

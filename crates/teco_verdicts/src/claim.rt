@@ -1,15 +1,17 @@
 //! Certificates in files.
 ghost use Rattle.std.specs.Prelude.{◌≡◌, ◌≤◌, IfOk, IfSome, vec_len};
+ghost use Rattle.std.specs.Result.{IfErr};
 ghost use Rattle.teco_base.specs.declared.TheConstants.{LIMIT};
 ghost use Rattle.teco_certificate.specs.Text.{certificate_text};
+ghost use Rattle.teco_verdicts.specs.Answers.{IsDeniedBy};
+ghost use Rattle.teco_verdicts.specs.Certificates.{IsAmong};
 ghost use Rattle.teco_verify.specs.Certified.{TakesDeclared};
+ghost use Rattle.teco_verify.specs.Refusing.{IsOfCertificate};
 
 use crate::editions::Editions;
 use crate::fault::AnswerFault;
-use crate::files::read_file;
+use crate::files::{Shelf, read_file};
 use std::alloc::Global;
-use std::io::Input;
-use std::rt::Files;
 use teco_base::Reg;
 use teco_base::bytes::LF;
 use teco_library::Library;
@@ -52,18 +54,19 @@ pub struct Claim<'a> {
 
 impl<'a> Claim<'a> {
     /// Reads the file of a name.
-    pub fn read<R: Files + Input>(
-        rt: &R,
-        alloc: Global,
-        name: &'a str,
-    ) -> Result<Claim<'a>, AnswerFault> {
+    pub fn read<R: Shelf>(rt: &R, alloc: Global, name: &'a str) -> Result<Claim<'a>, AnswerFault>
+        ensures { IfOk result (λ claim. IfSome (R.holds rt.now name.now)
+            (λ told. claim.bytes.items ≡ told)) }
+    {
         let bytes = read_file(rt, alloc, name)?;
         Ok(Claim { name, bytes })
     }
 
     /// The edition by which it is checked, of these: the one that it says it is of, where there are
     /// two.
-    pub fn edition_among(&self, editions: Editions) -> Rules {
+    pub fn edition_among(&self, editions: Editions) -> Rules
+        ensures { IsAmong editions result }
+    {
         match editions {
             Editions::Only(rules) => rules,
             Editions::Best => edition_of(&self.bytes),
@@ -71,6 +74,7 @@ impl<'a> Claim<'a> {
     }
 
     /// The macro that it is the certificate of by one of these editions, if that is the entry.
+    #[tactic(auto, using(crate::proofs::Answering::denied_by, crate::proofs::Answering::denied_other))]
     pub fn accept<'l>(
         &self,
         alloc: Global,
@@ -81,8 +85,11 @@ impl<'a> Claim<'a> {
         ensures library { IfOk result (λ verified. verified.library ≡ library.now.texts) }
         ensures declared { IfOk result (λ verified. TakesDeclared library.now verified.fields) }
         ensures entry { IfOk result (λ verified. verified.fields.entry ≡ entry) }
+        ensures rules { IfOk result (λ verified. IsAmong editions verified.fields.rules) }
         ensures text { IfOk result (λ verified. certificate_text verified.fields
             ≡ self.now.bytes.items) }
+        ensures refused { IfErr result IsOfCertificate }
+        ensures denied { IfErr result (IsDeniedBy editions self.now.bytes.items library.now entry) }
     {
         let rules = self.edition_among(editions);
         let verified = check_certificate_by(alloc, library, &self.bytes, rules)?;
@@ -95,7 +102,7 @@ impl<'a> Claim<'a> {
 }
 
 /// Reads the certificate of a name, if one is named.
-pub fn read_claim<'a, R: Files + Input>(
+pub fn read_claim<'a, R: Shelf>(
     rt: &R,
     alloc: Global,
     name: Option<&'a str>,

@@ -1,6 +1,10 @@
 //! Where the program writes: its answers, and what it says of them to people.
+ghost use Rattle.std.specs.Prelude.{◌≡◌, ◌≤◌, IfOk, IfSome, OnErr, length, take};
+ghost use Rattle.std.specs.Io.KnownBytes.{Appends, Keeps};
+ghost use Rattle.teco_verdicts.specs.Output.{Writes};
+
 use std::alloc::Global;
-use std::io::Write;
+use std::io::{ErrorKind, Write};
 use std::{fmt, io};
 
 /// What is said to people, a message at a time.
@@ -81,6 +85,50 @@ impl<E: Write + Drop> Voice<E> {
     }
 }
 
+// Writes some of the bytes, from the front, and says how many.
+fn write_some<W: Write>(writer: &mut W, bytes: &[u8]) -> io::Result<usize>
+    ensures bound { IfOk result (λ n. n ≤ length bytes.now) }
+    ensures ok { IfOk result (λ n.
+        Appends (W.contents writer.old) (W.contents writer.new) (take n bytes.now)) }
+    ensures kept { OnErr result (Keeps (W.contents writer.old) (W.contents writer.new)) }
+{
+    for _ in 0..u64::MAX {
+        match writer.write(bytes) {
+            Ok(n) => return Ok(n),
+            Err(error) => {
+                if error.kind() != ErrorKind::Interrupted {
+                    return Err(error);
+                }
+            }
+        }
+    }
+    Err(unwritten())
+}
+
+// Nothing more is taken by a writer.
+fn unwritten() -> io::Error {
+    io::Error::new(ErrorKind::WriteZero, "failed to write whole buffer")
+}
+
+/// Writes all of the bytes, or with a fault a front of them.
+#[tactic(auto, using(crate::proofs::Fronts::kept_front))]
+pub fn write_bytes<W: Write>(writer: &mut W, bytes: &[u8]) -> io::Result<()>
+    ensures { Writes (W.contents writer.old) (W.contents writer.new) bytes.now result }
+{
+    let mut written = 0;
+    for _ in 0..u64::MAX {
+        if written == bytes.len() {
+            return Ok(());
+        }
+        let more = write_some(writer, &bytes[written..])?;
+        if more == 0 {
+            return Err(unwritten());
+        }
+        written += more;
+    }
+    Err(unwritten())
+}
+
 /// A writer for what was asked for, and a voice for what is said of it.
 #[derive(Drop)]
 pub struct Console<O: Write + Drop, E: Write + Drop> {
@@ -126,13 +174,18 @@ impl<O: Write + Drop, E: Write + Drop> Console<O, E> {
     }
 
     /// Writes an answer, in one piece.
-    pub fn answer<D: fmt::Display + Drop>(&mut self, answer: D) -> io::Result<()> {
+    pub fn answer<D: fmt::Display + Drop>(&mut self, answer: D) -> io::Result<()>
+        ensures { IfSome (D.output answer) (λ text.
+            Writes (O.contents self.old.out) (O.contents self.new.out) text result) }
+    {
         let text = format!(in self.alloc; "{answer}")?;
-        self.out.write_all(text.as_bytes())
+        write_bytes(&mut self.out, text.as_bytes())
     }
 
     /// Says a message.
-    pub fn say<D: fmt::Display + Drop>(&mut self, message: D) {
+    pub fn say<D: fmt::Display + Drop>(&mut self, message: D)
+        ensures { self.new.out ≡ self.old.out }
+    {
         self.voice.say(message);
     }
 

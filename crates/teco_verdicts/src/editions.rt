@@ -1,6 +1,10 @@
 //! By which editions of the rules macros are verified.
-ghost use Rattle.std.specs.Prelude.{◌≡◌, IfOk};
+ghost use Rattle.std.specs.Prelude.{◌≡◌, IfOk, None};
+ghost use Rattle.std.specs.Result.{IfErr};
+ghost use Rattle.teco_verdicts.specs.Answers.{IsRefusal, IsStraightVerdict};
+ghost use Rattle.teco_verdicts.specs.Certificates.{IsAmong, newest_of};
 ghost use Rattle.teco_verify.specs.Certified.{TakesDeclared};
+ghost use Rattle.teco_verifier.specs.declared.rules.Rules.TheVariants.{Second};
 
 use crate::console::Voice;
 use crate::premise::Premise;
@@ -36,7 +40,9 @@ const AMPLE: u64 = 16_777_216;
 
 // For how many lengths of texts a macro promises something, from the empty text on; for none where
 // it isn't accepted.
-fn reach(verified: Option<&Verified<'_>>) -> u64 {
+fn reach(verified: Option<&Verified<'_>>) -> u64
+    ensures { verified.entry ≡ None → result ≡ 0 }
+{
     let longest = verified.and_then(|verified| Premise::of_macro(verified).longest());
     longest.map_or(0, |longest| longest.saturating_add(1))
 }
@@ -65,6 +71,7 @@ fn verify_by_best<'l>(
 }
 
 // What the verifier knows of a macro by the edition whose verdict is taken.
+#[tactic(auto, using(crate::proofs::Answering::straight_verdict))]
 fn account_by_best<'l>(
     alloc: Global,
     library: &'l Library,
@@ -76,6 +83,9 @@ fn account_by_best<'l>(
         (λ verified. TakesDeclared library.now verified.fields)) }
     ensures entry { IfOk result (λ told. IfOk told.verdict
         (λ verified. verified.fields.entry ≡ entry)) }
+    ensures straight { IfOk result (λ told. IsStraightVerdict library.now entry told.verdict) }
+    ensures refused { IfOk result (λ told. IfErr told.verdict
+        (IsRefusal Second library.now entry)) }
 {
     let first = account_by(alloc, library, entry, Rules::First)?;
     if reach(first.verdict().ok()) > AMPLE {
@@ -90,7 +100,9 @@ fn account_by_best<'l>(
 
 impl Editions {
     /// The newest of them, whose refusal is reported where each refuses.
-    pub fn newest(self) -> Rules {
+    pub fn newest(self) -> Rules
+        ensures { result ≡ newest_of self }
+    {
         match self {
             Editions::Only(rules) => rules,
             Editions::Best => Rules::Second,
@@ -108,6 +120,7 @@ impl Editions {
         ensures library { IfOk result (λ verified. verified.library ≡ library.now.texts) }
         ensures declared { IfOk result (λ verified. TakesDeclared library.now verified.fields) }
         ensures entry { IfOk result (λ verified. verified.fields.entry ≡ entry) }
+        ensures rules { IfOk result (λ verified. IsAmong self verified.fields.rules) }
     {
         match self {
             Editions::Only(rules) => verify_by(alloc, library, entry, rules),
@@ -116,6 +129,7 @@ impl Editions {
     }
 
     /// What the verifier knows of a macro of a library by the edition whose verdict is taken.
+    #[tactic(auto, using(crate::proofs::Answering::straight_verdict))]
     pub fn account<'l>(
         self,
         alloc: Global,
@@ -128,6 +142,11 @@ impl Editions {
             (λ verified. TakesDeclared library.now verified.fields)) }
         ensures entry { IfOk result (λ told. IfOk told.verdict
             (λ verified. verified.fields.entry ≡ entry)) }
+        ensures rules { IfOk result (λ told. IfOk told.verdict
+            (λ verified. IsAmong self verified.fields.rules)) }
+        ensures straight { IfOk result (λ told. IsStraightVerdict library.now entry told.verdict) }
+        ensures refused { IfOk result (λ told. IfErr told.verdict
+            (IsRefusal (newest_of self) library.now entry)) }
     {
         match self {
             Editions::Only(rules) => account_by(alloc, library, entry, rules),

@@ -1,8 +1,11 @@
 //! `explain` of a macro: its elements, and what is known before each.
+ghost use Rattle.std.specs.Prelude.{◌≡◌};
+
 use crate::blame::tell_premise;
 use crate::console::Console;
 use crate::editions::tell_edition;
 use crate::fault::{AnswerFault, written};
+use crate::files::Shelf;
 use crate::known::{words_of, words_of_choice};
 use crate::library::{Sourced, read_library};
 use crate::naming::element_at;
@@ -11,8 +14,7 @@ use crate::request::Request;
 use crate::verdict::Verdict;
 use crate::verifying::{refuse, tell_second_edition};
 use std::alloc::{AllocError, Global};
-use std::io::{Input, Write};
-use std::rt::Files;
+use std::io::Write;
 use teco_base::Reg;
 use teco_library::Library;
 use teco_source::{Position, Shown};
@@ -111,7 +113,9 @@ fn list_elements<O: Write + Drop, E: Write + Drop>(
 pub fn tell_known<O: Write + Drop, E: Write + Drop>(
     console: &mut Console<O, E>,
     account: &Account<'_>,
-) -> Result<(), AnswerFault> {
+) -> Result<(), AnswerFault>
+    ensures { console.new.out ≡ console.old.out }
+{
     let Some(number) = account.stop() else {
         return Ok(());
     };
@@ -177,7 +181,7 @@ fn explain_by_both<O: Write + Drop, E: Write + Drop>(
 
 /// Lists the elements that a macro of a library comes to, up to the one at which it is refused,
 /// with what is known before each, what is chosen for each iteration, and the verdict.
-pub fn explain_macro<R: Files + Input, O: Write + Drop, E: Write + Drop>(
+pub fn explain_macro<R: Shelf, O: Write + Drop, E: Write + Drop>(
     rt: &R,
     console: &mut Console<O, E>,
     request: Request<'_>,

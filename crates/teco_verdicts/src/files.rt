@@ -1,5 +1,5 @@
 //! Files that are read whole.
-ghost use Rattle.std.specs.Prelude.{◌≤◌, IfOk, length, vec_len};
+ghost use Rattle.std.specs.Prelude.{◌≡◌, ◌≤◌, ℕ, List, Option, None, IfOk, IfSome, length, vec_len};
 ghost use Rattle.teco_base.specs.declared.TheConstants.{LIMIT};
 
 use crate::fault::AnswerFault;
@@ -41,18 +41,31 @@ fn read_all<F: Read + Drop>(alloc: Global, reader: F) -> io::Result<Vec<u8>> {
     Ok(bytes)
 }
 
-// Reads a file, or standard input.
-fn read_named<R: Files + Input>(rt: &R, alloc: Global, name: &str) -> io::Result<Vec<u8>> {
-    if name == STREAM {
-        read_all(alloc, rt.reader())
-    } else {
-        read_all(alloc, fs::open(rt, name)?)
+/// Files that are read whole, by their names; that of standard input is `-`.
+pub trait Shelf {
+    /// What the file of a name has, where that is told.
+    ghost holds: { Self → List ℕ → Option (List ℕ) } = { λ _ _. None };
+
+    /// Reads a file; of one that has more than `LIMIT` bytes, one more than these.
+    fn read_named(&self, alloc: Global, name: &str) -> io::Result<Vec<u8>>
+        ensures { IfOk result (λ bytes. vec_len bytes ≤ LIMIT
+            → IfSome (holds self.now name.now) (λ told. bytes.items ≡ told)) };
+}
+
+impl<R: Files + Input> Shelf for R {
+    fn read_named(&self, alloc: Global, name: &str) -> io::Result<Vec<u8>> {
+        if name == STREAM {
+            read_all(alloc, self.reader())
+        } else {
+            read_all(alloc, fs::open(self, name)?)
+        }
     }
 }
 
 // The bytes of a file, if they are not too many.
 fn within_limit(alloc: Global, name: &str, bytes: Vec<u8>) -> Result<Vec<u8>, AnswerFault>
-    ensures { IfOk result (λ bytes. vec_len bytes ≤ LIMIT) }
+    ensures within { IfOk result (λ bytes. vec_len bytes ≤ LIMIT) }
+    ensures same { IfOk result (λ kept. kept ≡ bytes) }
 {
     if bytes.len() > LIMIT {
         Err(too_long(alloc, name))
@@ -62,14 +75,12 @@ fn within_limit(alloc: Global, name: &str, bytes: Vec<u8>) -> Result<Vec<u8>, An
 }
 
 /// Reads a file of at most `LIMIT` bytes; `-` is standard input.
-pub fn read_file<R: Files + Input>(
-    rt: &R,
-    alloc: Global,
-    name: &str,
-) -> Result<Vec<u8>, AnswerFault>
-    ensures { IfOk result (λ bytes. vec_len bytes ≤ LIMIT) }
+pub fn read_file<R: Shelf>(rt: &R, alloc: Global, name: &str) -> Result<Vec<u8>, AnswerFault>
+    ensures within { IfOk result (λ bytes. vec_len bytes ≤ LIMIT) }
+    ensures told { IfOk result (λ bytes. IfSome (R.holds rt.now name.now)
+        (λ told. bytes.items ≡ told)) }
 {
-    match read_named(rt, alloc, name) {
+    match rt.read_named(alloc, name) {
         Err(reason) => Err(unread(alloc, name, reason)),
         Ok(bytes) => within_limit(alloc, name, bytes),
     }

@@ -1,4 +1,8 @@
 //! How files and words of the command line write ESC.
+ghost use Rattle.std.specs.Prelude.{◌≡◌, ◌↔◌, IsTrue};
+ghost use Rattle.teco_verdicts.specs.Sources.{EndsIn, IsFileForm, word_form};
+ghost use Rattle.teco_verdicts.specs.declared.forms.TheConstants.{READABLE};
+
 use teco_base::bytes::ESC;
 use teco_source::Form;
 
@@ -14,17 +18,30 @@ pub enum Escape {
 /// What the names of files end in that are in the readable form.
 pub const READABLE: &str = ".tes";
 
+/// Is the name one of a file in the readable form?
+pub fn is_readable_name(name: &str) -> bool
+    ensures { IsTrue result ↔ EndsIn READABLE.now name.now }
+{
+    let name = name.as_bytes();
+    let front = name.len().saturating_sub(READABLE.len());
+    &name[front..] == READABLE.as_bytes()
+}
+
 /// The form of a file of a name.
-pub fn form_of(name: &str, escape: Escape) -> Form {
+pub fn form_of(name: &str, escape: Escape) -> Form
+    ensures { IsFileForm escape name.now result }
+{
     match escape {
         Escape::Mark(mark) => Form::Marked(mark),
-        Escape::ByName if name.ends_with(READABLE) => Form::Readable,
+        Escape::ByName if is_readable_name(name) => Form::Readable,
         Escape::ByName => Form::Marked(ESC),
     }
 }
 
 /// The form of a text on the command line.
-pub fn form_of_word(escape: Escape) -> Form {
+pub fn form_of_word(escape: Escape) -> Form
+    ensures { result ≡ word_form escape }
+{
     match escape {
         Escape::Mark(mark) => Form::Marked(mark),
         Escape::ByName => Form::Readable,

@@ -1,4 +1,8 @@
 //! Texts for registers, without the command that gives them these.
+ghost use Rattle.std.specs.Prelude.{◌≡◌, ◌++◌, List, ℕ, IfOk, IfSome};
+ghost use Rattle.std.specs.List.{Contains};
+ghost use Rattle.teco_verdicts.specs.Sources.{IsGivenBehind};
+
 use crate::fault::AnswerFault;
 use std::alloc::Global;
 use teco_base::Reg;
@@ -9,7 +13,9 @@ use teco_source::{Addition, Form, Source};
 const CONTROL_U: u8 = 0x15;
 
 // A byte to end a text by that is none of those that say it; none where they are all.
-fn delimiter_for(bytes: &[u8]) -> Option<u8> {
+fn delimiter_for(bytes: &[u8]) -> Option<u8>
+    ensures { IfSome result (λ byte. ¬ Contains bytes.now byte) }
+{
     (1..=u8::MAX).find(|byte| *byte != ESC && !bytes.contains(byte))
 }
 
@@ -24,7 +30,10 @@ pub struct Given<'a> {
 }
 
 /// A source with a text more for a register, behind all that it says.
-pub fn with_text(alloc: Global, source: Source, given: Given<'_>) -> Result<Source, AnswerFault> {
+pub fn with_text(alloc: Global, source: Source, given: Given<'_>) -> Result<Source, AnswerFault>
+    ensures { IfOk result (λ text.
+        IsGivenBehind source given.entry.register given.entry.form given.entry.bytes.items text) }
+{
     let Some(delimiter) = delimiter_for(&given.bytes) else {
         return Err(AnswerFault::NoDelimiter);
     };

@@ -2,6 +2,7 @@
 use crate::console::Console;
 use crate::editions::Editions;
 use crate::fault::AnswerFault;
+use crate::files::Shelf;
 use crate::library::{NAMES, library_of, macro_named};
 use crate::outcome::Outcome;
 use crate::premise::Premise;
@@ -10,8 +11,7 @@ use crate::verdict::Verdict;
 use crate::written::read_source;
 use std::alloc::{AllocError, Global};
 use std::fmt;
-use std::io::{Input, Write};
-use std::rt::Files;
+use std::io::Write;
 use teco_base::Reg;
 use teco_explain::{number_of, position_in};
 use teco_library::Library;
@@ -200,7 +200,7 @@ fn answer_macro<O: Write + Drop, E: Write + Drop>(
 }
 
 /// Verifies a macro of a library, and prints the verdict as an object of JSON.
-pub fn verify_macro_as_json<R: Files + Input, O: Write + Drop, E: Write + Drop>(
+pub fn verify_macro_as_json<R: Shelf, O: Write + Drop, E: Write + Drop>(
     rt: &R,
     console: &mut Console<O, E>,
     request: Request<'_>,
@@ -240,7 +240,7 @@ fn answer_library<O: Write + Drop, E: Write + Drop>(
 
 /// Verifies each macro of a library, A to Z and then 0 to 9, and prints an object of JSON for each,
 /// in a line of its own.
-pub fn verify_library_as_json<R: Files + Input, O: Write + Drop, E: Write + Drop>(
+pub fn verify_library_as_json<R: Shelf, O: Write + Drop, E: Write + Drop>(
     rt: &R,
     console: &mut Console<O, E>,
     request: Request<'_>,

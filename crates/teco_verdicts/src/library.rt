@@ -1,18 +1,20 @@
 //! Library files with their sources.
 ghost use Rattle.std.specs.Prelude.{◌≤◌, IfOk, length, vec_len};
+ghost use Rattle.std.specs.Result.{IfErr};
 ghost use Rattle.teco_base.specs.declared.TheConstants.{LIMIT};
 ghost use Rattle.teco_library.specs.Reads.{Reads};
+ghost use Rattle.teco_verdicts.specs.Answers.{ReadsNone};
 
 use crate::console::Console;
 use crate::editions::Editions;
 use crate::fault::AnswerFault;
+use crate::files::Shelf;
 use crate::request::Request;
 use crate::setting::Setting;
 use crate::verifying::refuse;
 use crate::written::{Written, read_source};
 use std::alloc::Global;
-use std::io::{Input, Write};
-use std::rt::Files;
+use std::io::Write;
 use teco_base::{LIMIT, Reg};
 use teco_explain::Explained;
 use teco_library::{Library, LibraryFault};
@@ -22,7 +24,8 @@ use teco_verify::Refusal;
 
 /// The library that a source says.
 pub fn library_of(alloc: Global, source: &Source) -> Result<Library, Refusal>
-    ensures { IfOk result (λ library. Reads source.now (Ok library)) }
+    ensures library { IfOk result (λ library. Reads source.now (Ok library)) }
+    ensures none { IfErr result (ReadsNone source.now) }
 {
     if source.text().len() > LIMIT {
         return Err(Refusal::Memory);
@@ -66,7 +69,7 @@ fn library_in<O: Write + Drop, E: Write + Drop>(
 }
 
 /// Reads a library. Where the file is none, the refusal is printed, and there is none.
-pub fn read_library<R: Files + Input, O: Write + Drop, E: Write + Drop>(
+pub fn read_library<R: Shelf, O: Write + Drop, E: Write + Drop>(
     rt: &R,
     console: &mut Console<O, E>,
     request: Request<'_>,
@@ -124,7 +127,7 @@ fn fixed_library<O: Write + Drop, E: Write + Drop>(
 
 /// Reads a library for the run of a macro. What registers are given is a part of it, if that may be
 /// and the macro does not write it. Where the file is none, the refusal is printed, and there is none.
-pub fn read_library_for<R: Files + Input, O: Write + Drop, E: Write + Drop>(
+pub fn read_library_for<R: Shelf, O: Write + Drop, E: Write + Drop>(
     rt: &R,
     console: &mut Console<O, E>,
     request: Request<'_>,

@@ -3,11 +3,9 @@ ghost use Rattle.std.specs.Prelude.{◌≤◌, length};
 ghost use Rattle.teco_base.specs.declared.TheConstants.{LIMIT};
 
 use crate::fault::AnswerFault;
-use crate::files::read_file;
+use crate::files::{Shelf, read_file};
 use crate::forms::{Escape, form_of_word};
 use std::alloc::{AllocError, Global};
-use std::io::Input;
-use std::rt::Files;
 use teco_base::{LIMIT, Reg};
 
 /// A word of the command line that gives a register a text, as `A=TEXT`.
@@ -30,7 +28,7 @@ impl Setting {
 
     /// Reads a word that names the file which has the text, as `A=PATH`; none where it is no such
     /// word.
-    pub fn read_file<R: Files + Input>(
+    pub fn read_file<R: Shelf>(
         rt: &R,
         alloc: Global,
         word: &str,

@@ -1,12 +1,12 @@
 //! `show` and `explain`: texts and words for people.
 use crate::console::Console;
 use crate::fault::AnswerFault;
+use crate::files::Shelf;
 use crate::forms::Escape;
 use crate::naming::letters;
 use crate::outcome::Outcome;
 use crate::written::read_text;
-use std::io::{Input, Write};
-use std::rt::Files;
+use std::io::Write;
 use teco_explain::{
     CODES, Outline, REFUSALS, SECTIONS, code_named, command_named, near_words, note_of_code,
     note_of_refusal, number_of, refusal_numbered,
@@ -14,7 +14,7 @@ use teco_explain::{
 use teco_source::{Form, Shown, Source};
 
 /// Prints the text of a file as its elements, safe for a terminal, with a character for ESC.
-pub fn show<R: Files + Input, O: Write + Drop, E: Write + Drop>(
+pub fn show<R: Shelf, O: Write + Drop, E: Write + Drop>(
     rt: &R,
     console: &mut Console<O, E>,
     name: &str,
@@ -70,7 +70,7 @@ fn print_in<O: Write + Drop, E: Write + Drop>(
 /// Prints the source that says a text in a form, which reads as the same bytes. Where the text has
 /// none, because it has the mark in it or in the readable form a caret right before ESC, that is
 /// said.
-pub fn show_source<R: Files + Input, O: Write + Drop, E: Write + Drop>(
+pub fn show_source<R: Shelf, O: Write + Drop, E: Write + Drop>(
     rt: &R,
     console: &mut Console<O, E>,
     name: &str,

@@ -1,4 +1,7 @@
 //! The lines that a verdict is printed as.
+ghost use Rattle.std.specs.Prelude.{◌≡◌, Some};
+ghost use Rattle.teco_verdicts.specs.Lines.{verdict_of, verdict_text};
+
 use std::fmt;
 use teco_base::Reg;
 use teco_explain::number_of;
@@ -16,7 +19,9 @@ pub struct Verdict {
 
 impl Verdict {
     /// The verdict of a refusal; none for want of memory.
-    pub fn of(refusal: &Refusal) -> Option<Verdict> {
+    pub fn of(refusal: &Refusal) -> Option<Verdict>
+        ensures { result ≡ verdict_of refusal.now }
+    {
         match refusal {
             Refusal::No {
                 why,
@@ -33,14 +38,17 @@ impl Verdict {
 }
 
 impl fmt::Display for Verdict {
+    ghost output = { λ verdict. Some (verdict_text verdict) };
+
     fn fmt<W: fmt::Write>(&self, f: &mut fmt::Formatter<W>) -> fmt::Result {
-        write!(f, "refused X{}", number_of(self.why))?;
-        if let Why::Certificate = self.why {
-            return Ok(());
+        let (number, place) = (number_of(self.why), self.place);
+        match (self.why, self.register) {
+            (Why::Certificate, _) => write!(f, "refused X{number}"),
+            (_, None) => write!(f, "refused X{number} at {place}"),
+            (_, Some(register)) => {
+                let name = char::from(register.name());
+                write!(f, "refused X{number} in {name} at {place}")
+            }
         }
-        if let Some(register) = self.register {
-            write!(f, " in {}", char::from(register.name()))?;
-        }
-        write!(f, " at {}", self.place)
     }
 }

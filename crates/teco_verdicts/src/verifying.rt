@@ -1,24 +1,24 @@
 //! `verify`: macros of a library are verified.
-ghost use Rattle.std.specs.Prelude.{◌≡◌, IfOk, OnOk};
-ghost use Rattle.std.specs.Io.KnownBytes.{Appends};
+ghost use Rattle.std.specs.Prelude.{◌≡◌, IfOk};
 ghost use Rattle.teco_certificate.specs.Text.{certificate_text};
-ghost use Rattle.teco_verdicts.specs.Certificates.{Prints, PrintsOf};
+ghost use Rattle.teco_verdicts.specs.Answers.{Answers, AnswersFor, OfText, Refuses, VerdictIn};
+ghost use Rattle.teco_verdicts.specs.Output.{Writes};
 ghost use Rattle.teco_verdicts.specs.declared.outcome.Outcome.TheVariants.{Done, Refused};
 
 use crate::blame::{Held, tell_premise};
-use crate::console::Console;
+use crate::console::{Console, write_bytes};
 use crate::dollars::tell_dollars;
 use crate::editions::{BY_SECOND, Editions, tell_edition};
 use crate::explaining::tell_known;
 use crate::fault::AnswerFault;
+use crate::files::Shelf;
 use crate::library::{NAMES, Sourced, explained, library_of, macro_named, read_library};
 use crate::linting::Findings;
 use crate::outcome::Outcome;
 use crate::request::Request;
 use crate::verdict::Verdict;
 use crate::written::read_source;
-use std::io::{Input, Write};
-use std::rt::Files;
+use std::io::Write;
 use teco_base::Reg;
 use teco_library::Library;
 use teco_source::Source;
@@ -26,13 +26,16 @@ use teco_verifier::Rules;
 use teco_verify::{Account, Refusal, Trial, Verified, trial_by};
 
 /// Says why a macro of a source is refused by an edition of the rules, behind its line.
+#[tactic(auto, using(crate::proofs::Fronts::nothing, crate::proofs::Fronts::whole_front))]
 pub fn refuse<O: Write + Drop, E: Write + Drop>(
     console: &mut Console<O, E>,
     source: &Source,
     refusal: Refusal,
     rules: Rules,
 ) -> Result<Outcome, AnswerFault>
-    ensures { IfOk result (λ outcome. outcome ≡ Refused) }
+    ensures outcome { IfOk result (λ outcome. outcome ≡ Refused) }
+    ensures line { Refuses (O.contents console.old.out) (O.contents console.new.out) refusal
+        result }
 {
     let Some(verdict) = Verdict::of(&refusal) else {
         return Err(AnswerFault::Memory);
@@ -50,26 +53,27 @@ fn print<O: Write + Drop, E: Write + Drop>(
     console: &mut Console<O, E>,
     bytes: &[u8],
 ) -> Result<(), AnswerFault>
-    ensures { OnOk result (Appends (O.contents console.old.out) (O.contents console.new.out)
-        bytes.now) }
+    ensures { Writes (O.contents console.old.out) (O.contents console.new.out) bytes.now result }
 {
-    console.out.write_all(bytes)?;
+    write_bytes(&mut console.out, bytes)?;
     Ok(())
 }
 
 // Prints the certificate of a macro.
+#[tactic(auto, using(crate::proofs::Fronts::nothing))]
 fn print_certificate<O: Write + Drop, E: Write + Drop>(
     console: &mut Console<O, E>,
     verified: &Verified<'_>,
 ) -> Result<(), AnswerFault>
-    ensures { OnOk result (Appends (O.contents console.old.out) (O.contents console.new.out)
-        (certificate_text verified.now.fields)) }
+    ensures { Writes (O.contents console.old.out) (O.contents console.new.out)
+        (certificate_text verified.now.fields) result }
 {
     let text = verified.certificate(console.alloc)?;
     print(console, text.as_slice())
 }
 
 // Says why a macro of a source is refused by an edition of the rules, and what is known there.
+#[tactic(auto, using(crate::proofs::Fronts::whole_front))]
 fn refuse_known<O: Write + Drop, E: Write + Drop>(
     console: &mut Console<O, E>,
     source: &Source,
@@ -77,7 +81,9 @@ fn refuse_known<O: Write + Drop, E: Write + Drop>(
     refusal: Refusal,
     rules: Rules,
 ) -> Result<Outcome, AnswerFault>
-    ensures { IfOk result (λ outcome. outcome ≡ Refused) }
+    ensures outcome { IfOk result (λ outcome. outcome ≡ Refused) }
+    ensures line { Refuses (O.contents console.old.out) (O.contents console.new.out) refusal
+        result }
 {
     let outcome = refuse(console, source, refusal, rules)?;
     tell_known(console, account)?;
@@ -91,7 +97,9 @@ pub fn refuse_macro<O: Write + Drop, E: Write + Drop>(
     account: &Account<'_>,
     refusal: Refusal,
 ) -> Result<Outcome, AnswerFault>
-    ensures { IfOk result (λ outcome. outcome ≡ Refused) }
+    ensures outcome { IfOk result (λ outcome. outcome ≡ Refused) }
+    ensures line { Refuses (O.contents console.old.out) (O.contents console.new.out) refusal
+        result }
 {
     let rules = sourced.editions.newest();
     refuse_known(console, &sourced.source, account, refusal, rules)
@@ -108,7 +116,9 @@ pub fn tell_second_edition<O: Write + Drop, E: Write + Drop>(
     library: &Library,
     entry: Reg,
     editions: Editions,
-) {
+)
+    ensures { console.new.out ≡ console.old.out }
+{
     let Editions::Only(Rules::First) = editions else {
         return;
     };
@@ -129,7 +139,28 @@ pub fn tell_second_edition<O: Write + Drop, E: Write + Drop>(
     }
 }
 
+// Prints the certificate of a macro of a source, and says what it promises.
+#[tactic(auto, using(crate::proofs::Fronts::whole_front))]
+fn accept<O: Write + Drop, E: Write + Drop>(
+    console: &mut Console<O, E>,
+    source: &Source,
+    editions: Editions,
+    verified: &Verified<'_>,
+) -> Result<Outcome, AnswerFault>
+    ensures outcome { IfOk result (λ outcome. outcome ≡ Done) }
+    ensures text { Writes (O.contents console.old.out) (O.contents console.new.out)
+        (certificate_text verified.now.fields) result }
+{
+    print_certificate(console, verified)?;
+    tell_edition(&mut console.voice, editions, verified);
+    tell_premise(&mut console.voice, source, verified)?;
+    let library = verified.library();
+    Findings::new(console.alloc, source, false).tell(&mut console.voice, library, verified.entry());
+    Ok(Outcome::Done)
+}
+
 // Prints the certificate of a macro of a library, or why it is refused.
+#[tactic(auto, using(crate::proofs::Answering::of_verified, crate::proofs::Answering::of_refused))]
 fn verify_entry<O: Write + Drop, E: Write + Drop>(
     console: &mut Console<O, E>,
     source: &Source,
@@ -137,36 +168,35 @@ fn verify_entry<O: Write + Drop, E: Write + Drop>(
     entry: Reg,
     editions: Editions,
 ) -> Result<Outcome, AnswerFault>
-    ensures { IfOk result (λ outcome. outcome ≡ Done
-        → Prints library.now entry (O.contents console.old.out) (O.contents console.new.out)) }
+    ensures { Answers (VerdictIn editions library.now entry)
+        (O.contents console.old.out) (O.contents console.new.out) result }
 {
     let account = editions.account(console.alloc, library, entry)?;
     match account.verdict() {
         Ok(verified) => {
             verified.is_certified();
-            print_certificate(console, verified)?;
-            tell_edition(&mut console.voice, editions, verified);
-            tell_premise(&mut console.voice, source, verified)?;
-            Findings::new(console.alloc, source, false).tell(&mut console.voice, library, entry);
-            Ok(Outcome::Done)
+            accept(console, source, editions, verified)
         }
         Err(refusal) => {
-            let outcome = refuse_known(console, source, &account, refusal, editions.newest())?;
-            tell_second_edition(console, library, entry, editions);
-            Ok(outcome)
+            let outcome = refuse_known(console, source, &account, refusal, editions.newest());
+            if outcome.is_ok() {
+                tell_second_edition(console, library, entry, editions);
+            }
+            outcome
         }
     }
 }
 
 // Prints the certificate of a macro of the library that a source says, or why it is refused.
+#[tactic(auto, using(crate::proofs::Answering::of_library, crate::proofs::Answering::of_no_library))]
 fn verify_source<O: Write + Drop, E: Write + Drop>(
     console: &mut Console<O, E>,
     source: &Source,
     entry: Reg,
     editions: Editions,
 ) -> Result<Outcome, AnswerFault>
-    ensures { IfOk result (λ outcome. outcome ≡ Done
-        → PrintsOf source.now entry (O.contents console.old.out) (O.contents console.new.out)) }
+    ensures { Answers (OfText (λ library. VerdictIn editions library entry) source.now)
+        (O.contents console.old.out) (O.contents console.new.out) result }
 {
     match library_of(console.alloc, source) {
         Ok(library) => verify_entry(console, source, &library, entry, editions),
@@ -175,12 +205,16 @@ fn verify_source<O: Write + Drop, E: Write + Drop>(
 }
 
 /// Verifies a macro of a library, and prints its certificate.
-pub fn verify_macro<R: Files + Input, O: Write + Drop, E: Write + Drop>(
+pub fn verify_macro<R: Shelf, O: Write + Drop, E: Write + Drop>(
     rt: &R,
     console: &mut Console<O, E>,
     request: Request<'_>,
     entry: Reg,
-) -> Result<Outcome, AnswerFault> {
+) -> Result<Outcome, AnswerFault>
+    ensures { AnswersFor (R.holds rt.now) request.entry
+        (λ library. VerdictIn request.entry.editions library entry)
+        (O.contents console.old.out) (O.contents console.new.out) result }
+{
     let source = read_source(rt, console.alloc, request)?;
     verify_source(console, &source, entry, request.editions)
 }
@@ -261,7 +295,7 @@ fn verify_each<O: Write + Drop, E: Write + Drop>(
 }
 
 /// Verifies each macro of a library, A to Z and then 0 to 9, and prints a line for each.
-pub fn verify_library<R: Files + Input, O: Write + Drop, E: Write + Drop>(
+pub fn verify_library<R: Shelf, O: Write + Drop, E: Write + Drop>(
     rt: &R,
     console: &mut Console<O, E>,
     request: Request<'_>,

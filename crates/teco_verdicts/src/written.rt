@@ -1,14 +1,16 @@
 //! What libraries are read from.
+ghost use Rattle.std.specs.Prelude.{◌≡◌, [], IfOk, IfSome};
+ghost use Rattle.teco_verdicts.specs.Sources.{FileSays, IsFileRead, IsGivenBehind, IsOfFile, IsReadFor, IsSource, IsWithWords, lines_behind, word_form};
+ghost use Rattle.teco_source.specs.Source.{said};
+
 use crate::fault::AnswerFault;
-use crate::files::read_file;
+use crate::files::{Shelf, read_file};
 use crate::forms::{Escape, form_of, form_of_word, is_readable};
 use crate::given::{Given, with_text};
 use crate::library::library_of;
 use crate::request::Request;
 use crate::setting::Setting;
 use std::alloc::{AllocError, Global};
-use std::io::Input;
-use std::rt::Files;
 use teco_base::Reg;
 use teco_base::bytes::{ESC, LF};
 use teco_explain::is_plain;
@@ -18,7 +20,7 @@ use teco_source::{Form, Shown, Source};
 const WORDS: &str = "-e";
 
 /// Reads a file of TECO text, or standard input where the name is `-`.
-pub fn read_text<R: Files + Input>(
+pub fn read_text<R: Shelf>(
     rt: &R,
     alloc: Global,
     name: &str,
@@ -29,7 +31,9 @@ pub fn read_text<R: Files + Input>(
 }
 
 // A source of a name that says nothing.
-fn empty(alloc: Global, name: &str) -> Result<Source, AnswerFault> {
+fn empty(alloc: Global, name: &str) -> Result<Source, AnswerFault>
+    ensures { IfOk result (λ text. text ≡ []) }
+{
     Ok(Source::new(alloc, name, Vec::new(alloc), Form::Readable)?)
 }
 
@@ -40,7 +44,9 @@ fn macro_source(
     name: &str,
     bytes: Vec<u8>,
     form: Form,
-) -> Result<Source, AnswerFault> {
+) -> Result<Source, AnswerFault>
+    ensures { IfOk result (λ text. IsGivenBehind source 0 form bytes.items text) }
+{
     let given = Given {
         register: Reg::default(),
         name,
@@ -57,7 +63,9 @@ fn file_source(
     name: &str,
     bytes: Vec<u8>,
     escape: Escape,
-) -> Result<Source, AnswerFault> {
+) -> Result<Source, AnswerFault>
+    ensures { IfOk result (FileSays escape name.now bytes.items) }
+{
     let form = form_of(name, escape);
     if is_readable(name, escape) && is_plain(&form.read(alloc, &bytes)?) {
         return macro_source(alloc, empty(alloc, name)?, name, bytes, form);
@@ -66,7 +74,9 @@ fn file_source(
 }
 
 // Texts, a line each.
-fn joined(alloc: Global, texts: &[&str]) -> Result<Vec<u8>, AllocError> {
+fn joined(alloc: Global, texts: &[&str]) -> Result<Vec<u8>, AllocError>
+    ensures { IfOk result (λ lines. lines.items ≡ lines_behind [] texts.now) }
+{
     let mut lines = Vec::new(alloc);
     for text in texts {
         if !lines.is_empty() {
@@ -93,10 +103,28 @@ fn with_texts(
     source: Source,
     texts: &[&str],
     escape: Escape,
-) -> Result<Source, AnswerFault> {
+) -> Result<Source, AnswerFault>
+    ensures { IfOk result (IsGivenBehind source 0 (word_form escape)
+        (lines_behind [] texts.now)) }
+{
     check_texts(alloc, &source)?;
     let bytes = joined(alloc, texts)?;
     macro_source(alloc, source, WORDS, bytes, form_of_word(escape))
+}
+
+// A source, and behind it texts of the command line that are the macro A, if there are any.
+fn with_words(
+    alloc: Global,
+    source: Source,
+    texts: &[&str],
+    escape: Escape,
+) -> Result<Source, AnswerFault>
+    ensures { IfOk result (IsWithWords escape texts.now source) }
+{
+    match texts {
+        [] => Ok(source),
+        _ => with_texts(alloc, source, texts, escape),
+    }
 }
 
 /// What a library is read from, with what its file has.
@@ -109,11 +137,15 @@ pub struct Written<'a> {
 
 impl<'a> Written<'a> {
     /// Reads the file of a library, if it has one.
-    pub fn read<R: Files + Input>(
+    pub fn read<R: Shelf>(
         rt: &R,
         alloc: Global,
         request: Request<'a>,
-    ) -> Result<Written<'a>, AnswerFault> {
+    ) -> Result<Written<'a>, AnswerFault>
+        ensures request { IfOk result (λ written. written.request ≡ request.entry) }
+        ensures bytes { IfOk result (λ written.
+            IsFileRead (R.holds rt.now) request.entry.library.file written.bytes) }
+    {
         let bytes = match request.library.file {
             Some(name) => Some(read_file(rt, alloc, name)?),
             None => None,
@@ -121,21 +153,26 @@ impl<'a> Written<'a> {
         Ok(Written { request, bytes })
     }
 
-    /// The source of the library: its file, and the texts of the command line.
-    pub fn source(&self, alloc: Global) -> Result<Source, AnswerFault> {
-        let Request {
-            library,
-            escape,
-            ..
-        } = self.request;
-        let source = match (library.file, &self.bytes) {
-            (Some(name), Some(bytes)) => file_source(alloc, name, bytes.to_vec(alloc)?, escape)?,
-            _ => empty(alloc, WORDS)?,
-        };
-        if library.texts.is_empty() {
-            return Ok(source);
+    // What the file says, if there is one.
+    fn file_source(&self, alloc: Global) -> Result<Source, AnswerFault>
+        ensures { IfOk result (IsOfFile self.now.request.escape self.now.request.library.file
+            self.now.bytes) }
+    {
+        match (self.request.library.file, &self.bytes) {
+            (Some(name), Some(bytes)) => {
+                file_source(alloc, name, bytes.to_vec(alloc)?, self.request.escape)
+            }
+            _ => empty(alloc, WORDS),
         }
-        with_texts(alloc, source, library.texts, escape)
+    }
+
+    /// The source of the library: its file, and the texts of the command line.
+    pub fn source(&self, alloc: Global) -> Result<Source, AnswerFault>
+        ensures { IfOk result (IsSource self.now.request self.now.bytes) }
+    {
+        let source = self.file_source(alloc)?;
+        let request = self.request;
+        with_words(alloc, source, request.library.texts, request.escape)
     }
 
     /// The source of the library with these texts for registers, the last one for each.
@@ -167,10 +204,12 @@ fn given_of<'a>(alloc: Global, setting: &Setting) -> Result<Given<'a>, AllocErro
 }
 
 /// Reads the source of a library: its file, and the texts of the command line.
-pub fn read_source<R: Files + Input>(
+pub fn read_source<R: Shelf>(
     rt: &R,
     alloc: Global,
     request: Request<'_>,
-) -> Result<Source, AnswerFault> {
+) -> Result<Source, AnswerFault>
+    ensures { IfOk result (IsReadFor (R.holds rt.now) request.entry) }
+{
     Written::read(rt, alloc, request)?.source(alloc)
 }

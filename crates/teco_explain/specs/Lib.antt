@@ -1,0 +1,2 @@
+-- The numbers of reasons.
+pub mod Numbers

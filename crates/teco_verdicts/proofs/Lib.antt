@@ -1,0 +1,5 @@
+-- What proofs of this crate cite.
+mod Answering
+mod Ending
+mod Fronts
+mod RoundTrip

@@ -1,0 +1,158 @@
+-- What `verify` and `check` answer of an entry, and what is written of an answer.
+use Rattle.std.specs.Prelude.{ℕ, ◌≡◌, ◌≢◌, ◌⊎◌, ⊤, List, codes, Option, None, Result, Ok, Err, IsErr, IfOk, IfSome}
+use Rattle.std.specs.Io.KnownBytes.{Appends, Keeps}
+use Rattle.teco_certificate.specs.Text.{certificate_text}
+use Rattle.teco_law_tables.specs.straight_text.Straight.{IsStraight}
+use Rattle.teco_library.specs.Library.{LibraryFile, argument_of}
+use Rattle.teco_library.specs.Reads.{Reads}
+use Rattle.teco_library.specs.declared.fault.LibraryFault.TheVariants.{NotALibrary}
+use Rattle.teco_model.specs.Element.{Element}
+use Rattle.teco_verifier.specs.certificate.Fields.{Finding}
+use Rattle.teco_verifier.specs.declared.refusal.Refusal.TheVariants as why
+use Rattle.teco_verifier.specs.declared.rules.Rules.{Rules}
+use Rattle.teco_verify.specs.Refusing.{IsJudged, RefusedIsExpansions, refusal_of_certificate}
+use Rattle.teco_verify.specs.Straight.{StraightIsVerified, straight_fields}
+use Rattle.teco_verify.specs.declared.refusal.Refusal.{Refusal}
+use Rattle.teco_verify.specs.declared.refusal.Refusal.TheVariants.{No, Memory}
+use Rattle.teco_verdicts.specs.Certificates.{IsAmong, IsCertificate, newest_of}
+use Rattle.teco_verdicts.specs.Lines.{refused_line}
+use Rattle.teco_verdicts.specs.Output.{Writes, WritesFront}
+use Rattle.teco_verdicts.specs.Sources.{IsReadFor}
+use Rattle.teco_verdicts.specs.declared.editions.Editions.{Editions}
+use Rattle.teco_verdicts.specs.declared.outcome.Outcome.{Outcome}
+use Rattle.teco_verdicts.specs.declared.outcome.Outcome.TheVariants.{Done, Coded, Refused}
+use Rattle.teco_verdicts.specs.declared.request.Request.{Request}
+
+-- the texts that may be written, by the outcome
+abbrev pub Answer : Type 1
+Answer = Outcome → List ℕ → Type 0
+
+-- an answer was written, whole
+pub record WritesAnswer (IsAnswer : Answer) (old new : Option (List ℕ)) (outcome : Outcome) : Type 0 where
+  pub text : List ℕ
+  pub answer : IsAnswer outcome text
+  pub whole : Appends old new text
+
+-- a front of an answer was written
+pub record BreaksOff (IsAnswer : Answer) (old new : Option (List ℕ)) : Type 0 where
+  pub outcome : Outcome
+  pub text : List ℕ
+  pub answer : IsAnswer outcome text
+  pub front : WritesFront old new text
+
+-- an answer was written, or with a fault a front of one, or nothing
+abbrev pub Answers : {E : Type 0} → Answer → Option (List ℕ) → Option (List ℕ) → Result Outcome E → Type 0
+Answers IsAnswer old new (Ok outcome) = WritesAnswer IsAnswer old new outcome
+Answers IsAnswer old new (Err fault) = Keeps old new ⊎ BreaksOff IsAnswer old new
+
+-- The line of a refusal was written. For want of memory, which is a fault, nothing was.
+abbrev pub Refuses : {E : Type 0} → Option (List ℕ) → Option (List ℕ) → Refusal → Result Outcome E → Type 0
+Refuses old new (No reason register place) result = Writes old new (refused_line (No reason register place)) result
+Refuses old new Memory result = IsErr result × Keeps old new
+
+-- P is so of the elements of an entry without a declared argument, if its text is straight
+abbrev pub StraightIs : LibraryFile → ℕ → (List Element → Type 0) → Type 0
+StraightIs library entry P =
+    (text : List ℕ) (elements : List Element)
+    → argument_of library entry ≡ None → IsStraight library.texts entry text elements → P elements
+
+-- what is found of straight text is the definition's
+abbrev pub IsStraightVerdict : LibraryFile → ℕ → Result Finding Refusal → Type 0
+IsStraightVerdict library entry (Ok found) = StraightIs library entry (λ elements.
+    found.fields ≡ straight_fields found.fields.rules entry elements)
+IsStraightVerdict library entry (Err refusal) = ⊤
+
+-- what the verifier promises of its refusal of an entry
+pub record IsRefusal (rules : Rules) (library : LibraryFile) (entry : ℕ) (refusal : Refusal) : Type 0 where
+  pub straight : StraightIsVerified rules library entry (Err refusal)
+  pub unexpanded : RefusedIsExpansions library entry (Err refusal)
+  pub judged : IsJudged rules library entry (Err refusal)
+
+-- the line of such a refusal
+pub record IsRefusalLine (rules : Rules) (library : LibraryFile) (entry : ℕ) (text : List ℕ) : Type 0 where
+  pub refusal : Refusal
+  pub refused : IsRefusal rules library entry refusal
+  pub line : text ≡ refused_line refusal
+
+-- a certificate that was found, which of straight text is that of the definition
+pub record IsFoundCertificate (editions : Editions) (library : LibraryFile) (entry : ℕ) (text : List ℕ)
+    : Type 0 where
+  pub certificate : IsCertificate editions library entry text
+  pub straight : StraightIs library entry (λ elements.
+      text ≡ certificate_text (straight_fields certificate.fields.rules entry elements))
+
+-- what `verify` answers of an entry of a library: a certificate, or the line of the refusal
+abbrev pub VerdictIn : Editions → LibraryFile → ℕ → Answer
+VerdictIn editions library entry Done text = IsFoundCertificate editions library entry text
+VerdictIn editions library entry Coded text = ⊥
+VerdictIn editions library entry Refused text = IsRefusalLine (newest_of editions) library entry text
+
+-- bytes that are refused as a certificate: they are not that of straight text
+pub record IsDenied (editions : Editions) (bytes : List ℕ) (library : LibraryFile) (entry : ℕ) : Type 0 where
+  pub rules : Rules
+  pub among : IsAmong editions rules
+  pub straight : StraightIs library entry (λ elements.
+      bytes ≢ certificate_text (straight_fields rules entry elements))
+
+-- so they are, where memory is not what is wanted
+abbrev pub IsDeniedBy : Editions → List ℕ → LibraryFile → ℕ → Refusal → Type 0
+IsDeniedBy editions bytes library entry (No reason register place) = IsDenied editions bytes library entry
+IsDeniedBy editions bytes library entry Memory = ⊤
+
+-- what `check` answers of bytes: that they are a certificate, or that they are refused
+abbrev pub CheckIn : Editions → List ℕ → LibraryFile → ℕ → Answer
+CheckIn editions bytes library entry Done text =
+    IsCertificate editions library entry bytes × (text ≡ codes "accepted\n")
+CheckIn editions bytes library entry Coded text = ⊥
+CheckIn editions bytes library entry Refused text =
+    IsDenied editions bytes library entry × (text ≡ refused_line refusal_of_certificate)
+
+-- why a text is read as no library
+abbrev pub ReadsNone : List ℕ → Refusal → Type 0
+ReadsNone source (No reason register place) =
+    (No reason register place ≡ No why.Library None place) × Reads source (Err (NotALibrary place))
+ReadsNone source Memory = ⊤
+
+-- the line for a text that is no library
+pub record IsNoLibraryLine (source text : List ℕ) : Type 0 where
+  pub place : ℕ
+  pub none : Reads source (Err (NotALibrary place))
+  pub line : text ≡ refused_line (No why.Library None place)
+
+-- an answer on the library that a text says
+pub record AnswersIn (In : LibraryFile → Answer) (source : List ℕ) (outcome : Outcome) (text : List ℕ)
+    : Type 0 where
+  pub library : LibraryFile
+  pub read : Reads source (Ok library)
+  pub answer : In library outcome text
+
+-- an answer on a text that says a library, or none
+abbrev pub OfText : (LibraryFile → Answer) → List ℕ → Answer
+OfText In source Done text = AnswersIn In source Done text
+OfText In source Coded text = AnswersIn In source Coded text
+OfText In source Refused text = AnswersIn In source Refused text ⊎ IsNoLibraryLine source text
+
+-- the answer on the source that was read for a request
+pub record AnswersOn {E : Type 0} (holds : List ℕ → Option (List ℕ)) (request : Request)
+    (In : LibraryFile → Answer) (old new : Option (List ℕ)) (result : Result Outcome E) : Type 0 where
+  pub source : List ℕ
+  pub read : IsReadFor holds request source
+  pub answers : Answers (OfText In source) old new result
+
+-- that, or with a fault none was read and nothing written
+abbrev pub AnswersFor : {E : Type 0} → (List ℕ → Option (List ℕ)) → Request → (LibraryFile → Answer)
+    → Option (List ℕ) → Option (List ℕ) → Result Outcome E → Type 0
+AnswersFor holds request In old new result =
+    (IsErr result × Keeps old new) ⊎ AnswersOn holds request In old new result
+
+-- what `check` answers of the bytes that a file of a name has
+pub record ChecksOn {E : Type 0} (holds : List ℕ → Option (List ℕ)) (request : Request) (entry : ℕ)
+    (name : List ℕ) (old new : Option (List ℕ)) (result : Result Outcome E) : Type 0 where
+  pub bytes : List ℕ
+  pub told : IfSome (holds name) (λ known. bytes ≡ known)
+  pub answers : AnswersFor holds request (λ library. CheckIn request.editions bytes library entry) old new result
+
+abbrev pub ChecksFor : {E : Type 0} → (List ℕ → Option (List ℕ)) → Request → ℕ → List ℕ
+    → Option (List ℕ) → Option (List ℕ) → Result Outcome E → Type 0
+ChecksFor holds request entry name old new result =
+    (IsErr result × Keeps old new) ⊎ ChecksOn holds request entry name old new result
