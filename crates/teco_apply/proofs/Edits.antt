@@ -1,5 +1,5 @@
 -- An edit, where both files are open.
-use Rattle.std.proofs.Common.{◌≡◌, ℕ, List, Bool, true, false, Option, Result, Ok, inl, inr, sym, subst}
+use Rattle.std.proofs.Common.{◌≡◌, ℕ, List, true, false, Option, Ok, inl, inr, sym, subst}
 use Rattle.teco_apply.proofs.Opening.{opens_both}
 use Rattle.teco_apply.specs.Apply.{AnswersText, BothOpen, IsNotRun, Lacks, MacroStops, WantsMemory, has_esc, opening, stop_of}
 use Rattle.teco_apply.specs.Sure.{Call}

@@ -1,9 +1,9 @@
 -- The edit of a first page that no guard refuses.
-use Rattle.std.proofs.Common.{◌≡◌, ◌≢◌, ℕ, List, Bool, true, false, ◌||◌, Option, Result, Ok, Err, inl, inr, refl, sym, ap, subst, ◌∙◌}
+use Rattle.std.proofs.Common.{◌≡◌, ◌≢◌, ℕ, List, Bool, true, false, Option, Result, Ok, Err, inl, inr, refl, sym, ap, subst, ◌∙◌}
 use Rattle.std.proofs.lemmas.Bool.{false≢true}
 use Rattle.teco_apply.proofs.Edits.{macro_stops}
 use Rattle.teco_apply.specs.Apply.{AnswersMacro, AnswersText, Applied, BothOpen, EditCounts, Edits, Finishes, MacroStops, Then, are_plain, closing, opening}
-use Rattle.teco_apply.specs.ByPages.{AdmittedStops, AnswersAdmitted, Behind, BehindMacro, Closing, EditsText, EndsInMacro, EndsWith, FileCounts, FileEdited, Once, OpensBoth, Order, RunsAdmitted, is_dropped, nothing_done, order_by}
+use Rattle.teco_apply.specs.ByPages.{AdmittedStops, AnswersAdmitted, Behind, BehindMacro, EditsText, EndsInMacro, EndsWith, FileCounts, FileEdited, Once, OpensBoth, Order, RunsAdmitted, is_dropped, nothing_done, order_by}
 use Rattle.teco_apply.specs.Sure.{Call}
 use Rattle.teco_apply.specs.declared.by_pages.Edited.{Edited}
 use Rattle.teco_apply.specs.declared.by_pages.Pages.TheVariants.{First}

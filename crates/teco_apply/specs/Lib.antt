@@ -2,5 +2,6 @@
 pub mod Apply
 pub mod ByPages
 pub mod Constants
+pub mod InPlace
 pub mod Sure
 pub mod Touched

@@ -2,7 +2,8 @@
 ghost use Rattle.std.specs.Prelude.{◌≡◌, ◌≤◌, ◌<◌, ◌↔◌, Err, length};
 ghost use Rattle.teco_apply.specs.Apply.{LineCounts};
 ghost use Rattle.teco_apply.specs.ByPages.{AllPages, EachPage, EditsPages, EditsText, FileCounts, FileEdited, FromStart, Gathers, Once, PagesCount, is_dropped, order_by};
-ghost use Rattle.teco_apply.specs.Sure.{IsTaken, TakesArgument};
+ghost use Rattle.teco_apply.specs.Sure.{Call, IsTaken, TakesArgument};
+ghost use Rattle.teco_apply.specs.Touched.{EditTouches, TouchesByParts, TouchesOpening};
 ghost use Rattle.teco_base.specs.declared.TheConstants.{LIMIT};
 ghost use Rattle.teco_run.specs.Holdings.{Joined};
 ghost use Rattle.teco_session.specs.declared.fault.SessionFault.TheVariants as fault;
@@ -16,6 +17,7 @@ use std::io::Write;
 use teco_base::bytes::ESC;
 use teco_model::Stop;
 use teco_pages::Host;
+use teco_pages::laws::notes_fit;
 use teco_run::Machine;
 use teco_session::{Listener, SessionFault};
 use teco_text::TextStore;
@@ -80,6 +82,8 @@ fn edit_once<T: TextStore, H: Host, W: Write, G: Guard, O: Observer<H>>(
         (H.failures host.old) (H.failures host.new)
         (W.contents writer.old) (W.contents writer.new) result)
         machine.old machine.new (H.files host.old) (H.files host.new) }
+    ensures touches { TouchesByParts order.now.call.now
+        machine.old machine.new (H.files host.old) (H.files host.new) }
     ensures counted { PagesCount result (H.failures host.old) (H.failures host.new) }
 {
     let done = Tally::new();
@@ -105,6 +109,8 @@ fn edit_each<T: TextStore, H: Host, W: Write, G: Guard, O: Observer<H>>(
         (order_by (G.answers order.now.guard.now) order.now.call.now) old new
         (H.failures host.old) (H.failures host.new)
         (W.contents writer.old) (W.contents writer.new) result)
+        machine.old machine.new (H.files host.old) (H.files host.new) }
+    ensures touches { TouchesByParts order.now.call.now
         machine.old machine.new (H.files host.old) (H.files host.new) }
     ensures counted { PagesCount result (H.failures host.old) (H.failures host.new) }
 {
@@ -142,6 +148,8 @@ fn gather<T: TextStore, H: Host, W: Write, L: Listener<H>>(
         (H.failures host.old) (H.failures host.new)
         (W.contents writer.old) (W.contents writer.new) result)
         machine.old machine.new (H.files host.old) (H.files host.new) }
+    ensures touches { (call : Call) →
+        TouchesByParts call machine.old machine.new (H.files host.old) (H.files host.new) }
     ensures counted { LineCounts result (H.failures host.old) (H.failures host.new) }
 {
     let next = &[b'Z', b'J', b'1', b'2', b'I', ESC, b'A'];
@@ -175,6 +183,8 @@ fn edit_from_start<T: TextStore, H: Host, W: Write, G: Guard, O: Observer<H>>(
         (H.failures host.old) (H.failures host.new)
         (W.contents writer.old) (W.contents writer.new) result)
         machine.old machine.new (H.files host.old) (H.files host.new) }
+    ensures touches { TouchesByParts order.now.call.now
+        machine.old machine.new (H.files host.old) (H.files host.new) }
     ensures counted { PagesCount result (H.failures host.old) (H.failures host.new) }
 {
     match answer_text(machine, b"J", host, writer, observer) {
@@ -197,6 +207,8 @@ fn edit_whole<T: TextStore, H: Host, W: Write, G: Guard, O: Observer<H>>(
         (order_by (G.answers order.now.guard.now) order.now.call.now) old new
         (H.failures host.old) (H.failures host.new)
         (W.contents writer.old) (W.contents writer.new) result)
+        machine.old machine.new (H.files host.old) (H.files host.new) }
+    ensures touches { TouchesByParts order.now.call.now
         machine.old machine.new (H.files host.old) (H.files host.new) }
     ensures counted { PagesCount result (H.failures host.old) (H.failures host.new) }
 {
@@ -229,6 +241,8 @@ fn edit_pages<T: TextStore, H: Host, W: Write, G: Guard, O: Observer<H>>(
         (H.failures host.old) (H.failures host.new)
         (W.contents writer.old) (W.contents writer.new) result)
         machine.old machine.new (H.files host.old) (H.files host.new) }
+    ensures touches { TouchesByParts plan.now.order.now.call.now
+        machine.old machine.new (H.files host.old) (H.files host.new) }
     ensures counted { PagesCount result (H.failures host.old) (H.failures host.new) }
 {
     match plan.pages {
@@ -253,6 +267,8 @@ fn edit_opened<T: TextStore, H: Host, W: Write, G: Guard, O: Observer<H>>(
         plan.now.opening.now old new
         (H.failures host.old) (H.failures host.new)
         (W.contents writer.old) (W.contents writer.new) result)
+        machine.old machine.new (H.files host.old) (H.files host.new) }
+    ensures touches { TouchesOpening plan.now.order.now.call.now plan.now.opening.now
         machine.old machine.new (H.files host.old) (H.files host.new) }
     ensures counted { PagesCount result (H.failures host.old) (H.failures host.new) }
 {
@@ -297,10 +313,14 @@ pub fn edit_file<T: TextStore, H: Host, W: Write, G: Guard, O: Observer<H>>(
         (H.failures host.old) (H.failures host.new)
         (W.contents writer.old) (W.contents writer.new) result)
         machine.old machine.new (H.files host.old) (H.files host.new) }
+    ensures touches { EditTouches (record { found = edit.now.verified.now; given = edit.now.given })
+        edit.now.source.now edit.now.target.now result
+        machine.old machine.new (H.files host.old) (H.files host.new) }
     ensures argument { (result ≡ Err fault.Argument)
         ↔ (¬ IsTaken edit.now.verified.now.fields.argument edit.now.given) }
     ensures counted { FileCounts result (H.failures host.old) (H.failures host.new) }
 {
+    notes_fit();
     if !takes(edit.verified, edit.given) {
         return Err(SessionFault::Argument);
     }

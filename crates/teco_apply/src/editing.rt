@@ -2,10 +2,13 @@
 ghost use Rattle.std.specs.Prelude.{◌≡◌, ◌≤◌, ◌++◌, [], IfOk, length};
 ghost use Rattle.teco_apply.specs.Apply as edit;
 ghost use Rattle.teco_apply.specs.Apply.{AnswersText, DropCounts, DropsIfCoded, LineCounts, opening};
+ghost use Rattle.teco_apply.specs.Sure.{Call, MOST};
+ghost use Rattle.teco_apply.specs.Touched.{TouchesByParts};
 ghost use Rattle.teco_base.specs.declared.TheConstants.{LIMIT};
 ghost use Rattle.teco_model.specs.Session.{code_of, code_line, is_code};
 ghost use Rattle.teco_run.specs.Holdings.{Joined};
 ghost use Rattle.teco_session.specs.Output.{Writes};
+ghost use Rattle.teco_session.specs.Touched.{TouchesByString};
 
 use crate::ready::NotReady;
 use std::alloc::{AllocError, Global};
@@ -87,6 +90,8 @@ pub fn answer_text<T: TextStore, H: Host, W: Write, L: Listener<H>>(
         (H.failures host.old) (H.failures host.new)
         (W.contents writer.old) (W.contents writer.new) result)
         machine.old machine.new (H.files host.old) (H.files host.new) }
+    ensures touches { TouchesByString MOST text.now
+        machine.old machine.new (H.files host.old) (H.files host.new) }
     ensures counted { LineCounts result (H.failures host.old) (H.failures host.new) }
 {
     let stopped = machine.run_to_stop(text, u64::MAX, host);
@@ -106,9 +111,11 @@ pub fn drop_if_coded<T: TextStore, H: Host>(
     ensures drops { Joined (λ old new. DropsIfCoded line old new
         (H.failures host.old) (H.failures host.new))
         machine.old machine.new (H.files host.old) (H.files host.new) }
+    ensures touches { (call : Call) →
+        TouchesByParts call machine.old machine.new (H.files host.old) (H.files host.new) }
     ensures counted { DropCounts line (H.failures host.old) (H.failures host.new) }
 {
     if let Ok(true) = line {
-        let _ = machine.run(b"EK", u64::MAX, host);
+        machine.run_to_stop(b"EK", u64::MAX, host);
     }
 }

@@ -2,6 +2,7 @@
 ghost use Rattle.std.specs.Prelude.{◌≡◌, ◌≤◌, ◌↔◌, Err, length, false};
 ghost use Rattle.teco_apply.specs.Apply.{Applied, EditCounts};
 ghost use Rattle.teco_apply.specs.Sure.{IsTaken};
+ghost use Rattle.teco_apply.specs.Touched.{EditTouches};
 ghost use Rattle.teco_run.specs.Holdings.{Joined};
 ghost use Rattle.teco_session.specs.Answers.{Said};
 ghost use Rattle.teco_session.specs.declared.fault.SessionFault.TheVariants as fault;
@@ -53,6 +54,9 @@ pub fn apply<T: TextStore, H: Host, W: Write>(
         source.now target.now old new
         (H.failures host.old) (H.failures host.new)
         (W.contents writer.old) (W.contents writer.new) result)
+        machine.old machine.new (H.files host.old) (H.files host.new) }
+    ensures touches { EditTouches (record { found = verified.now; given = given })
+        source.now target.now result
         machine.old machine.new (H.files host.old) (H.files host.new) }
     ensures argument { (result ≡ Err fault.Argument)
         ↔ (¬ IsTaken verified.now.fields.argument given) }

@@ -4,7 +4,8 @@ ghost use Rattle.std.specs.Prelude.{◌≡◌, ◌≤◌, ◌<◌, ◌+◌, ◌^
 ghost use Rattle.teco_apply.specs.Apply.{AnswersText, LineCounts};
 ghost use Rattle.teco_apply.specs.ByPages as edit;
 ghost use Rattle.teco_apply.specs.ByPages.{AdmittedStops, Closing, EndsWith, IsAskedAt, IsRefused, PagesCount, RanBy, RanCounts, RunsAdmitted, TurnCounts, TurnedBy, Turns, edited_with, nothing_done, order_by, tally_after};
-ghost use Rattle.teco_apply.specs.Sure.{TakesArgument};
+ghost use Rattle.teco_apply.specs.Sure.{Call, TakesArgument};
+ghost use Rattle.teco_apply.specs.Touched.{IsOfPages, Measures, TouchesByParts};
 ghost use Rattle.teco_base.specs.declared.TheConstants.{LIMIT};
 ghost use Rattle.teco_model.specs.Paging.{unread_of};
 ghost use Rattle.teco_model.specs.Run.{StopCounts};
@@ -134,6 +135,7 @@ fn ran_by(line: Result<bool, SessionFault>, stop: Stop) -> Result<Ran, SessionFa
 fn unread_at_most<T: TextStore, H: Host>(machine: &Machine<T>, host: &mut H) -> Option<u64>
     ensures most { Joined (λ old new. (new ≡ old) × IfSome result (λ n. unread_of old ≤ n))
         machine.now machine.now (H.files host.old) (H.files host.new) }
+    ensures touches { Measures machine.now (H.files host.old) (H.files host.new) }
     ensures counted { H.failures host.new ≡ H.failures host.old }
 {
     let left = host.left_of_input()?;
@@ -144,6 +146,7 @@ fn unread_at_most<T: TextStore, H: Host>(machine: &Machine<T>, host: &mut H) -> 
 fn ask<T: TextStore, H: Host, G: Guard>(machine: &Machine<T>, guard: &G, host: &mut H) -> Asked
     ensures asked { Joined (λ old new. (new ≡ old) × IsAskedAt (G.answers guard.now) old result.admitted)
         machine.now machine.now (H.files host.old) (H.files host.new) }
+    ensures touches { Measures machine.now (H.files host.old) (H.files host.new) }
     ensures counted { H.failures host.new ≡ H.failures host.old }
 {
     let held = machine.held();
@@ -168,6 +171,8 @@ fn run_guarded<T: TextStore, H: Host, G: Guard, O: Observer<H>>(
         (IsRefused (order_by (G.answers order.now.guard.now) order.now.call.now) old new)
         (λ stopped. AdmittedStops (order_by (G.answers order.now.guard.now) order.now.call.now)
         old stopped.stop new))
+        machine.old machine.new (H.files host.old) (H.files host.new) }
+    ensures touches { TouchesByParts order.now.call.now
         machine.old machine.new (H.files host.old) (H.files host.new) }
     ensures counted { MatchOption result (H.failures host.new ≡ H.failures host.old)
         (λ stopped. StopCounts stopped.stop (H.failures host.old) (H.failures host.new)) }
@@ -196,6 +201,8 @@ pub fn run_admitted<T: TextStore, H: Host, W: Write, G: Guard, O: Observer<H>>(
         (order_by (G.answers order.now.guard.now) order.now.call.now) old new
         (H.failures host.old) (H.failures host.new)
         (W.contents writer.old) (W.contents writer.new) result)
+        machine.old machine.new (H.files host.old) (H.files host.new) }
+    ensures touches { TouchesByParts order.now.call.now
         machine.old machine.new (H.files host.old) (H.files host.new) }
     ensures counted { RanCounts result (H.failures host.old) (H.failures host.new) }
 {
@@ -237,6 +244,8 @@ pub fn turn<T: TextStore, H: Host, W: Write, L: Listener<H>>(
         (H.failures host.old) (H.failures host.new)
         (W.contents writer.old) (W.contents writer.new) result)
         machine.old machine.new (H.files host.old) (H.files host.new) }
+    ensures touches { (call : Call) → IsOfPages text.now →
+        TouchesByParts call machine.old machine.new (H.files host.old) (H.files host.new) }
     ensures counted { TurnCounts result (H.failures host.old) (H.failures host.new) }
 {
     match machine.has_unread(host) {
@@ -265,6 +274,8 @@ pub fn close<T: TextStore, H: Host, W: Write, L: Listener<H>>(
         (H.failures host.old) (H.failures host.new)
         (W.contents writer.old) (W.contents writer.new) result)
         machine.old machine.new (H.files host.old) (H.files host.new) }
+    ensures touches { (call : Call) →
+        TouchesByParts call machine.old machine.new (H.files host.old) (H.files host.new) }
     ensures counted { PagesCount result (H.failures host.old) (H.failures host.new) }
 {
     done.ended(answer_text(machine, b"EC", host, writer, listener))

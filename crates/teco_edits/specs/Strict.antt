@@ -1,5 +1,5 @@
 -- What strict terms promise of each run that they admit.
-use Rattle.std.specs.Prelude.{◌≡◌, ◌⊎◌, true}
+use Rattle.std.specs.Prelude.{◌≡◌, ◌⊎◌, Bool, true}
 use Rattle.teco_apply.specs.Apply.{IsNotRun}
 use Rattle.teco_apply.specs.ByPages.{AdmittedStops, Order, order_by}
 use Rattle.teco_apply.specs.Sure.{Call, loaded, n_of}
@@ -15,10 +15,18 @@ use Rattle.teco_verdicts.specs.Premise.{IsPremise}
 abbrev pub on_terms : Terms → Call → Order
 on_terms terms call = order_by (Answers terms) call
 
--- The terms are strict, and their promise is that of the macro.
-pub record AreStrict (terms : Terms) (call : Call) : Type 0 where
-  pub strict : terms.is_strict ≡ true
+-- Terms that are strict, or not, and whose promise is that of the macro.
+pub record AreTerms (is_strict : Bool) (call : Call) (terms : Terms) : Type 0 where
+  pub strict : terms.is_strict ≡ is_strict
   pub premise : IsPremise call.found.fields.size call.found.fields.commands terms.promise.premise.last
+
+-- something is done on such terms
+abbrev pub OnTerms : Bool → Call → (Order → Type 0) → Type 0
+OnTerms is_strict call Done = (terms : Terms) × AreTerms is_strict call terms × Done (on_terms terms call)
+
+-- the terms are strict
+abbrev pub AreStrict : Terms → Call → Type 0
+AreStrict terms call = AreTerms true call terms
 
 -- A run that is admitted comes to its end within the printed number of commands, and to no code; or want of memory
 -- stops it, or the host. A macro that lacks a file is not run.

@@ -1,6 +1,12 @@
 //! `apply`: a file is edited by a verified macro.
-ghost use Rattle.std.specs.Prelude.{◌≡◌, ◌≤◌, length};
+ghost use Rattle.std.specs.Prelude.{◌≡◌, ◌≤◌, ◌<◌, [], length};
+ghost use Rattle.teco_apply.specs.ByPages.{FileEdited};
+ghost use Rattle.teco_apply.specs.InPlace.{IsRewritten};
+ghost use Rattle.teco_apply.specs.Touched.{EditTouches};
 ghost use Rattle.teco_apply.specs.declared.editing.TheConstants.{NAME};
+ghost use Rattle.teco_edits.specs.Strict.{OnTerms};
+ghost use Rattle.teco_pages.specs.HostFiles.{Notes};
+ghost use Rattle.teco_run.specs.Holdings.{Joined};
 ghost use Rattle.teco_verdicts.specs.Premise.{IsPremise};
 
 use crate::promise::Promise;
@@ -11,10 +17,12 @@ use std::fs::{Files, Metadata};
 use std::io::{Input, Write};
 use std::os::unix::fs::MetadataExt;
 use std::{fs, str};
-use teco_apply::{Edit, Edited, Observer, Pages, edit_file};
+use teco_apply::{
+    Edit, Edited, Ending, Observer, Pages, Rewrite, Rewritten, edit_file, edit_in_place,
+};
 use teco_base::Reg;
 use teco_model::Needs;
-use teco_pages::Host;
+use teco_pages::{Host, MemHost};
 use teco_run::Machine;
 use teco_session::SessionFault;
 use teco_source::Shown;
@@ -175,7 +183,18 @@ fn edit_observed<H: Host, O: Write, V: Observer<H>>(
     host: &mut H,
     out: &mut O,
     observer: &mut V,
-) -> Result<Edited, SessionFault> {
+) -> Result<Edited, SessionFault>
+    ensures edits { OnTerms work.entry.job.task.now.is_strict
+        (record { found = work.entry.job.verified.now; given = work.entry.job.task.now.argument })
+        (λ order. Joined (λ old new. FileEdited work.entry.job.task.now.pages order
+        work.entry.names.source.now work.entry.names.target.now old new (H.failures host.old) (H.failures host.new)
+        (O.contents out.old) (O.contents out.new) result)
+        machine.old machine.new (H.files host.old) (H.files host.new)) }
+    ensures touches { EditTouches
+        (record { found = work.entry.job.verified.now; given = work.entry.job.task.now.argument })
+        work.entry.names.source.now work.entry.names.target.now result
+        machine.old machine.new (H.files host.old) (H.files host.new) }
+{
     let Work { job, names } = work;
     let terms = job.terms();
     let edit = Edit {
@@ -226,6 +245,120 @@ pub fn edit_by<H: Host + Reporting, O: Write, E: Write + Drop>(
 ) -> Result<Outcome, ToolFault> {
     let mut machine = machine_with(job.alloc, job.task.cap);
     edit_on(channels, &mut machine, job, names, host)
+}
+
+/// What came of the edit of a file in place, and its host.
+#[derive(Drop)]
+pub struct Replaced<H: Host + Drop> {
+    pub outcome: Result<Outcome, ToolFault>,
+    pub host: H,
+}
+
+// A file that is edited in place on a machine, on the terms of a job.
+#[derive(Clone, Copy)]
+struct OneWork<'a, E: Ending> {
+    job: Job<'a>,
+    name: &'a [u8],
+    // does its new text take its place?
+    ending: E,
+}
+
+// Edits a file in place on a machine, on the terms of the job, which an observer hears.
+fn rewrite_observed<H: Host + Drop, O: Write, E: Ending, V: Observer<H>>(
+    machine: &mut Machine<GapText>,
+    work: OneWork<'_, E>,
+    host: H,
+    out: &mut O,
+    observer: &mut V,
+) -> Rewritten<H>
+    requires fresh { H.files host ≡ Notes [] }
+    requires name { length work.name.now < NAME }
+    ensures edits { OnTerms work.entry.job.task.now.is_strict
+        (record { found = work.entry.job.verified.now; given = work.entry.job.task.now.argument })
+        (λ order. IsRewritten work.entry.job.task.now.pages order work.entry.name.now E.replaces
+        machine.old machine.new (H.files result.host) (H.failures host)
+        (O.contents out.old) (O.contents out.new) result.edited) }
+{
+    let OneWork { job, name, ending } = work;
+    let terms = job.terms();
+    let rewrite = Rewrite {
+        alloc: job.alloc,
+        verified: job.verified,
+        name,
+        given: job.task.argument,
+        pages: job.task.pages,
+        guard: &terms,
+        ending,
+    };
+    edit_in_place(machine, &rewrite, host, out, observer)
+}
+
+// What was watched of the edit of a file in place, and its host.
+#[derive(Drop)]
+struct WatchedFile<H: Host + Drop> {
+    watched: Result<Watched, ToolFault>,
+    host: H,
+}
+
+// Edits a file in place on a machine, and watches the runs.
+fn watch_rewrite<H: Host + Reporting + Drop, O: Write, E: Write + Drop, K: Ending>(
+    channels: &mut Channels<'_, O, E>,
+    machine: &mut Machine<GapText>,
+    work: OneWork<'_, K>,
+    host: H,
+) -> WatchedFile<H>
+    requires fresh { H.files host ≡ Notes [] }
+    requires name { length work.name.now < NAME }
+{
+    let watch = work.job.watch(work.name);
+    let mut warden = Warden::new(channels.voice, watch);
+    let rewritten = rewrite_observed(machine, work, host, channels.out, &mut warden);
+    WatchedFile {
+        watched: with_seen(rewritten.edited, warden.seen()),
+        host: rewritten.host,
+    }
+}
+
+// Edits a file in place on a machine, and says what there is to be said of it.
+fn rewrite_on<H: Host + Reporting + Drop, O: Write, E: Write + Drop, K: Ending>(
+    channels: &mut Channels<'_, O, E>,
+    machine: &mut Machine<GapText>,
+    work: OneWork<'_, K>,
+    host: H,
+) -> Replaced<H>
+    requires fresh { H.files host ≡ Notes [] }
+    requires name { length work.name.now < NAME }
+{
+    let OneWork { job, name, ending } = work;
+    let work = OneWork { job, name, ending };
+    let WatchedFile { watched, host } = watch_rewrite(channels, machine, work, host);
+    let outcome = match watched {
+        Ok(watched) => conclude(channels.voice, job.task, name, watched),
+        Err(fault) => Err(fault),
+    };
+    Replaced { outcome, host }
+}
+
+/// Edits a file in place by a verified macro over a host that has made no call yet, and says what there
+/// is to be said of it.
+pub fn rewrite_by<H: Host + Reporting + Drop, O: Write, E: Write + Drop, K: Ending>(
+    channels: &mut Channels<'_, O, E>,
+    job: Job<'_>,
+    name: &[u8],
+    ending: K,
+    host: H,
+) -> Replaced<H>
+    requires fresh { H.files host ≡ Notes [] }
+    requires name { length name.now < NAME }
+{
+    let mut machine = machine_with(job.alloc, job.task.cap);
+    match prepare(&mut machine, job.task.start, &mut MemHost::new(job.alloc)) {
+        Ok(()) => rewrite_on(channels, &mut machine, OneWork { job, name, ending }, host),
+        Err(fault) => Replaced {
+            outcome: Err(fault),
+            host,
+        },
+    }
 }
 
 // Says what came of an edit.

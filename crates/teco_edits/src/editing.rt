@@ -1,8 +1,9 @@
 //! `edit`: files are edited in place by a verified macro.
-ghost use Rattle.std.specs.Prelude.{◌≤◌, length, IsTrue};
+ghost use Rattle.std.specs.Prelude.{◌≡◌, ◌<◌, [], length, IsTrue, IfOk};
 ghost use Rattle.teco_apply.specs.declared.editing.TheConstants.{NAME};
+ghost use Rattle.teco_pages.specs.HostFiles.{Notes};
 
-use crate::applying::{Channels, Job, Names, Task, edit_by};
+use crate::applying::{Channels, Job, Replaced, Task, rewrite_by};
 use crate::backups::taken_backup;
 use crate::choosing::Chosen;
 use crate::diff::{Look, write_diff};
@@ -13,9 +14,9 @@ use crate::subject::{Subject, read_subject, refuse_subject};
 use crate::typed::{Naming, without_code, write_named};
 use std::alloc::{AllocError, Global};
 use std::io::{Input, Write};
-use teco_apply::{NAME, Pages};
+use teco_apply::{Drops, Ending, NAME, Pages, Replaces};
 use teco_base::bytes::ESC;
-use teco_pages::{Backup, Closed, Closing, FileHost, Handling, ProcessFacts, System};
+use teco_pages::{Backup, Closed, Closing, FileHost, Handling, Host, ProcessFacts, System};
 use teco_session::SessionFault;
 use teco_source::Shown;
 use teco_tools::{Case, ToolFault};
@@ -98,36 +99,11 @@ impl Tally {
     }
 }
 
-// The name that a file's new text is written to: another name of the same file, since an edit can't
-// read and write one name.
-fn target_of(alloc: Global, name: &[u8]) -> Result<Vec<u8>, AllocError> {
-    let front: &[u8] = match name {
-        [b'/', ..] => b"/.",
-        _ => b"./",
-    };
-    let mut target = front.to_vec(alloc)?;
-    target.extend_from_slice(name)?;
-    Ok(target)
-}
-
-// How long the name of a file is at most that is edited in place: the system takes paths of 4,095
-// bytes, and its other name has two more.
-const LONGEST: usize = 4093;
-
 // Can a file be edited by this name? It is one, has no ESC and is not too long.
 fn is_name(name: &[u8]) -> bool
-    ensures { IsTrue result → length name.now ≤ NAME }
+    ensures { IsTrue result → length name.now < NAME }
 {
-    name.len() <= NAME && !name.is_empty() && !name.contains(&ESC)
-}
-
-// The names that a file is edited under, if it can be.
-fn names_of<'a>(source: &'a [u8], target: &'a [u8]) -> Option<Names<'a>> {
-    if is_name(source) && is_name(target) && source.len() <= LONGEST {
-        Some(Names { source, target })
-    } else {
-        None
-    }
+    name.len() < NAME && !name.is_empty() && !name.contains(&ESC)
 }
 
 // Says that no file of this name can be edited.
@@ -138,7 +114,7 @@ fn tell_name<O: Write + Drop, E: Write + Drop>(console: &mut Console<O, E>, name
     }
     let shown = Shown(name);
     console.complain(format_args!(
-        "{shown} is not edited: a file's name holds no ESC and at most 4093 bytes"
+        "{shown} is not edited: a file's name holds no ESC and at most 4095 bytes"
     ));
 }
 
@@ -212,7 +188,9 @@ struct Editing<'r, 'c, 'j, 'g, 'f, R: System + Copy, O: Write + Drop, E: Write +
 
 impl<R: System + Copy, O: Write + Drop, E: Write + Drop> Editing<'_, '_, '_, '_, '_, R, O, E> {
     // A host for one file.
-    fn host(&self) -> Result<FileHost<R>, AllocError> {
+    fn host(&self) -> Result<FileHost<R>, AllocError>
+        ensures { IfOk result (λ host. ⟦<FileHost<R> as Host>⟧.files host ≡ Notes []) }
+    {
         let alloc = self.console.alloc;
         let mut host = FileHost::new(alloc, *self.rt);
         host.set_facts(self.facts);
@@ -233,18 +211,21 @@ impl<R: System + Copy, O: Write + Drop, E: Write + Drop> Editing<'_, '_, '_, '_,
         Ok(())
     }
 
-    // Edits a file in place under its names.
-    fn edit_named(&mut self, names: Names<'_>) -> Result<Ended, ToolFault> {
-        let mut host = self.host()?;
+    // Edits a file in place.
+    fn edit_at<K: Ending>(&mut self, name: &[u8], ending: K) -> Result<Ended, ToolFault>
+        requires { length name.now < NAME }
+    {
+        let host = self.host()?;
         let mut typed = Vec::new(self.console.alloc);
         let mut channels = Channels {
             out: &mut typed,
             voice: &mut self.console.voice,
         };
-        let outcome = edit_by(&mut channels, self.job, names, &mut host).map_err(of_memory)?;
+        let Replaced { outcome, host } = rewrite_by(&mut channels, self.job, name, ending, host);
+        let outcome = outcome.map_err(of_memory)?;
         let is_coded = matches!(outcome, Outcome::Coded);
         self.console.voice.clear();
-        self.write_typed(names.source, without_code(&typed, is_coded))?;
+        self.write_typed(name, without_code(&typed, is_coded))?;
         self.folders.note_changed(host.changed_folder())?;
         Ok(Ended {
             outcome,
@@ -252,38 +233,51 @@ impl<R: System + Copy, O: Write + Drop, E: Write + Drop> Editing<'_, '_, '_, '_,
         })
     }
 
-    // Edits a file in place under its names, and says what became of it.
-    fn edit_and_tell(&mut self, names: Names<'_>) -> Result<Ended, ToolFault> {
+    // Edits a file of a name that it can be edited by, or tries to.
+    fn edit_named(&mut self, name: &[u8]) -> Result<Ended, ToolFault>
+        requires { length name.now < NAME }
+    {
+        match self.given.change {
+            Change::Made => self.edit_at(name, Replaces),
+            Change::Listed | Change::Checked => self.edit_at(name, Drops),
+        }
+    }
+
+    // Edits a file in place, and says what became of it.
+    fn edit_and_tell(&mut self, name: &[u8]) -> Result<Ended, ToolFault>
+        requires { length name.now < NAME }
+    {
         let texts = match self.given.diff {
             None => None,
-            Some(_) => self.texts(names)?,
+            Some(_) => self.texts(name)?,
         };
-        let ended = self.edit_named(names)?;
-        self.tell_ended(names.source, ended, texts.as_ref())?;
+        let ended = self.edit_named(name)?;
+        self.tell_ended(name, ended, texts.as_ref())?;
         Ok(ended)
     }
 
     // Edits a file in place.
     fn edit_one(&mut self, name: &[u8]) -> Result<Ended, ToolFault> {
-        let beside = target_of(self.console.alloc, name)?;
-        let Some(names) = names_of(name, &beside) else {
+        if !is_name(name) {
             tell_name(self.console, name);
             return Ok(FAILED);
-        };
+        }
         if self.given.change == Change::Made {
             let voice = &mut self.console.voice;
             self.folders.sweep(self.rt, voice, name, self.facts)?;
         }
-        self.edit_and_tell(names)
+        self.edit_and_tell(name)
     }
 
     // The text of a file and what the macro makes of it, if it does. Nothing is said or typed.
-    fn texts(&mut self, names: Names<'_>) -> Result<Option<Texts>, ToolFault> {
+    fn texts(&mut self, name: &[u8]) -> Result<Option<Texts>, ToolFault>
+        requires { length name.now < NAME }
+    {
         let alloc = self.console.alloc;
-        let Some(old) = read_whole(alloc, &mut self.host()?, names.source)? else {
+        let Some(old) = read_whole(alloc, &mut self.host()?, name)? else {
             return Ok(None);
         };
-        let new = new_text(alloc, self.host()?, self.job, names)?;
+        let new = new_text(alloc, self.host()?, self.job, name)?;
         Ok(new.map(|new| Texts { old, new }))
     }
 

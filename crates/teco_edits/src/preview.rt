@@ -1,4 +1,8 @@
 //! What files have, and what a macro makes of them, before they are edited.
+ghost use Rattle.std.specs.Prelude.{◌≡◌, ◌<◌, [], length};
+ghost use Rattle.teco_apply.specs.declared.editing.TheConstants.{NAME};
+ghost use Rattle.teco_pages.specs.HostFiles.{Notes};
+
 use crate::applying::{Channels, Job, Names, edit_by};
 use crate::diff::is_binary;
 use std::alloc::{AllocError, Global};
@@ -67,8 +71,11 @@ pub fn new_text<R: System>(
     alloc: Global,
     host: FileHost<R>,
     job: Job<'_>,
-    names: Names<'_>,
-) -> Result<Option<Vec<u8>>, ToolFault> {
+    name: &[u8],
+) -> Result<Option<Vec<u8>>, ToolFault>
+    requires name { length name.now < NAME }
+    requires fresh { ⟦<FileHost<R> as Host>⟧.files host ≡ Notes [] }
+{
     let mut streams = Streams::new(alloc, host, io::empty(), Vec::new(alloc));
     let mut typed = io::sink();
     let mut voice = Voice::new(alloc, io::sink());
@@ -77,7 +84,7 @@ pub fn new_text<R: System>(
         voice: &mut voice,
     };
     let names = Names {
-        source: names.source,
+        source: name,
         target: OUTPUT,
     };
     let outcome = edit_by(&mut channels, job, names, &mut streams)?;

@@ -1,8 +1,7 @@
 -- Notes that can be are fitted by some files.
-use Rattle.std.proofs.Common.{◌≡◌, ℕ, List, [], ◌∷◌, ◌++◌, Bool, true, false, cond, Option, Some, None, option_map, refl, sym, ap, subst, ◌∙◌}
+use Rattle.std.proofs.Common.{◌≡◌, ℕ, List, [], ◌∷◌, ◌++◌, Bool, true, false, Option, Some, None, option_map, refl, sym, ap, subst, ◌∙◌}
 use Rattle.std.proofs.lemmas.Bool.{true≢false}
-use Rattle.std.proofs.lemmas.Slice.Eq.{bytes_eq-Decides}
-use Rattle.std.specs.Prelude.{⊤, IfSome, bytes_eq, ◌≢◌}
+use Rattle.std.specs.Prelude.{⊤, IfSome, ◌≢◌}
 use Rattle.std.specs.List.{AllByRecursion}
 use Rattle.teco_model.specs.Files.{File, Output, output_of, file_named, with_file, with_closed, with_written}
 use Rattle.teco_model.specs.laws.Whole.{AreBytes}
@@ -11,6 +10,7 @@ use Rattle.teco_pages.specs.Events.{Event, Happened, IsOfBytes, opened_input, ga
 use Rattle.teco_pages.specs.Noting.{EndsAtEnd}
 use Rattle.teco_pages.specs.Possible.{GivesMeasured, IsUnopened, NotesFit, OpensAnew, given_next}
 use Rattle.teco_pages.proofs.Bytes.{bytes_joined}
+use Rattle.teco_pages.proofs.Puts.{named-before, named-first, named-put}
 
 -- the inputs that are opened, of the bytes that are given of them
 abbrev inputs : List Event → List File
@@ -36,16 +36,6 @@ Have named (closed ∷ events) = Have named events
 Have named (dropped ∷ events) = Have named events
 Have named (measured most ∷ events) = Have named events
 
-other : (a b : List ℕ) → a ≢ b → bytes_eq a b ≡ false
-other a b n = by (bytes_eq a b) refl where
-  by : (t : Bool) → bytes_eq a b ≡ t → bytes_eq a b ≡ false
-  by true e = absurd (n ((bytes_eq-Decides a b).0 e))
-  by false e = e
-
--- a file of another name in front
-named-before : (file : File) (name : List ℕ) (named : List File) → file.name ≢ name → file_named name (file ∷ named) ≡ file_named name named
-named-before file name named n = rw (other file.name name n) refl
-
 have-before : (file : File) (named : List File) (events : List Event) → IsUnopened file.name events → Have named events → Have (file ∷ named) events
 have-before file named [] u h = tt
 have-before file named (opened_input name ∷ events) u h = (named-before file name named u.0 ∙ h.0, have-before file named events u.1 h.1)
@@ -56,9 +46,6 @@ have-before file named (wrote bytes ∷ events) u h = have-before file named eve
 have-before file named (closed ∷ events) u h = have-before file named events u h
 have-before file named (dropped ∷ events) u h = have-before file named events u h
 have-before file named (measured most ∷ events) u h = have-before file named events u h
-
-named-first : (name bytes : List ℕ) (named : List File) → file_named name (record { name = name; bytes = bytes } ∷ named) ≡ Some bytes
-named-first name bytes named = rw ((bytes_eq-Decides name name).1 refl) refl
 
 have-inputs : (events : List Event) → OpensAnew events → Have (inputs events) events
 have-inputs [] a = tt
@@ -72,20 +59,6 @@ have-inputs (wrote bytes ∷ events) a = have-inputs events a
 have-inputs (closed ∷ events) a = have-inputs events a
 have-inputs (dropped ∷ events) a = have-inputs events a
 have-inputs (measured most ∷ events) a = have-inputs events a
-
--- a file that is put keeps those of other names
-put-before : (name bytes wanted : List ℕ) (file : File) (files : List File) → name ≢ wanted → file_named wanted (with_file name bytes files) ≡ file_named wanted files → file_named wanted (with_file name bytes (file ∷ files)) ≡ file_named wanted (file ∷ files)
-put-before name bytes wanted file files n rest = by (bytes_eq file.name name) refl where
-  by : (t : Bool) → bytes_eq file.name name ≡ t → file_named wanted (with_file name bytes (file ∷ files)) ≡ file_named wanted (file ∷ files)
-  by true e =
-      let same : file.name ≡ name = (bytes_eq-Decides file.name name).0 e in
-      let away : file.name ≢ wanted = subst (λ k. k ≢ wanted) (sym same) n in
-      rw e (named-before (record { name = name; bytes = bytes }) wanted files n ∙ sym (named-before file wanted files away))
-  by false e = rw e (ap (λ o. cond (bytes_eq file.name wanted) (Some file.bytes) o) rest)
-
-named-put : (name bytes wanted : List ℕ) (named : List File) → name ≢ wanted → file_named wanted (with_file name bytes named) ≡ file_named wanted named
-named-put name bytes wanted [] n = named-before (record { name = name; bytes = bytes }) wanted [] n
-named-put name bytes wanted (file ∷ files) n = put-before name bytes wanted file files n (named-put name bytes wanted files n)
 
 have-put : (name bytes : List ℕ) (named : List File) (events : List Event) → IsUnopened name events → Have named events → Have (with_file name bytes named) events
 have-put name bytes named [] u h = tt

@@ -2,6 +2,7 @@ pub mod Bytes
 pub mod Copied
 pub mod Cuts
 pub mod Fitting
+pub mod Puts
 pub mod Named
 pub mod Reading
 pub mod Ready

@@ -1,5 +1,5 @@
 // A host of the files of the system.
-ghost use Rattle.std.specs.Prelude.{◌≡◌, ◌≤◌, ◌<◌, suc, length, IfOk, IsErr};
+ghost use Rattle.std.specs.Prelude.{◌≡◌, ◌≤◌, ◌<◌, [], suc, length, IfOk, IsErr};
 ghost use Rattle.teco_pages.specs.HostFiles.{Notes};
 ghost use Rattle.teco_pages.specs.Kept.{output_contents};
 ghost use Rattle.teco_base.specs.declared.TheConstants.{LIMIT};
@@ -41,6 +41,9 @@ const REPLACING: Handling = Handling {
 /// Where files are edited in place the input is a regular file, and the output replaces that very
 /// file: one that has its name by then, or that was changed since it was opened, stays as it is.
 ///
+/// Where outputs are compared with their targets none is closed, and one that is dropped is compared
+/// first.
+///
 /// Where an output is dropped, and where the host is dropped with one open, the new file is
 /// removed; one that another file has taken the place of is neither moved nor removed. The name of
 /// a new file tells its process, so that what a killed one left can be told and removed. A write past
@@ -70,9 +73,11 @@ pub struct FileHost<R: System> {
 }
 
 impl<R: System> FileHost<R> {
-    /// Nothing is open. It has taken no memory yet, and will take it from `alloc`. Outputs replace
+    /// Nothing is open, and nothing noted. It has taken no memory yet, and will take it from `alloc`. Outputs replace
     /// their targets, and outlast a power cut.
-    pub fn new(alloc: Global, rt: R) -> FileHost<R> {
+    pub fn new(alloc: Global, rt: R) -> FileHost<R>
+        ensures noted { ⟦<FileHost<R> as Host>⟧.files result ≡ Notes [] }
+    {
         FileHost {
             rt,
             alloc,
@@ -89,26 +94,34 @@ impl<R: System> FileHost<R> {
     }
 
     /// Takes what hosts of this process need to know from another, which has read it.
-    pub fn set_facts(&mut self, facts: ProcessFacts) {
+    pub fn set_facts(&mut self, facts: ProcessFacts)
+        ensures noted { ⟦<FileHost<R> as Host>⟧.files self.new ≡ ⟦<FileHost<R> as Host>⟧.files self.old }
+    {
         self.facts = Some(facts);
     }
 
     /// From now on files are treated so.
-    pub fn set_handling(&mut self, handling: Handling) {
+    pub fn set_handling(&mut self, handling: Handling)
+        ensures noted { ⟦<FileHost<R> as Host>⟧.files self.new ≡ ⟦<FileHost<R> as Host>⟧.files self.old }
+    {
         self.handling = handling;
     }
 
     /// From now on files that are replaced are kept so.
-    pub fn set_backup(&mut self, backup: Backup) {
+    pub fn set_backup(&mut self, backup: Backup)
+        ensures noted { ⟦<FileHost<R> as Host>⟧.files self.new ≡ ⟦<FileHost<R> as Host>⟧.files self.old }
+    {
         self.backup = Some(backup);
     }
 
     /// From now on this becomes of outputs that are closed. A new host replaces their targets.
-    pub fn set_closing(&mut self, closing: Closing) {
+    pub fn set_closing(&mut self, closing: Closing)
+        ensures noted { ⟦<FileHost<R> as Host>⟧.files self.new ≡ ⟦<FileHost<R> as Host>⟧.files self.old }
+    {
         self.handling.closing = closing;
     }
 
-    /// What became of the output that was closed last.
+    /// What became of the output that was closed last, or compared and dropped.
     pub fn closed(&self) -> Option<Closed> {
         Some(self.ended.as_ref()?.closed)
     }
@@ -122,6 +135,15 @@ impl<R: System> FileHost<R> {
     /// What could not be done in the last call that failed.
     pub fn trouble(&self) -> Option<&Trouble> {
         self.calls.trouble.as_ref()
+    }
+
+    // How the output that is open is closed.
+    fn finish(&self) -> Finish<'_> {
+        Finish {
+            handling: self.handling,
+            is_same: is_same(&self.likeness, &self.input, self.handling),
+            backup: self.backup.as_ref(),
+        }
     }
 
     /// How many bytes the open input had when it was opened, where it is a regular file.
@@ -218,11 +240,7 @@ impl<R: System> Host for FileHost<R> {
 
     fn close_out(&mut self) -> Result<(), Failed> {
         let output = self.output.take();
-        let finish = Finish {
-            handling: self.handling,
-            is_same: is_same(&self.likeness, &self.input, self.handling),
-            backup: self.backup.as_ref(),
-        };
+        let finish = self.finish();
         match close(&self.rt, self.alloc, output, finish) {
             Ok(ended) => {
                 self.ended = Some(ended);
@@ -238,8 +256,15 @@ impl<R: System> Host for FileHost<R> {
 
     fn drop_out(&mut self) -> Result<(), Failed> {
         self.calls.history.dropped();
-        match abandon(&self.rt, self.output.take()) {
-            Ok(()) => Ok(()),
+        let output = self.output.take();
+        let finish = self.finish();
+        match let_go(&self.rt, self.alloc, output, finish) {
+            Ok(ended) => {
+                if ended.is_some() {
+                    self.ended = ended;
+                }
+                Ok(())
+            }
             Err(reason) => self.calls.cannot_use(Purpose::DropOutput, reason),
         }
     }
@@ -360,7 +385,7 @@ fn write_some<F: OpenFile + Write + Drop>(
     }
 }
 
-// Closes the output that is open.
+// Closes the output that is open, unless outputs are only compared.
 fn close<R: System>(
     rt: &R,
     alloc: Global,
@@ -368,7 +393,30 @@ fn close<R: System>(
     finish: Finish<'_>,
 ) -> Result<Ended, Reason> {
     match output {
-        Some(output) => output.finish(rt, alloc, finish),
-        None => Err(Reason::NotOpen),
+        Some(output) if finish.handling.closing != Closing::Compares => {
+            output.finish(rt, alloc, finish)
+        }
+        output => {
+            abandon(rt, output)?;
+            Err(Reason::NotOpen)
+        }
+    }
+}
+
+// Drops the output, if one is open. What came of it is told where outputs are compared.
+fn let_go<R: System>(
+    rt: &R,
+    alloc: Global,
+    output: Option<Unfinished<R::File>>,
+    finish: Finish<'_>,
+) -> Result<Option<Ended>, Reason> {
+    match output {
+        Some(output) if finish.handling.closing == Closing::Compares => {
+            Ok(Some(output.finish(rt, alloc, finish)?))
+        }
+        output => {
+            abandon(rt, output)?;
+            Ok(None)
+        }
     }
 }

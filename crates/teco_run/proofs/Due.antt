@@ -1,6 +1,7 @@
 -- Each file that is touched is touched by a step of the definition.
 use Rattle.std.proofs.Common.{◌≡◌, ℕ, List, [], ◌∷◌, ◌++◌, Option, Some, None, Result, Ok, Err, inl, inr, ◌⊎◌, refl, sym, ap, subst, ◌∙◌}
 use Rattle.std.proofs.lemmas.List.{append-nil}
+use Rattle.std.specs.List.{AllByRecursion}
 use Rattle.teco_base.specs.declared.code.Code as base
 use Rattle.teco_model.specs.Element.{Element, element_at}
 use Rattle.teco_model.specs.State.{Frame, State, World}
@@ -12,31 +13,31 @@ use Rattle.teco_pages.specs.HostFiles.{Telling}
 use Rattle.teco_filing.specs.declared.halt.Halt.{Halt}
 use Rattle.teco_filing.specs.declared.halt.Halt.TheVariants as halt
 use Rattle.teco_run.specs.Holdings.{Holdings, Joined}
-use Rattle.teco_run.specs.Touched.{AreDue, ComesTo, IsDue, TouchesBetween, file_of, touched_by_command, touched_by_read, touched_by_step}
+use Rattle.teco_run.specs.Touched.{AreDue, ComesTo, IsDue, IsUnmeasured, TouchesBetween, file_of, touched_by_command, touched_by_read, touched_by_step}
 
--- none or one
+-- none, or one file
 abbrev OneAtMost : List Event → Type 0
-OneAtMost events = (events ≡ []) ⊎ ((event : Event) × (events ≡ event ∷ []))
+OneAtMost events = (events ≡ []) ⊎ ((event : Event) × (events ≡ event ∷ []) × IsUnmeasured event)
 
 -- a step touches one file at most
 by_command : {X : Type 0} (f : Option File) (text : List ℕ) (output : Option (List ℕ)) (result : Result X Halt) → OneAtMost (touched_by_command f text output result)
 by_command None text output result = inl refl
-by_command (Some file.Read) text output (Ok done) = inr (_, refl)
-by_command (Some file.Write) text output (Ok done) = inr (_, refl)
-by_command (Some file.Close) text output (Ok done) = inr (_, refl)
-by_command (Some file.Copy) text output (Ok done) = inr (_, refl)
+by_command (Some file.Read) text output (Ok done) = inr (_, refl, tt)
+by_command (Some file.Write) text output (Ok done) = inr (_, refl, tt)
+by_command (Some file.Close) text output (Ok done) = inr (_, refl, tt)
+by_command (Some file.Copy) text output (Ok done) = inr (_, refl, tt)
 by_command (Some file.Abandon) text None (Ok done) = inl refl
-by_command (Some file.Abandon) text (Some name) (Ok done) = inr (_, refl)
+by_command (Some file.Abandon) text (Some name) (Ok done) = inr (_, refl, tt)
 by_command (Some file.Exit) text None (Ok done) = inl refl
-by_command (Some file.Exit) text (Some name) (Ok done) = inr (_, refl)
+by_command (Some file.Exit) text (Some name) (Ok done) = inr (_, refl, tt)
 by_command (Some f) text output (Err (halt.Code c)) = inl refl
 by_command (Some f) text output (Err halt.Memory) = inl refl
 by_command (Some file.Read) text output (Err (halt.Host fault)) = inl refl
 by_command (Some file.Write) text output (Err (halt.Host fault)) = inl refl
-by_command (Some file.Close) text output (Err (halt.Host fault)) = inr (_, refl)
-by_command (Some file.Copy) text output (Err (halt.Host fault)) = inr (_, refl)
-by_command (Some file.Abandon) text output (Err (halt.Host fault)) = inr (_, refl)
-by_command (Some file.Exit) text output (Err (halt.Host fault)) = inr (_, refl)
+by_command (Some file.Close) text output (Err (halt.Host fault)) = inr (_, refl, tt)
+by_command (Some file.Copy) text output (Err (halt.Host fault)) = inr (_, refl, tt)
+by_command (Some file.Abandon) text output (Err (halt.Host fault)) = inr (_, refl, tt)
+by_command (Some file.Exit) text output (Err (halt.Host fault)) = inr (_, refl, tt)
 
 by_read : {X : Type 0} (read : Result (Option Element) base.Code) (output : Option (List ℕ)) (result : Result X Halt) → OneAtMost (touched_by_read read output result)
 by_read (Err c) output result = inl refl
@@ -45,6 +46,18 @@ by_read (Ok (Some e)) output result = by_command (file_of e.kind) e.text output 
 
 pub one-at-most : {X : Type 0} (frame : Frame) (output : Option (List ℕ)) (result : Result X Halt) → OneAtMost (touched_by_step frame output result)
 one-at-most frame output result = by_read (element_at frame.text frame.place) output result
+
+none-measured : (events : List Event) → OneAtMost events → AllByRecursion IsUnmeasured events
+none-measured events (inl none) = rw none tt
+none-measured events (inr one) = rw (one.1) (one.2, tt)
+
+-- nor is any measured
+pub step-unmeasured : {X : Type 0} (frame : Frame) (output : Option (List ℕ)) (result : Result X Halt) → AllByRecursion IsUnmeasured (touched_by_step frame output result)
+step-unmeasured frame output result = none-measured (touched_by_step frame output result) (one-at-most frame output result)
+
+pub unmeasured-on : (a b : List Event) → AllByRecursion IsUnmeasured a → AllByRecursion IsUnmeasured b → AllByRecursion IsUnmeasured (a ++ b)
+unmeasured-on [] b h i = i
+unmeasured-on (e ∷ a) b h i = (h.0, unmeasured-on a b h.1 i)
 
 -- an event of a list that ends with one is before that, or it is that
 split-last : (events earlier later : List Event) (last event : Event) → events ++ last ∷ [] ≡ earlier ++ event ∷ later

@@ -1,5 +1,6 @@
 -- Which files the steps of a run open, name and drop, where its host notes its calls.
-use Rattle.std.specs.Prelude.{ℕ, zero, suc, ◌≡◌, List, [], ◌∷◌, ◌++◌, Option, Some, None, Result, Ok, Err, option_map}
+use Rattle.std.specs.Prelude.{ℕ, zero, suc, ◌≡◌, ⊤, List, [], ◌∷◌, ◌++◌, Option, Some, None, Result, Ok, Err, option_map}
+use Rattle.std.specs.List.{AllByRecursion}
 use Rattle.teco_base.specs.declared.code.Code as base
 use Rattle.teco_model.specs.Element.{Element, element_at}
 use Rattle.teco_model.specs.Files.{Output}
@@ -10,7 +11,7 @@ use Rattle.teco_model.specs.declared.kind.Kind.{Kind}
 use Rattle.teco_model.specs.declared.kind.Kind.TheVariants as kind
 use Rattle.teco_model.specs.declared.stop.Stop.{Stop}
 use Rattle.teco_model.specs.declared.stop.Stop.TheVariants as stop
-use Rattle.teco_pages.specs.Events.{Event}
+use Rattle.teco_pages.specs.Events.{Event, measured}
 use Rattle.teco_pages.specs.HostFiles.{Telling}
 use Rattle.teco_pages.specs.Noting.{Touches}
 use Rattle.teco_filing.specs.Touched.{touched_in}
@@ -106,12 +107,18 @@ AreDue from touched old new before after =
     (earlier : List Event) (event : Event) (later : List Event) → touched ≡ earlier ++ event ∷ later
     → IsDue from earlier event later old new before after
 
+-- not the measure of an input
+abbrev pub IsUnmeasured : Event → Type 0
+IsUnmeasured (measured most) = ⊥
+IsUnmeasured other = ⊤
+
 -- Where the host notes its calls, just those files were opened, named and dropped, in turn, that the definition's
 -- steps from a state touch, whatever files there are, each by what was noted before it; and nothing was read behind the
--- end of an input.
+-- end of an input, nor was any measured.
 pub record TouchesBySteps (from : World → State) (defined : State → List Event) (old new : Holdings)
     (before after : Telling) : Type 0 where
   pub touched : List Event
   pub notes : TouchesBetween touched old new before after
+  pub unmeasured : AllByRecursion IsUnmeasured touched
   pub by_definition : Joined (λ was is. touched ≡ defined (from was)) old new before after
   pub due : AreDue from touched old new before after

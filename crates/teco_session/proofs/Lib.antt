@@ -5,3 +5,4 @@ pub mod Pairs
 pub mod Said
 pub mod SessionSteps
 pub mod Together
+pub mod Touching

@@ -5,3 +5,4 @@ pub mod FirstCode
 pub mod Output
 pub mod Sessions
 pub mod Strings
+pub mod Touched

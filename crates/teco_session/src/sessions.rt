@@ -10,6 +10,7 @@ ghost use Rattle.teco_session.specs.Answers.{Answers, Said};
 ghost use Rattle.teco_session.specs.FirstCode.{Hears};
 ghost use Rattle.teco_session.specs.Output.{Writes};
 ghost use Rattle.teco_session.specs.Sessions.{Converses, SessionCounts, setting};
+ghost use Rattle.teco_session.specs.Touched.{TouchesByPiece, TouchesByString, TouchesInSession};
 ghost use Rattle.teco_session.specs.declared.strings.Piece.TheVariants as piece;
 
 use crate::ahead::Ahead;
@@ -23,6 +24,7 @@ use teco_base::bytes::is_blank;
 use teco_base::{Code, LIMIT};
 use teco_model::{HostFault, Limits};
 use teco_pages::Host;
+use teco_pages::laws::notes_fit;
 use teco_run::{Machine, Stop};
 use teco_text::TextStore;
 
@@ -188,6 +190,8 @@ fn answer_command<T: TextStore, W: Write, H: Host, L: Listener<H>>(
         new (H.failures host.old) (H.failures host.new)
         (W.contents writer.old) (W.contents writer.new) result)
         machine.old machine.new (H.files host.old) (H.files host.new) }
+    ensures touches { TouchesByString cut.now.limits.steps cut.now.bytes.now
+        machine.old machine.new (H.files host.old) (H.files host.new) }
     ensures counted { SessionCounts result (H.failures host.old) (H.failures host.new) }
 {
     let stopped = machine.run_to_stop(cut.bytes, cut.limits.steps, host);
@@ -232,6 +236,8 @@ fn answer<T: TextStore, W: Write, H: Host, L: Listener<H>>(
         (H.failures host.old) (H.failures host.new)
         (W.contents writer.old) (W.contents writer.new) result)
         machine.old machine.new (H.files host.old) (H.files host.new) }
+    ensures touches { TouchesByPiece cut.now.limits cut.now.piece cut.now.bytes.now
+        machine.old machine.new (H.files host.old) (H.files host.new) }
     ensures counted { SessionCounts result (H.failures host.old) (H.failures host.new) }
 {
     match cut.piece {
@@ -261,6 +267,9 @@ pub fn session<T: TextStore, R: Read, W: Write, H: Host>(
         (setting old (H.failures host.old) (R.remaining reader.old) (W.contents writer.old))
         (setting new (H.failures host.new) (R.remaining reader.new) (W.contents writer.new))
         result) machine.old machine.new (H.files host.old) (H.files host.new) }
+    ensures touches { TouchesInSession (record { steps = limit; length = LIMIT })
+        (R.remaining reader.old) (R.remaining reader.new)
+        machine.old machine.new (H.files host.old) (H.files host.new) }
     ensures counted { SessionCounts result (H.failures host.old) (H.failures host.new) }
 {
     session_max(alloc, machine, reader, writer, host, limit, LIMIT)
@@ -282,6 +291,9 @@ pub fn session_max<T: TextStore, R: Read, W: Write, H: Host>(
         (setting old (H.failures host.old) (R.remaining reader.old) (W.contents writer.old))
         (setting new (H.failures host.new) (R.remaining reader.new) (W.contents writer.new))
         result) machine.old machine.new (H.files host.old) (H.files host.new) }
+    ensures touches { TouchesInSession (record { steps = limit; length = max })
+        (R.remaining reader.old) (R.remaining reader.new)
+        machine.old machine.new (H.files host.old) (H.files host.new) }
     ensures counted { SessionCounts result (H.failures host.old) (H.failures host.new) }
 {
     let limits = Limits {
@@ -312,8 +324,12 @@ pub fn session_heard<T: TextStore, R: Read, W: Write, H: Host, L: Listener<H>>(
         (setting old (H.failures host.old) (R.remaining reader.old) (W.contents writer.old))
         (setting new (H.failures host.new) (R.remaining reader.new) (W.contents writer.new))
         result) machine.old machine.new (H.files host.old) (H.files host.new) }
+    ensures touches { TouchesInSession conduct.limits
+        (R.remaining reader.old) (R.remaining reader.new)
+        machine.old machine.new (H.files host.old) (H.files host.new) }
     ensures counted { SessionCounts result (H.failures host.old) (H.failures host.new) }
 {
+    notes_fit();
     let limits = conduct.limits;
     let mut string = Vec::new(alloc);
     let mut ahead = Ahead::new();

@@ -127,16 +127,17 @@ const STEPS: &[&str] = &[
     "put:old begin:new two-names drop alone:old begin:new => old",
     // An output that cannot be closed, since a folder takes the name first, is gone.
     "begin:new make-folder cannot-close remove-folder begin:new close => new",
-    // Outputs that equal their target leave it, or are only compared.
+    // Outputs that equal their target leave it; those that are only compared are dropped, and can't be closed.
     "put:same closing:other begin:same close same => same",
-    "put:same closing:compared begin:new close changed => same",
-    "put:same closing:compared begin:sam close changed => same",
+    "put:same closing:compared begin:new drop changed => same",
+    "put:same closing:compared begin:sam drop changed => same",
+    "put:same closing:compared begin:new cannot-close => same",
     "put:same closing:other begin:new close changed => new",
     "put:new closing:any begin:new close changed => new",
     // A file is replaced in place by what is written, and stays where that is what was read.
     "edit put:old private read begin:new close changed is-private => new",
     "edit put:new read begin:new close same alone:new read begin:ne close changed => ne",
-    "edit:compared put:old read begin:new close changed read begin:old close same => old",
+    "edit:compared put:old read begin:new drop changed read begin:old drop same => old",
     // What is written before the file is read is compared with it all the same.
     "edit put:old open begin:old read-on close same => old",
     // What was written to an output that was dropped counts for no other.

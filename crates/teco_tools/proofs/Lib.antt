@@ -1,2 +1,3 @@
 -- What proofs of this crate cite.
+mod Played
 mod Settings

@@ -1,2 +1,3 @@
--- How many bytes streams gave.
-pub mod Streams
+-- What runs of scripts did.
+pub mod Starts
+pub mod Scripts

@@ -9,7 +9,6 @@ mod prompting;
 mod reporting;
 mod running;
 mod setting;
-mod streams;
 mod strings;
 mod telling;
 
@@ -20,5 +19,5 @@ pub use prompting::Prompting;
 pub use reporting::{Reporting, tell_trouble};
 pub use running::{Run, Script, run_scripts};
 pub use setting::{Case, Start, prepare};
-pub use streams::{INPUT, OUTPUT, Streams, told_name};
+pub use teco_streams::{INPUT, OUTPUT, Streams, told_name};
 pub use telling::{code_of, size_of, tell_macro};

@@ -1,6 +1,7 @@
 //! Machines for runs, and what they are given to run.
-ghost use Rattle.std.specs.Prelude.{◌≤◌, IfOk, length};
+ghost use Rattle.std.specs.Prelude.{◌≡◌, ◌≤◌, IfOk, length};
 ghost use Rattle.teco_base.specs.declared.TheConstants.{LIMIT};
+ghost use Rattle.teco_tools.specs.Scripts.{new_machine};
 
 use crate::fault::ToolFault;
 use std::alloc::Global;
@@ -10,7 +11,9 @@ use teco_text::GapText;
 use teco_verdicts::AnswerFault;
 
 /// A machine whose runs may type so many bytes.
-pub fn machine_with(alloc: Global, cap: usize) -> Machine<GapText> {
+pub fn machine_with(alloc: Global, cap: usize) -> Machine<GapText>
+    ensures { result ≡ new_machine }
+{
     let mut machine = Machine::new(alloc, GapText::new(alloc));
     machine.set_cap(cap);
     machine

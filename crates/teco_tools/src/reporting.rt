@@ -1,7 +1,8 @@
 //! What hosts of files say of their calls.
 use crate::messages::tell;
-use std::io::Write;
-use teco_pages::{FileHost, System, Trouble};
+use std::io::{Read, Write};
+use teco_pages::{FileHost, Host, System, Trouble};
+use teco_streams::Streams;
 use teco_verdicts::Voice;
 
 /// A host that says what is left of its input, and why its last call that failed did.
@@ -27,6 +28,28 @@ impl<R: System> Reporting for FileHost<R> {
 
     fn trouble(&self) -> Option<&Trouble> {
         FileHost::trouble(self)
+    }
+}
+
+impl<H: Host + Reporting + Drop, I: Read + Drop, O: Write + Drop> Reporting for Streams<H, I, O> {
+    fn bytes_left(&self) -> Option<u64> {
+        if self.reads_file() {
+            self.files().bytes_left()
+        } else {
+            None
+        }
+    }
+
+    fn input_length(&self) -> Option<u64> {
+        if self.reads_file() {
+            self.files().input_length()
+        } else {
+            None
+        }
+    }
+
+    fn trouble(&self) -> Option<&Trouble> {
+        Streams::trouble(self).or(self.files().trouble())
     }
 }
 

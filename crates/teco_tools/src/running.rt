@@ -1,24 +1,30 @@
 //! `run`: sessions on standard input, on files and on words of the command line.
-ghost use Rattle.std.specs.Prelude.{◌≤◌};
+ghost use Rattle.std.specs.Prelude.{◌≡◌, ◌≤◌, List, Option, Some, None, ℕ, IfOk};
 ghost use Rattle.teco_base.specs.declared.TheConstants.{LIMIT};
+ghost use Rattle.teco_run.specs.Holdings.{Joined};
+ghost use Rattle.teco_session.specs.FirstCode.{Hears};
+ghost use Rattle.teco_session.specs.Sessions.{setting};
+ghost use Rattle.teco_tools.specs.Scripts as scripts;
+ghost use Rattle.teco_tools.specs.Scripts.{Concludes, FileSays, HearsScript, IsInput, IsOutcome, PlaysOut, RunsScripts, around, conduct_of, terms_of};
 
 use crate::fault::ToolFault;
 use crate::machines::machine_with;
-use crate::reporting::tell_trouble;
+use crate::reporting::{Reporting, tell_trouble};
 use crate::setting::{Start, prepare};
 use crate::strings::Progress;
 use crate::telling::{Scene, code_of, size_of, tell_macro};
 use std::alloc::{AllocError, Global};
-use std::fs::Files;
-use std::io::{Input, Read, Write};
+use std::io::{Read, Write};
 use teco_base::{Code, LIMIT};
 use teco_model::Limits;
-use teco_pages::{FileHost, System};
+use teco_pages::Host;
 use teco_run::{Machine, Stop, Stopped};
 use teco_session::{Conduct, Done, Listener, SessionFault, session_heard};
 use teco_source::{Position, Shown, Source};
 use teco_text::{GapText, TextStore};
-use teco_verdicts::{Console, Escape, Outcome, Voice, form_of, form_of_word, letters, read_file};
+use teco_verdicts::{
+    Console, Escape, Outcome, Shelf, Voice, form_of, form_of_word, letters, read_file,
+};
 
 /// What command strings are read from.
 #[derive(Clone, Copy)]
@@ -133,9 +139,9 @@ impl<'a, E: Write + Drop> Teller<'a, E> {
     }
 }
 
-impl<F, E> Listener<FileHost<F>> for Teller<'_, E>
+impl<H, E> Listener<H> for Teller<'_, E>
 where
-    F: System,
+    H: Host + Reporting,
     E: Write + Drop,
 {
     fn stopped<T: TextStore>(
@@ -143,7 +149,7 @@ where
         text: &[u8],
         stopped: &Stopped,
         machine: &Machine<T>,
-        host: &FileHost<F>,
+        host: &H,
     ) {
         self.number = self.number.saturating_add(1);
         if let Some(code) = code_of(stopped.stop) {
@@ -174,23 +180,27 @@ fn word_source(alloc: Global, word: &str, escape: Escape) -> Result<Source, Allo
 }
 
 // The source of a script that is a file.
-fn file_source<R: Files + Input>(
+fn file_source<R: Shelf>(
     rt: &R,
     alloc: Global,
     name: &str,
     escape: Escape,
-) -> Result<Source, ToolFault> {
+) -> Result<Source, ToolFault>
+    ensures { IfOk result (FileSays (R.holds rt.now) escape name.now) }
+{
     let bytes = read_file(rt, alloc, name)?;
     Ok(Source::script(alloc, name, bytes, form_of(name, escape))?)
 }
 
 // The source of a script that is none of standard input.
-fn source_of<R: Files + Input>(
+fn source_of<R: Shelf>(
     rt: &R,
     alloc: Global,
     script: Script<'_>,
     escape: Escape,
-) -> Result<Option<Source>, ToolFault> {
+) -> Result<Option<Source>, ToolFault>
+    ensures { IfOk result (IsInput (R.holds rt.now) escape script.entry) }
+{
     match script {
         Script::Stream => Ok(None),
         Script::Word(word) => Ok(Some(word_source(alloc, word, escape)?)),
@@ -201,7 +211,7 @@ fn source_of<R: Files + Input>(
 impl Run<'_, '_> {
     // How a session is conducted.
     fn conduct(&self) -> Conduct
-        ensures { result.limits.length ≤ LIMIT }
+        ensures { result ≡ conduct_of self.now }
     {
         Conduct {
             limits: Limits {
@@ -214,19 +224,23 @@ impl Run<'_, '_> {
 }
 
 // Runs what a reader gives.
-fn run_stream<S, F, O, E>(
+fn run_stream<S, H, O, E>(
     console: &mut Console<O, E>,
     machine: &mut Machine<GapText>,
     conduct: Conduct,
     reader: &mut S,
-    host: &mut FileHost<F>,
+    host: &mut H,
 ) -> Result<Done, SessionFault>
 where
     S: Read,
-    F: System,
+    H: Host + Reporting,
     O: Write + Drop,
     E: Write + Drop,
     requires { conduct.limits.length ≤ LIMIT }
+    ensures { Joined (λ old new. HearsScript conduct.until_code conduct.limits None
+        (setting old (H.failures host.old) (S.remaining reader.old) (O.contents console.old.out))
+        (setting new (H.failures host.new) (S.remaining reader.new) (O.contents console.new.out))
+        result) machine.old machine.new (H.files host.old) (H.files host.new) }
 {
     let mut teller = Teller::of_stream(&mut console.voice);
     let out = &mut console.out;
@@ -242,18 +256,23 @@ where
 }
 
 // Runs what a source says.
-fn run_source<F, O, E>(
+fn run_source<H, O, E>(
     console: &mut Console<O, E>,
     machine: &mut Machine<GapText>,
     conduct: Conduct,
     source: &Source,
-    host: &mut FileHost<F>,
+    host: &mut H,
 ) -> Result<Done, SessionFault>
 where
-    F: System,
+    H: Host + Reporting,
     O: Write + Drop,
     E: Write + Drop,
     requires { conduct.limits.length ≤ LIMIT }
+    ensures { (unread : Option (List ℕ)) → Joined (λ old new. HearsScript conduct.until_code
+        conduct.limits (Some source.now)
+        (setting old (H.failures host.old) unread (O.contents console.old.out))
+        (setting new (H.failures host.new) unread (O.contents console.new.out))
+        result) machine.old machine.new (H.files host.old) (H.files host.new) }
 {
     let mut text = source.text();
     let mut teller = Teller::of_source(&mut console.voice, source);
@@ -269,94 +288,115 @@ where
     )
 }
 
-// A machine that runs scripts, with where it types to, and its files.
+// A script that is to be played: how its session is conducted, and its text, where it is none of the
+// stream.
 #[derive(Drop)]
-struct Desk<'c, 'h, O: Write + Drop, E: Write + Drop, F: System> {
-    console: &'c mut Console<O, E>,
-    machine: Machine<GapText>,
-    host: &'h mut FileHost<F>,
+struct Part {
+    conduct: Conduct,
+    source: Option<Source>,
 }
 
-impl<O: Write + Drop, E: Write + Drop, F: System> Desk<'_, '_, O, E, F> {
-    // Runs what a source says, or what a reader gives where there is none.
-    fn run_script<S: Read>(
-        &mut self,
-        conduct: Conduct,
-        source: Option<Source>,
-        reader: &mut S,
-    ) -> Result<Done, SessionFault>
-        requires { conduct.limits.length ≤ LIMIT }
-    {
-        match source {
-            None => run_stream(self.console, &mut self.machine, conduct, reader, self.host),
-            Some(source) => run_source(
-                self.console,
-                &mut self.machine,
-                conduct,
-                &source,
-                self.host,
-            ),
-        }
+// Runs what a source says, or what a reader gives where there is none.
+fn run_script<S, H, O, E>(
+    console: &mut Console<O, E>,
+    machine: &mut Machine<GapText>,
+    part: Part,
+    reader: &mut S,
+    host: &mut H,
+) -> Result<Done, SessionFault>
+where
+    S: Read,
+    H: Host + Reporting,
+    O: Write + Drop,
+    E: Write + Drop,
+    requires { part.conduct.limits.length ≤ LIMIT }
+    ensures { Joined (λ old new. HearsScript part.conduct.until_code
+        part.conduct.limits part.source
+        (setting old (H.failures host.old) (S.remaining reader.old) (O.contents console.old.out))
+        (setting new (H.failures host.new) (S.remaining reader.new) (O.contents console.new.out))
+        result) machine.old machine.new (H.files host.old) (H.files host.new) }
+{
+    let Part { conduct, source } = part;
+    match source {
+        None => run_stream(console, machine, conduct, reader, host),
+        Some(source) => run_source(console, machine, conduct, &source, host),
     }
+}
 
-    // Runs scripts in turn, and says what came of them, and whether the session was ended.
-    fn run_each<R: Files + Input, S: Read>(
-        &mut self,
-        rt: &R,
-        run: &Run<'_, '_>,
-        reader: &mut S,
-    ) -> Result<Done, ToolFault> {
-        let mut all = Done {
-            coded: false,
-            exit: false,
+// Does a session end the run?
+fn is_last(done: Done, until_code: bool) -> bool
+    ensures { result ≡ scripts.is_last until_code done }
+{
+    done.exit || (done.coded && until_code)
+}
+
+// Scripts that are to be played, over files that are read by name.
+#[derive(Clone, Copy)]
+struct Task<'t, 'a, R: Shelf> {
+    rt: &'t R,
+    scripts: &'t [Script<'a>],
+    escape: Escape,
+    conduct: Conduct,
+}
+
+// Runs scripts in turn, and says what came of them, and whether the session was ended.
+fn run_each<R, S, H, O, E>(
+    task: Task<'_, '_, R>,
+    console: &mut Console<O, E>,
+    machine: &mut Machine<GapText>,
+    reader: &mut S,
+    host: &mut H,
+) -> Result<Done, ToolFault>
+where
+    R: Shelf,
+    S: Read,
+    H: Host + Reporting,
+    O: Write + Drop,
+    E: Write + Drop,
+    requires { task.conduct.limits.length ≤ LIMIT }
+    ensures { Joined (λ old new. PlaysOut
+        (terms_of (R.holds task.entry.rt.now) task.entry.escape task.entry.conduct)
+        task.entry.scripts.now
+        (setting old (H.failures host.old) (S.remaining reader.old) (O.contents console.old.out))
+        (setting new (H.failures host.new) (S.remaining reader.new) (O.contents console.new.out))
+        result) machine.old machine.new (H.files host.old) (H.files host.new) }
+{
+    let mut coded = false;
+    for script in task.scripts {
+        let source = source_of(task.rt, console.alloc, *script, task.escape)?;
+        let part = Part {
+            conduct: task.conduct,
+            source,
         };
-        for script in run.scripts {
-            let source = source_of(rt, self.console.alloc, *script, run.escape)?;
-            let done = self.run_script(run.conduct(), source, reader)?;
-            all.coded |= done.coded;
-            all.exit = done.exit;
-            if done.exit || (done.coded && run.until_code) {
-                break;
-            }
+        let done = run_script(console, machine, part, reader, host)?;
+        coded |= done.coded;
+        if is_last(done, task.conduct.until_code) {
+            return Ok(Done {
+                coded,
+                exit: done.exit,
+            });
         }
-        Ok(all)
     }
-
-    // Gives registers their texts, and runs scripts in turn.
-    fn run_all<R: Files + Input, S: Read>(
-        &mut self,
-        rt: &R,
-        run: &Run<'_, '_>,
-        reader: &mut S,
-    ) -> Result<Outcome, ToolFault> {
-        prepare(&mut self.machine, run.start, self.host)?;
-        let done = self.run_each(rt, run, reader)?;
-        let is_all_kept = tell_left(self.console, &self.machine, done.exit);
-        Ok(if done.coded || !is_all_kept {
-            Outcome::Coded
-        } else {
-            Outcome::Done
-        })
-    }
+    Ok(Done { coded, exit: false })
 }
 
 // Says what a run leaves that is lost: an output that isn't closed, and text that the end of the
 // session drops. Answers whether what was written to an output is kept.
-fn tell_left<O: Write + Drop, E: Write + Drop>(
-    console: &mut Console<O, E>,
+fn tell_left<E: Write + Drop>(
+    voice: &mut Voice<E>,
     machine: &Machine<GapText>,
     is_exit: bool,
 ) -> bool {
     let (_, length) = size_of(machine);
     if machine.has_output() {
-        console.complain(
+        voice.complain(
             "an output is still open, and what was written to it is dropped: \
                 close it with EC or EF",
         );
         return false;
     }
     if is_exit && length > 0 {
-        console.complain(format_args!(
+        voice.complain(format_args!(
             "EX ended the session with {length} characters in the buffer and no output, \
                 and they are dropped"
         ));
@@ -364,28 +404,71 @@ fn tell_left<O: Write + Drop, E: Write + Drop>(
     true
 }
 
+// What is answered of scripts that were played.
+fn outcome_of(done: Done, is_all_kept: bool) -> Outcome
+    ensures { IsOutcome done result }
+{
+    if done.coded || !is_all_kept {
+        Outcome::Coded
+    } else {
+        Outcome::Done
+    }
+}
+
+// Runs scripts in turn, and says what they leave that is lost.
+fn play_out<R, S, H, O, E>(
+    task: Task<'_, '_, R>,
+    console: &mut Console<O, E>,
+    machine: &mut Machine<GapText>,
+    reader: &mut S,
+    host: &mut H,
+) -> Result<Outcome, ToolFault>
+where
+    R: Shelf,
+    S: Read,
+    H: Host + Reporting,
+    O: Write + Drop,
+    E: Write + Drop,
+    requires { task.conduct.limits.length ≤ LIMIT }
+    ensures { Concludes (terms_of (R.holds task.entry.rt.now) task.entry.escape task.entry.conduct)
+        task.entry.scripts.now
+        (around (H.failures host.old) (S.remaining reader.old) (O.contents console.old.out))
+        (around (H.failures host.new) (S.remaining reader.new) (O.contents console.new.out))
+        machine.old machine.new (H.files host.old) (H.files host.new) result }
+{
+    let done = run_each(task, console, machine, reader, host)?;
+    let is_all_kept = tell_left(&mut console.voice, machine, done.exit);
+    Ok(outcome_of(done, is_all_kept))
+}
+
 /// Runs scripts one after another on one machine, over the files of a host; the stream among them
 /// is what the reader gives. A code does not keep later ones from running, unless the first is to
 /// end it; a command string that ends the session does.
-pub fn run_scripts<R, S, F, O, E>(
+pub fn run_scripts<R, S, H, O, E>(
     rt: &R,
     console: &mut Console<O, E>,
     run: &Run<'_, '_>,
     reader: &mut S,
-    host: &mut FileHost<F>,
+    host: &mut H,
 ) -> Result<Outcome, ToolFault>
 where
-    R: Files + Input,
+    R: Shelf,
     S: Read,
-    F: System,
+    H: Host + Reporting,
     O: Write + Drop,
     E: Write + Drop,
+    ensures { RunsScripts (terms_of (R.holds rt.now) run.now.escape (conduct_of run.now)) run.now
+        (around (H.failures host.old) (S.remaining reader.old) (O.contents console.old.out))
+        (around (H.failures host.new) (S.remaining reader.new) (O.contents console.new.out))
+        (H.files host.old) (H.files host.new) result }
 {
-    let machine = machine_with(console.alloc, run.cap);
-    let mut desk = Desk {
-        console,
-        machine,
-        host,
+    let mut machine = machine_with(console.alloc, run.cap);
+    prepare(&mut machine, run.start, host)?;
+    let task = Task {
+        rt,
+        scripts: run.scripts,
+        escape: run.escape,
+        conduct: run.conduct(),
     };
-    desk.run_all(rt, run, reader)
+    play_out(task, console, &mut machine, reader, host)
 }

@@ -1,8 +1,9 @@
 //! What registers have before a run.
-ghost use Rattle.std.specs.Prelude.{◌≤◌, length};
+ghost use Rattle.std.specs.Prelude.{◌≡◌, ◌≤◌, [], length};
 ghost use Rattle.std.specs.List.{All};
 ghost use Rattle.teco_base.specs.declared.TheConstants.{LIMIT};
 ghost use Rattle.teco_regs.specs.Texts.{IsTextWithinLimit};
+ghost use Rattle.teco_tools.specs.Starts.{IsBare};
 
 use crate::fault::ToolFault;
 use crate::machines::within_limit;
@@ -72,15 +73,22 @@ impl Start<'_> {
     }
 }
 
-// Gives registers their texts.
-fn set_texts<T: TextStore>(
-    machine: &mut Machine<T>,
-    settings: &[Setting],
-) -> Result<(), ToolFault> {
+// Gives registers their texts, one after another.
+fn set_each<T: TextStore>(machine: &mut Machine<T>, settings: &[Setting]) -> Result<(), ToolFault> {
     for given in settings {
         machine.load(with_text(no_texts(), given.register(), given.text()))?;
     }
     Ok(())
+}
+
+// Gives registers their texts, if there are any.
+fn set_texts<T: TextStore>(machine: &mut Machine<T>, settings: &[Setting]) -> Result<(), ToolFault>
+    ensures { settings.now ≡ [] → machine.new ≡ machine.old }
+{
+    match settings {
+        [] => Ok(()),
+        _ => set_each(machine, settings),
+    }
 }
 
 /// Gives a new machine what it has before a run.
@@ -88,7 +96,11 @@ pub fn prepare<T: TextStore, H: Host>(
     machine: &mut Machine<T>,
     start: Start<'_>,
     host: &mut H,
-) -> Result<(), ToolFault> {
+) -> Result<(), ToolFault>
+    ensures machine { IsBare start.entry → machine.new ≡ machine.old }
+    ensures files { IsBare start.entry → H.files host.new ≡ H.files host.old }
+    ensures failures { IsBare start.entry → H.failures host.new ≡ H.failures host.old }
+{
     set_texts(machine, start.settings)?;
     let Some(case) = start.case else {
         return Ok(());

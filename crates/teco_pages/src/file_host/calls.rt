@@ -25,6 +25,7 @@ impl Calls {
     /// No calls.
     pub fn new(alloc: Global) -> Calls
         ensures failures { result.failures.value ≡ 0 }
+        ensures history { result.history.events ≡ [] }
     {
         Calls {
             input_name: Vec::new(alloc),

@@ -1,5 +1,7 @@
-use Rattle.std.proofs.Common.{◌≡◌, ◌+◌, ◌∙◌, ℕ, Ok, Err, true, refl, ap, arith}
+use Rattle.std.proofs.Common.{◌≡◌, ◌+◌, ◌∙◌, ℕ, Ok, Err, true, inl, refl, ap, arith}
 use Rattle.teco_apply.proofs.ByPages.{Joined-too_many, each-ends, each-full, each-more, each-stops, macro-goes_on, macro-stops, page-closes}
+use Rattle.teco_apply.proofs.Parts.{parts-same, parts-taken}
+use Rattle.teco_apply.specs.Touched.{in_turn}
 use Rattle.teco_apply.specs.ByPages.{BehindPage, Order, PagesTurned, nothing_done, order_by}
 use Rattle.teco_apply.specs.declared.by_pages.TheConstants.{PAGES}
 use Rattle.teco_apply.specs.declared.stages.Ran.TheVariants as ran
@@ -13,6 +15,7 @@ loop-init g c = record {
   turned =
       rw c.new-done.ensures (Joined-stays (λ (old : World) (new : World). PagesTurned (order_by (g.G.Guard.answers c.args.order.now.guard.now) c.args.order.now.call.now) old (g.H.Host.failures c.args.host.now) (g.W.Write.contents c.args.writer.now) nothing_done new (g.H.Host.failures c.args.host.now) (g.W.Write.contents c.args.writer.now))
       c.args.machine.now (g.H.Host.files c.args.host.now) (λ world. PagesTurned.none));
+  touched = parts-same c.args.order.now.call.now c.args.machine.now c.args.machine.now (g.H.Host.files c.args.host.now) refl;
   failures = refl;
   pages = ap (λ (t : Tally). t.pages) c.new-done.ensures;
 }
@@ -117,6 +120,10 @@ loop-preserved g c =
           (g.W.Write.contents c.args.writer.now) (g.W.Write.contents now.writer) (g.W.Write.contents c.run_admitted.new.writer) (g.W.Write.contents c.turn.new.writer)
           c.in-Ok-On.steps now.invariant.turned
           (rw c.in-Ok-On.field-0-is at c.in-Ok-On.ensures.runs) (rw c.in-Ok-On-turn.field-0-is at c.in-Ok-On-turn.ensures.turns));
+      touched =
+          in_turn c.args.machine.now c.run_admitted.new.machine c.turn.new.machine (g.H.Host.files c.args.host.now) (g.H.Host.files c.run_admitted.new.host) (g.H.Host.files c.turn.new.host)
+          (in_turn c.args.machine.now now.machine c.run_admitted.new.machine (g.H.Host.files c.args.host.now) (g.H.Host.files now.host) (g.H.Host.files c.run_admitted.new.host) now.invariant.touched c.in-Ok-On.ensures.touches)
+          (c.in-Ok-On-turn.ensures.touches c.args.order.now.call.now (inl refl));
       failures = turned_on ∙ (ran_on ∙ now.invariant.failures);
       pages = rw c.after-done.ensures (ap (λ (n : ℕ). n + 1) now.invariant.pages);
     }
@@ -134,3 +141,50 @@ returns-clause-edits g c =
     (g.W.Write.contents c.args.writer.now) (g.W.Write.contents now.writer) (g.W.Write.contents c.tell.new.writer)
     c.tell.result c.ended.result all c.ended.ensures now.invariant.turned
     (Joined-too_many now.machine c.tell.new.machine (g.H.Host.files now.host) (g.H.Host.failures now.host) (g.W.Write.contents now.writer) (g.W.Write.contents c.tell.new.writer) c.tell.result lines told c.tell.ensures.taken)
+
+pub returns-in-Ok-Coded-clause-touches : goal.returns-in-Ok-Coded-clause-touches
+returns-in-Ok-Coded-clause-touches g c =
+    let now = c.loop in
+    in_turn c.args.machine.now now.machine c.run_admitted.new.machine (g.H.Host.files c.args.host.now) (g.H.Host.files now.host) (g.H.Host.files c.run_admitted.new.host)
+    now.invariant.touched c.in-Ok-Coded.ensures.touches
+
+pub returns-in-Ok-Refused-clause-touches : goal.returns-in-Ok-Refused-clause-touches
+returns-in-Ok-Refused-clause-touches g c =
+    let now = c.loop in
+    in_turn c.args.machine.now now.machine c.run_admitted.new.machine (g.H.Host.files c.args.host.now) (g.H.Host.files now.host) (g.H.Host.files c.run_admitted.new.host)
+    now.invariant.touched c.in-Ok-Refused.ensures.touches
+
+pub returns-in-Err-clause-touches : goal.returns-in-Err-clause-touches
+returns-in-Err-clause-touches g c =
+    let now = c.loop in
+    in_turn c.args.machine.now now.machine c.run_admitted.new.machine (g.H.Host.files c.args.host.now) (g.H.Host.files now.host) (g.H.Host.files c.run_admitted.new.host)
+    now.invariant.touched c.in-Err.ensures.touches
+
+pub returns-in-Ok-Coded-turn-clause-touches : goal.returns-in-Ok-Coded-turn-clause-touches
+returns-in-Ok-Coded-turn-clause-touches g c =
+    let now = c.loop in
+    let call = c.args.order.now.call.now in
+    let ran_on = in_turn c.args.machine.now now.machine c.run_admitted.new.machine (g.H.Host.files c.args.host.now) (g.H.Host.files now.host) (g.H.Host.files c.run_admitted.new.host) now.invariant.touched c.in-Ok-On.ensures.touches in
+    in_turn c.args.machine.now c.run_admitted.new.machine c.turn.new.machine (g.H.Host.files c.args.host.now) (g.H.Host.files c.run_admitted.new.host) (g.H.Host.files c.turn.new.host) ran_on (c.in-Ok-Coded-turn.ensures.touches call (inl refl))
+
+pub returns-in-Err-turn-clause-touches : goal.returns-in-Err-turn-clause-touches
+returns-in-Err-turn-clause-touches g c =
+    let now = c.loop in
+    let call = c.args.order.now.call.now in
+    let ran_on = in_turn c.args.machine.now now.machine c.run_admitted.new.machine (g.H.Host.files c.args.host.now) (g.H.Host.files now.host) (g.H.Host.files c.run_admitted.new.host) now.invariant.touched c.in-Ok-On.ensures.touches in
+    in_turn c.args.machine.now c.run_admitted.new.machine c.turn.new.machine (g.H.Host.files c.args.host.now) (g.H.Host.files c.run_admitted.new.host) (g.H.Host.files c.turn.new.host) ran_on (c.in-Err-turn.ensures.touches call (inl refl))
+
+pub returns-in-Ok-Through-clause-touches : goal.returns-in-Ok-Through-clause-touches
+returns-in-Ok-Through-clause-touches g c =
+    let now = c.loop in
+    let call = c.args.order.now.call.now in
+    let ran_on = in_turn c.args.machine.now now.machine c.run_admitted.new.machine (g.H.Host.files c.args.host.now) (g.H.Host.files now.host) (g.H.Host.files c.run_admitted.new.host) now.invariant.touched c.in-Ok-On.ensures.touches in
+    in_turn c.args.machine.now c.turn.new.machine c.close.new.machine (g.H.Host.files c.args.host.now) (g.H.Host.files c.turn.new.host) (g.H.Host.files c.close.new.host)
+    (in_turn c.args.machine.now c.run_admitted.new.machine c.turn.new.machine (g.H.Host.files c.args.host.now) (g.H.Host.files c.run_admitted.new.host) (g.H.Host.files c.turn.new.host) ran_on (c.in-Ok-Through.ensures.touches call (inl refl)))
+    (c.close.ensures.touches call)
+
+pub returns-clause-touches : goal.returns-clause-touches
+returns-clause-touches g c =
+    let now = c.loop in
+    in_turn c.args.machine.now now.machine c.tell.new.machine (g.H.Host.files c.args.host.now) (g.H.Host.files now.host) (g.H.Host.files now.host)
+    now.invariant.touched (parts-taken c.args.order.now.call.now now.machine c.tell.new.machine (g.H.Host.files now.host) c.tell.ensures.taken)

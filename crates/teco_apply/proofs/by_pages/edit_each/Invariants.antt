@@ -1,5 +1,6 @@
 use Rattle.std.proofs.Common.{◌≡◌}
 use Rattle.teco_apply.specs.ByPages.{PagesTurned, order_by}
+use Rattle.teco_apply.specs.Touched.{TouchesByParts}
 use Rattle.teco_run.specs.Holdings.{Joined}
 use Rattle.teco_apply.proofs.by_pages.edit_each.Given as goal
 
@@ -8,6 +9,7 @@ abbrev pub invariant-loop : goal.invariant-loop
 invariant-loop g l = record {
   turned : Joined (λ old new. PagesTurned (order_by (g.G.Guard.answers l.order.guard.now) l.order.call.now) old (g.H.Host.failures l.fn.host) (g.W.Write.contents l.fn.writer)
       l.done new (g.H.Host.failures l.host) (g.W.Write.contents l.writer)) l.fn.machine l.machine (g.H.Host.files l.fn.host) (g.H.Host.files l.host);
+  touched : TouchesByParts l.order.call.now l.fn.machine l.machine (g.H.Host.files l.fn.host) (g.H.Host.files l.host);
   failures : g.H.Host.failures l.host ≡ g.H.Host.failures l.fn.host;
   pages : l.done.pages ≡ l.counter;
 }

@@ -1,6 +1,7 @@
-use Rattle.std.proofs.Common.{◌≡◌, Err, rules, refl}
+use Rattle.std.proofs.Common.{◌≡◌, Err, rules, refl, subst}
 use Rattle.teco_apply.proofs.ByPages.{Joined-file}
-use Rattle.teco_apply.specs.ByPages.{FileEdited, order_by}
+use Rattle.teco_apply.proofs.Parts.{edit-touches}
+use Rattle.teco_apply.specs.ByPages.{FileEdited, PagesCount, order_by}
 use Rattle.teco_model.specs.State.{World}
 use Rattle.teco_session.proofs.Together.{Joined-stays}
 use Rattle.teco_session.specs.declared.fault.SessionFault.TheVariants as fault
@@ -28,3 +29,14 @@ returns-in_err-opening-clause-edits g c =
     let failures = g.H.Host.failures c.args.host.now in
     let sink = g.W.Write.contents c.args.writer.now in
     rw is (Joined-stays (λ (old : World) (new : World). FileEdited c.args.edit.now.pages (order_by (g.G.Guard.answers c.args.edit.now.guard.now) (record { found = c.args.edit.now.verified.now; given = c.args.edit.now.given })) c.args.edit.now.source.now c.args.edit.now.target.now old new failures failures sink sink (Err fault.Memory)) c.args.machine.now (g.H.Host.files c.args.host.now) (λ world. (refl, search rules)))
+
+pub returns-clause-touches : goal.returns-clause-touches
+returns-clause-touches g c =
+    edit-touches c.notes_fit.ensures (record { found = c.args.edit.now.verified.now; given = c.args.edit.now.given }) c.args.edit.now.source.now c.args.edit.now.target.now c.edit_opened-edited.result
+    c.args.machine.now c.edit_opened-edited.new.machine c.drop_if_coded.new.machine
+    (g.H.Host.files c.args.host.now) (g.H.Host.files c.edit_opened-edited.new.host) (g.H.Host.files c.drop_if_coded.new.host)
+    (λ same. subst (λ r. PagesCount r (g.H.Host.failures c.args.host.now) (g.H.Host.failures c.edit_opened-edited.new.host)) same c.edit_opened-edited.ensures.counted)
+    (λ same. subst (λ r. PagesCount r (g.H.Host.failures c.args.host.now) (g.H.Host.failures c.edit_opened-edited.new.host)) same c.edit_opened-edited.ensures.counted)
+    (λ same. subst (λ r. PagesCount r (g.H.Host.failures c.args.host.now) (g.H.Host.failures c.edit_opened-edited.new.host)) same c.edit_opened-edited.ensures.counted)
+    (rw (c.as_slice.ensures.value, c.in_ok-opening.ensures) at c.edit_opened-edited.ensures.touches)
+    (c.drop_if_coded.ensures.touches (record { found = c.args.edit.now.verified.now; given = c.args.edit.now.given }))

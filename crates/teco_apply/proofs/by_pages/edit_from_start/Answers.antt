@@ -1,7 +1,8 @@
-use Rattle.std.proofs.Common.{Ok, Err, true, refl}
+use Rattle.std.proofs.Common.{Ok, Err, true, inl, inr, refl}
 use Rattle.teco_apply.proofs.ByPages.{behind-goes_on, behind-stops, ends-coded}
 use Rattle.teco_apply.specs.Apply.{AnswersText}
 use Rattle.teco_apply.specs.ByPages.{Once, order_by, to_start}
+use Rattle.teco_apply.specs.Touched.{by_string, in_turn}
 use Rattle.teco_apply.proofs.by_pages.edit_from_start.Goals as goal
 
 pub returns-in-Ok-false-clause-edits : goal.returns-in-Ok-false-clause-edits
@@ -28,3 +29,18 @@ returns-in-Err-clause-edits g c =
     (g.H.Host.failures c.args.host.now) (g.H.Host.failures c.answer_text.new.host)
     (g.W.Write.contents c.args.writer.now) (g.W.Write.contents c.answer_text.new.writer)
     (Err c.in-Err.fault) (Err c.in-Err.fault) (λ same. cc) refl c.in-Err.ensures.answers
+
+pub returns-in-Ok-false-clause-touches : goal.returns-in-Ok-false-clause-touches
+returns-in-Ok-false-clause-touches g c =
+    in_turn c.args.machine.now c.answer_text.new.machine c.edit_once.new.machine
+    (g.H.Host.files c.args.host.now) (g.H.Host.files c.answer_text.new.host) (g.H.Host.files c.edit_once.new.host)
+    (by_string to_start c.args.machine.now c.answer_text.new.machine (g.H.Host.files c.args.host.now) (g.H.Host.files c.answer_text.new.host) (inr (inr (inl refl))) c.in-Ok-false.ensures.touches)
+    c.edit_once.ensures.touches
+
+pub returns-in-Ok-true-clause-touches : goal.returns-in-Ok-true-clause-touches
+returns-in-Ok-true-clause-touches g c =
+    by_string to_start c.args.machine.now c.answer_text.new.machine (g.H.Host.files c.args.host.now) (g.H.Host.files c.answer_text.new.host) (inr (inr (inl refl))) c.in-Ok-true.ensures.touches
+
+pub returns-in-Err-clause-touches : goal.returns-in-Err-clause-touches
+returns-in-Err-clause-touches g c =
+    by_string to_start c.args.machine.now c.answer_text.new.machine (g.H.Host.files c.args.host.now) (g.H.Host.files c.answer_text.new.host) (inr (inr (inl refl))) c.in-Err.ensures.touches

@@ -1,6 +1,7 @@
 use Rattle.std.proofs.Common.{Ok, Err, refl, ap}
 use Rattle.teco_apply.proofs.ByPages.{macro-goes_on, macro-stops}
 use Rattle.teco_apply.specs.ByPages.{Closing, order_by}
+use Rattle.teco_apply.specs.Touched.{in_turn}
 use Rattle.teco_apply.specs.declared.stages.Ran.TheVariants as ran
 use Rattle.teco_apply.proofs.by_pages.edit_once.Goals as goal
 
@@ -40,3 +41,9 @@ returns-in-Err-clause-edits g c =
     (g.H.Host.failures c.args.host.now) (g.H.Host.failures c.run_admitted.new.host)
     (g.W.Write.contents c.args.writer.now) (g.W.Write.contents c.run_admitted.new.writer)
     (Err c.in-Err.fault) (Err c.in-Err.fault) refl c.in-Err.ensures.runs)
+
+pub returns-in-Ok-On-clause-touches : goal.returns-in-Ok-On-clause-touches
+returns-in-Ok-On-clause-touches g c =
+    in_turn c.args.machine.now c.run_admitted.new.machine c.close.new.machine
+    (g.H.Host.files c.args.host.now) (g.H.Host.files c.run_admitted.new.host) (g.H.Host.files c.close.new.host)
+    c.in-Ok-On.ensures.touches (c.close.ensures.touches c.args.order.now.call.now)

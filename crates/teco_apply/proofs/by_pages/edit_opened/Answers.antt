@@ -1,5 +1,6 @@
 use Rattle.std.proofs.Common.{Ok, Err, true, refl}
 use Rattle.teco_apply.proofs.ByPages.{behind-goes_on, behind-stops, ends-coded}
+use Rattle.teco_apply.proofs.Parts.{parts-same}
 use Rattle.teco_apply.specs.Apply.{AnswersText}
 use Rattle.teco_apply.specs.ByPages.{EditsPages, order_by}
 use Rattle.teco_apply.proofs.by_pages.edit_opened.Goals as goal
@@ -28,3 +29,27 @@ returns-in-Err-clause-edits g c =
     (g.H.Host.failures c.args.host.now) (g.H.Host.failures c.answer_text.new.host)
     (g.W.Write.contents c.args.writer.now) (g.W.Write.contents c.answer_text.new.writer)
     (Err c.in-Err.fault) (Err c.in-Err.fault) (λ same. cc) refl c.in-Err.ensures.answers
+
+pub returns-in-Ok-false-clause-touches : goal.returns-in-Ok-false-clause-touches
+returns-in-Ok-false-clause-touches g c = record {
+  mid = c.answer_text.new.machine;
+  until = g.H.Host.files c.answer_text.new.host;
+  opened = c.in-Ok-false.ensures.touches;
+  behind = c.edit_pages.ensures.touches;
+}
+
+pub returns-in-Ok-true-clause-touches : goal.returns-in-Ok-true-clause-touches
+returns-in-Ok-true-clause-touches g c = record {
+  mid = c.answer_text.new.machine;
+  until = g.H.Host.files c.answer_text.new.host;
+  opened = c.in-Ok-true.ensures.touches;
+  behind = parts-same c.args.plan.now.order.now.call.now c.answer_text.new.machine c.answer_text.new.machine (g.H.Host.files c.answer_text.new.host) refl;
+}
+
+pub returns-in-Err-clause-touches : goal.returns-in-Err-clause-touches
+returns-in-Err-clause-touches g c = record {
+  mid = c.answer_text.new.machine;
+  until = g.H.Host.files c.answer_text.new.host;
+  opened = c.in-Err.ensures.touches;
+  behind = parts-same c.args.plan.now.order.now.call.now c.answer_text.new.machine c.answer_text.new.machine (g.H.Host.files c.answer_text.new.host) refl;
+}

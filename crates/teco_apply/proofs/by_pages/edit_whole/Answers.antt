@@ -1,6 +1,7 @@
 use Rattle.std.proofs.Common.{Ok, Err, true, refl}
 use Rattle.teco_apply.proofs.ByPages.{behind-goes_on, behind-stops, ends-coded}
 use Rattle.teco_apply.specs.ByPages.{FromStart, Gathers, order_by}
+use Rattle.teco_apply.specs.Touched.{in_turn}
 use Rattle.teco_apply.proofs.by_pages.edit_whole.Goals as goal
 
 pub returns-in-Ok-false-clause-edits : goal.returns-in-Ok-false-clause-edits
@@ -27,3 +28,15 @@ returns-in-Err-clause-edits g c =
     (g.H.Host.failures c.args.host.now) (g.H.Host.failures c.gather.new.host)
     (g.W.Write.contents c.args.writer.now) (g.W.Write.contents c.gather.new.writer)
     (Err c.in-Err.fault) (Err c.in-Err.fault) (λ same. cc) refl c.in-Err.ensures.gathers
+
+pub returns-in-Ok-false-clause-touches : goal.returns-in-Ok-false-clause-touches
+returns-in-Ok-false-clause-touches g c =
+    in_turn c.args.machine.now c.gather.new.machine c.edit_from_start.new.machine
+    (g.H.Host.files c.args.host.now) (g.H.Host.files c.gather.new.host) (g.H.Host.files c.edit_from_start.new.host)
+    (c.in-Ok-false.ensures.touches c.args.order.now.call.now) c.edit_from_start.ensures.touches
+
+pub returns-in-Ok-true-clause-touches : goal.returns-in-Ok-true-clause-touches
+returns-in-Ok-true-clause-touches g c = c.in-Ok-true.ensures.touches c.args.order.now.call.now
+
+pub returns-in-Err-clause-touches : goal.returns-in-Err-clause-touches
+returns-in-Err-clause-touches g c = c.in-Err.ensures.touches c.args.order.now.call.now

@@ -1,5 +1,7 @@
 use Rattle.std.proofs.Common.{◌≡◌}
 use Rattle.teco_apply.specs.ByPages.{PagesGathered}
+use Rattle.teco_apply.specs.Sure.{Call}
+use Rattle.teco_apply.specs.Touched.{TouchesByParts}
 use Rattle.teco_run.specs.Holdings.{Joined}
 use Rattle.teco_apply.proofs.by_pages.gather.Given as goal
 
@@ -8,5 +10,6 @@ abbrev pub invariant-loop : goal.invariant-loop
 invariant-loop g l = record {
   gathered : Joined (λ old new. PagesGathered old (g.H.Host.failures l.fn.host) (g.W.Write.contents l.fn.writer)
       l.counter new (g.H.Host.failures l.host) (g.W.Write.contents l.writer)) l.fn.machine l.machine (g.H.Host.files l.fn.host) (g.H.Host.files l.host);
+  touched : (call : Call) → TouchesByParts call l.fn.machine l.machine (g.H.Host.files l.fn.host) (g.H.Host.files l.host);
   failures : g.H.Host.failures l.host ≡ g.H.Host.failures l.fn.host;
 }

@@ -1,7 +1,5 @@
-use Rattle.std.proofs.Common.{◌≡◌, subst, ◌∙◌}
 use Rattle.teco_apply.proofs.FirstPage.{first-counts, first-page, said-fault}
-use Rattle.teco_apply.specs.ByPages.{is_dropped}
-use Rattle.teco_session.specs.Answers.{Said}
+use Rattle.teco_apply.proofs.Parts.{first-touches}
 use Rattle.teco_session.specs.declared.fault.SessionFault.TheVariants as fault
 use Rattle.teco_apply.proofs.first_page.apply.Goals as goal
 
@@ -23,3 +21,9 @@ returns-clause-argument g c =
     let both = said-fault c.edit_file.result c.said.result fault.Argument (rw c.dropped.ensures at c.said.ensures) in
     let is = c.edit_file.ensures.argument in
     ((λ same. is.0 (both.0 same)), (λ not_taken. both.1 (is.1 not_taken)))
+
+pub returns-clause-touches : goal.returns-clause-touches
+returns-clause-touches g c =
+    first-touches (record { found = c.args.verified.now; given = c.args.given }) c.args.source.now c.args.target.now
+    c.args.machine.now c.edit_file.new.machine (g.H.Host.files c.args.host.now) (g.H.Host.files c.edit_file.new.host)
+    c.edit_file.result c.said.result (rw c.dropped.ensures at c.said.ensures) c.edit_file.ensures.touches

@@ -1,4 +1,6 @@
+use Rattle.teco_apply.proofs.Parts.{parts-taken}
 use Rattle.teco_apply.specs.ByPages.{order_by}
+use Rattle.teco_apply.specs.Touched.{in_turn}
 use Rattle.teco_apply.proofs.ByPages.{Joined-refused, Joined-runs}
 use Rattle.teco_apply.proofs.stages.run_admitted.Goals as goal
 
@@ -18,3 +20,10 @@ returns-in_default-clause-runs g c =
     c.args.machine.now c.run_guarded.new.machine (g.H.Host.files c.args.host.now) (g.H.Host.files c.run_guarded.new.host)
     (g.H.Host.failures c.args.host.now) (g.H.Host.failures c.run_guarded.new.host) (g.W.Write.contents c.args.writer.now)
     c.in_default.ensures.counted c.in_default.ensures.stops
+
+pub returns-clause-touches : goal.returns-clause-touches
+returns-clause-touches g c =
+    in_turn c.args.machine.now c.run_guarded.new.machine c.tell-line.new.machine
+    (g.H.Host.files c.args.host.now) (g.H.Host.files c.run_guarded.new.host) (g.H.Host.files c.run_guarded.new.host)
+    c.in-Some.ensures.touches
+    (parts-taken c.args.order.now.call.now c.run_guarded.new.machine c.tell-line.new.machine (g.H.Host.files c.run_guarded.new.host) c.tell-line.ensures.taken)

@@ -1,6 +1,8 @@
-use Rattle.std.proofs.Common.{rules}
+use Rattle.std.proofs.Common.{ap, rules}
 use Rattle.teco_apply.proofs.ByPages.{Joined-admitted, Joined-asked, Joined-unready}
+use Rattle.teco_apply.proofs.Parts.{asked-touches, called-touches, parts-same}
 use Rattle.teco_apply.specs.ByPages.{Order, order_by}
+use Rattle.teco_run.specs.Holdings.{Holdings}
 use Rattle.teco_apply.proofs.stages.run_guarded.Goals as goal
 
 pub returns-in-Err-clause-stops : goal.returns-in-Err-clause-stops
@@ -21,3 +23,18 @@ returns-clause-stops g c =
     (g.H.Host.files c.args.host.now) (g.H.Host.files c.ask-asked.new.host) (g.H.Host.files c.call_verified.new.host)
     c.ask-asked.result.admitted c.call_verified.result.stop c.in_default.ensures.loaded (search rules)
     c.ask-asked.ensures.asked c.call_verified.ensures.calls
+
+pub returns-then-not-asked-clause-touches : goal.returns-then-not-asked-clause-touches
+returns-then-not-asked-clause-touches g c =
+    asked-touches c.args.order.now.call.now c.args.machine.now c.make_ready.new.machine (g.H.Host.files c.args.host.now) (g.H.Host.files c.ask-asked.new.host)
+    c.in_default.ensures.loaded c.ask-asked.ensures.touches
+
+pub returns-clause-touches : goal.returns-clause-touches
+returns-clause-touches g c =
+    called-touches c.args.order.now.call.now c.args.machine.now c.make_ready.new.machine c.call_verified.new.machine
+    (g.H.Host.files c.args.host.now) (g.H.Host.files c.ask-asked.new.host) (g.H.Host.files c.call_verified.new.host)
+    c.in_default.ensures.loaded c.ask-asked.ensures.touches c.call_verified.ensures.touches
+
+pub returns-in-Err-clause-touches : goal.returns-in-Err-clause-touches
+returns-in-Err-clause-touches g c =
+    parts-same c.args.order.now.call.now c.args.machine.now c.make_ready.new.machine (g.H.Host.files c.args.host.now) (ap (λ (h : Holdings). h.held) c.in-Err.ensures.err)

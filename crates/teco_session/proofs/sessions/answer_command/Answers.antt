@@ -30,3 +30,14 @@ returns-clause-run g c =
 pub returns-clause-counted : goal.returns-clause-counted
 returns-clause-counted g c =
     said-counts _ _ _ _ _ _ (stop-rises c.run_to_stop-stopped.result.stop _ _ c.run_to_stop-stopped.ensures.counted) c.write_stop-line.ensures.told c.said.ensures
+
+pub returns-clause-touches : goal.returns-clause-touches
+returns-clause-touches g c = record {
+  behind = c.run_to_stop-stopped.new.self;
+  ran = record {
+    stopped = c.run_to_stop-stopped.result;
+    stops = c.run_to_stop-stopped.ensures.stops;
+    touches = c.run_to_stop-stopped.ensures.noted;
+  };
+  taken = c.write_stop-line.ensures.taken;
+}

@@ -1,4 +1,5 @@
-use Rattle.std.proofs.Common.{length, ap, arith, refl, false, true, Ok, Err, ◌||◌, ◌+◌}
+use Rattle.std.proofs.Common.{[], length, ap, arith, refl, false, true, Ok, Err, ◌||◌, ◌+◌}
+use Rattle.std.proofs.KnownBytes.{Consumes-nil}
 use Rattle.std.proofs.lemmas.Result.{err_from_is_err_and}
 use Rattle.std.specs.Io.KnownBytes.{prepend_known}
 use Rattle.teco_model.specs.State.{World}
@@ -6,6 +7,7 @@ use Rattle.teco_session.proofs.Counting.{behind-rises}
 use Rattle.teco_session.proofs.FirstCode.{Hears-write, Hears-break, Hears-full, Hears-exit, Hears-rest, Hears-code}
 use Rattle.teco_session.proofs.SessionSteps.{Serves-start, Serves-more}
 use Rattle.teco_session.proofs.Together.{Joined-on, Joined-stays, Joined-then}
+use Rattle.teco_session.proofs.Touching.{in_session-behind, in_session-piece, so_far-more, so_far-none}
 use Rattle.teco_session.specs.Answers.{Answers}
 use Rattle.teco_session.specs.FirstCode.{Hears}
 use Rattle.teco_session.specs.Sessions.{Serves, setting}
@@ -18,6 +20,8 @@ loop-init g c = record {
       Joined-stays (λ (old : World) (new : World). Serves c.args.conduct.limits 0 (setting old (g.H.Host.failures c.args.host.now) (g.R.Read.remaining c.args.reader.now) (g.W.Write.contents c.args.writer.now)) (setting new (g.H.Host.failures c.args.host.now) (prepend_known c.new-ahead.result (g.R.Read.remaining c.args.reader.now)) (g.W.Write.contents c.args.writer.now)) false)
       c.args.machine.now (g.H.Host.files c.args.host.now)
       (λ world. Serves-start _ _ _ c.new-ahead.ensures);
+  touched =
+      so_far-none c.args.conduct.limits (g.R.Read.remaining c.args.reader.now) c.new-ahead.result c.args.machine.now (g.H.Host.files c.args.host.now) c.new-ahead.ensures;
   counted = record { rises = omega arith; plain = λ _. refl };
   one_read = omega (arith, ap length c.new-ahead.ensures);
   plain = λ until. refl;
@@ -40,6 +44,10 @@ loop-preserved g c =
           (g.H.Host.files c.args.host.now) (g.H.Host.files now.host) (g.H.Host.files c.answer.new.host)
           (λ (old : World) (mid : World) (new : World) s (a : answers mid new). Serves-more _ _ _ _ _ _ c.in_ok-done.done _ c.if-done.false s piece.came cut (rw (c.as_slice.ensures.value, c.in_default.is, c.in_ok-done.was) at a))
           now.invariant.served c.answer.ensures.run;
+      touched =
+          so_far-more c.args.conduct.limits (g.R.Read.remaining c.args.reader.now) _ _ c.as_slice.result.now c.in_ok-piece.piece (prepend_known c.next_piece.new.ahead (g.R.Read.remaining c.next_piece.new.reader))
+          c.args.machine.now now.machine c.answer.new.machine (g.H.Host.files c.args.host.now) (g.H.Host.files now.host) (g.H.Host.files c.answer.new.host)
+          c.in_default.is now.invariant.touched (rw c.as_slice.ensures.value piece.came) (rw c.as_slice.ensures.value piece.piece) c.answer.ensures.touches;
       counted = behind-rises _ _ _ _ _ now.invariant.counted c.in_ok-done.ensures.counted.0 c.in_ok-done.ensures.counted.1;
       one_read = piece.one_read now.invariant.one_read;
       plain = λ until. elim c.else-conduct.branch [
@@ -131,3 +139,47 @@ returns-then-coded-clause-session g c =
     (g.H.Host.files c.args.host.now) (g.H.Host.files now.host) (g.H.Host.files c.answer.new.host)
     (λ (old : World) (mid : World) (new : World) s (a : answers mid new). Hears-code _ _ (before old) _ _ now.coded c.in_ok-done.done _ _ s piece.came (piece.one_read now.invariant.one_read) cut (rw (c.as_slice.ensures.value, c.in_default.is, c.in_ok-done.was) at a) c.args.conduct.until_code c.if-conduct.true now.invariant.plain c.if-coded.true c.if-done.false)
     now.invariant.served c.answer.ensures.run
+
+pub returns-in_err-piece-clause-touches : goal.returns-in_err-piece-clause-touches
+returns-in_err-piece-clause-touches g c =
+    let now = c.loop in
+    in_session-behind c.notes_fit.ensures c.args.conduct.limits (g.R.Read.remaining c.args.reader.now) _ (g.R.Read.remaining c.next_piece.new.reader) _ c.next_piece.new.ahead
+    c.args.machine.now now.machine (g.H.Host.files c.args.host.now) (g.H.Host.files now.host) now.invariant.touched c.in_err-piece.ensures.came
+
+pub returns-clause-touches : goal.returns-clause-touches
+returns-clause-touches g c =
+    let now = c.loop in
+    in_session-behind c.notes_fit.ensures c.args.conduct.limits (g.R.Read.remaining c.args.reader.now) _ (g.R.Read.remaining now.reader) [] now.ahead
+    c.args.machine.now now.machine (g.H.Host.files c.args.host.now) (g.H.Host.files now.host) now.invariant.touched (Consumes-nil _)
+
+pub returns-in_err-done-clause-touches : goal.returns-in_err-done-clause-touches
+returns-in_err-done-clause-touches g c =
+    let now = c.loop in
+    let piece = c.in_ok-piece.ensures in
+    in_session-piece c.notes_fit.ensures c.args.conduct.limits (g.R.Read.remaining c.args.reader.now) _ (g.R.Read.remaining c.next_piece.new.reader) c.as_slice.result.now c.next_piece.new.ahead c.in_ok-piece.piece (prepend_known c.next_piece.new.ahead (g.R.Read.remaining c.next_piece.new.reader))
+    c.args.machine.now now.machine c.answer.new.machine (g.H.Host.files c.args.host.now) (g.H.Host.files now.host) (g.H.Host.files c.answer.new.host)
+    now.invariant.touched (rw c.as_slice.ensures.value piece.came) (rw c.as_slice.ensures.value piece.piece) c.answer.ensures.touches
+
+pub returns-in-Rest-clause-touches : goal.returns-in-Rest-clause-touches
+returns-in-Rest-clause-touches g c =
+    let now = c.loop in
+    let piece = c.in_ok-piece.ensures in
+    in_session-piece c.notes_fit.ensures c.args.conduct.limits (g.R.Read.remaining c.args.reader.now) _ (g.R.Read.remaining c.next_piece.new.reader) c.as_slice.result.now c.next_piece.new.ahead c.in_ok-piece.piece (prepend_known c.next_piece.new.ahead (g.R.Read.remaining c.next_piece.new.reader))
+    c.args.machine.now now.machine c.answer.new.machine (g.H.Host.files c.args.host.now) (g.H.Host.files now.host) (g.H.Host.files c.answer.new.host)
+    now.invariant.touched (rw c.as_slice.ensures.value piece.came) (rw c.as_slice.ensures.value piece.piece) c.answer.ensures.touches
+
+pub returns-then-done-clause-touches : goal.returns-then-done-clause-touches
+returns-then-done-clause-touches g c =
+    let now = c.loop in
+    let piece = c.in_ok-piece.ensures in
+    in_session-piece c.notes_fit.ensures c.args.conduct.limits (g.R.Read.remaining c.args.reader.now) _ (g.R.Read.remaining c.next_piece.new.reader) c.as_slice.result.now c.next_piece.new.ahead c.in_ok-piece.piece (prepend_known c.next_piece.new.ahead (g.R.Read.remaining c.next_piece.new.reader))
+    c.args.machine.now now.machine c.answer.new.machine (g.H.Host.files c.args.host.now) (g.H.Host.files now.host) (g.H.Host.files c.answer.new.host)
+    now.invariant.touched (rw c.as_slice.ensures.value piece.came) (rw c.as_slice.ensures.value piece.piece) c.answer.ensures.touches
+
+pub returns-then-coded-clause-touches : goal.returns-then-coded-clause-touches
+returns-then-coded-clause-touches g c =
+    let now = c.loop in
+    let piece = c.in_ok-piece.ensures in
+    in_session-piece c.notes_fit.ensures c.args.conduct.limits (g.R.Read.remaining c.args.reader.now) _ (g.R.Read.remaining c.next_piece.new.reader) c.as_slice.result.now c.next_piece.new.ahead c.in_ok-piece.piece (prepend_known c.next_piece.new.ahead (g.R.Read.remaining c.next_piece.new.reader))
+    c.args.machine.now now.machine c.answer.new.machine (g.H.Host.files c.args.host.now) (g.H.Host.files now.host) (g.H.Host.files c.answer.new.host)
+    now.invariant.touched (rw c.as_slice.ensures.value piece.came) (rw c.as_slice.ensures.value piece.piece) c.answer.ensures.touches

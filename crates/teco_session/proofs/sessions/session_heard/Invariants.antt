@@ -2,11 +2,12 @@ use Rattle.std.proofs.Common.{◌≡◌, ◌≤◌, length, true, false}
 use Rattle.std.specs.Io.KnownBytes.{prepend_known}
 use Rattle.teco_run.specs.Holdings.{Joined}
 use Rattle.teco_session.proofs.Counting.{RisesCoded}
+use Rattle.teco_session.proofs.Touching.{TouchesSoFar}
 use Rattle.teco_session.specs.Sessions.{Serves, setting}
 use Rattle.teco_session.specs.declared.ahead.TheConstants.{CHUNK}
 use Rattle.teco_session.proofs.sessions.session_heard.Given as goal
 
--- As many strings as turns were served, and one read's bytes at most are ahead. The host's count of failures rose only where a code
+-- As many strings as turns were served, and one read's bytes at most are ahead. The strings touched files by the definition. The host's count of failures rose only where a code
 -- came. Where the first code ends the session none came.
 abbrev pub invariant-loop : goal.invariant-loop
 invariant-loop g l = record {
@@ -14,6 +15,8 @@ invariant-loop g l = record {
       (setting old (g.H.Host.failures l.fn.host) (g.R.Read.remaining l.fn.reader) (g.W.Write.contents l.fn.writer))
       (setting new (g.H.Host.failures l.host) (prepend_known l.ahead (g.R.Read.remaining l.reader)) (g.W.Write.contents l.writer))
       l.coded) l.fn.machine l.machine (g.H.Host.files l.fn.host) (g.H.Host.files l.host);
+  touched : TouchesSoFar l.conduct.limits (g.R.Read.remaining l.fn.reader) (prepend_known l.ahead (g.R.Read.remaining l.reader))
+      l.fn.machine l.machine (g.H.Host.files l.fn.host) (g.H.Host.files l.host);
   counted : RisesCoded l.coded (g.H.Host.failures l.fn.host) (g.H.Host.failures l.host);
   one_read : length l.ahead ≤ CHUNK;
   plain : l.conduct.until_code ≡ true → l.coded ≡ false;

@@ -3,9 +3,9 @@ ghost use Rattle.std.specs.Prelude.{◌≡◌, ◌≤◌, ◌<◌, ◌+◌, suc,
 ghost use Rattle.teco_base.specs.declared.TheConstants.{LIMIT};
 ghost use Rattle.teco_pages.specs.HostCalls.{Counts};
 ghost use Rattle.teco_pages.specs.HostFiles.{Notes};
-ghost use Rattle.teco_tools.specs.Streams.{given_of};
+ghost use Rattle.teco_streams.specs.Streams.{IsFresh, PassesOn, given_of, input_behind, of_files, output_behind, with_notes};
+ghost use Rattle.teco_streams.specs.declared.streams.Open.TheVariants as open_as;
 
-use crate::reporting::Reporting;
 use std::alloc::Global;
 use std::io;
 use std::io::{ErrorKind, Read, Write};
@@ -51,11 +51,16 @@ pub struct Streams<H: Host + Drop, I: Read + Drop, O: Write + Drop> {
     failures: Count,
     history: History,
     ghost within: { given ≤ LIMIT },
+    ghost beneath: { H.files files ≡ with_notes (of_files open_as.File open_as.File history.events) (H.files files) },
+    ghost reads: { input ≡ input_behind open_as.File history.events },
+    ghost writes: { output ≡ output_behind open_as.File history.events },
 }
 
 impl<H: Host + Drop, I: Read + Drop, O: Write + Drop> Streams<H, I, O> {
     /// Nothing is open.
-    pub fn new(alloc: Global, files: H, reader: I, writer: O) -> Streams<H, I, O> {
+    pub fn new(alloc: Global, files: H, reader: I, writer: O) -> Streams<H, I, O>
+        requires fresh { IsFresh (H.files files) }
+    {
         Streams {
             files,
             reader,
@@ -68,6 +73,23 @@ impl<H: Host + Drop, I: Read + Drop, O: Write + Drop> Streams<H, I, O> {
             failures: Count::new(),
             history: History::new(),
         }
+    }
+
+    /// The host of the files.
+    pub fn files(&self) -> &H
+        ensures noted { PassesOn (⟦<Streams<H, I, O> as Host>⟧.files self.now) (H.files result.now) }
+    {
+        &self.files
+    }
+
+    /// Is the input that was opened last a file, and no stream?
+    pub fn reads_file(&self) -> bool {
+        matches!(self.input, Open::File)
+    }
+
+    /// What could not be done with a stream in the last call that failed in that.
+    pub fn trouble(&self) -> Option<&Trouble> {
+        self.trouble.as_ref()
     }
 
     /// The reader and the writer of the streams.
@@ -94,6 +116,7 @@ impl<H: Host + Drop, I: Read + Drop, O: Write + Drop> Streams<H, I, O> {
         ensures history { self.new.history ≡ self.old.history }
         ensures files { self.new.files ≡ self.old.files }
         ensures input { self.new.input ≡ self.old.input }
+        ensures output { self.new.output ≡ self.old.output }
         ensures given { self.new.given ≡ self.old.given }
     {
         self.trouble = Some(Trouble::of(self.alloc, purpose, told_name(name), reason));
@@ -107,6 +130,7 @@ impl<H: Host + Drop, I: Read + Drop, O: Write + Drop> Streams<H, I, O> {
         ensures history { self.new.history ≡ self.old.history }
         ensures files { self.new.files ≡ self.old.files }
         ensures input { self.new.input ≡ self.old.input }
+        ensures output { self.new.output ≡ self.old.output }
         ensures given { self.new.given ≡ self.old.given }
     {
         self.failed(Purpose::ReadInput, INPUT, reason)
@@ -119,6 +143,7 @@ impl<H: Host + Drop, I: Read + Drop, O: Write + Drop> Streams<H, I, O> {
         ensures history { self.new.history ≡ self.old.history }
         ensures files { self.new.files ≡ self.old.files }
         ensures input { self.new.input ≡ self.old.input }
+        ensures output { self.new.output ≡ self.old.output }
         ensures given { self.new.given ≡ self.old.given }
     {
         self.failed(Purpose::WriteOutput, OUTPUT, reason)
@@ -134,6 +159,7 @@ impl<H: Host + Drop, I: Read + Drop, O: Write + Drop> Streams<H, I, O> {
         ensures err { OnErr result (self.new.given ≡ self.old.given) }
         ensures files { self.new.files ≡ self.old.files }
         ensures input { self.new.input ≡ self.old.input }
+        ensures output { self.new.output ≡ self.old.output }
     {
         if self.given == LIMIT {
             return match read_some(&mut self.reader, &mut [0; 1]) {
@@ -160,6 +186,7 @@ impl<H: Host + Drop, I: Read + Drop, O: Write + Drop> Streams<H, I, O> {
         ensures some { IfOk result (λ n. 0 < length bytes.now → 0 < n) }
         ensures files { self.new.files ≡ self.old.files }
         ensures input { self.new.input ≡ self.old.input }
+        ensures output { self.new.output ≡ self.old.output }
         ensures given { self.new.given ≡ self.old.given }
     {
         match self.writer.write_all(bytes) {
@@ -174,6 +201,7 @@ impl<H: Host + Drop, I: Read + Drop, O: Write + Drop> Streams<H, I, O> {
         ensures history { self.new.history ≡ self.old.history }
         ensures files { self.new.files ≡ self.old.files }
         ensures input { self.new.input ≡ self.old.input }
+        ensures output { self.new.output ≡ self.old.output }
         ensures given { self.new.given ≡ self.old.given }
     {
         match self.writer.flush() {
@@ -207,19 +235,22 @@ impl<H: Host + Drop, I: Read + Drop, O: Write + Drop> Host for Streams<H, I, O> 
         if name == INPUT {
             self.input = Open::Stream;
             self.given = 0;
-        } else {
-            self.files.open_in(name)?;
-            self.input = Open::File;
+            self.history.opened_input(name);
+            return Ok(());
         }
+        self.files.open_in(name)?;
+        self.input = Open::File;
         self.history.opened_input(name);
         Ok(())
     }
 
     fn read(&mut self, buf: &mut [u8]) -> Result<usize, Failed> {
-        let n = match self.input {
-            Open::File => self.files.read(buf)?,
-            Open::Stream => self.read_stream(buf)?,
-        };
+        if let Open::Stream = self.input {
+            let n = self.read_stream(buf)?;
+            self.history.gave(buf, n);
+            return Ok(n);
+        }
+        let n = self.files.read(buf)?;
         self.history.gave(buf, n);
         Ok(n)
     }
@@ -227,28 +258,36 @@ impl<H: Host + Drop, I: Read + Drop, O: Write + Drop> Host for Streams<H, I, O> 
     fn open_out(&mut self, name: &[u8]) -> Result<(), Failed> {
         if name == OUTPUT {
             self.output = Open::Stream;
-        } else {
-            self.files.open_out(name)?;
-            self.output = Open::File;
+            self.history.opened_output(name);
+            return Ok(());
         }
+        self.files.open_out(name)?;
+        self.output = Open::File;
         self.history.opened_output(name);
         Ok(())
     }
 
     fn write(&mut self, bytes: &[u8]) -> Result<usize, Failed> {
-        let n = match self.output {
-            Open::File => self.files.write(bytes)?,
-            Open::Stream => self.write_stream(bytes)?,
-        };
+        if let Open::Stream = self.output {
+            let n = self.write_stream(bytes)?;
+            self.history.wrote(bytes, n);
+            return Ok(n);
+        }
+        let n = self.files.write(bytes)?;
         self.history.wrote(bytes, n);
         Ok(n)
     }
 
     fn close_out(&mut self) -> Result<(), Failed> {
-        let closed = match self.output {
-            Open::File => self.files.close_out(),
-            Open::Stream => self.flush_stream(),
-        };
+        if let Open::Stream = self.output {
+            let flushed = self.flush_stream();
+            match flushed {
+                Ok(()) => self.history.closed(),
+                Err(Failed) => self.history.dropped(),
+            }
+            return flushed;
+        }
+        let closed = self.files.close_out();
         match closed {
             Ok(()) => self.history.closed(),
             Err(Failed) => self.history.dropped(),
@@ -271,25 +310,5 @@ impl<H: Host + Drop, I: Read + Drop, O: Write + Drop> Host for Streams<H, I, O> 
         };
         self.history.measured(left);
         Some(left)
-    }
-}
-
-impl<H: Host + Reporting + Drop, I: Read + Drop, O: Write + Drop> Reporting for Streams<H, I, O> {
-    fn bytes_left(&self) -> Option<u64> {
-        match self.input {
-            Open::File => self.files.bytes_left(),
-            Open::Stream => None,
-        }
-    }
-
-    fn input_length(&self) -> Option<u64> {
-        match self.input {
-            Open::File => self.files.input_length(),
-            Open::Stream => None,
-        }
-    }
-
-    fn trouble(&self) -> Option<&Trouble> {
-        self.trouble.as_ref().or(self.files.trouble())
     }
 }

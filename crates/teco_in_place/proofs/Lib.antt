@@ -1,0 +1,4 @@
+-- What proofs of this crate, and of others, cite.
+mod Calls
+mod Editing
+pub mod Fitting
