@@ -1,5 +1,7 @@
 -- The digits of a number, written from the end of a buffer of 11 bytes.
-use Rattle.std.proofs.Common.{◌≡◌, ℕ, zero, suc, ◌+◌, ◌-◌, ◌*◌, ◌/◌, ◌%◌, ◌^◌, ◌<◌, ◌≤◌, true, false, if◌then◌else◌, ℤ, pos, negsuc, ◌≤ℤ◌, ◌<ℤ◌, unsigned_abs, FitsSigned, List, [], ◌∷◌, length, drop, set, ap, sym, refl, ◌∙◌, arith, mul-le-mul_left, mod-lt}
+use Rattle.std.proofs.Common.{◌≡◌, ℕ, zero, suc, ◌+◌, ◌-◌, ◌*◌, ◌/◌, ◌%◌, ◌^◌, ◌<◌, ◌≤◌, true, false, if◌then◌else◌}
+use Rattle.std.proofs.Common.{ℤ, pos, negsuc, ◌≤ℤ◌, ◌<ℤ◌, unsigned_abs, FitsSigned, List, [], ◌∷◌, length, drop, set}
+use Rattle.std.proofs.Common.{ap, sym, refl, ◌∙◌, arith, mul-le-mul_left, mod-lt}
 use Rattle.std.proofs.lemmas.Bool.{eq-eqb, ne_eqb}
 use Rattle.std.proofs.lemmas.Bool.Decides.{nat_tests}
 use Rattle.std.proofs.lemmas.Grind.{drop-set_at}
@@ -10,7 +12,8 @@ use Rattle.std.proofs.Math.Nat.{div-lt_iff_lt-mul, pow-suc}
 use Rattle.std.specs.Prelude.{◌==◌}
 use Rattle.std.specs.Fmt.{digit_glyph, digits_onto, digits, decimal, signed_decimal}
 
--- the digits of n before others, which stand from a place on. `digits` takes up to 64, so 53 of them have no place in the buffer
+-- the digits of n before others, which stand from a place on. `digits` takes up to 64, so 53 of them have no place in
+-- the buffer
 unfoldable pub digits_before : ℕ → ℕ → ℕ → List ℕ → List ℕ
 digits_before place base n others = digits_onto (place + 53) base true n others
 
@@ -24,21 +27,28 @@ module _ (base n : ℕ) (others : List ℕ) where
   onto_last zero some e = absurd (omega arith)
   onto_last (suc k) some e = rw (eq-eqb (n / base) 0 e) refl
 
-  onto_more : (k j : ℕ) → k ≡ suc j → (n / base ≡ 0 → ⊥) → digits_onto k base true n others ≡ digits_onto j base true (n / base) (digit_glyph true (n % base) ∷ others)
+  onto_more : (k j : ℕ) → k ≡ suc j → (n / base ≡ 0 → ⊥)
+      → digits_onto k base true n others ≡ digits_onto j base true (n / base) (digit_glyph true (n % base) ∷ others)
   onto_more zero j same e = absurd (omega arith)
-  onto_more (suc k) j same e = rw (ne_eqb (n / base) 0 e) (ap (λ m. digits_onto m base true (n / base) (digit_glyph true (n % base) ∷ others)) (omega arith))
+  onto_more (suc k) j same e = rw (ne_eqb (n / base) 0 e)
+      (ap (λ m. digits_onto m base true (n / base) (digit_glyph true (n % base) ∷ others)) (omega arith))
 
-module _ (buffer : List ℕ) (place base n d : ℕ) (some : 0 < place) (room : place ≤ length buffer) (is : d ≡ digit_glyph true (n % base)) where
+module _ (buffer : List ℕ) (place base n d : ℕ) (some : 0 < place) (room : place ≤ length buffer)
+    (is : d ≡ digit_glyph true (n % base)) where
   written : drop (place - 1) (set buffer (place - 1) d) ≡ digit_glyph true (n % base) ∷ drop place buffer
-  written = drop-set_at buffer (place - 1) (place - 1) d refl (omega arith) ∙ ap (λ m. d ∷ drop m buffer) (omega arith) ∙ ap (λ g. g ∷ drop place buffer) is
+  written = drop-set_at buffer (place - 1) (place - 1) d refl (omega arith) ∙ ap (λ m. d ∷ drop m buffer) (omega arith)
+      ∙ ap (λ g. g ∷ drop place buffer) is
 
   -- the digit that is written last is the highest
-  pub last_written : n / base ≡ 0 → drop (place - 1) (set buffer (place - 1) d) ≡ digits_before place base n (drop place buffer)
+  pub last_written : n / base ≡ 0 → drop (place - 1) (set buffer (place - 1) d) ≡ digits_before place base n
+      (drop place buffer)
   unfolding digits_before
   last_written e = written ∙ sym (onto_last base n (drop place buffer) (place + 53) (omega arith) e)
 
   -- another digit is written before those that stand
-  pub more_written : (n / base ≡ 0 → ⊥) → digits_before (place - 1) base (n / base) (drop (place - 1) (set buffer (place - 1) d)) ≡ digits_before place base n (drop place buffer)
+  pub more_written : (n / base ≡ 0 → ⊥)
+      → digits_before (place - 1) base (n / base) (drop (place - 1) (set buffer (place - 1) d)) ≡ digits_before place
+      base n (drop place buffer)
   unfolding digits_before
   more_written e = rw written (sym (onto_more base n (drop place buffer) (place + 53) (place - 1 + 53) (omega arith) e))
 
@@ -58,11 +68,14 @@ some_place n (suc k) fits some = omega arith
 glyph_plain : (d : ℕ) → d < 10 → digit_glyph true d ≡ digit_glyph false d
 glyph_plain d small = grind (arith, nat_tests)
 
-onto_plain : (k base n : ℕ) (others : List ℕ) → 0 < base → base ≤ 10 → digits_onto k base true n others ≡ digits_onto k base false n others
+onto_plain : (k base n : ℕ) (others : List ℕ) → 0 < base → base ≤ 10
+    → digits_onto k base true n others ≡ digits_onto k base false n others
 onto_plain zero base n others some small = refl
 onto_plain (suc k) base n others some small =
-    ap (λ g. if n / base == 0 then g ∷ others else digits_onto k base true (n / base) (g ∷ others)) (glyph_plain (n % base) (omega (arith, mod-lt n some)))
-    ∙ ap (λ rest. if n / base == 0 then digit_glyph false (n % base) ∷ others else rest) (onto_plain k base (n / base) (digit_glyph false (n % base) ∷ others) some small)
+    ap (λ g. if n / base == 0 then g ∷ others else digits_onto k base true (n / base) (g ∷ others))
+    (glyph_plain (n % base) (omega (arith, mod-lt n some)))
+    ∙ ap (λ rest. if n / base == 0 then digit_glyph false (n % base) ∷ others else rest)
+    (onto_plain k base (n / base) (digit_glyph false (n % base) ∷ others) some small)
 
 -- digits of a base of at most 10 have no case
 pub digits_plain : (base n : ℕ) → 0 < base → base ≤ 10 → digits base true n ≡ digits base false n
@@ -82,15 +95,19 @@ signed_above (pos n) above = refl
 signed_above (negsuc n) above = absurd (omega (arith, ints))
 
 -- the same of a number as the code has it, and of its digits
-pub below_zero : (n : ℤ) (m : ℕ) (ds : List ℕ) → FitsSigned w32 n → n <ℤ pos 0 → m ≡ unsigned_abs (cast_signed w32 (cast_unsigned w32 n)) → ds ≡ decimal m → 45 ∷ ds ≡ signed_decimal n
-below_zero n m ds fits below is e = ap (λ xs. 45 ∷ xs) (e ∙ ap decimal (is ∙ ap unsigned_abs (to_z-of_z w32 n fits))) ∙ signed_below n below
+pub below_zero : (n : ℤ) (m : ℕ) (ds : List ℕ) → FitsSigned w32 n → n <ℤ pos 0
+    → m ≡ unsigned_abs (cast_signed w32 (cast_unsigned w32 n)) → ds ≡ decimal m → 45 ∷ ds ≡ signed_decimal n
+below_zero n m ds fits below is e = ap (λ xs. 45 ∷ xs) (e ∙ ap decimal (is ∙ ap unsigned_abs (to_z-of_z w32 n fits)))
+    ∙ signed_below n below
 
-pub from_zero : (n : ℤ) (m : ℕ) (ds : List ℕ) → FitsSigned w32 n → pos 0 ≤ℤ n → m ≡ unsigned_abs (cast_signed w32 (cast_unsigned w32 n)) → ds ≡ decimal m → ds ≡ signed_decimal n
+pub from_zero : (n : ℤ) (m : ℕ) (ds : List ℕ) → FitsSigned w32 n → pos 0 ≤ℤ n
+    → m ≡ unsigned_abs (cast_signed w32 (cast_unsigned w32 n)) → ds ≡ decimal m → ds ≡ signed_decimal n
 from_zero n m ds fits above is e = e ∙ ap decimal (is ∙ ap unsigned_abs (to_z-of_z w32 n fits)) ∙ signed_above n above
 
 -- the digits leave room for a minus sign
 pub few_digits : (m : ℕ) (ds : List ℕ) → m ≤ 2 ^ 31 → ds ≡ decimal m → length ds < 11
-few_digits m ds near e = rw e (let few : length (decimal m) ≤ 10 = length-decimal-le 10 m (omega arith) (omega arith) (omega arith) in omega (arith, few))
+few_digits m ds near e = rw e (let few : length (decimal m) ≤ 10 = length-decimal-le 10 m (omega arith) (omega arith)
+    (omega arith) in omega (arith, few))
 
 -- how a sign comes before them
 pub ruleset signed_digits = (below_zero, from_zero, few_digits)

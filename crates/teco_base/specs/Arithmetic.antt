@@ -1,5 +1,6 @@
 -- Numbers are 32-bit, in two's complement: a whole-number result wraps to -2^31 .. 2^31 - 1.
-use Rattle.std.specs.Prelude.{ℕ, ℤ, pos, negsuc, zero, suc, ◌+ℤ◌, ◌-ℤ◌, ◌*ℤ◌, Option, Some, None, bit_and, bit_or, int_div, unsigned_abs}
+use Rattle.std.specs.Prelude.{ℕ, ℤ, pos, negsuc, zero, suc, ◌+ℤ◌, ◌-ℤ◌, ◌*ℤ◌, Option, Some, None, bit_and, bit_or}
+use Rattle.std.specs.Prelude.{int_div, unsigned_abs}
 use Rattle.std.specs.Int.{w32, int_wrap, int_rem_euclid, cast_signed, cast_unsigned}
 
 -- what is left of a whole number in 32 bits

@@ -1,7 +1,8 @@
 -- Classes of bytes. Case concerns ASCII letters alone.
 use Rattle.std.specs.Prelude.{ℕ, ◌%◌, List, [], ◌∷◌, codes, Bool, false, ◌||◌, ◌==◌, Option, Some, None, if◌then◌else◌}
 use Rattle.std.specs.Int.{is_in_range}
-use Rattle.std.specs.Char.{is_ascii_uppercase, is_ascii_lowercase, is_ascii_digit, is_ascii_alphabetic, to_ascii_uppercase}
+use Rattle.std.specs.Char.{is_ascii_uppercase, is_ascii_lowercase, is_ascii_digit, is_ascii_alphabetic}
+use Rattle.std.specs.Char.{to_ascii_uppercase}
 use Rattle.teco_base.specs.declared.bytes.TheConstants.{LF, VT, FF, CR, SPACE}
 
 -- is it one of some bytes?

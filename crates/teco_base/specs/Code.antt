@@ -1,7 +1,9 @@
 -- The codes, by the letters that are typed for them.
 use Rattle.std.specs.Prelude.{ℕ, List, codes}
 use Rattle.teco_base.specs.declared.code.Code.{Code}
-use Rattle.teco_base.specs.declared.code.Code.TheVariants.{Arg, Nac, Nca, Div, Pop, Dtb, Iia, Ill, Iqn, Ice, Srh, Tag, Sni, Bni, Pes, Utc, Utm, Nfi, Nfo, Yca, Ofo, Ful, Lim, Mem, Fnf, Inp, Out}
+use Rattle.teco_base.specs.declared.code.Code.TheVariants.{Arg, Nac, Nca, Div, Pop, Dtb, Iia, Ill, Iqn, Ice, Srh, Tag}
+use Rattle.teco_base.specs.declared.code.Code.TheVariants.{Sni, Bni, Pes, Utc, Utm, Nfi, Nfo, Yca, Ofo, Ful, Lim, Mem}
+use Rattle.teco_base.specs.declared.code.Code.TheVariants.{Fnf, Inp, Out}
 
 -- a code's three letters
 abbrev pub code_name : Code → List ℕ

@@ -1,5 +1,6 @@
 -- Lines of a text: each ends with LF, VT or FF.
-use Rattle.std.specs.Prelude.{ℕ, zero, suc, ◌+◌, ℤ, pos, negsuc, List, [], ◌∷◌, length, reverse, filter, slice_index_or, nat_lt, nat_le, if◌then◌else◌}
+use Rattle.std.specs.Prelude.{ℕ, zero, suc, ◌+◌, ℤ, pos, negsuc, List, [], ◌∷◌, length, reverse, filter}
+use Rattle.std.specs.Prelude.{slice_index_or, nat_lt, nat_le, if◌then◌else◌}
 use Rattle.teco_base.specs.Bytes.{is_line_end}
 
 -- the places after the line ends of a text whose first character is at a place

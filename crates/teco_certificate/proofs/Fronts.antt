@@ -1,5 +1,6 @@
 -- What stands at the front of a text, up to where it ends.
-use Rattle.std.proofs.Common.{◌≡◌, ℕ, zero, suc, ◌+◌, ◌^◌, ◌<◌, ◌≤◌, Bool, true, false, cond, List, [], ◌∷◌, ◌++◌, length, take, drop, sym, ap, ◌∙◌, refl, arith, ◌&&◌, rules}
+use Rattle.std.proofs.Common.{◌≡◌, ℕ, zero, suc, ◌+◌, ◌^◌, ◌<◌, ◌≤◌, Bool, true, false, cond, List, [], ◌∷◌, ◌++◌}
+use Rattle.std.proofs.Common.{length, take, drop, sym, ap, ◌∙◌, refl, arith, ◌&&◌, rules}
 use Rattle.std.specs.Bool.{⊤}
 use Rattle.std.proofs.lemmas.List.{take_at, drop_at}
 use Rattle.std.proofs.lemmas.List.Folds.{list_all-append}
@@ -26,7 +27,8 @@ both true b e = (refl, e)
 both false b e = absurd (cc)
 
 -- The front whose bytes pass is that of which each byte passes, up to where the test fails.
-front_len : (test : ℕ → Bool) (words rest : List ℕ) → list_all test words ≡ true → Ends test rest → prefix_len test (words ++ rest) ≡ length words
+front_len : (test : ℕ → Bool) (words rest : List ℕ) → list_all test words ≡ true → Ends test rest
+    → prefix_len test (words ++ rest) ≡ length words
 front_len test [] [] each ends = refl
 front_len test [] (c ∷ rest) each ends = rw ends refl
 front_len test (c ∷ words) rest each ends =
@@ -34,20 +36,24 @@ front_len test (c ∷ words) rest each ends =
     let more = front_len test words rest parts.1 ends in
     rw parts.0 (omega arith)
 
-module _ (test : ℕ → Bool) (words rest : List ℕ) (each : list_all test words ≡ true) (ends : Ends test rest) (whole : List ℕ) (e : whole ≡ words ++ rest) where
+module _ (test : ℕ → Bool) (words rest : List ℕ) (each : list_all test words ≡ true) (ends : Ends test rest)
+    (whole : List ℕ) (e : whole ≡ words ++ rest) where
   count_is : (count : ℕ) → count ≡ prefix_len test whole → count ≡ length words
   count_is count is = is ∙ ap (prefix_len test) e ∙ front_len test words rest each ends
 
-  pub split_front : (count : ℕ) (front back : List ℕ) → count ≡ prefix_len test whole → front ≡ take count whole → back ≡ drop count whole → (front ≡ words) × (back ≡ rest)
+  pub split_front : (count : ℕ) (front back : List ℕ) → count ≡ prefix_len test whole → front ≡ take count whole
+      → back ≡ drop count whole → (front ≡ words) × (back ≡ rest)
   split_front count front back is f b = (
     f ∙ ap (take count) e ∙ take_at words rest count (sym (count_is count is)),
     b ∙ ap (drop count) e ∙ drop_at words rest count (sym (count_is count is)),
   )
 
 -- two fronts of one text are one
-pub one_front : (test : ℕ → Bool) (v w x y : List ℕ) → list_all test v ≡ true → list_all test w ≡ true → Ends test x → Ends test y → v ++ x ≡ w ++ y → (v ≡ w) × (x ≡ y)
+pub one_front : (test : ℕ → Bool) (v w x y : List ℕ) → list_all test v ≡ true → list_all test w ≡ true → Ends test x
+    → Ends test y → v ++ x ≡ w ++ y → (v ≡ w) × (x ≡ y)
 one_front test v w x y each other ends ended e =
-    let split = split_front test w y other ended (v ++ x) e (length v) v x (sym (front_len test v x each ends)) (sym (take_at v x (length v) refl)) (sym (drop_at v x (length v) refl)) in
+    let split = split_front test w y other ended (v ++ x) e (length v) v x (sym (front_len test v x each ends))
+    (sym (take_at v x (length v) refl)) (sym (drop_at v x (length v) refl)) in
     split
 
 -- digits
@@ -78,8 +84,10 @@ digits_pass (c ∷ ds) each =
     let parts = both (is_ascii_digit c) (list_all is_ascii_digit ds) each in
     rw parts.0 (digits_pass ds parts.1)
 
-pub passes_append : (xs ys : List ℕ) → list_all is_of_polynomial xs ≡ true → list_all is_of_polynomial ys ≡ true → list_all is_of_polynomial (xs ++ ys) ≡ true
-passes_append xs ys left right = list_all-append is_of_polynomial xs ys ∙ ap (λ b. b && list_all is_of_polynomial ys) left ∙ right
+pub passes_append : (xs ys : List ℕ) → list_all is_of_polynomial xs ≡ true → list_all is_of_polynomial ys ≡ true
+    → list_all is_of_polynomial (xs ++ ys) ≡ true
+passes_append xs ys left right = list_all-append is_of_polynomial xs ys
+    ∙ ap (λ b. b && list_all is_of_polynomial ys) left ∙ right
 
 decimal_passes : (n : ℕ) → n < 2 ^ 64 → list_all is_of_polynomial (decimal n) ≡ true
 decimal_passes n small = digits_pass (decimal n) (decimal_digits n small)
@@ -99,20 +107,28 @@ coefficient_passes c (suc k) small = by_test (c == 1)
     by_test false = passes_append (decimal c) (codes "*") (decimal_passes c small) refl
 
 term_passes : (c k : ℕ) → c < 2 ^ 64 → k < 2 ^ 64 → list_all is_of_polynomial (term_text c k) ≡ true
-term_passes c k small power = passes_append (coefficient_text c k) (power_text k) (coefficient_passes c k small) (power_passes k power)
+term_passes c k small power = passes_append (coefficient_text c k) (power_text k) (coefficient_passes c k small)
+    (power_passes k power)
 
-terms_pass : (lead : List ℕ) (power : ℕ) (p : Polynomial) → list_all is_of_polynomial lead ≡ true → power + length p ≤ 9 → AreSmall p → list_all is_of_polynomial (joined lead (terms_from power p)) ≡ true
+terms_pass : (lead : List ℕ) (power : ℕ) (p : Polynomial) → list_all is_of_polynomial lead ≡ true → power + length p ≤ 9
+    → AreSmall p → list_all is_of_polynomial (joined lead (terms_from power p)) ≡ true
 terms_pass lead power [] passes few small = refl
 terms_pass lead power (c ∷ p) passes few small =
-    by_test (c == 0) (terms_pass lead (suc power) p passes (omega arith) small.1) (terms_pass (codes " + ") (suc power) p refl (omega arith) small.1)
+    by_test (c == 0) (terms_pass lead (suc power) p passes (omega arith) small.1)
+    (terms_pass (codes " + ") (suc power) p refl (omega arith) small.1)
   where
-    by_test : (b : Bool) → list_all is_of_polynomial (joined lead (terms_from (suc power) p)) ≡ true → list_all is_of_polynomial (joined (codes " + ") (terms_from (suc power) p)) ≡ true → list_all is_of_polynomial (joined lead (cond b (terms_from (suc power) p) (term_text c power ∷ terms_from (suc power) p))) ≡ true
+    by_test : (b : Bool) → list_all is_of_polynomial (joined lead (terms_from (suc power) p)) ≡ true
+        → list_all is_of_polynomial (joined (codes " + ") (terms_from (suc power) p)) ≡ true
+        → list_all is_of_polynomial (joined lead
+        (cond b (terms_from (suc power) p) (term_text c power ∷ terms_from (suc power) p))) ≡ true
     by_test true same behind = same
     by_test false same behind =
         passes_append lead (term_text c power ++ joined (codes " + ") (terms_from (suc power) p)) passes
-        (passes_append (term_text c power) (joined (codes " + ") (terms_from (suc power) p)) (term_passes c power small.0 (omega arith)) behind)
+        (passes_append (term_text c power) (joined (codes " + ") (terms_from (suc power) p))
+        (term_passes c power small.0 (omega arith)) behind)
 
-or_zero_passes : (ts : List (List ℕ)) → list_all is_of_polynomial (joined [] ts) ≡ true → list_all is_of_polynomial (joined_or_zero ts) ≡ true
+or_zero_passes : (ts : List (List ℕ)) → list_all is_of_polynomial (joined [] ts) ≡ true
+    → list_all is_of_polynomial (joined_or_zero ts) ≡ true
 or_zero_passes [] each = refl
 or_zero_passes (t ∷ ts) each = each
 

@@ -1,5 +1,6 @@
 -- Texts whose registers rise.
-use Rattle.std.proofs.Common.{◌≡◌, ℕ, zero, suc, ◌+◌, ◌<◌, ◌≤◌, List, [], ◌∷◌, ◌++◌, length, get_or, arith, length-append}
+use Rattle.std.proofs.Common.{◌≡◌, ℕ, zero, suc, ◌+◌, ◌<◌, ◌≤◌, List, [], ◌∷◌, ◌++◌, length, get_or, arith}
+use Rattle.std.proofs.Common.{length-append}
 use Rattle.std.proofs.lemmas.List.{get_or_append_left}
 use Rattle.std.proofs.lemmas.List.Elements.{All-from_recursion}
 use Rattle.teco_base.specs.declared.TheConstants.{REGISTERS}
@@ -15,7 +16,8 @@ front_rises xs ys rise = λ k d h.
     rw (here, next) at at
 
 -- each register is at least the place of its text
-at_least_place : (ls : List LongerText) → TextsRise ls → (k : ℕ) (d : LongerText) → k < length ls → k ≤ (get_or ls k d).register
+at_least_place : (ls : List LongerText) → TextsRise ls → (k : ℕ) (d : LongerText) → k < length ls
+    → k ≤ (get_or ls k d).register
 at_least_place ls rise zero d h = omega arith
 at_least_place ls rise (suc k) d h =
     let before = at_least_place ls rise k d (omega arith) in

@@ -1,5 +1,6 @@
 -- What is read of texts that have words, registers and files.
-use Rattle.std.proofs.Common.{◌≡◌, ℕ, ◌+◌, ◌-◌, Bool, true, false, Option, Some, None, List, [], ◌∷◌, ◌++◌, length, drop, flat_map, sym, ap, ◌∙◌, refl, arith, append_assoc, ltb, cond, Bor}
+use Rattle.std.proofs.Common.{◌≡◌, ℕ, ◌+◌, ◌-◌, Bool, true, false, Option, Some, None, List, [], ◌∷◌, ◌++◌, length}
+use Rattle.std.proofs.Common.{drop, flat_map, sym, ap, ◌∙◌, refl, arith, append_assoc, ltb, cond, Bor}
 use Rattle.std.proofs.lemmas.Bool.Decides.{Decides-eqb}
 use Rattle.std.proofs.lemmas.List.{append_cancel_right}
 use Rattle.std.proofs.lemmas.Slice.Eq.{strip_suffix_is}
@@ -15,7 +16,8 @@ use Rattle.teco_verifier.specs.declared.rules.Rules.TheVariants.{First, Second}
 use Rattle.teco_verifier.specs.declared.values.Distances.{Distances}
 use Rattle.teco_verifier.specs.certificate.Fields.{Fields}
 use Rattle.teco_certificate.specs.Front.{EndsPolynomial, LooksFor}
-use Rattle.teco_certificate.specs.Text.{line, version_text, rules_line, letters_of, kept_text, distances_text, longer_text, longer_texts, behind_comma, chosen_text}
+use Rattle.teco_certificate.specs.Text.{line, version_text, rules_line, letters_of, kept_text, distances_text}
+use Rattle.teco_certificate.specs.Text.{longer_text, longer_texts, behind_comma, chosen_text}
 use Rattle.teco_certificate.specs.WellFormed.{IsLongerText}
 use Rattle.teco_poly.specs.Polynomial.{Polynomial}
 use Rattle.teco_poly.specs.Text.{text as poly_text}
@@ -23,7 +25,8 @@ use Rattle.teco_model.specs.Macros.{ArgumentRange, Needs}
 use Rattle.teco_verifier.specs.table.Choices.{LongerText, Chosen}
 
 -- a text that begins with another byte than a word does not begin with the word
-pub other_byte : (text word rest : List ℕ) (c d : ℕ) → text ≡ c ∷ rest → (c ≡ d → ⊥) → (behind : List ℕ) → text ≢ (d ∷ word) ++ behind
+pub other_byte : (text word rest : List ℕ) (c d : ℕ) → text ≡ c ∷ rest → (c ≡ d → ⊥) → (behind : List ℕ)
+    → text ≢ (d ∷ word) ++ behind
 other_byte text word rest c d e other behind f = other (heads (sym e ∙ f))
   where
     heads : c ∷ rest ≡ d ∷ (word ++ behind) → c ≡ d
@@ -53,7 +56,8 @@ module _ (text one two three rest : List ℕ) (input output dash : Bool) (first 
       let o = second.not_there (other_byte one [] (10 ∷ rest) 45 79 (i.1 ∙ e) (λ (same : 45 ≡ 79). omega arith)) in
       (i.0, o.0, (third.there (10 ∷ rest) (o.1 ∙ (i.1 ∙ e))).1)
 
-  pub needs_read : (needs : Needs) → text ≡ letters_of needs.input needs.output ++ LF ∷ rest → (record { input = input; output = output } ≡ needs) × (three ≡ LF ∷ rest)
+  pub needs_read : (needs : Needs) → text ≡ letters_of needs.input needs.output ++ LF ∷ rest
+      → (record { input = input; output = output } ≡ needs) × (three ≡ LF ∷ rest)
   needs_read needs e =
       let read = letters_read needs.input needs.output e in
       let i : input ≡ needs.input = read.0 in
@@ -61,7 +65,9 @@ module _ (text one two three rest : List ℕ) (input output dash : Bool) (first 
       (rw (i, o) refl, read.2)
 
 -- 1, or 2
-pub version_read : (text one two : List ℕ) (a b : Bool) (argument : Option ArgumentRange) (rest : List ℕ) → LooksFor text (codes "1") a one → LooksFor one (codes "2") b two → text ≡ version_text argument ++ LF ∷ rest → two ≡ LF ∷ rest
+pub version_read : (text one two : List ℕ) (a b : Bool) (argument : Option ArgumentRange) (rest : List ℕ)
+    → LooksFor text (codes "1") a one → LooksFor one (codes "2") b two → text ≡ version_text argument ++ LF ∷ rest
+    → two ≡ LF ∷ rest
 version_read text one two a b None rest first second e =
     let o = first.there (LF ∷ rest) e in
     (second.not_there (other_byte one [] rest 10 50 o.1 (λ (same : 10 ≡ 50). omega arith))).1 ∙ o.1
@@ -71,11 +77,14 @@ version_read text one two a b (Some range) rest first second e =
 
 -- the space behind a polynomial is left out
 pub without_space : (words p : List ℕ) (r : Option (Bor (List ℕ))) (x d : Bor (List ℕ))
-    → MatchOption r (pointwise nat_eq (drop (length words - 1) words) (codes " ") ≡ false) (λ y. (pointwise nat_eq (drop (length words - 1) words) (codes " ") ≡ true) × (y.now ≡ take (length words - 1) words) × (length y.now + 1 ≡ length words))
+    → MatchOption r (pointwise nat_eq (drop (length words - 1) words) (codes " ") ≡ false)
+    (λ y. (pointwise nat_eq (drop (length words - 1) words) (codes " ") ≡ true)
+    × (y.now ≡ take (length words - 1) words) × (length y.now + 1 ≡ length words))
     → x ≡ unwrap_or r d → words ≡ p ++ codes " " → x.now ≡ p
 without_space words p None x d cases is e = absurd (strip_suffix_is Decides-eqb words (codes " ") None cases p e)
 without_space words p (Some y) x d cases is e =
-    ap (λ (b : Bor (List ℕ)). b.now) is ∙ append_cancel_right y.now p (codes " ") (sym (strip_suffix_is Decides-eqb words (codes " ") (Some y) cases) ∙ e)
+    ap (λ (b : Bor (List ℕ)). b.now) is ∙ append_cancel_right y.now p (codes " ")
+    (sym (strip_suffix_is Decides-eqb words (codes " ") (Some y) cases) ∙ e)
 
 -- no register's name is a -
 pub no_dash : (r : ℕ) → register_name r ≡ 45 → ⊥
@@ -94,7 +103,8 @@ pub record HasFirst (ls : List LongerText) (text rest : List ℕ) : Type 0 where
   pub are_others : AllByRecursion IsLongerText others
   pub spelled : text ≡ longer_text first ++ (flat_map behind_comma others ++ LF ∷ rest)
 
-pub texts_first : (ls : List LongerText) (text rest : List ℕ) → AllByRecursion IsLongerText ls → ((words : List ℕ) → text ≢ codes "-" ++ words) → text ≡ longer_texts ls ++ LF ∷ rest → HasFirst ls text rest
+pub texts_first : (ls : List LongerText) (text rest : List ℕ) → AllByRecursion IsLongerText ls
+    → ((words : List ℕ) → text ≢ codes "-" ++ words) → text ≡ longer_texts ls ++ LF ∷ rest → HasFirst ls text rest
 texts_first [] text rest are no_dash e = absurd (no_dash (LF ∷ rest) e)
 texts_first (l ∷ ls) text rest are no_dash e = record {
   first = l;
@@ -116,36 +126,60 @@ ends_kept false rest = refl
 
 -- the parts of a line one after another
 pub parts_of_line : (rules : Rules) (chosen : Chosen) (rest : List ℕ)
-    → line (chosen_text rules chosen) ++ rest ≡ decimal chosen.begin ++ (codes " held " ++ (poly_text chosen.held ++ (codes " " ++ (kept_text chosen.kept ++ (distances_text rules chosen.distances ++ (codes " texts " ++ (longer_texts chosen.longer ++ LF ∷ rest)))))))
+    → line (chosen_text rules chosen) ++ rest ≡ decimal chosen.begin
+    ++ (codes " held " ++ (poly_text chosen.held
+    ++ (codes " " ++ (kept_text chosen.kept
+    ++ (distances_text rules chosen.distances ++ (codes " texts " ++ (longer_texts chosen.longer ++ LF ∷ rest)))))))
 parts_of_line rules chosen rest = simp append_assoc
 
 pub parts_of_distances : (distances : Distances) (rest : List ℕ)
-    → distances_text Second distances ++ rest ≡ codes " back " ++ (decimal distances.back ++ (codes " fore " ++ (decimal distances.fore ++ rest)))
+    → distances_text Second distances ++ rest ≡ codes " back "
+    ++ (decimal distances.back ++ (codes " fore " ++ (decimal distances.fore ++ rest)))
 parts_of_distances distances rest = simp append_assoc
 
 -- The line of the edition, or what has to stand behind it.
-pub rules_read : (text behind : List ℕ) (found : Bool) (rules : Rules) (rest : List ℕ) → LooksFor text (codes "rules 2" ++ LF ∷ []) found behind → text ≡ rules_line rules ++ (codes "needs " ++ rest) → ((if found then Second else First) ≡ rules) × (behind ≡ codes "needs " ++ rest)
+pub rules_read : (text behind : List ℕ) (found : Bool) (rules : Rules) (rest : List ℕ)
+    → LooksFor text (codes "rules 2" ++ LF ∷ []) found behind → text ≡ rules_line rules ++ (codes "needs " ++ rest)
+    → ((if found then Second else First) ≡ rules) × (behind ≡ codes "needs " ++ rest)
 rules_read text behind found First rest looks e =
-    let none = looks.not_there (other_byte text (codes "ules 2" ++ LF ∷ []) (codes "eeds " ++ rest) 110 114 e (λ (same : 110 ≡ 114). omega arith)) in
+    let none = looks.not_there (other_byte text (codes "ules 2" ++ LF ∷ []) (codes "eeds " ++ rest) 110 114 e
+    (λ (same : 110 ≡ 114). omega arith)) in
     (rw none.0 refl, none.1 ∙ e)
 rules_read text behind found Second rest looks e =
     let one = looks.there (codes "needs " ++ rest) e in
     (rw one.0 refl, one.1)
 
-pub no_argument : (rules : Rules) (text rest words : List ℕ) → text ≡ rules_line rules ++ (codes "needs " ++ rest) → text ≢ codes "argument " ++ words
-no_argument First text rest words e = other_byte text (codes "rgument ") (codes "eeds " ++ rest) 110 97 e (λ (same : 110 ≡ 97). omega arith) words
-no_argument Second text rest words e = other_byte text (codes "rgument ") (codes "ules 2" ++ LF ∷ (codes "needs " ++ rest)) 114 97 e (λ (same : 114 ≡ 97). omega arith) words
+pub no_argument : (rules : Rules) (text rest words : List ℕ) → text ≡ rules_line rules ++ (codes "needs " ++ rest)
+    → text ≢ codes "argument " ++ words
+no_argument First text rest words e =
+    other_byte text (codes "rgument ") (codes "eeds " ++ rest) 110 97 e (λ (same : 110 ≡ 97). omega arith) words
+no_argument Second text rest words e =
+    other_byte text (codes "rgument ") (codes "ules 2" ++ LF ∷ (codes "needs " ++ rest)) 114 97 e
+    (λ (same : 114 ≡ 97). omega arith) words
 
 -- fields that are those of another are it
-pub same_chosen : (chosen : Chosen) {begin : ℕ} {held : Polynomial} {kept : Bool} {distances : Distances} {longer : List LongerText}
-    → begin ≡ chosen.begin → held ≡ chosen.held → kept ≡ chosen.kept → distances ≡ chosen.distances → longer ≡ chosen.longer
+pub same_chosen : (chosen : Chosen) {begin : ℕ} {held : Polynomial} {kept : Bool} {distances : Distances}
+    {longer : List LongerText}
+    → begin ≡ chosen.begin → held ≡ chosen.held → kept ≡ chosen.kept → distances ≡ chosen.distances
+    → longer ≡ chosen.longer
     → record { begin = begin; held = held; kept = kept; distances = distances; longer = longer } ≡ chosen
 same_chosen chosen b h k d l = rw (b, h, k, d, l) refl
 
-pub same_fields : (fields : Fields) {entry : ℕ} {argument : Option ArgumentRange} {rules : Rules} {needs : Needs} {commands size : Polynomial} {loops : List Chosen}
-    → entry ≡ fields.entry → argument ≡ fields.argument → rules ≡ fields.rules → needs ≡ fields.needs → commands ≡ fields.commands → size ≡ fields.size → loops ≡ fields.loops
-    → record { entry = entry; argument = argument; rules = rules; needs = needs; commands = commands; size = size; loops = loops } ≡ fields
+pub same_fields : (fields : Fields) {entry : ℕ} {argument : Option ArgumentRange} {rules : Rules} {needs : Needs}
+    {commands size : Polynomial} {loops : List Chosen}
+    → entry ≡ fields.entry → argument ≡ fields.argument → rules ≡ fields.rules → needs ≡ fields.needs
+    → commands ≡ fields.commands → size ≡ fields.size → loops ≡ fields.loops
+    → record {
+      entry = entry;
+      argument = argument;
+      rules = rules;
+      needs = needs;
+      commands = commands;
+      size = size;
+      loops = loops;
+    } ≡ fields
 same_fields fields e a r n c s l = rw (e, a, r, n, c, s, l) refl
 
-pub distances_are : (distances : Distances) {back fore : ℕ} → back ≡ distances.back → fore ≡ distances.fore → record { back = back; fore = fore } ≡ distances
+pub distances_are : (distances : Distances) {back fore : ℕ} → back ≡ distances.back → fore ≡ distances.fore
+    → record { back = back; fore = fore } ≡ distances
 distances_are distances b f = rw (b, f) refl

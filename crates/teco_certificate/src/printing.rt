@@ -3,7 +3,8 @@ ghost use Rattle.std.specs.Prelude.{◌≡◌, ◌++◌, ◌<◌, ◌^◌, OnOk,
 ghost use Rattle.std.specs.List.{AllByRecursion};
 ghost use Rattle.teco_base.specs.Register.{register_name};
 ghost use Rattle.teco_base.specs.declared.TheConstants.{REGISTERS};
-ghost use Rattle.teco_certificate.specs.Text.{line as line_of, version_text, argument_line, rules_line, longer_text, longer_texts, behind_comma, kept_text, distances_text, loop_line};
+ghost use Rattle.teco_certificate.specs.Text.{line as line_of, version_text, argument_line, rules_line, longer_text};
+ghost use Rattle.teco_certificate.specs.Text.{longer_texts, behind_comma, kept_text, distances_text, loop_line};
 ghost use Rattle.teco_model.specs.Macros.{IsArgumentRange};
 ghost use Rattle.teco_certificate.specs.Words.{chosen_words};
 ghost use Rattle.teco_certificate.specs.WellFormed.{IsLongerText, IsChosen};

@@ -1,7 +1,8 @@
 // What a text says if it is that of a certificate. These functions judge nothing but that the
 // registers of a line rise: of another text they read anything at all, and who calls them has to
 // see whether what was read has this text.
-ghost use Rattle.std.specs.Prelude.{◌≡◌, ◌++◌, ◌∷◌, [], ◌≤◌, ◌<◌, ◌^◌, ◌↔◌, ℕ, Bool, true, IsTrue, List, length, flat_map, codes, Option, Some, IfOk, OnOk, IfSome, if◌then◌else◌};
+ghost use Rattle.std.specs.Prelude.{◌≡◌, ◌++◌, ◌∷◌, [], ◌≤◌, ◌<◌, ◌^◌, ◌↔◌, ℕ, Bool, true, IsTrue, List, length};
+ghost use Rattle.std.specs.Prelude.{flat_map, codes, Option, Some, IfOk, OnOk, IfSome, if◌then◌else◌};
 ghost use Rattle.std.specs.List.{AllByRecursion, list_all, prefix_len};
 ghost use Rattle.std.specs.Char.{is_ascii_digit};
 ghost use Rattle.std.specs.Fmt.{decimal};
@@ -11,8 +12,11 @@ ghost use Rattle.teco_base.specs.declared.bytes.TheConstants.{LF};
 ghost use Rattle.teco_verifier.specs.certificate.Fields.{Fields};
 ghost use Rattle.teco_certificate.specs.Front as front;
 ghost use Rattle.teco_certificate.specs.Front.{EndsPolynomial, LooksFor};
-ghost use Rattle.teco_certificate.specs.Text.{version_text, argument_line, needs_text, longer_text, longer_texts, behind_comma, kept_text, rules_line, distances_text, chosen_text, loop_line, certificate_text, line as line_of};
-ghost use Rattle.teco_certificate.specs.WellFormed.{IsLongerText, IsChosen, TextsRise, AreOfRegisters, RegistersRise, AreDistancesOf, HasDistancesOf, IsWellFormed};
+ghost use Rattle.teco_certificate.specs.Text.{version_text, argument_line, needs_text, longer_text, longer_texts};
+ghost use Rattle.teco_certificate.specs.Text.{behind_comma, kept_text, rules_line, distances_text, chosen_text};
+ghost use Rattle.teco_certificate.specs.Text.{loop_line, certificate_text, line as line_of};
+ghost use Rattle.teco_certificate.specs.WellFormed.{IsLongerText, IsChosen, TextsRise, AreOfRegisters, RegistersRise};
+ghost use Rattle.teco_certificate.specs.WellFormed.{AreDistancesOf, HasDistancesOf, IsWellFormed};
 ghost use Rattle.teco_poly.specs.Polynomial.{Polynomial};
 ghost use Rattle.teco_poly.specs.Reading.{IsPoly, EndsNumber};
 ghost use Rattle.teco_poly.specs.Text.{text as poly_text};

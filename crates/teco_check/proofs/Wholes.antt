@@ -13,7 +13,8 @@ module _ (nodes : List Node) (table : Table) where
   pub none_known : (rounds : Rounds) → rounds.number ≡ 0 → AreRounds nodes table rounds
   none_known rounds none = record { last = omega arith; are = λ some. absurd (omega arith) }
 
-  pub known_round : (k : ℕ) (rounds : Rounds) → k < length nodes → rounds.number ≡ k + 1 → rounds.product ≡ turns_round nodes table (node_at nodes (k + 1)).stand.iterations → AreRounds nodes table rounds
+  pub known_round : (k : ℕ) (rounds : Rounds) → k < length nodes → rounds.number ≡ k + 1
+      → rounds.product ≡ turns_round nodes table (node_at nodes (k + 1)).stand.iterations → AreRounds nodes table rounds
   known_round k rounds h is product = record {
     last = omega arith;
     are = λ some. product ∙ ap (λ n. turns_round nodes table (node_at nodes n).stand.iterations) (sym is);

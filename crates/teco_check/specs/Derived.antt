@@ -1,5 +1,6 @@
 -- How a table is derived where what arrives at each node is kept, in place of all that arrived anywhere.
-use Rattle.std.specs.Prelude.{◌≡◌, ℕ, zero, suc, ◌-◌, List, [], ◌∷◌, take, slice_set, slice_index_or, Option, Some, None, Result, Ok, Err, IsOk}
+use Rattle.std.specs.Prelude.{◌≡◌, ℕ, zero, suc, ◌-◌, List, [], ◌∷◌, take, slice_set, slice_index_or, Option, Some}
+use Rattle.std.specs.Prelude.{None, Result, Ok, Err, IsOk}
 use Rattle.teco_verifier.specs.declared.refusal.Refusal.{Refusal}
 use Rattle.teco_verifier.specs.facts.Argument.{facts_given}
 use Rattle.teco_verifier.specs.facts.Attempt.{◌>>=◌}

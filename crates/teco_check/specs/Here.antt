@@ -1,5 +1,6 @@
 -- The node of a number.
-use Rattle.std.specs.Prelude.{ℕ, ◌<◌, ◌≤◌, List, [], length, false, Option, None, Some, Result, Ok, option_map, unwrap_or}
+use Rattle.std.specs.Prelude.{ℕ, ◌<◌, ◌≤◌, List, [], length, false, Option, None, Some, Result, Ok, option_map}
+use Rattle.std.specs.Prelude.{unwrap_or}
 use Rattle.teco_model.specs.Element.{Element}
 use Rattle.teco_verifier.specs.declared.refusal.Refusal.{Refusal}
 use Rattle.teco_verifier.specs.expansion.Node.{Node, numbered}

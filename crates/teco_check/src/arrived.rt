@@ -1,5 +1,6 @@
 //! What has arrived at each node, as a table is derived.
-ghost use Rattle.std.specs.Prelude.{◌≡◌, ◌-◌, ◌<◌, ◌≤◌, replicate, length, slice_set, slice_index_or, IfOk, OnOk, Ok, None};
+ghost use Rattle.std.specs.Prelude.{◌≡◌, ◌-◌, ◌<◌, ◌≤◌, replicate, length, slice_set, slice_index_or, IfOk, OnOk, Ok};
+ghost use Rattle.std.specs.Prelude.{None};
 ghost use Rattle.teco_check.specs.Derived as derived;
 
 use std::alloc::{AllocError, Global};

@@ -1,12 +1,14 @@
 //! A table that is derived in one pass over the nodes, where what is chosen for the iterations is
 //! given.
-ghost use Rattle.std.specs.Prelude.{◌≡◌, ◌-◌, ◌<◌, ◌≤◌, length, replicate, option_map, option_copied, slice_index_or, IfOk, OnOk, None, Some, Ok, false};
+ghost use Rattle.std.specs.Prelude.{◌≡◌, ◌-◌, ◌<◌, ◌≤◌, length, replicate, option_map, option_copied, slice_index_or};
+ghost use Rattle.std.specs.Prelude.{IfOk, OnOk, None, Some, Ok, false};
 ghost use Rattle.std.specs.List.{list_any};
 ghost use Rattle.teco_model.specs.Element as elements;
 ghost use Rattle.teco_verifier.specs.table.Deriving as rules;
 ghost use Rattle.teco_verifier.specs.table.Written as writing;
 ghost use Rattle.teco_verifier.specs.facts.Argument as given;
-ghost use Rattle.teco_check.specs.Derived.{arrived_all, arrived_at, known_of, Derives, DerivesFrom, DerivesRow, DerivesUpTo, IsLargeBy, IsNotLarge};
+ghost use Rattle.teco_check.specs.Derived.{arrived_all, arrived_at, known_of, Derives, DerivesFrom, DerivesRow};
+ghost use Rattle.teco_check.specs.Derived.{DerivesUpTo, IsLargeBy, IsNotLarge};
 ghost use Rattle.teco_check.specs.Here.{node_at};
 ghost use Rattle.teco_verifier.specs.table.Loops.{begins};
 

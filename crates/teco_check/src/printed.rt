@@ -1,6 +1,7 @@
 //! What is printed of a table: the most steps that a run takes, the most that is held, and the
 //! files that must be open.
-ghost use Rattle.std.specs.Prelude.{◌≡◌, ◌<◌, ◌≤◌, length, option_map, IsTrue, None, Ok, false, if◌then◌else◌, option_copied};
+ghost use Rattle.std.specs.Prelude.{◌≡◌, ◌<◌, ◌≤◌, length, option_map, IsTrue, None, Ok, false, if◌then◌else◌};
+ghost use Rattle.std.specs.Prelude.{option_copied};
 ghost use Rattle.teco_base.specs.declared.TheConstants.{REGISTERS};
 ghost use Rattle.teco_poly.specs.Polynomial.{number};
 ghost use Rattle.std.specs.Option.{option_map_or};

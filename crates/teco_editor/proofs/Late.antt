@@ -1,5 +1,6 @@
 -- The codes that a search can tell only when it has its pattern.
-use Rattle.std.proofs.Common.{◌≡◌, inl, inr, ℕ, ℤ, Bool, true, false, Result, Ok, Err, Option, Some, None, length, nat_le, refl}
+use Rattle.std.proofs.Common.{◌≡◌, inl, inr, ℕ, ℤ, Bool, true, false, Result, Ok, Err, Option, Some, None, length}
+use Rattle.std.proofs.Common.{nat_le, refl}
 use Rattle.std.specs.Prelude.{IsOk, if◌then◌else◌}
 use Rattle.teco_base.specs.Text.{text_after_replacement}
 use Rattle.teco_base.specs.declared.TheConstants.{LIMIT}
@@ -26,32 +27,41 @@ either-late : {X : Type 0} (fits : Bool) (x : X) → IsDoneOrFull (if fits then 
 either-late true x = inl refl
 either-late false x = inr refl
 
-pub kept_after-late : (s : Search) (e : Element) (span : Span) (kept : Kept) → IsDoneOrFull (model.kept_after s e span kept)
+pub kept_after-late : (s : Search) (e : Element) (span : Span) (kept : Kept)
+    → IsDoneOrFull (model.kept_after s e span kept)
 kept_after-late search_kind.Find e span kept = inl refl
 kept_after-late search_kind.FindInPages e span kept = inl refl
-kept_after-late search_kind.Replace e span kept = either-late (nat_le (length (text_after_replacement kept.text span.start span.end e.second)) LIMIT) _
-kept_after-late search_kind.ReplaceInPages e span kept = either-late (nat_le (length (text_after_replacement kept.text span.start span.end e.second)) LIMIT) _
+kept_after-late search_kind.Replace e span kept =
+    either-late (nat_le (length (text_after_replacement kept.text span.start span.end e.second)) LIMIT) _
+kept_after-late search_kind.ReplaceInPages e span kept =
+    either-late (nat_le (length (text_after_replacement kept.text span.start span.end e.second)) LIMIT) _
 
 found-late : (r : Result Kept Code) → IsDoneOrFull r → IsDoneOrFull (r >>= (λ found. Ok (model.Found found)))
 found-late (Ok kept) h = inl refl
 found-late (Err c) (inl h) = cc
 found-late (Err c) (inr h) = inr (cc)
 
-pub finding-late : (s : Search) (e : Element) (span : Option Span) (kept : Kept) → IsDoneOrFull (model.finding_of s e span kept)
+pub finding-late : (s : Search) (e : Element) (span : Option Span) (kept : Kept)
+    → IsDoneOrFull (model.finding_of s e span kept)
 finding-late s e None kept = inl refl
 finding-late s e (Some span) kept = found-late (model.kept_after s e span kept) (kept_after-late s e span kept)
 
-module _ (s : Search) (e : Element) (taken : Taken) (kept : Kept) (n : ℤ) (counted : model.count_of taken.first taken.value ≡ Ok n) where
+module _ (s : Search) (e : Element) (taken : Taken) (kept : Kept) (n : ℤ)
+    (counted : model.count_of taken.first taken.value ≡ Ok n) where
   -- with its pattern a search is done, or FUL
-  late_by : (read : Result Pattern Code) → model.pattern_of (model.search_text_of e.text kept) kept ≡ read → IsOk read → IsDoneOrFull (model.search s e taken kept)
+  late_by : (read : Result Pattern Code) → model.pattern_of (model.search_text_of e.text kept) kept ≡ read → IsOk read
+      → IsDoneOrFull (model.search s e taken kept)
   late_by (Ok pattern) said h = rw (counted, said) (finding-late s e _ _)
   late_by (Err c) said h = cc
 
-  pub search-late : IsOk (model.pattern_of (model.search_text_of e.text kept) kept) → IsDoneOrFull (model.search s e taken kept)
+  pub search-late : IsOk (model.pattern_of (model.search_text_of e.text kept) kept)
+      → IsDoneOrFull (model.search s e taken kept)
   search-late h = late_by (model.pattern_of (model.search_text_of e.text kept) kept) refl h
 
   -- a search text that is refused
-  pub search-refused : (fault : FindFault) → Reads {X = Pattern} (Err fault) (model.pattern_of (model.search_text_of e.text kept) kept) → Searches e.text kept kept (model.search s e taken kept) (Err (stuck_by_pattern fault))
+  pub search-refused : (fault : FindFault)
+      → Reads {X = Pattern} (Err fault) (model.pattern_of (model.search_text_of e.text kept) kept)
+      → Searches e.text kept kept (model.search s e taken kept) (Err (stuck_by_pattern fault))
   search-refused fault.Ice h = (rw (counted, h) refl, refl)
   search-refused fault.Iqn h = (rw (counted, h) refl, refl)
   search-refused fault.Memory h = (search-late h, refl)
@@ -67,11 +77,14 @@ here_of-late s e kept (Last span) = here-late (model.kept_after s e span kept) (
 here_of-late s e kept (Wanted n) = inl refl
 
 module _ (s : Search) (e : Element) (n : ℕ) (kept : Kept) where
-  look_late_by : (read : Result Pattern Code) → model.pattern_of kept.search_text kept ≡ read → IsOk read → IsDoneOrFull (look_here s e n kept)
+  look_late_by : (read : Result Pattern Code) → model.pattern_of kept.search_text kept ≡ read → IsOk read
+      → IsDoneOrFull (look_here s e n kept)
   look_late_by (Ok pattern) said h = rw said (here_of-late s e kept _)
   look_late_by (Err c) said h = cc
 
-  pub look-refused : (old : Kept) (fault : FindFault) → Reads {X = Pattern} (Err fault) (model.pattern_of kept.search_text kept) → Looks old old (look_here s e n kept) (Err (stuck_by_pattern fault))
+  pub look-refused : (old : Kept) (fault : FindFault)
+      → Reads {X = Pattern} (Err fault) (model.pattern_of kept.search_text kept)
+      → Looks old old (look_here s e n kept) (Err (stuck_by_pattern fault))
   look-refused old fault.Ice h = (rw h refl, refl)
   look-refused old fault.Iqn h = (rw h refl, refl)
   look-refused old fault.Memory h = (look_late_by (model.pattern_of kept.search_text kept) refl h, refl)

@@ -1,21 +1,25 @@
 -- A search through a list, from a place on.
-use Rattle.std.proofs.Common.{◌≡◌, ℕ, zero, suc, ◌+◌, List, [], ◌∷◌, drop, Bool, ◌||◌, Some, refl, ap, ◌∙◌, ◌==◌, true, slice_get, arith}
+use Rattle.std.proofs.Common.{◌≡◌, ℕ, zero, suc, ◌+◌, List, [], ◌∷◌, drop, Bool, ◌||◌, Some, refl, ap, ◌∙◌, ◌==◌}
+use Rattle.std.proofs.Common.{true, slice_get, arith}
 use Rattle.std.proofs.lemmas.Bool.{eq-eqb}
 use Rattle.std.specs.List.{list_any}
 use Rattle.teco_verifier.specs.expansion.Expansion.{is_open}
 
-any_at : {X : Type 0} (p : X → Bool) (xs : List X) (k : ℕ) (x : X) → slice_get xs k ≡ Some x → list_any p (drop k xs) ≡ (p x || list_any p (drop (suc k) xs))
+any_at : {X : Type 0} (p : X → Bool) (xs : List X) (k : ℕ) (x : X) → slice_get xs k ≡ Some x
+    → list_any p (drop k xs) ≡ (p x || list_any p (drop (suc k) xs))
 any_at p [] k x h = absurd (cc)
 any_at p (y ∷ xs) zero x h = let e : y ≡ x = cc in rw e refl
 any_at p (y ∷ xs) (suc k) x h = any_at p xs k x h
 
-pub any_from : {X : Type 0} (p : X → Bool) (xs : List X) (k : ℕ) (x : X) → slice_get xs k ≡ Some x → list_any p (drop k xs) ≡ (p x || list_any p (drop (k + 1) xs))
+pub any_from : {X : Type 0} (p : X → Bool) (xs : List X) (k : ℕ) (x : X) → slice_get xs k ≡ Some x
+    → list_any p (drop k xs) ≡ (p x || list_any p (drop (k + 1) xs))
 any_from p xs k x h =
     let one : suc k ≡ k + 1 = omega arith in
     any_at p xs k x h ∙ ap (λ n. p x || list_any p (drop n xs)) one
 
 -- a register is among others where it stands at a place
-pub open_at : (r : ℕ) (xs : List ℕ) (k x : ℕ) → is_open r xs ≡ is_open r (drop k xs) → slice_get xs k ≡ Some x → x ≡ r → is_open r xs ≡ true
+pub open_at : (r : ℕ) (xs : List ℕ) (k x : ℕ) → is_open r xs ≡ is_open r (drop k xs) → slice_get xs k ≡ Some x → x ≡ r
+    → is_open r xs ≡ true
 open_at r xs k x e h same =
     let here = any_from (λ other. other == r) xs k x h in
     let is : (x == r) ≡ true = eq-eqb x r same in

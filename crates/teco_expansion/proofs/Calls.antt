@@ -1,5 +1,7 @@
 -- The table of command strings has them.
-use Rattle.std.proofs.Common.{◌≡◌, refl, ℕ, zero, suc, ◌*◌, ◌<◌, List, take, drop, Bool, true, false, bytes_eq, ◌&&◌, codes, ⊎_elim, sym, ap, ◌∙◌, ◌≤◌, [], ◌∷◌, map, length, Option, None, Bor, slice_index_or, arith}
+use Rattle.std.proofs.Common.{◌≡◌, refl, ℕ, zero, suc, ◌*◌, ◌<◌, List, take, drop, Bool, true, false, bytes_eq, ◌&&◌}
+use Rattle.std.proofs.Common.{codes, ⊎_elim, sym, ap, ◌∙◌, ◌≤◌, [], ◌∷◌, map, length, Option, None, Bor}
+use Rattle.std.proofs.Common.{slice_index_or, arith}
 use Rattle.std.specs.Option.{option_copied}
 use Rattle.teco_model.specs.Macros.{macro, call_of}
 use Rattle.std.proofs.lemmas.Bool.{cases_lt}
@@ -24,21 +26,25 @@ has_call_below : (n r : ℕ) → have_calls n ≡ true → r < n → has_call r 
 has_call_below zero r h l = absurd (omega arith)
 has_call_below (suc n) r h l =
     let two = both (has_call n) (have_calls n) h in
-    ⊎_elim (λ (k : r < n). has_call_below n r two.1 k) (λ (k : n ≤ r). let e : n ≡ r = omega arith in ap has_call (sym e) ∙ two.0) (cases_lt r n)
+    ⊎_elim (λ (k : r < n). has_call_below n r two.1 k) (λ (k : n ≤ r). let e : n ≡ r = omega arith in
+    ap has_call (sym e) ∙ two.0) (cases_lt r n)
 
 pub call_in_table : (r : ℕ) → r < REGISTERS → take 2 (drop (2 * r) calls) ≡ call_of r
 call_in_table r l = (bytes_eq-Decides (take 2 (drop (2 * r) calls)) (call_of r)).0 (has_call_below REGISTERS r refl l)
 
 -- there are no more registers
-beyond : {X Y : Type 0} (f : X → Option Y) (xs : List X) (r : ℕ) → length xs ≤ r → slice_index_or (map f xs) r None ≡ None
+beyond : {X Y : Type 0} (f : X → Option Y) (xs : List X) (r : ℕ) → length xs ≤ r
+    → slice_index_or (map f xs) r None ≡ None
 beyond f [] r h = refl
 beyond f (x ∷ xs) zero h = absurd (omega (arith, h))
 beyond f (x ∷ xs) (suc r) h = beyond f xs r (omega (arith, h))
 
-pub no_macro : (texts : List (Option (Bor (List ℕ)))) (r : ℕ) → length texts ≤ r → macro (map option_copied texts) r ≡ None
+pub no_macro : (texts : List (Option (Bor (List ℕ)))) (r : ℕ) → length texts ≤ r
+    → macro (map option_copied texts) r ≡ None
 no_macro texts r h = beyond option_copied texts r h
 
-pub macro_at : (texts : List (Option (Bor (List ℕ)))) (r : ℕ) → r < length texts → option_copied (slice_index_or texts r None) ≡ macro (map option_copied texts) r
+pub macro_at : (texts : List (Option (Bor (List ℕ)))) (r : ℕ) → r < length texts
+    → option_copied (slice_index_or texts r None) ≡ macro (map option_copied texts) r
 macro_at [] r h = absurd (omega (arith, h))
 macro_at (x ∷ xs) zero h = refl
 macro_at (x ∷ xs) (suc r) h = macro_at xs r (omega (arith, h))

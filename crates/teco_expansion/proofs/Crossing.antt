@@ -13,16 +13,19 @@ pub crossed-none : (to : ℕ) (c : Crossed) (text : List ℕ) (at : ℕ) → rea
     crossed_to to c (readings text at) ≡ c
 crossed-none to c text at h = rw (readings-none text at h) refl
 
-pub crossed-faulty : (to : ℕ) (c : Crossed) (text : List ℕ) (at : ℕ) (code : Code) (place next : ℕ) → reading_at text at ≡ Some (Faulty code place next) →
+pub crossed-faulty : (to : ℕ) (c : Crossed) (text : List ℕ) (at : ℕ) (code : Code) (place next : ℕ)
+    → reading_at text at ≡ Some (Faulty code place next) →
     crossed_to to c (readings text at) ≡ crossed_to to c (readings text next)
 crossed-faulty to c text at code place next h = rw (readings-some text at _ h) refl
 
-pub crossed-there : (to : ℕ) (c : Crossed) (text : List ℕ) (at : ℕ) (e : Element) → reading_at text at ≡ Some (Whole e) →
+pub crossed-there : (to : ℕ) (c : Crossed) (text : List ℕ) (at : ℕ) (e : Element)
+    → reading_at text at ≡ Some (Whole e) →
     nat_le to e.place ≡ true → crossed_to to c (readings text at) ≡ c
 crossed-there to c text at e h b = rw (readings-some text at _ h) (rw (b, crossed_to) refl)
 
 pub crossed-on : (to : ℕ) (c : Crossed) (text : List ℕ) (at : ℕ) (e : Element) → reading_at text at ≡ Some (Whole e) →
-    nat_le to e.place ≡ false → crossed_to to c (readings text at) ≡ crossed_to to (behind_bracket (bracket Iterations e.kind) c) (readings text e.next)
+    nat_le to e.place ≡ false → crossed_to to c (readings text at) ≡ crossed_to to
+    (behind_bracket (bracket Iterations e.kind) c) (readings text e.next)
 crossed-on to c text at e h b = rw (readings-some text at _ h) (rw (b, crossed_to) refl)
 
 -- behind the end nothing is

@@ -1,5 +1,6 @@
 -- How many iterations are open in the texts that wait.
-use Rattle.std.proofs.Common.{◌≡◌, ℕ, zero, suc, ◌+◌, ◌≤◌, List, [], ◌∷◌, map, drop, length, refl, ap, ◌∙◌, slice_get, length-append, arith}
+use Rattle.std.proofs.Common.{◌≡◌, ℕ, zero, suc, ◌+◌, ◌≤◌, List, [], ◌∷◌, map, drop, length, refl, ap, ◌∙◌, slice_get}
+use Rattle.std.proofs.Common.{length-append, arith}
 use Rattle.std.proofs.lemmas.List.{drop_all}
 use Rattle.teco_verifier.specs.expansion.Position.{starts_in}
 use Rattle.teco_expansion.specs.Few.{listed}
@@ -12,13 +13,15 @@ use Rattle.teco_expansion.specs.declared.texts.Texts.{Texts}
 abbrev pub left_from : Texts → List Spot → ℕ → ℕ
 left_from texts spots k = length (starts_in (map (spot_seen texts) (drop k spots)))
 
-at_place : (texts : Texts) (spots : List Spot) (k : ℕ) → left_from texts spots k ≡ open_in (slice_get spots k) + left_from texts spots (suc k)
+at_place : (texts : Texts) (spots : List Spot) (k : ℕ)
+    → left_from texts spots k ≡ open_in (slice_get spots k) + left_from texts spots (suc k)
 at_place texts [] zero = refl
 at_place texts [] (suc k) = refl
 at_place texts (x ∷ spots) zero = length-append (listed x.starts) (starts_in (map (spot_seen texts) spots))
 at_place texts (x ∷ spots) (suc k) = at_place texts spots k
 
-pub left_at : (texts : Texts) (spots : List Spot) (k : ℕ) → left_from texts spots k ≡ open_in (slice_get spots k) + left_from texts spots (k + 1)
+pub left_at : (texts : Texts) (spots : List Spot) (k : ℕ)
+    → left_from texts spots k ≡ open_in (slice_get spots k) + left_from texts spots (k + 1)
 left_at texts spots k =
     let one : suc k ≡ k + 1 = omega arith in
     at_place texts spots k ∙ ap (λ n. open_in (slice_get spots k) + left_from texts spots n) one

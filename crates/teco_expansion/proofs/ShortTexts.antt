@@ -1,5 +1,6 @@
 -- The texts of an element are no longer than what it is read of.
-use Rattle.std.proofs.Common.{◌≡◌, ℕ, ◌≤◌, List, length, Option, Some, Result, Ok, Err, ap, ◌∙◌, arith, option_map, IfOk, rules}
+use Rattle.std.proofs.Common.{◌≡◌, ℕ, ◌≤◌, List, length, Option, Some, Result, Ok, Err, ap, ◌∙◌, arith, option_map}
+use Rattle.std.proofs.Common.{IfOk, rules}
 use Rattle.std.specs.Option.{ForSome}
 use Rattle.teco_lex.specs.Reading.{Gives}
 use Rattle.teco_base.specs.declared.code.Code.{Code}
@@ -18,10 +19,16 @@ second_short text at e h =
     omega (arith, second_within text (blank_end text at) e r, r.within)
 
 -- the same of what the code reads
-pub found_text_short : (text : List ℕ) (at : ℕ) (r : Result (Option declared.Element) Code) → Gives (option_map seen) r (element_at text at) → IfOk r (λ found. ForSome found (λ e. length e.text.now ≤ length text))
-found_text_short text at (Ok found) g = λ e is. text_short text at (seen e) (g ∙ ap (λ (o : Option declared.Element). Ok (option_map seen o)) is)
+pub found_text_short : (text : List ℕ) (at : ℕ) (r : Result (Option declared.Element) Code)
+    → Gives (option_map seen) r (element_at text at)
+    → IfOk r (λ found. ForSome found (λ e. length e.text.now ≤ length text))
+found_text_short text at (Ok found) g =
+    λ e is. text_short text at (seen e) (g ∙ ap (λ (o : Option declared.Element). Ok (option_map seen o)) is)
 found_text_short text at (Err c) g = search rules
 
-pub found_second_short : (text : List ℕ) (at : ℕ) (r : Result (Option declared.Element) Code) → Gives (option_map seen) r (element_at text at) → IfOk r (λ found. ForSome found (λ e. length e.second.now ≤ length text))
-found_second_short text at (Ok found) g = λ e is. second_short text at (seen e) (g ∙ ap (λ (o : Option declared.Element). Ok (option_map seen o)) is)
+pub found_second_short : (text : List ℕ) (at : ℕ) (r : Result (Option declared.Element) Code)
+    → Gives (option_map seen) r (element_at text at)
+    → IfOk r (λ found. ForSome found (λ e. length e.second.now ≤ length text))
+found_second_short text at (Ok found) g =
+    λ e is. second_short text at (seen e) (g ∙ ap (λ (o : Option declared.Element). Ok (option_map seen o)) is)
 found_second_short text at (Err c) g = search rules

@@ -2,7 +2,8 @@
 use Rattle.std.specs.Prelude.{◌≡◌, ◌<◌, ℕ, List, drop, map, Bool, Option, Some, None, length, Result}
 use Rattle.std.specs.List.{list_any}
 use Rattle.std.specs.Option.{ok_or}
-use Rattle.teco_verifier.specs.expansion.Expansion.{Visit, Walk, all_stands, same_place, number_behind, refusal_of_way, refusal_at, way_numbers}
+use Rattle.teco_verifier.specs.expansion.Expansion.{Visit, Walk, all_stands, same_place, number_behind}
+use Rattle.teco_verifier.specs.expansion.Expansion.{refusal_of_way, refusal_at, way_numbers}
 use Rattle.teco_verifier.specs.expansion.Node.{Stand, stand_at}
 use Rattle.teco_verifier.specs.expansion.Position.{Position}
 use Rattle.teco_verifier.specs.expansion.Refusal.{Unpaired, Refusal}

@@ -1,5 +1,6 @@
 //! The nodes of an expansion.
-ghost use Rattle.std.specs.Prelude.{◌≡◌, ◌<◌, ◌≤◌, length, map, nat_lt, option_map, slice_get, IfSome, Some, None, false};
+ghost use Rattle.std.specs.Prelude.{◌≡◌, ◌<◌, ◌≤◌, length, map, nat_lt, option_map, slice_get, IfSome, Some, None};
+ghost use Rattle.std.specs.Prelude.{false};
 ghost use Rattle.teco_base.specs.declared.TheConstants.{LIMIT};
 ghost use Rattle.teco_model.specs.Element as element;
 ghost use Rattle.teco_model.specs.Searching as searching;

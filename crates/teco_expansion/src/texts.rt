@@ -1,5 +1,6 @@
 //! The texts that an expansion goes through.
-ghost use Rattle.std.specs.Prelude.{◌≡◌, ◌+◌, ◌<◌, ◌≤◌, ℕ, List, length, map, take, drop, is_some, All, IfOk, IfSome, OnOk, Some};
+ghost use Rattle.std.specs.Prelude.{◌≡◌, ◌+◌, ◌<◌, ◌≤◌, ℕ, List, length, map, take, drop, is_some, All, IfOk, IfSome};
+ghost use Rattle.std.specs.Prelude.{OnOk, Some};
 ghost use Rattle.std.specs.Option.{option_copied, ForSome};
 ghost use Rattle.teco_base.specs.declared.TheConstants.{LIMIT, REGISTERS};
 ghost use Rattle.teco_model.specs.Macros.{macro, is_macro};

@@ -11,10 +11,18 @@ use Rattle.teco_facts.specs.Does.{Gives, Leaves}
 use Rattle.teco_facts.specs.Joined.{joined_but_registers, with_registers_joined}
 use Rattle.teco_facts.proofs.Joins.{ok_of}
 
-whole : (facts others j : Facts) (one two : Unit {0}) (pushes : List Pushed) (position : Position) (held : Polynomial) → none_pending facts.arguments ≡ Ok one → none_pending others.arguments ≡ Ok two → joined_pushes facts.pushes others.pushes ≡ Ok pushes → joined_position facts.position others.position ≡ Ok position → join_of facts.held others.held ≡ Ok held → record (without_arguments facts) { position = position; held = held; pushes = pushes } ≡ j → joined facts others ≡ (joined_lengths j.texts others.texts >>= (λ texts. Ok (record j { numbers = hulls j.numbers others.numbers; texts = texts })))
+whole : (facts others j : Facts) (one two : Unit {0}) (pushes : List Pushed) (position : Position) (held : Polynomial)
+    → none_pending facts.arguments ≡ Ok one → none_pending others.arguments ≡ Ok two
+    → joined_pushes facts.pushes others.pushes ≡ Ok pushes
+    → joined_position facts.position others.position ≡ Ok position → join_of facts.held others.held ≡ Ok held
+    → record (without_arguments facts) { position = position; held = held; pushes = pushes } ≡ j
+    → joined facts others ≡ (joined_lengths j.texts others.texts
+    >>= (λ texts. Ok (record j { numbers = hulls j.numbers others.numbers; texts = texts })))
 whole facts others j one two pushes position held a b c d e f = rw (a, b, c, d, e, ← f) refl
 
-then_registers : (facts others j : Facts) → joined_but_registers facts others ≡ Ok j → joined facts others ≡ (joined_lengths j.texts others.texts >>= (λ texts. Ok (record j { numbers = hulls j.numbers others.numbers; texts = texts })))
+then_registers : (facts others j : Facts) → joined_but_registers facts others ≡ Ok j
+    → joined facts others ≡ (joined_lengths j.texts others.texts
+    >>= (λ texts. Ok (record j { numbers = hulls j.numbers others.numbers; texts = texts })))
 then_registers facts others j e =
     let one = ok_of (none_pending facts.arguments) _ _ e in
     let two = ok_of (none_pending others.arguments) _ _ one.2 in
@@ -23,11 +31,13 @@ then_registers facts others j e =
     let held = ok_of (join_of facts.held others.held) _ _ position.2 in
     whole facts others j _ _ _ _ _ one.1 two.1 pushes.1 position.1 held.1 (cc)
 
-fails_on : {A B C : Type 0} (r : Result A Refusal) (f : A → Result B Refusal) (g : A → Result C Refusal) (why : Refusal) → ((a : A) → f a ≡ Err why → g a ≡ Err why) → (r >>= f) ≡ Err why → (r >>= g) ≡ Err why
+fails_on : {A B C : Type 0} (r : Result A Refusal) (f : A → Result B Refusal) (g : A → Result C Refusal) (why : Refusal)
+    → ((a : A) → f a ≡ Err why → g a ≡ Err why) → (r >>= f) ≡ Err why → (r >>= g) ≡ Err why
 fails_on (Ok a) f g why more e = more a e
 fails_on (Err other) f g why more e = let is : other ≡ why = (cc) in ap Err is
 
-refused_before : (facts others : Facts) (why : Refusal) → joined_but_registers facts others ≡ Err why → joined facts others ≡ Err why
+refused_before : (facts others : Facts) (why : Refusal) → joined_but_registers facts others ≡ Err why
+    → joined facts others ≡ Err why
 refused_before facts others why e =
     fails_on (none_pending facts.arguments) _ _ why
     (λ one a. fails_on (none_pending others.arguments) _ _ why
@@ -35,13 +45,16 @@ refused_before facts others why e =
     (λ pushes c. fails_on (joined_position facts.position others.position) _ _ why
     (λ position d. fails_on (join_of facts.held others.held) _ _ why (λ held h. absurd (cc)) d) c) b) a) e
 
-pub fails_before : (facts others : Facts) (why : Fault) → Gives (joined_but_registers facts others) (Err why) → Gives (joined facts others) (Err why)
+pub fails_before : (facts others : Facts) (why : Fault) → Gives (joined_but_registers facts others) (Err why)
+    → Gives (joined facts others) (Err why)
 fails_before facts others (fault.Refused why) e = refused_before facts others why e
 fails_before facts others fault.Memory e = tt
 
-pub registers_fail : (facts others j new : Facts) (why : Fault) → joined_but_registers facts others ≡ Ok j → Leaves (with_registers_joined j others) new (Err why) → Gives (joined facts others) (Err why)
+pub registers_fail : (facts others j new : Facts) (why : Fault) → joined_but_registers facts others ≡ Ok j
+    → Leaves (with_registers_joined j others) new (Err why) → Gives (joined facts others) (Err why)
 registers_fail facts others j new (fault.Refused why) e l = then_registers facts others j e ∙ l
 registers_fail facts others j new fault.Memory e l = tt
 
-pub with_registers : (facts others j new : Facts) → joined_but_registers facts others ≡ Ok j → with_registers_joined j others ≡ Ok new → joined facts others ≡ Ok new
+pub with_registers : (facts others j new : Facts) → joined_but_registers facts others ≡ Ok j
+    → with_registers_joined j others ≡ Ok new → joined facts others ≡ Ok new
 with_registers facts others j new e l = then_registers facts others j e ∙ l

@@ -1,5 +1,6 @@
 -- Lists that are joined one after another.
-use Rattle.std.proofs.Common.{◌≡◌, refl, sym, ap, ◌∙◌, ℕ, zero, suc, ◌<◌, List, [], ◌∷◌, length, take, drop, set, get_or, drop-cons, Result, Ok, Err, arith}
+use Rattle.std.proofs.Common.{◌≡◌, refl, sym, ap, ◌∙◌, ℕ, zero, suc, ◌<◌, List, [], ◌∷◌, length, take, drop, set}
+use Rattle.std.proofs.Common.{get_or, drop-cons, Result, Ok, Err, arith}
 use Rattle.std.proofs.lemmas.List.{drop-set-lt, length-set}
 use Rattle.teco_verifier.specs.declared.refusal.Refusal.{Refusal}
 use Rattle.teco_verifier.specs.facts.Attempt.{◌>>=◌}
@@ -7,26 +8,32 @@ use Rattle.teco_verifier.specs.facts.Facts.{join_of}
 use Rattle.teco_verifier.specs.facts.Joins.{joined_lengths}
 
 -- of two lists the first ones are joined
-pub record AreJoined {A : Type 0} (join : List A → List A → Result (List A) Refusal) (xs ys zs : List A) (count : ℕ) : Type 0 where
+pub record AreJoined {A : Type 0} (join : List A → List A → Result (List A) Refusal) (xs ys zs : List A) (count : ℕ) :
+    Type 0 where
   pub front : join (take count xs) (take count ys) ≡ Ok (take count zs)
   pub rest : drop count zs ≡ drop count xs
   pub long : length zs ≡ length xs
 
-pub ok_of : {A B : Type 0} (r : Result A Refusal) (f : A → Result B Refusal) (b : B) → (r >>= f) ≡ Ok b → (a : A) × (r ≡ Ok a) × (f a ≡ Ok b)
+pub ok_of : {A B : Type 0} (r : Result A Refusal) (f : A → Result B Refusal) (b : B) → (r >>= f) ≡ Ok b
+    → (a : A) × (r ≡ Ok a) × (f a ≡ Ok b)
 ok_of (Ok a) f b h = (a, refl, h)
 ok_of (Err why) f b h = absurd (cc)
 
 -- a join of lists that goes on by a join of their items
-pub record GoesOn {A : Type 0} (one : A → A → Result A Refusal) (all : List A → List A → Result (List A) Refusal) : Type 0 where
+pub record GoesOn {A : Type 0} (one : A → A → Result A Refusal) (all : List A → List A → Result (List A) Refusal) :
+    Type 0 where
   pub none : all [] [] ≡ Ok []
   pub more : (x y : A) (xs ys : List A) → all (x ∷ xs) (y ∷ ys) ≡ (one x y >>= (λ z. all xs ys >>= (λ zs. Ok (z ∷ zs))))
 
 pub lengths_go_on : GoesOn join_of joined_lengths
 lengths_go_on = record { none = refl; more = λ x y xs ys. refl }
 
-module _ {A : Type 0} (one : A → A → Result A Refusal) (all : List A → List A → Result (List A) Refusal) (law : GoesOn one all) where
+module _ {A : Type 0} (one : A → A → Result A Refusal) (all : List A → List A → Result (List A) Refusal)
+    (law : GoesOn one all) where
   -- one more is joined
-  front_more : (xs ys zs : List A) (i : ℕ) (x y z : A) → i < length xs → i < length ys → i < length zs → x ≡ get_or xs i x → y ≡ get_or ys i y → one x y ≡ Ok z → all (take i xs) (take i ys) ≡ Ok (take i zs) → all (take (suc i) xs) (take (suc i) ys) ≡ Ok (take (suc i) (set zs i z))
+  front_more : (xs ys zs : List A) (i : ℕ) (x y z : A) → i < length xs → i < length ys → i < length zs
+      → x ≡ get_or xs i x → y ≡ get_or ys i y → one x y ≡ Ok z → all (take i xs) (take i ys) ≡ Ok (take i zs)
+      → all (take (suc i) xs) (take (suc i) ys) ≡ Ok (take (suc i) (set zs i z))
   front_more [] ys zs i x y z h k l d e f g = absurd (omega arith)
   front_more (a ∷ xs) [] zs i x y z h k l d e f g = absurd (omega arith)
   front_more (a ∷ xs) (b ∷ ys) [] i x y z h k l d e f g = absurd (omega arith)
@@ -41,7 +48,8 @@ module _ {A : Type 0} (one : A → A → Result A Refusal) (all : List A → Lis
       let more = front_more xs ys zs i x y z (omega arith) (omega arith) (omega arith) d e f (others.1 ∙ ap Ok tail) in
       rw (law.more a b (take (suc i) xs) (take (suc i) ys), first.1, more, head) refl
 
-  rest_more : (xs zs : List A) (i : ℕ) (z : A) → i < length xs → i < length zs → drop i zs ≡ drop i xs → drop (suc i) (set zs i z) ≡ drop (suc i) xs
+  rest_more : (xs zs : List A) (i : ℕ) (z : A) → i < length xs → i < length zs → drop i zs ≡ drop i xs
+      → drop (suc i) (set zs i z) ≡ drop (suc i) xs
   rest_more xs zs i z h k e =
       let of_zs = drop-cons zs i z k in
       let of_xs = drop-cons xs i z h in
@@ -49,7 +57,8 @@ module _ {A : Type 0} (one : A → A → Result A Refusal) (all : List A → Lis
       let same : drop (suc i) zs ≡ drop (suc i) xs = cc in
       drop-set-lt (suc i) zs i z within ∙ same
 
-  pub joined_more : (xs ys zs : List A) (i : ℕ) (x y z : A) → i < length xs → i < length ys → x ≡ get_or xs i x → y ≡ get_or ys i y → one x y ≡ Ok z → AreJoined all xs ys zs i → AreJoined all xs ys (set zs i z) (suc i)
+  pub joined_more : (xs ys zs : List A) (i : ℕ) (x y z : A) → i < length xs → i < length ys → x ≡ get_or xs i x
+      → y ≡ get_or ys i y → one x y ≡ Ok z → AreJoined all xs ys zs i → AreJoined all xs ys (set zs i z) (suc i)
   joined_more xs ys zs i x y z h k d e f j =
       let long = j.long in
       let within : i < length zs = omega arith in
@@ -59,7 +68,8 @@ module _ {A : Type 0} (one : A → A → Result A Refusal) (all : List A → Lis
         long = length-set zs i z ∙ j.long;
       }
 
-  refused_at : (xs ys ws : List A) (i : ℕ) (x y : A) (why : Refusal) → i < length xs → i < length ys → x ≡ get_or xs i x → y ≡ get_or ys i y → one x y ≡ Err why → all (take i xs) (take i ys) ≡ Ok ws → all xs ys ≡ Err why
+  refused_at : (xs ys ws : List A) (i : ℕ) (x y : A) (why : Refusal) → i < length xs → i < length ys → x ≡ get_or xs i x
+      → y ≡ get_or ys i y → one x y ≡ Err why → all (take i xs) (take i ys) ≡ Ok ws → all xs ys ≡ Err why
   refused_at [] ys ws i x y why h k d e f g = absurd (omega arith)
   refused_at (a ∷ xs) [] ws i x y why h k d e f g = absurd (omega arith)
   refused_at (a ∷ xs) (b ∷ ys) ws zero x y why h k d e f g = rw (law.more a b xs ys, ← d, ← e, f) refl
@@ -69,5 +79,6 @@ module _ {A : Type 0} (one : A → A → Result A Refusal) (all : List A → Lis
       let later = refused_at xs ys others.0 i x y why (omega arith) (omega arith) d e f others.1 in
       rw (law.more a b xs ys, first.1, later) refl
 
-  pub joined_refused : (xs ys zs : List A) (i : ℕ) (x y : A) (why : Refusal) → i < length xs → i < length ys → x ≡ get_or xs i x → y ≡ get_or ys i y → one x y ≡ Err why → AreJoined all xs ys zs i → all xs ys ≡ Err why
+  pub joined_refused : (xs ys zs : List A) (i : ℕ) (x y : A) (why : Refusal) → i < length xs → i < length ys
+      → x ≡ get_or xs i x → y ≡ get_or ys i y → one x y ≡ Err why → AreJoined all xs ys zs i → all xs ys ≡ Err why
   joined_refused xs ys zs i x y why h k d e f j = refused_at xs ys (take i zs) i x y why h k d e f j.front

@@ -9,7 +9,8 @@ use Rattle.teco_filing.specs.Halts.{halt_of}
 use Rattle.teco_filing.specs.Touched.{touched_in}
 
 -- an output that all goes to is dropped
-pub drops-failing : (e : Fault) (f g : ℕ) (output : Option (List ℕ)) → OkOrInOut {X = Unit {0}} (Err e) f g → touched_in {X = Unit {0}} file.Copy [] output (Err (halt_of e)) ≡ dropped ∷ []
+pub drops-failing : (e : Fault) (f g : ℕ) (output : Option (List ℕ)) → OkOrInOut {X = Unit {0}} (Err e) f g
+    → touched_in {X = Unit {0}} file.Copy [] output (Err (halt_of e)) ≡ dropped ∷ []
 drops-failing fault.NoFile f g output h = refl
 drops-failing fault.In f g output h = refl
 drops-failing fault.Out f g output h = refl

@@ -1,5 +1,6 @@
 -- The first and the last place of a mark, in a text of two pieces.
-use Rattle.std.proofs.Common.{◌≡◌, ℕ, ◌+◌, ◌-◌, ◌<◌, ◌≤◌, Bool, true, List, ◌++◌, length, Some, None, ⊎_elim, sym, subst, arith, length-append}
+use Rattle.std.proofs.Common.{◌≡◌, ℕ, ◌+◌, ◌-◌, ◌<◌, ◌≤◌, Bool, true, List, ◌++◌, length, Some, None, ⊎_elim, sym}
+use Rattle.std.proofs.Common.{subst, arith, length-append}
 use Rattle.std.proofs.Math.ListN.{get_or-append}
 use Rattle.std.proofs.Math.Seq.{get_or-append_right}
 use Rattle.std.proofs.lemmas.Bool.{cases_lt}
@@ -30,12 +31,16 @@ module _ (p : ℕ → Bool) (front back : List ℕ) where
     in_front k h.0.high h.1,
   )
 
-  pub first_in_back : (k : ℕ) → IsFirstByte p front None → IsFirstByte p back (Some k) → IsFirstByte p (front ++ back) (Some (length front + k))
+  pub first_in_back : (k : ℕ) → IsFirstByte p front None → IsFirstByte p back (Some k)
+      → IsFirstByte p (front ++ back) (Some (length front + k))
   first_in_back k none h = (
     record {
       low = omega arith;
       high = omega (arith, h.0.high, length-append front back);
-      before = λ j low high passes. ⊎_elim (λ (within : j < length front). none j low within (from_front j within passes)) (λ (behind : length front ≤ j). h.0.before (j - length front) (omega arith) (omega arith) (from_back j behind passes)) (cases_lt j (length front));
+      before = λ j low high passes. ⊎_elim
+          (λ (within : j < length front). none j low within (from_front j within passes))
+          (λ (behind : length front ≤ j). h.0.before (j - length front) (omega arith) (omega arith)
+          (from_back j behind passes)) (cases_lt j (length front));
     },
     in_back k h.1,
   )
@@ -44,7 +49,9 @@ module _ (p : ℕ → Bool) (front back : List ℕ) where
   pub first_nowhere : IsFirstByte p front None → IsFirstByte p back None → IsFirstByte p (front ++ back) None
   first_nowhere none none_behind =
       λ j low high passes.
-      ⊎_elim (λ (within : j < length front). none j low within (from_front j within passes)) (λ (behind : length front ≤ j). none_behind (j - length front) (omega arith) (omega (arith, length-append front back)) (from_back j behind passes)) (cases_lt j (length front))
+      ⊎_elim (λ (within : j < length front). none j low within (from_front j within passes))
+      (λ (behind : length front ≤ j). none_behind (j - length front) (omega arith)
+      (omega (arith, length-append front back)) (from_back j behind passes)) (cases_lt j (length front))
 
   -- the last
   pub last_in_back : (k : ℕ) → IsLastByte p back (Some k) → IsLastByte p (front ++ back) (Some (length front + k))
@@ -52,17 +59,22 @@ module _ (p : ℕ → Bool) (front back : List ℕ) where
     record {
       low = omega arith;
       high = omega (arith, h.0.high, length-append front back);
-      after = λ j low high passes. h.0.after (j - length front) (omega arith) (omega (arith, length-append front back)) (from_back j (omega arith) passes);
+      after = λ j low high passes. h.0.after (j - length front) (omega arith) (omega (arith, length-append front back))
+          (from_back j (omega arith) passes);
     },
     in_back k h.1,
   )
 
-  pub last_in_front : (k : ℕ) → IsLastByte p back None → IsLastByte p front (Some k) → IsLastByte p (front ++ back) (Some k)
+  pub last_in_front : (k : ℕ) → IsLastByte p back None → IsLastByte p front (Some k)
+      → IsLastByte p (front ++ back) (Some k)
   last_in_front k none h = (
     record {
       low = omega arith;
       high = omega (arith, h.0.high, length-append front back);
-      after = λ j low high passes. ⊎_elim (λ (within : j < length front). h.0.after j low within (from_front j within passes)) (λ (behind : length front ≤ j). none (j - length front) (omega arith) (omega (arith, length-append front back)) (from_back j behind passes)) (cases_lt j (length front));
+      after = λ j low high passes. ⊎_elim
+          (λ (within : j < length front). h.0.after j low within (from_front j within passes))
+          (λ (behind : length front ≤ j). none (j - length front) (omega arith)
+          (omega (arith, length-append front back)) (from_back j behind passes)) (cases_lt j (length front));
     },
     in_front k h.0.high h.1,
   )

@@ -1,5 +1,6 @@
 -- What the calls that read a search text answer, beside the definition.
-use Rattle.std.specs.Prelude.{◌≡◌, ℕ, ◌<◌, List, [], ◌∷◌, length, flat_map, fold, All, Bool, Option, Some, None, Result, Ok, Err, IsOk}
+use Rattle.std.specs.Prelude.{◌≡◌, ℕ, ◌<◌, List, [], ◌∷◌, length, flat_map, fold, All, Bool, Option, Some, None}
+use Rattle.std.specs.Prelude.{Result, Ok, Err, IsOk}
 use Rattle.teco_base.specs.declared.code.Code.{Code}
 use Rattle.teco_base.specs.declared.code.Code.TheVariants as code
 use Rattle.teco_model.specs.Checked.{◌>>=◌}

@@ -1,7 +1,9 @@
 -- What becomes of files that are edited in place, by what their host notes.
-use Rattle.std.specs.Prelude.{ℕ, ◌≡◌, List, [], ◌∷◌, ◌==◌, drop, map, Bool, true, false, Option, Some, None, Result, Ok, Err, ◌||◌, if◌then◌else◌}
+use Rattle.std.specs.Prelude.{ℕ, ◌≡◌, List, [], ◌∷◌, ◌==◌, drop, map, Bool, true, false, Option, Some, None, Result}
+use Rattle.std.specs.Prelude.{Ok, Err, ◌||◌, if◌then◌else◌}
 use Rattle.teco_model.specs.Files.{file_named}
-use Rattle.teco_pages.specs.Events.{Event, Happened, opened_input, gave, ended, opened_output, wrote, closed, dropped, measured}
+use Rattle.teco_pages.specs.Events.{Event, Happened, opened_input, gave, ended, opened_output, wrote, closed, dropped}
+use Rattle.teco_pages.specs.Events.{measured}
 use Rattle.teco_pages.specs.HostFiles.{AreOfBytes, HostFiles, Telling, Tells, Notes}
 
 -- the name of the new text of a file
@@ -40,8 +42,8 @@ noted_end replaces (Err failed) = dropped ∷ []
 abbrev pub IsNotedBeneath : Bool → List Event → Telling → Type 0
 IsNotedBeneath replaces events files = files ≡ Notes (all_beneath replaces events)
 
--- Whether a file or a new text is opened by these calls, where one was before them, or none. They may not open a file where
--- one was, nor a new text as a file, nor an output that is none.
+-- Whether a file or a new text is opened by these calls, where one was before them, or none. They may not open a file
+-- where one was, nor a new text as a file, nor an output that is none.
 abbrev pub begun_by : Bool → List Event → Option Bool
 begun_by begun [] = Some begun
 begun_by begun (opened_input name ∷ events) = if begun || is_new_text name then None else begun_by true events
@@ -70,8 +72,8 @@ text_behind true (Some text) old = Some text
 text_behind true None old = old
 text_behind false text old = old
 
--- Where the calls leave some files by the definition, with new texts apart, each file has its new text, if there is one,
--- and else is as it was.
+-- Where the calls leave some files by the definition, with new texts apart, each file has its new text, if there is
+-- one, and else is as it was.
 abbrev pub AreInPlace : Bool → HostFiles → HostFiles → HostFiles → Type 0
 AreInPlace replaces files left apart =
     (name : List ℕ) → file_named name left.named
@@ -92,6 +94,7 @@ pub record AreFittedInPlace (events : List Event) : Type 0 where
 
 abbrev pub FilesAreReplaced : Type 0
 FilesAreReplaced =
-    (replaces : Bool) (events : List Event) (begun : Bool) (files left : HostFiles) → IsOneEdit events begun → AreReady files
+    (replaces : Bool) (events : List Event) (begun : Bool) (files left : HostFiles) → IsOneEdit events begun
+    → AreReady files
     → Happened (all_beneath replaces events) files left
     → (apart : HostFiles) × Happened events files apart × AreInPlace replaces files left apart

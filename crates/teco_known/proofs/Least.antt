@@ -1,5 +1,7 @@
 -- Falls by the numbers that they are kept as.
-use Rattle.std.proofs.Common.{◌≡◌, refl, ap, subst, ◌∙◌, List, [], ◌∷◌, length, get_or, zero, suc, ◌+◌, ◌<◌, ℤ, pos, negsuc, ◌+ℤ◌, ◌≤ℤ◌, ◌<ℤ◌, ◌≤◌, ℕ, ◌^◌, ◌↔◌, int_lt, int_le, IfSome, Option, Some, None, if◌then◌else◌, Bool, true, false, arith}
+use Rattle.std.proofs.Common.{◌≡◌, refl, ap, subst, ◌∙◌, List, [], ◌∷◌, length, get_or, zero, suc, ◌+◌, ◌<◌, ℤ, pos}
+use Rattle.std.proofs.Common.{negsuc, ◌+ℤ◌, ◌≤ℤ◌, ◌<ℤ◌, ◌≤◌, ℕ, ◌^◌, ◌↔◌, int_lt, int_le, IfSome, Option, Some, None}
+use Rattle.std.proofs.Common.{if◌then◌else◌, Bool, true, false, arith}
 use Rattle.std.proofs.lemmas.Int.{ints, clamps, by_lt_z}
 use Rattle.std.specs.Int.{int_max, int_min}
 use Rattle.teco_verifier.specs.facts.Covers.{covers_fall}
@@ -81,7 +83,8 @@ grown_known v x n a e h =
     let same : int_min (v +ℤ pos n) (pos (2 ^ 62)) ≡ x = omega (arith, ints, clamps) in
     rw (some_known v a, some_known x more, same) refl
 
-pub grown_most : (v : ℤ) (n : ℕ) → unknown <ℤ v → pos (2 ^ 62) ≤ℤ (v +ℤ pos n) → known (pos (2 ^ 62)) ≡ grown n (known v)
+pub grown_most : (v : ℤ) (n : ℕ) → unknown <ℤ v → pos (2 ^ 62) ≤ℤ (v +ℤ pos n)
+    → known (pos (2 ^ 62)) ≡ grown n (known v)
 grown_most v n a h =
     let same : int_min (v +ℤ pos n) (pos (2 ^ 62)) ≡ pos (2 ^ 62) = omega (arith, ints, clamps) in
     rw (some_known v a, some_known (pos (2 ^ 62)) (omega (arith, ints)), same) refl
@@ -100,7 +103,9 @@ pub none_small : (v : ℤ) → v ≤ℤ unknown → IsSmallFall (known v)
 none_small v a = rw (none_known v a) tt
 
 -- one more of a list
-pub small_more : (xs : List Falls) (i : ℕ) (x : Falls) → i < length xs → ((k : ℕ) (d : Falls) → k < i → IsSmallFalls (get_or xs k d)) → x ≡ get_or xs i x → IsSmallFalls x → (k : ℕ) (d : Falls) → k < i + 1 → IsSmallFalls (get_or xs k d)
+pub small_more : (xs : List Falls) (i : ℕ) (x : Falls) → i < length xs
+    → ((k : ℕ) (d : Falls) → k < i → IsSmallFalls (get_or xs k d)) → x ≡ get_or xs i x → IsSmallFalls x
+    → (k : ℕ) (d : Falls) → k < i + 1 → IsSmallFalls (get_or xs k d)
 small_more [] i x h before e small k d l = absurd (omega arith)
 small_more (y ∷ ys) zero x h before e small zero d l = subst IsSmallFalls e small
 small_more (y ∷ ys) zero x h before e small (suc k) d l = absurd (omega arith)

@@ -1,5 +1,6 @@
 -- What is linear may be kept.
-use Rattle.std.proofs.Common.{◌≡◌, refl, ℤ, pos, negsuc, ◌-ℤ◌, ◌≤ℤ◌, Bool, true, false, int_le, ◌&&◌, ◌||◌, is_none, Option, Some, None, arith}
+use Rattle.std.proofs.Common.{◌≡◌, refl, ℤ, pos, negsuc, ◌-ℤ◌, ◌≤ℤ◌, Bool, true, false, int_le, ◌&&◌, ◌||◌, is_none}
+use Rattle.std.proofs.Common.{Option, Some, None, arith}
 use Rattle.std.proofs.lemmas.Int.{ints}
 use Rattle.teco_verifier.specs.declared.values.CharacterCode.{CharacterCode}
 use Rattle.teco_verifier.specs.declared.values.Value.{Value}
@@ -16,7 +17,8 @@ record IsSign (z : ℤ) : Type 0 where
   high : z ≤ℤ pos 1
 
 sign_is : (z : ℤ) → is_sign z ≡ true → IsSign z
-sign_is z h = let p = both (int_le (negsuc 0) z) (int_le z (pos 1)) h in record { low = omega (arith, ints, p); high = omega (arith, ints, p) }
+sign_is z h = let p = both (int_le (negsuc 0) z) (int_le z (pos 1)) h in
+    record { low = omega (arith, ints, p); high = omega (arith, ints, p) }
 
 -- what a few times of a distance are at the least and at the most
 record IsFew (c : ℤ) : Type 0 where
@@ -56,7 +58,8 @@ linear_is_number n h ordered =
       high = omega (arith, ints, q.1, p.1, r.1);
     }
 
-room_by : (code : Option CharacterCode) (n : Value) → (is_none code || has_no_distance n) ≡ true → negsuc 536870911 ≤ℤ n.lo → n.hi ≤ℤ pos 536870912 → HasRoomForCode code n
+room_by : (code : Option CharacterCode) (n : Value) → (is_none code || has_no_distance n) ≡ true
+    → negsuc 536870911 ≤ℤ n.lo → n.hi ≤ℤ pos 536870912 → HasRoomForCode code n
 room_by None n h low high = tt
 room_by (Some code) n h low high =
     let ahead = both (are_equal n.ahead (pos 0)) (are_equal n.behind (pos 0)) h in

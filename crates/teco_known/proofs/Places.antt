@@ -20,7 +20,8 @@ number_is_place a b lo hi n =
       high = omega (arith, ints);
     }
 
-pub sum_is_place : (a b lo hi c d low high : ℤ) → IsNumber a b lo hi → IsNumber c d low high → IsPlace (a +ℤ c) (b +ℤ d) (lo +ℤ low) (hi +ℤ high)
+pub sum_is_place : (a b lo hi c d low high : ℤ) → IsNumber a b lo hi → IsNumber c d low high
+    → IsPlace (a +ℤ c) (b +ℤ d) (lo +ℤ low) (hi +ℤ high)
 sum_is_place a b lo hi c d low high n m =
     let one = n.range in
     let two = m.range in
@@ -34,7 +35,8 @@ sum_is_place a b lo hi c d low high n m =
       high = omega (arith, ints);
     }
 
-pub difference_is_place : (a b lo hi c d low high : ℤ) → IsNumber a b lo hi → IsNumber c d low high → IsPlace (a -ℤ c) (b -ℤ d) (lo -ℤ high) (hi -ℤ low)
+pub difference_is_place : (a b lo hi c d low high : ℤ) → IsNumber a b lo hi → IsNumber c d low high
+    → IsPlace (a -ℤ c) (b -ℤ d) (lo -ℤ high) (hi -ℤ low)
 difference_is_place a b lo hi c d low high n m =
     let one = n.range in
     let two = m.range in
@@ -49,8 +51,12 @@ difference_is_place a b lo hi c d low high n m =
     }
 
 -- sums and differences by their parts
-pub added : (s t : Value) (a b lo hi : ℤ) (code : Option CharacterCode) → a ≡ s.ahead +ℤ t.ahead → b ≡ s.behind +ℤ t.behind → code ≡ code_of_one s.code t.code → lo ≡ s.lo +ℤ t.lo → hi ≡ s.hi +ℤ t.hi → record { ahead = a; behind = b; code = code; lo = lo; hi = hi; saved = false } ≡ plus s t
+pub added : (s t : Value) (a b lo hi : ℤ) (code : Option CharacterCode) → a ≡ s.ahead +ℤ t.ahead
+    → b ≡ s.behind +ℤ t.behind → code ≡ code_of_one s.code t.code → lo ≡ s.lo +ℤ t.lo → hi ≡ s.hi +ℤ t.hi
+    → record { ahead = a; behind = b; code = code; lo = lo; hi = hi; saved = false } ≡ plus s t
 added s t a b lo hi code e f c g h = rw (e, f, c, g, h) refl
 
-pub subtracted : (s t : Value) (a b lo hi : ℤ) (code : Option CharacterCode) → a ≡ s.ahead -ℤ t.ahead → b ≡ s.behind -ℤ t.behind → code ≡ code_of_one s.code (option_map opposite_code t.code) → lo ≡ s.lo -ℤ t.hi → hi ≡ s.hi -ℤ t.lo → record { ahead = a; behind = b; code = code; lo = lo; hi = hi; saved = false } ≡ minus s t
+pub subtracted : (s t : Value) (a b lo hi : ℤ) (code : Option CharacterCode) → a ≡ s.ahead -ℤ t.ahead
+    → b ≡ s.behind -ℤ t.behind → code ≡ code_of_one s.code (option_map opposite_code t.code) → lo ≡ s.lo -ℤ t.hi
+    → hi ≡ s.hi -ℤ t.lo → record { ahead = a; behind = b; code = code; lo = lo; hi = hi; saved = false } ≡ minus s t
 subtracted s t a b lo hi code e f c g h = rw (e, f, c, g, h) refl

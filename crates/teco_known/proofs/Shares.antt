@@ -1,5 +1,6 @@
 -- What a distance counts, if it counts a few times, has 35 bits.
-use Rattle.std.proofs.Common.{◌≡◌, refl, ℕ, ℤ, pos, negsuc, suc, ◌*ℤ◌, ◌≤ℤ◌, ◌≤◌, ◌^◌, FitsSigned, w64, to_z, of_z, arith}
+use Rattle.std.proofs.Common.{◌≡◌, refl, ℕ, ℤ, pos, negsuc, suc, ◌*ℤ◌, ◌≤ℤ◌, ◌≤◌, ◌^◌, FitsSigned, w64, to_z, of_z}
+use Rattle.std.proofs.Common.{arith}
 use Rattle.std.proofs.lemmas.Int.{ints, to_z_pos, to_z-of_z}
 use Rattle.std.proofs.lemmas.Nat.{mul-le}
 use Rattle.teco_base.specs.declared.TheConstants.{LIMIT}
@@ -24,5 +25,6 @@ pub counted : (d : ℕ) (t : ℤ) → d ≤ LIMIT → IsSmall t → to_z w64 d *
 counted d t h s = rw (to_z_pos w64 d (omega arith), to_z-of_z w64 t (omega (arith, ints))) refl
 
 -- the product that is returned
-pub returned : (d : ℕ) (t : ℤ) → d ≤ LIMIT → IsSmall t → to_z w64 (of_z w64 (to_z w64 d *ℤ to_z w64 (of_z w64 t))) ≡ pos d *ℤ t
+pub returned : (d : ℕ) (t : ℤ) → d ≤ LIMIT → IsSmall t
+    → to_z w64 (of_z w64 (to_z w64 d *ℤ to_z w64 (of_z w64 t))) ≡ pos d *ℤ t
 returned d t h s = rw (counted d t h s, to_z-of_z w64 (pos d *ℤ t) (fits _ (modest d t h s))) refl

@@ -1,12 +1,14 @@
 -- Two lists that are gone through side by side.
-use Rattle.std.proofs.Common.{◌≡◌, refl, ℕ, zero, suc, ◌<◌, Bool, true, false, ◌&&◌, List, [], ◌∷◌, length, get_or, arith}
+use Rattle.std.proofs.Common.{◌≡◌, refl, ℕ, zero, suc, ◌<◌, Bool, true, false, ◌&&◌, List, [], ◌∷◌, length, get_or}
+use Rattle.std.proofs.Common.{arith}
 use Rattle.teco_verifier.specs.facts.Covers.{each_covers}
 
 and_false : (b : Bool) → false ≡ (b && false)
 and_false true = refl
 and_false false = refl
 
-pub each_at_false : {X : Type 0} (covers : X → X → Bool) (xs ys : List X) (k : ℕ) (x y : X) → k < length xs → k < length ys → x ≡ get_or xs k x → y ≡ get_or ys k y → covers x y ≡ false → false ≡ each_covers covers xs ys
+pub each_at_false : {X : Type 0} (covers : X → X → Bool) (xs ys : List X) (k : ℕ) (x y : X) → k < length xs
+    → k < length ys → x ≡ get_or xs k x → y ≡ get_or ys k y → covers x y ≡ false → false ≡ each_covers covers xs ys
 each_at_false covers [] ys k x y h i d e f = absurd (omega arith)
 each_at_false covers (a ∷ xs) [] k x y h i d e f = absurd (omega arith)
 each_at_false covers (a ∷ xs) (b ∷ ys) zero x y h i d e f = rw (← d, ← e, f) refl

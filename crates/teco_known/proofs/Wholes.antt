@@ -28,10 +28,12 @@ place_whole a b lo hi place = record {
 }
 
 -- sums and differences that are returned
-pub sum_whole : {x y z : ℤ} → to_z w64 (of_z w64 x) ≡ x → to_z w64 (of_z w64 y) ≡ y → FitsSigned w64 z → z ≡ to_z w64 (of_z w64 x) +ℤ to_z w64 (of_z w64 y) → to_z w64 (of_z w64 z) ≡ x +ℤ y
+pub sum_whole : {x y z : ℤ} → to_z w64 (of_z w64 x) ≡ x → to_z w64 (of_z w64 y) ≡ y → FitsSigned w64 z
+    → z ≡ to_z w64 (of_z w64 x) +ℤ to_z w64 (of_z w64 y) → to_z w64 (of_z w64 z) ≡ x +ℤ y
 sum_whole {z = z} e f fits is = to_z-of_z w64 z fits ∙ (is ∙ rw (e, f) refl)
 
-pub difference_whole : {x y z : ℤ} → to_z w64 (of_z w64 x) ≡ x → to_z w64 (of_z w64 y) ≡ y → FitsSigned w64 z → z ≡ to_z w64 (of_z w64 x) -ℤ to_z w64 (of_z w64 y) → to_z w64 (of_z w64 z) ≡ x -ℤ y
+pub difference_whole : {x y z : ℤ} → to_z w64 (of_z w64 x) ≡ x → to_z w64 (of_z w64 y) ≡ y → FitsSigned w64 z
+    → z ≡ to_z w64 (of_z w64 x) -ℤ to_z w64 (of_z w64 y) → to_z w64 (of_z w64 z) ≡ x -ℤ y
 difference_whole {z = z} e f fits is = to_z-of_z w64 z fits ∙ (is ∙ rw (e, f) refl)
 
 pub differences_in_order : {lo hi low high : ℤ} → IsRange lo hi → IsRange low high → (lo -ℤ high) ≤ℤ (hi -ℤ low)

@@ -1,5 +1,6 @@
 //! What distances count in numbers, and ranges of results.
-ghost use Rattle.std.specs.Prelude.{◌≡◌, FitsSigned, int_div, ◌+ℤ◌, ◌-ℤ◌, int_le, pos, negsuc, ◌*ℤ◌, ◌≤ℤ◌, ◌<◌, ◌≤◌, ◌^◌, ◌-◌};
+ghost use Rattle.std.specs.Prelude.{◌≡◌, FitsSigned, int_div, ◌+ℤ◌, ◌-ℤ◌, int_le, pos, negsuc, ◌*ℤ◌, ◌≤ℤ◌, ◌<◌, ◌≤◌};
+ghost use Rattle.std.specs.Prelude.{◌^◌, ◌-◌};
 ghost use Rattle.std.specs.Int.{int_min, int_max, w32, w64};
 ghost use Rattle.teco_base.specs.declared.TheConstants.{LIMIT};
 ghost use Rattle.teco_base.specs.Arithmetic as bits;

@@ -1,5 +1,6 @@
 -- Texts of bytes, and numbers that fit 32 bits.
-use Rattle.std.proofs.Common.{◌≡◌, ℕ, zero, suc, ◌-◌, ◌<◌, arith, mod-lt, refl, w32, FitsSigned, ℤ, pos, negsuc, List, [], ◌∷◌, ◌++◌, take, drop, set, Result, Ok, Err, IfOk, Bool, true, false, cond}
+use Rattle.std.proofs.Common.{◌≡◌, ℕ, zero, suc, ◌-◌, ◌<◌, arith, mod-lt, refl, w32, FitsSigned, ℤ, pos, negsuc, List}
+use Rattle.std.proofs.Common.{[], ◌∷◌, ◌++◌, take, drop, set, Result, Ok, Err, IfOk, Bool, true, false, cond}
 use Rattle.std.specs.List.{AllByRecursion}
 use Rattle.std.specs.Fmt.{signed_decimal}
 use Rattle.std.specs.Str.{IsAscii}
@@ -44,8 +45,11 @@ IsByte c = c < 256
 pub range_bytes : (text : List ℕ) (a b : ℕ) → AreBytes text → AreBytes (range text a b)
 range_bytes text a b h = all_taken IsByte (b - a) (drop a text) (all_dropped IsByte a text h)
 
-pub replaced_bytes : (text : List ℕ) (a b : ℕ) (new : List ℕ) → AreBytes text → AreBytes new → AreBytes (text_after_replacement text a b new)
-replaced_bytes text a b new h i = all_joined IsByte (take a text ++ new) (drop b text) (all_joined IsByte (take a text) new (all_taken IsByte a text h) i) (all_dropped IsByte b text h)
+pub replaced_bytes : (text : List ℕ) (a b : ℕ) (new : List ℕ) → AreBytes text → AreBytes new
+    → AreBytes (text_after_replacement text a b new)
+replaced_bytes text a b new h i =
+    all_joined IsByte (take a text ++ new) (drop b text)
+    (all_joined IsByte (take a text) new (all_taken IsByte a text h) i) (all_dropped IsByte b text h)
 
 pub byte_small : (n : ℤ) → byte_of n < 256
 byte_small (pos n) = omega (arith, mod-lt n {m = 256} (omega arith))
@@ -60,14 +64,17 @@ decimal_bytes (pos n) f = ascii_bytes (signed_decimal (pos n)) (IsAscii-signed (
 decimal_bytes (negsuc n) f = ascii_bytes (signed_decimal (negsuc n)) (IsAscii-signed (negsuc n) (omega (arith, ints)))
 
 -- ---- what may be a code
-pub ok_then : {X Y : Type 0} (P : X → Type 0) (Q : Y → Type 0) (r : Result X Code) (f : X → Result Y Code) → IfOk r P → ((x : X) → P x → IfOk (f x) Q) → IfOk (r >>= f) Q
+pub ok_then : {X Y : Type 0} (P : X → Type 0) (Q : Y → Type 0) (r : Result X Code) (f : X → Result Y Code) → IfOk r P
+    → ((x : X) → P x → IfOk (f x) Q) → IfOk (r >>= f) Q
 ok_then P Q (Ok x) f h k = k x h
 ok_then P Q (Err c) f h k = tt
 
-pub ok_any : {X Y : Type 0} (Q : Y → Type 0) (r : Result X Code) (f : X → Result Y Code) → ((x : X) → IfOk (f x) Q) → IfOk (r >>= f) Q
+pub ok_any : {X Y : Type 0} (Q : Y → Type 0) (r : Result X Code) (f : X → Result Y Code) → ((x : X) → IfOk (f x) Q)
+    → IfOk (r >>= f) Q
 ok_any Q (Ok x) f k = k x
 ok_any Q (Err c) f k = tt
 
-pub ok_if : {X : Type 0} (P : X → Type 0) (b : Bool) (x : X) (e : Code) → (b ≡ true → P x) → IfOk (cond b (Ok x) (Err e)) P
+pub ok_if : {X : Type 0} (P : X → Type 0) (b : Bool) (x : X) (e : Code) → (b ≡ true → P x)
+    → IfOk (cond b (Ok x) (Err e)) P
 ok_if P true x e h = h refl
 ok_if P false x e h = tt

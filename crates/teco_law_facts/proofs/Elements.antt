@@ -1,5 +1,6 @@
 -- One law of all elements: the first step, and each that follows.
-use Rattle.std.proofs.Common.{List, [], ◌∷◌, zero, suc, arith, inl, inr, ◌∙◌, ◌+◌, ◌≤◌, ◌⊎◌, ◌≡◌, ℕ, refl, sym, subst, ap, ℤ, true, Option, Some, None, Result, Ok, Err, IfOk, rules}
+use Rattle.std.proofs.Common.{List, [], ◌∷◌, zero, suc, arith, inl, inr, ◌∙◌, ◌+◌, ◌≤◌, ◌⊎◌, ◌≡◌, ℕ, refl, sym, subst}
+use Rattle.std.proofs.Common.{ap, ℤ, true, Option, Some, None, Result, Ok, Err, IfOk, rules}
 use Rattle.teco_base.specs.declared.code.Code.{Code}
 use Rattle.teco_model.specs.Arguments as model
 use Rattle.teco_model.specs.Files.{Input}
@@ -24,12 +25,14 @@ use Rattle.teco_model.specs.declared.kind.Search.TheVariants as search
 use Rattle.teco_poly.specs.Polynomial.{Polynomial, value, number}
 use Rattle.teco_law_facts.proofs.Flowing.{taking_is, forgotten_answer}
 use Rattle.teco_law_facts.proofs.Going.{leads_at, ok_at}
-use Rattle.teco_law_facts.proofs.Onward.{outcome_goes, flow_proceeds, call_proceeds, search_proceeds, look_proceeds, look_again}
+use Rattle.teco_law_facts.proofs.Onward.{outcome_goes, flow_proceeds, call_proceeds, search_proceeds, look_proceeds}
+use Rattle.teco_law_facts.proofs.Onward.{look_again}
 use Rattle.teco_law_facts.proofs.Paged.{IsOpen, turn_proceeds, write_proceeds, turn_again, write_again, append_proceeds}
 use Rattle.teco_law_facts.proofs.Seeking.{search_steps_are_bounded}
 use Rattle.teco_law_facts.proofs.Shapes.{value-number}
 use Rattle.teco_law_facts.proofs.Steps.{Covers}
-use Rattle.teco_law_facts.proofs.Transfers.{arguments_are_sound, values_are_sound, commands_are_sound, queries_are_sound, stacks_are_sound}
+use Rattle.teco_law_facts.proofs.Transfers.{arguments_are_sound, values_are_sound, commands_are_sound}
+use Rattle.teco_law_facts.proofs.Transfers.{queries_are_sound, stacks_are_sound}
 use Rattle.teco_verifier.specs.facts.Arguments as known
 use Rattle.teco_verifier.specs.facts.Arguments.{KnownTaken}
 use Rattle.teco_verifier.specs.facts.Attempt.{◌>>=◌}
@@ -41,7 +44,9 @@ use Rattle.teco_verifier.specs.facts.Shifts.{facts_answered}
 use Rattle.teco_law_facts.specs.SoundElements.{Succeeds, Leads, FitsOn}
 use Rattle.teco_model.specs.Paging.{unread_of}
 use Rattle.teco_law_facts.specs.SoundSeeking.{IsInPages, SearchesAtMost, pages_left}
-use Rattle.teco_law_facts.specs.SoundSteps.{ReturnsGoBack, KindEnds, IsNamed, KindStands, AreOpen, BeginsAt, IsUnderway, Proceeds, StepsAreSound, LaterStepsAreSound, ElementsAreSound, unread_left}
+use Rattle.teco_law_facts.specs.SoundSteps.{ReturnsGoBack, KindEnds, IsNamed, KindStands, AreOpen, BeginsAt}
+use Rattle.teco_law_facts.specs.SoundSteps.{IsUnderway, Proceeds, StepsAreSound, LaterStepsAreSound, ElementsAreSound}
+use Rattle.teco_law_facts.specs.SoundSteps.{unread_left}
 use Rattle.teco_verifier.specs.facts.Transfer as transfers
 use Rattle.teco_verifier.specs.facts.Transfer.{Placed, transfer}
 use Rattle.teco_verifier.specs.facts.Values.{IsValue}
@@ -50,21 +55,30 @@ use Rattle.teco_verifier.specs.declared.refusal.Refusal.TheVariants as refusal
 use Rattle.teco_verifier.specs.declared.values.Value.{Value}
 
 -- ---- what is refused leads nowhere
-yank_refused : (x : Placed) (facts : Facts) → x.element.kind ≡ kind.Page page.Yank → IfOk (transfer x facts) (λ edges. ⊥)
+yank_refused : (x : Placed) (facts : Facts) → x.element.kind ≡ kind.Page page.Yank
+    → IfOk (transfer x facts) (λ edges. ⊥)
 unfolding transfer
-yank_refused x facts e = subst (λ k. IfOk (transfers.edges_of k x (transfers.answer_for k facts) (transfers.without_answer facts)) (λ edges. ⊥)) (sym e) (by (known.arguments_of facts.arguments.level)) where
-  by : (r : Result KnownTaken Refusal) → IfOk (transfers.on (r >>= λ taken. Err refusal.Unverified >>= λ known. Ok (facts_answered known))) (λ edges. ⊥)
-  by (Ok taken) = tt
-  by (Err why) = tt
+yank_refused x facts e =
+    subst (λ k. IfOk (transfers.edges_of k x (transfers.answer_for k facts) (transfers.without_answer facts))
+    (λ edges. ⊥)) (sym e) (by (known.arguments_of facts.arguments.level)) where
+      by : (r : Result KnownTaken Refusal)
+          → IfOk (transfers.on (r >>= λ taken. Err refusal.Unverified >>= λ known. Ok (facts_answered known)))
+          (λ edges. ⊥)
+      by (Ok taken) = tt
+      by (Err why) = tt
 
-file_refused : (x : Placed) (facts : Facts) (f : File) → x.element.kind ≡ kind.File f → IfOk (transfer x facts) (λ edges. ⊥)
+file_refused : (x : Placed) (facts : Facts) (f : File) → x.element.kind ≡ kind.File f
+    → IfOk (transfer x facts) (λ edges. ⊥)
 unfolding transfer
-file_refused x facts f e = subst (λ k. IfOk (transfers.edges_of k x (transfers.answer_for k facts) (transfers.without_answer facts)) (λ edges. ⊥)) (sym e) (by (known.arguments_of facts.arguments.level)) where
-  by : (r : Result KnownTaken Refusal) → IfOk (r >>= λ taken. Err refusal.Unverified) (λ (edges : Edges). ⊥)
-  by (Ok taken) = tt
-  by (Err why) = tt
+file_refused x facts f e =
+    subst (λ k. IfOk (transfers.edges_of k x (transfers.answer_for k facts) (transfers.without_answer facts))
+    (λ edges. ⊥)) (sym e) (by (known.arguments_of facts.arguments.level)) where
+      by : (r : Result KnownTaken Refusal) → IfOk (r >>= λ taken. Err refusal.Unverified) (λ (edges : Edges). ⊥)
+      by (Ok taken) = tt
+      by (Err why) = tt
 
-module _ (run : Run) (facts : Facts) (x : Placed) (edges : Edges) (s : State) (h : BeginsAt run facts x s) (t : transfer x facts ≡ Ok edges) (fits : FitsOn run edges) where
+module _ (run : Run) (facts : Facts) (x : Placed) (edges : Edges) (s : State) (h : BeginsAt run facts x s)
+    (t : transfer x facts ≡ Ok edges) (fits : FitsOn run edges) where
   abbrev u : ℕ
   u = unread_of s.world
 
@@ -82,87 +96,156 @@ module _ (run : Run) (facts : Facts) (x : Placed) (edges : Edges) (s : State) (h
     needed : IfOk (needs k facts) (λ need. AreOpen need s.world.files)
     needed = subst (λ k. IfOk (needs k facts) (λ need. AreOpen need s.world.files)) e h.files
 
-    arrived : {X : Type 0} (Q : Edges → X → Type 0) (r : Result X Code) → Leads (FitsOn run) Q (transfer x facts) r → Succeeds (Q edges) r
+    arrived : {X : Type 0} (Q : Edges → X → Type 0) (r : Result X Code) → Leads (FitsOn run) Q (transfer x facts) r
+        → Succeeds (Q edges) r
     arrived Q r l = leads_at (FitsOn run) Q (transfer x facts) r edges t fits l
 
   -- A without a value needs an input, P, PW, N and FN an output
-  output_of : (p : Page) (most : Polynomial) → ((o : Option Value) → (needs_of_page p o).output ≡ true) → (r : Result KnownTaken Refusal) → (r >>= λ taken. steps_of_page p taken facts) ≡ Ok most → IfOk (r >>= λ taken. Ok (needs_of_page p taken.value)) (λ need. AreOpen need s.world.files) → IsOpen s.world
+  output_of : (p : Page) (most : Polynomial) → ((o : Option Value) → (needs_of_page p o).output ≡ true)
+      → (r : Result KnownTaken Refusal) → (r >>= λ taken. steps_of_page p taken facts) ≡ Ok most
+      → IfOk (r >>= λ taken. Ok (needs_of_page p taken.value)) (λ need. AreOpen need s.world.files) → IsOpen s.world
   output_of p most o (Err why) m i = absurd (cc)
   output_of p most o (Ok taken) m i = i.output (o taken.value)
 
-  page_output : (p : Page) (most : Polynomial) → x.element.kind ≡ kind.Page p → steps (kind.Page p) facts ≡ Ok most → ((o : Option Value) → (needs_of_page p o).output ≡ true) → IsOpen s.world
+  page_output : (p : Page) (most : Polynomial) → x.element.kind ≡ kind.Page p → steps (kind.Page p) facts ≡ Ok most
+      → ((o : Option Value) → (needs_of_page p o).output ≡ true) → IsOpen s.world
   page_output p most e m o = output_of p most o _ m (needed (kind.Page p) e)
 
-  input_of : (most : Polynomial) (r : Result KnownTaken Refusal) (c : Result Taken Code) → Covers (IsTaken (around_of kept)) r c → (r >>= λ taken. steps_of_page page.Append taken facts) ≡ Ok most → IfOk (r >>= λ taken. Ok (needs_of_page page.Append taken.value)) (λ need. AreOpen need s.world.files) → Succeeds (λ (taken : Taken). taken.value ≡ None → (input : Input) × (s.world.files.input ≡ Some input)) c
+  input_of : (most : Polynomial) (r : Result KnownTaken Refusal) (c : Result Taken Code)
+      → Covers (IsTaken (around_of kept)) r c → (r >>= λ taken. steps_of_page page.Append taken facts) ≡ Ok most
+      → IfOk (r >>= λ taken. Ok (needs_of_page page.Append taken.value)) (λ need. AreOpen need s.world.files)
+      → Succeeds (λ (taken : Taken). taken.value ≡ None → (input : Input) × (s.world.files.input ≡ Some input)) c
   input_of most (Ok k) (Ok taken) i m n = by k.value taken.value i.value n where
-    by : (o : Option Value) (v : Option ℤ) → IsOptional (IsValue (around_of kept)) o v → AreOpen (needs_of_page page.Append o) s.world.files → v ≡ None → (input : Input) × (s.world.files.input ≡ Some input)
+    by : (o : Option Value) (v : Option ℤ) → IsOptional (IsValue (around_of kept)) o v
+        → AreOpen (needs_of_page page.Append o) s.world.files → v ≡ None
+        → (input : Input) × (s.world.files.input ≡ Some input)
     by None v j a q = a.input refl
     by (Some w) (Some z) j a q = absurd (cc)
     by (Some w) None j a q = absurd j
   input_of most r c i m n = absurd (grind arith)
 
-  looks : (q : Search) (most : Polynomial) → x.element.kind ≡ kind.Search q → IsInPages q → IsOpen s.world → u + 1 ≤ value most run.n + pages_left q facts u → Proceeds (kind.Search q) run facts x edges s (value most run.n + pages_left q facts u) (settle x.element s (outcomes.found_in_pages q x.element (outcomes.miss_of x.element s.frames.running) s.left s.arguments s.world))
-  looks q most e b o m = look_proceeds run facts x edges s h t q (value most run.n + pages_left q facts u) fits b e (stands (kind.Search q) e) o.0 o.1 m
+  looks : (q : Search) (most : Polynomial) → x.element.kind ≡ kind.Search q → IsInPages q → IsOpen s.world
+      → u + 1 ≤ value most run.n + pages_left q facts u
+      → Proceeds (kind.Search q) run facts x edges s (value most run.n + pages_left q facts u)
+      (settle x.element s (outcomes.found_in_pages q x.element (outcomes.miss_of x.element s.frames.running) s.left
+      s.arguments s.world))
+  looks q most e b o m = look_proceeds run facts x edges s h t q (value most run.n + pages_left q facts u) fits b e
+      (stands (kind.Search q) e) o.0 o.1 m
 
-  bounded : (q : Search) (most : Polynomial) → steps (kind.Search q) facts ≡ Ok most → SearchesAtMost q u (value most run.n + pages_left q facts u)
-  bounded q most m = ok_at (λ most. SearchesAtMost q u (value most run.n + pages_left q facts u)) (steps (kind.Search q) facts) most m (search_steps_are_bounded run facts u kept s.arguments q h.described)
+  bounded : (q : Search) (most : Polynomial) → steps (kind.Search q) facts ≡ Ok most
+      → SearchesAtMost q u (value most run.n + pages_left q facts u)
+  bounded q most m = ok_at (λ most. SearchesAtMost q u (value most run.n + pages_left q facts u))
+      (steps (kind.Search q) facts) most m (search_steps_are_bounded run facts u kept s.arguments q h.described)
 
   -- any other takes one step
   one_step : (most : Polynomial) → steps_of_search search.Find facts ≡ Ok most → 1 ≤ value most run.n
-  one_step most m = let e : number 1 ≡ most = cc in subst (λ (p : Polynomial). 1 ≤ value p run.n) e (omega (arith, value-number 1 run.n))
+  one_step most m = let e : number 1 ≡ most = cc in
+      subst (λ (p : Polynomial). 1 ≤ value p run.n) e (omega (arith, value-number 1 run.n))
 
-  one_taken : (most : Polynomial) (r : Result KnownTaken Refusal) → (r >>= λ taken. Ok (number 1)) ≡ Ok most → 1 ≤ value most run.n
+  one_taken : (most : Polynomial) (r : Result KnownTaken Refusal) → (r >>= λ taken. Ok (number 1)) ≡ Ok most
+      → 1 ≤ value most run.n
   one_taken most (Ok taken) m = one_step most m
   one_taken most (Err why) m = absurd (cc)
 
-  no_more : (k : Kind) (most : ℕ) (o : Outcome) → Proceeds k run facts x edges s most o → Proceeds k run facts x edges s (most + 0) o
+  no_more : (k : Kind) (most : ℕ) (o : Outcome) → Proceeds k run facts x edges s most o
+      → Proceeds k run facts x edges s (most + 0) o
   no_more k most o p = subst (λ most. Proceeds k run facts x edges s most o) (omega arith) p
 
-  first_step : (k : Kind) (most : Polynomial) → x.element.kind ≡ k → steps k facts ≡ Ok most → Proceeds k run facts x edges s (value most run.n + unread_left k facts u) (stepping.outcome_of k x.element s)
+  first_step : (k : Kind) (most : Polynomial) → x.element.kind ≡ k → steps k facts ≡ Ok most
+      → Proceeds k run facts x edges s (value most run.n + unread_left k facts u) (stepping.outcome_of k x.element s)
   unfolding stepping.reply_of
-  first_step (kind.Argument a) most e m = outcome_goes run facts x edges s h t (kind.Argument a) (value most run.n + 0) (λ unread. omega (arith, one_step most m)) (λ new g. g) _ (arrived (kind.Argument a) e _ _ (arguments_are_sound run facts u kept s.arguments x a h.whole.world.kept h.described e))
-  first_step (kind.Value v) most e m = outcome_goes run facts x edges s h t (kind.Value v) (value most run.n + 0) (λ unread. omega (arith, one_step most m)) (λ new g. g) _ (arrived (kind.Value v) e _ _ (values_are_sound run facts u kept s.arguments x v h.whole.world.kept h.described e))
-  first_step (kind.Query q) most e m = outcome_goes run facts x edges s h t (kind.Query q) (value most run.n + 0) (λ unread. omega (arith, one_step most m)) (λ new g. g) _ (arrived (kind.Query q) e _ _ (queries_are_sound run facts u kept s.arguments x q h.whole.world.kept h.described e (named (kind.Query q) e)))
-  first_step (kind.Stack k) most e m = outcome_goes run facts x edges s h t (kind.Stack k) (value most run.n + 0) (λ unread. omega (arith, one_step most m)) (λ new g. g) _ (arrived (kind.Stack k) e _ _ (stacks_are_sound run facts u kept s.arguments x k h.whole.world.kept h.described e (named (kind.Stack k) e)))
-  first_step (kind.Command c) most e m = outcome_goes run facts x edges s h t (kind.Command c) (value most run.n + 0) (λ unread. omega (arith, one_step most m)) (λ new g. g) _ (arrived (kind.Command c) e _ _ (commands_are_sound run facts u kept s.arguments x c h.whole.world.kept h.described e (named (kind.Command c) e) h.library))
-  first_step (kind.Call c) most e m = call_proceeds run facts x edges s h t c (value most run.n + 0) (omega (arith, one_step most m)) e
-  first_step (kind.Flow f) most e m = flow_proceeds run facts x edges s h t f (value most run.n + 0) (omega (arith, one_step most m)) e (stands (kind.Flow f) e)
-  first_step (kind.Page page.Yank) most e m = absurd (ok_at (λ edges. ⊥) (transfer x facts) edges t (yank_refused x facts e))
-  first_step (kind.Page page.Append) most e m = append_proceeds run facts x edges s h t fits (value most run.n + 0) (omega (arith, one_taken most _ m)) e (input_of most _ _ (taking_is run facts u kept s.arguments h.whole.world.kept h.described) m (needed (kind.Page page.Append) e))
-  first_step (kind.Page page.Next) most e m = no_more (kind.Page page.Next) (value most run.n) _ (turn_proceeds run facts x edges s h t fits most m e (page_output page.Next most e m (λ o. refl)))
-  first_step (kind.Page page.Write) most e m = no_more (kind.Page page.Write) (value most run.n) _ (write_proceeds run facts x edges s h t fits most m e (page_output page.Write most e m (λ o. refl)))
-  first_step (kind.Search search.Find) most e m = search_proceeds run facts x edges s h t search.Find (value most run.n + 0) (omega (arith, one_step most m)) fits tt e (stands (kind.Search search.Find) e)
-  first_step (kind.Search search.Replace) most e m = search_proceeds run facts x edges s h t search.Replace (value most run.n + 0) (omega (arith, one_step most m)) fits tt e (stands (kind.Search search.Replace) e)
-  first_step (kind.Search search.FindInPages) most e m = looks search.FindInPages most e tt ((needed (kind.Search search.FindInPages) e).output refl) (bounded search.FindInPages most m)
-  first_step (kind.Search search.ReplaceInPages) most e m = looks search.ReplaceInPages most e tt ((needed (kind.Search search.ReplaceInPages) e).output refl) (bounded search.ReplaceInPages most m)
+  first_step (kind.Argument a) most e m = outcome_goes run facts x edges s h t (kind.Argument a) (value most run.n + 0)
+      (λ unread. omega (arith, one_step most m)) (λ new g. g) _
+      (arrived (kind.Argument a) e _ _
+      (arguments_are_sound run facts u kept s.arguments x a h.whole.world.kept h.described e))
+  first_step (kind.Value v) most e m = outcome_goes run facts x edges s h t (kind.Value v) (value most run.n + 0)
+      (λ unread. omega (arith, one_step most m)) (λ new g. g) _
+      (arrived (kind.Value v) e _ _ (values_are_sound run facts u kept s.arguments x v h.whole.world.kept h.described
+      e))
+  first_step (kind.Query q) most e m = outcome_goes run facts x edges s h t (kind.Query q) (value most run.n + 0)
+      (λ unread. omega (arith, one_step most m)) (λ new g. g) _
+      (arrived (kind.Query q) e _ _ (queries_are_sound run facts u kept s.arguments x q h.whole.world.kept h.described e
+      (named (kind.Query q) e)))
+  first_step (kind.Stack k) most e m = outcome_goes run facts x edges s h t (kind.Stack k) (value most run.n + 0)
+      (λ unread. omega (arith, one_step most m)) (λ new g. g) _
+      (arrived (kind.Stack k) e _ _ (stacks_are_sound run facts u kept s.arguments x k h.whole.world.kept h.described e
+      (named (kind.Stack k) e)))
+  first_step (kind.Command c) most e m = outcome_goes run facts x edges s h t (kind.Command c) (value most run.n + 0)
+      (λ unread. omega (arith, one_step most m)) (λ new g. g) _
+      (arrived (kind.Command c) e _ _
+      (commands_are_sound run facts u kept s.arguments x c h.whole.world.kept h.described e
+      (named (kind.Command c) e) h.library))
+  first_step (kind.Call c) most e m =
+      call_proceeds run facts x edges s h t c (value most run.n + 0) (omega (arith, one_step most m)) e
+  first_step (kind.Flow f) most e m =
+      flow_proceeds run facts x edges s h t f (value most run.n + 0) (omega (arith, one_step most m)) e
+      (stands (kind.Flow f) e)
+  first_step (kind.Page page.Yank) most e m =
+      absurd (ok_at (λ edges. ⊥) (transfer x facts) edges t (yank_refused x facts e))
+  first_step (kind.Page page.Append) most e m =
+      append_proceeds run facts x edges s h t fits (value most run.n + 0) (omega (arith, one_taken most _ m)) e
+      (input_of most _ _ (taking_is run facts u kept s.arguments h.whole.world.kept h.described) m
+      (needed (kind.Page page.Append) e))
+  first_step (kind.Page page.Next) most e m =
+      no_more (kind.Page page.Next) (value most run.n) _
+      (turn_proceeds run facts x edges s h t fits most m e (page_output page.Next most e m (λ o. refl)))
+  first_step (kind.Page page.Write) most e m =
+      no_more (kind.Page page.Write) (value most run.n) _
+      (write_proceeds run facts x edges s h t fits most m e (page_output page.Write most e m (λ o. refl)))
+  first_step (kind.Search search.Find) most e m =
+      search_proceeds run facts x edges s h t search.Find (value most run.n + 0) (omega (arith, one_step most m)) fits
+      tt e (stands (kind.Search search.Find) e)
+  first_step (kind.Search search.Replace) most e m =
+      search_proceeds run facts x edges s h t search.Replace (value most run.n + 0)
+      (omega (arith, one_step most m)) fits tt e (stands (kind.Search search.Replace) e)
+  first_step (kind.Search search.FindInPages) most e m =
+      looks search.FindInPages most e tt ((needed (kind.Search search.FindInPages) e).output refl)
+      (bounded search.FindInPages most m)
+  first_step (kind.Search search.ReplaceInPages) most e m =
+      looks search.ReplaceInPages most e tt ((needed (kind.Search search.ReplaceInPages) e).output refl)
+      (bounded search.ReplaceInPages most m)
   first_step (kind.File f) most e m = absurd (ok_at (λ edges. ⊥) (transfer x facts) edges t (file_refused x facts f e))
 
   -- ---- a step while work is left
   abbrev later : World → Option ℕ → State
   later world left = record s { world = world; arguments = model.levels_after_taking s.arguments; left = left }
 
-  later_step : (k : Kind) (most : Polynomial) (rest : ℕ) (world : World) (left : Option ℕ) → x.element.kind ≡ k → steps k facts ≡ Ok most → IsUnderway k run facts x edges s rest (later world left) → Proceeds k run facts x edges s rest (stepping.outcome_of k x.element (later world left))
+  later_step : (k : Kind) (most : Polynomial) (rest : ℕ) (world : World) (left : Option ℕ) → x.element.kind ≡ k
+      → steps k facts ≡ Ok most → IsUnderway k run facts x edges s rest (later world left)
+      → Proceeds k run facts x edges s rest (stepping.outcome_of k x.element (later world left))
   unfolding stepping.reply_of
   later_step (kind.Page page.Next) most rest world left e m i =
       let w = i.work in
       let o = page_output page.Next most e m (λ o. refl) in
-      subst (λ l. Proceeds (kind.Page page.Next) run facts x edges s rest (settle x.element (later world left) (outside.pages_reply paging.page_turned l (model.levels_after_taking s.arguments) world))) (sym w.1)
+      subst (λ l. Proceeds (kind.Page page.Next) run facts x edges s rest
+      (settle x.element (later world left)
+      (outside.pages_reply paging.page_turned l (model.levels_after_taking s.arguments) world))) (sym w.1)
       (turn_again run facts x edges s h t fits rest e o w.3.0 w.3.1 w.3.2 i.some world i.output w.2 left)
   later_step (kind.Page page.Write) most rest world left e m i =
       let w = i.work in
       let o = page_output page.Write most e m (λ o. refl) in
-      subst (λ l. Proceeds (kind.Page page.Write) run facts x edges s rest (settle x.element (later world left) (outside.pages_reply paging.page_written l (model.levels_after_taking s.arguments) world))) (sym w.1)
+      subst (λ l. Proceeds (kind.Page page.Write) run facts x edges s rest
+      (settle x.element (later world left)
+      (outside.pages_reply paging.page_written l (model.levels_after_taking s.arguments) world))) (sym w.1)
       (write_again run facts x edges s h t fits rest o w.3.0 w.3.1 w.3.2 i.some world i.output w.2 left)
   later_step (kind.Search search.FindInPages) most rest world left e m i =
       let w = i.work in
       let o = (needed (kind.Search search.FindInPages) e).output refl in
-      subst (λ l. Proceeds (kind.Search search.FindInPages) run facts x edges s rest (settle x.element (later world left) (outcomes.found_in_pages search.FindInPages x.element (outcomes.miss_of x.element s.frames.running) l (model.levels_after_taking s.arguments) world))) (sym w.1.1)
-      (look_again run facts x edges s h t search.FindInPages rest fits tt e (stands (kind.Search search.FindInPages) e) o.0 o.1 world w.1.0 left w.3 w.2)
+      subst (λ l. Proceeds (kind.Search search.FindInPages) run facts x edges s rest
+      (settle x.element (later world left)
+      (outcomes.found_in_pages search.FindInPages x.element (outcomes.miss_of x.element s.frames.running) l
+      (model.levels_after_taking s.arguments) world))) (sym w.1.1)
+      (look_again run facts x edges s h t search.FindInPages rest fits tt e (stands (kind.Search search.FindInPages) e)
+      o.0 o.1 world w.1.0 left w.3 w.2)
   later_step (kind.Search search.ReplaceInPages) most rest world left e m i =
       let w = i.work in
       let o = (needed (kind.Search search.ReplaceInPages) e).output refl in
-      subst (λ l. Proceeds (kind.Search search.ReplaceInPages) run facts x edges s rest (settle x.element (later world left) (outcomes.found_in_pages search.ReplaceInPages x.element (outcomes.miss_of x.element s.frames.running) l (model.levels_after_taking s.arguments) world))) (sym w.1.1)
-      (look_again run facts x edges s h t search.ReplaceInPages rest fits tt e (stands (kind.Search search.ReplaceInPages) e) o.0 o.1 world w.1.0 left w.3 w.2)
+      subst (λ l. Proceeds (kind.Search search.ReplaceInPages) run facts x edges s rest
+      (settle x.element (later world left)
+      (outcomes.found_in_pages search.ReplaceInPages x.element (outcomes.miss_of x.element s.frames.running) l
+      (model.levels_after_taking s.arguments) world))) (sym w.1.1)
+      (look_again run facts x edges s h t search.ReplaceInPages rest fits tt e
+      (stands (kind.Search search.ReplaceInPages) e) o.0 o.1 world w.1.0 left w.3 w.2)
   later_step (kind.Page page.Yank) most rest world left e m i = absurd i.work.0
   later_step (kind.Page page.Append) most rest world left e m i = absurd i.work.0
   later_step (kind.Search search.Find) most rest world left e m i = absurd i.work.0
@@ -172,11 +255,16 @@ module _ (run : Run) (facts : Facts) (x : Placed) (edges : Edges) (s : State) (h
 -- ---- the laws
 pub steps_are_sound : StepsAreSound
 unfolding step
-steps_are_sound run facts x edges most s h t fits m = subst (λ r. Proceeds x.element.kind run facts x edges s (value most run.n + unread_left x.element.kind facts (unread_of s.world)) (stepping.outcome_at s r)) (sym h.read) (first_step run facts x edges s h t fits x.element.kind most refl m)
+steps_are_sound run facts x edges most s h t fits m =
+    subst (λ r. Proceeds x.element.kind run facts x edges s
+    (value most run.n + unread_left x.element.kind facts (unread_of s.world)) (stepping.outcome_at s r)) (sym h.read)
+    (first_step run facts x edges s h t fits x.element.kind most refl m)
 
 -- a state while work is left stands as the first did
-later_is : (s now : State) → now.arguments ≡ model.levels_after_taking s.arguments → now.frames ≡ s.frames → now ≡ record s { world = now.world; arguments = model.levels_after_taking s.arguments; left = now.left }
-later_is s now a f = ap (λ (arguments : model.Arguments). record now { arguments = arguments }) a ∙ ap (λ (frames : Frames). record now { arguments = model.levels_after_taking s.arguments; frames = frames }) f
+later_is : (s now : State) → now.arguments ≡ model.levels_after_taking s.arguments → now.frames ≡ s.frames
+    → now ≡ record s { world = now.world; arguments = model.levels_after_taking s.arguments; left = now.left }
+later_is s now a f = ap (λ (arguments : model.Arguments). record now { arguments = arguments }) a
+    ∙ ap (λ (frames : Frames). record now { arguments = model.levels_after_taking s.arguments; frames = frames }) f
 
 pub later_steps_are_sound : LaterStepsAreSound
 unfolding step
@@ -184,7 +272,12 @@ later_steps_are_sound run facts x edges most old s rest h t fits m i =
     let same = later_is old s i.pending i.frames in
     let j = subst (λ s. IsUnderway x.element.kind run facts x edges old rest s) same i in
     subst (λ s. Proceeds x.element.kind run facts x edges old rest (step s)) (sym same)
-    (subst (λ r. Proceeds x.element.kind run facts x edges old rest (stepping.outcome_at (record old { world = s.world; arguments = model.levels_after_taking old.arguments; left = s.left }) r)) (sym h.read)
+    (subst (λ r. Proceeds x.element.kind run facts x edges old rest
+    (stepping.outcome_at (record old {
+      world = s.world;
+      arguments = model.levels_after_taking old.arguments;
+      left = s.left;
+    }) r)) (sym h.read)
     (later_step run facts x edges old h t fits x.element.kind most rest s.world s.left refl m j))
 
 -- ---- an element as a whole
@@ -193,7 +286,9 @@ unfolding runs.run
 first_then zero s middle e = e
 first_then (suc n) s middle e = ap runs.go_on (first_then n s middle e)
 
-module _ (run : Run) (facts : Facts) (x : Placed) (edges : Edges) (most : Polynomial) (s : State) (h : BeginsAt run facts x s) (t : transfer x facts ≡ Ok edges) (fits : FitsOn run edges) (m : steps x.element.kind facts ≡ Ok most) where
+module _ (run : Run) (facts : Facts) (x : Placed) (edges : Edges) (most : Polynomial) (s : State)
+    (h : BeginsAt run facts x s) (t : transfer x facts ≡ Ok edges) (fits : FitsOn run edges)
+    (m : steps x.element.kind facts ≡ Ok most) where
   abbrev Underway : ℕ → State → Type 0
   Underway rest now = IsUnderway x.element.kind run facts x edges s rest now
 
@@ -208,13 +303,35 @@ module _ (run : Run) (facts : Facts) (x : Placed) (edges : Edges) (most : Polyno
     final : step last ≡ Next new
     ends : KindEnds x.element.kind run facts x edges s new
 
-  ends_or_on : (fuel bound : ℕ) (now : State) → bound ≤ fuel → (o : Outcome) → step now ≡ o → Proceeds x.element.kind run facts x edges s bound o → Ends bound now
+  ends_or_on : (fuel bound : ℕ) (now : State) → bound ≤ fuel → (o : Outcome) → step now ≡ o
+      → Proceeds x.element.kind run facts x edges s bound o → Ends bound now
   unfolding runs.run
-  ends_or_on zero bound now l (Next new) e (inl (some, k)) = record { before = 0; last = now; new = new; few = omega arith; reaches = refl; stands = inl refl; final = e; ends = k }
-  ends_or_on (suc fuel) bound now l (Next new) e (inl (some, k)) = record { before = 0; last = now; new = new; few = omega arith; reaches = refl; stands = inl refl; final = e; ends = k }
+  ends_or_on zero bound now l (Next new) e (inl (some, k)) =
+      record {
+        before = 0;
+        last = now;
+        new = new;
+        few = omega arith;
+        reaches = refl;
+        stands = inl refl;
+        final = e;
+        ends = k;
+      }
+  ends_or_on (suc fuel) bound now l (Next new) e (inl (some, k)) =
+      record {
+        before = 0;
+        last = now;
+        new = new;
+        few = omega arith;
+        reaches = refl;
+        stands = inl refl;
+        final = e;
+        ends = k;
+      }
   ends_or_on zero bound now l (Next new) e (inr (rest, fewer, k)) = absurd (omega (arith, k.some))
   ends_or_on (suc fuel) bound now l (Next new) e (inr (rest, fewer, k)) =
-      let j = ends_or_on fuel rest new (omega arith) _ refl (later_steps_are_sound run facts x edges most s new rest h t fits m k) in record {
+      let j = ends_or_on fuel rest new (omega arith) _ refl
+      (later_steps_are_sound run facts x edges most s new rest h t fits m k) in record {
         before = suc j.before;
         last = j.last;
         new = j.new;
@@ -224,18 +341,30 @@ module _ (run : Run) (facts : Facts) (x : Placed) (edges : Edges) (most : Polyno
         final = j.final;
         ends = j.ends;
       } where
-        still : (rest : ℕ) (new last : State) → Underway rest new → (last ≡ new) ⊎ ((rest : ℕ) × Underway rest last) → (rest : ℕ) × Underway rest last
+        still : (rest : ℕ) (new last : State) → Underway rest new → (last ≡ new) ⊎ ((rest : ℕ) × Underway rest last)
+            → (rest : ℕ) × Underway rest last
         still rest new last k (inl e) = (rest, subst (λ s. Underway rest s) (sym e) k)
         still rest new last k (inr i) = i
   ends_or_on fuel bound now l o e k = absurd k
 
   all_ends : Ends (value most run.n + unread_left x.element.kind facts (unread_of s.world)) s
-  all_ends = ends_or_on (value most run.n + unread_left x.element.kind facts (unread_of s.world)) (value most run.n + unread_left x.element.kind facts (unread_of s.world)) s (omega arith) _ refl (steps_are_sound run facts x edges most s h t fits m)
+  all_ends = ends_or_on (value most run.n + unread_left x.element.kind facts (unread_of s.world))
+      (value most run.n + unread_left x.element.kind facts (unread_of s.world)) s (omega arith) _ refl
+      (steps_are_sound run facts x edges most s h t fits m)
 
 pub elements_are_sound : ElementsAreSound
 elements_are_sound run facts x edges most s h t fits m =
     let j = all_ends run facts x edges most s h t fits m in
-    record { before = j.before; last = j.last; new = j.new; few = j.few; reaches = j.reaches; stands = j.stands; final = j.final; ends = j.ends }
+    record {
+      before = j.before;
+      last = j.last;
+      new = j.new;
+      few = j.few;
+      reaches = j.reaches;
+      stands = j.stands;
+      final = j.final;
+      ends = j.ends;
+    }
 
 -- ---- the end of a called text
 module _ (s : State) (caller : Frame) (callers : List Frame) where
@@ -246,7 +375,8 @@ module _ (s : State) (caller : Frame) (callers : List Frame) where
   waiting_goes [] e = absurd (cc)
   waiting_goes (first ∷ others) e = search rules
 
-  text_goes : (loops : List Loop) → loops ≡ [] → s.frames.callers ≡ caller ∷ callers → stepping.end_of_text loops s ≡ Next back
+  text_goes : (loops : List Loop) → loops ≡ [] → s.frames.callers ≡ caller ∷ callers
+      → stepping.end_of_text loops s ≡ Next back
   text_goes [] e c = waiting_goes s.frames.callers c
   text_goes (loop ∷ outer) e c = absurd (cc)
 

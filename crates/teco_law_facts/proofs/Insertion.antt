@@ -1,5 +1,7 @@
 -- I and TAB, and all that puts a text in the place of another.
-use Rattle.std.proofs.Common.{◌≡◌, ℕ, ◌+◌, ◌-◌, ◌≤◌, arith, refl, ap, ◌∙◌, ℤ, pos, negsuc, ◌+ℤ◌, ◌≤ℤ◌, List, [], ◌∷◌, take, drop, length, length-append, length-take, length-drop, Option, Some, None, Ok, Err, IfSome, Bool, true, false, cond, nat_le, ◌++◌}
+use Rattle.std.proofs.Common.{◌≡◌, ℕ, ◌+◌, ◌-◌, ◌≤◌, arith, refl, ap, ◌∙◌, ℤ, pos, negsuc, ◌+ℤ◌, ◌≤ℤ◌, List, [], ◌∷◌}
+use Rattle.std.proofs.Common.{take, drop, length, length-append, length-take, length-drop, Option, Some, None, Ok}
+use Rattle.std.proofs.Common.{Err, IfSome, Bool, true, false, cond, nat_le, ◌++◌}
 use Rattle.std.proofs.lemmas.Int.{ints}
 use Rattle.std.proofs.lemmas.Bool.Decides.{nat_tests}
 use Rattle.teco_base.specs.declared.TheConstants.{LIMIT}
@@ -29,46 +31,95 @@ use Rattle.teco_law_facts.proofs.Beyond.{behind_line, beyond_later, drop_joined}
 use Rattle.teco_law_facts.proofs.Near.{beyond_is}
 use Rattle.teco_law_facts.proofs.Deletion.{unmarked}
 
-module _ (run : Run) (facts : Facts) (unread : ℕ) (kept : Kept) (whole : IsWhole kept) (h : Holds run facts unread kept) where
+module _ (run : Run) (facts : Facts) (unread : ℕ) (kept : Kept) (whole : IsWhole kept)
+    (h : Holds run facts unread kept) where
   -- the shape of all that puts a text in the place of the characters from a up to b
   abbrev put : ℕ → ℕ → List ℕ → Kept
-  put a b new = record kept { text = text_after_replacement kept.text a b new; pointer = a + length new; last_length = length new }
+  put a b new = record kept {
+    text = text_after_replacement kept.text a b new;
+    pointer = a + length new;
+    last_length = length new;
+  }
 
-  pub put_long : (a b : ℕ) (new : List ℕ) → a ≤ b → b ≤ length kept.text → length (text_after_replacement kept.text a b new) ≡ a + (length new + (length kept.text - b))
-  put_long a b new ordered inside = omega (arith, length-append {A = ℕ}, length-take a kept.text, length-drop b kept.text)
+  pub put_long : (a b : ℕ) (new : List ℕ) → a ≤ b → b ≤ length kept.text
+      → length (text_after_replacement kept.text a b new) ≡ a + (length new + (length kept.text - b))
+  put_long a b new ordered inside =
+      omega (arith, length-append {A = ℕ}, length-take a kept.text, length-drop b kept.text)
 
-  pub put_beyond : (a b : ℕ) (new : List ℕ) → a ≤ b → b ≤ length kept.text → beyond_of (put a b new) ≡ behind_line (drop b kept.text)
+  pub put_beyond : (a b : ℕ) (new : List ℕ) → a ≤ b → b ≤ length kept.text
+      → beyond_of (put a b new) ≡ behind_line (drop b kept.text)
   put_beyond a b new ordered inside =
       beyond_is (put a b new) (omega (arith, put_long a b new ordered inside))
-      ∙ ap behind_line (drop_joined (a + length new) (take a kept.text ++ new) (drop b kept.text) (omega (arith, length-append (take a kept.text) new, length-take a kept.text)))
+      ∙ ap behind_line (drop_joined (a + length new) (take a kept.text ++ new) (drop b kept.text)
+      (omega (arith, length-append (take a kept.text) new, length-take a kept.text)))
 
-  put_by : (by : Option ℤ) (a b u : ℕ) (new : List ℕ) → a ≤ b → b ≤ length kept.text → IfSome by (λ v. (pos (length kept.text - b) +ℤ v) ≤ℤ pos (fore_of kept)) → Descends (By by) (around_of kept) u (around_of (put a b new)) u
+  put_by : (by : Option ℤ) (a b u : ℕ) (new : List ℕ) → a ≤ b → b ≤ length kept.text
+      → IfSome by (λ v. (pos (length kept.text - b) +ℤ v) ≤ℤ pos (fore_of kept))
+      → Descends (By by) (around_of kept) u (around_of (put a b new)) u
   put_by None a b u new ordered inside i = tt
-  put_by (Some (pos v)) a b u new ordered inside i = (omega (arith, ints, i, put_long a b new ordered inside), omega (arith, put_beyond a b new ordered inside, beyond_is kept whole.inside, beyond_later kept.pointer b kept.text (omega (arith, ints, i, whole.inside))))
+  put_by (Some (pos v)) a b u new ordered inside i = (
+    omega (arith, ints, i, put_long a b new ordered inside),
+    omega (
+      arith,
+      put_beyond a b new ordered inside,
+      beyond_is kept whole.inside,
+      beyond_later kept.pointer b kept.text (omega (arith, ints, i, whole.inside)),
+    ),
+  )
   put_by (Some (negsuc v)) a b u new ordered inside i = omega (arith, ints, i, put_long a b new ordered inside)
 
-  pub replaced_at : (shift : Shift) (by : Option ℤ) (a b : ℕ) (new : List ℕ) → shift.descent ≡ By by → shift.digit ≡ None → a ≤ b → b ≤ length kept.text → shift.distances.back ≤ a + length new → shift.distances.fore + b ≤ length kept.text → length new + shift.loss ≤ b - a + value shift.growth run.n → IfSome by (λ v. (pos (length kept.text - b) +ℤ v) ≤ℤ pos (fore_of kept)) → (shift.ends ≡ false → b - a ≤ length new) → Shifts run.n shift kept (put a b new)
-  replaced_at shift by a b new descent digit ordered inside behind ahead grown fallen longer = search (put_long, put_by, unmarked, arith)
+  pub replaced_at : (shift : Shift) (by : Option ℤ) (a b : ℕ) (new : List ℕ) → shift.descent ≡ By by
+      → shift.digit ≡ None → a ≤ b → b ≤ length kept.text → shift.distances.back ≤ a + length new
+      → shift.distances.fore + b ≤ length kept.text → length new + shift.loss ≤ b - a + value shift.growth run.n
+      → IfSome by (λ v. (pos (length kept.text - b) +ℤ v) ≤ℤ pos (fore_of kept))
+      → (shift.ends ≡ false → b - a ≤ length new) → Shifts run.n shift kept (put a b new)
+  replaced_at shift by a b new descent digit ordered inside behind ahead grown fallen longer =
+      search (put_long, put_by, unmarked, arith)
 
   -- such a text fits where what is held does
-  pub replaced_within : (a b growth : ℕ) (new : List ℕ) → a ≤ b → b ≤ length kept.text → length new ≤ b - a + growth → value facts.held run.n + growth ≤ LIMIT → length (text_after_replacement kept.text a b new) ≤ LIMIT
+  pub replaced_within : (a b growth : ℕ) (new : List ℕ) → a ≤ b → b ≤ length kept.text → length new ≤ b - a + growth
+      → value facts.held run.n + growth ≤ LIMIT → length (text_after_replacement kept.text a b new) ≤ LIMIT
   replaced_within a b growth new ordered inside grown f = search (length-append, length-take, length-drop, arith)
 
-  put_at : (m : ℕ) (growth : Polynomial) (new : List ℕ) (b : Bool) → nat_le (length (text_after_insertion kept.text kept.pointer new)) LIMIT ≡ b → m ≤ length new → length new ≤ value growth run.n → value facts.held run.n + value growth run.n ≤ LIMIT → Moves run.n (insertions.insertion_of m growth facts.position.distances) kept None (cond b (Ok (no_answer (record kept { text = text_after_insertion kept.text kept.pointer new; pointer = kept.pointer + length new; last_length = length new }))) (Err code.Ful))
-  put_at m growth new true e k l f =
-      (replaced_at (insertions.insertion_of m growth facts.position.distances) (Some (pos 0)) kept.pointer kept.pointer new refl refl (omega arith) whole.inside (omega (arith, h.position.begin)) (omega (arith, h.position.end, whole.inside)) (omega arith) (omega (arith, ints)) (λ e. omega arith), tt)
+  put_at : (m : ℕ) (growth : Polynomial) (new : List ℕ) (b : Bool)
+      → nat_le (length (text_after_insertion kept.text kept.pointer new)) LIMIT ≡ b → m ≤ length new
+      → length new ≤ value growth run.n → value facts.held run.n + value growth run.n ≤ LIMIT
+      → Moves run.n (insertions.insertion_of m growth facts.position.distances) kept None
+      (cond b (Ok (no_answer (record kept {
+        text = text_after_insertion kept.text kept.pointer new;
+        pointer = kept.pointer + length new;
+        last_length = length new;
+      }))) (Err code.Ful))
+  put_at m growth new true e k l f = (
+    replaced_at (insertions.insertion_of m growth facts.position.distances) (Some (pos 0)) kept.pointer kept.pointer
+        new refl refl (omega arith) whole.inside (omega (arith, h.position.begin))
+        (omega (arith, h.position.end, whole.inside)) (omega arith) (omega (arith, ints)) (λ e. omega arith),
+    tt,
+  )
   put_at m growth new false e k l f =
-      let within = replaced_within kept.pointer kept.pointer (value growth run.n) new (omega arith) whole.inside (omega arith) f in
+      let within = replaced_within kept.pointer kept.pointer (value growth run.n) new (omega arith) whole.inside
+      (omega arith) f in
       absurd (grind (arith, nat_tests, within))
 
-  pub inserted_foretold : (m : ℕ) (growth : Polynomial) (new : List ℕ) → m ≤ length new → length new ≤ value growth run.n → Foretells run facts unread kept (silent_behind (insertions.insertion_of m growth facts.position.distances) facts) (model_insertion.insertion_of new kept)
-  inserted_foretold m growth new k l = shift_leads run facts unread kept whole h (insertions.insertion_of m growth facts.position.distances) None _ (λ f. put_at m growth new _ refl k l f)
+  pub inserted_foretold : (m : ℕ) (growth : Polynomial) (new : List ℕ) → m ≤ length new
+      → length new ≤ value growth run.n
+      → Foretells run facts unread kept
+      (silent_behind (insertions.insertion_of m growth facts.position.distances) facts)
+      (model_insertion.insertion_of new kept)
+  inserted_foretold m growth new k l =
+      shift_leads run facts unread kept whole h (insertions.insertion_of m growth facts.position.distances) None _
+      (λ f. put_at m growth new _ refl k l f)
 
   -- of as many as are known
-  length_foretold : (new : List ℕ) → Foretells run facts unread kept (insertions.insertion_of_length (length new) facts) (model_insertion.insertion_of new kept)
-  length_foretold new = inserted_foretold (length new) (number (length new)) new (omega arith) (omega (arith, value-number (length new) run.n))
+  length_foretold : (new : List ℕ) → Foretells run facts unread kept (insertions.insertion_of_length (length new) facts)
+      (model_insertion.insertion_of new kept)
+  length_foretold new = inserted_foretold (length new) (number (length new)) new (omega arith)
+      (omega (arith, value-number (length new) run.n))
 
-  insertion_known : (i : Insertion) (text : List ℕ) (o : Option Value) (v : Option ℤ) → IsOptional (IsValue (around_of kept)) o v → Foretells run facts unread kept (insertions.insertion_with i text o facts) (model_insertion.insertion_with i text v kept)
+  insertion_known : (i : Insertion) (text : List ℕ) (o : Option Value) (v : Option ℤ)
+      → IsOptional (IsValue (around_of kept)) o v
+      → Foretells run facts unread kept (insertions.insertion_with i text o facts)
+      (model_insertion.insertion_with i text v kept)
   insertion_known Text text None None j = length_foretold text
   insertion_known Text [] (Some s) (Some v) j = length_foretold (byte_of v ∷ [])
   insertion_known Text (c ∷ text) (Some s) (Some v) j = tt
@@ -76,5 +127,8 @@ module _ (run : Run) (facts : Facts) (unread : ℕ) (kept : Kept) (whole : IsWho
   insertion_known Tab text (Some s) (Some v) j = tt
   insertion_known i text o v j = absurd (grind arith)
 
-  pub insertion_foretold : (i : Insertion) (e : Element) (known : KnownTaken) (taken : Taken) → IsTaken (around_of kept) known taken → Foretells run facts unread kept (insertions.insertion i e.text known facts) (model_insertion.insertion i e taken kept)
+  pub insertion_foretold : (i : Insertion) (e : Element) (known : KnownTaken) (taken : Taken)
+      → IsTaken (around_of kept) known taken
+      → Foretells run facts unread kept (insertions.insertion i e.text known facts)
+      (model_insertion.insertion i e taken kept)
   insertion_foretold i e known taken j = insertion_known i e.text known.value taken.value j.value

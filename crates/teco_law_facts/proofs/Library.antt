@@ -12,7 +12,8 @@ use Rattle.teco_verifier.specs.facts.Facts.{Facts, with_arguments}
 use Rattle.teco_law_facts.specs.Laws.{WritesText, LibraryStays}
 use Rattle.teco_verifier.specs.facts.Shifts.{Foreseen}
 use Rattle.teco_verifier.specs.facts.Storages.{own_text_storage, copy}
-use Rattle.teco_verifier.specs.facts.Transfer.{Placed, transfer, edges_of, answer_for, without_answer, after_taking, execution, on}
+use Rattle.teco_verifier.specs.facts.Transfer.{Placed, transfer, edges_of, answer_for, without_answer, after_taking}
+use Rattle.teco_verifier.specs.facts.Transfer.{execution, on}
 use Rattle.teco_verifier.specs.facts.Typings.{part_named}
 use Rattle.teco_verifier.specs.declared.refusal.Refusal.{Refusal}
 use Rattle.teco_verifier.specs.declared.values.Value.{Value}
@@ -21,26 +22,34 @@ refused_then : {X Y : Type 0} (r : Result X Refusal) (f : X → Result Y Refusal
 refused_then (Err why) f h = refl
 refused_then (Ok x) f h = absurd (cc)
 
-then_refused : {X Y : Type 0} (r : Result X Refusal) (f : X → Result Y Refusal) → ((x : X) → IsErr (f x)) → IsErr (r >>= f)
+then_refused : {X Y : Type 0} (r : Result X Refusal) (f : X → Result Y Refusal) → ((x : X) → IsErr (f x))
+    → IsErr (r >>= f)
 then_refused (Ok x) f h = h x
 then_refused (Err why) f h = refl
 
 -- after the arguments are taken
-taking_refused : (act : KnownTaken → Facts → Result Foreseen Refusal) (facts : Facts) → ((taken : KnownTaken) (facts : Facts) → IsErr (act taken facts)) → IsErr (on (after_taking act facts))
-taking_refused act facts h = refused_then (after_taking act facts) _ (then_refused (arguments_of facts.arguments.level) _ (λ taken. refused_then (act taken (with_arguments (levels_after_taking facts.arguments) facts)) _ (h taken _)))
+taking_refused : (act : KnownTaken → Facts → Result Foreseen Refusal) (facts : Facts)
+    → ((taken : KnownTaken) (facts : Facts) → IsErr (act taken facts)) → IsErr (on (after_taking act facts))
+taking_refused act facts h = refused_then (after_taking act facts) _
+    (then_refused (arguments_of facts.arguments.level) _
+    (λ taken. refused_then (act taken (with_arguments (levels_after_taking facts.arguments) facts)) _ (h taken _)))
 
-own_text_refused : (colons r : ℕ) (text : List ℕ) (n : Option Value) (facts : Facts) → IsErr (own_text_storage true colons r text n facts)
+own_text_refused : (colons r : ℕ) (text : List ℕ) (n : Option Value) (facts : Facts)
+    → IsErr (own_text_storage true colons r text n facts)
 own_text_refused colons r text None facts = refl
 own_text_refused colons r text (Some n) facts = refl
 
-written_refused : (k : Kind) (x : Placed) (facts : Facts) → x.library ≡ true → WritesText k → IsErr (edges_of k x (answer_for k facts) (without_answer facts))
+written_refused : (k : Kind) (x : Placed) (facts : Facts) → x.library ≡ true → WritesText k
+    → IsErr (edges_of k x (answer_for k facts) (without_answer facts))
 written_refused (kind.Stack (stack.Pop r)) x facts e w = rw e refl
 written_refused (kind.Command (command.Storage (storage.Copy r))) x facts e w =
     taking_refused (execution (command.Storage (storage.Copy r)) x) (without_answer facts) (λ taken known.
-    subst (λ library. IsErr (copy library x.element.colons r taken known)) (sym e) (then_refused (part_named known.rules taken.first taken.value known.position.distances) _ (λ named. refl)))
+    subst (λ library. IsErr (copy library x.element.colons r taken known)) (sym e)
+    (then_refused (part_named known.rules taken.first taken.value known.position.distances) _ (λ named. refl)))
 written_refused (kind.Command (command.Storage (storage.SetText r))) x facts e w =
     taking_refused (execution (command.Storage (storage.SetText r)) x) (without_answer facts) (λ taken known.
-    subst (λ library. IsErr (own_text_storage library x.element.colons r x.element.text taken.value known)) (sym e) (own_text_refused x.element.colons r x.element.text taken.value known))
+    subst (λ library. IsErr (own_text_storage library x.element.colons r x.element.text taken.value known)) (sym e)
+    (own_text_refused x.element.colons r x.element.text taken.value known))
 written_refused k x facts e w = absurd w
 
 pub library_stays : LibraryStays

@@ -1,12 +1,15 @@
 -- Where ways meet: what is known of each is true of both.
-use Rattle.std.proofs.Common.{◌≡◌, ℕ, ◌≤◌, arith, refl, List, [], ◌∷◌, length, Option, Some, None, Result, Ok, Err, IfOk, ok_or, Bool, true, false, cond, subst, sym}
+use Rattle.std.proofs.Common.{◌≡◌, ℕ, ◌≤◌, arith, refl, List, [], ◌∷◌, length, Option, Some, None, Result, Ok, Err}
+use Rattle.std.proofs.Common.{IfOk, ok_or, Bool, true, false, cond, subst, sym}
 use Rattle.std.proofs.lemmas.Int.{ints, clamps}
 use Rattle.teco_poly.proofs.Lawful.{value_of_join}
 use Rattle.teco_poly.specs.Polynomial.{Polynomial, value, join}
 use Rattle.teco_verifier.specs.facts.Attempt.{◌>>=◌}
-use Rattle.teco_law_facts.specs.Describes.{Run, IsAt, AreEach, HasFallen, ArePushed, ArePending, around_of, Begun, IsMarked}
+use Rattle.teco_law_facts.specs.Describes.{Run, IsAt, AreEach, HasFallen, ArePushed, ArePending, around_of, Begun}
+use Rattle.teco_law_facts.specs.Describes.{IsMarked}
 use Rattle.teco_verifier.specs.facts.Facts.{Position, Pushed, Facts, join_of, without_arguments}
-use Rattle.teco_verifier.specs.facts.Joins.{joined_falls, joined_mark, is_same_mark, nearer_of, joined_saved, joined_position, hull, hulls, joined_lengths, joined_pushes, none_pending}
+use Rattle.teco_verifier.specs.facts.Joins.{joined_falls, joined_mark, is_same_mark, nearer_of, joined_saved}
+use Rattle.teco_verifier.specs.facts.Joins.{joined_position, hull, hulls, joined_lengths, joined_pushes, none_pending}
 use Rattle.teco_law_facts.specs.Laws.{MayMeet, MeetsBoth, JoinsAreSound}
 use Rattle.teco_verifier.specs.declared.values.Interval.{Interval}
 use Rattle.teco_verifier.specs.declared.values.Value.{Value}
@@ -31,7 +34,8 @@ pub record IsAbove (n : ℕ) (p q r : Polynomial) : Type 0 where
   pub left : value p n ≤ value r n
   pub right : value q n ≤ value r n
 
-value-join_at : (n : ℕ) (p q : Polynomial) (o : Option Polynomial) → join p q ≡ o → IfOk (ok_or o refusal.Overflow) (IsAbove n p q)
+value-join_at : (n : ℕ) (p q : Polynomial) (o : Option Polynomial) → join p q ≡ o
+    → IfOk (ok_or o refusal.Overflow) (IsAbove n p q)
 value-join_at n p q None e = tt
 value-join_at n p q (Some r) e = let v = value_of_join p q r n e in record { left = v.0; right = v.1 }
 
@@ -39,20 +43,26 @@ pub value-join_of : (n : ℕ) (p q : Polynomial) → IfOk (join_of p q) (IsAbove
 value-join_of n p q = value-join_at n p q _ refl
 
 -- ---- falls
-falls_both : (around : Surroundings) (unread : ℕ) (v w : Falls) (begun : Begun) → HasFallen around unread v begun → HasFallen around unread (smaller_falls v w) begun
+falls_both : (around : Surroundings) (unread : ℕ) (v w : Falls) (begun : Begun) → HasFallen around unread v begun
+    → HasFallen around unread (smaller_falls v w) begun
 falls_both around unread v w begun h = search (less_smaller, h.far, h.far_line)
 
-falls_both_too : (around : Surroundings) (unread : ℕ) (v w : Falls) (begun : Begun) → HasFallen around unread w begun → HasFallen around unread (smaller_falls v w) begun
+falls_both_too : (around : Surroundings) (unread : ℕ) (v w : Falls) (begun : Begun) → HasFallen around unread w begun
+    → HasFallen around unread (smaller_falls v w) begun
 falls_both_too around unread v w begun h = search (less_smaller_too, h.far, h.far_line)
 
-falls_left : (around : Surroundings) (unread : ℕ) (vs ws : List Falls) (turns : List Begun) → length vs ≡ length ws → AreEach (HasFallen around unread) vs turns → AreEach (HasFallen around unread) (joined_falls vs ws) turns
+falls_left : (around : Surroundings) (unread : ℕ) (vs ws : List Falls) (turns : List Begun) → length vs ≡ length ws
+    → AreEach (HasFallen around unread) vs turns → AreEach (HasFallen around unread) (joined_falls vs ws) turns
 falls_left around unread [] [] turns l h = h
-falls_left around unread (v ∷ vs) (w ∷ ws) (begun ∷ turns) l h = (falls_both around unread v w begun h.0, falls_left around unread vs ws turns (omega arith) h.1)
+falls_left around unread (v ∷ vs) (w ∷ ws) (begun ∷ turns) l h =
+    (falls_both around unread v w begun h.0, falls_left around unread vs ws turns (omega arith) h.1)
 falls_left around unread vs ws turns l h = absurd (grind arith)
 
-falls_right : (around : Surroundings) (unread : ℕ) (vs ws : List Falls) (turns : List Begun) → length vs ≡ length ws → AreEach (HasFallen around unread) ws turns → AreEach (HasFallen around unread) (joined_falls vs ws) turns
+falls_right : (around : Surroundings) (unread : ℕ) (vs ws : List Falls) (turns : List Begun) → length vs ≡ length ws
+    → AreEach (HasFallen around unread) ws turns → AreEach (HasFallen around unread) (joined_falls vs ws) turns
 falls_right around unread [] [] turns l h = h
-falls_right around unread (v ∷ vs) (w ∷ ws) (begun ∷ turns) l h = (falls_both_too around unread v w begun h.0, falls_right around unread vs ws turns (omega arith) h.1)
+falls_right around unread (v ∷ vs) (w ∷ ws) (begun ∷ turns) l h =
+    (falls_both_too around unread v w begun h.0, falls_right around unread vs ws turns (omega arith) h.1)
 falls_right around unread vs ws turns l h = absurd (grind arith)
 
 -- ---- digits
@@ -79,28 +89,62 @@ mark_right around (Some m) (Some n) h = by _ refl where
 
 -- ---- positions
 pub record IsJoin (run : Run) (p q j : Position) : Type 0 where
-  pub left : (around : Surroundings) (unread : ℕ) (pairs : List Pair) → IsAt run p around unread pairs → IsAt run j around unread pairs
-  pub right : (around : Surroundings) (unread : ℕ) (pairs : List Pair) → IsAt run q around unread pairs → IsAt run j around unread pairs
+  pub left : (around : Surroundings) (unread : ℕ) (pairs : List Pair) → IsAt run p around unread pairs
+      → IsAt run j around unread pairs
+  pub right : (around : Surroundings) (unread : ℕ) (pairs : List Pair) → IsAt run q around unread pairs
+      → IsAt run j around unread pairs
 
-position_with : (run : Run) (p q : Position) → length p.falls ≡ length q.falls → length p.saved ≡ length q.saved → (r : Result Polynomial Refusal) → IfOk r (IsAbove run.n p.ahead q.ahead) → IfOk (r >>= λ ahead. Ok (record { distances = nearer_of p.distances q.distances; falls = joined_falls p.falls q.falls; ahead = ahead; saved = joined_saved p.saved q.saved; digit = joined_mark p.digit q.digit })) (IsJoin run p q)
+position_with : (run : Run) (p q : Position) → length p.falls ≡ length q.falls → length p.saved ≡ length q.saved
+    → (r : Result Polynomial Refusal) → IfOk r (IsAbove run.n p.ahead q.ahead)
+    → IfOk (r >>= λ ahead. Ok (record {
+      distances = nearer_of p.distances q.distances;
+      falls = joined_falls p.falls q.falls;
+      ahead = ahead;
+      saved = joined_saved p.saved q.saved;
+      digit =
+          joined_mark p.digit q.digit;
+    })) (IsJoin run p q)
 position_with run p q l k (Err why) a = tt
 position_with run p q l k (Ok ahead) a = record {
-  left = λ around unread pairs h. record { begin = omega (arith, h.begin); end = omega (arith, h.end); fallen = falls_left around unread p.falls q.falls run.turns l h.fallen; ahead = omega (arith, a.left, h.ahead); saved = saved_left around p.saved q.saved pairs k h.saved; digit = mark_left around p.digit q.digit h.digit };
-  right = λ around unread pairs h. record { begin = omega (arith, h.begin); end = omega (arith, h.end); fallen = falls_right around unread p.falls q.falls run.turns l h.fallen; ahead = omega (arith, a.right, h.ahead); saved = saved_right around p.saved q.saved pairs k h.saved; digit = mark_right around p.digit q.digit h.digit };
+  left = λ around unread pairs h. record {
+    begin = omega (arith, h.begin);
+    end = omega (arith, h.end);
+    fallen = falls_left around unread p.falls q.falls run.turns l h.fallen;
+    ahead = omega (arith, a.left, h.ahead);
+    saved = saved_left around p.saved q.saved pairs k h.saved;
+    digit = mark_left around p.digit q.digit h.digit;
+  };
+  right = λ around unread pairs h. record {
+    begin = omega (arith, h.begin);
+    end = omega (arith, h.end);
+    fallen = falls_right around unread p.falls q.falls run.turns l h.fallen;
+    ahead = omega (arith, a.right, h.ahead);
+    saved = saved_right around p.saved q.saved pairs k h.saved;
+    digit = mark_right around p.digit q.digit h.digit;
+  };
 }
 
-pub position_joined : (run : Run) (p q : Position) → length p.falls ≡ length q.falls → length p.saved ≡ length q.saved → IfOk (joined_position p q) (IsJoin run p q)
+pub position_joined : (run : Run) (p q : Position) → length p.falls ≡ length q.falls → length p.saved ≡ length q.saved
+    → IfOk (joined_position p q) (IsJoin run p q)
 position_joined run p q l k = position_with run p q l k _ (value-join_of run.n p.ahead q.ahead)
 
 -- ---- registers
-hulls_left : (is js : List Interval) (pairs : List Pair) → length is ≡ length js → AreEach IsNumber is pairs → AreEach IsNumber (hulls is js) pairs
+hulls_left : (is js : List Interval) (pairs : List Pair) → length is ≡ length js → AreEach IsNumber is pairs
+    → AreEach IsNumber (hulls is js) pairs
 hulls_left [] [] pairs l h = h
-hulls_left (i ∷ is) (j ∷ js) (pair ∷ pairs) l h = (record { low = omega (arith, ints, clamps, h.0); high = omega (arith, ints, clamps, h.0) }, hulls_left is js pairs (omega arith) h.1)
+hulls_left (i ∷ is) (j ∷ js) (pair ∷ pairs) l h = (
+  record { low = omega (arith, ints, clamps, h.0); high = omega (arith, ints, clamps, h.0) },
+  hulls_left is js pairs (omega arith) h.1,
+)
 hulls_left is js pairs l h = absurd (grind arith)
 
-hulls_right : (is js : List Interval) (pairs : List Pair) → length is ≡ length js → AreEach IsNumber js pairs → AreEach IsNumber (hulls is js) pairs
+hulls_right : (is js : List Interval) (pairs : List Pair) → length is ≡ length js → AreEach IsNumber js pairs
+    → AreEach IsNumber (hulls is js) pairs
 hulls_right [] [] pairs l h = h
-hulls_right (i ∷ is) (j ∷ js) (pair ∷ pairs) l h = (record { low = omega (arith, ints, clamps, h.0); high = omega (arith, ints, clamps, h.0) }, hulls_right is js pairs (omega arith) h.1)
+hulls_right (i ∷ is) (j ∷ js) (pair ∷ pairs) l h = (
+  record { low = omega (arith, ints, clamps, h.0); high = omega (arith, ints, clamps, h.0) },
+  hulls_right is js pairs (omega arith) h.1,
+)
 hulls_right is js pairs l h = absurd (grind arith)
 
 -- texts that are no longer than those of one list, or of the other, are no longer than those that are joined
@@ -108,7 +152,9 @@ pub record AreAbove (ps qs rs : List Polynomial) : Type 0 where
   pub left : (n : ℕ) (pairs : List Pair) → AreEach (IsText n) ps pairs → AreEach (IsText n) rs pairs
   pub right : (n : ℕ) (pairs : List Pair) → AreEach (IsText n) qs pairs → AreEach (IsText n) rs pairs
 
-put_before : (p q : Polynomial) (ps qs : List Polynomial) (r : Result Polynomial Refusal) (rs : Result (List Polynomial) Refusal) → ((n : ℕ) → IfOk r (IsAbove n p q)) → IfOk rs (AreAbove ps qs) → IfOk (r >>= λ join. rs >>= λ joins. Ok (join ∷ joins)) (AreAbove (p ∷ ps) (q ∷ qs))
+put_before : (p q : Polynomial) (ps qs : List Polynomial) (r : Result Polynomial Refusal)
+    (rs : Result (List Polynomial) Refusal) → ((n : ℕ) → IfOk r (IsAbove n p q)) → IfOk rs (AreAbove ps qs)
+    → IfOk (r >>= λ join. rs >>= λ joins. Ok (join ∷ joins)) (AreAbove (p ∷ ps) (q ∷ qs))
 put_before p q ps qs (Err why) rs a b = tt
 put_before p q ps qs (Ok r) (Err why) a b = tt
 put_before p q ps qs (Ok r) (Ok rs) a b = record { left = left_of; right = right_of } where
@@ -122,7 +168,8 @@ put_before p q ps qs (Ok r) (Ok rs) a b = record { left = left_of; right = right
 
 lengths_above : (ps qs : List Polynomial) → length ps ≡ length qs → IfOk (joined_lengths ps qs) (AreAbove ps qs)
 lengths_above [] [] l = record { left = λ n pairs h. h; right = λ n pairs h. h }
-lengths_above (p ∷ ps) (q ∷ qs) l = put_before p q ps qs _ _ (λ n. value-join_of n p q) (lengths_above ps qs (omega arith))
+lengths_above (p ∷ ps) (q ∷ qs) l =
+    put_before p q ps qs _ _ (λ n. value-join_of n p q) (lengths_above ps qs (omega arith))
 lengths_above ps qs l = absurd (grind arith)
 
 -- pushes
@@ -130,16 +177,39 @@ pub record ArePushedBoth (ss ts js : List Pushed) : Type 0 where
   pub left : (n : ℕ) (below stack : List Pair) → ArePushed n below ss stack → ArePushed n below js stack
   pub right : (n : ℕ) (below stack : List Pair) → ArePushed n below ts stack → ArePushed n below js stack
 
-push_before : (s t : Pushed) (ss ts : List Pushed) (r : Result Polynomial Refusal) (js : Result (List Pushed) Refusal) → ((n : ℕ) → IfOk r (IsAbove n s.text t.text)) → IfOk js (ArePushedBoth ss ts) → IfOk ((r >>= λ text. Ok (record { number = hull s.number t.number; text = text })) >>= λ pair. js >>= λ pairs. Ok (pair ∷ pairs)) (ArePushedBoth (s ∷ ss) (t ∷ ts))
+push_before : (s t : Pushed) (ss ts : List Pushed) (r : Result Polynomial Refusal) (js : Result (List Pushed) Refusal)
+    → ((n : ℕ) → IfOk r (IsAbove n s.text t.text)) → IfOk js (ArePushedBoth ss ts)
+    → IfOk ((r >>= λ text. Ok (record { number = hull s.number t.number; text = text })) >>= λ pair. js >>= λ pairs.
+    Ok (pair ∷ pairs)) (ArePushedBoth (s ∷ ss) (t ∷ ts))
 push_before s t ss ts (Err why) js a b = tt
 push_before s t ss ts (Ok r) (Err why) a b = tt
 push_before s t ss ts (Ok r) (Ok js) a b = record { left = left_of; right = right_of } where
-  left_of : (n : ℕ) (below stack : List Pair) → ArePushed n below (s ∷ ss) stack → ArePushed n below (record { number = hull s.number t.number; text = r } ∷ js) stack
-  left_of n below (pair ∷ stack) h = (record { number = record { low = omega (arith, ints, clamps, h.0.number); high = omega (arith, ints, clamps, h.0.number) }; text = omega (arith, (a n).left, h.0.text) }, b.left n below stack h.1)
+  left_of : (n : ℕ) (below stack : List Pair) → ArePushed n below (s ∷ ss) stack
+      → ArePushed n below (record { number = hull s.number t.number; text = r } ∷ js) stack
+  left_of n below (pair ∷ stack) h = (
+    record {
+      number = record {
+        low = omega (arith, ints, clamps, h.0.number);
+        high = omega (arith, ints, clamps, h.0.number);
+      };
+      text = omega (arith, (a n).left, h.0.text);
+    },
+    b.left n below stack h.1,
+  )
   left_of n below [] h = absurd h
 
-  right_of : (n : ℕ) (below stack : List Pair) → ArePushed n below (t ∷ ts) stack → ArePushed n below (record { number = hull s.number t.number; text = r } ∷ js) stack
-  right_of n below (pair ∷ stack) h = (record { number = record { low = omega (arith, ints, clamps, h.0.number); high = omega (arith, ints, clamps, h.0.number) }; text = omega (arith, (a n).right, h.0.text) }, b.right n below stack h.1)
+  right_of : (n : ℕ) (below stack : List Pair) → ArePushed n below (t ∷ ts) stack
+      → ArePushed n below (record { number = hull s.number t.number; text = r } ∷ js) stack
+  right_of n below (pair ∷ stack) h = (
+    record {
+      number = record {
+        low = omega (arith, ints, clamps, h.0.number);
+        high = omega (arith, ints, clamps, h.0.number);
+      };
+      text = omega (arith, (a n).right, h.0.text);
+    },
+    b.right n below stack h.1,
+  )
   right_of n below [] h = absurd h
 
 pushes_both : (ss ts : List Pushed) → IfOk (joined_pushes ss ts) (ArePushedBoth ss ts)
@@ -150,10 +220,22 @@ pushes_both (s ∷ ss) [] = tt
 
 -- ---- nothing is pending
 abbrev IsNone : KnownArguments → Type 0
-IsNone known = (around : Surroundings) (arguments : Arguments) → ArePending around known arguments → ArePending around no_arguments arguments
+IsNone known = (around : Surroundings) (arguments : Arguments) → ArePending around known arguments
+    → ArePending around no_arguments arguments
 
-none_at : (first value : Option Value) (operator : Option Operator) (outer : List KnownLevel) → IfOk (none_pending (record { level = record { first = first; value = value; operator = operator }; outer = outer })) (λ u. IsNone (record { level = record { first = first; value = value; operator = operator }; outer = outer }))
-none_at None None None [] = λ around arguments h. record { level = record { first = h.level.first; value = h.level.value; operator = h.level.operator }; outer = h.outer }
+none_at : (first value : Option Value) (operator : Option Operator) (outer : List KnownLevel)
+    → IfOk (none_pending (record {
+      level = record { first = first; value = value; operator = operator };
+      outer = outer;
+    })) (λ u. IsNone (record {
+      level = record { first = first; value = value; operator = operator };
+      outer = outer;
+    }))
+none_at None None None [] = λ around arguments h.
+    record {
+      level = record { first = h.level.first; value = h.level.value; operator = h.level.operator };
+      outer = h.outer;
+    }
 none_at None None None (level ∷ outer) = tt
 none_at (Some s) value operator outer = tt
 none_at None (Some s) operator outer = tt
@@ -163,13 +245,28 @@ none_is : (known : KnownArguments) → IfOk (none_pending known) (λ u. IsNone k
 none_is known = none_at known.level.first known.level.value known.level.operator known.outer
 
 -- ---- facts
-met : (facts others : Facts) → MayMeet facts others → IsNone facts.arguments → IsNone others.arguments → (pushes : List Pushed) → ArePushedBoth facts.pushes others.pushes pushes → (position : Position) → ((run : Run) → IsJoin run facts.position others.position position) → (held : Polynomial) → ((n : ℕ) → IsAbove n facts.held others.held held) → (texts : List Polynomial) → AreAbove facts.texts others.texts texts → MeetsBoth facts others (record (without_arguments facts) { position = position; held = held; numbers = hulls facts.numbers others.numbers; texts = texts; pushes = pushes })
+met : (facts others : Facts) → MayMeet facts others → IsNone facts.arguments → IsNone others.arguments
+    → (pushes : List Pushed) → ArePushedBoth facts.pushes others.pushes pushes → (position : Position)
+    → ((run : Run) → IsJoin run facts.position others.position position) → (held : Polynomial)
+    → ((n : ℕ) → IsAbove n facts.held others.held held) → (texts : List Polynomial)
+    → AreAbove facts.texts others.texts texts
+    → MeetsBoth facts others (record (without_arguments facts) {
+      position = position;
+      held = held;
+      numbers = hulls facts.numbers others.numbers;
+      texts = texts;
+      pushes = pushes;
+    })
 met facts others m p q pushes s position j held a texts t = record {
   one = λ run unread kept arguments d. let h = d.state in record {
     state = record {
       position = (j run).left (around_of kept) unread kept.registers.pairs h.position;
       held = omega (arith, (a run.n).left, h.held);
-      registers = record { numbers = hulls_left facts.numbers others.numbers kept.registers.pairs m.numbers h.registers.numbers; texts = t.left run.n kept.registers.pairs h.registers.texts };
+      registers =
+          record {
+            numbers = hulls_left facts.numbers others.numbers kept.registers.pairs m.numbers h.registers.numbers;
+            texts = t.left run.n kept.registers.pairs h.registers.texts;
+          };
       pushed = s.left run.n run.below kept.registers.stack h.pushed;
     };
     pending = p (around_of kept) arguments d.pending;
@@ -179,7 +276,12 @@ met facts others m p q pushes s position j held a texts t = record {
     state = record {
       position = (j run).right (around_of kept) unread kept.registers.pairs h.position;
       held = omega (arith, (a run.n).right, h.held);
-      registers = record { numbers = hulls_right facts.numbers others.numbers kept.registers.pairs m.numbers h.registers.numbers; texts = t.right run.n kept.registers.pairs h.registers.texts };
+      registers =
+          record {
+            numbers = hulls_right facts.numbers others.numbers kept.registers.pairs m.numbers
+                h.registers.numbers;
+            texts = t.right run.n kept.registers.pairs h.registers.texts;
+          };
       pushed = s.right run.n run.below kept.registers.stack h.pushed;
     };
     pending = q (around_of kept) arguments d.pending;
@@ -187,20 +289,28 @@ met facts others m p q pushes s position j held a texts t = record {
   };
 }
 
-all_above : (p q : Polynomial) (r : Result Polynomial Refusal) → ((n : ℕ) → IfOk r (IsAbove n p q)) → IfOk r (λ j. (n : ℕ) → IsAbove n p q j)
+all_above : (p q : Polynomial) (r : Result Polynomial Refusal) → ((n : ℕ) → IfOk r (IsAbove n p q))
+    → IfOk r (λ j. (n : ℕ) → IsAbove n p q j)
 all_above p q (Ok j) h = h
 all_above p q (Err why) h = tt
 
-all_joins : (p q : Position) (r : Result Position Refusal) → ((run : Run) → IfOk r (IsJoin run p q)) → IfOk r (λ j. (run : Run) → IsJoin run p q j)
+all_joins : (p q : Position) (r : Result Position Refusal) → ((run : Run) → IfOk r (IsJoin run p q))
+    → IfOk r (λ j. (run : Run) → IsJoin run p q j)
 all_joins p q (Ok j) h = h
 all_joins p q (Err why) h = tt
 
 pub joins_are_sound : JoinsAreSound
 joins_are_sound facts others m =
-    given_then (λ (u : Unit {0}). IsNone facts.arguments) (MeetsBoth facts others) _ _ (none_is facts.arguments) (λ one p.
-    given_then (λ (u : Unit {0}). IsNone others.arguments) (MeetsBoth facts others) _ _ (none_is others.arguments) (λ two q.
-    given_then (ArePushedBoth facts.pushes others.pushes) (MeetsBoth facts others) _ _ (pushes_both facts.pushes others.pushes) (λ pushes s.
-    given_then (λ j. (run : Run) → IsJoin run facts.position others.position j) (MeetsBoth facts others) _ _ (all_joins _ _ _ (λ run. position_joined run facts.position others.position m.falls m.saved)) (λ position j.
-    given_then (λ r. (n : ℕ) → IsAbove n facts.held others.held r) (MeetsBoth facts others) _ _ (all_above _ _ _ (λ n. value-join_of n facts.held others.held)) (λ held a.
-    given_then (AreAbove facts.texts others.texts) (MeetsBoth facts others) _ _ (lengths_above facts.texts others.texts m.texts) (λ texts t.
+    given_then (λ (u : Unit {0}). IsNone facts.arguments) (MeetsBoth facts others) _ _ (none_is facts.arguments)
+    (λ one p.
+    given_then (λ (u : Unit {0}). IsNone others.arguments) (MeetsBoth facts others) _ _ (none_is others.arguments)
+    (λ two q.
+    given_then (ArePushedBoth facts.pushes others.pushes) (MeetsBoth facts others) _ _
+    (pushes_both facts.pushes others.pushes) (λ pushes s.
+    given_then (λ j. (run : Run) → IsJoin run facts.position others.position j) (MeetsBoth facts others) _ _
+    (all_joins _ _ _ (λ run. position_joined run facts.position others.position m.falls m.saved)) (λ position j.
+    given_then (λ r. (n : ℕ) → IsAbove n facts.held others.held r) (MeetsBoth facts others) _ _
+    (all_above _ _ _ (λ n. value-join_of n facts.held others.held)) (λ held a.
+    given_then (AreAbove facts.texts others.texts) (MeetsBoth facts others) _ _
+    (lengths_above facts.texts others.texts m.texts) (λ texts t.
     met facts others m p q pushes s position j held a texts t))))))

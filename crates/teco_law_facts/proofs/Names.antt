@@ -1,5 +1,6 @@
 -- The register that an element names is one of the 36.
-use Rattle.std.proofs.Common.{◌≡◌, ℕ, ◌<◌, ◌≤◌, arith, List, [], ◌∷◌, Option, Some, None, option_map, IfSome, Result, IfOk, Bool, true, false, cond, nat_le, ◌&&◌}
+use Rattle.std.proofs.Common.{◌≡◌, ℕ, ◌<◌, ◌≤◌, arith, List, [], ◌∷◌, Option, Some, None, option_map, IfSome, Result}
+use Rattle.std.proofs.Common.{IfOk, Bool, true, false, cond, nat_le, ◌&&◌}
 use Rattle.std.specs.Option.{option_or}
 use Rattle.std.specs.Prelude.{⊤, codes, option_and_then}
 use Rattle.std.proofs.lemmas.Bool.Decides.{nat_tests}
@@ -36,7 +37,9 @@ or_so : (o other : Option Head) → IfSome o IsPlain → IfSome other IsPlain �
 or_so None other h i = i
 or_so (Some x) other h i = h
 
-in_range : (a b name place : ℕ) (x y : Bool) (other : Option ℕ) → nat_le a name ≡ x → nat_le name b ≡ y → (a ≤ name → name ≤ b → place < REGISTERS) → IfSome other (λ r. r < REGISTERS) → IfSome (cond (x && y) (Some place) other) (λ r. r < REGISTERS)
+in_range : (a b name place : ℕ) (x y : Bool) (other : Option ℕ) → nat_le a name ≡ x → nat_le name b ≡ y
+    → (a ≤ name → name ≤ b → place < REGISTERS) → IfSome other (λ r. r < REGISTERS)
+    → IfSome (cond (x && y) (Some place) other) (λ r. r < REGISTERS)
 in_range a b name place true true other e f k h = k (grind (arith, nat_tests)) (grind (arith, nat_tests))
 in_range a b name place true false other e f k h = h
 in_range a b name place false y other e f k h = h
@@ -49,7 +52,8 @@ named_on on_register.Call r l = tt
 named_on c r l = l
 
 -- ---- letters
-plain_or : (b : Bool) (h : Head) (other : Option Head) → IsPlain h → IfSome other IsPlain → IfSome (cond b (Some h) other) IsPlain
+plain_or : (b : Bool) (h : Head) (other : Option Head) → IsPlain h → IfSome other IsPlain
+    → IfSome (cond b (Some h) other) IsPlain
 plain_or true h other p i = p
 plain_or false h other p i = i
 
@@ -65,7 +69,8 @@ to_m_so b = search (plain_or, tt) depth 14
 from_n_so : (b : ℕ) → IfSome (letter.letter_from_n b) IsPlain
 from_n_so b = search (plain_or, tt) depth 14
 
-kind_or : (b : Bool) (k : Kind) (other : Option Kind) → IsNamed k → IfSome other IsNamed → IfSome (cond b (Some k) other) IsNamed
+kind_or : (b : Bool) (k : Kind) (other : Option Kind) → IsNamed k → IfSome other IsNamed
+    → IfSome (cond b (Some k) other) IsNamed
 kind_or true k other p i = p
 kind_or false k other p i = i
 
@@ -79,7 +84,8 @@ head_so : (o : Option Head) (n : ℕ) → IfSome o IsPlain → IfOk (letter.head
 head_so None n h = tt
 head_so (Some x) n h = h
 
-second_so : (names : ℕ → Option Head) → ((b : ℕ) → IfSome (names b) IsPlain) → (bytes : List ℕ) → IfOk (letter.second_byte names bytes) (λ h. IsPlain h.0)
+second_so : (names : ℕ → Option Head) → ((b : ℕ) → IfSome (names b) IsPlain) → (bytes : List ℕ)
+    → IfOk (letter.second_byte names bytes) (λ h. IsPlain h.0)
 second_so names k [] = tt
 second_so names k (b ∷ rest) = head_so (names (to_upper b)) 2 (k (to_upper b))
 
@@ -107,7 +113,17 @@ either_so false x y h i = i
 letters_so : (bytes : List ℕ) → AreSo (letters bytes)
 unfolding letters
 letters_so [] = tt
-letters_so (b ∷ rest) = search (either_so, second_so, mapped_so, replace_so, caret_so, page_so, head_so, one_so, tt) depth 14
+letters_so (b ∷ rest) = search (
+  either_so,
+  second_so,
+  mapped_so,
+  replace_so,
+  caret_so,
+  page_so,
+  head_so,
+  one_so,
+  tt,
+) depth 14
 
 kind_so : (h : Head) (k : Kind) → IsPlain h → IsOfHead h k → IsNamed k
 kind_so (head.Kind k) kind p is = rw is p

@@ -1,5 +1,6 @@
 -- A, P and PW proceed along their edges.
-use Rattle.std.proofs.Common.{◌≡◌, ℕ, zero, suc, ◌+◌, ◌-◌, ◌≤◌, arith, refl, sym, subst, ℤ, pos, negsuc, ◌≤ℤ◌, List, Option, Some, None, MatchOption, ok_or, Result, Ok, Err, IfOk, inl, inr}
+use Rattle.std.proofs.Common.{◌≡◌, ℕ, zero, suc, ◌+◌, ◌-◌, ◌≤◌, arith, refl, sym, subst, ℤ, pos, negsuc, ◌≤ℤ◌, List}
+use Rattle.std.proofs.Common.{Option, Some, None, MatchOption, ok_or, Result, Ok, Err, IfOk, inl, inr}
 use Rattle.std.specs.Prelude.{⊤, unwrap_or}
 use Rattle.std.proofs.lemmas.Int.{ints}
 use Rattle.teco_base.specs.declared.code.Code.{Code}
@@ -42,7 +43,10 @@ wrote_open : (bytes : List ℕ) (world : World) → IsOpen world → IsOpen (pag
 wrote_open bytes world (output, o) = written_out bytes world.files.output output o
 
 turned_open : (world : World) → IsOpen world → IfOk (paging.page_turned world) IsOpen
-turned_open world o = ok_then IsOpen IsOpen (paging.world_with_next_page world) _ (ok_any IsOpen (paging.page_taken (first_page (paging.unread world.files)) world.kept) (λ kept. Ok (record { kept = kept; files = paging.files_behind_page world.files })) (λ kept. o)) (λ turned i. wrote_open _ turned i)
+turned_open world o = ok_then IsOpen IsOpen (paging.world_with_next_page world) _
+    (ok_any IsOpen (paging.page_taken (first_page (paging.unread world.files)) world.kept)
+    (λ kept. Ok (record { kept = kept; files = paging.files_behind_page world.files })) (λ kept. o))
+    (λ turned i. wrote_open _ turned i)
 
 written_open : (world : World) → IsOpen world → IfOk (paging.page_written world) IsOpen
 written_open world o = wrote_open _ world o
@@ -53,26 +57,45 @@ pub record IsLeft (most : ℕ) (first : Option ℤ) (done : Progress) : Type 0 w
   pub alone : 1 ≤ done.left → first ≡ None
   pub output : IsOpen done.world
 
-one_left : (page : World → Result World Code) (world : World) → IsOpen world → IfOk (page world) IsOpen → (most n : ℕ) (first : Option ℤ) → 1 ≤ n → n ≤ most → first ≡ None → IfOk (paging.one_page_of page n world) (IsLeft most first)
-one_left page world o k most n first some few none = ok_any (IsLeft most first) (paging.needed_output world) _ (λ output. ok_then IsOpen (IsLeft most first) (page world) _ k (λ done i. record { fewer = omega arith; alone = λ more. none; output = i }))
+one_left : (page : World → Result World Code) (world : World) → IsOpen world → IfOk (page world) IsOpen
+    → (most n : ℕ) (first : Option ℤ) → 1 ≤ n → n ≤ most → first ≡ None
+    → IfOk (paging.one_page_of page n world) (IsLeft most first)
+one_left page world o k most n first some few none =
+    ok_any (IsLeft most first) (paging.needed_output world) _
+    (λ output. ok_then IsOpen (IsLeft most first) (page world) _ k
+    (λ done i. record { fewer = omega arith; alone = λ more. none; output = i }))
 
-counted_left : (page : World → Result World Code) (world : World) → IsOpen world → IfOk (page world) IsOpen → (most : ℕ) (z : ℤ) → z ≤ℤ pos most → IfOk (paging.page_count z >>>= λ n. paging.one_page_of page n world) (IsLeft most None)
+counted_left : (page : World → Result World Code) (world : World) → IsOpen world → IfOk (page world) IsOpen
+    → (most : ℕ) (z : ℤ) → z ≤ℤ pos most → IfOk (paging.page_count z >>>= λ n. paging.one_page_of page n world)
+    (IsLeft most None)
 counted_left page world o k most (pos zero) l = tt
-counted_left page world o k most (pos (suc n)) l = one_left page world o k most (suc n) None (omega arith) (omega (arith, ints)) refl
+counted_left page world o k most (pos (suc n)) l =
+    one_left page world o k most (suc n) None (omega arith) (omega (arith, ints)) refl
 counted_left page world o k most (negsuc n) l = tt
 
-pages_left : (page : World → Result World Code) (world : World) → IsOpen world → IfOk (page world) IsOpen → (most : ℕ) (first value : Option ℤ) → PagesAtMost most first value → ((m : ℤ) → first ≡ Some m → value ≡ None → ⊥) → IfOk (paging.pages_of page first value world) (IsLeft most first)
-pages_left page world o k most (Some m) (Some n) l w = ok_then IsOpen (IsLeft most (Some m)) (paging.range_written m n world) _ (ok_any IsOpen (text_between m n world.kept) (λ text. Ok (paging.world_after_writing text world)) (λ text. wrote_open text world o)) (λ done i. record { fewer = omega arith; alone = λ more. absurd (omega arith); output = i })
+pages_left : (page : World → Result World Code) (world : World) → IsOpen world → IfOk (page world) IsOpen
+    → (most : ℕ) (first value : Option ℤ) → PagesAtMost most first value → ((m : ℤ) → first ≡ Some m → value ≡ None → ⊥)
+    → IfOk (paging.pages_of page first value world) (IsLeft most first)
+pages_left page world o k most (Some m) (Some n) l w =
+    ok_then IsOpen (IsLeft most (Some m)) (paging.range_written m n world) _
+    (ok_any IsOpen (text_between m n world.kept) (λ text. Ok (paging.world_after_writing text world))
+    (λ text. wrote_open text world o)) (λ done i. record {
+      fewer = omega arith;
+      alone = λ more. absurd (omega arith);
+      output = i;
+    })
 pages_left page world o k most None value l w = counted_left page world o k most (unwrap_or value (pos 1)) l
 pages_left page world o k most (Some m) None l w = absurd (w m refl refl)
 
 -- a first value stands before a value
-taken_both : (first value : Option ℤ) → IfOk (model.arguments_from first value) (λ (taken : Taken). (m : ℤ) → taken.first ≡ Some m → taken.value ≡ None → ⊥)
+taken_both : (first value : Option ℤ) → IfOk (model.arguments_from first value) (λ (taken : Taken). (m : ℤ)
+    → taken.first ≡ Some m → taken.value ≡ None → ⊥)
 taken_both None value = λ m e f. cc
 taken_both (Some m) None = tt
 taken_both (Some m) (Some n) = λ k e f. cc
 
-module _ (run : Run) (facts : Facts) (x : Placed) (edges : Edges) (s : State) (h : BeginsAt run facts x s) (t : transfer x facts ≡ Ok edges) (fits : FitsOn run edges) where
+module _ (run : Run) (facts : Facts) (x : Placed) (edges : Edges) (s : State) (h : BeginsAt run facts x s)
+    (t : transfer x facts ≡ Ok edges) (fits : FitsOn run edges) where
   abbrev at : World → Option ℕ → State
   at world left = record s { world = world; arguments = model.levels_after_taking s.arguments; left = left }
 
@@ -91,74 +114,176 @@ module _ (run : Run) (facts : Facts) (x : Placed) (edges : Edges) (s : State) (h
     abbrev Goes : ℕ → Outcome → Type 0
     Goes most outcome = Proceeds (kind.Page p) run facts x edges s most outcome
 
-    behind_page : (most : ℕ) → 1 ≤ most → (world : World) (left : Option ℕ) → left ≡ None → ComesBehind world → Goes most (Next (record s { world = world; arguments = model.levels_after_taking s.arguments; frames = record s.frames { running = record s.frames.running { place = x.element.next } }; left = left }))
+    behind_page : (most : ℕ) → 1 ≤ most → (world : World) (left : Option ℕ) → left ≡ None → ComesBehind world
+        → Goes most (Next (record s {
+          world = world;
+          arguments = model.levels_after_taking s.arguments;
+          frames = record s.frames { running = record s.frames.running { place = x.element.next } };
+          left = left;
+        }))
     behind_page most some world left l c = inl (some, record { comes = c; frames = refl; done = l })
 
     -- ---- P and PW
-    progress_goes : IsTurnOrWrite p → (most : ℕ) (taken : Taken) → model.arguments_of s.arguments.level ≡ Ok taken → (now : World) (arguments : model.Arguments) (left : Option ℕ) (r : Result Progress Code) → IfOk r (IsLeft most taken.first) → Succeeds (λ (done : Progress). ComesBehind done.world) r → Goes most (settle x.element (from now arguments left) (outside.in_pages rest r))
+    progress_goes : IsTurnOrWrite p → (most : ℕ) (taken : Taken) → model.arguments_of s.arguments.level ≡ Ok taken
+        → (now : World) (arguments : model.Arguments) (left : Option ℕ) (r : Result Progress Code)
+        → IfOk r (IsLeft most taken.first) → Succeeds (λ (done : Progress). ComesBehind done.world) r
+        → Goes most (settle x.element (from now arguments left) (outside.in_pages rest r))
     progress_goes b most taken w now arguments left (Err c) i g = absurd g
     progress_goes b most taken w now arguments left (Ok done) i g = by done.left refl where
-      by : (n : ℕ) → done.left ≡ n → Goes most (settle x.element (from now arguments left) (Ok (outside.while_left n rest done.world)))
+      by : (n : ℕ) → done.left ≡ n → Goes most
+          (settle x.element (from now arguments left) (Ok (outside.while_left n rest done.world)))
       by zero e = behind_page most (omega (arith, i.fewer)) done.world None refl g
-      by (suc n) e = inr (suc n, omega (arith, e, i.fewer), record { some = omega arith; pending = refl; frames = refl; output = i.output; work = (b, refl, g, (taken, w, i.alone (omega (arith, e)))) })
+      by (suc n) e = inr (
+        suc n,
+        omega (arith, e, i.fewer),
+        record {
+          some = omega arith;
+          pending = refl;
+          frames = refl;
+          output = i.output;
+          work = (b, refl, g, (taken, w, i.alone (omega (arith, e))));
+        },
+      )
 
-    module _ (turns : IsTurnOrWrite p) (page : World → Result World Code) (opens : (world : World) → IsOpen world → IfOk (page world) IsOpen) (o : IsOpen s.world) where
-      first_pages : (most : ℕ) (r : Result Taken Code) → model.arguments_of s.arguments.level ≡ r → IfOk r (λ (taken : Taken). (m : ℤ) → taken.first ≡ Some m → taken.value ≡ None → ⊥) → Succeeds (λ (taken : Taken). PagesAtMost most taken.first taken.value) r → Succeeds (λ (taken : Taken). Succeeds (λ (done : Progress). ComesBehind done.world) (paging.pages page taken s.world)) r → Goes most (settle x.element s (r >>>= λ taken. outside.in_pages rest (paging.pages page taken s.world)))
+    module _ (turns : IsTurnOrWrite p) (page : World → Result World Code) (opens : (world : World) → IsOpen world
+        → IfOk (page world) IsOpen) (o : IsOpen s.world) where
+      first_pages : (most : ℕ) (r : Result Taken Code) → model.arguments_of s.arguments.level ≡ r
+          → IfOk r (λ (taken : Taken). (m : ℤ) → taken.first ≡ Some m → taken.value ≡ None → ⊥)
+          → Succeeds (λ (taken : Taken). PagesAtMost most taken.first taken.value) r
+          → Succeeds (λ (taken : Taken). Succeeds (λ (done : Progress). ComesBehind done.world)
+          (paging.pages page taken s.world)) r
+          → Goes most (settle x.element s (r >>>= λ taken. outside.in_pages rest (paging.pages page taken s.world)))
       first_pages most (Err c) e w b g = absurd g
-      first_pages most (Ok taken) e w b g = progress_goes turns most taken e s.world s.arguments s.left (paging.pages page taken s.world) (ok_any (IsLeft most taken.first) (paging.needed_output s.world) _ (λ output. pages_left page s.world o (opens s.world o) most taken.first taken.value b w)) g
+      first_pages most (Ok taken) e w b g =
+          progress_goes turns most taken e s.world s.arguments s.left (paging.pages page taken s.world)
+          (ok_any (IsLeft most taken.first) (paging.needed_output s.world) _
+          (λ output. pages_left page s.world o (opens s.world o) most taken.first taken.value b w)) g
 
-      well_taken : IfOk (model.arguments_of s.arguments.level) (λ (taken : Taken). (m : ℤ) → taken.first ≡ Some m → taken.value ≡ None → ⊥)
-      well_taken = ok_any (λ (taken : Taken). (m : ℤ) → taken.first ≡ Some m → taken.value ≡ None → ⊥) (model.final_value s.arguments.level) (λ value. model.arguments_from s.arguments.level.first value) (taken_both s.arguments.level.first)
+      well_taken : IfOk (model.arguments_of s.arguments.level) (λ (taken : Taken). (m : ℤ) → taken.first ≡ Some m
+          → taken.value ≡ None → ⊥)
+      well_taken = ok_any (λ (taken : Taken). (m : ℤ) → taken.first ≡ Some m → taken.value ≡ None → ⊥)
+          (model.final_value s.arguments.level) (λ value. model.arguments_from s.arguments.level.first value)
+          (taken_both s.arguments.level.first)
 
-      pages_proceed : (most : Polynomial) → steps (kind.Page p) facts ≡ Ok most → Succeeds (λ (taken : Taken). Succeeds (λ (done : Progress). ComesBehind done.world) (paging.pages page taken s.world)) (model.arguments_of s.arguments.level) → Goes (value most run.n) (settle x.element s (outside.pages_reply page s.left s.arguments s.world))
+      pages_proceed : (most : Polynomial) → steps (kind.Page p) facts ≡ Ok most
+          → Succeeds (λ (taken : Taken). Succeeds (λ (done : Progress). ComesBehind done.world)
+          (paging.pages page taken s.world)) (model.arguments_of s.arguments.level)
+          → Goes (value most run.n) (settle x.element s (outside.pages_reply page s.left s.arguments s.world))
       pages_proceed most m g =
-          subst (λ left. Goes (value most run.n) (settle x.element s (outside.pages_reply page left s.arguments s.world))) (sym h.left)
-          (first_pages (value most run.n) _ refl well_taken (leads_at (λ most. ⊤) (λ most (taken : Taken). PagesAtMost (value most run.n) taken.first taken.value) (steps (kind.Page p) facts) (model.arguments_of s.arguments.level) most m tt (page_steps_are_bounded run facts (unread_of s.world) s.world.kept s.arguments p h.whole.world.kept h.described turns)) g)
+          subst (λ left. Goes (value most run.n)
+          (settle x.element s (outside.pages_reply page left s.arguments s.world))) (sym h.left)
+          (first_pages (value most run.n) _ refl well_taken
+          (leads_at (λ most. ⊤) (λ most (taken : Taken). PagesAtMost (value most run.n) taken.first taken.value)
+          (steps (kind.Page p) facts) (model.arguments_of s.arguments.level) most m tt
+          (page_steps_are_bounded run facts (unread_of s.world) s.world.kept s.arguments p h.whole.world.kept
+          h.described turns)) g)
 
-      page_later : (most : ℕ) (taken : Taken) → model.arguments_of s.arguments.level ≡ Ok taken → taken.first ≡ None → 1 ≤ most → (now : World) → IsOpen now → Succeeds ComesBehind (page now) → (left : Option ℕ) → Goes most (settle x.element (at now left) (outside.in_pages rest (paging.one_page_of page most now)))
-      page_later most taken w none some now k g left = progress_goes turns most taken w now rest left _ (one_left page now k (opens now k) most most taken.first some (omega arith) none) (by_output now.files.output k.1) where
-        by_output : (out : Option Output) → out ≡ Some k.0 → Succeeds (λ (done : Progress). ComesBehind done.world) (ok_or out code.Nfo >>>= λ output. page now >>>= λ done. Ok (record { world = done; left = most - 1 }))
-        by_output None e = absurd (cc)
-        by_output (Some q) e = then_so ComesBehind (λ (done : Progress). ComesBehind done.world) (page now) _ g (λ done w c. c)
+      page_later : (most : ℕ) (taken : Taken) → model.arguments_of s.arguments.level ≡ Ok taken → taken.first ≡ None
+          → 1 ≤ most → (now : World) → IsOpen now → Succeeds ComesBehind (page now) → (left : Option ℕ)
+          → Goes most (settle x.element (at now left) (outside.in_pages rest (paging.one_page_of page most now)))
+      page_later most taken w none some now k g left =
+          progress_goes turns most taken w now rest left _
+          (one_left page now k (opens now k) most most taken.first some (omega arith) none)
+          (by_output now.files.output k.1) where
+            by_output : (out : Option Output) → out ≡ Some k.0
+                → Succeeds (λ (done : Progress). ComesBehind done.world) (ok_or out code.Nfo >>>= λ output.
+                page now >>>= λ done. Ok (record { world = done; left = most - 1 }))
+            by_output None e = absurd (cc)
+            by_output (Some q) e = then_so ComesBehind (λ (done : Progress). ComesBehind done.world) (page now) _ g
+                (λ done w c. c)
 
-  turns_known : x.element.kind ≡ kind.Page page.Next → IsOpen s.world → Succeeds (λ (taken : Taken). TurnsPages run facts.held s.world s.arguments edges taken.first taken.value) (model.arguments_of s.arguments.level)
-  turns_known e (output, o) = leads_at (FitsOn run) _ (transfer x facts) (model.arguments_of s.arguments.level) edges t fits (page_turns_are_sound run facts s.world s.arguments x output h.whole.world.kept h.described e o)
+  turns_known : x.element.kind ≡ kind.Page page.Next → IsOpen s.world
+      → Succeeds (λ (taken : Taken). TurnsPages run facts.held s.world s.arguments edges taken.first taken.value)
+      (model.arguments_of s.arguments.level)
+  turns_known e (output, o) = leads_at (FitsOn run) _ (transfer x facts) (model.arguments_of s.arguments.level) edges t
+      fits (page_turns_are_sound run facts s.world s.arguments x output h.whole.world.kept h.described e o)
 
   -- what is written changes nothing that is known
-  writes_stay : (bytes : List ℕ) (now : World) (o : Option Facts) → MatchOption o ⊥ (λ next. ComesTo run facts.held s.world next (model.levels_after_taking s.arguments) now) → MatchOption o ⊥ (λ next. ComesTo run facts.held s.world next (model.levels_after_taking s.arguments) (paging.world_after_writing bytes now))
+  writes_stay : (bytes : List ℕ) (now : World) (o : Option Facts)
+      → MatchOption o ⊥ (λ next. ComesTo run facts.held s.world next (model.levels_after_taking s.arguments) now)
+      → MatchOption o ⊥ (λ next. ComesTo run facts.held s.world next (model.levels_after_taking s.arguments)
+      (paging.world_after_writing bytes now))
   writes_stay bytes now None c = c
   writes_stay bytes now (Some next) c = record { described = c.described; less = c.less; grown = c.grown }
 
-  pub turn_proceeds : (most : Polynomial) → steps (kind.Page page.Next) facts ≡ Ok most → x.element.kind ≡ kind.Page page.Next → IsOpen s.world → Proceeds (kind.Page page.Next) run facts x edges s (value most run.n) (settle x.element s (outside.pages_reply paging.page_turned s.left s.arguments s.world))
-  turn_proceeds most m e o = pages_proceed page.Next tt paging.page_turned turned_open o most m (so_far (λ (taken : Taken). TurnsPages run facts.held s.world s.arguments edges taken.first taken.value) (λ (taken : Taken). Succeeds (λ (done : Progress). ComesBehind done.world) (paging.pages paging.page_turned taken s.world)) (model.arguments_of s.arguments.level) (λ taken i. i.begins) (turns_known e o))
+  pub turn_proceeds : (most : Polynomial) → steps (kind.Page page.Next) facts ≡ Ok most
+      → x.element.kind ≡ kind.Page page.Next → IsOpen s.world
+      → Proceeds (kind.Page page.Next) run facts x edges s (value most run.n)
+      (settle x.element s (outside.pages_reply paging.page_turned s.left s.arguments s.world))
+  turn_proceeds most m e o = pages_proceed page.Next tt paging.page_turned turned_open o most m
+      (so_far (λ (taken : Taken). TurnsPages run facts.held s.world s.arguments edges taken.first taken.value)
+      (λ (taken : Taken). Succeeds (λ (done : Progress). ComesBehind done.world)
+      (paging.pages paging.page_turned taken s.world)) (model.arguments_of s.arguments.level) (λ taken i. i.begins)
+      (turns_known e o))
 
-  pub write_proceeds : (most : Polynomial) → steps (kind.Page page.Write) facts ≡ Ok most → x.element.kind ≡ kind.Page page.Write → IsOpen s.world → Proceeds (kind.Page page.Write) run facts x edges s (value most run.n) (settle x.element s (outside.pages_reply paging.page_written s.left s.arguments s.world))
-  write_proceeds most m e (output, o) = pages_proceed page.Write tt paging.page_written written_open (output, o) most m (leads_at (FitsOn run) _ (transfer x facts) (model.arguments_of s.arguments.level) edges t fits (page_writes_are_sound run facts s.world s.arguments x output h.whole.world.kept h.described e o))
+  pub write_proceeds : (most : Polynomial) → steps (kind.Page page.Write) facts ≡ Ok most
+      → x.element.kind ≡ kind.Page page.Write → IsOpen s.world
+      → Proceeds (kind.Page page.Write) run facts x edges s (value most run.n)
+      (settle x.element s (outside.pages_reply paging.page_written s.left s.arguments s.world))
+  write_proceeds most m e (output, o) = pages_proceed page.Write tt paging.page_written written_open (output, o) most m
+      (leads_at (FitsOn run) _ (transfer x facts) (model.arguments_of s.arguments.level) edges t fits
+      (page_writes_are_sound run facts s.world s.arguments x output h.whole.world.kept h.described e o))
 
-  pub turn_again : (most : ℕ) → x.element.kind ≡ kind.Page page.Next → IsOpen s.world → (taken : Taken) → model.arguments_of s.arguments.level ≡ Ok taken → taken.first ≡ None → 1 ≤ most → (now : World) → IsOpen now → ComesBehind now → (left : Option ℕ) → Proceeds (kind.Page page.Next) run facts x edges s most (settle x.element (at now left) (outside.in_pages rest (paging.one_page_of paging.page_turned most now)))
-  turn_again most e o taken w none some now k c left = page_later page.Next tt paging.page_turned turned_open o most taken w none some now k (at_taken (model.arguments_of s.arguments.level) w (turns_known e o)) left where
-    at_taken : (r : Result Taken Code) → r ≡ Ok taken → Succeeds (λ (taken : Taken). TurnsPages run facts.held s.world s.arguments edges taken.first taken.value) r → Succeeds ComesBehind (paging.page_turned now)
-    at_taken (Err c) q i = absurd i
-    at_taken (Ok other) q i = let same : other ≡ taken = cc in i.more now (subst (λ (t : Taken). t.first ≡ None) (sym same) none) c
+  pub turn_again : (most : ℕ) → x.element.kind ≡ kind.Page page.Next → IsOpen s.world → (taken : Taken)
+      → model.arguments_of s.arguments.level ≡ Ok taken → taken.first ≡ None → 1 ≤ most → (now : World) → IsOpen now
+      → ComesBehind now → (left : Option ℕ)
+      → Proceeds (kind.Page page.Next) run facts x edges s most
+      (settle x.element (at now left) (outside.in_pages rest (paging.one_page_of paging.page_turned most now)))
+  turn_again most e o taken w none some now k c left =
+      page_later page.Next tt paging.page_turned turned_open o most taken w none some now k
+      (at_taken (model.arguments_of s.arguments.level) w (turns_known e o)) left where
+        at_taken : (r : Result Taken Code) → r ≡ Ok taken
+            → Succeeds (λ (taken : Taken). TurnsPages run facts.held s.world s.arguments edges taken.first taken.value)
+            r
+            → Succeeds ComesBehind (paging.page_turned now)
+        at_taken (Err c) q i = absurd i
+        at_taken (Ok other) q i = let same : other ≡ taken = cc in
+            i.more now (subst (λ (t : Taken). t.first ≡ None) (sym same) none) c
 
-  pub write_again : (most : ℕ) → IsOpen s.world → (taken : Taken) → model.arguments_of s.arguments.level ≡ Ok taken → taken.first ≡ None → 1 ≤ most → (now : World) → IsOpen now → ComesBehind now → (left : Option ℕ) → Proceeds (kind.Page page.Write) run facts x edges s most (settle x.element (at now left) (outside.in_pages rest (paging.one_page_of paging.page_written most now)))
-  write_again most o taken w none some now k c left = page_later page.Write tt paging.page_written written_open o most taken w none some now k (writes_stay _ now edges.on c) left
+  pub write_again : (most : ℕ) → IsOpen s.world → (taken : Taken) → model.arguments_of s.arguments.level ≡ Ok taken
+      → taken.first ≡ None → 1 ≤ most → (now : World) → IsOpen now → ComesBehind now → (left : Option ℕ)
+      → Proceeds (kind.Page page.Write) run facts x edges s most
+      (settle x.element (at now left) (outside.in_pages rest (paging.one_page_of paging.page_written most now)))
+  write_again most o taken w none some now k c left =
+      page_later page.Write tt paging.page_written written_open o most taken w none some now k
+      (writes_stay _ now edges.on c) left
 
   -- ---- A
   abbrev Adds : ℕ → Outcome → Type 0
   Adds most outcome = Proceeds (kind.Page page.Append) run facts x edges s most outcome
 
-  appended : (most : ℕ) → 1 ≤ most → (r : Result World Code) → Succeeds ComesBehind r → Adds most (settle x.element s (outside.going_on s.left rest r))
+  appended : (most : ℕ) → 1 ≤ most → (r : Result World Code) → Succeeds ComesBehind r
+      → Adds most (settle x.element s (outside.going_on s.left rest r))
   appended most some (Err c) g = absurd g
   appended most some (Ok world) g = behind_page page.Append most some world s.left h.left g
 
-  append_by : (most : ℕ) → 1 ≤ most → (taken : Taken) (o : Option ℤ) → (o ≡ None → (input : Input) × (s.world.files.input ≡ Some input)) → Appends run facts.held s.world s.arguments edges (record { first = taken.first; value = o }) → Adds most (settle x.element s (outside.append_reply o s.left rest s.world))
+  append_by : (most : ℕ) → 1 ≤ most → (taken : Taken) (o : Option ℤ)
+      → (o ≡ None → (input : Input) × (s.world.files.input ≡ Some input))
+      → Appends run facts.held s.world s.arguments edges (record { first = taken.first; value = o })
+      → Adds most (settle x.element s (outside.append_reply o s.left rest s.world))
   append_by most some taken None ready g = let i = ready refl in appended most some (paging.append s.world) (g i.0 i.1)
-  append_by most some taken (Some n) ready g = inl (some, record { comes = on_comes run facts.held s.world s.world.kept _ edges g; frames = refl; done = h.left })
+  append_by most some taken (Some n) ready g =
+      inl (
+        some,
+        record {
+          comes = on_comes run facts.held s.world s.world.kept _ edges g;
+          frames = refl;
+          done = h.left;
+        },
+      )
 
-  append_taken : (most : ℕ) → 1 ≤ most → (r : Result Taken Code) → Succeeds (λ (taken : Taken). taken.value ≡ None → (input : Input) × (s.world.files.input ≡ Some input)) r → Succeeds (Appends run facts.held s.world s.arguments edges) r → Adds most (settle x.element s (r >>>= λ taken. outside.append_reply taken.value s.left rest s.world))
+  append_taken : (most : ℕ) → 1 ≤ most → (r : Result Taken Code)
+      → Succeeds (λ (taken : Taken). taken.value ≡ None → (input : Input) × (s.world.files.input ≡ Some input)) r
+      → Succeeds (Appends run facts.held s.world s.arguments edges) r
+      → Adds most (settle x.element s (r >>>= λ taken. outside.append_reply taken.value s.left rest s.world))
   append_taken most some (Err c) ready g = absurd g
   append_taken most some (Ok taken) ready g = append_by most some taken taken.value ready g
 
-  pub append_proceeds : (most : ℕ) → 1 ≤ most → x.element.kind ≡ kind.Page page.Append → Succeeds (λ (taken : Taken). taken.value ≡ None → (input : Input) × (s.world.files.input ≡ Some input)) (model.arguments_of s.arguments.level) → Adds most (settle x.element s (model.arguments_of s.arguments.level >>>= λ taken. outside.append_reply taken.value s.left rest s.world))
-  append_proceeds most some e ready = append_taken most some _ ready (leads_at (FitsOn run) _ (transfer x facts) (model.arguments_of s.arguments.level) edges t fits (appends_are_sound run facts s.world s.arguments x h.whole.world.kept h.described e))
+  pub append_proceeds : (most : ℕ) → 1 ≤ most → x.element.kind ≡ kind.Page page.Append
+      → Succeeds (λ (taken : Taken). taken.value ≡ None → (input : Input) × (s.world.files.input ≡ Some input))
+      (model.arguments_of s.arguments.level)
+      → Adds most (settle x.element s (model.arguments_of s.arguments.level >>>= λ taken.
+      outside.append_reply taken.value s.left rest s.world))
+  append_proceeds most some e ready =
+      append_taken most some _ ready (leads_at (FitsOn run) _ (transfer x facts) (model.arguments_of s.arguments.level)
+      edges t fits (appends_are_sound run facts s.world s.arguments x h.whole.world.kept h.described e))

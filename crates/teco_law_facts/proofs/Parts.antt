@@ -1,5 +1,6 @@
 -- Parts of the buffer that are named.
-use Rattle.std.proofs.Common.{◌≡◌, ℕ, ◌≤◌, arith, ap, ℤ, pos, negsuc, length, Option, Some, None, Result, Ok, Err, IfOk, true, cond, nat_le}
+use Rattle.std.proofs.Common.{◌≡◌, ℕ, ◌≤◌, arith, ap, ℤ, pos, negsuc, length, Option, Some, None, Result, Ok, Err}
+use Rattle.std.proofs.Common.{IfOk, true, cond, nat_le}
 use Rattle.std.specs.Prelude.{⊤}
 use Rattle.std.proofs.lemmas.Int.{ints}
 use Rattle.std.proofs.lemmas.Bool.Decides.{nat_tests}
@@ -33,29 +34,45 @@ abbrev pub Comes : {X : Type 0} → Result X Code → Type 0
 Comes (Ok x) = ⊤
 Comes (Err c) = ⊥
 
-module _ (run : Run) (facts : Facts) (unread : ℕ) (kept : Kept) (whole : IsWhole kept) (h : Holds run facts unread kept) where
+module _ (run : Run) (facts : Facts) (unread : ℕ) (kept : Kept) (whole : IsWhole kept)
+    (h : Holds run facts unread kept) where
   -- a place that is known lies in the text
-  pub within_text : (m : ℕ) (place : KnownPlace) → IsPlaced run facts unread kept whole h (pos m) place → m ≤ length kept.text
+  pub within_text : (m : ℕ) (place : KnownPlace) → IsPlaced run facts unread kept whole h (pos m) place
+      → m ≤ length kept.text
   within_text m place p = omega (arith, ints, p.end)
 
-  both_in : (v w : ℤ) (from to : KnownPlace) → IsPlaced run facts unread kept whole h v from → IsPlaced run facts unread kept whole h w to → Comes (part_named (Some v) (Some w) kept)
-  both_in (pos a) (pos b) from to p q = rw (in_text kept a (within_text a from p), in_text kept b (within_text b to q)) tt
+  both_in : (v w : ℤ) (from to : KnownPlace) → IsPlaced run facts unread kept whole h v from
+      → IsPlaced run facts unread kept whole h w to → Comes (part_named (Some v) (Some w) kept)
+  both_in (pos a) (pos b) from to p q =
+      rw (in_text kept a (within_text a from p), in_text kept b (within_text b to q)) tt
   both_in (negsuc a) w from to p q = absurd (omega (arith, ints, p.begin))
   both_in (pos a) (negsuc b) from to p q = absurd (omega (arith, ints, q.begin))
 
-  pub both_named : (s t : Value) (v w : ℤ) → IsValue (around_of kept) s v → IsValue (around_of kept) t w → IfOk (typings.part_named facts.rules (Some s) (Some t) facts.position.distances) (λ u. Comes (part_named (Some v) (Some w) kept))
+  pub both_named : (s t : Value) (v w : ℤ) → IsValue (around_of kept) s v → IsValue (around_of kept) t w
+      → IfOk (typings.part_named facts.rules (Some s) (Some t) facts.position.distances)
+      (λ u. Comes (part_named (Some v) (Some w) kept))
   both_named s t v w i j =
-      given_then (IsPlaced run facts unread kept whole h v) (λ u. Comes (part_named (Some v) (Some w) kept)) _ _ (bound_is_placed run facts unread kept whole h facts.rules s v i) (λ from p.
-      given_then (IsPlaced run facts unread kept whole h w) (λ u. Comes (part_named (Some v) (Some w) kept)) _ _ (bound_is_placed run facts unread kept whole h facts.rules t w j) (λ to q. both_in v w from to p q))
+      given_then (IsPlaced run facts unread kept whole h v) (λ u. Comes (part_named (Some v) (Some w) kept)) _ _
+      (bound_is_placed run facts unread kept whole h facts.rules s v i) (λ from p.
+      given_then (IsPlaced run facts unread kept whole h w) (λ u. Comes (part_named (Some v) (Some w) kept)) _ _
+      (bound_is_placed run facts unread kept whole h facts.rules t w j) (λ to q. both_in v w from to p q))
 
-  part_leads : (known : Result Foreseen Refusal) (go_on : Part → Result Effect Code) → ((part : Part) → Foretells run facts unread kept known (go_on part)) → (part : Result Part Code) → Comes part → Foretells run facts unread kept known (part >>>= go_on)
+  part_leads : (known : Result Foreseen Refusal) (go_on : Part → Result Effect Code)
+      → ((part : Part) → Foretells run facts unread kept known (go_on part)) → (part : Result Part Code) → Comes part
+      → Foretells run facts unread kept known (part >>>= go_on)
   part_leads known go_on k (Ok part) c = k part
   part_leads known go_on k (Err e) c = absurd c
 
   -- a part that is named leads on
-  pub parts_lead : (f o : Option Value) (m v : Option ℤ) → IsOptional (IsValue (around_of kept)) f m → IsOptional (IsValue (around_of kept)) o v → (known : Result Foreseen Refusal) (go_on : Part → Result Effect Code) → ((part : Part) → Foretells run facts unread kept known (go_on part)) → Foretells run facts unread kept (typings.part_named facts.rules f o facts.position.distances >>= λ named. known) (part_named m v kept >>>= go_on)
+  pub parts_lead : (f o : Option Value) (m v : Option ℤ) → IsOptional (IsValue (around_of kept)) f m
+      → IsOptional (IsValue (around_of kept)) o v
+      → (known : Result Foreseen Refusal) (go_on : Part → Result Effect Code)
+      → ((part : Part) → Foretells run facts unread kept known (go_on part))
+      → Foretells run facts unread kept (typings.part_named facts.rules f o facts.position.distances >>= λ named. known)
+      (part_named m v kept >>>= go_on)
   parts_lead (Some s) (Some t) (Some v) (Some w) i j known go_on k =
-      leads_given (λ u. Comes (part_named (Some v) (Some w) kept)) _ (IsDone run facts unread kept) _ _ _ (both_named s t v w i j) (λ u ok. part_leads known go_on k _ ok)
+      leads_given (λ u. Comes (part_named (Some v) (Some w) kept)) _ (IsDone run facts unread kept) _ _ _
+      (both_named s t v w i j) (λ u ok. part_leads known go_on k _ ok)
   parts_lead None o None v i j known go_on k = k _
   parts_lead (Some s) None (Some v) None i j known go_on k = k _
   parts_lead f o m v i j known go_on k = absurd (grind arith)

@@ -1,5 +1,6 @@
 -- The texts of an element are of bytes, as the text that it stands in.
-use Rattle.std.proofs.Common.{◌≡◌, ℕ, ◌-◌, List, drop, length, Option, Some, None, IfSome, Result, Ok, Err, IfOk, refl, sym, subst}
+use Rattle.std.proofs.Common.{◌≡◌, ℕ, ◌-◌, List, drop, length, Option, Some, None, IfSome, Result, Ok, Err, IfOk}
+use Rattle.std.proofs.Common.{refl, sym, subst}
 use Rattle.teco_base.specs.declared.code.Code.{Code}
 use Rattle.teco_model.specs.Element.{Element, element_at}
 use Rattle.teco_model.proofs.Standing.{StandsIn, found_read}
@@ -11,12 +12,16 @@ pub record IsOfBytes (e : Element) : Type 0 where
   pub text : AreBytes e.text
   pub second : AreBytes e.second
 
-part_bytes : (text : List ℕ) (place : ℕ) (part : List ℕ) (end : ℕ) → AreBytes text → StandsIn text place part end → AreBytes part
-part_bytes text place part end h s = subst AreBytes (sym s.is) (all_taken IsByte (length part) (drop (end - length part) text) (all_dropped IsByte (end - length part) text h))
+part_bytes : (text : List ℕ) (place : ℕ) (part : List ℕ) (end : ℕ) → AreBytes text → StandsIn text place part end
+    → AreBytes part
+part_bytes text place part end h s =
+    subst AreBytes (sym s.is) (all_taken IsByte (length part) (drop (end - length part) text)
+    (all_dropped IsByte (end - length part) text h))
 
 pub element_bytes : (text : List ℕ) (at : ℕ) → AreBytes text → IfOk (element_at text at) (λ o. IfSome o IsOfBytes)
 element_bytes text at h = by (element_at text at) refl where
   by : (r : Result (Option Element) Code) → element_at text at ≡ r → IfOk r (λ o. IfSome o IsOfBytes)
   by (Err c) was = tt
   by (Ok None) was = tt
-  by (Ok (Some e)) was = let r = found_read text at e was in record { text = part_bytes _ _ _ _ h r.text; second = part_bytes _ _ _ _ h r.second }
+  by (Ok (Some e)) was = let r = found_read text at e was in
+      record { text = part_bytes _ _ _ _ h r.text; second = part_bytes _ _ _ _ h r.second }

@@ -11,5 +11,6 @@ use Rattle.teco_verifier.specs.facts.Transfer.{transfer}
 use Rattle.teco_verifier.specs.facts.Facts.{texts_at_entry}
 
 pub fact_rows : FactRows
-unfolding digits int_wrap blank_len element_from element_at letters reading_at first_readings readings part_at parts_within parts texts_at_entry transfer
+unfolding digits int_wrap blank_len element_from element_at letters reading_at first_readings readings part_at
+    parts_within parts texts_at_entry transfer
 fact_rows = search rules

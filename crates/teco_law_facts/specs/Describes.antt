@@ -1,5 +1,6 @@
 -- What it means that facts describe a state of the machine.
-use Rattle.std.specs.Prelude.{◌≡◌, ◌⊎◌, ℕ, ℤ, pos, negsuc, ◌+◌, ◌-◌, ◌≤◌, ◌+ℤ◌, ◌≤ℤ◌, IsTrue, ⊤, List, [], ◌∷◌, length, drop, Bool, Option, Some, None, MatchOption}
+use Rattle.std.specs.Prelude.{◌≡◌, ◌⊎◌, ℕ, ℤ, pos, negsuc, ◌+◌, ◌-◌, ◌≤◌, ◌+ℤ◌, ◌≤ℤ◌, IsTrue, ⊤, List, [], ◌∷◌}
+use Rattle.std.specs.Prelude.{length, drop, Bool, Option, Some, None, MatchOption}
 use Rattle.teco_base.specs.Bytes.{is_digit}
 use Rattle.teco_base.specs.Lines.{line_place}
 use Rattle.teco_model.specs.declared.arguments.Level.{Level}

@@ -1,6 +1,7 @@
 -- The laws of facts alone: of the ways of tests, of facts that are covered, of ways that meet, of the entry, and of
 -- the start of a body and its turns.
-use Rattle.std.specs.Prelude.{◌≡◌, ℕ, ℤ, ◌+◌, ◌-◌, ◌*◌, ◌≤◌, IsTrue, length, List, [], ◌∷◌, slice_index_or, Bool, true, false, Option, Some, None, MatchOption, IfOk, IsErr, ⊤}
+use Rattle.std.specs.Prelude.{◌≡◌, ℕ, ℤ, ◌+◌, ◌-◌, ◌*◌, ◌≤◌, IsTrue, length, List, [], ◌∷◌, slice_index_or, Bool}
+use Rattle.std.specs.Prelude.{true, false, Option, Some, None, MatchOption, IfOk, IsErr, ⊤}
 use Rattle.teco_model.specs.Arguments.{Arguments, no_arguments}
 use Rattle.teco_model.specs.Registers.{Pair, pair_of}
 use Rattle.teco_model.specs.declared.kind.Command.TheVariants as command
@@ -12,7 +13,8 @@ use Rattle.teco_model.specs.State.{Kept}
 use Rattle.teco_poly.specs.Polynomial.{Polynomial, value}
 use Rattle.teco_verifier.specs.facts.Bodies.{Choice, Changes, body_start, begins, returns, has_room}
 use Rattle.teco_verifier.specs.facts.Covers.{covers}
-use Rattle.teco_law_facts.specs.Describes.{Run, Begun, begun_at, run_behind, run_in_turn, IsWhole, Holds, IsAnswer, Describes, AreEach, IsLess, around_of}
+use Rattle.teco_law_facts.specs.Describes.{Run, Begun, begun_at, run_behind, run_in_turn, IsWhole, Holds, IsAnswer}
+use Rattle.teco_law_facts.specs.Describes.{Describes, AreEach, IsLess, around_of}
 use Rattle.teco_model.specs.Macros.{IsAsked}
 use Rattle.teco_verifier.specs.declared.falls.Falls.{Falls}
 use Rattle.teco_verifier.specs.declared.falls.Rank.{Rank}

@@ -1,5 +1,6 @@
 -- What is known along texts, worked by hand.
-use Rattle.std.specs.Prelude.{◌≡◌, ℕ, zero, suc, ℤ, pos, List, [], ◌∷◌, ◌++◌, codes, replicate, Bool, true, false, Some, None, Result, Ok, Err}
+use Rattle.std.specs.Prelude.{◌≡◌, ℕ, zero, suc, ℤ, pos, List, [], ◌∷◌, ◌++◌, codes, replicate, Bool, true, false}
+use Rattle.std.specs.Prelude.{Some, None, Result, Ok, Err}
 use Rattle.teco_poly.specs.declared.coefficients.TheConstants.{COEFFICIENTS}
 use Rattle.teco_base.specs.declared.TheConstants.{REGISTERS}
 use Rattle.teco_base.specs.declared.bytes.TheConstants.{ESC}

@@ -1,6 +1,7 @@
 -- The laws of tests, iterations and tags: the edge that the machine goes along is reached, and its facts describe the
 -- state there.
-use Rattle.std.specs.Prelude.{◌≡◌, ℕ, ℤ, pos, ◌+◌, ◌≤◌, ◌≤ℤ◌, ⊤, List, ◌∷◌, Bool, true, false, Option, Some, None, MatchOption, Result, IfOk, if◌then◌else◌}
+use Rattle.std.specs.Prelude.{◌≡◌, ℕ, ℤ, pos, ◌+◌, ◌≤◌, ◌≤ℤ◌, ⊤, List, ◌∷◌, Bool, true, false, Option, Some, None}
+use Rattle.std.specs.Prelude.{MatchOption, Result, IfOk, if◌then◌else◌}
 use Rattle.teco_base.specs.declared.code.Code.{Code}
 use Rattle.teco_model.specs.Arguments.{Arguments, arguments_of, levels_after_taking, no_arguments}
 use Rattle.teco_model.specs.Checked.{◌>>=◌}

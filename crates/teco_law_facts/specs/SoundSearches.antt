@@ -1,5 +1,6 @@
 -- The law of searches in the buffer: what is known where they found, and where they failed.
-use Rattle.std.specs.Prelude.{◌≡◌, ℕ, ℤ, pos, negsuc, ⊤, List, Bool, true, false, Option, Some, None, MatchOption, Result}
+use Rattle.std.specs.Prelude.{◌≡◌, ℕ, ℤ, pos, negsuc, ⊤, List, Bool, true, false, Option, Some, None, MatchOption}
+use Rattle.std.specs.Prelude.{Result}
 use Rattle.teco_base.specs.declared.code.Code.{Code}
 use Rattle.teco_model.specs.Arguments.{Arguments, arguments_of, levels_after_taking, levels_after_answer, no_arguments}
 use Rattle.teco_model.specs.Checked.{◌>>=◌}

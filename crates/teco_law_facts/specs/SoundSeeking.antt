@@ -1,5 +1,6 @@
 -- The law of N and FN: page after page goes by, and what is known is true where they find, and where no page is left.
-use Rattle.std.specs.Prelude.{◌≡◌, ℕ, pos, negsuc, ◌+◌, ◌≤◌, ⊤, List, Bool, true, false, if◌then◌else◌, ◌&&◌, Some, None, MatchOption, IfOk, map}
+use Rattle.std.specs.Prelude.{◌≡◌, ℕ, pos, negsuc, ◌+◌, ◌≤◌, ⊤, List, Bool, true, false, if◌then◌else◌, ◌&&◌, Some}
+use Rattle.std.specs.Prelude.{None, MatchOption, IfOk, map}
 use Rattle.teco_model.specs.Arguments.{Arguments, arguments_of, levels_after_taking, levels_after_answer, no_arguments}
 use Rattle.teco_model.specs.Files.{Output}
 use Rattle.teco_model.specs.Paging.{Looked, Met, Turned, Through, look_first, look_for, looked_through, unread_of}

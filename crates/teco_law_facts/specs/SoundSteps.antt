@@ -1,6 +1,7 @@
 -- One law of all elements: where what is known before an element says its edges, and they fit, a step there comes to no
 -- code, and the facts of the edge that it goes along describe where it leads.
-use Rattle.std.specs.Prelude.{◌≡◌, ℕ, zero, ℤ, ◌+◌, ◌≤◌, ⊤, List, [], ◌∷◌, Bool, true, false, is_some, Option, Some, None, MatchOption, IfOk, Ok, ◌⊎◌}
+use Rattle.std.specs.Prelude.{◌≡◌, ℕ, zero, ℤ, ◌+◌, ◌≤◌, ⊤, List, [], ◌∷◌, Bool, true, false, is_some, Option, Some}
+use Rattle.std.specs.Prelude.{None, MatchOption, IfOk, Ok, ◌⊎◌}
 use Rattle.teco_base.specs.declared.code.Code.TheVariants as code
 use Rattle.teco_model.specs.Ahead.{Whole}
 use Rattle.teco_model.specs.Arguments.{arguments_of, levels_after_taking, no_arguments}

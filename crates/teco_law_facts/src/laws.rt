@@ -1,5 +1,7 @@
 //! Laws of facts alone: what they say of a state, and rows of them.
-ghost use Rattle.teco_law_facts.specs.Laws.{WaysAreSound, CoversAreSound, JoinsAreSound, EntryIsSound, BodyStartsAreSound, ReturnsAreSound, TurnsFall, RoomIsSound, LibraryStays};
+ghost use Rattle.teco_law_facts.specs.Laws.{WaysAreSound, CoversAreSound, JoinsAreSound, EntryIsSound};
+ghost use Rattle.teco_law_facts.specs.Laws.{BodyStartsAreSound, ReturnsAreSound, TurnsFall, RoomIsSound};
+ghost use Rattle.teco_law_facts.specs.Laws.{LibraryStays};
 ghost use Rattle.teco_law_facts.specs.Rows.{FactRows};
 ghost use Rattle.teco_law_facts.specs.Wholeness.{WholeIsKept};
 

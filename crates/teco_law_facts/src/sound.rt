@@ -1,11 +1,15 @@
 //! Laws of what elements do to what is known: where the transfer gives facts that fit, the machine
 //! comes to a state that they describe, without a code.
-ghost use Rattle.teco_law_facts.specs.SoundElements.{ArgumentsAreSound, ValuesAreSound, CommandsAreSound, QueriesAreSound, StacksAreSound};
-ghost use Rattle.teco_law_facts.specs.SoundFlow.{TestsAreSound, LeavesAreSound, IterationsAreSound, TurnsAreSound, TurnEndsAreSound, TagsAreSound, OthersAreSound};
-ghost use Rattle.teco_law_facts.specs.SoundPages.{AppendsAreSound, PageTurnsAreSound, PageWritesAreSound, PageStepsAreBounded};
+ghost use Rattle.teco_law_facts.specs.SoundElements.{ArgumentsAreSound, ValuesAreSound, CommandsAreSound};
+ghost use Rattle.teco_law_facts.specs.SoundElements.{QueriesAreSound, StacksAreSound};
+ghost use Rattle.teco_law_facts.specs.SoundFlow.{TestsAreSound, LeavesAreSound, IterationsAreSound, TurnsAreSound};
+ghost use Rattle.teco_law_facts.specs.SoundFlow.{TurnEndsAreSound, TagsAreSound, OthersAreSound};
+ghost use Rattle.teco_law_facts.specs.SoundPages.{AppendsAreSound, PageTurnsAreSound, PageWritesAreSound};
+ghost use Rattle.teco_law_facts.specs.SoundPages.{PageStepsAreBounded};
 ghost use Rattle.teco_law_facts.specs.SoundSearches.{SearchesAreSound};
 ghost use Rattle.teco_law_facts.specs.SoundSeeking.{PageSearchesAreSound, SearchStepsAreBounded};
-ghost use Rattle.teco_law_facts.specs.SoundSteps.{ElementsAreNamed, StepsAreSound, LaterStepsAreSound, ElementsAreSound, ReturnsGoBack};
+ghost use Rattle.teco_law_facts.specs.SoundSteps.{ElementsAreNamed, StepsAreSound, LaterStepsAreSound};
+ghost use Rattle.teco_law_facts.specs.SoundSteps.{ElementsAreSound, ReturnsGoBack};
 
 /// Digits, operators, parentheses, comma and ESC.
 pub fn arguments_are_sound()

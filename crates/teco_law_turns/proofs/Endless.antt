@@ -3,7 +3,8 @@ use Rattle.std.proofs.Common.{◌≡◌, ℕ, zero, suc, ◌<◌, ◌≤◌, Lis
 use Rattle.std.proofs.lemmas.Int.{ints}
 use Rattle.teco_law_turns.specs.Moves.{OpenLoop, Goes, Enters, Returns, Forward, Into, Back}
 use Rattle.teco_law_turns.proofs.Stepwise.{at_node, Run, stop, ◌before◌}
-use Rattle.teco_law_turns.specs.Needed.{rising, rising_loops, rising_end, rising_start, IsClosedButForFall, OwnFallIsNeeded}
+use Rattle.teco_law_turns.specs.Needed.{rising, rising_loops, rising_end, rising_start, IsClosedButForFall}
+use Rattle.teco_law_turns.specs.Needed.{OwnFallIsNeeded}
 
 outer_body : (j : ℕ) → 0 < j → j ≤ 5 → (inner : List ℕ) × (rising_loops j ≡ inner ++ 0 ∷ [])
 outer_body (suc zero) from to = ([], refl)
@@ -52,7 +53,9 @@ returns_outer : Returns rising (at_node 5 2 2 outside) (at_node 1 2 2 outside)
 returns_outer = search (arith, ints)
 
 -- a turn of the outer loop comes back to where it began
-lap : (moves n : ℕ) → Run rising moves (at_node 1 2 2 outside) n → Run rising (suc (suc (suc (suc (suc (suc (suc moves))))))) (at_node 1 2 2 outside) (suc (suc (suc (suc (suc (suc (suc n)))))))
+lap : (moves n : ℕ) → Run rising moves (at_node 1 2 2 outside) n
+    → Run rising (suc (suc (suc (suc (suc (suc (suc moves))))))) (at_node 1 2 2 outside)
+    (suc (suc (suc (suc (suc (suc (suc n)))))))
 lap moves n run =
     Forward two_ahead
     before Into enters_inner
@@ -73,7 +76,12 @@ laps : (n : ℕ) → Laps n
 laps zero = record { moves = 0; steps = 1; run = stop 1 2 2 outside (λ i. omega arith); enough = omega arith }
 laps (suc n) =
     let earlier = laps n in
-    record { moves = _; steps = _; run = lap earlier.moves earlier.steps earlier.run; enough = omega (arith, earlier.enough) }
+    record {
+      moves = _;
+      steps = _;
+      run = lap earlier.moves earlier.steps earlier.run;
+      enough = omega (arith, earlier.enough);
+    }
 
 pub own_fall_is_needed : OwnFallIsNeeded
 own_fall_is_needed = record {

@@ -3,7 +3,8 @@ use Rattle.std.proofs.Common.{◌≡◌, ℕ, zero, suc, ◌<◌, ◌≤◌, Lis
 use Rattle.std.proofs.lemmas.Int.{ints}
 use Rattle.teco_law_turns.specs.Moves.{OpenLoop, Goes, Enters, Returns, Forward, Into, Back}
 use Rattle.teco_law_turns.proofs.Stepwise.{at_node, Run, stop, ◌before◌}
-use Rattle.teco_law_turns.specs.Needed.{grown, grown_loops, grown_end, grown_start, IsClosedButForGrowth, GrowthIsNeeded}
+use Rattle.teco_law_turns.specs.Needed.{grown, grown_loops, grown_end, grown_start, IsClosedButForGrowth}
+use Rattle.teco_law_turns.specs.Needed.{GrowthIsNeeded}
 
 outer_body : (j : ℕ) → 0 < j → j ≤ 5 → (inner : List ℕ) × (grown_loops j ≡ inner ++ 0 ∷ [])
 outer_body (suc zero) from to = ([], refl)

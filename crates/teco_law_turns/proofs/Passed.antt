@@ -10,10 +10,16 @@ module _ (t : Table) (mark : ℕ → Mark) (nested : IsPassed t mark) where
   first l some = search arith
 
   -- one node further
-  further : (l j : ℕ) (m : Mark) (inner : List ℕ) → mark j ≡ m → suc j ≤ t.end l → t.end l < t.size → t.loops j ≡ inner ++ l ∷ t.loops l → (deeper : List ℕ) × (t.loops (suc j) ≡ deeper ++ l ∷ t.loops l)
-  further l j m inner is to within at = on m inner (nested.next j (omega arith) ∙ ap (λ m. onward m j (t.loops j)) is ∙ ap (onward m j) at) (subst (λ ls. EndsInnermost t m j ls) at (subst (λ m. EndsInnermost t m j (t.loops j)) is (nested.ends j (omega arith))))
+  further : (l j : ℕ) (m : Mark) (inner : List ℕ) → mark j ≡ m → suc j ≤ t.end l → t.end l < t.size
+      → t.loops j ≡ inner ++ l ∷ t.loops l → (deeper : List ℕ) × (t.loops (suc j) ≡ deeper ++ l ∷ t.loops l)
+  further l j m inner is to within at =
+      on m inner (nested.next j (omega arith) ∙ ap (λ m. onward m j (t.loops j)) is ∙ ap (onward m j) at)
+      (subst (λ ls. EndsInnermost t m j ls) at
+      (subst (λ m. EndsInnermost t m j (t.loops j)) is (nested.ends j (omega arith))))
     where
-      on : (m : Mark) (inner : List ℕ) → t.loops (suc j) ≡ onward m j (inner ++ l ∷ t.loops l) → EndsInnermost t m j (inner ++ l ∷ t.loops l) → (deeper : List ℕ) × (t.loops (suc j) ≡ deeper ++ l ∷ t.loops l)
+      on : (m : Mark) (inner : List ℕ) → t.loops (suc j) ≡ onward m j (inner ++ l ∷ t.loops l)
+          → EndsInnermost t m j (inner ++ l ∷ t.loops l)
+          → (deeper : List ℕ) × (t.loops (suc j) ≡ deeper ++ l ∷ t.loops l)
       on Begin inner e ends = (j ∷ inner, e)
       on Plain inner e ends = (inner, e)
       on End [] e ends = absurd (omega arith)
@@ -22,7 +28,8 @@ module _ (t : Table) (mark : ℕ → Mark) (nested : IsPassed t mark) where
   pub body : (l j : ℕ) → l < t.end l → l < j → j ≤ t.end l → (inner : List ℕ) × (t.loops j ≡ inner ++ l ∷ t.loops l)
   body l zero some from to = absurd (omega arith)
   body l (suc j) some from to =
-      let deeper : l < j → (inner : List ℕ) × (t.loops j ≡ inner ++ l ∷ t.loops l) = λ lt. body l j some lt (omega arith) in
+      let deeper : l < j → (inner : List ℕ) × (t.loops j ≡ inner ++ l ∷ t.loops l) =
+      λ lt. body l j some lt (omega arith) in
       ⊎_elim
       (λ (lt : l < j). let at = deeper lt in further l j (mark j) at.0 refl to (nested.begins l some).1 at.1)
       (λ (ge : j ≤ l). let e : j ≡ l = omega arith in ([], ap (λ i. t.loops (suc i)) e ∙ first l some))
@@ -38,8 +45,10 @@ module _ (t : Table) (mark : ℕ → Mark) (nested : IsPassed t mark) where
       let size = (nested.begins l some).1 in
       let open_at : l ≤ t.end m = (subst (AllByRecursion (λ o. l ≤ t.end o)) e (nested.within l (omega arith))).0 in
       let at = body l (suc (t.end m)) some (omega arith) over in
-      let each = subst (AllByRecursion (λ o. suc (t.end m) ≤ t.end o)) at.1 (nested.within (suc (t.end m)) (omega arith)) in
-      let outside = subst (AllByRecursion (λ o. suc (t.end m) ≤ t.end o)) e (all_behind (λ o. suc (t.end m) ≤ t.end o) at.0 (l ∷ t.loops l) each).1 in
+      let each = subst (AllByRecursion (λ o. suc (t.end m) ≤ t.end o)) at.1
+      (nested.within (suc (t.end m)) (omega arith)) in
+      let outside = subst (AllByRecursion (λ o. suc (t.end m) ≤ t.end o)) e
+      (all_behind (λ o. suc (t.end m) ≤ t.end o) at.0 (l ∷ t.loops l) each).1 in
       omega (arith, outside.0)
 
   pub inside : (l : ℕ) → l < t.end l → t.end l < behind t (t.loops l)
@@ -48,7 +57,8 @@ module _ (t : Table) (mark : ℕ → Mark) (nested : IsPassed t mark) where
       by_loops : (ls : List ℕ) → t.loops l ≡ ls → t.end l < behind t ls
       by_loops [] e = (nested.begins l some).1
       by_loops (m ∷ ls) e =
-          ⊎_elim (λ (lt : t.end m < t.end l). absurd (not_over l m ls some e lt)) (λ (ge : t.end l ≤ t.end m). omega arith) (cases_lt (t.end m) (t.end l))
+          ⊎_elim (λ (lt : t.end m < t.end l). absurd (not_over l m ls some e lt))
+          (λ (ge : t.end l ≤ t.end m). omega arith) (cases_lt (t.end m) (t.end l))
 
 pub nodes_nest : NodesNest
 nodes_nest t mark nested l some = record {

@@ -10,9 +10,12 @@ sum_below-front : (f : ℕ → ℕ) (n : ℕ) → sum_below f (suc n) ≡ f 0 + 
 sum_below-front f zero = omega arith
 sum_below-front f (suc n) = omega (arith, sum_below-front f n)
 
-sum_below-listed : {X : Type 0} (g : X → ℕ) (d : X) (xs : List X) → sum_below (λ i. g (get_or xs i d)) (length xs) ≡ sum_by g xs
+sum_below-listed : {X : Type 0} (g : X → ℕ) (d : X) (xs : List X)
+    → sum_below (λ i. g (get_or xs i d)) (length xs) ≡ sum_by g xs
 sum_below-listed g d [] = refl
-sum_below-listed g d (x ∷ xs) = sum_below-front (λ i. g (get_or (x ∷ xs) i d)) (length xs) ∙ ap (λ n. g x + n) (sum_below-listed g d xs) ∙ sym (sum_by-cons g x xs)
+sum_below-listed g d (x ∷ xs) = sum_below-front (λ i. g (get_or (x ∷ xs) i d)) (length xs)
+    ∙ ap (λ n. g x + n) (sum_below-listed g d xs) ∙ sym (sum_by-cons g x xs)
 
 pub commands_are_sum : CommandsAreSum
-commands_are_sum nodes = sum_below-listed (λ node. node.own * product_by (λ l. (node_at nodes l).turns) (loops_of node)) no_node nodes
+commands_are_sum nodes = sum_below-listed (λ node. node.own * product_by (λ l. (node_at nodes l).turns) (loops_of node))
+    no_node nodes

@@ -46,7 +46,8 @@ a_run =
     before stop 3 2 1 [] (λ i. omega arith)
 
 -- a move with the loop still open, and then the others
-on : {s new : State} (moves rest : ℕ) (move : Move worked s new) → 1 ≤ length new.opened → Repeats worked 1 moves new rest → Repeats worked 1 (suc moves) s (turns_begun 1 worked s new move + rest)
+on : {s new : State} (moves rest : ℕ) (move : Move worked s new) → 1 ≤ length new.opened
+    → Repeats worked 1 moves new rest → Repeats worked 1 (suc moves) s (turns_begun 1 worked s new move + rest)
 on {new = new} moves rest move within others = (new, move, rest, within, others, refl)
 
 one : 1 ≤ 1
@@ -59,5 +60,7 @@ worked_is_tight = record {
   eight = refl;
   takes = a_run.takes;
   enters = enters;
-  repeats = on 4 2 (Forward (goes 2)) one (on 3 1 (Back (again 1)) one (on 2 1 (Forward (goes 1)) one (on 1 0 (Back (again 0)) one (on 0 0 (Forward (goes 0)) one refl))));
+  repeats = on 4 2 (Forward (goes 2)) one
+      (on 3 1 (Back (again 1)) one (on 2 1 (Forward (goes 1)) one
+      (on 1 0 (Back (again 0)) one (on 0 0 (Forward (goes 0)) one refl))));
 }

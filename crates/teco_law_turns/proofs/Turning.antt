@@ -1,5 +1,6 @@
 -- Where runs come to, and how many turns of a loop they begin.
-use Rattle.std.proofs.Common.{◌≡◌, ℕ, zero, suc, ◌+◌, ◌<◌, ◌≤◌, Bool, true, false, List, [], ◌∷◌, ◌++◌, length, sym, ap, refl, ◌∙◌, subst, arith, length-append}
+use Rattle.std.proofs.Common.{◌≡◌, ℕ, zero, suc, ◌+◌, ◌<◌, ◌≤◌, Bool, true, false, List, [], ◌∷◌, ◌++◌, length, sym}
+use Rattle.std.proofs.Common.{ap, refl, ◌∙◌, subst, arith, length-append}
 use Rattle.std.proofs.lemmas.Bool.{ne_eqb}
 use Rattle.std.proofs.lemmas.List.{length-map}
 use Rattle.std.specs.Prelude.{◌==◌, if◌then◌else◌}
@@ -10,7 +11,8 @@ use Rattle.teco_law_turns.proofs.Left.{Turn}
 use Rattle.teco_law_turns.proofs.Runs.{Good, Onward, moves, covers, good_start}
 
 -- what is left of turns has one of them still, where it is as many
-keeps_turn : (gone vs inner outer : List Turn) (u : Turn) → gone ++ vs ≡ inner ++ u ∷ outer → length outer < length vs → (left : List Turn) × (vs ≡ left ++ u ∷ outer)
+keeps_turn : (gone vs inner outer : List Turn) (u : Turn) → gone ++ vs ≡ inner ++ u ∷ outer → length outer < length vs
+    → (left : List Turn) × (vs ≡ left ++ u ∷ outer)
 keeps_turn [] vs inner outer u e long = (inner, e)
 keeps_turn (x ∷ gone) vs [] outer u e long =
     let tails : gone ++ vs ≡ outer = (cc) in absurd (omega (arith, ap length tails, length-append gone vs))
@@ -34,14 +36,20 @@ module _ (t : Table) (closed : IsClosed t) where
       by_test true = omega arith
       by_test false = omega arith
 
-  begun_none : (depth : ℕ) (s new : State) (move : Returns t s new) → depth < length new.opened → turns_begun depth t s new (Back move) ≡ 0
+  begun_none : (depth : ℕ) (s new : State) (move : Returns t s new) → depth < length new.opened
+      → turns_begun depth t s new (Back move) ≡ 0
   begun_none depth s new move deeper =
-      let other : (length new.opened == depth) ≡ false = ne_eqb (length new.opened) depth (λ e. omega arith) in rw other refl
+      let other : (length new.opened == depth) ≡ false = ne_eqb (length new.opened) depth (λ e. omega arith) in
+      rw other refl
 
   -- a move begins no more turns of a loop that stays open than it takes from those that may come
-  one_move : (depth n rest : ℕ) (s new : State) (us inner outer : List Turn) (u : Turn) (move : Move t s new) → Onward t s us new move → us ≡ inner ++ u ∷ outer → depth ≡ suc (length outer) → depth ≤ length new.opened → n ≡ turns_begun depth t s new move + rest → ((vs left : List Turn) (v : Turn) → Good t new vs → vs ≡ left ++ v ∷ outer → rest ≤ v.rest) → n ≤ u.rest
+  one_move : (depth n rest : ℕ) (s new : State) (us inner outer : List Turn) (u : Turn) (move : Move t s new)
+      → Onward t s us new move → us ≡ inner ++ u ∷ outer → depth ≡ suc (length outer) → depth ≤ length new.opened
+      → n ≡ turns_begun depth t s new move + rest
+      → ((vs left : List Turn) (v : Turn) → Good t new vs → vs ≡ left ++ v ∷ outer → rest ≤ v.rest) → n ≤ u.rest
   one_move depth n rest s new us inner outer u (Forward go) onward is deep stays e later =
-      let kept = keeps_turn onward.3.0 onward.0 inner outer u (sym onward.3.1 ∙ is) (omega (arith, opened_length new onward.0 onward.1)) in
+      let kept = keeps_turn onward.3.0 onward.0 inner outer u (sym onward.3.1 ∙ is)
+      (omega (arith, opened_length new onward.0 onward.1)) in
       omega (arith, e, later onward.0 kept.0 u onward.1 kept.1)
   one_move depth n rest s new us inner outer u (Into enter) onward is deep stays e later =
       omega (arith, e, later onward.0 (onward.3.0 ∷ inner) u onward.1 (onward.3.1 ∙ ap (λ vs. onward.3.0 ∷ vs) is))
@@ -55,12 +63,19 @@ module _ (t : Table) (closed : IsClosed t) where
       let tails : onward.3.2 ≡ inner ++ u ∷ outer = tail (sym onward.3.3 ∙ is) in
       let long = opened_length new onward.0 onward.1 ∙ ap length (onward.3.4 ∙ ap (λ vs. onward.3.1 ∷ vs) tails) in
       let none = begun_none depth s new return (omega (arith, long, length-append inner (u ∷ outer))) in
-      omega (arith, e, none, later onward.0 (onward.3.1 ∷ inner) u onward.1 (onward.3.4 ∙ ap (λ vs. onward.3.1 ∷ vs) tails))
+      omega (
+        arith,
+        e,
+        none,
+        later onward.0 (onward.3.1 ∷ inner) u onward.1
+            (onward.3.4 ∙ ap (λ vs. onward.3.1 ∷ vs) tails),
+      )
     where
       tail : {a b : Turn} {r q : List Turn} → a ∷ r ≡ b ∷ q → r ≡ q
       tail h = cc
 
-  repeats : (depth m n : ℕ) (s : State) (us inner outer : List Turn) (u : Turn) → Good t s us → us ≡ inner ++ u ∷ outer → depth ≡ suc (length outer) → Repeats t depth m s n → n ≤ u.rest
+  repeats : (depth m n : ℕ) (s : State) (us inner outer : List Turn) (u : Turn) → Good t s us → us ≡ inner ++ u ∷ outer
+      → depth ≡ suc (length outer) → Repeats t depth m s n → n ≤ u.rest
   repeats depth zero n s us inner outer u good is deep none = omega (arith, none)
   repeats depth (suc m) n s us inner outer u good is deep run =
       one_move depth n run.2 s run.0 us inner outer u run.1 (moves t closed s run.0 us run.1 good) is deep run.3 run.5
@@ -75,4 +90,9 @@ turns_are_bounded t start s new before m n closed is_start lead enter repeated =
     let there = leads t closed before start s [] (good_start t start is_start) lead in
     let onward = moves t closed s new there.0 (Into enter) there.1 in
     let deep = opened_length t closed new onward.0 onward.1 ∙ ap length onward.3.1 in
-    omega (arith, onward.3.2, repeats t closed (length new.opened) m n new onward.0 [] there.0 onward.3.0 onward.1 onward.3.1 deep repeated)
+    omega (
+      arith,
+      onward.3.2,
+      repeats t closed (length new.opened) m n new onward.0 [] there.0 onward.3.0 onward.1
+          onward.3.1 deep repeated,
+    )

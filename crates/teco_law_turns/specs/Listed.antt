@@ -1,5 +1,6 @@
 -- A table that is a list of nodes.
-use Rattle.std.specs.Prelude.{false, Bool, ◌≡◌, ℕ, ◌*◌, ◌==◌, if◌then◌else◌, List, [], ◌∷◌, length, map, slice_index_or, ℤ, Option, None}
+use Rattle.std.specs.Prelude.{false, Bool, ◌≡◌, ℕ, ◌*◌, ◌==◌, if◌then◌else◌, List, [], ◌∷◌, length, map}
+use Rattle.std.specs.Prelude.{slice_index_or, ℤ, Option, None}
 use Rattle.std.specs.List.{sum_by}
 use Rattle.teco_law_turns.specs.Table.{Table, product_by, commands}
 

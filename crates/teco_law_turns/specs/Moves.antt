@@ -1,5 +1,6 @@
 -- States at the nodes of a table, the three moves between them, and the steps that a run takes.
-use Rattle.std.specs.Prelude.{true, ◌≡◌, ℕ, zero, suc, ◌+◌, ◌<◌, ◌≤◌, nat_lt, if◌then◌else◌, ℤ, pos, ◌+ℤ◌, ◌≤ℤ◌, List, [], ◌∷◌, Option, Some, None, MatchOption, ⊤}
+use Rattle.std.specs.Prelude.{true, ◌≡◌, ℕ, zero, suc, ◌+◌, ◌<◌, ◌≤◌, nat_lt, if◌then◌else◌, ℤ, pos, ◌+ℤ◌, ◌≤ℤ◌, List}
+use Rattle.std.specs.Prelude.{[], ◌∷◌, Option, Some, None, MatchOption, ⊤}
 use Rattle.std.specs.List.{AllByRecursion}
 use Rattle.teco_law_turns.specs.Table.{Table, IsAtLeast, IsClosed, commands}
 

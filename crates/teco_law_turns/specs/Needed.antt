@@ -1,5 +1,6 @@
 -- Why a closed table says what it says: two tables that lack one thing each, and runs past what is printed of them.
-use Rattle.std.specs.Prelude.{true, ◌≡◌, ℕ, zero, suc, ◌+◌, ◌-◌, ◌*◌, ◌<◌, ◌≤◌, ℤ, pos, negsuc, List, [], ◌∷◌, Option, Some, None, ◌⊎◌}
+use Rattle.std.specs.Prelude.{true, ◌≡◌, ℕ, zero, suc, ◌+◌, ◌-◌, ◌*◌, ◌<◌, ◌≤◌, ℤ, pos, negsuc, List, [], ◌∷◌, Option}
+use Rattle.std.specs.Prelude.{Some, None, ◌⊎◌}
 use Rattle.std.specs.List.{AllByRecursion}
 use Rattle.teco_law_turns.specs.Table.{Table, IsNested, IsKept, IsLost, commands}
 use Rattle.teco_law_turns.specs.Moves.{State, IsStart, RunTakes}

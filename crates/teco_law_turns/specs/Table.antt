@@ -1,5 +1,6 @@
 -- A table over the nodes of an expanded program at one N, and the number of steps that is printed of it.
-use Rattle.std.specs.Prelude.{◌≡◌, ℕ, zero, suc, ◌+◌, ◌-◌, ◌*◌, ◌<◌, ◌≤◌, Bool, ℤ, pos, ◌+ℤ◌, ◌≤ℤ◌, List, [], ◌∷◌, ◌++◌, Option, Some, None, MatchOption, ◌⊎◌, ⊤}
+use Rattle.std.specs.Prelude.{◌≡◌, ℕ, zero, suc, ◌+◌, ◌-◌, ◌*◌, ◌<◌, ◌≤◌, Bool, ℤ, pos, ◌+ℤ◌, ◌≤ℤ◌, List, [], ◌∷◌}
+use Rattle.std.specs.Prelude.{◌++◌, Option, Some, None, MatchOption, ◌⊎◌, ⊤}
 use Rattle.std.specs.List.{AllByRecursion}
 
 -- The nodes are 0, 1 and so on, below the size; a loop goes by the number of its begin node. What is held is the buffer

@@ -9,7 +9,8 @@ unfolding blank_len
 blank_len-blank b [] h = rw (h, blank_len) refl
 blank_len-blank b (c ∷ rest) h = rw (h, blank_len) refl
 
-blank_len-pair : (b c : ℕ) (rest : List ℕ) → is_blank b ≡ false → is_blank_pair b c ≡ true → blank_len (b ∷ c ∷ rest) ≡ 2 + blank_len rest
+blank_len-pair : (b c : ℕ) (rest : List ℕ) → is_blank b ≡ false → is_blank_pair b c ≡ true
+    → blank_len (b ∷ c ∷ rest) ≡ 2 + blank_len rest
 unfolding blank_len
 blank_len-pair b c rest h p = rw (h, p, blank_len) refl
 
@@ -19,12 +20,14 @@ unfolding blank_len
 no_blank_at_end [] h = refl
 no_blank_at_end (b ∷ bytes) h = absurd (omega arith)
 
-pub no_blank_last : (bytes rest : List ℕ) (b : ℕ) → bytes ≡ b ∷ rest → is_blank b ≡ false → length rest ≡ 0 → blank_len bytes ≡ 0
+pub no_blank_last : (bytes rest : List ℕ) (b : ℕ) → bytes ≡ b ∷ rest → is_blank b ≡ false → length rest ≡ 0
+    → blank_len bytes ≡ 0
 unfolding blank_len
 no_blank_last bytes [] b e h l = rw (e, h, blank_len) refl
 no_blank_last bytes (c ∷ rest) b e h l = absurd (omega arith)
 
-pub no_pair : (bytes rest behind : List ℕ) (b c : ℕ) → bytes ≡ b ∷ rest → rest ≡ c ∷ behind → is_blank b ≡ false → is_blank_pair b c ≡ false → blank_len bytes ≡ 0
+pub no_pair : (bytes rest behind : List ℕ) (b c : ℕ) → bytes ≡ b ∷ rest → rest ≡ c ∷ behind → is_blank b ≡ false
+    → is_blank_pair b c ≡ false → blank_len bytes ≡ 0
 unfolding blank_len
 no_pair bytes rest behind b c e f h p = rw (e, f, h, p, blank_len) refl
 
@@ -34,7 +37,8 @@ skips_blank bytes rest b e h = record {
   shorter = omega (arith, ap length e);
 }
 
-pub skips_pair : (bytes rest behind : List ℕ) (b c : ℕ) → bytes ≡ b ∷ rest → rest ≡ c ∷ behind → is_blank b ≡ false → is_blank_pair b c ≡ true → SkipsBlank bytes behind
+pub skips_pair : (bytes rest behind : List ℕ) (b c : ℕ) → bytes ≡ b ∷ rest → rest ≡ c ∷ behind → is_blank b ≡ false
+    → is_blank_pair b c ≡ true → SkipsBlank bytes behind
 skips_pair bytes rest behind b c e f h p = let whole : bytes ≡ b ∷ c ∷ behind = cc in record {
   blank = omega (arith, ap blank_len whole, ap length whole, blank_len-pair b c behind h p);
   shorter = omega (arith, ap length whole);

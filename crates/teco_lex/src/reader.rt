@@ -1,5 +1,6 @@
 //! The element at a place of a text.
-ghost use Rattle.std.specs.Prelude.{◌≡◌, ◌<◌, ◌≤◌, Ok, take, drop, length, nat_le, option_map, MatchResult, MatchOption, IfOk, IfSome, ◌+◌};
+ghost use Rattle.std.specs.Prelude.{◌≡◌, ◌<◌, ◌≤◌, Ok, take, drop, length, nat_le, option_map, MatchResult};
+ghost use Rattle.std.specs.Prelude.{MatchOption, IfOk, IfSome, ◌+◌};
 ghost use Rattle.std.specs.List.{prefix_len};
 ghost use Rattle.teco_model.specs.Element as model;
 ghost use Rattle.teco_model.specs.Element.{seen};

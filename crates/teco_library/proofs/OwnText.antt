@@ -23,7 +23,8 @@ pub record HasItsText (file : List ℕ) (e : Element) : Type 0 where
   pub within : e.next ≤ length file
   pub stands : part_of file (span_of e) ≡ e.text
 
-pub has_its_text : (file : List ℕ) (at q : ℕ) (e : Element) → reading_at file at ≡ Some (Whole e) → register_set e.kind ≡ Some q → HasItsText file e
+pub has_its_text : (file : List ℕ) (at q : ℕ) (e : Element) → reading_at file at ≡ Some (Whole e)
+    → register_set e.kind ≡ Some q → HasItsText file e
 has_its_text file at q e h set =
     let r = reading_read file at e h in
     let text : StandsIn file (blank_end file at) e.text (e.next - 1) = rw (ended e.kind q set) at r.text in

@@ -1,6 +1,7 @@
 -- A library: a text whose elements are comments, ESC and ^U without a colon, which set the text of each register at
 -- most once. A comment at its first place may declare the argument of a register.
-use Rattle.std.specs.Prelude.{◌≡◌, ℕ, ◌<◌, ◌≤◌, List, [], ◌∷◌, ◌++◌, map, count_by, find, Bool, true, false, ◌==◌, ◌&&◌, Option, Some, None, option_map, option_and_then}
+use Rattle.std.specs.Prelude.{◌≡◌, ℕ, ◌<◌, ◌≤◌, List, [], ◌∷◌, ◌++◌, map, count_by, find, Bool, true, false, ◌==◌}
+use Rattle.std.specs.Prelude.{◌&&◌, Option, Some, None, option_map, option_and_then}
 use Rattle.std.specs.List.{AllPass, range_with_len}
 use Rattle.std.specs.Option.{option_map_or}
 use Rattle.teco_base.specs.declared.TheConstants.{REGISTERS}

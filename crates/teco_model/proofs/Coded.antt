@@ -1,5 +1,6 @@
 -- The codes of reading, of arguments and of search texts.
-use Rattle.std.proofs.Common.{ℕ, zero, suc, ◌+◌, ℤ, pos, negsuc, List, [], ◌∷◌, drop, take, Bool, true, false, if◌then◌else◌, Option, Some, None, Result, Ok, Err}
+use Rattle.std.proofs.Common.{ℕ, zero, suc, ◌+◌, ℤ, pos, negsuc, List, [], ◌∷◌, drop, take, Bool, true, false}
+use Rattle.std.proofs.Common.{if◌then◌else◌, Option, Some, None, Result, Ok, Err}
 use Rattle.std.specs.Option.{ok_or}
 use Rattle.teco_base.specs.declared.code.Code.{Code}
 use Rattle.teco_base.specs.declared.code.Code.TheVariants as code
@@ -26,7 +27,8 @@ abbrev pub Coded : {X : Type 0} → Result X Code → Type 0
 Coded (Ok x) = Unit {0}
 Coded (Err c) = IsOfStep c
 
-pub after : {X Y : Type 0} (r : Result X Code) (f : X → Result Y Code) → Coded r → ((x : X) → Coded (f x)) → Coded (r >>= f)
+pub after : {X Y : Type 0} (r : Result X Code) (f : X → Result Y Code) → Coded r → ((x : X) → Coded (f x))
+    → Coded (r >>= f)
 after (Ok x) f h k = k x
 after (Err c) f h k = h
 
@@ -69,7 +71,8 @@ ending true byte (delimiter ∷ rest) = tt
 text_up_to : (byte : ℕ) (bytes : List ℕ) → Coded (element.text_up_to byte bytes)
 text_up_to byte bytes = found _
   where
-    found : (o : Option ℕ) → Coded {X = List ℕ × List ℕ} (elim o [ None ↦ Err code.Utc | Some n ↦ Ok (take n bytes, drop (n + 1) bytes) ])
+    found : (o : Option ℕ) → Coded {X = List ℕ × List ℕ}
+        (elim o [ None ↦ Err code.Utc | Some n ↦ Ok (take n bytes, drop (n + 1) bytes) ])
     found None = tt
     found (Some n) = tt
 
@@ -87,7 +90,8 @@ pub element_at : (text : List ℕ) (place : ℕ) → Coded (element.element_at t
 unfolding element.element_at
 element_at text place = by _ _ (element_from text _)
   where
-    by : (b : Bool) (r : Result Element Code) → Coded r → Coded {X = Option Element} (elim b [ true ↦ Ok None | false ↦ r >>= (λ e. Ok (Some e)) ])
+    by : (b : Bool) (r : Result Element Code) → Coded r
+        → Coded {X = Option Element} (elim b [ true ↦ Ok None | false ↦ r >>= (λ e. Ok (Some e)) ])
     by true r h = tt
     by false r h = after r _ h (λ e. tt)
 
@@ -129,7 +133,8 @@ pub level_after_comma : (level : Level) → Coded (arguments.level_after_comma l
 level_after_comma level = search (after, no_first, value_at_end, first_value)
 
 pub level_with_pair : (x y : ℤ) (level : Level) → Coded (arguments.level_with_pair x y level)
-level_with_pair x y level = after _ _ (level_with x level) (λ first. after _ _ (level_after_comma first) (λ parted. level_with y parted))
+level_with_pair x y level = after _ _ (level_with x level)
+    (λ first. after _ _ (level_after_comma first) (λ parted. level_with y parted))
 
 pub with_level : (a : Arguments) (r : Result Level Code) → Coded r → Coded (arguments.with_level a r)
 with_level a r h = after r _ h (λ level. tt)
@@ -137,7 +142,9 @@ with_level a r h = after r _ h (λ level. tt)
 closed_onto : (level : Level) (outer : List Level) → Coded (arguments.levels_closed_onto level outer)
 closed_onto level [] = tt
 closed_onto level (outside ∷ outer) =
-    after _ _ (after _ _ (no_first level.first) (λ alone. after _ _ (value_at_end level.value level.operator) (λ value. some value code.Arg tt))) (λ value. after _ _ (level_with value outside) (λ given. tt))
+    after _ _ (after _ _ (no_first level.first)
+    (λ alone. after _ _ (value_at_end level.value level.operator) (λ value. some value code.Arg tt)))
+    (λ value. after _ _ (level_with value outside) (λ given. tt))
 
 pub levels_after_close : (a : Arguments) → Coded (arguments.levels_after_close a)
 levels_after_close a = closed_onto a.level a.outer
@@ -193,8 +200,10 @@ parts_within : (most : ℕ) (text : List ℕ) → Coded (pattern.parts_within mo
 unfolding pattern.parts_within
 parts_within zero text = tt
 parts_within (suc most) [] = tt
-parts_within (suc most) (b ∷ text) = after _ _ (part_at (b ∷ text)) (λ first. after _ _ (parts_within most first.1) (λ others. tt))
+parts_within (suc most) (b ∷ text) =
+    after _ _ (part_at (b ∷ text)) (λ first. after _ _ (parts_within most first.1) (λ others. tt))
 
-pub pattern_coded : (registers : Registers) (exact : Bool) (text : List ℕ) → Coded (pattern.pattern registers exact text)
+pub pattern_coded : (registers : Registers) (exact : Bool) (text : List ℕ)
+    → Coded (pattern.pattern registers exact text)
 unfolding pattern.parts
 pattern_coded registers exact text = after _ _ (parts_within _ text) (λ ps. tt)

@@ -12,5 +12,6 @@ use Rattle.teco_model.specs.Run.{run}
 use Rattle.teco_model.specs.rows.Sessions.{WorkedRows}
 
 pub worked_rows : WorkedRows
-unfolding digits int_wrap empty_pairs blank_len element_from element_at letters reading_at first_readings readings here part_at parts_within parts reply_of step run
+unfolding digits int_wrap empty_pairs blank_len element_from element_at letters reading_at first_readings readings here
+    part_at parts_within parts reply_of step run
 worked_rows = search rules

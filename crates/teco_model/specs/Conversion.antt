@@ -1,5 +1,6 @@
 -- The number at the pointer.
-use Rattle.std.specs.Prelude.{ℕ, ℤ, pos, ◌+◌, List, [], ◌∷◌, codes, take, drop, length, if◌then◌else◌, Bool, true, false}
+use Rattle.std.specs.Prelude.{ℕ, ℤ, pos, ◌+◌, List, [], ◌∷◌, codes, take, drop, length, if◌then◌else◌, Bool, true}
+use Rattle.std.specs.Prelude.{false}
 use Rattle.std.specs.List.{prefix_len}
 use Rattle.teco_base.specs.Arithmetic.{sub}
 use Rattle.teco_base.specs.Bytes.{is_digit, is_among}

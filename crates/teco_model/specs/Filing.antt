@@ -1,5 +1,6 @@
 -- The commands of files: ER, EW, EF, EK, EC, EX.
-use Rattle.std.specs.Prelude.{ℕ, List, [], ◌∷◌, ◌++◌, bytes_eq, Option, Some, None, Result, Ok, Err, option_map, if◌then◌else◌}
+use Rattle.std.specs.Prelude.{ℕ, List, [], ◌∷◌, ◌++◌, bytes_eq, Option, Some, None, Result, Ok, Err, option_map}
+use Rattle.std.specs.Prelude.{if◌then◌else◌}
 use Rattle.teco_base.specs.declared.code.Code.{Code}
 use Rattle.teco_base.specs.declared.code.Code.TheVariants as code
 use Rattle.teco_model.specs.Checked.{◌>>=◌}

@@ -1,5 +1,6 @@
 -- Libraries of macros, how one of them is called, and what a call may need.
-use Rattle.std.specs.Prelude.{◌≡◌, ℕ, ◌<◌, ◌≤◌, ◌^◌, ⊤, List, [], ◌∷◌, Option, Some, None, Bool, ◌&&◌, nat_le, nat_lt, is_some, slice_index_or}
+use Rattle.std.specs.Prelude.{◌≡◌, ℕ, ◌<◌, ◌≤◌, ◌^◌, ⊤, List, [], ◌∷◌, Option, Some, None, Bool, ◌&&◌, nat_le, nat_lt}
+use Rattle.std.specs.Prelude.{is_some, slice_index_or}
 use Rattle.teco_base.specs.Register.{register_name}
 use Rattle.teco_model.specs.State.{Kept}
 use Rattle.teco_model.specs.Storage.{text_in}

@@ -1,5 +1,6 @@
 -- Where a pattern is found.
-use Rattle.std.specs.Prelude.{ℕ, zero, suc, ◌+◌, ◌-◌, List, [], ◌∷◌, length, drop, Option, Some, None, option_map, option_and_then, Bool, true, not, ◌==◌, ◌||◌, if◌then◌else◌}
+use Rattle.std.specs.Prelude.{ℕ, zero, suc, ◌+◌, ◌-◌, List, [], ◌∷◌, length, drop, Option, Some, None, option_map}
+use Rattle.std.specs.Prelude.{option_and_then, Bool, true, not, ◌==◌, ◌||◌, if◌then◌else◌}
 use Rattle.std.specs.Option.{option_or}
 use Rattle.teco_base.specs.Bytes.{to_upper, is_letter, is_digit, is_letter_or_digit, is_lower, is_upper, is_line_end}
 use Rattle.teco_model.specs.Pattern.{Pattern}

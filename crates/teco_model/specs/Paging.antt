@@ -1,5 +1,6 @@
 -- Pages: Y and A read them into the buffer, P and PW write it, and N and FN look on from page to page.
-use Rattle.std.specs.Prelude.{ℕ, zero, suc, ℤ, pos, ◌-◌, List, [], ◌∷◌, ◌++◌, length, Option, Some, None, Result, Ok, Err, option_map, nat_le, if◌then◌else◌, unwrap_or}
+use Rattle.std.specs.Prelude.{ℕ, zero, suc, ℤ, pos, ◌-◌, List, [], ◌∷◌, ◌++◌, length, Option, Some, None, Result, Ok}
+use Rattle.std.specs.Prelude.{Err, option_map, nat_le, if◌then◌else◌, unwrap_or}
 use Rattle.std.specs.Option.{ok_or, option_map_or}
 use Rattle.teco_base.specs.declared.TheConstants.{LIMIT}
 use Rattle.teco_base.specs.declared.bytes.TheConstants.{FF}

@@ -1,5 +1,6 @@
 -- What a search text says. It is read from the left, and the fault that is met first is the code.
-use Rattle.std.specs.Prelude.{ℕ, zero, suc, ◌+◌, List, [], ◌∷◌, length, map, flat_map, fold, Option, Some, None, Result, Ok, Err, ok_or, option_map, Bool, not, ◌==◌, ◌&&◌, if◌then◌else◌}
+use Rattle.std.specs.Prelude.{ℕ, zero, suc, ◌+◌, List, [], ◌∷◌, length, map, flat_map, fold, Option, Some, None}
+use Rattle.std.specs.Prelude.{Result, Ok, Err, ok_or, option_map, Bool, not, ◌==◌, ◌&&◌, if◌then◌else◌}
 use Rattle.teco_base.specs.declared.code.Code.{Code}
 use Rattle.teco_base.specs.declared.code.Code.TheVariants as code
 use Rattle.teco_base.specs.Bytes.{to_upper, is_letter, control}

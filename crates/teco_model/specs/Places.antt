@@ -1,5 +1,6 @@
 -- Places and parts of the buffer, named by numbers.
-use Rattle.std.specs.Prelude.{ℕ, ℤ, pos, negsuc, List, length, min, max, Option, Some, None, Result, Ok, unwrap_or, nat_le, if◌then◌else◌}
+use Rattle.std.specs.Prelude.{ℕ, ℤ, pos, negsuc, List, length, min, max, Option, Some, None, Result, Ok, unwrap_or}
+use Rattle.std.specs.Prelude.{nat_le, if◌then◌else◌}
 use Rattle.std.specs.Option.{ok_or}
 use Rattle.teco_base.specs.declared.code.Code.{Code}
 use Rattle.teco_base.specs.declared.code.Code.TheVariants as code

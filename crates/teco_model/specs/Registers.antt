@@ -1,5 +1,6 @@
 -- The registers: 36 pairs of a number and a text, by their places, and the push-down list of such pairs.
-use Rattle.std.specs.Prelude.{◌≡◌, ℕ, ℤ, ◌+◌, ◌≤◌, pos, List, [], ◌∷◌, length, map, zip, replicate, sum_by, All, slice_set, slice_index_or, Option, Some, None}
+use Rattle.std.specs.Prelude.{◌≡◌, ℕ, ℤ, ◌+◌, ◌≤◌, pos, List, [], ◌∷◌, length, map, zip, replicate, sum_by, All}
+use Rattle.std.specs.Prelude.{slice_set, slice_index_or, Option, Some, None}
 use Rattle.teco_base.specs.declared.TheConstants.{LIMIT, REGISTERS}
 
 -- what a register holds

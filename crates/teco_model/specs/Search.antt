@@ -1,5 +1,6 @@
 -- S and FS look for a text in the buffer.
-use Rattle.std.specs.Prelude.{ℕ, ℤ, suc, pos, negsuc, ◌+◌, ◌-◌, List, [], ◌∷◌, length, not, Option, Some, None, Result, Ok, Err, nat_le, if◌then◌else◌, unwrap_or}
+use Rattle.std.specs.Prelude.{ℕ, ℤ, suc, pos, negsuc, ◌+◌, ◌-◌, List, [], ◌∷◌, length, not, Option, Some, None}
+use Rattle.std.specs.Prelude.{Result, Ok, Err, nat_le, if◌then◌else◌, unwrap_or}
 use Rattle.teco_base.specs.declared.TheConstants.{LIMIT}
 use Rattle.teco_base.specs.declared.code.Code.{Code}
 use Rattle.teco_base.specs.declared.code.Code.TheVariants as code

@@ -1,6 +1,7 @@
 //! Laws of matches and searches.
 ghost use Rattle.teco_model.specs.rows.Matches.{MatchRows};
-ghost use Rattle.teco_model.specs.laws.Matching.{OneEnd, HereFinds, FirstFinds, LastFinds, ForwardFinds, BackwardFinds, NoneIsShorter};
+ghost use Rattle.teco_model.specs.laws.Matching.{OneEnd, HereFinds, FirstFinds, LastFinds, ForwardFinds};
+ghost use Rattle.teco_model.specs.laws.Matching.{BackwardFinds, NoneIsShorter};
 
 /// A start has at most one end.
 pub fn one_end()

@@ -1,12 +1,14 @@
 -- Notes that can be are fitted by some files.
-use Rattle.std.proofs.Common.{◌≡◌, ℕ, List, [], ◌∷◌, ◌++◌, Bool, true, false, Option, Some, None, option_map, refl, sym, ap, subst, ◌∙◌}
+use Rattle.std.proofs.Common.{◌≡◌, ℕ, List, [], ◌∷◌, ◌++◌, Bool, true, false, Option, Some, None, option_map, refl}
+use Rattle.std.proofs.Common.{sym, ap, subst, ◌∙◌}
 use Rattle.std.proofs.lemmas.Bool.{true≢false}
 use Rattle.std.specs.Prelude.{⊤, IfSome, ◌≢◌}
 use Rattle.std.specs.List.{AllByRecursion}
 use Rattle.teco_model.specs.Files.{File, Output, output_of, file_named, with_file, with_closed, with_written}
 use Rattle.teco_model.specs.laws.Whole.{AreBytes}
 use Rattle.teco_pages.specs.Changes.{HostFiles, after_opening, after_writing, after_closing, after_dropping}
-use Rattle.teco_pages.specs.Events.{Event, Happened, IsOfBytes, opened_input, gave, ended, opened_output, wrote, closed, dropped, measured}
+use Rattle.teco_pages.specs.Events.{Event, Happened, IsOfBytes, opened_input, gave, ended, opened_output, wrote}
+use Rattle.teco_pages.specs.Events.{closed, dropped, measured}
 use Rattle.teco_pages.specs.Noting.{EndsAtEnd}
 use Rattle.teco_pages.specs.Possible.{GivesMeasured, IsUnopened, NotesFit, OpensAnew, given_next}
 use Rattle.teco_pages.proofs.Bytes.{bytes_joined}
@@ -36,9 +38,11 @@ Have named (closed ∷ events) = Have named events
 Have named (dropped ∷ events) = Have named events
 Have named (measured most ∷ events) = Have named events
 
-have-before : (file : File) (named : List File) (events : List Event) → IsUnopened file.name events → Have named events → Have (file ∷ named) events
+have-before : (file : File) (named : List File) (events : List Event) → IsUnopened file.name events → Have named events
+    → Have (file ∷ named) events
 have-before file named [] u h = tt
-have-before file named (opened_input name ∷ events) u h = (named-before file name named u.0 ∙ h.0, have-before file named events u.1 h.1)
+have-before file named (opened_input name ∷ events) u h =
+    (named-before file name named u.0 ∙ h.0, have-before file named events u.1 h.1)
 have-before file named (gave bytes ∷ events) u h = have-before file named events u h
 have-before file named (ended ∷ events) u h = have-before file named events u h
 have-before file named (opened_output name ∷ events) u h = have-before file named events u h
@@ -50,8 +54,10 @@ have-before file named (measured most ∷ events) u h = have-before file named e
 have-inputs : (events : List Event) → OpensAnew events → Have (inputs events) events
 have-inputs [] a = tt
 have-inputs (opened_input name ∷ events) a =
-    let file : File = record { name = name; bytes = given_next events } in
-    (named-first name (given_next events) (inputs events), have-before file (inputs events) events a.0 (have-inputs events a.1))
+    let file : File = record { name = name; bytes = given_next events } in (
+      named-first name (given_next events) (inputs events),
+      have-before file (inputs events) events a.0 (have-inputs events a.1),
+    )
 have-inputs (gave bytes ∷ events) a = have-inputs events a
 have-inputs (ended ∷ events) a = have-inputs events a
 have-inputs (opened_output name ∷ events) a = have-inputs events a.1
@@ -60,9 +66,11 @@ have-inputs (closed ∷ events) a = have-inputs events a
 have-inputs (dropped ∷ events) a = have-inputs events a
 have-inputs (measured most ∷ events) a = have-inputs events a
 
-have-put : (name bytes : List ℕ) (named : List File) (events : List Event) → IsUnopened name events → Have named events → Have (with_file name bytes named) events
+have-put : (name bytes : List ℕ) (named : List File) (events : List Event) → IsUnopened name events → Have named events
+    → Have (with_file name bytes named) events
 have-put name bytes named [] u h = tt
-have-put name bytes named (opened_input wanted ∷ events) u h = (named-put name bytes wanted named u.0 ∙ h.0, have-put name bytes named events u.1 h.1)
+have-put name bytes named (opened_input wanted ∷ events) u h =
+    (named-put name bytes wanted named u.0 ∙ h.0, have-put name bytes named events u.1 h.1)
 have-put name bytes named (gave b ∷ events) u h = have-put name bytes named events u h
 have-put name bytes named (ended ∷ events) u h = have-put name bytes named events u h
 have-put name bytes named (opened_output n ∷ events) u h = have-put name bytes named events u h
@@ -75,15 +83,18 @@ have-put name bytes named (measured most ∷ events) u h = have-put name bytes n
 abbrev Away : Option Output → List Event → Type 0
 Away o events = IfSome o (λ (output : Output). IsUnopened output.name events)
 
-have-closed : (o : Option Output) (named : List File) (events : List Event) → Away o events → Have named events → Have (with_closed o named) events
+have-closed : (o : Option Output) (named : List File) (events : List Event) → Away o events → Have named events
+    → Have (with_closed o named) events
 have-closed None named events u h = h
 have-closed (Some output) named events u h = have-put output.name output.written named events u h
 
-away-writing : (bytes : List ℕ) (o : Option Output) (events : List Event) → Away o events → Away (with_written bytes o) events
+away-writing : (bytes : List ℕ) (o : Option Output) (events : List Event) → Away o events
+    → Away (with_written bytes o) events
 away-writing bytes None events u = tt
 away-writing bytes (Some output) events u = u
 
-away-on : (name : List ℕ) (o : Option Output) (events : List Event) → Away o (opened_input name ∷ events) → Away o events
+away-on : (name : List ℕ) (o : Option Output) (events : List Event) → Away o (opened_input name ∷ events)
+    → Away o events
 away-on name None events u = tt
 away-on name (Some output) events u = u.1
 
@@ -109,11 +120,13 @@ record AreReady (files : HostFiles) (events : List Event) : Type 0 where
 abbrev read-on : (files : HostFiles) (bytes : List ℕ) → HostFiles
 read-on files bytes = record files { unread = bytes }
 
-happen : (events : List Event) (end end' : Bool) (files : HostFiles) → EndsAtEnd end events end' → GivesMeasured events → OpensAnew events → AreReady files events → (left : HostFiles) × Happened events files left
+happen : (events : List Event) (end end' : Bool) (files : HostFiles) → EndsAtEnd end events end' → GivesMeasured events
+    → OpensAnew events → AreReady files events → (left : HostFiles) × Happened events files left
 happen [] end end' files o m a r = (files, refl)
 happen (opened_input name ∷ events) end end' files o m a r =
     let mid = read-on files (given_next events) in
-    let ready : AreReady mid events = record { unread = refl; named = r.named.1; output = away-on name files.output events r.output } in
+    let ready : AreReady mid events =
+    record { unread = refl; named = r.named.1; output = away-on name files.output events r.output } in
     let on = happen events false end' mid o m a.1 ready in
     (on.0, (mid, (r.named.0, refl), on.1))
 happen (gave bytes ∷ events) end end' files o m a r =
@@ -132,12 +145,18 @@ happen (opened_output name ∷ events) end end' files o m a r =
     (on.0, (mid, refl, on.1))
 happen (wrote bytes ∷ events) end end' files o m a r =
     let mid = after_writing bytes files in
-    let ready : AreReady mid events = record { unread = r.unread; named = r.named; output = away-writing bytes files.output events r.output } in
+    let ready : AreReady mid events =
+    record { unread = r.unread; named = r.named; output = away-writing bytes files.output events r.output } in
     let on = happen events end end' mid o m a ready in
     (on.0, (mid, refl, on.1))
 happen (closed ∷ events) end end' files o m a r =
     let mid = after_closing files in
-    let ready : AreReady mid events = record { unread = r.unread; named = have-closed files.output files.named events r.output r.named; output = tt } in
+    let ready : AreReady mid events =
+    record {
+      unread = r.unread;
+      named = have-closed files.output files.named events r.output r.named;
+      output = tt;
+    } in
     let on = happen events end end' mid o m a ready in
     (on.0, (mid, refl, on.1))
 happen (dropped ∷ events) end end' files o m a r =
@@ -162,7 +181,8 @@ given_bytes (closed ∷ events) b = given_bytes events b.1
 given_bytes (dropped ∷ events) b = given_bytes events b.1
 given_bytes (measured most ∷ events) b = given_bytes events b.1
 
-inputs_bytes : (events : List Event) → AllByRecursion IsOfBytes events → AllByRecursion (λ (file : File). AreBytes file.bytes) (inputs events)
+inputs_bytes : (events : List Event) → AllByRecursion IsOfBytes events
+    → AllByRecursion (λ (file : File). AreBytes file.bytes) (inputs events)
 inputs_bytes [] b = tt
 inputs_bytes (opened_input name ∷ events) b = (given_bytes events b.1, inputs_bytes events b.1)
 inputs_bytes (gave bytes ∷ events) b = inputs_bytes events b.1
@@ -177,7 +197,8 @@ inputs_bytes (measured most ∷ events) b = inputs_bytes events b.1
 abbrev output_named : Option (List ℕ) → Option Output
 output_named = option_map output_of
 
-away-named : (name : Option (List ℕ)) (events : List Event) → IfSome name (λ n. IsUnopened n events) → Away (output_named name) events
+away-named : (name : Option (List ℕ)) (events : List Event) → IfSome name (λ n. IsUnopened n events)
+    → Away (output_named name) events
 away-named None events u = tt
 away-named (Some name) events u = u
 
@@ -192,7 +213,8 @@ name-named (Some name) = refl
 pub notes_fit : NotesFit
 notes_fit name end end' events b o m a u =
     let files : HostFiles = record { named = inputs events; unread = given_next events; output = output_named name } in
-    let ready : AreReady files events = record { unread = refl; named = have-inputs events a; output = away-named name events u } in
+    let ready : AreReady files events =
+    record { unread = refl; named = have-inputs events a; output = away-named name events u } in
     let on = happen events end end' files o m a ready in
     record {
       files = files;

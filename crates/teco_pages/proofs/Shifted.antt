@@ -6,7 +6,8 @@ use Rattle.teco_pages.proofs.Told.{told-same, told-map, told-on}
 
 -- of the files themselves
 abbrev pub Shift : List ℕ → List ℕ → HostFiles → HostFiles → Type 0
-Shift held held' files left = (held ++ files.unread ≡ held' ++ left.unread) × (left ≡ record files { unread = left.unread })
+Shift held held' files left = (held ++ files.unread ≡ held' ++ left.unread)
+    × (left ≡ record files { unread = left.unread })
 
 pub shifts-refl : (p : List ℕ) (x : Telling) → Shifts p x p x
 shifts-refl p = told-same (Shift p p) (λ f. (refl, refl))

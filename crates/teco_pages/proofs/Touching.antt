@@ -1,31 +1,52 @@
 -- What was noted of calls in turn.
-use Rattle.std.proofs.Common.{◌≡◌, ℕ, zero, suc, List, [], ◌∷◌, ◌++◌, ◌<◌, ◌==◌, length, arith, Bool, true, false, drop, take, refl, sym, ap, subst, ◌∙◌, append_assoc}
+use Rattle.std.proofs.Common.{◌≡◌, ℕ, zero, suc, List, [], ◌∷◌, ◌++◌, ◌<◌, ◌==◌, length, arith, Bool, true, false}
+use Rattle.std.proofs.Common.{drop, take, refl, sym, ap, subst, ◌∙◌, append_assoc}
 use Rattle.std.proofs.lemmas.Bool.{eqb-true, false≢true, ne_eqb}
 use Rattle.std.proofs.lemmas.List.{append-nil}
 use Rattle.teco_model.specs.laws.Whole.{AreBytes}
 use Rattle.teco_pages.proofs.Bytes.{both_of_bytes}
-use Rattle.teco_pages.specs.Events.{Event, IsOfBytes, opened_input, gave, ended, opened_output, wrote, closed, dropped, measured}
+use Rattle.teco_pages.specs.Events.{Event, IsOfBytes, opened_input, gave, ended, opened_output, wrote, closed}
+use Rattle.teco_pages.specs.Events.{dropped, measured}
 use Rattle.teco_pages.specs.HostFiles.{Telling, Tells, Notes}
 use Rattle.teco_pages.specs.Noting.{EndsAtEnd, NotesJust, Touches, event_of_reading, openings}
 
 -- of no call
 pub touches-none : (end : Bool) (x : Telling) → Touches [] end end x x
 touches-none end (Tells f) = tt
-touches-none end (Notes a) = record { meanwhile = []; noted = sym (append-nil a); openings = refl; order = λ h. h; bytes = tt }
+touches-none end (Notes a) = record {
+  meanwhile = [];
+  noted = sym (append-nil a);
+  openings = refl;
+  order = λ h. h;
+  bytes = tt;
+}
 
 -- of one call that noted nothing
 pub touches-nothing : (end : Bool) (x y : Telling) → NotesJust [] x y → Touches [] end end x y
 touches-nothing end (Tells f) (Tells g) n = tt
 touches-nothing end (Tells f) (Notes b) n = absurd n
 touches-nothing end (Notes a) (Tells g) n = absurd n
-touches-nothing end (Notes a) (Notes b) n = record { meanwhile = []; noted = n; openings = refl; order = λ h. h; bytes = tt }
+touches-nothing end (Notes a) (Notes b) n = record {
+  meanwhile = [];
+  noted = n;
+  openings = refl;
+  order = λ h. h;
+  bytes = tt;
+}
 
 -- of one call
-pub touches-just : (e : Event) (end end' : Bool) (x y : Telling) → NotesJust (e ∷ []) x y → EndsAtEnd end (e ∷ []) end' → IsOfBytes e → Touches (openings (e ∷ [])) end end' x y
+pub touches-just : (e : Event) (end end' : Bool) (x y : Telling) → NotesJust (e ∷ []) x y → EndsAtEnd end (e ∷ []) end'
+    → IsOfBytes e → Touches (openings (e ∷ [])) end end' x y
 touches-just e end end' (Tells f) (Tells g) n o b = tt
 touches-just e end end' (Tells f) (Notes z) n o b = absurd n
 touches-just e end end' (Notes a) (Tells g) n o b = absurd n
-touches-just e end end' (Notes a) (Notes z) n o b = record { meanwhile = e ∷ []; noted = n; openings = refl; order = o; bytes = (b, tt) }
+touches-just e end end' (Notes a) (Notes z) n o b = record {
+  meanwhile = e ∷ [];
+  noted = n;
+  openings = refl;
+  order = o;
+  bytes = (b, tt);
+}
 
 openings-on : (a b : List Event) → openings (a ++ b) ≡ openings a ++ openings b
 openings-on [] b = refl
@@ -66,7 +87,8 @@ order-on (dropped ∷ a) b d e f h i = order-on a b d e f h i
 order-on (measured most ∷ a) b d e f h i = order-on a b d e f h i
 
 -- of some calls, and then others
-pub touches-on : (a b : List Event) (d e f : Bool) (x y z : Telling) → Touches a d e x y → Touches b e f y z → Touches (a ++ b) d f x z
+pub touches-on : (a b : List Event) (d e f : Bool) (x y z : Telling) → Touches a d e x y → Touches b e f y z
+    → Touches (a ++ b) d f x z
 touches-on a b d e f (Tells x) (Tells y) (Tells z) r s = tt
 touches-on a b d e f (Tells x) (Tells y) (Notes z) r s = absurd s
 touches-on a b d e f (Tells x) (Notes y) z r s = absurd r
@@ -75,7 +97,8 @@ touches-on a b d e f (Notes x) (Notes y) (Tells z) r s = absurd s
 touches-on a b d e f (Notes x) (Notes y) (Notes z) r s = record {
   meanwhile = r.meanwhile ++ s.meanwhile;
   noted = s.noted ∙ ap (λ l. l ++ s.meanwhile) r.noted ∙ append_assoc x r.meanwhile s.meanwhile;
-  openings = openings-on r.meanwhile s.meanwhile ∙ ap (λ l. l ++ openings s.meanwhile) r.openings ∙ ap (λ l. a ++ l) s.openings;
+  openings = openings-on r.meanwhile s.meanwhile ∙ ap (λ l. l ++ openings s.meanwhile) r.openings
+      ∙ ap (λ l. a ++ l) s.openings;
   order = order-on r.meanwhile s.meanwhile d e f r.order s.order;
   bytes = both_of_bytes r.meanwhile s.meanwhile r.bytes s.bytes;
 }
@@ -87,7 +110,8 @@ bytes_taken (suc n) [] b = tt
 bytes_taken (suc n) (x ∷ xs) b = (b.0, bytes_taken n xs b.1)
 
 -- of one that reads into a buffer with room: none come at the end
-pub touches-reading : (n : ℕ) (buffer : List ℕ) (x y : Telling) → NotesJust (event_of_reading n buffer ∷ []) x y → 0 < length buffer → AreBytes (take n buffer) → Touches [] false (n == 0) x y
+pub touches-reading : (n : ℕ) (buffer : List ℕ) (x y : Telling) → NotesJust (event_of_reading n buffer ∷ []) x y
+    → 0 < length buffer → AreBytes (take n buffer) → Touches [] false (n == 0) x y
 touches-reading n buffer x y just room bytes = by (n == 0) (length buffer == 0) refl refl where
   by : (t u : Bool) → (n == 0) ≡ t → (length buffer == 0) ≡ u → Touches [] false (n == 0) x y
   by true true e f = absurd (omega (arith, room, eqb-true (length buffer) 0 f))
@@ -105,8 +129,10 @@ bytes_left (suc n) [] b = tt
 bytes_left (suc n) (x ∷ xs) b = bytes_left n xs b.1
 
 -- of one that writes
-pub touches-writing : (n : ℕ) (bytes : List ℕ) (end : Bool) (x y : Telling) → NotesJust (wrote (take n bytes) ∷ []) x y → AreBytes bytes → Touches [] end end x y
-touches-writing n bytes end x y just b = touches-just (wrote (take n bytes)) end end x y just (λ h. h) (bytes_taken n bytes b)
+pub touches-writing : (n : ℕ) (bytes : List ℕ) (end : Bool) (x y : Telling) → NotesJust (wrote (take n bytes) ∷ []) x y
+    → AreBytes bytes → Touches [] end end x y
+touches-writing n bytes end x y just b =
+    touches-just (wrote (take n bytes)) end end x y just (λ h. h) (bytes_taken n bytes b)
 
 -- a count that is not 0
 pub some_count : (n : ℕ) → 0 < n → (n == 0) ≡ false

@@ -1,5 +1,6 @@
 -- What is held of an input that is read in pages, and what of it is unread.
-use Rattle.std.specs.Prelude.{ℕ, ◌≡◌, ◌≢◌, ◌≤◌, List, [], ◌++◌, length, Bool, true, false, Option, Some, None, option_map, IfSome, Vec}
+use Rattle.std.specs.Prelude.{ℕ, ◌≡◌, ◌≢◌, ◌≤◌, List, [], ◌++◌, length, Bool, true, false, Option, Some, None}
+use Rattle.std.specs.Prelude.{option_map, IfSome, Vec}
 use Rattle.std.specs.declared.alloc.Global.{Global}
 use Rattle.teco_base.specs.declared.TheConstants.{LIMIT}
 use Rattle.teco_model.specs.Files.{Files, Input}

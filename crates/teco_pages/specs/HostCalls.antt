@@ -1,7 +1,8 @@
 -- What the calls of a host do, by their answers: E is what a failed call answers.
 use Rattle.std.specs.Prelude.{ℕ, ◌≡◌, ◌≤◌, ◌<◌, List, length, take, Option, Some, IfSome, Result, Ok, Err}
 use Rattle.teco_model.specs.Files.{file_named}
-use Rattle.teco_pages.specs.HostFiles.{Telling, Told, Becomes, Stays, Reads, NoneUnread, after_opening, after_writing, after_closing, after_dropping}
+use Rattle.teco_pages.specs.HostFiles.{Telling, Told, Becomes, Stays, Reads, NoneUnread, after_opening, after_writing}
+use Rattle.teco_pages.specs.HostFiles.{after_closing, after_dropping}
 
 -- a failure is counted, and success is not
 abbrev pub Counts : {X E : Type 0} → Result X E → ℕ → ℕ → Type 0

@@ -2,7 +2,8 @@
 use Rattle.std.specs.Prelude.{ℕ, ◌≡◌, List, [], ◌++◌}
 use Rattle.std.specs.List.{AllByRecursion}
 use Rattle.teco_pages.specs.Events.{Event, Happened, IsOfBytes}
-pub use Rattle.teco_pages.specs.Changes.{HostFiles, AreOfBytes, after_opening, after_writing, after_closing, after_dropping}
+pub use Rattle.teco_pages.specs.Changes.{HostFiles, AreOfBytes, after_opening, after_writing, after_closing}
+pub use Rattle.teco_pages.specs.Changes.{after_dropping}
 
 -- A host tells its files, or it notes what its calls did to files that it cannot tell.
 pub data Telling : Type 0 where

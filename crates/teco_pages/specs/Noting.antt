@@ -1,7 +1,9 @@
 -- What hosts note that cannot tell their files: which call notes what, and in which order it was.
-use Rattle.std.specs.Prelude.{ℕ, ◌≡◌, ◌==◌, ⊤, List, [], ◌∷◌, ◌++◌, length, take, cond, Bool, true, false, not, Option, Some, None, Result, Ok, Err}
+use Rattle.std.specs.Prelude.{ℕ, ◌≡◌, ◌==◌, ⊤, List, [], ◌∷◌, ◌++◌, length, take, cond, Bool, true, false, not}
+use Rattle.std.specs.Prelude.{Option, Some, None, Result, Ok, Err}
 use Rattle.std.specs.List.{AllByRecursion}
-use Rattle.teco_pages.specs.Events.{Event, IsOfBytes, opened_input, gave, ended, opened_output, wrote, closed, dropped, measured}
+use Rattle.teco_pages.specs.Events.{Event, IsOfBytes, opened_input, gave, ended, opened_output, wrote, closed}
+use Rattle.teco_pages.specs.Events.{dropped, measured}
 use Rattle.teco_pages.specs.HostFiles.{Telling, Tells, Notes}
 
 -- What a call notes, by its answer. Of one that opens an input:
@@ -56,8 +58,8 @@ openings (closed ∷ events) = closed ∷ openings events
 openings (dropped ∷ events) = dropped ∷ openings events
 openings (measured most ∷ events) = measured most ∷ openings events
 
--- Nothing is read behind the end of an input. The first tells whether one is at an end before these, the last whether one
--- is behind them, if only since no more is to be read.
+-- Nothing is read behind the end of an input. The first tells whether one is at an end before these, the last whether
+-- one is behind them, if only since no more is to be read.
 abbrev pub EndsAtEnd : Bool → List Event → Bool → Type 0
 EndsAtEnd end [] end' = end ≡ true → end' ≡ true
 EndsAtEnd end (opened_input name ∷ events) end' = EndsAtEnd false events end'
@@ -77,8 +79,8 @@ pub record IsNoted (opened : List Event) (end end' : Bool) (old new : List Event
   pub order : EndsAtEnd end meanwhile end'
   pub bytes : AllByRecursion IsOfBytes meanwhile
 
--- Where calls are noted, these files were opened, named, dropped and measured in turn and no others, and nothing was read
--- behind the end of an input, at which it was and is as these tell.
+-- Where calls are noted, these files were opened, named, dropped and measured in turn and no others, and nothing was
+-- read behind the end of an input, at which it was and is as these tell.
 abbrev pub Touches : List Event → Bool → Bool → Telling → Telling → Type 0
 Touches opened end end' (Tells files) (Tells left) = ⊤
 Touches opened end end' (Tells files) (Notes new) = ⊥

@@ -1,7 +1,8 @@
 -- Notes that the calls of a host can have made: some files of bytes fit them.
 use Rattle.std.specs.Prelude.{ℕ, ◌≡◌, ◌≢◌, ◌≤◌, ⊤, List, [], ◌∷◌, ◌++◌, length, Bool, Option, IfSome, option_map}
 use Rattle.std.specs.List.{AllByRecursion}
-use Rattle.teco_pages.specs.Events.{Event, Happened, IsOfBytes, opened_input, gave, ended, opened_output, wrote, closed, dropped, measured}
+use Rattle.teco_pages.specs.Events.{Event, Happened, IsOfBytes, opened_input, gave, ended, opened_output, wrote}
+use Rattle.teco_pages.specs.Events.{closed, dropped, measured}
 use Rattle.teco_pages.specs.HostFiles.{HostFiles, AreOfBytes}
 use Rattle.teco_pages.specs.Noting.{EndsAtEnd}
 
@@ -66,5 +67,6 @@ pub record AreFitted (name : Option (List ℕ)) (events : List Event) : Type 0 w
 abbrev pub NotesFit : Type 0
 NotesFit =
     (output : Option (List ℕ)) (end end' : Bool) (events : List Event) → AllByRecursion IsOfBytes events
-    → EndsAtEnd end events end' → GivesMeasured events → OpensAnew events → IfSome output (λ name. IsUnopened name events)
+    → EndsAtEnd end events end' → GivesMeasured events → OpensAnew events
+    → IfSome output (λ name. IsUnopened name events)
     → AreFitted output events

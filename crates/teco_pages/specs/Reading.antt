@@ -1,5 +1,6 @@
 -- How a page is read in pieces.
-use Rattle.std.specs.Prelude.{ℕ, ◌+◌, ◌≡◌, ◌<◌, ◌≤◌, List, [], ◌∷◌, ◌++◌, length, Bool, true, false, not, ◌==◌, Result, Ok, Err}
+use Rattle.std.specs.Prelude.{ℕ, ◌+◌, ◌≡◌, ◌<◌, ◌≤◌, List, [], ◌∷◌, ◌++◌, length, Bool, true, false, not, ◌==◌}
+use Rattle.std.specs.Prelude.{Result, Ok, Err}
 use Rattle.teco_base.specs.declared.TheConstants.{LIMIT}
 use Rattle.teco_base.specs.declared.bytes.TheConstants.{FF}
 use Rattle.teco_model.specs.Pages.{before_form_feed, has_form_feed, behind_form_feed}

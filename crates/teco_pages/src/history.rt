@@ -1,7 +1,8 @@
 // What the calls of a host did: contracts see it, and nothing else.
 ghost use Rattle.std.specs.Prelude.{◌≡◌, ◌≤◌, ◌<◌, ◌∷◌, ◌++◌, List, [], length, take, Some};
 ghost use Rattle.std.specs.Borrow.{ftrue};
-ghost use Rattle.teco_pages.specs.Events.{Event, events_code, opened_input, opened_output, wrote, closed, dropped, measured};
+ghost use Rattle.teco_pages.specs.Events.{Event, events_code, opened_input, opened_output, wrote, closed, dropped};
+ghost use Rattle.teco_pages.specs.Events.{measured};
 ghost use Rattle.teco_pages.specs.Noting.{event_of_reading};
 
 use std::marker::Model;
@@ -33,7 +34,8 @@ impl Model for History {
 
 impl History {
     ghost use Rattle.teco_pages.specs.HostCalls.{HasOpened, Measures};
-    ghost use Rattle.teco_pages.specs.HostFiles.{Becomes, Notes, NoneUnread, Reads, after_opening, after_writing, after_closing, after_dropping};
+    ghost use Rattle.teco_pages.specs.HostFiles.{Becomes, Notes, NoneUnread, Reads, after_opening, after_writing};
+    ghost use Rattle.teco_pages.specs.HostFiles.{after_closing, after_dropping};
     ghost use Rattle.teco_pages.specs.Noted.{event_of};
 
     /// Nothing has happened yet.

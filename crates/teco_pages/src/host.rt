@@ -4,7 +4,8 @@ ghost use Rattle.teco_base.specs.declared.TheConstants.{LIMIT};
 ghost use Rattle.teco_pages.specs.HostFiles.{Telling, Becomes, after_dropping};
 ghost use Rattle.teco_pages.specs.HostCalls.{Counts, OpensIn, ReadsSome, OpensOut, WritesSome, Closes, Measures};
 ghost use Rattle.teco_pages.specs.Events.{dropped};
-ghost use Rattle.teco_pages.specs.Noting.{NotesJust, noted_open_in, noted_read, noted_open_out, noted_write, noted_close_out, noted_left};
+ghost use Rattle.teco_pages.specs.Noting.{NotesJust, noted_open_in, noted_read, noted_open_out, noted_write};
+ghost use Rattle.teco_pages.specs.Noting.{noted_close_out, noted_left};
 
 use crate::fault::Failed;
 

@@ -1,14 +1,17 @@
 // The pages of the open input, and what is open.
-ghost use Rattle.std.specs.Prelude.{◌≡◌, ◌≤◌, ◌++◌, [], ◌∷◌, if◌then◌else◌, Some, None, false, length, option_map, option_copied, IsSome, IfSome, OnOk, OnErr};
+ghost use Rattle.std.specs.Prelude.{◌≡◌, ◌≤◌, ◌++◌, [], ◌∷◌, if◌then◌else◌, Some, None, false, length, option_map};
+ghost use Rattle.std.specs.Prelude.{option_copied, IsSome, IfSome, OnOk, OnErr};
 ghost use Rattle.teco_base.specs.declared.TheConstants.{LIMIT};
 ghost use Rattle.teco_base.specs.declared.bytes.TheConstants.{FF};
 ghost use Rattle.teco_model.specs.Pages.{first_page, behind_first_page, has_form_feed, written_page};
-ghost use Rattle.teco_pages.specs.Held.{HoldsBytes, nothing_held, with_input, without_input, without_page, with_all_read, unread_bytes, written_if_any};
+ghost use Rattle.teco_pages.specs.Held.{HoldsBytes, nothing_held, with_input, without_input, without_page};
+ghost use Rattle.teco_pages.specs.Held.{with_all_read, unread_bytes, written_if_any};
 ghost use Rattle.teco_pages.specs.HostCalls.{OpensIn, OpensOut, Closes};
 ghost use Rattle.teco_pages.specs.HostFiles.{HostFiles, Told, Becomes, after_dropping};
 ghost use Rattle.teco_pages.specs.Events.{dropped};
 ghost use Rattle.teco_pages.specs.Noting.{Touches, has_ended, noted_open_in, noted_open_out, noted_close_out};
-ghost use Rattle.teco_pages.specs.PageCalls.{OkOrNoFile, OkOrCannotOpen, OkOrOut, OkOrCannotRead, OkOrInOut, MakesReady, WritesBytes, CopiesRest};
+ghost use Rattle.teco_pages.specs.PageCalls.{OkOrNoFile, OkOrCannotOpen, OkOrOut, OkOrCannotRead, OkOrInOut};
+ghost use Rattle.teco_pages.specs.PageCalls.{MakesReady, WritesBytes, CopiesRest};
 ghost use Rattle.teco_pages.specs.Reading.{EndsPage};
 
 use crate::ahead::Ahead;

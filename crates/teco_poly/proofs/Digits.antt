@@ -1,10 +1,13 @@
 -- Texts of digits, and the numbers that they are the texts of.
-use Rattle.std.proofs.Common.{◌≡◌, ℕ, zero, suc, ◌+◌, ◌-◌, ◌*◌, ◌^◌, ◌<◌, ◌≤◌, Bool, true, false, List, [], ◌∷◌, length, get_or, drop, sym, ap, ◌∙◌, refl, arith, rules, ltb, subst, Option, Some, None, IfSome, IfNone}
+use Rattle.std.proofs.Common.{◌≡◌, ℕ, zero, suc, ◌+◌, ◌-◌, ◌*◌, ◌^◌, ◌<◌, ◌≤◌, Bool, true, false, List, [], ◌∷◌}
+use Rattle.std.proofs.Common.{length, get_or, drop, sym, ap, ◌∙◌, refl, arith, rules, ltb, subst, Option, Some, None}
+use Rattle.std.proofs.Common.{IfSome, IfNone}
 use Rattle.std.proofs.lemmas.Bool.{ltb-true, ltb-false}
 use Rattle.std.specs.Option.{SomeIff}
 use Rattle.std.specs.Prelude.{◌==◌}
 use Rattle.std.proofs.lemmas.List.{drop_more}
-use Rattle.std.proofs.lemmas.Fmt.{digits_decimal, digits_value-decimal, decimal-digits_value, decimal_nonempty, first_decimal, decimal_digit}
+use Rattle.std.proofs.lemmas.Fmt.{digits_decimal, digits_value-decimal, decimal-digits_value, decimal_nonempty}
+use Rattle.std.proofs.lemmas.Fmt.{first_decimal, decimal_digit}
 use Rattle.std.proofs.lemmas.Str.Parse.{IsNumeralModel, numerals_by_fold, numerals_by_value, digit_at}
 use Rattle.std.specs.Int.{IsInRange}
 use Rattle.std.specs.Str.Parse.{digits_value}
@@ -38,16 +41,23 @@ module _ (ds : List ℕ) (n i : ℕ) (within : i < length ds) (so_far : read_on 
 
   read_larger : all_ascii_digits ds ≡ true → 2 ^ 64 ≤ n * 10 + (get_or ds i 0 - 48) → ¬ (digits_value 10 ds < 2 ^ 64)
   read_larger each large small =
-      omega (arith, read_on-le (n * 10 + (get_or ds i 0 - 48)) (drop (i + 1) ds), read_more (n * 10 + (get_or ds i 0 - 48)) refl, value_read ds each)
+      omega (
+        arith,
+        read_on-le (n * 10 + (get_or ds i 0 - 48)) (drop (i + 1) ds),
+        read_more (n * 10 + (get_or ds i 0 - 48)) refl,
+        value_read ds each,
+      )
 
   pub product_larger : all_ascii_digits ds ≡ true → ¬ (n * 10 < 2 ^ 64) → ¬ (digits_value 10 ds < 2 ^ 64)
   product_larger each large = read_larger each (let most : 2 ^ 64 ≤ n * 10 = omega (arith, large) in omega arith)
 
-  pub sum_larger : all_ascii_digits ds ≡ true → (m d : ℕ) → m ≡ n * 10 → d ≡ get_or ds i 0 - 48 → ¬ (m + d < 2 ^ 64) → ¬ (digits_value 10 ds < 2 ^ 64)
+  pub sum_larger : all_ascii_digits ds ≡ true → (m d : ℕ) → m ≡ n * 10 → d ≡ get_or ds i 0 - 48 → ¬ (m + d < 2 ^ 64)
+      → ¬ (digits_value 10 ds < 2 ^ 64)
   sum_larger each m d e f large = read_larger each (let most : 2 ^ 64 ≤ m + d = omega (arith, large) in omega arith)
 
 -- no digit is left
-pub read_all : (ds : List ℕ) (n i : ℕ) → length ds ≤ i → all_ascii_digits ds ≡ true → read_on n (drop i ds) ≡ read_on 0 ds → n ≡ digits_value 10 ds
+pub read_all : (ds : List ℕ) (n i : ℕ) → length ds ≤ i → all_ascii_digits ds ≡ true
+    → read_on n (drop i ds) ≡ read_on 0 ds → n ≡ digits_value 10 ds
 read_all ds n i done each e = sym (ap (read_on n) (none_left i ds done)) ∙ e ∙ value_read ds each
   where
     none_left : (i : ℕ) (cs : List ℕ) → length cs ≤ i → drop i cs ≡ []
@@ -66,10 +76,14 @@ some_digits (c ∷ cs) e = omega arith
 
 -- digits of which the first is no needless 0 are the text of what they stand for
 module _ (ds : List ℕ) (each : all_ascii_digits ds ≡ true) where
-  pub number_found : 0 < length ds → ¬ ((1 < length ds) × (get_or ds 0 0 ≡ 48)) → (r : Option ℕ) → SomeIff r (digits_value 10 ds < 2 ^ 64) (digits_value 10 ds) → IfSome r (λ n. (n < 2 ^ 64) × (ds ≡ decimal n))
+  pub number_found : 0 < length ds → ¬ ((1 < length ds) × (get_or ds 0 0 ≡ 48)) → (r : Option ℕ)
+      → SomeIff r (digits_value 10 ds < 2 ^ 64) (digits_value 10 ds) → IfSome r (λ n. (n < 2 ^ 64) × (ds ≡ decimal n))
   number_found some unpadded None h = tt
-  number_found some unpadded (Some n) h =
-      (subst (λ m. m < 2 ^ 64) (sym h.1) h.0, sym (decimal-digits_value value_model ds each some first h.0) ∙ ap decimal (sym h.1))
+  number_found some unpadded (Some n) h = (
+    subst (λ m. m < 2 ^ 64) (sym h.1) h.0,
+    sym (decimal-digits_value value_model ds each some first h.0)
+        ∙ ap decimal (sym h.1),
+  )
     where
       first : get_or ds 0 0 ≡ 48 → length ds ≡ 1
       first e = one (ltb 1 (length ds)) refl
@@ -84,9 +98,11 @@ none_empty ds none n small e = omega (arith, decimal_nonempty n small, ap length
 
 pub none_padded : (ds : List ℕ) → (1 < length ds) × (get_or ds 0 0 ≡ 48) → (n : ℕ) → n < 2 ^ 64 → ds ≡ decimal n → ⊥
 none_padded ds padded zero small e = omega (arith, ap length (e ∙ decimal_digit 0 (omega arith)))
-none_padded ds padded (suc n) small e = omega (arith, first_decimal (suc n) (omega arith) small, ap (λ xs. get_or xs 0 0) e)
+none_padded ds padded (suc n) small e =
+    omega (arith, first_decimal (suc n) (omega arith) small, ap (λ xs. get_or xs 0 0) e)
 
-pub none_larger : (ds : List ℕ) (r : Option ℕ) → SomeIff r (digits_value 10 ds < 2 ^ 64) (digits_value 10 ds) → IfNone r ((n : ℕ) → n < 2 ^ 64 → ds ≡ decimal n → ⊥)
+pub none_larger : (ds : List ℕ) (r : Option ℕ) → SomeIff r (digits_value 10 ds < 2 ^ 64) (digits_value 10 ds)
+    → IfNone r ((n : ℕ) → n < 2 ^ 64 → ds ≡ decimal n → ⊥)
 none_larger ds (Some n) h = tt
 none_larger ds None h = λ n small e. h (omega (arith, digits_value-decimal value_model n small, ap (digits_value 10) e))
 

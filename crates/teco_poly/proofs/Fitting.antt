@@ -1,11 +1,13 @@
 -- The coefficients of sums, products and the like, power by power; and what it is to fit.
-use Rattle.std.proofs.Common.{◌≡◌, ℕ, zero, suc, ◌+◌, ◌-◌, ◌*◌, ◌^◌, ◌<◌, ◌≤◌, max, Bool, true, false, [], ◌∷◌, length, drop, get_or, Some, None, sym, ap, ◌∙◌, refl, arith, ltb}
+use Rattle.std.proofs.Common.{◌≡◌, ℕ, zero, suc, ◌+◌, ◌-◌, ◌*◌, ◌^◌, ◌<◌, ◌≤◌, max, Bool, true, false, [], ◌∷◌}
+use Rattle.std.proofs.Common.{length, drop, get_or, Some, None, sym, ap, ◌∙◌, refl, arith, ltb}
 use Rattle.std.proofs.lemmas.List.{ext_get_or, get_or-drop, get_or_past}
 use Rattle.std.proofs.lemmas.Bool.{ltb-true, ltb-false, lt-ltb, eq-eqb, leb-true, le-leb}
 use Rattle.std.proofs.lemmas.Bool.Decides.{Decides-eqb}
 use Rattle.std.specs.List.{list_all}
 use Rattle.std.specs.Prelude.{◌&&◌, ◌==◌, nat_le}
-use Rattle.teco_poly.specs.Polynomial.{Polynomial, sum, scaled, greater, differences, is_at_most, first, in_64_bits, fits, fitted}
+use Rattle.teco_poly.specs.Polynomial.{Polynomial, sum, scaled, greater, differences, is_at_most, first, in_64_bits}
+use Rattle.teco_poly.specs.Polynomial.{fits, fitted}
 
 -- 64 bits hold each coefficient, and the degree is at most 8
 pub record Fits (p : Polynomial) : Type 0 where
@@ -78,7 +80,8 @@ all_zero (c ∷ p) h = let here : (c == 0) ≡ true = eq-eqb c 0 (h 0) in rw her
 -- the comparison of polynomials is that of each coefficient
 pub at_most_means : (p q : Polynomial) (k : ℕ) → is_at_most p q ≡ true → get_or p k 0 ≤ get_or q k 0
 at_most_means [] q k h = omega arith
-at_most_means (a ∷ p) [] zero h = let none : a ≡ 0 = (Decides-eqb a 0).0 (both (a == 0) (is_at_most p []) h).0 in omega arith
+at_most_means (a ∷ p) [] zero h = let none : a ≡ 0 = (Decides-eqb a 0).0 (both (a == 0) (is_at_most p []) h).0 in
+    omega arith
 at_most_means (a ∷ p) [] (suc k) h = at_most_means p [] k (both (a == 0) (is_at_most p []) h).1
 at_most_means (a ∷ p) (b ∷ q) zero h = leb-true a b (both (nat_le a b) (is_at_most p q) h).0
 at_most_means (a ∷ p) (b ∷ q) (suc k) h = at_most_means p q k (both (nat_le a b) (is_at_most p q) h).1
@@ -108,13 +111,16 @@ fits_means p h =
 pub fits_by : (p : Polynomial) → Fits p → fits p ≡ true
 fits_by p h =
     let small : list_all in_64_bits p ≡ true = all_small p h.small in
-    let low : list_all (λ c. c == 0) (drop 9 p) ≡ true = all_zero (drop 9 p) (λ k. get_or-drop 9 p k 0 ∙ h.low (9 + k) (omega arith)) in
+    let low : list_all (λ c. c == 0) (drop 9 p) ≡ true =
+    all_zero (drop 9 p) (λ k. get_or-drop 9 p k 0 ∙ h.low (9 + k) (omega arith)) in
     rw (small, low) refl
 
 -- what the coefficients of a polynomial that fits are fitted to
-pub fitted_is : (p r : Polynomial) → length r ≡ 9 → ((k : ℕ) → k < 9 → get_or r k 0 ≡ get_or p k 0) → Fits p → Some r ≡ fitted p
+pub fitted_is : (p r : Polynomial) → length r ≡ 9 → ((k : ℕ) → k < 9 → get_or r k 0 ≡ get_or p k 0) → Fits p
+    → Some r ≡ fitted p
 fitted_is p r nine same h =
-    let e : first 9 p ≡ r = ext_get_or 0 (first 9 p) r (length-first 9 p ∙ sym nine) (λ k within. get_or-first 9 p k (within_nine k within) ∙ sym (same k (within_nine k within))) in
+    let e : first 9 p ≡ r = ext_get_or 0 (first 9 p) r (length-first 9 p ∙ sym nine)
+    (λ k within. get_or-first 9 p k (within_nine k within) ∙ sym (same k (within_nine k within))) in
     rw (fits_by p h, e) refl
   where
     within_nine : (k : ℕ) → k < length (first 9 p) → k < 9
@@ -128,7 +134,8 @@ fitted_none p unfit = sym (unfitted (fits p) refl)
     unfitted false e = rw e refl
 
 -- it is enough to know the first nine, and that the others are 0
-pub fits_nine : (p : Polynomial) → ((k : ℕ) → k < 9 → get_or p k 0 < 2 ^ 64) → ((k : ℕ) → 9 ≤ k → get_or p k 0 ≡ 0) → Fits p
+pub fits_nine : (p : Polynomial) → ((k : ℕ) → k < 9 → get_or p k 0 < 2 ^ 64) → ((k : ℕ) → 9 ≤ k → get_or p k 0 ≡ 0)
+    → Fits p
 fits_nine p small low = record { small = λ k. within k (ltb k 9) refl; low = low }
   where
     within : (k : ℕ) (b : Bool) → ltb k 9 ≡ b → get_or p k 0 < 2 ^ 64
@@ -136,13 +143,15 @@ fits_nine p small low = record { small = λ k. within k (ltb k 9) refl; low = lo
     within k false e = let zero_here : get_or p k 0 ≡ 0 = low k (ltb-false k 9 e) in omega arith
 
 -- what was fitted has the coefficients that it had
-pub fitted_like : (p r : Polynomial) → Some r ≡ fitted p → (length r ≡ 9) × Fits p × ((k : ℕ) → get_or r k 0 ≡ get_or p k 0)
+pub fitted_like : (p r : Polynomial) → Some r ≡ fitted p
+    → (length r ≡ 9) × Fits p × ((k : ℕ) → get_or r k 0 ≡ get_or p k 0)
 fitted_like p r e = by_test (fits p) refl
   where
     same_at : r ≡ first 9 p → Fits p → (k : ℕ) (b : Bool) → ltb k 9 ≡ b → get_or r k 0 ≡ get_or p k 0
     same_at is f k true h = rw is (get_or-first 9 p k (ltb-true k 9 h))
     same_at is f k false h =
-        rw is (get_or_past (first 9 p) k 0 (omega (arith, length-first 9 p, ltb-false k 9 h)) ∙ sym (f.low k (ltb-false k 9 h)))
+        rw is (get_or_past (first 9 p) k 0 (omega (arith, length-first 9 p, ltb-false k 9 h))
+        ∙ sym (f.low k (ltb-false k 9 h)))
 
     by_test : (b : Bool) → fits p ≡ b → (length r ≡ 9) × Fits p × ((k : ℕ) → get_or r k 0 ≡ get_or p k 0)
     by_test false h = let none : fitted p ≡ None = (rw h refl) in absurd (cc)

@@ -1,12 +1,18 @@
 -- The laws of polynomials.
-use Rattle.std.proofs.Common.{◌≡◌, ℕ, zero, suc, ◌+◌, ◌-◌, ◌*◌, ◌^◌, ◌<◌, ◌≤◌, max, Bool, true, false, [], ◌∷◌, length, get_or, Some, None, sym, ap, ◌∙◌, refl, arith}
+use Rattle.std.proofs.Common.{◌≡◌, ℕ, zero, suc, ◌+◌, ◌-◌, ◌*◌, ◌^◌, ◌<◌, ◌≤◌, max, Bool, true, false, [], ◌∷◌}
+use Rattle.std.proofs.Common.{length, get_or, Some, None, sym, ap, ◌∙◌, refl, arith}
 use Rattle.std.proofs.Math.Nat.{pow-zero, pow-suc}
 use Rattle.std.proofs.lemmas.List.{ext_get_or}
 use Rattle.teco_poly.specs.Reading.{IsPoly}
-use Rattle.teco_poly.specs.Laws.{AnswersArePolys, ValuesOfConstants, ValueOfSum, ValueOfDifference, ValueOfProduct, ValueOfJoin, ValueOfOneLess, ValueAt, ValuesCompare, ValuesGrow, ComparisonOrders, JoinIsLeast, OneText}
-use Rattle.teco_poly.specs.Polynomial.{Polynomial, value, sum, product, greater, differences, first, fitted, number, variable, one_less, sub, join, at, in_64_bits, is_at_most}
-use Rattle.teco_poly.proofs.Fitting.{at_most_means, at_most_by, fitted_like, get_or-greater, get_or-differences, length-differences}
-use Rattle.teco_poly.proofs.Values.{value-cons, value-sum, value-product, value-differences, value-one_less, value-fitted, value_at_most, value_grows}
+use Rattle.teco_poly.specs.Laws.{AnswersArePolys, ValuesOfConstants, ValueOfSum, ValueOfDifference, ValueOfProduct}
+use Rattle.teco_poly.specs.Laws.{ValueOfJoin, ValueOfOneLess, ValueAt, ValuesCompare, ValuesGrow, ComparisonOrders}
+use Rattle.teco_poly.specs.Laws.{JoinIsLeast, OneText}
+use Rattle.teco_poly.specs.Polynomial.{Polynomial, value, sum, product, greater, differences, first, fitted, number}
+use Rattle.teco_poly.specs.Polynomial.{variable, one_less, sub, join, at, in_64_bits, is_at_most}
+use Rattle.teco_poly.proofs.Fitting.{at_most_means, at_most_by, fitted_like, get_or-greater, get_or-differences}
+use Rattle.teco_poly.proofs.Fitting.{length-differences}
+use Rattle.teco_poly.proofs.Values.{value-cons, value-sum, value-product, value-differences, value-one_less}
+use Rattle.teco_poly.proofs.Values.{value-fitted, value_at_most, value_grows}
 use Rattle.teco_poly.proofs.Spelling as spelling
 
 pub values_of_constants : ValuesOfConstants
@@ -67,7 +73,8 @@ fitted_poly p r e =
 
 -- coefficients that are no greater are as small
 below_poly : (p r : Polynomial) → IsPoly p → length r ≡ length p → ((k : ℕ) → get_or r k 0 ≤ get_or p k 0) → IsPoly r
-below_poly p r is same below = spelling.is_poly r (same ∙ is.nine) (λ k. omega (arith, below k, spelling.small_at p k is.small))
+below_poly p r is same below = spelling.is_poly r (same ∙ is.nine)
+    (λ k. omega (arith, below k, spelling.small_at p k is.small))
 
 zeros : (count k : ℕ) → get_or (first count []) k 0 ≡ 0
 zeros zero k = refl
@@ -90,7 +97,8 @@ sub_poly p q r is e = by_test (is_at_most q p) refl
     by_test true h =
         let some : sub p q ≡ Some (differences p q) = (rw h refl) in
         let same : r ≡ differences p q = (cc) in
-        rw same (below_poly p (differences p q) is (length-differences p q) (λ k. omega (arith, get_or-differences p q k)))
+        rw same (below_poly p (differences p q) is (length-differences p q)
+        (λ k. omega (arith, get_or-differences p q k)))
     by_test false h = let none : sub p q ≡ None = (rw h refl) in absurd (cc)
 
 one_less_poly : (p : Polynomial) → IsPoly p → IsPoly (one_less p)
@@ -111,16 +119,19 @@ answers_are_polys = record {
 pub comparison_orders : ComparisonOrders
 comparison_orders = record {
   reflexive = λ p. at_most_by p p (λ k. omega arith);
-  transitive = λ p q r below above. at_most_by p r (λ k. omega (arith, at_most_means p q k below, at_most_means q r k above));
+  transitive = λ p q r below above.
+      at_most_by p r (λ k. omega (arith, at_most_means p q k below, at_most_means q r k above));
   antisymmetric = λ p q is_p is_q below above.
-      ext_get_or 0 p q (is_p.nine ∙ sym is_q.nine) (λ k within. omega (arith, at_most_means p q k below, at_most_means q p k above));
+      ext_get_or 0 p q (is_p.nine ∙ sym is_q.nine)
+      (λ k within. omega (arith, at_most_means p q k below, at_most_means q p k above));
 }
 
 pub join_is_least : JoinIsLeast
 join_is_least = record {
   left = λ p q r e. at_most_by p r (left_below p q r e);
   right = λ p q r e. at_most_by q r (right_below p q r e);
-  least = λ p q r s e left right. at_most_by r s (λ k. omega (arith, joined p q r e k, at_most_means p s k left, at_most_means q s k right));
+  least = λ p q r s e left right.
+      at_most_by r s (λ k. omega (arith, joined p q r e k, at_most_means p s k left, at_most_means q s k right));
 }
 
 pub one_text : OneText

@@ -1,7 +1,9 @@
 -- The values of polynomials: of sums, products and the like, and of those that are at most others.
-use Rattle.std.proofs.Common.{◌≡◌, ℕ, zero, suc, ◌+◌, ◌-◌, ◌*◌, ◌≤◌, [], ◌∷◌, get_or, drop, Some, sym, ap, ◌∙◌, refl, arith}
+use Rattle.std.proofs.Common.{◌≡◌, ℕ, zero, suc, ◌+◌, ◌-◌, ◌*◌, ◌≤◌, [], ◌∷◌, get_or, drop, Some, sym, ap, ◌∙◌, refl}
+use Rattle.std.proofs.Common.{arith}
 use Rattle.std.proofs.Math.Nat.{pow-suc, pow-zero, mul-le-mul, mul-le-mul_left}
-use Rattle.teco_poly.specs.Polynomial.{Polynomial, value_from, value, sum, scaled, raised, product, differences, one_less, fitted}
+use Rattle.teco_poly.specs.Polynomial.{Polynomial, value_from, value, sum, scaled, raised, product, differences}
+use Rattle.teco_poly.specs.Polynomial.{one_less, fitted}
 use Rattle.teco_poly.proofs.Fitting.{fitted_like}
 
 -- with one power more each term is n times as large
@@ -18,7 +20,11 @@ pub value-sum : (p q : Polynomial) (n : ℕ) → value (sum p q) n ≡ value p n
 value-sum [] q n = omega arith
 value-sum (a ∷ p) [] n = omega arith
 value-sum (a ∷ p) (b ∷ q) n =
-    value-cons (a + b) (sum p q) n ∙ ap (λ v. a + b + n * v) (value-sum p q n) ∙ omega (arith, value-cons a p n, value-cons b q n)
+    value-cons (a + b) (sum p q) n ∙ ap (λ v. a + b + n * v) (value-sum p q n) ∙ omega (
+      arith,
+      value-cons a p n,
+      value-cons b q n,
+    )
 
 value-scaled : (a : ℕ) (q : Polynomial) (n : ℕ) → value (scaled a q) n ≡ a * value q n
 value-scaled a [] n = omega arith
@@ -30,12 +36,23 @@ pub value-product : (p q : Polynomial) (n : ℕ) → value (product p q) n ≡ v
 value-product [] q n = omega arith
 value-product (a ∷ p) q n =
     value-sum (scaled a q) (raised (product p q)) n
-    ∙ omega (arith, value-scaled a q n, value-cons 0 (product p q) n, ap (λ v. n * v) (value-product p q n), ap (λ v. v * value q n) (value-cons a p n))
+    ∙ omega (
+      arith,
+      value-scaled a q n,
+      value-cons 0 (product p q) n,
+      ap (λ v. n * v) (value-product p q n),
+      ap (λ v. v * value q n) (value-cons a p n),
+    )
 
 -- polynomials with the same coefficients have the same values
 value_zero : (p : Polynomial) (n : ℕ) → ((k : ℕ) → get_or p k 0 ≡ 0) → value p n ≡ 0
 value_zero [] n each = refl
-value_zero (c ∷ p) n each = omega (arith, value-cons c p n, each 0, ap (λ v. n * v) (value_zero p n (λ k. each (suc k))))
+value_zero (c ∷ p) n each = omega (
+  arith,
+  value-cons c p n,
+  each 0,
+  ap (λ v. n * v) (value_zero p n (λ k. each (suc k))),
+)
 
 pub value_same : (p q : Polynomial) (n : ℕ) → ((k : ℕ) → get_or p k 0 ≡ get_or q k 0) → value p n ≡ value q n
 value_same [] q n same = sym (value_zero q n (λ k. sym (same k)))
@@ -46,21 +63,41 @@ value_same (a ∷ p) (b ∷ q) n same =
 -- a polynomial that is at most another has no greater value
 pub value_at_most : (p q : Polynomial) (n : ℕ) → ((k : ℕ) → get_or p k 0 ≤ get_or q k 0) → value p n ≤ value q n
 value_at_most [] q n below = omega arith
-value_at_most (a ∷ p) [] n below = let none : value (a ∷ p) n ≡ 0 = value_zero (a ∷ p) n (λ k. omega (arith, below k)) in omega arith
+value_at_most (a ∷ p) [] n below = let none : value (a ∷ p) n ≡ 0 =
+    value_zero (a ∷ p) n (λ k. omega (arith, below k)) in omega arith
 value_at_most (a ∷ p) (b ∷ q) n below =
-    omega (arith, value-cons a p n, value-cons b q n, below 0, mul-le-mul_left n (value_at_most p q n (λ k. below (suc k))))
+    omega (
+      arith,
+      value-cons a p n,
+      value-cons b q n,
+      below 0,
+      mul-le-mul_left n (value_at_most p q n (λ k. below (suc k))),
+    )
 
 -- values grow with N
 pub value_grows : (p : Polynomial) (m n : ℕ) → m ≤ n → value p m ≤ value p n
 value_grows [] m n more = omega arith
-value_grows (c ∷ p) m n more = omega (arith, value-cons c p m, value-cons c p n, mul-le-mul more (value_grows p m n more))
+value_grows (c ∷ p) m n more = omega (
+  arith,
+  value-cons c p m,
+  value-cons c p n,
+  mul-le-mul more (value_grows p m n more),
+)
 
 -- a difference and what was taken away are the whole
-pub value-differences : (p q : Polynomial) (n : ℕ) → ((k : ℕ) → get_or q k 0 ≤ get_or p k 0) → value (differences p q) n + value q n ≡ value p n
+pub value-differences : (p q : Polynomial) (n : ℕ) → ((k : ℕ) → get_or q k 0 ≤ get_or p k 0)
+    → value (differences p q) n + value q n ≡ value p n
 value-differences [] q n below = let none : value q n ≡ 0 = value_zero q n (λ k. omega (arith, below k)) in omega arith
 value-differences (a ∷ p) [] n below = omega arith
 value-differences (a ∷ p) (b ∷ q) n below =
-    omega (arith, value-cons (a - b) (differences p q) n, value-cons a p n, value-cons b q n, below 0, ap (λ v. n * v) (value-differences p q n (λ k. below (suc k))))
+    omega (
+      arith,
+      value-cons (a - b) (differences p q) n,
+      value-cons a p n,
+      value-cons b q n,
+      below 0,
+      ap (λ v. n * v) (value-differences p q n (λ k. below (suc k))),
+    )
 
 pub value-one_less : (p : Polynomial) (n : ℕ) → value p n ≤ value (one_less p) n + 1
 value-one_less [] n = omega arith

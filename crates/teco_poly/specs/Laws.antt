@@ -1,7 +1,8 @@
 -- What the operations on polynomials do to their values, and what the comparison is. Each is said of all polynomials,
 -- of any length and with coefficients of any size.
 use Rattle.std.specs.Prelude.{◌≡◌, ℕ, ◌+◌, ◌*◌, ◌^◌, ◌<◌, ◌≤◌, IsTrue, Some}
-use Rattle.teco_poly.specs.Polynomial.{Polynomial, value, number, variable, add, sub, mul, join, one_less, at, is_at_most}
+use Rattle.teco_poly.specs.Polynomial.{Polynomial, value, number, variable, add, sub, mul, join, one_less, at}
+use Rattle.teco_poly.specs.Polynomial.{is_at_most}
 use Rattle.teco_poly.specs.Reading.{IsPoly}
 use Rattle.teco_poly.specs.Text.{text}
 

@@ -1,5 +1,7 @@
 //! Laws of polynomials and their values.
-ghost use Rattle.teco_poly.specs.Laws.{ValuesOfConstants, ValueOfSum, ValueOfDifference, ValueOfProduct, ValueOfJoin, ValueOfOneLess, ValueAt, AnswersArePolys, ValuesCompare, ValuesGrow, ComparisonOrders, JoinIsLeast, OneText};
+ghost use Rattle.teco_poly.specs.Laws.{ValuesOfConstants, ValueOfSum, ValueOfDifference, ValueOfProduct, ValueOfJoin};
+ghost use Rattle.teco_poly.specs.Laws.{ValueOfOneLess, ValueAt, AnswersArePolys, ValuesCompare, ValuesGrow};
+ghost use Rattle.teco_poly.specs.Laws.{ComparisonOrders, JoinIsLeast, OneText};
 
 /// A number has itself as its value, and N the number that it stands for.
 pub fn values_of_constants()

@@ -1,5 +1,6 @@
 // Texts of polynomials.
-ghost use Rattle.std.specs.Prelude.{◌≡◌, ℕ, List, ◌+◌, ◌-◌, ◌<◌, ◌≤◌, ◌^◌, [], ◌∷◌, ◌++◌, length, drop, true, IfOk, OnOk, IfSome, IfNone, IsTrue, ◌↔◌, slice_index};
+ghost use Rattle.std.specs.Prelude.{◌≡◌, ℕ, List, ◌+◌, ◌-◌, ◌<◌, ◌≤◌, ◌^◌, [], ◌∷◌, ◌++◌, length, drop, true, IfOk};
+ghost use Rattle.std.specs.Prelude.{OnOk, IfSome, IfNone, IsTrue, ◌↔◌, slice_index};
 ghost use Rattle.std.specs.Option.{SomeIff};
 ghost use Rattle.std.specs.Char.{is_ascii_digit};
 ghost use Rattle.std.specs.Fmt.{decimal};
@@ -7,8 +8,10 @@ ghost use Rattle.std.specs.List.{prefix_len};
 ghost use Rattle.std.specs.String.{string_bytes};
 ghost use Rattle.std.specs.Str.{all_ascii_digits};
 ghost use Rattle.std.specs.Str.Parse.{digits_value as value_of_digits};
-ghost use Rattle.teco_poly.specs.Reading.{EndsTerm, IsNumberAt, IsCoefficientAt, IsTermAt, IsLedTermAt, IsNextAt, AreSmall, IsPoly};
-ghost use Rattle.teco_poly.specs.Text.{power_text as power_spelled, term_text, terms_from, joined, lead_behind, text as spelled};
+ghost use Rattle.teco_poly.specs.Reading.{EndsTerm, IsNumberAt, IsCoefficientAt, IsTermAt, IsLedTermAt, IsNextAt};
+ghost use Rattle.teco_poly.specs.Reading.{AreSmall, IsPoly};
+ghost use Rattle.teco_poly.specs.Text.{power_text as power_spelled, term_text, terms_from, joined, lead_behind};
+ghost use Rattle.teco_poly.specs.Text.{text as spelled};
 
 use crate::coefficients::{COEFFICIENTS, Coefficients};
 use std::alloc::{AllocError, Global};

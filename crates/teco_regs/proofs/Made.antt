@@ -6,7 +6,8 @@ use Rattle.std.specs.Fn.{Called}
 use denote.Param.Members.{Mut}
 
 -- where each call answers v, the array holds v alone
-pub made_same : {F B : Type 0} (g : Mut F (ℕ × Unit {0}) B) (v : B) (same : (i : ℕ) (p q : F) (y : B) → Called g p (i, tt) y q → y ≡ v) (f : F) (ys : List B) (n : ℕ) → IsFromFnResult g f ys n → ys ≡ replicate n v
+pub made_same : {F B : Type 0} (g : Mut F (ℕ × Unit {0}) B) (v : B) (same : (i : ℕ) (p q : F) (y : B)
+    → Called g p (i, tt) y q → y ≡ v) (f : F) (ys : List B) (n : ℕ) → IsFromFnResult g f ys n → ys ≡ replicate n v
 made_same g v same f ys n made =
     same_lists ys (replicate n v) (made.long ∙ sym (length-replicate n v)) (λ k d within.
     let below : k < n = omega arith in

@@ -11,7 +11,8 @@ sum_by-reverse f xs = sum_by-IsPermutation f xs (reverse xs) (IsPermutation-reve
 
 pub All-from_reverse : {X : Type 0} (P : X → Type 0) (xs : List X) → All P (reverse xs) → All P xs
 All-from_reverse P xs all =
-    let again : All P (reverse (reverse xs)) = All-permutation P (reverse xs) (reverse (reverse xs)) (IsPermutation-reverse (reverse xs)) all in
+    let again : All P (reverse (reverse xs)) =
+    All-permutation P (reverse xs) (reverse (reverse xs)) (IsPermutation-reverse (reverse xs)) all in
     rw (reverse-reverse xs) at again
 
 pub each_reversed : {X : Type 0} (P : X → Type 0) (xs : List X) → AllByRecursion P xs → AllByRecursion P (reverse xs)

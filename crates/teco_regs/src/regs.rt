@@ -1,8 +1,11 @@
 // The registers.
-ghost use Rattle.std.specs.Prelude.{◌≡◌, ◌≤◌, ◌<◌, ◌*◌, ◌^◌, ◌++◌, length, map, zip, sum_by, All, OnOk, OnErr, IfOk, Some, vec_len};
+ghost use Rattle.std.specs.Prelude.{◌≡◌, ◌≤◌, ◌<◌, ◌*◌, ◌^◌, ◌++◌, length, map, zip, sum_by, All, OnOk, OnErr, IfOk};
+ghost use Rattle.std.specs.Prelude.{Some, vec_len};
 ghost use Rattle.std.specs.List.{AllByRecursion};
 ghost use Rattle.teco_base.specs.declared.TheConstants.{LIMIT};
-ghost use Rattle.teco_model.specs.Registers.{AreWhole, IsWithinLimit, empty_registers, pair_of, with_number, with_text, with_own_text, with_texts, registers_after_push, registers_after_pop, held_length_of_pair, held_length_of_registers};
+ghost use Rattle.teco_model.specs.Registers.{AreWhole, IsWithinLimit, empty_registers, pair_of, with_number};
+ghost use Rattle.teco_model.specs.Registers.{with_text, with_own_text, with_texts, registers_after_push};
+ghost use Rattle.teco_model.specs.Registers.{registers_after_pop, held_length_of_pair, held_length_of_registers};
 ghost use Rattle.teco_model.specs.Registers as model;
 ghost use Rattle.teco_model.specs.laws.Whole.{AreWholePairs, IsWholePair};
 ghost use Rattle.teco_regs.specs.Answers.{OkWithin, OkWhereNonEmpty, OkUnlessMemory};

@@ -1,5 +1,6 @@
 -- Which files the steps of a run open, name and drop, where its host notes its calls.
-use Rattle.std.specs.Prelude.{ℕ, zero, suc, ◌≡◌, ⊤, List, [], ◌∷◌, ◌++◌, Option, Some, None, Result, Ok, Err, option_map}
+use Rattle.std.specs.Prelude.{ℕ, zero, suc, ◌≡◌, ⊤, List, [], ◌∷◌, ◌++◌, Option, Some, None, Result, Ok, Err}
+use Rattle.std.specs.Prelude.{option_map}
 use Rattle.std.specs.List.{AllByRecursion}
 use Rattle.teco_base.specs.declared.code.Code as base
 use Rattle.teco_model.specs.Element.{Element, element_at}
@@ -40,7 +41,8 @@ abbrev pub touched_by_element : {X : Type 0} → Kind → List ℕ → Option (L
 touched_by_element k = touched_by_command (file_of k)
 
 -- a step, by what is read at its place
-abbrev pub touched_by_read : {X : Type 0} → Result (Option Element) base.Code → Option (List ℕ) → Result X Halt → List Event
+abbrev pub touched_by_read : {X : Type 0} → Result (Option Element) base.Code → Option (List ℕ) → Result X Halt
+    → List Event
 touched_by_read (Ok (Some e)) output result = touched_by_element e.kind e.text output result
 touched_by_read (Ok None) output result = []
 touched_by_read (Err c) output result = []
@@ -91,8 +93,8 @@ pub record ComesTo (event : Event) (s : State) : Type 0 where
   pub result : Result (Unit {0}) Halt
   pub touches : touched_by_step there.frames.running (output_named there.world) result ≡ event ∷ []
 
--- A file was touched so, behind these that were touched earlier, as the definition's steps do, whatever files there were
--- that fitted what was noted until then.
+-- A file was touched so, behind these that were touched earlier, as the definition's steps do, whatever files there
+-- were that fitted what was noted until then.
 pub record IsDue (from : World → State) (earlier : List Event) (event : Event) (later : List Event)
     (old new : Holdings) (before after : Telling) : Type 0 where
   pub mid : Holdings

@@ -24,11 +24,15 @@ stop-rises stop_kind.Memory f g same = record { rises = omega arith; plain = λ 
 stop-rises (stop_kind.HostFault fault) f g more = record { rises = omega arith; plain = λ e. cc }
 
 -- as what was said of it tells
-pub said-counts : (coded : Bool) (f g : ℕ) (line : Result Bool SessionFault) (exit : Bool) (result : Result Done SessionFault) → RisesCoded coded f g → IfOk line (λ l. l ≡ coded) → Said line exit result → SessionCounts result f g
+pub said-counts : (coded : Bool) (f g : ℕ) (line : Result Bool SessionFault) (exit : Bool)
+    (result : Result Done SessionFault) → RisesCoded coded f g → IfOk line (λ l. l ≡ coded) → Said line exit result
+    → SessionCounts result f g
 said-counts coded f g (Ok line) exit result rises told said = rw said (rises.rises, λ e. rises.plain (sym told ∙ e))
 said-counts coded f g (Err fault) exit result rises told said = rw said rises.rises
 
 -- behind what came before
-pub behind-rises : (coded line : Bool) (f k g : ℕ) → RisesCoded coded f k → k ≤ g → (line ≡ false → g ≡ k) → RisesCoded (coded || line) f g
+pub behind-rises : (coded line : Bool) (f k g : ℕ) → RisesCoded coded f k → k ≤ g → (line ≡ false → g ≡ k)
+    → RisesCoded (coded || line) f g
 behind-rises true line f k g first more plain = record { rises = omega (arith, first.rises); plain = λ e. cc }
-behind-rises false line f k g first more plain = record { rises = omega (arith, first.rises); plain = λ e. plain e ∙ first.plain refl }
+behind-rises false line f k g first more plain =
+    record { rises = omega (arith, first.rises); plain = λ e. plain e ∙ first.plain refl }

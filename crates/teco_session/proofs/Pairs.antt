@@ -1,5 +1,7 @@
 -- A string ends where a pair of ESC stands: at the meeting of two pieces, or within one.
-use Rattle.std.proofs.Common.{◌≡◌, ℕ, zero, suc, ◌+◌, ◌-◌, List, [], ◌∷◌, ◌++◌, length, Option, Some, None, Bool, true, false, ◌&&◌, ◌==◌, nat_lt, ◌<◌, take, slice_index, refl, sym, ap, ◌∙◌, arith, ◌⊎◌, inl, inr}
+use Rattle.std.proofs.Common.{◌≡◌, ℕ, zero, suc, ◌+◌, ◌-◌, List, [], ◌∷◌, ◌++◌, length, Option, Some, None, Bool}
+use Rattle.std.proofs.Common.{true, false, ◌&&◌, ◌==◌, nat_lt, ◌<◌, take, slice_index, refl, sym, ap, ◌∙◌, arith, ◌⊎◌}
+use Rattle.std.proofs.Common.{inl, inr}
 use Rattle.std.proofs.lemmas.Bool.{lt-ltb, eqb-true, false≢true}
 use Rattle.std.proofs.lemmas.List.{length-append, length_push, length-take-le}
 use Rattle.std.specs.Option.{option_map}
@@ -18,10 +20,13 @@ abbrev pub end_at_front : Bool → Option ℕ → Option ℕ
 end_at_front true later = Some 2
 end_at_front false later = option_map (λ n. 1 + n) later
 
-string_end-cons : (a b : ℕ) (bytes : List ℕ) → string_end (a ∷ b ∷ bytes) ≡ end_at_front (a == 27 && b == 27) (string_end (b ∷ bytes))
+string_end-cons : (a b : ℕ) (bytes : List ℕ)
+    → string_end (a ∷ b ∷ bytes) ≡ end_at_front (a == 27 && b == 27) (string_end (b ∷ bytes))
 unfolding string_end
 string_end-cons a b bytes = by_test (a == 27 && b == 27) where
-  by_test : (t : Bool) → (elim t as (λ _. Option ℕ) [ true ↦ Some 2 | false ↦ option_map (λ n. 1 + n) (string_end (b ∷ bytes)) ]) ≡ end_at_front t (string_end (b ∷ bytes))
+  by_test : (t : Bool)
+      → (elim t as (λ _. Option ℕ) [ true ↦ Some 2 | false ↦ option_map (λ n. 1 + n) (string_end (b ∷ bytes)) ])
+      ≡ end_at_front t (string_end (b ∷ bytes))
   by_test true = refl
   by_test false = refl
 
@@ -49,7 +54,8 @@ last_at bytes i len =
 pub last_is_esc-value : (s : List ℕ) → last_is_esc s ≡ esc_last s
 last_is_esc-value [] = refl
 last_is_esc-value (a ∷ []) = refl
-last_is_esc-value (a ∷ c ∷ rest) = last_at (a ∷ c ∷ rest) (suc (length rest)) refl ∙ sym (last_at (c ∷ rest) (length rest) refl) ∙ last_is_esc-value (c ∷ rest)
+last_is_esc-value (a ∷ c ∷ rest) = last_at (a ∷ c ∷ rest) (suc (length rest)) refl
+    ∙ sym (last_at (c ∷ rest) (length rest) refl) ∙ last_is_esc-value (c ∷ rest)
 
 map_zero : (r : Option ℕ) → option_map (λ n. 0 + n) r ≡ r
 map_zero None = refl
@@ -60,17 +66,21 @@ map_suc k None = refl
 map_suc k (Some n) = ap Some (omega arith)
 
 -- behind a string without an end, where no pair stands at the meeting, the end is that of the other
-pub string_end-append : (s t : List ℕ) → string_end s ≡ None → (esc_last s && first_is_esc t) ≡ false → string_end (s ++ t) ≡ option_map (λ n. length s + n) (string_end t)
+pub string_end-append : (s t : List ℕ) → string_end s ≡ None → (esc_last s && first_is_esc t) ≡ false
+    → string_end (s ++ t) ≡ option_map (λ n. length s + n) (string_end t)
 string_end-append [] t none apart = sym (map_zero (string_end t))
 string_end-append (a ∷ []) [] none apart = string_end-one a ∙ rw string_end-nil refl
-string_end-append (a ∷ []) (b ∷ rest) none apart = string_end-cons a b rest ∙ ap (λ t. end_at_front t (string_end (b ∷ rest))) apart
+string_end-append (a ∷ []) (b ∷ rest) none apart =
+    string_end-cons a b rest ∙ ap (λ t. end_at_front t (string_end (b ∷ rest))) apart
 string_end-append (a ∷ c ∷ rest) t none apart =
     let front = front_apart (a == 27 && c == 27) (string_end (c ∷ rest)) (sym (string_end-cons a c rest) ∙ none) in
     string_end-cons a c (rest ++ t) ∙ ap (λ f. end_at_front f (string_end (c ∷ (rest ++ t)))) front.0
-    ∙ ap (option_map (λ n. 1 + n)) (string_end-append (c ∷ rest) t front.1 apart) ∙ map_suc (length (c ∷ rest)) (string_end t)
+    ∙ ap (option_map (λ n. 1 + n)) (string_end-append (c ∷ rest) t front.1 apart)
+    ∙ map_suc (length (c ∷ rest)) (string_end t)
 
 -- where one stands there, the end is behind its second byte
-pub string_end-meeting : (s : List ℕ) (b : ℕ) (t : List ℕ) → string_end s ≡ None → esc_last s ≡ true → b ≡ 27 → string_end (s ++ b ∷ t) ≡ Some (length s + 1)
+pub string_end-meeting : (s : List ℕ) (b : ℕ) (t : List ℕ) → string_end s ≡ None → esc_last s ≡ true → b ≡ 27
+    → string_end (s ++ b ∷ t) ≡ Some (length s + 1)
 string_end-meeting [] b t none last is = cc
 string_end-meeting (a ∷ []) b t none last is =
     let pair : (a == 27 && b == 27) ≡ true = rw (last, is) refl in
@@ -94,7 +104,11 @@ occurs_behind : (a : ℕ) (t : List ℕ) (k : ℕ) → OccursAt t pair k → Occ
 occurs_behind a t k o = record { fits = omega (arith, o.fits); reads = λ j less. past_one a t k j ∙ o.reads j less }
 
 occurs_within : (a : ℕ) (t : List ℕ) (k : ℕ) → OccursAt (a ∷ t) pair (suc k) → OccursAt t pair k
-occurs_within a t k o = record { fits = omega (arith, o.fits); reads = λ j less. sym (past_one a t k j) ∙ o.reads j less }
+occurs_within a t k o = record {
+  fits = omega (arith, o.fits);
+  reads = λ j less. sym (past_one a t k j)
+      ∙ o.reads j less;
+}
 
 both_are : (a b : ℕ) → (a == 27 && b == 27) ≡ true → (a ≡ 27) × (b ≡ 27)
 both_are a b h = grind (arith, h, eqb-true a 27, eqb-true b 27)
@@ -120,29 +134,35 @@ string_end-nowhere (a ∷ []) none = string_end-one a
 string_end-nowhere (a ∷ b ∷ rest) none =
     string_end-cons a b rest
     ∙ ap (λ f. end_at_front f (string_end (b ∷ rest))) (apart (a == 27 && b == 27) refl)
-    ∙ ap (option_map (λ n. 1 + n)) (string_end-nowhere (b ∷ rest) (λ k o. none (suc k) (occurs_behind a (b ∷ rest) k o))) where
+    ∙ ap (option_map (λ n. 1 + n)) (string_end-nowhere (b ∷ rest)
+    (λ k o. none (suc k) (occurs_behind a (b ∷ rest) k o))) where
       apart : (f : Bool) → (a == 27 && b == 27) ≡ f → f ≡ false
       apart true h = absurd (none 0 (occurs_at_front a b rest h))
       apart false h = refl
 
-pub string_end-first : (t : List ℕ) (k : ℕ) → OccursAt t pair k → ((j : ℕ) → j < k → OccursAt t pair j → ⊥) → string_end t ≡ Some (k + 2)
+pub string_end-first : (t : List ℕ) (k : ℕ) → OccursAt t pair k → ((j : ℕ) → j < k → OccursAt t pair j → ⊥)
+    → string_end t ≡ Some (k + 2)
 string_end-first [] k o none = absurd (omega (arith, o.fits))
 string_end-first (a ∷ []) k o none = absurd (omega (arith, o.fits))
-string_end-first (a ∷ b ∷ rest) zero o none = string_end-cons a b rest ∙ ap (λ f. end_at_front f (string_end (b ∷ rest))) (front_occurs a b rest o)
+string_end-first (a ∷ b ∷ rest) zero o none =
+    string_end-cons a b rest ∙ ap (λ f. end_at_front f (string_end (b ∷ rest))) (front_occurs a b rest o)
 string_end-first (a ∷ b ∷ rest) (suc k) o none =
     string_end-cons a b rest
     ∙ ap (λ f. end_at_front f (string_end (b ∷ rest))) (apart (a == 27 && b == 27) refl)
-    ∙ ap (option_map (λ n. 1 + n)) (string_end-first (b ∷ rest) k (occurs_within a (b ∷ rest) k o) (λ j less p. none (suc j) (omega (arith, less)) (occurs_behind a (b ∷ rest) j p)))
+    ∙ ap (option_map (λ n. 1 + n)) (string_end-first (b ∷ rest) k (occurs_within a (b ∷ rest) k o)
+    (λ j less p. none (suc j) (omega (arith, less)) (occurs_behind a (b ∷ rest) j p)))
     ∙ ap Some (omega arith) where
       apart : (f : Bool) → (a == 27 && b == 27) ≡ f → f ≡ false
       apart true h = absurd (none 0 (omega arith) (occurs_at_front a b rest h))
       apart false h = refl
 
 -- the front of a string up to its first pair ends with it
-ended_front : (t : List ℕ) (k : ℕ) → OccursAt t pair k → ((j : ℕ) → j < k → OccursAt t pair j → ⊥) → string_end (take (k + 2) t) ≡ Some (k + 2)
+ended_front : (t : List ℕ) (k : ℕ) → OccursAt t pair k → ((j : ℕ) → j < k → OccursAt t pair j → ⊥)
+    → string_end (take (k + 2) t) ≡ Some (k + 2)
 ended_front [] k o none = absurd (omega (arith, o.fits))
 ended_front (a ∷ []) k o none = absurd (omega (arith, o.fits))
-ended_front (a ∷ b ∷ rest) zero o none = string_end-cons a b [] ∙ ap (λ f. end_at_front f (string_end (b ∷ []))) (front_occurs a b rest o)
+ended_front (a ∷ b ∷ rest) zero o none = string_end-cons a b [] ∙ ap (λ f. end_at_front f (string_end (b ∷ [])))
+    (front_occurs a b rest o)
 ended_front (a ∷ b ∷ rest) (suc k) o none =
     let one : suc k + 2 ≡ suc (k + 2) = omega arith in
     let two : k + 2 ≡ suc (k + 1) = omega arith in
@@ -151,7 +171,9 @@ ended_front (a ∷ b ∷ rest) (suc k) o none =
     ap string_end (front ∙ ap (λ l. a ∷ l) second)
     ∙ string_end-cons a b (take (k + 1) rest)
     ∙ ap (λ f. end_at_front f (string_end (b ∷ take (k + 1) rest))) (apart (a == 27 && b == 27) refl)
-    ∙ ap (option_map (λ n. 1 + n)) (ap string_end (sym second) ∙ ended_front (b ∷ rest) k (occurs_within a (b ∷ rest) k o) (λ j less p. none (suc j) (omega (arith, less)) (occurs_behind a (b ∷ rest) j p)))
+    ∙ ap (option_map (λ n. 1 + n)) (ap string_end (sym second)
+    ∙ ended_front (b ∷ rest) k (occurs_within a (b ∷ rest) k o)
+    (λ j less p. none (suc j) (omega (arith, less)) (occurs_behind a (b ∷ rest) j p)))
     ∙ ap Some (omega arith) where
       apart : (f : Bool) → (a == 27 && b == 27) ≡ f → f ≡ false
       apart true h = absurd (none 0 (omega arith) (occurs_at_front a b rest h))
@@ -183,22 +205,29 @@ pub apart_by_first : (s t : List ℕ) → first_is_esc t ≡ false → AreApart 
 apart_by_first s t no_esc = apart_of (last_is_esc s) (first_is_esc t) (inr no_esc)
 
 -- a string goes on to the first pair behind it
-pub ended_within : (s t : List ℕ) (k : ℕ) → string_end s ≡ None → AreApart s t → FindsNeedle t pair 0 (Some k) → IsEnded (s ++ take (k + 2) t)
+pub ended_within : (s t : List ℕ) (k : ℕ) → string_end s ≡ None → AreApart s t → FindsNeedle t pair 0 (Some k)
+    → IsEnded (s ++ take (k + 2) t)
 ended_within s t k endless apart found =
-    let meet : (esc_last s && first_is_esc (take (k + 2) t)) ≡ false = rw (first_of_front t k, sym (last_is_esc-value s)) apart in
+    let meet : (esc_last s && first_is_esc (take (k + 2) t)) ≡ false =
+    rw (first_of_front t k, sym (last_is_esc-value s)) apart in
     let front = ended_front t k found.1 (λ j less. found.0.before j (omega arith) less) in
-    let long : length (s ++ take (k + 2) t) ≡ length s + (k + 2) = length-append s (take (k + 2) t) ∙ ap (λ n. length s + n) (length-take-le (k + 2) t found.1.fits) in
+    let long : length (s ++ take (k + 2) t) ≡ length s + (k + 2) =
+    length-append s (take (k + 2) t) ∙ ap (λ n. length s + n) (length-take-le (k + 2) t found.1.fits) in
     string_end-append s (take (k + 2) t) endless meet ∙ ap (option_map (λ n. length s + n)) front ∙ ap Some (sym long)
 
 -- behind it there is none
-pub endless_behind : (s t : List ℕ) → string_end s ≡ None → AreApart s t → FindsNeedle t pair 0 None → string_end (s ++ t) ≡ None
+pub endless_behind : (s t : List ℕ) → string_end s ≡ None → AreApart s t → FindsNeedle t pair 0 None
+    → string_end (s ++ t) ≡ None
 endless_behind s t endless apart nowhere =
     let meet : (esc_last s && first_is_esc t) ≡ false = rw (sym (last_is_esc-value s)) apart in
     string_end-append s t endless meet
-    ∙ ap (option_map (λ n. length s + n)) (string_end-nowhere t (λ k o. nowhere k (omega arith) (omega (arith, o.fits)) o))
+    ∙ ap (option_map (λ n. length s + n))
+    (string_end-nowhere t (λ k o. nowhere k (omega arith) (omega (arith, o.fits)) o))
 
 -- a string goes on to the second byte of a pair that stands where the two meet
-pub ended_at_meeting : (s t : List ℕ) → string_end s ≡ None → last_is_esc s ≡ true → first_is_esc t ≡ true → IsEnded (s ++ take 1 t)
+pub ended_at_meeting : (s t : List ℕ) → string_end s ≡ None → last_is_esc s ≡ true → first_is_esc t ≡ true
+    → IsEnded (s ++ take 1 t)
 ended_at_meeting s [] endless last first = absurd (false≢true first)
 ended_at_meeting s (b ∷ t) endless last first =
-    string_end-meeting s b [] endless (sym (last_is_esc-value s) ∙ last) (eqb-true b 27 first) ∙ ap Some (sym (length_push s b))
+    string_end-meeting s b [] endless (sym (last_is_esc-value s) ∙ last) (eqb-true b 27 first)
+    ∙ ap Some (sym (length_push s b))

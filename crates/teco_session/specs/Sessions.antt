@@ -1,5 +1,6 @@
 -- What comes of a session, beside the definition.
-use Rattle.std.specs.Prelude.{ℕ, ◌≡◌, ◌⊎◌, ◌≤◌, List, [], ◌++◌, length, Option, Bool, true, false, Result, Ok, Err, IfSome}
+use Rattle.std.specs.Prelude.{ℕ, ◌≡◌, ◌⊎◌, ◌≤◌, List, [], ◌++◌, length, Option, Bool, true, false, Result, Ok, Err}
+use Rattle.std.specs.Prelude.{IfSome}
 use Rattle.std.specs.Io.KnownBytes.{Consumes, Appends, prepend_known}
 use Rattle.teco_model.specs.Session.{Executes, Session, SessionToEnd, SessionToExit, IsCommandString}
 use Rattle.teco_model.specs.State.{World}

@@ -1,5 +1,6 @@
 -- Command strings, cut from an input.
-use Rattle.std.specs.Prelude.{ℕ, ◌-◌, ◌≡◌, ◌<◌, ◌≤◌, List, [], ◌∷◌, length, slice_index, Bool, false, ◌&&◌, ◌==◌, nat_lt, Option, Some, None}
+use Rattle.std.specs.Prelude.{ℕ, ◌-◌, ◌≡◌, ◌<◌, ◌≤◌, List, [], ◌∷◌, length, slice_index, Bool, false, ◌&&◌, ◌==◌}
+use Rattle.std.specs.Prelude.{nat_lt, Option, Some, None}
 use Rattle.std.specs.Io.KnownBytes.{IsAtEnd}
 use Rattle.teco_model.specs.Session.{string_end, IsCommandString}
 use Rattle.teco_model.specs.declared.session.Limits.{Limits}

@@ -1,5 +1,6 @@
 //! Command strings, cut from what a reader gives.
-ghost use Rattle.std.specs.Prelude.{◌≡◌, ◌≢◌, ◌≤◌, ◌<◌, ◌++◌, [], length, take, vec_len, IfOk, IfErr, IfSome, IfNone, OnOk, OnErr, true};
+ghost use Rattle.std.specs.Prelude.{◌≡◌, ◌≢◌, ◌≤◌, ◌<◌, ◌++◌, [], length, take, vec_len, IfOk, IfErr, IfSome, IfNone};
+ghost use Rattle.std.specs.Prelude.{OnOk, OnErr, true};
 ghost use Rattle.std.specs.Io.KnownBytes.{Consumes, prepend_known};
 ghost use Rattle.teco_model.specs.Session.{string_end};
 ghost use Rattle.teco_session.specs.Strings.{first_is_esc, last_is_esc, IsEnded, IsPiece, IsUnended};

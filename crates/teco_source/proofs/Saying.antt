@@ -8,7 +8,8 @@ use Rattle.teco_source.specs.declared.form.Form.TheVariants.{the_data, Marked, R
 use Rattle.teco_source.specs.declared.form.TheConstants.{CARET, DOLLAR}
 
 -- behind a caret no text is written that begins with a dollar
-begins_so : (text : List ℕ) → has_source_behind Readable CARET text ≡ true → begins_with_dollar (spelled Readable text) ≡ false
+begins_so : (text : List ℕ) → has_source_behind Readable CARET text ≡ true
+    → begins_with_dollar (spelled Readable text) ≡ false
 begins_so [] has = refl
 begins_so (d ∷ text) has = grind (arith, common_steps)
 
@@ -17,13 +18,22 @@ marked : (mark before other : ℕ) (text : List ℕ) → has_source_behind (Mark
 marked mark before other [] has = refl
 marked mark before other (c ∷ text) has = grind (arith, common_steps, marked mark c mark text, marked mark c c text)
 
-readable : (before other : ℕ) (text : List ℕ) → (other == CARET) ≡ (before == CARET) → has_source_behind Readable before text ≡ true
+readable : (before other : ℕ) (text : List ℕ) → (other == CARET) ≡ (before == CARET)
+    → has_source_behind Readable before text ≡ true
     → said_behind Readable other (spelled Readable text) ≡ text
 readable before other [] same has = refl
 readable before other (c ∷ text) same has =
-    grind (arith, common_steps, begins_so text, readable ESC DOLLAR text refl, readable c DOLLAR text, readable c c text refl)
+    grind (
+      arith,
+      common_steps,
+      begins_so text,
+      readable ESC DOLLAR text refl,
+      readable c DOLLAR text,
+      readable c c text refl,
+    )
 
-pub said_spelled : (form : the_data) (text : List ℕ) → has_source form text ≡ true → said form (spelled form text) ≡ text
+pub said_spelled : (form : the_data) (text : List ℕ) → has_source form text ≡ true
+    → said form (spelled form text) ≡ text
 said_spelled (Marked mark) text has = marked mark 0 0 text has
 said_spelled Readable text has = readable 0 0 text refl has
 

@@ -1,5 +1,6 @@
 -- What a source says: the text that is meant, in which ESC is the byte ESC.
-use Rattle.std.specs.Prelude.{◌≡◌, ℕ, zero, suc, Bool, true, false, ◌&&◌, ◌||◌, ◌==◌, not, if◌then◌else◌, List, [], ◌∷◌, ◌++◌, Option, Some, None}
+use Rattle.std.specs.Prelude.{◌≡◌, ℕ, zero, suc, Bool, true, false, ◌&&◌, ◌||◌, ◌==◌, not, if◌then◌else◌, List, []}
+use Rattle.std.specs.Prelude.{◌∷◌, ◌++◌, Option, Some, None}
 use Rattle.teco_base.specs.declared.bytes.TheConstants.{ESC}
 use Rattle.teco_source.specs.declared.form.Form.TheVariants.{the_data, Marked, Readable}
 use Rattle.teco_source.specs.declared.form.TheConstants.{CARET, DOLLAR}

@@ -3,7 +3,8 @@ ghost use Rattle.std.specs.Prelude.{◌≡◌, ◌≤◌, ◌<◌, ◌+◌, suc,
 ghost use Rattle.teco_base.specs.declared.TheConstants.{LIMIT};
 ghost use Rattle.teco_pages.specs.HostCalls.{Counts};
 ghost use Rattle.teco_pages.specs.HostFiles.{Notes};
-ghost use Rattle.teco_streams.specs.Streams.{IsFresh, PassesOn, given_of, input_behind, of_files, output_behind, with_notes};
+ghost use Rattle.teco_streams.specs.Streams.{IsFresh, PassesOn, given_of, input_behind, of_files, output_behind};
+ghost use Rattle.teco_streams.specs.Streams.{with_notes};
 ghost use Rattle.teco_streams.specs.declared.streams.Open.TheVariants as open_as;
 
 use std::alloc::Global;

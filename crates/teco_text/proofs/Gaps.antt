@@ -1,7 +1,9 @@
 -- Moving a gap, which is from s to e, and texts in two pieces.
-use Rattle.std.proofs.Common.{◌≡◌, ℕ, ◌+◌, ◌-◌, ◌≤◌, zero, suc, min, List, [], ◌∷◌, ◌++◌, length, take, drop, refl, sym, ap, ◌∙◌, arith, append_assoc}
+use Rattle.std.proofs.Common.{◌≡◌, ℕ, ◌+◌, ◌-◌, ◌≤◌, zero, suc, min, List, [], ◌∷◌, ◌++◌, length, take, drop, refl}
+use Rattle.std.proofs.Common.{sym, ap, ◌∙◌, arith, append_assoc}
 use Rattle.std.proofs.Math.Seq.{paste, take-append-add, drop-append-add}
-use Rattle.std.proofs.lemmas.List.{drop_at, drop-append-le, drop-drop, drop-take, drop_min, length-drop, length-take-le, take_min}
+use Rattle.std.proofs.lemmas.List.{drop_at, drop-append-le, drop-drop, drop-take, drop_min, length-drop}
+use Rattle.std.proofs.lemmas.List.{length-take-le, take_min}
 use native.Mathlib.Numerals.{unary_clauses}
 use Rattle.std.proofs.lemmas.List.Edits.{drop-paste, take-paste}
 use Rattle.std.specs.List.{copy_within}

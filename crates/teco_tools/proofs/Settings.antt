@@ -16,5 +16,7 @@ no_text n = All-replicate IsTextWithinLimit n None none_is_within
 some_is_within : (text : Bor (List ℕ)) → length text.now ≤ LIMIT → IsTextWithinLimit (Some text)
 some_is_within text within shown e = subst (λ it. length it.now ≤ LIMIT) (same_Some text shown e) within
 
-pub one_more : (texts : List (Option (Bor (List ℕ)))) (place : ℕ) (text : Bor (List ℕ)) → All IsTextWithinLimit texts → length text.now ≤ LIMIT → All IsTextWithinLimit (set texts place (Some text))
-one_more texts place text all within = All-set IsTextWithinLimit texts place (Some text) (some_is_within text within) all
+pub one_more : (texts : List (Option (Bor (List ℕ)))) (place : ℕ) (text : Bor (List ℕ)) → All IsTextWithinLimit texts
+    → length text.now ≤ LIMIT → All IsTextWithinLimit (set texts place (Some text))
+one_more texts place text all within =
+    All-set IsTextWithinLimit texts place (Some text) (some_is_within text within) all

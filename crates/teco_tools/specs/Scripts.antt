@@ -1,5 +1,6 @@
 -- What runs of scripts did, one after another on one machine.
-use Rattle.std.specs.Prelude.{ℕ, ◌≡◌, ◌⊎◌, List, [], ◌∷◌, ◌++◌, drop, Bool, true, false, ◌||◌, ◌&&◌, Option, Some, None, Result, Ok, Err, IsErr, IfSome, ⊤}
+use Rattle.std.specs.Prelude.{ℕ, ◌≡◌, ◌⊎◌, List, [], ◌∷◌, ◌++◌, drop, Bool, true, false, ◌||◌, ◌&&◌, Option, Some}
+use Rattle.std.specs.Prelude.{None, Result, Ok, Err, IsErr, IfSome, ⊤}
 use Rattle.teco_model.specs.declared.session.Limits.{Limits}
 use Rattle.teco_session.specs.FirstCode.{Hears}
 use Rattle.teco_model.specs.State.{World, kept_of_store}

@@ -5,7 +5,8 @@ ghost use Rattle.teco_run.specs.Holdings.{Joined};
 ghost use Rattle.teco_session.specs.FirstCode.{Hears};
 ghost use Rattle.teco_session.specs.Sessions.{setting};
 ghost use Rattle.teco_tools.specs.Scripts as scripts;
-ghost use Rattle.teco_tools.specs.Scripts.{Concludes, FileSays, HearsScript, IsInput, IsOutcome, PlaysOut, RunsScripts, around, conduct_of, terms_of};
+ghost use Rattle.teco_tools.specs.Scripts.{Concludes, FileSays, HearsScript, IsInput, IsOutcome, PlaysOut};
+ghost use Rattle.teco_tools.specs.Scripts.{RunsScripts, around, conduct_of, terms_of};
 
 use crate::fault::ToolFault;
 use crate::machines::machine_with;

@@ -1,5 +1,6 @@
 -- A minimum is no longer than its text.
-use Rattle.std.proofs.Common.{◌≡◌, refl, ℕ, zero, suc, ◌+◌, ◌≤◌, List, [], ◌∷◌, length, Some, None, Result, Ok, Err, arith}
+use Rattle.std.proofs.Common.{◌≡◌, refl, ℕ, zero, suc, ◌+◌, ◌≤◌, List, [], ◌∷◌, length, Some, None, Result, Ok, Err}
+use Rattle.std.proofs.Common.{arith}
 use Rattle.std.specs.Prelude.{fold}
 use Rattle.teco_base.specs.declared.code.Code.{Code}
 use Rattle.teco_model.specs.Checked.{◌>>=◌}
@@ -24,11 +25,16 @@ few zero text ps h = let e : [] ≡ ps = (cc) in rw (← e) (omega arith)
 few (suc most) [] ps h = let e : [] ≡ ps = (cc) in rw (← e) (omega arith)
 few (suc most) (b ∷ text) ps h = first_of_all (λ rest qs. few most rest qs) (model.part_at (b ∷ text)) h
   where
-    others_too : ((rest : List ℕ) (qs : List Part) → model.parts_within most rest ≡ Ok qs → length qs ≤ most) → (p : Part × List ℕ) (others : Result (List Part) Code) → model.parts_within most p.1 ≡ others → (others >>= (λ rest. Ok (p.0 ∷ rest))) ≡ Ok ps → length ps ≤ suc most
+    others_too : ((rest : List ℕ) (qs : List Part) → model.parts_within most rest ≡ Ok qs → length qs ≤ most)
+        → (p : Part × List ℕ) (others : Result (List Part) Code) → model.parts_within most p.1 ≡ others
+        → (others >>= (λ rest. Ok (p.0 ∷ rest))) ≡ Ok ps → length ps ≤ suc most
     others_too fewer p (Err c) e g = absurd (cc)
-    others_too fewer p (Ok rest) e g = let is : p.0 ∷ rest ≡ ps = (cc) in let less = fewer p.1 rest e in rw (← is) (omega arith)
+    others_too fewer p (Ok rest) e g = let is : p.0 ∷ rest ≡ ps = (cc) in let less = fewer p.1 rest e in
+        rw (← is) (omega arith)
 
-    first_of_all : ((rest : List ℕ) (qs : List Part) → model.parts_within most rest ≡ Ok qs → length qs ≤ most) → (first : Result (Part × List ℕ) Code) → (first >>= (λ p. model.parts_within most p.1 >>= (λ rest. Ok (p.0 ∷ rest)))) ≡ Ok ps → length ps ≤ suc most
+    first_of_all : ((rest : List ℕ) (qs : List Part) → model.parts_within most rest ≡ Ok qs → length qs ≤ most)
+        → (first : Result (Part × List ℕ) Code)
+        → (first >>= (λ p. model.parts_within most p.1 >>= (λ rest. Ok (p.0 ∷ rest)))) ≡ Ok ps → length ps ≤ suc most
     first_of_all fewer (Err c) g = absurd (cc)
     first_of_all fewer (Ok p) g = others_too fewer p (model.parts_within most p.1) refl g
 
@@ -36,7 +42,8 @@ pub minimum_within : (text : List ℕ) (v : ℕ) → model.minimum text ≡ Ok (
 unfolding model.parts
 minimum_within text v h = by_parts (model.parts_within (length text) text) refl h
   where
-    by_parts : (read : Result (List Part) Code) → model.parts_within (length text) text ≡ read → (read >>= (λ ps. Ok (fold model.with_part (Some 0) ps))) ≡ Ok (Some v) → v ≤ length text
+    by_parts : (read : Result (List Part) Code) → model.parts_within (length text) text ≡ read
+        → (read >>= (λ ps. Ok (fold model.with_part (Some 0) ps))) ≡ Ok (Some v) → v ≤ length text
     by_parts (Err c) e g = absurd (cc)
     by_parts (Ok ps) e g =
         let is : fold model.with_part (Some 0) ps ≡ Some v = (cc) in

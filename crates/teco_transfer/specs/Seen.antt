@@ -1,7 +1,8 @@
 -- The numbers that take a way, as the rules have them.
 use Rattle.teco_verifier.specs.facts.Ways as ways
 use Rattle.teco_transfer.specs.declared.ways.Numbers.{Numbers}
-use Rattle.teco_transfer.specs.declared.ways.Numbers.TheVariants.{Zero, NotZero, Negative, NotNegative, Positive, NotPositive, Characters, Digits, All}
+use Rattle.teco_transfer.specs.declared.ways.Numbers.TheVariants.{Zero, NotZero, Negative, NotNegative, Positive}
+use Rattle.teco_transfer.specs.declared.ways.Numbers.TheVariants.{NotPositive, Characters, Digits, All}
 
 abbrev pub seen : Numbers → ways.Numbers
 seen Zero = ways.Zero

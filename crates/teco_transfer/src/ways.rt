@@ -1,5 +1,6 @@
 //! The two ways of a test, and what is known on each.
-ghost use Rattle.std.specs.Prelude.{◌≡◌, ◌≤◌, ◌≤ℤ◌, ◌*◌, ◌^◌, ◌-◌, FitsSigned, IfOk, IfSome, neg_ℤ, negsuc, option_map, pos};
+ghost use Rattle.std.specs.Prelude.{◌≡◌, ◌≤◌, ◌≤ℤ◌, ◌*◌, ◌^◌, ◌-◌, FitsSigned, IfOk, IfSome, neg_ℤ, negsuc};
+ghost use Rattle.std.specs.Prelude.{option_map, pos};
 ghost use Rattle.std.specs.Int.{w64};
 ghost use Rattle.teco_base.specs.declared.TheConstants.{LIMIT};
 ghost use Rattle.teco_known.specs.Numbers.{HasRoomForCode, IsBesideCode, IsNear, IsRange};

@@ -1,5 +1,6 @@
 -- Answers, by what was written.
-use Rattle.std.proofs.Common.{◌≡◌, ◌≢◌, ℕ, ◌⊎◌, inl, inr, List, Option, Some, None, Result, Ok, Err, IfOk, IsErr, refl, sym, ap, subst, codes}
+use Rattle.std.proofs.Common.{◌≡◌, ◌≢◌, ℕ, ◌⊎◌, inl, inr, List, Option, Some, None, Result, Ok, Err, IfOk, IsErr}
+use Rattle.std.proofs.Common.{refl, sym, ap, subst, codes}
 use Rattle.std.specs.Io.KnownBytes.{Appends, Keeps}
 use Rattle.teco_library.specs.Library.{LibraryFile}
 use Rattle.teco_library.specs.Reads.{Reads}
@@ -10,10 +11,12 @@ use Rattle.teco_verify.specs.Certified.{IsCertified, TakesDeclared}
 use Rattle.teco_verify.specs.Straight.{StraightIsChecked, StraightIsVerified, straight_fields}
 use Rattle.teco_verify.specs.declared.refusal.Refusal.{Refusal}
 use Rattle.teco_verify.specs.declared.refusal.Refusal.TheVariants.{No, Memory}
-use Rattle.teco_verify.specs.Refusing.{IsOfCertificate, PrintedIsFound, RefusedIsDerived, RefusedIsExpansions, RefusedIsOverflow, RefusedIsUnclosed}
+use Rattle.teco_verify.specs.Refusing.{IsOfCertificate, PrintedIsFound, RefusedIsDerived, RefusedIsExpansions}
+use Rattle.teco_verify.specs.Refusing.{RefusedIsOverflow, RefusedIsUnclosed}
 use Rattle.std.specs.Result.{IfErr}
 use Rattle.teco_verify.specs.Telling.{Telling}
-use Rattle.teco_verdicts.specs.Answers.{Answer, Answers, AnswersIn, CheckIn, IsDenied, IsDeniedBy, IsRefusal, IsStraightVerdict, OfText, ReadsNone, Refuses, VerdictIn}
+use Rattle.teco_verdicts.specs.Answers.{Answer, Answers, AnswersIn, CheckIn, IsDenied, IsDeniedBy, IsRefusal}
+use Rattle.teco_verdicts.specs.Answers.{IsStraightVerdict, OfText, ReadsNone, Refuses, VerdictIn}
 use Rattle.teco_verdicts.specs.Certificates.{IsAmong, IsCertificate, newest_of}
 use Rattle.teco_verdicts.specs.Lines.{refused_line}
 use Rattle.teco_verdicts.specs.Output.{Writes}
@@ -22,57 +25,102 @@ use Rattle.teco_verdicts.specs.declared.outcome.Outcome.{Outcome}
 use Rattle.teco_verdicts.specs.declared.outcome.Outcome.TheVariants.{Done, Coded, Refused}
 
 -- what was written of an answer with this outcome
-pub of_written : {E : Type 0} (IsAnswer : Answer) (old new : Option (List ℕ)) (outcome : Outcome) (text : List ℕ) (result : Result Outcome E) → IsAnswer outcome text → IfOk result (λ o. o ≡ outcome) → Writes old new text result → Answers IsAnswer old new result
-of_written IsAnswer old new outcome text (Ok o) answer same written = record { text = text; answer = subst (λ it. IsAnswer it text) (sym same) answer; whole = written }
-of_written IsAnswer old new outcome text (Err fault) answer same written = inr (record { outcome = outcome; text = text; answer = answer; front = written })
+pub of_written : {E : Type 0} (IsAnswer : Answer) (old new : Option (List ℕ)) (outcome : Outcome) (text : List ℕ)
+    (result : Result Outcome E) → IsAnswer outcome text → IfOk result (λ o. o ≡ outcome) → Writes old new text result
+    → Answers IsAnswer old new result
+of_written IsAnswer old new outcome text (Ok o) answer same written =
+    record { text = text; answer = subst (λ it. IsAnswer it text) (sym same) answer; whole = written }
+of_written IsAnswer old new outcome text (Err fault) answer same written =
+    inr (record { outcome = outcome; text = text; answer = answer; front = written })
 
 -- answers of one kind are answers of another
-pub answers_as : {E : Type 0} (IsAnswer Other : Answer) (old new : Option (List ℕ)) (result : Result Outcome E) → ((outcome : Outcome) (text : List ℕ) → IsAnswer outcome text → Other outcome text) → Answers IsAnswer old new result → Answers Other old new result
-answers_as IsAnswer Other old new (Ok outcome) is p = record { text = p.text; answer = is outcome p.text p.answer; whole = p.whole }
+pub answers_as : {E : Type 0} (IsAnswer Other : Answer) (old new : Option (List ℕ)) (result : Result Outcome E)
+    → ((outcome : Outcome) (text : List ℕ) → IsAnswer outcome text → Other outcome text)
+    → Answers IsAnswer old new result → Answers Other old new result
+answers_as IsAnswer Other old new (Ok outcome) is p =
+    record { text = p.text; answer = is outcome p.text p.answer; whole = p.whole }
 answers_as IsAnswer Other old new (Err fault) is (inl kept) = inl kept
-answers_as IsAnswer Other old new (Err fault) is (inr p) = inr (record { outcome = p.outcome; text = p.text; answer = is p.outcome p.text p.answer; front = p.front })
+answers_as IsAnswer Other old new (Err fault) is (inr p) =
+    inr (record { outcome = p.outcome; text = p.text; answer = is p.outcome p.text p.answer; front = p.front })
 
-in_text : (In : LibraryFile → Answer) (source : List ℕ) (outcome : Outcome) (text : List ℕ) → AnswersIn In source outcome text → OfText In source outcome text
+in_text : (In : LibraryFile → Answer) (source : List ℕ) (outcome : Outcome) (text : List ℕ)
+    → AnswersIn In source outcome text → OfText In source outcome text
 in_text In source Done text p = p
 in_text In source Coded text p = p
 in_text In source Refused text p = inl p
 
 -- an answer on a library is one on its text
-pub of_library : {E : Type 0} (In : LibraryFile → Answer) (source : List ℕ) (library : LibraryFile) (old new : Option (List ℕ)) (result : Result Outcome E) → Reads source (Ok library) → Answers (In library) old new result → Answers (OfText In source) old new result
-of_library In source library old new result read p = answers_as (In library) (OfText In source) old new result (λ outcome text answer. in_text In source outcome text (record { library = library; read = read; answer = answer })) p
+pub of_library : {E : Type 0} (In : LibraryFile → Answer) (source : List ℕ) (library : LibraryFile)
+    (old new : Option (List ℕ)) (result : Result Outcome E) → Reads source (Ok library)
+    → Answers (In library) old new result → Answers (OfText In source) old new result
+of_library In source library old new result read p =
+    answers_as (In library) (OfText In source) old new result
+    (λ outcome text answer. in_text In source outcome text (record { library = library; read = read; answer = answer }))
+    p
 
 -- with a fault nothing was written
-pub of_none : {E : Type 0} (IsAnswer : Answer) (old new : Option (List ℕ)) (result : Result Outcome E) → IsErr result → Keeps old new → Answers IsAnswer old new result
+pub of_none : {E : Type 0} (IsAnswer : Answer) (old new : Option (List ℕ)) (result : Result Outcome E) → IsErr result
+    → Keeps old new → Answers IsAnswer old new result
 of_none IsAnswer old new (Ok outcome) failed kept = absurd (cc)
 of_none IsAnswer old new (Err fault) failed kept = inl kept
 
 -- the line of a refusal
-pub of_refusal : {E : Type 0} (IsAnswer : Answer) (old new : Option (List ℕ)) (refusal : Refusal) (result : Result Outcome E) → IsAnswer Refused (refused_line refusal) → IfOk result (λ o. o ≡ Refused) → Refuses old new refusal result → Answers IsAnswer old new result
-of_refusal IsAnswer old new (No reason register place) result answer refused p = of_written IsAnswer old new Refused (refused_line (No reason register place)) result answer refused p
+pub of_refusal : {E : Type 0} (IsAnswer : Answer) (old new : Option (List ℕ)) (refusal : Refusal)
+    (result : Result Outcome E) → IsAnswer Refused (refused_line refusal) → IfOk result (λ o. o ≡ Refused)
+    → Refuses old new refusal result → Answers IsAnswer old new result
+of_refusal IsAnswer old new (No reason register place) result answer refused p =
+    of_written IsAnswer old new Refused (refused_line (No reason register place)) result answer refused p
 of_refusal IsAnswer old new Memory result answer refused p = of_none IsAnswer old new result p.0 p.1
 
 -- the line for a text that is no library
-pub of_no_library : {E : Type 0} (In : LibraryFile → Answer) (source : List ℕ) (old new : Option (List ℕ)) (refusal : Refusal) (result : Result Outcome E) → ReadsNone source refusal → IfOk result (λ o. o ≡ Refused) → Refuses old new refusal result → Answers (OfText In source) old new result
+pub of_no_library : {E : Type 0} (In : LibraryFile → Answer) (source : List ℕ) (old new : Option (List ℕ))
+    (refusal : Refusal) (result : Result Outcome E) → ReadsNone source refusal → IfOk result (λ o. o ≡ Refused)
+    → Refuses old new refusal result → Answers (OfText In source) old new result
 of_no_library In source old new (No reason register place) result none refused p =
-    of_written (OfText In source) old new Refused (refused_line (No reason register place)) result (inr (record { place = place; none = none.1; line = ap refused_line none.0 })) refused p
+    of_written (OfText In source) old new Refused (refused_line (No reason register place)) result
+    (inr (record { place = place; none = none.1; line = ap refused_line none.0 })) refused p
 of_no_library In source old new Memory result none refused p = of_none (OfText In source) old new result p.0 p.1
 
 -- what is found of straight text
-pub straight_verdict : (rules : Rules) (library : LibraryFile) (entry : ℕ) (verdict : Result Finding Refusal) → IfOk verdict (λ found. found.fields.rules ≡ rules) → StraightIsVerified rules library entry verdict → IsStraightVerdict library entry verdict
-straight_verdict rules library entry (Ok found) same straight = λ text elements none is. subst (λ edition. found.fields ≡ straight_fields edition entry elements) (sym same) (straight text elements none is)
+pub straight_verdict : (rules : Rules) (library : LibraryFile) (entry : ℕ) (verdict : Result Finding Refusal)
+    → IfOk verdict (λ found. found.fields.rules ≡ rules) → StraightIsVerified rules library entry verdict
+    → IsStraightVerdict library entry verdict
+straight_verdict rules library entry (Ok found) same straight =
+    λ text elements none is. subst (λ edition. found.fields ≡ straight_fields edition entry elements) (sym same)
+    (straight text elements none is)
 straight_verdict rules library entry (Err refusal) same straight = tt
 
 -- bytes that are refused as a certificate, since no certificate is read of them
-pub denied_by : (editions : Editions) (rules : Rules) (bytes : List ℕ) (library : LibraryFile) (entry : ℕ) (refusal : Refusal) → IsAmong editions rules → StraightIsChecked rules library bytes (Err refusal) → IsDeniedBy editions bytes library entry refusal
-denied_by editions rules bytes library entry (No reason register place) among straight = record { rules = rules; among = among; straight = λ text elements none is same. straight entry text elements none is same }
+pub denied_by : (editions : Editions) (rules : Rules) (bytes : List ℕ) (library : LibraryFile) (entry : ℕ)
+    (refusal : Refusal) → IsAmong editions rules → StraightIsChecked rules library bytes (Err refusal)
+    → IsDeniedBy editions bytes library entry refusal
+denied_by editions rules bytes library entry (No reason register place) among straight =
+    record {
+      rules = rules;
+      among = among;
+      straight = λ text elements none is same.
+          straight entry text elements none is same;
+    }
 denied_by editions rules bytes library entry Memory among straight = tt
 
 -- or since it is one of another entry
-pub denied_other : (editions : Editions) (rules : Rules) (bytes : List ℕ) (library : LibraryFile) (entry : ℕ) (found : Finding) → IsAmong editions rules → StraightIsChecked rules library bytes (Ok found) → found.fields.entry ≢ entry → IsDenied editions bytes library entry
-denied_other editions rules bytes library entry found among straight other = record { rules = rules; among = among; straight = λ text elements none is same. other (ap (λ (fields : Fields). fields.entry) (straight entry text elements none is same)) }
+pub denied_other : (editions : Editions) (rules : Rules) (bytes : List ℕ) (library : LibraryFile) (entry : ℕ)
+    (found : Finding) → IsAmong editions rules → StraightIsChecked rules library bytes (Ok found)
+    → found.fields.entry ≢ entry → IsDenied editions bytes library entry
+denied_other editions rules bytes library entry found among straight other =
+    record {
+      rules = rules;
+      among = among;
+      straight = λ text elements none is same.
+          other (ap (λ (fields : Fields). fields.entry) (straight entry text elements none is same));
+    }
 
 -- the verdicts of `verify`
-pub of_verified : {E : Type 0} (editions : Editions) (library : LibraryFile) (entry : ℕ) (old new : Option (List ℕ)) (found : Finding) (result : Result Outcome E) → found.library ≡ library.texts → IsCertified found.library found.fields → TakesDeclared library found.fields → found.fields.entry ≡ entry → IsAmong editions found.fields.rules → IsStraightVerdict library entry (Ok found) → IfOk result (λ o. o ≡ Done) → Writes old new (certificate_text found.fields) result → Answers (VerdictIn editions library entry) old new result
+pub of_verified : {E : Type 0} (editions : Editions) (library : LibraryFile) (entry : ℕ) (old new : Option (List ℕ))
+    (found : Finding) (result : Result Outcome E) → found.library ≡ library.texts
+    → IsCertified found.library found.fields → TakesDeclared library found.fields → found.fields.entry ≡ entry
+    → IsAmong editions found.fields.rules → IsStraightVerdict library entry (Ok found) → IfOk result (λ o. o ≡ Done)
+    → Writes old new (certificate_text found.fields) result → Answers (VerdictIn editions library entry) old new result
 of_verified editions library entry old new found result same certified declared of_entry among straight done written =
     of_written (VerdictIn editions library entry) old new Done (certificate_text found.fields) result (record {
       certificate = record {
@@ -86,16 +134,36 @@ of_verified editions library entry old new found result same certified declared 
       straight = λ text elements none is. ap certificate_text (straight text elements none is);
     }) done written
 
-pub of_refused : {E : Type 0} (editions : Editions) (library : LibraryFile) (entry : ℕ) (old new : Option (List ℕ)) (refusal : Refusal) (result : Result Outcome E) → IsRefusal (newest_of editions) library entry refusal → IfOk result (λ o. o ≡ Refused) → Refuses old new refusal result → Answers (VerdictIn editions library entry) old new result
-of_refused editions library entry old new refusal result is refused p = of_refusal (VerdictIn editions library entry) old new refusal result (record { refusal = refusal; refused = is; line = refl }) refused p
+pub of_refused : {E : Type 0} (editions : Editions) (library : LibraryFile) (entry : ℕ) (old new : Option (List ℕ))
+    (refusal : Refusal) (result : Result Outcome E) → IsRefusal (newest_of editions) library entry refusal
+    → IfOk result (λ o. o ≡ Refused) → Refuses old new refusal result
+    → Answers (VerdictIn editions library entry) old new result
+of_refused editions library entry old new refusal result is refused p =
+    of_refusal (VerdictIn editions library entry) old new refusal result
+    (record { refusal = refusal; refused = is; line = refl }) refused p
 
 -- the answers of `check`
-pub of_accepted : {E : Type 0} (editions : Editions) (bytes : List ℕ) (library : LibraryFile) (entry : ℕ) (old new : Option (List ℕ)) (result : Result Outcome E) → IsCertificate editions library entry bytes → IfOk result (λ o. o ≡ Done) → Writes old new (codes "accepted\n") result → Answers (CheckIn editions bytes library entry) old new result
-of_accepted editions bytes library entry old new result certificate done written = of_written (CheckIn editions bytes library entry) old new Done (codes "accepted\n") result (certificate, refl) done written
+pub of_accepted : {E : Type 0} (editions : Editions) (bytes : List ℕ) (library : LibraryFile) (entry : ℕ)
+    (old new : Option (List ℕ)) (result : Result Outcome E) → IsCertificate editions library entry bytes
+    → IfOk result (λ o. o ≡ Done) → Writes old new (codes "accepted\n") result
+    → Answers (CheckIn editions bytes library entry) old new result
+of_accepted editions bytes library entry old new result certificate done written =
+    of_written (CheckIn editions bytes library entry) old new Done (codes "accepted\n") result (
+      certificate,
+      refl,
+    ) done written
 
-pub of_denied : {E : Type 0} (editions : Editions) (bytes : List ℕ) (library : LibraryFile) (entry : ℕ) (old new : Option (List ℕ)) (refusal : Refusal) (result : Result Outcome E) → IsOfCertificate refusal → IsDeniedBy editions bytes library entry refusal → IfOk result (λ o. o ≡ Refused) → Refuses old new refusal result → Answers (CheckIn editions bytes library entry) old new result
-of_denied editions bytes library entry old new (No reason register place) result spelled denied refused p = of_refusal (CheckIn editions bytes library entry) old new (No reason register place) result (denied, ap refused_line spelled) refused p
-of_denied editions bytes library entry old new Memory result spelled denied refused p = of_none (CheckIn editions bytes library entry) old new result p.0 p.1
+pub of_denied : {E : Type 0} (editions : Editions) (bytes : List ℕ) (library : LibraryFile) (entry : ℕ)
+    (old new : Option (List ℕ)) (refusal : Refusal) (result : Result Outcome E) → IsOfCertificate refusal
+    → IsDeniedBy editions bytes library entry refusal → IfOk result (λ o. o ≡ Refused) → Refuses old new refusal result
+    → Answers (CheckIn editions bytes library entry) old new result
+of_denied editions bytes library entry old new (No reason register place) result spelled denied refused p =
+    of_refusal (CheckIn editions bytes library entry) old new (No reason register place) result (
+      denied,
+      ap refused_line spelled,
+    ) refused p
+of_denied editions bytes library entry old new Memory result spelled denied refused p =
+    of_none (CheckIn editions bytes library entry) old new result p.0 p.1
 
 -- what is promised of a refusal
 pub refused_verdict : (rules : Rules) (library : LibraryFile) (entry : ℕ) (verdict : Result Finding Refusal)

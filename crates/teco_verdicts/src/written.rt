@@ -1,6 +1,7 @@
 //! What libraries are read from.
 ghost use Rattle.std.specs.Prelude.{◌≡◌, [], IfOk, IfSome};
-ghost use Rattle.teco_verdicts.specs.Sources.{FileSays, IsFileRead, IsGivenBehind, IsOfFile, IsReadFor, IsSource, IsWithWords, lines_behind, word_form};
+ghost use Rattle.teco_verdicts.specs.Sources.{FileSays, IsFileRead, IsGivenBehind, IsOfFile, IsReadFor, IsSource};
+ghost use Rattle.teco_verdicts.specs.Sources.{IsWithWords, lines_behind, word_form};
 ghost use Rattle.teco_source.specs.Source.{said};
 
 use crate::fault::AnswerFault;

@@ -1,5 +1,6 @@
 -- Where a library is accepted with nothing chosen, nothing is refused.
-use Rattle.std.proofs.Common.{◌≡◌, subst, refl, sym, ap, ◌∙◌, ℕ, zero, suc, ◌<◌, ◌≤◌, List, [], ◌∷◌, length, map, false, Option, Some, None, Result, Ok, Err, slice_index_or, Bor, All, arith}
+use Rattle.std.proofs.Common.{◌≡◌, subst, refl, sym, ap, ◌∙◌, ℕ, zero, suc, ◌<◌, ◌≤◌, List, [], ◌∷◌, length, map}
+use Rattle.std.proofs.Common.{false, Option, Some, None, Result, Ok, Err, slice_index_or, Bor, All, arith}
 use Rattle.std.proofs.lemmas.List.Elements.{All-nil}
 use Rattle.std.specs.List.{AllByRecursion, list_any}
 use Rattle.std.specs.Option.{option_copied, ForSome}
@@ -30,7 +31,9 @@ use Rattle.teco_verify.specs.Certifying.{AreFieldsOf}
 use Rattle.teco_verify.specs.Straight.{plain_fields}
 
 -- the texts of a library
-pub within : (texts : List (Option (Bor (List ℕ)))) (r : ℕ) (text : List ℕ) → All (λ text. ForSome text (λ shown. length shown.now ≤ LIMIT)) texts → slice_index_or (map option_copied texts) r None ≡ Some text → length text ≤ LIMIT
+pub within : (texts : List (Option (Bor (List ℕ)))) (r : ℕ) (text : List ℕ)
+    → All (λ text. ForSome text (λ shown. length shown.now ≤ LIMIT)) texts
+    → slice_index_or (map option_copied texts) r None ≡ Some text → length text ≤ LIMIT
 within [] r text a e = absurd cc
 within (None ∷ texts) zero text a e = absurd cc
 within (Some shown ∷ texts) zero text a e =
@@ -39,7 +42,8 @@ within (Some shown ∷ texts) zero text a e =
 within (shown ∷ texts) (suc r) text a e = within texts r text (λ k d h. a (suc k) d (omega (arith, h))) e
 
 -- where no iteration begins, nothing is chosen and there are no lines
-none_from : (table : Table) (number : ℕ) (nodes : List Node) → AllByRecursion BeginsNoIteration nodes → loops_from table number nodes ≡ []
+none_from : (table : Table) (number : ℕ) (nodes : List Node) → AllByRecursion BeginsNoIteration nodes
+    → loops_from table number nodes ≡ []
 none_from table number [] a = refl
 none_from table number (node ∷ nodes) a = rw a.0 (none_from table (suc number) nodes a.1)
 
@@ -55,10 +59,14 @@ none_begins (node ∷ nodes) a = rw a.0 (none_begins nodes a.1)
 kept : (facts : Facts) → facts.position.falls ≡ [] → facts.iterations ≡ [] → AreKept facts
 kept facts falls iterations = record {
   small = subst AreSmall (sym falls) (All-nil IsSmallFalls);
-  room = record { falls = subst (λ fs. length fs < DEPTH) (sym falls) (omega arith); iterations = subst (λ is. length is < DEPTH) (sym iterations) (omega arith) };
+  room = record {
+    falls = subst (λ fs. length fs < DEPTH) (sym falls) (omega arith);
+    iterations = subst (λ is. length is < DEPTH) (sym iterations) (omega arith);
+  };
 }
 
-not_large : (known : Option Facts) (table : Table) → RowIsOutside (record { facts = known; choice = None }) → AreLarge known → ⊥
+not_large : (known : Option Facts) (table : Table) → RowIsOutside (record { facts = known; choice = None })
+    → AreLarge known → ⊥
 not_large None table o l = l
 not_large (Some facts) table o l = l (kept facts o.0 o.1)
 
@@ -83,10 +91,17 @@ record AcceptsNodes (known : Entry) (nodes : List Node) (table : Table) (steps m
   prints : Prints known nodes table steps most
   outside : AllByRecursion RowIsOutside table
 
-module _ (edition : Rules) (library : Library) (entry : ℕ) (steps most : Polynomial) (accepted : IsAccepted edition library entry steps most) where
+module _ (edition : Rules) (library : Library) (entry : ℕ) (steps most : Polynomial)
+    (accepted : IsAccepted edition library entry steps most) where
   pub is_well_formed : entry < REGISTERS → IsWellFormed (plain_fields edition entry steps most)
   is_well_formed h = record {
-    parts = record { entry = h; argument = tt; commands = accepted.prints.steps_fit; size = accepted.prints.most_fits; loops = tt };
+    parts = record {
+      entry = h;
+      argument = tt;
+      commands = accepted.prints.steps_fit;
+      size = accepted.prints.most_fits;
+      loops = tt;
+    };
     distances = tt;
     order = record { numbers = λ k d h. absurd (omega (arith, h)); registers = tt };
   }
@@ -94,16 +109,25 @@ module _ (edition : Rules) (library : Library) (entry : ℕ) (steps most : Polyn
   module _ (nodes : List Node) (expanded : expansion library entry ≡ Ok nodes) where
     these : AcceptsNodes (entry_of edition library None) nodes accepted.table steps most
     unfolding nodes_of
-    these = subst (λ ns. AcceptsNodes (entry_of edition library None) ns accepted.table steps most) (ap nodes_of (sym accepted.expanded ∙ expanded)) (record { derived = accepted.derived; closed = accepted.closed; prints = accepted.prints; outside = accepted.outside })
+    these = subst (λ ns. AcceptsNodes (entry_of edition library None) ns accepted.table steps most)
+        (ap nodes_of (sym accepted.expanded ∙ expanded)) (record {
+          derived = accepted.derived;
+          closed = accepted.closed;
+          prints = accepted.prints;
+          outside = accepted.outside;
+        })
 
     pub begins_none : list_any begins nodes ≡ false
     begins_none = none_begins nodes these.prints.has_no_lines
 
-    module _ (chosen : List Chosen) (nothing : chosen ≡ []) (known : Entry) (is_plain : known ≡ entry_of edition library None) where
+    module _ (chosen : List Chosen) (nothing : chosen ≡ []) (known : Entry)
+        (is_plain : known ≡ entry_of edition library None) where
       derived : derive known nodes chosen ≡ Ok accepted.table
-      derived = subst (λ k. derive k nodes chosen ≡ Ok accepted.table) (sym is_plain) (subst (λ c. derive (entry_of edition library None) nodes c ≡ Ok accepted.table) (sym nothing) these.derived)
+      derived = subst (λ k. derive k nodes chosen ≡ Ok accepted.table) (sym is_plain)
+          (subst (λ c. derive (entry_of edition library None) nodes c ≡ Ok accepted.table) (sym nothing) these.derived)
 
-      pub is_kept : (node : ℕ) → ((table : Table) → derive known nodes chosen ≡ Ok table → AreLarge (facts_at table node)) → ⊥
+      pub is_kept : (node : ℕ) → ((table : Table) → derive known nodes chosen ≡ Ok table
+          → AreLarge (facts_at table node)) → ⊥
       is_kept node l = none_large accepted.table node these.outside (l accepted.table derived)
 
       pub only_memory : (why : NotDerived) → Derives (derive known nodes chosen) (Err why) → why ≡ fault.Memory
@@ -115,13 +139,18 @@ module _ (edition : Rules) (library : Library) (entry : ℕ) (steps most : Polyn
       module _ (table : Table) (is : derive known nodes chosen ≡ Ok table) where
         here : AcceptsNodes (entry_of edition library None) nodes table steps most
         unfolding table_of
-        here = subst (λ t. AcceptsNodes (entry_of edition library None) nodes t steps most) (ap table_of (sym derived ∙ is)) these
+        here = subst (λ t. AcceptsNodes (entry_of edition library None) nodes t steps most)
+            (ap table_of (sym derived ∙ is)) these
 
-        pub is_certified : (fields : Fields) → AreFieldsOf known nodes table entry fields → fields ≡ plain_fields edition entry steps most
+        pub is_certified : (fields : Fields) → AreFieldsOf known nodes table entry fields
+            → fields ≡ plain_fields edition entry steps most
         is_certified fields f =
-            let g : AreFieldsOf (entry_of edition library None) nodes table entry fields = subst (λ k. AreFieldsOf k nodes table entry fields) is_plain f in
-            let first : fields.commands ≡ steps = let e : Ok fields.commands ≡ Ok steps = sym g.commands_are ∙ here.prints.commands_are in cc in
-            let second : fields.size ≡ most = let e : Ok fields.size ≡ Ok most = sym g.size_is ∙ here.prints.size_is in cc in
+            let g : AreFieldsOf (entry_of edition library None) nodes table entry fields =
+            subst (λ k. AreFieldsOf k nodes table entry fields) is_plain f in
+            let first : fields.commands ≡ steps = let e : Ok fields.commands ≡ Ok steps =
+            sym g.commands_are ∙ here.prints.commands_are in cc in
+            let second : fields.size ≡ most = let e : Ok fields.size ≡ Ok most = sym g.size_is ∙ here.prints.size_is in
+            cc in
             let needs = g.needs_are ∙ here.prints.needs_nothing in
             let loops = g.loops_are ∙ no_lines nodes table here.prints.has_no_lines in
             rw (← g.entry_is, ← g.argument_is, ← g.rules_are, ← first, ← second, ← needs, ← loops) refl

@@ -1,5 +1,6 @@
 //! What the verifier knows of a macro, element by element.
-ghost use Rattle.std.specs.Prelude.{◌≡◌, ◌<◌, ◌≤◌, List, length, IfOk, IfSome, Some, None, Ok, option_map, if◌then◌else◌};
+ghost use Rattle.std.specs.Prelude.{◌≡◌, ◌<◌, ◌≤◌, List, length, IfOk, IfSome, Some, None, Ok, option_map};
+ghost use Rattle.std.specs.Prelude.{if◌then◌else◌};
 ghost use Rattle.std.specs.Option.{option_map_or};
 ghost use Rattle.std.specs.Result.{result_ok};
 ghost use Rattle.teco_verifier.specs.expansion.Expansion.{expansion};
@@ -11,7 +12,8 @@ ghost use Rattle.teco_verifier.specs.declared.rules.Rules.TheVariants.{First};
 ghost use Rattle.teco_verifier.specs.table.Table.{facts_at, choice_at};
 ghost use Rattle.teco_expansion.specs.Refused.{refusal_seen};
 ghost use Rattle.teco_verify.specs.Certified.{TakesDeclared};
-ghost use Rattle.teco_verify.specs.Refusing.{refusal_of, register_of, IsJudged, PrintedIsFound, RefusedIsDerived, RefusedIsExpansions, RefusedIsOverflow, RefusedIsUnclosed};
+ghost use Rattle.teco_verify.specs.Refusing.{refusal_of, register_of, IsJudged, PrintedIsFound, RefusedIsDerived};
+ghost use Rattle.teco_verify.specs.Refusing.{RefusedIsExpansions, RefusedIsOverflow, RefusedIsUnclosed};
 ghost use Rattle.teco_verify.specs.Straight.{StraightIsVerified};
 ghost use Rattle.teco_verify.specs.Accepting.{AcceptedIsFound};
 ghost use Rattle.teco_verify.specs.Telling.{AcceptedIsTold, IsVerdict, expanded, node_in, turns_told};

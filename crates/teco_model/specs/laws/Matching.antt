@@ -1,5 +1,6 @@
 -- What a match is and which match a search finds, as relations; and that the definition finds it.
-use Rattle.std.specs.Prelude.{◌≡◌, ℕ, zero, suc, ◌+◌, ◌<◌, ◌≤◌, List, [], ◌∷◌, slice_get, Option, Some, MatchOption, Ok, not, Bool, IsTrue}
+use Rattle.std.specs.Prelude.{◌≡◌, ℕ, zero, suc, ◌+◌, ◌<◌, ◌≤◌, List, [], ◌∷◌, slice_get, Option, Some, MatchOption}
+use Rattle.std.specs.Prelude.{Ok, not, Bool, IsTrue}
 use Rattle.teco_model.specs.Match.{is_in, is_space_or_tab, here, first_from, last_before, forward, backward}
 use Rattle.teco_model.specs.Pattern.{Pattern, pattern, minimum}
 use Rattle.teco_model.specs.Registers.{Registers}

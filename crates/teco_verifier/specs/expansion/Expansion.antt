@@ -1,6 +1,8 @@
 -- The expansion of a library from an entry: a call is followed by the elements of its text and by its return, and then
 -- each way is looked up among them.
-use Rattle.std.specs.Prelude.{ℕ, zero, suc, ◌+◌, List, [], ◌∷◌, ◌++◌, map, length, drop, get_or, nat_le, Bool, true, false, not, ◌&&◌, ◌==◌, bytes_eq, if◌then◌else◌, Option, Some, None, unwrap_or, option_map, Result, Ok, Err, position as first_index}
+use Rattle.std.specs.Prelude.{ℕ, zero, suc, ◌+◌, List, [], ◌∷◌, ◌++◌, map, length, drop, get_or, nat_le, Bool, true}
+use Rattle.std.specs.Prelude.{false, not, ◌&&◌, ◌==◌, bytes_eq, if◌then◌else◌, Option, Some, None, unwrap_or}
+use Rattle.std.specs.Prelude.{option_map, Result, Ok, Err, position as first_index}
 use Rattle.std.specs.List.{list_any}
 use Rattle.std.specs.Option.{ok_or}
 use Rattle.teco_model.specs.declared.kind.Kind.{Kind}

@@ -1,5 +1,6 @@
 -- Nodes: what a run of a macro comes to, numbered from 1 in the order of the texts, and the ways between them.
-use Rattle.std.specs.Prelude.{ℕ, zero, suc, ◌-◌, List, [], ◌∷◌, ◌++◌, map, drop, get_or, nat_lt, if◌then◌else◌, Bool, Option, Some, None, slice_get}
+use Rattle.std.specs.Prelude.{ℕ, zero, suc, ◌-◌, List, [], ◌∷◌, ◌++◌, map, drop, get_or, nat_lt, if◌then◌else◌, Bool}
+use Rattle.std.specs.Prelude.{Option, Some, None, slice_get}
 use Rattle.teco_model.specs.declared.kind.Kind.{Kind}
 use Rattle.teco_model.specs.declared.kind.Kind.TheVariants as kind
 use Rattle.teco_model.specs.declared.kind.Flow.TheVariants as flow

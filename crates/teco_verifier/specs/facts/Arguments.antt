@@ -1,5 +1,6 @@
 -- What is known of the pending arguments, and what elements do to it: the rules of the machine's arguments, on values.
-use Rattle.std.specs.Prelude.{pos, negsuc, List, [], ◌∷◌, map, Bool, false, Option, Some, None, Result, Ok, Err, unwrap_or, int_le, int_lt, ◌||◌, if◌then◌else◌}
+use Rattle.std.specs.Prelude.{pos, negsuc, List, [], ◌∷◌, map, Bool, false, Option, Some, None, Result, Ok, Err}
+use Rattle.std.specs.Prelude.{unwrap_or, int_le, int_lt, ◌||◌, if◌then◌else◌}
 use Rattle.std.specs.Option.{ok_or}
 use Rattle.teco_base.specs.Arithmetic.{and, or}
 use Rattle.teco_model.specs.declared.arguments.Operator.{Operator}

@@ -1,5 +1,6 @@
 -- The body of an iteration: what is chosen for its start, and when a choice stands.
-use Rattle.std.specs.Prelude.{◌&&◌, ◌||◌, List, [], ◌∷◌, map, Bool, true, false, not, is_some, Option, Some, None, Result, Ok, Err, if◌then◌else◌}
+use Rattle.std.specs.Prelude.{◌&&◌, ◌||◌, List, [], ◌∷◌, map, Bool, true, false, not, is_some, Option, Some, None}
+use Rattle.std.specs.Prelude.{Result, Ok, Err, if◌then◌else◌}
 use Rattle.std.specs.Option.{ok_or}
 use Rattle.teco_poly.specs.Polynomial.{Polynomial, mul, sub, one_less, is_at_most}
 use Rattle.teco_verifier.specs.declared.falls.Falls.{Falls}
@@ -10,7 +11,8 @@ use Rattle.teco_verifier.specs.declared.values.Interval.{Interval}
 use Rattle.teco_verifier.specs.declared.refusal.Refusal.{Refusal}
 use Rattle.teco_verifier.specs.declared.refusal.Refusal.TheVariants as refusal
 use Rattle.teco_verifier.specs.facts.Attempt.{◌>>=◌}
-use Rattle.teco_verifier.specs.facts.Covers.{each_covers, covers_distances, covers_interval, covers_length, covers_pushed, covers_saved}
+use Rattle.teco_verifier.specs.facts.Covers.{each_covers, covers_distances, covers_interval, covers_length}
+use Rattle.teco_verifier.specs.facts.Covers.{covers_pushed, covers_saved}
 use Rattle.teco_verifier.specs.facts.Facts.{Position, Facts, nowhere, sum_of}
 use Rattle.teco_verifier.specs.facts.Falls.{falls_at_turn, falls_outside, in_order}
 use Rattle.teco_verifier.specs.facts.Ranks.{has_own_fall, rank_of}

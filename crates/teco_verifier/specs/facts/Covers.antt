@@ -1,5 +1,6 @@
 -- When the facts at the end of an edge are covered by those at its target: what these say is no more than those.
-use Rattle.std.specs.Prelude.{ℤ, int_le, nat_le, nat_eq, ◌&&◌, is_none, List, [], ◌∷◌, Bool, true, false, not, Option, Some, None, if◌then◌else◌}
+use Rattle.std.specs.Prelude.{ℤ, int_le, nat_le, nat_eq, ◌&&◌, is_none, List, [], ◌∷◌, Bool, true, false, not, Option}
+use Rattle.std.specs.Prelude.{Some, None, if◌then◌else◌}
 use Rattle.teco_model.specs.declared.arguments.Operator.{Operator}
 use Rattle.teco_model.specs.declared.arguments.Operator.TheVariants.{Plus, Minus, Times, Over, And, Or}
 use Rattle.teco_poly.specs.Polynomial.{Polynomial, is_at_most}

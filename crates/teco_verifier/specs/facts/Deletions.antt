@@ -1,5 +1,6 @@
 -- D and K. Whatever is deleted, what was saved may lie behind the end of the buffer.
-use Rattle.std.specs.Prelude.{ℕ, ℤ, pos, negsuc, neg_ℤ, ◌-◌, min, max, int_le, nat_le, ◌&&◌, Option, Some, Result, Ok, Err, if◌then◌else◌}
+use Rattle.std.specs.Prelude.{ℕ, ℤ, pos, negsuc, neg_ℤ, ◌-◌, min, max, int_le, nat_le, ◌&&◌, Option, Some, Result, Ok}
+use Rattle.std.specs.Prelude.{Err, if◌then◌else◌}
 use Rattle.teco_model.specs.declared.kind.Unit.{Unit as Counted}
 use Rattle.teco_model.specs.declared.kind.Unit.TheVariants.{Characters, Lines}
 use Rattle.teco_verifier.specs.declared.rules.Rules.{Rules}

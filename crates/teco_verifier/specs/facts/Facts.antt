@@ -1,5 +1,6 @@
 -- What is known before an element.
-use Rattle.std.specs.Prelude.{ℕ, zero, suc, List, [], ◌∷◌, length, map, replicate, slice_index_or, Bool, false, Option, Some, None, option_map, Result}
+use Rattle.std.specs.Prelude.{ℕ, zero, suc, List, [], ◌∷◌, length, map, replicate, slice_index_or, Bool, false}
+use Rattle.std.specs.Prelude.{Option, Some, None, option_map, Result}
 use Rattle.std.specs.Option.{ok_or}
 use Rattle.teco_base.specs.declared.TheConstants.{REGISTERS}
 use Rattle.teco_model.specs.Macros.{ArgumentRange, Library}

@@ -1,5 +1,6 @@
 -- The falls of an open iteration: how they change, and which follow from others.
-use Rattle.std.specs.Prelude.{ℕ, ℤ, pos, ◌+◌, ◌+ℤ◌, ◌^◌, min, nat_le, Bool, true, false, if◌then◌else◌, Option, Some, None, option_map}
+use Rattle.std.specs.Prelude.{ℕ, ℤ, pos, ◌+◌, ◌+ℤ◌, ◌^◌, min, nat_le, Bool, true, false, if◌then◌else◌, Option, Some}
+use Rattle.std.specs.Prelude.{None, option_map}
 use Rattle.std.specs.Int.{int_min, int_max}
 use Rattle.teco_verifier.specs.declared.falls.Falls.{Falls}
 use Rattle.teco_verifier.specs.declared.rules.Rules.{Rules}

@@ -1,5 +1,6 @@
 -- Iterations, conditionals and tags: the two edges behind an element, and how many turns an iteration takes.
-use Rattle.std.specs.Prelude.{ℕ, zero, suc, ℤ, pos, int_le, ◌&&◌, List, [], ◌∷◌, drop, length, is_some, Bool, true, false, Option, Some, None, Result, Ok, Err, option_map, if◌then◌else◌}
+use Rattle.std.specs.Prelude.{ℕ, zero, suc, ℤ, pos, int_le, ◌&&◌, List, [], ◌∷◌, drop, length, is_some, Bool, true}
+use Rattle.std.specs.Prelude.{false, Option, Some, None, Result, Ok, Err, option_map, if◌then◌else◌}
 use Rattle.teco_model.specs.declared.kind.Flow.{Flow}
 use Rattle.teco_model.specs.declared.kind.Flow.TheVariants as flow
 use Rattle.teco_poly.specs.Polynomial.{Polynomial, number}
@@ -12,12 +13,14 @@ use Rattle.teco_verifier.specs.declared.refusal.Refusal.TheVariants as refusal
 use Rattle.teco_verifier.specs.facts.Arguments.{arguments_of, needed_value, levels_after_taking}
 use Rattle.teco_verifier.specs.facts.Attempt.{◌>>=◌}
 use Rattle.teco_verifier.specs.facts.Deletions.{positive}
-use Rattle.teco_verifier.specs.facts.Facts.{Position, Answer, Iteration, Facts, sum_of, with_arguments, without_arguments, at_position}
+use Rattle.teco_verifier.specs.facts.Facts.{Position, Answer, Iteration, Facts, sum_of, with_arguments}
+use Rattle.teco_verifier.specs.facts.Facts.{without_arguments, at_position}
 use Rattle.teco_verifier.specs.facts.Falls.{falls_at_turn}
 use Rattle.teco_verifier.specs.facts.Joins.{none_pending}
 use Rattle.teco_verifier.specs.facts.Ranks.{measure_of}
 use Rattle.teco_verifier.specs.facts.Values.{interval_of}
-use Rattle.teco_verifier.specs.facts.Ways.{Numbers, Negative, NotNegative, holding, other, may_take, Positive, NotPositive, way}
+use Rattle.teco_verifier.specs.facts.Ways.{Numbers, Negative, NotNegative, holding, other, may_take, Positive}
+use Rattle.teco_verifier.specs.facts.Ways.{NotPositive, way}
 
 -- The edges behind an element, where they are reached: on, to what stands behind it, and away, to where it leads else.
 pub record Edges : Type 0 where

@@ -1,5 +1,6 @@
 -- Where ways meet: what is known on both.
-use Rattle.std.specs.Prelude.{min, List, [], ◌∷◌, Bool, true, false, is_none, ◌&&◌, if◌then◌else◌, Option, Some, None, Result, Ok, Err}
+use Rattle.std.specs.Prelude.{min, List, [], ◌∷◌, Bool, true, false, is_none, ◌&&◌, if◌then◌else◌, Option, Some, None}
+use Rattle.std.specs.Prelude.{Result, Ok, Err}
 use Rattle.std.specs.Int.{int_min, int_max}
 use Rattle.teco_poly.specs.Polynomial.{Polynomial}
 use Rattle.teco_verifier.specs.declared.falls.DigitMark.{DigitMark}

@@ -1,5 +1,6 @@
 -- C, R, J and L.
-use Rattle.std.specs.Prelude.{ℕ, zero, suc, ◌+◌, ℤ, pos, negsuc, int_le, min, ◌&&◌, Bool, false, Option, Some, None, Result, Ok, unwrap_or, if◌then◌else◌}
+use Rattle.std.specs.Prelude.{ℕ, zero, suc, ◌+◌, ℤ, pos, negsuc, int_le, min, ◌&&◌, Bool, false, Option, Some, None}
+use Rattle.std.specs.Prelude.{Result, Ok, unwrap_or, if◌then◌else◌}
 use Rattle.teco_model.specs.declared.kind.Motion.{Motion}
 use Rattle.teco_model.specs.declared.kind.Motion.TheVariants.{Forward, Backward, To, Lines}
 use Rattle.teco_verifier.specs.declared.falls.DigitMark.{DigitMark}
@@ -13,7 +14,8 @@ use Rattle.teco_verifier.specs.facts.Arguments.{KnownTaken}
 use Rattle.teco_verifier.specs.facts.Attempt.{◌>>=◌}
 use Rattle.teco_verifier.specs.facts.Facts.{Facts, nowhere}
 use Rattle.teco_verifier.specs.facts.Falls.{By, PastLine, InLine, is_second}
-use Rattle.teco_verifier.specs.facts.Shifts.{Shift, shifted, moving, place_of, place_or_saved, shift_to, Foreseen, answering, silent_behind}
+use Rattle.teco_verifier.specs.facts.Shifts.{Shift, shifted, moving, place_of, place_or_saved, shift_to, Foreseen}
+use Rattle.teco_verifier.specs.facts.Shifts.{answering, silent_behind}
 use Rattle.teco_verifier.specs.facts.Values.{single, pointer, plus, minus, interval_of, are_equal}
 
 -- the argument, 1 where there is none, and the interval of that

@@ -1,5 +1,6 @@
 -- A, P, PW and Y.
-use Rattle.std.specs.Prelude.{pos, neg_ℤ, ◌-ℤ◌, int_le, is_none, ◌&&◌, Bool, Option, Some, None, Result, Ok, Err, if◌then◌else◌}
+use Rattle.std.specs.Prelude.{pos, neg_ℤ, ◌-ℤ◌, int_le, is_none, ◌&&◌, Bool, Option, Some, None, Result, Ok, Err}
+use Rattle.std.specs.Prelude.{if◌then◌else◌}
 use Rattle.teco_model.specs.declared.kind.Page.{Page}
 use Rattle.teco_model.specs.declared.kind.Page.TheVariants as page
 use Rattle.teco_base.specs.declared.TheConstants.{LIMIT}

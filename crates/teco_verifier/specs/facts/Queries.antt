@@ -16,7 +16,8 @@ use Rattle.teco_verifier.specs.facts.Attempt.{◌>>=◌}
 use Rattle.teco_verifier.specs.facts.Facts.{Facts, number_of, is_saved, with_arguments}
 use Rattle.teco_verifier.specs.facts.Falls.{By}
 use Rattle.teco_verifier.specs.facts.Insertions.{insertion_of}
-use Rattle.teco_verifier.specs.facts.Shifts.{Shift, moving, shifted, Foreseen, silent, answering, silent_behind, facts_answered}
+use Rattle.teco_verifier.specs.facts.Shifts.{Shift, moving, shifted, Foreseen, silent, answering, silent_behind}
+use Rattle.teco_verifier.specs.facts.Shifts.{facts_answered}
 use Rattle.teco_verifier.specs.facts.Values.{value_in, any_number, character}
 
 -- the length of a text

@@ -1,5 +1,6 @@
 -- S, FS, N and FN: what is known where they found, and where they failed.
-use Rattle.std.specs.Prelude.{ℕ, suc, pos, int_le, int_lt, ◌+◌, ◌&&◌, List, [], ◌∷◌, length, Bool, true, false, Option, Some, None, Result, Ok, Err, if◌then◌else◌}
+use Rattle.std.specs.Prelude.{ℕ, suc, pos, int_le, int_lt, ◌+◌, ◌&&◌, List, [], ◌∷◌, length, Bool, true, false}
+use Rattle.std.specs.Prelude.{Option, Some, None, Result, Ok, Err, if◌then◌else◌}
 use Rattle.teco_base.specs.Bytes.{is_digit}
 use Rattle.teco_base.specs.declared.code.Code.{Code}
 use Rattle.teco_model.specs.declared.kind.Search.{Search}

@@ -1,5 +1,6 @@
 -- What an element that moves the pointer, or edits the buffer, does to what is known of the position.
-use Rattle.std.specs.Prelude.{ℕ, ℤ, pos, ◌-ℤ◌, min, List, map, Bool, true, false, ◌||◌, ◌&&◌, if◌then◌else◌, Option, Some, None, option_map, Result, Ok, Err, is_ok}
+use Rattle.std.specs.Prelude.{ℕ, ℤ, pos, ◌-ℤ◌, min, List, map, Bool, true, false, ◌||◌, ◌&&◌, if◌then◌else◌, Option}
+use Rattle.std.specs.Prelude.{Some, None, option_map, Result, Ok, Err, is_ok}
 use Rattle.teco_base.specs.declared.TheConstants.{LIMIT}
 use Rattle.teco_poly.specs.Polynomial.{Polynomial, number, is_at_most, at}
 use Rattle.teco_verifier.specs.declared.falls.DigitMark.{DigitMark}

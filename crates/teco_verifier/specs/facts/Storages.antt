@@ -1,5 +1,6 @@
 -- Registers and the push-down list. A text of the library is never written, by X, ^U and ].
-use Rattle.std.specs.Prelude.{ℕ, zero, suc, List, [], ◌∷◌, length, slice_set, Bool, true, false, nat_lt, if◌then◌else◌, Option, Some, None, Result, Ok, Err}
+use Rattle.std.specs.Prelude.{ℕ, zero, suc, List, [], ◌∷◌, length, slice_set, Bool, true, false, nat_lt}
+use Rattle.std.specs.Prelude.{if◌then◌else◌, Option, Some, None, Result, Ok, Err}
 use Rattle.std.specs.List.{list_all}
 use Rattle.teco_model.specs.declared.kind.Stack.{Stack}
 use Rattle.teco_model.specs.declared.kind.Stack.TheVariants.{Push, Pop}

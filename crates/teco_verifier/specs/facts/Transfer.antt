@@ -1,5 +1,6 @@
 -- What an element does to what is known before it.
-use Rattle.std.specs.Prelude.{ℕ, pos, neg_ℤ, List, Bool, true, false, Option, Some, None, Result, Ok, Err, ◌||◌, if◌then◌else◌}
+use Rattle.std.specs.Prelude.{ℕ, pos, neg_ℤ, List, Bool, true, false, Option, Some, None, Result, Ok, Err, ◌||◌}
+use Rattle.std.specs.Prelude.{if◌then◌else◌}
 use Rattle.teco_base.specs.declared.TheConstants.{LIMIT}
 use Rattle.teco_model.specs.declared.kind.Kind.{Kind}
 use Rattle.teco_model.specs.declared.kind.Kind.TheVariants as kind
@@ -18,7 +19,10 @@ use Rattle.teco_verifier.specs.declared.values.Interval.{Interval}
 use Rattle.teco_verifier.specs.declared.values.Distances.{Distances}
 use Rattle.teco_verifier.specs.declared.refusal.Refusal.{Refusal}
 use Rattle.teco_verifier.specs.declared.refusal.Refusal.TheVariants as refusal
-use Rattle.teco_verifier.specs.facts.Arguments.{KnownLevel, KnownArguments, KnownTaken, no_arguments, with_level, level_with, level_with_pair, level_with_operator, level_after_comma, levels_after_open, levels_closed_onto, arguments_of, levels_after_taking}
+use Rattle.teco_verifier.specs.facts.Arguments.{KnownLevel, KnownArguments, KnownTaken, no_arguments, with_level}
+use Rattle.teco_verifier.specs.facts.Arguments.{level_with, level_with_pair, level_with_operator, level_after_comma}
+use Rattle.teco_verifier.specs.facts.Arguments.{levels_after_open, levels_closed_onto, arguments_of}
+use Rattle.teco_verifier.specs.facts.Arguments.{levels_after_taking}
 use Rattle.teco_verifier.specs.facts.Attempt.{◌>>=◌}
 use Rattle.teco_verifier.specs.facts.Deletions.{deletion}
 use Rattle.teco_verifier.specs.facts.Facts.{Answer, Facts, with_arguments, without_digit}

@@ -1,7 +1,9 @@
 -- What is known of a number: an interval, a linear value in Z and the pointer, or the code of a character. All are one
 -- thing, told in the distances of the pointer from the end of the buffer and from its begin: Z is the sum of both, and
 -- . the latter. A saved value is an interval that a saved register was asked for.
-use Rattle.std.specs.Prelude.{ℕ, ℤ, pos, negsuc, neg_ℤ, ◌-◌, ◌^◌, ◌+ℤ◌, ◌-ℤ◌, ◌*ℤ◌, ◌≤ℤ◌, int_le, int_lt, int_div, min, unsigned_abs, FitsSigned, ⊤, ◌+◌, Bool, true, false, ◌&&◌, ◌||◌, not, is_none, is_some, Option, Some, None, option_map, if◌then◌else◌, IsTrue}
+use Rattle.std.specs.Prelude.{ℕ, ℤ, pos, negsuc, neg_ℤ, ◌-◌, ◌^◌, ◌+ℤ◌, ◌-ℤ◌, ◌*ℤ◌, ◌≤ℤ◌, int_le, int_lt, int_div}
+use Rattle.std.specs.Prelude.{min, unsigned_abs, FitsSigned, ⊤, ◌+◌, Bool, true, false, ◌&&◌, ◌||◌, not, is_none}
+use Rattle.std.specs.Prelude.{is_some, Option, Some, None, option_map, if◌then◌else◌, IsTrue}
 use Rattle.std.specs.Int.{int_min, int_max, w32}
 use Rattle.teco_base.specs.declared.TheConstants.{LIMIT}
 use Rattle.teco_verifier.specs.declared.values.Value.{Value}

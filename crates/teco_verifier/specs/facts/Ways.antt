@@ -1,5 +1,6 @@
 -- The two ways of a test, and what is known on each.
-use Rattle.std.specs.Prelude.{◌≡◌, ℕ, zero, suc, ℤ, pos, negsuc, neg_ℤ, ◌+◌, ◌+ℤ◌, ◌-ℤ◌, ◌≤ℤ◌, ⊤, IsTrue, max, int_le, map, Bool, true, ◌&&◌, not, Option, Some, None, option_map, if◌then◌else◌}
+use Rattle.std.specs.Prelude.{◌≡◌, ℕ, zero, suc, ℤ, pos, negsuc, neg_ℤ, ◌+◌, ◌+ℤ◌, ◌-ℤ◌, ◌≤ℤ◌, ⊤, IsTrue, max, int_le}
+use Rattle.std.specs.Prelude.{map, Bool, true, ◌&&◌, not, Option, Some, None, option_map, if◌then◌else◌}
 use Rattle.std.specs.Option.{option_map_or}
 use Rattle.teco_base.specs.Bytes.{is_digit}
 use Rattle.teco_model.specs.Condition.{is_code_of}

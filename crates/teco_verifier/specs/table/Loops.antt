@@ -1,5 +1,6 @@
 -- The loop lines of a table: what is chosen for each < whose body is reached.
-use Rattle.std.specs.Prelude.{ℕ, suc, List, [], ◌∷◌, ◌++◌, bytes_eq, is_some, ◌&&◌, if◌then◌else◌, Bool, Option, Some, None}
+use Rattle.std.specs.Prelude.{ℕ, suc, List, [], ◌∷◌, ◌++◌, bytes_eq, is_some, ◌&&◌, if◌then◌else◌, Bool, Option, Some}
+use Rattle.std.specs.Prelude.{None}
 use Rattle.teco_verifier.specs.expansion.Node.{Node}
 use Rattle.teco_poly.specs.Polynomial.{Polynomial}
 use Rattle.teco_verifier.specs.facts.Bodies.{Choice}

@@ -1,6 +1,7 @@
 -- The numbers that are printed of a table: the most steps that a run takes, the most that is held, and the files
 -- that must be open. A number that overflows does so at a node, in the order of their numbers.
-use Rattle.std.specs.Prelude.{◌≡◌, ℕ, suc, List, [], ◌∷◌, Bool, true, false, not, ◌||◌, ◌&&◌, if◌then◌else◌, Option, Some, None, Result, Ok, Err}
+use Rattle.std.specs.Prelude.{◌≡◌, ℕ, suc, List, [], ◌∷◌, Bool, true, false, not, ◌||◌, ◌&&◌, if◌then◌else◌, Option}
+use Rattle.std.specs.Prelude.{Some, None, Result, Ok, Err}
 use Rattle.std.specs.Option.{option_map_or, ok_or}
 use Rattle.teco_model.specs.Element.{Element}
 use Rattle.teco_model.specs.declared.kind.Kind.{Kind}

@@ -21,19 +21,24 @@ returns-clause-text c = λ f is e.
     let arguments = argument_line f.argument ++ edition in
     let behind_needs = (needs_text f.needs ++ LF ∷ []) ++ commands in
     let entries = line (codes "entry " ++ register_name f.entry ∷ []) ++ arguments in
-    let version = c.behind_version.ensures f.argument entries (e ∙ ap (λ rest. codes "TECO-CERT " ++ rest) (append_assoc (version_text f.argument) (LF ∷ []) entries)) in
+    let version = c.behind_version.ensures f.argument entries
+    (e ∙ ap (λ rest. codes "TECO-CERT " ++ rest) (append_assoc (version_text f.argument) (LF ∷ []) entries)) in
     let start = c.behind.ensures.word.1.there (register_name f.entry ∷ LF ∷ arguments) version in
     let entry = c.register_at-entry.ensures.text f.entry (LF ∷ arguments) has.entry start.1 in
     let of_argument = c.behind-2.ensures.word.1.there arguments entry.1 in
     let argument = c.argument_at-argument.ensures f.argument f.rules behind_needs has.argument of_argument.1 in
     let rules = c.rules_at-rules.ensures f.rules behind_needs argument.1 in
     let of_needs = c.behind-3.ensures.word.1.there behind_needs rules.1 in
-    let need = c.needs_at-needs.ensures f.needs commands (of_needs.1 ∙ append_assoc (needs_text f.needs) (LF ∷ []) commands) in
+    let need = c.needs_at-needs.ensures f.needs commands
+    (of_needs.1 ∙ append_assoc (needs_text f.needs) (LF ∷ []) commands) in
     let of_commands = c.behind-4.ensures.word.1.there ((text f.commands ++ LF ∷ []) ++ sizes) need.1 in
-    let most = c.polynomial_at-commands.ensures.text f.commands (LF ∷ sizes) has.commands refl (of_commands.1 ∙ append_assoc (text f.commands) (LF ∷ []) sizes) in
+    let most = c.polynomial_at-commands.ensures.text f.commands (LF ∷ sizes) has.commands refl
+    (of_commands.1 ∙ append_assoc (text f.commands) (LF ∷ []) sizes) in
     let of_size = c.behind-5.ensures.word.1.there ((text f.size ++ LF ∷ []) ++ loops) most.1 in
-    let size = c.polynomial_at-size.ensures.text f.size (LF ∷ loops) has.size refl (of_size.1 ∙ append_assoc (text f.size) (LF ∷ []) loops) in
+    let size = c.polynomial_at-size.ensures.text f.size (LF ∷ loops) has.size refl
+    (of_size.1 ∙ append_assoc (text f.size) (LF ∷ []) loops) in
     let of_loops = c.behind-6.ensures.word.1.there loops size.1 in
     let of = subst (λ (r : Rules). AllByRecursion (HasDistancesOf r) f.loops) (sym rules.0) is.distances in
     let spelled = of_loops.1 ∙ ap (λ (r : Rules). flat_map (loop_line r) f.loops ++ line (codes "end")) (sym rules.0) in
-    same_fields f entry.0 argument.0 rules.0 need.0 most.0 size.0 (c.in_ok-loops.ensures.text f.loops has.loops is.order.registers of spelled)
+    same_fields f entry.0 argument.0 rules.0 need.0 most.0 size.0
+    (c.in_ok-loops.ensures.text f.loops has.loops is.order.registers of spelled)

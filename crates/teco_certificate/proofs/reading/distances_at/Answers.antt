@@ -13,8 +13,10 @@ returns-in-First-clause-text c = λ distances rest back fore are ends e.
 pub returns-in-Second-clause-text : goal.returns-in-Second-clause-text
 returns-in-Second-clause-text c = λ distances rest small fits are ends e.
     let spelled = (rw c.in-Second.is at e) ∙ parts_of_distances distances rest in
-    let begin = c.behind.ensures.word.1.there (decimal distances.back ++ (codes " fore " ++ (decimal distances.fore ++ rest))) spelled in
-    let back = c.distance_at-back.ensures.text distances.back (codes " fore " ++ (decimal distances.fore ++ rest)) small refl begin.1 in
+    let begin = c.behind.ensures.word.1.there
+    (decimal distances.back ++ (codes " fore " ++ (decimal distances.fore ++ rest))) spelled in
+    let back = c.distance_at-back.ensures.text distances.back (codes " fore " ++ (decimal distances.fore ++ rest)) small
+    refl begin.1 in
     let middle = c.behind-in-Second.ensures.word.1.there (decimal distances.fore ++ rest) back.1 in
     let fore = c.distance_at-fore.ensures.text distances.fore rest fits ends middle.1 in
     (distances_are distances back.0 fore.0, fore.1)

@@ -12,7 +12,8 @@ returns-clause-text c = λ chosen rest is rise of e.
     let behind_kept = distances_text c.args.rules chosen.distances ++ texts in
     let behind_held = kept_text chosen.kept ++ behind_kept in
     let behind_number = text chosen.held ++ (codes " " ++ behind_held) in
-    let number = c.number_at-number.ensures.text chosen.begin (codes " held " ++ behind_number) is.begin refl (e ∙ parts_of_line c.args.rules chosen rest) in
+    let number = c.number_at-number.ensures.text chosen.begin (codes " held " ++ behind_number) is.begin refl
+    (e ∙ parts_of_line c.args.rules chosen rest) in
     let word = c.behind.ensures.word.1.there behind_number number.1 in
     let held = c.held_at-held.ensures.text chosen.held behind_held is.held (ends_kept chosen.kept behind_kept) word.1 in
     let kept = c.kept_at-kept.ensures.text chosen.kept behind_kept held.1 in

@@ -17,12 +17,14 @@ pub record IsLine (rules : Rules) (line : Chosen) : Type 0 where
   pub rises : RegistersRise line
   pub distances : HasDistancesOf rules line
 
--- of whatever loops there are, those that are read and those that are left are all; the registers of each that is read rise
+-- of whatever loops there are, those that are read and those that are left are all; the registers of each that is read
+-- rise
 abbrev pub invariant-loop-words : goal.invariant-loop-words
 invariant-loop-words l = record {
   rise : AllByRecursion RegistersRise l.loops.items;
   distances : AllByRecursion (HasDistancesOf l.rules) l.loops.items;
-  left : (cs : List Chosen) → AllByRecursion IsChosen cs → AllByRecursion RegistersRise cs → AllByRecursion (HasDistancesOf l.rules) cs → l.fn.text ≡ flat_map (loop_line l.rules) cs ++ line (codes "end")
+  left : (cs : List Chosen) → AllByRecursion IsChosen cs → AllByRecursion RegistersRise cs
+      → AllByRecursion (HasDistancesOf l.rules) cs → l.fn.text ≡ flat_map (loop_line l.rules) cs ++ line (codes "end")
       → AreLeft (codes "loop ") (loop_rest l.rules) (IsLine l.rules) (line (codes "end")) cs l.loops.items l.rest;
 }
 

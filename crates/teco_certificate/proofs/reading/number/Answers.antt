@@ -12,4 +12,5 @@ returns-in_default c = λ n small e.
 pub returns : goal.returns
 returns c = λ n small e.
     c.unwrap_or.ensures ∙ ap (λ r. result_unwrap_or r 0)
-    (parse-decimal 64 n c.in-Ok.digits.now c.parse.result small small (c.in-Ok.ensures.cases.0 ∙ e) c.parse.ensures.value.0)
+    (parse-decimal 64 n c.in-Ok.digits.now c.parse.result small small
+    (c.in-Ok.ensures.cases.0 ∙ e) c.parse.ensures.value.0)

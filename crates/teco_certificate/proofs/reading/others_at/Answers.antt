@@ -25,23 +25,30 @@ loop-words-preserved c = record {
   rise = rw (c.in_ok-push.ensures.items, ← c.deref.ensures.value) (c.if-not-is_behind.ensures.0 refl);
   registers =
       rw c.in_ok-push.ensures.items
-      (all_and (λ l. l.register < REGISTERS) c.loop-words.longer.items c.longer_at-other.result.0 c.loop-words.invariant.registers c.longer_at-other.ensures.register);
+      (all_and (λ l. l.register < REGISTERS) c.loop-words.longer.items c.longer_at-other.result.0
+      c.loop-words.invariant.registers c.longer_at-other.ensures.register);
   left = λ ls rest are e.
       rw c.in_ok-push.ensures.items
-      (more_read (codes ",") longer_text IsLongerText (LF ∷ rest) (other_byte (LF ∷ rest) [] rest 10 44 refl (λ (same : 10 ≡ 44). omega arith))
-      (c.args.longer.now.items ++ ls) c.loop-words.longer.items c.loop-words.rest.now (c.loop-words.invariant.left ls rest are e) c.in-Some.words.now
+      (more_read (codes ",") longer_text IsLongerText (LF ∷ rest)
+      (other_byte (LF ∷ rest) [] rest 10 44 refl (λ (same : 10 ≡ 44). omega arith))
+      (c.args.longer.now.items ++ ls) c.loop-words.longer.items c.loop-words.rest.now
+      (c.loop-words.invariant.left ls rest are e) c.in-Some.words.now
       (strip_prefix_is Decides-eqb c.loop-words.rest.now (codes ",") (Some c.in-Some.words) c.in-Some.ensures.cases)
       c.longer_at-other.result.0 c.longer_at-other.result.1.now
-      (λ l others is f. c.longer_at-other.ensures.text l (flat_map behind_comma others ++ LF ∷ rest) is (ends_longer others rest) f));
+      (λ l others is f. c.longer_at-other.ensures.text l (flat_map behind_comma others ++ LF ∷ rest) is
+      (ends_longer others rest) f));
 }
 
 pub returns-then-not-is_behind-clause-text : goal.returns-then-not-is_behind-clause-text
 returns-then-not-is_behind-clause-text c = λ ls rest are rise e.
-    let more = more_read (codes ",") longer_text IsLongerText (LF ∷ rest) (other_byte (LF ∷ rest) [] rest 10 44 refl (λ (same : 10 ≡ 44). omega arith))
-    (c.args.longer.now.items ++ ls) c.loop-words.longer.items c.loop-words.rest.now (c.loop-words.invariant.left ls rest are e) c.in-Some.words.now
+    let more = more_read (codes ",") longer_text IsLongerText (LF ∷ rest)
+    (other_byte (LF ∷ rest) [] rest 10 44 refl (λ (same : 10 ≡ 44). omega arith))
+    (c.args.longer.now.items ++ ls) c.loop-words.longer.items c.loop-words.rest.now
+    (c.loop-words.invariant.left ls rest are e) c.in-Some.words.now
     (strip_prefix_is Decides-eqb c.loop-words.rest.now (codes ",") (Some c.in-Some.words) c.in-Some.ensures.cases)
     c.longer_at-other.result.0 c.longer_at-other.result.1.now
-    (λ l others is f. c.longer_at-other.ensures.text l (flat_map behind_comma others ++ LF ∷ rest) is (ends_longer others rest) f) in
+    (λ l others is f. c.longer_at-other.ensures.text l (flat_map behind_comma others ++ LF ∷ rest) is
+    (ends_longer others rest) f) in
     let read = c.loop-words.longer.items ++ c.longer_at-other.result.0 ∷ [] in
     let rises : TextsRise (read ++ more.left) = subst TextsRise (sym more.whole) rise in
     let stands = c.if-not-is_behind.ensures.1 (rw c.deref.ensures.value (front_rises read more.left rises)) in
@@ -49,6 +56,8 @@ returns-then-not-is_behind-clause-text c = λ ls rest are rise e.
 
 pub returns-clause-text : goal.returns-clause-text
 returns-clause-text c = λ ls rest are rise e.
-    all_read (codes ",") longer_text IsLongerText (LF ∷ rest) (other_byte (LF ∷ rest) [] rest 10 44 refl (λ (same : 10 ≡ 44). omega arith))
-    (c.args.longer.now.items ++ ls) c.loop-words.longer.items c.loop-words.rest.now (c.loop-words.invariant.left ls rest are e)
+    all_read (codes ",") longer_text IsLongerText (LF ∷ rest)
+    (other_byte (LF ∷ rest) [] rest 10 44 refl (λ (same : 10 ≡ 44). omega arith))
+    (c.args.longer.now.items ++ ls) c.loop-words.longer.items c.loop-words.rest.now
+    (c.loop-words.invariant.left ls rest are e)
     (λ words f. strip_prefix_is Decides-eqb c.loop-words.rest.now (codes ",") None c.in_default.ensures.cases words f)

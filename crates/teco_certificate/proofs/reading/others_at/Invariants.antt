@@ -14,7 +14,8 @@ invariant-loop-words l = record {
   within : length l.rest ≤ length l.fn.text;
   rise : TextsRise l.longer.items;
   registers : AreOfRegisters l.longer.items;
-  left : (ls : List LongerText) (rest : List ℕ) → AllByRecursion IsLongerText ls → l.fn.text ≡ flat_map behind_comma ls ++ LF ∷ rest
+  left : (ls : List LongerText) (rest : List ℕ) → AllByRecursion IsLongerText ls → l.fn.text ≡ flat_map behind_comma ls
+      ++ LF ∷ rest
       → AreLeft (codes ",") longer_text IsLongerText (LF ∷ rest) (l.fn.longer.items ++ ls) l.longer.items l.rest;
 }
 

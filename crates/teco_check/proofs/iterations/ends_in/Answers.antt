@@ -19,8 +19,10 @@ loop-at-preserved c =
     let within : c.loop-at.at < length nodes = omega (arith, c.end_of-at-end.ensures.ahead) in
     let more = body_more nodes begin c.loop-at.at c.loop-at.auto.at within in
     elim c.if-ends_saved.branch [
-      | then-ends_saved w ↦ rw (w.ended-is, more) (sym (ends_here before node (sym c.ends_saved.ensures ∙ w.if-ends_saved.true)))
-      | else-ends_saved w ↦ rw (w.ended-is, c.loop-at.invariant, more) (sym (ends_later before node (sym c.ends_saved.ensures ∙ w.if-ends_saved.false)))
+      | then-ends_saved w ↦ rw (w.ended-is, more)
+          (sym (ends_here before node (sym c.ends_saved.ensures ∙ w.if-ends_saved.true)))
+      | else-ends_saved w ↦ rw (w.ended-is, c.loop-at.invariant, more)
+          (sym (ends_later before node (sym c.ends_saved.ensures ∙ w.if-ends_saved.false)))
     ]
 
 pub returns : goal.returns

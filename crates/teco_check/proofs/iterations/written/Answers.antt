@@ -20,8 +20,11 @@ loop-at-preserved c =
     let within : c.loop-at.at < length nodes = omega (arith, c.end_of-at-end.ensures.ahead) in
     let more = body_more nodes begin c.loop-at.at c.loop-at.auto.at within in
     elim c.match-set_at.branch [
-      | in-Some w ↦ rw (w.written-is, c.loop-at.invariant, more) (sym (written_some before node REGISTERS w.in-Some.register (sym c.set_at.ensures.value ∙ w.in-Some.is) w.in-Some.ensures.within))
-      | in_default w ↦ rw (w.written-is, c.loop-at.invariant, more) (sym (written_none before node REGISTERS (sym c.set_at.ensures.value ∙ w.in_default.is)))
+      | in-Some w ↦ rw (w.written-is, c.loop-at.invariant, more)
+          (sym (written_some before node REGISTERS w.in-Some.register (sym c.set_at.ensures.value ∙ w.in-Some.is)
+          w.in-Some.ensures.within))
+      | in_default w ↦ rw (w.written-is, c.loop-at.invariant, more)
+          (sym (written_none before node REGISTERS (sym c.set_at.ensures.value ∙ w.in_default.is)))
     ]
 
 pub returns-clause-value : goal.returns-clause-value

@@ -4,4 +4,5 @@ use Rattle.teco_check.proofs.node.names_macro.Goals as goal
 
 pub returns : goal.returns
 returns c =
-    c.names_macro.ensures (node_at c.args.nodes.now c.args.number) (numbered_at c.args.nodes.now c.args.number c.requires.one c.requires.last)
+    c.names_macro.ensures (node_at c.args.nodes.now c.args.number)
+    (numbered_at c.args.nodes.now c.args.number c.requires.one c.requires.last)

@@ -4,17 +4,24 @@ use Rattle.teco_check.proofs.Wholes.{none_known, known_round}
 use Rattle.teco_check.proofs.printed.sum_over.Goals as goal
 
 pub loop-at-init : goal.loop-at-init
-loop-at-init c = record { counted = rw c.number.ensures refl; rounds = none_known c.args.nodes.now c.args.table.now c.of_none-rounds.result c.of_none-rounds.ensures }
+loop-at-init c = record {
+  counted = rw c.number.ensures refl;
+  rounds = none_known c.args.nodes.now c.args.table.now c.of_none-rounds.result c.of_none-rounds.ensures;
+}
 
 pub returns-in-Err-clause-value : goal.returns-in-Err-clause-value
 returns-in-Err-clause-value c =
     let within : c.loop-at.at < length c.args.nodes.now = omega (arith, c.len-at-end.ensures) in
-    c.loop-at.invariant.counted ∙ count_fails c.args.nodes.now c.args.table.now c.loop-at.at c.loop-at.counted c.in-Err.field-0 within (sym c.with.ensures ∙ c.in-Err.is)
+    c.loop-at.invariant.counted ∙ count_fails c.args.nodes.now c.args.table.now c.loop-at.at c.loop-at.counted
+    c.in-Err.field-0 within (sym c.with.ensures ∙ c.in-Err.is)
 
 pub loop-at-preserved : goal.loop-at-preserved
 loop-at-preserved c =
     let within : c.loop-at.at < length c.args.nodes.now = omega (arith, c.len-at-end.ensures) in
     record {
-      counted = c.loop-at.invariant.counted ∙ count_more c.args.nodes.now c.args.table.now c.loop-at.at c.loop-at.counted c.in-Ok.more within (sym c.with.ensures ∙ c.in-Ok.is);
-      rounds = known_round c.args.nodes.now c.args.table.now c.loop-at.at c.of-rounds.result within c.of-rounds.ensures.number c.of-rounds.ensures.product;
+      counted = c.loop-at.invariant.counted
+          ∙ count_more c.args.nodes.now c.args.table.now c.loop-at.at c.loop-at.counted c.in-Ok.more within
+          (sym c.with.ensures ∙ c.in-Ok.is);
+      rounds = known_round c.args.nodes.now c.args.table.now c.loop-at.at c.of-rounds.result within
+          c.of-rounds.ensures.number c.of-rounds.ensures.product;
     }

@@ -7,6 +7,7 @@ use Rattle.teco_check.proofs.printed.sum_over.Given as goal
 -- the nodes before this one are counted
 abbrev pub invariant-loop-at : goal.invariant-loop-at
 invariant-loop-at l = record {
-  counted : count_from l.nodes l.table 1 l.nodes (record { total = number l.before; pages = false }) ≡ count_from l.nodes l.table (suc l.at) (drop l.at l.nodes) l.counted;
+  counted : count_from l.nodes l.table 1 l.nodes (record { total = number l.before; pages = false }) ≡ count_from
+      l.nodes l.table (suc l.at) (drop l.at l.nodes) l.counted;
   rounds : AreRounds l.nodes l.table l.rounds;
 }

@@ -5,4 +5,5 @@ use Rattle.teco_editor.proofs.searching.search.Goals as goal
 
 pub returns-in-Err : goal.returns-in-Err
 returns-in-Err g c =
-    rw c.stuck.ensures (search-refused c.args.search (seen c.args.element.now) c.args.taken c.args.editor.now c.in_ok-n.n (sym c.in_ok-n.ensures.value) c.in-Err.fault c.in-Err.ensures.err)
+    rw c.stuck.ensures (search-refused c.args.search (seen c.args.element.now) c.args.taken c.args.editor.now
+    c.in_ok-n.n (sym c.in_ok-n.ensures.value) c.in-Err.fault c.in-Err.ensures.err)

@@ -16,8 +16,10 @@ returns-in-Err c =
     let l = c.loop-at in
     let library = library_of texts in
     let w = walk_seen texts c.args.walk.now in
-    let here = sym (ap (λ (v : Visit). node_at library texts.entry w (l.at + 1) (visit_seen texts v)) c.index.ensures) ∙ c.in-Err.ensures in
-    l.invariant ∙ nodes_refused (visit_seen texts) library texts.entry w (map (node_seen texts) l.nodes.items) (refusal_seen c.in-Err.refusal) c.args.walk.now.visits.items l.at c.index.result.now (omega arith) here
+    let here = sym (ap (λ (v : Visit). node_at library texts.entry w (l.at + 1) (visit_seen texts v)) c.index.ensures)
+    ∙ c.in-Err.ensures in
+    l.invariant ∙ nodes_refused (visit_seen texts) library texts.entry w (map (node_seen texts) l.nodes.items)
+    (refusal_seen c.in-Err.refusal) c.args.walk.now.visits.items l.at c.index.result.now (omega arith) here
 
 pub loop-at-preserved : goal.loop-at-preserved
 loop-at-preserved c =
@@ -27,15 +29,20 @@ loop-at-preserved c =
     let w = walk_seen texts c.args.walk.now in
     let vs = map (visit_seen texts) c.args.walk.now.visits.items in
     let node = node_seen texts c.in-Ok.node in
-    let here = sym (ap (λ (v : Visit). node_at library texts.entry w (l.at + 1) (visit_seen texts v)) c.index.ensures) ∙ c.in-Ok.ensures in
+    let here = sym (ap (λ (v : Visit). node_at library texts.entry w (l.at + 1) (visit_seen texts v)) c.index.ensures)
+    ∙ c.in-Ok.ensures in
     let more : map (node_seen texts) c.keep.new.nodes.items ≡ map (node_seen texts) l.nodes.items ++ node ∷ [] =
-    ap (map (node_seen texts)) c.in_ok-keep-in-Ok.ensures ∙ map-append (node_seen texts) l.nodes.items (c.in-Ok.node ∷ []) in
+    ap (map (node_seen texts)) c.in_ok-keep-in-Ok.ensures ∙ map-append (node_seen texts) l.nodes.items
+    (c.in-Ok.node ∷ []) in
     l.invariant
-    ∙ nodes_more (visit_seen texts) library texts.entry w (map (node_seen texts) l.nodes.items) node c.args.walk.now.visits.items l.at c.index.result.now (omega arith) here
-    ∙ ap (λ (nodes : List Node). before nodes (nodes_at library texts.entry w (l.at + 1 + 1) (drop (l.at + 1) vs))) (sym more)
+    ∙ nodes_more (visit_seen texts) library texts.entry w (map (node_seen texts) l.nodes.items) node
+    c.args.walk.now.visits.items l.at c.index.result.now (omega arith) here
+    ∙ ap (λ (nodes : List Node). before nodes (nodes_at library texts.entry w (l.at + 1 + 1) (drop (l.at + 1) vs)))
+    (sym more)
 
 pub returns : goal.returns
 returns c =
     let texts = c.args.texts.now in
     let l = c.loop-at in
-    l.invariant ∙ nodes_end (visit_seen texts) (library_of texts) texts.entry (walk_seen texts c.args.walk.now) (map (node_seen texts) l.nodes.items) c.args.walk.now.visits.items l.at (omega arith)
+    l.invariant ∙ nodes_end (visit_seen texts) (library_of texts) texts.entry (walk_seen texts c.args.walk.now)
+    (map (node_seen texts) l.nodes.items) c.args.walk.now.visits.items l.at (omega arith)

@@ -12,4 +12,5 @@ invariant-loop-at l =
     let entry = l.texts.entry in
     let w = walk_seen l.texts l.walk in
     let vs = map (visit_seen l.texts) l.walk.visits.items in
-    nodes_at library entry w 1 vs ≡ before (map (node_seen l.texts) l.nodes.items) (nodes_at library entry w (l.at + 1) (drop l.at vs))
+    nodes_at library entry w 1 vs ≡ before (map (node_seen l.texts) l.nodes.items)
+    (nodes_at library entry w (l.at + 1) (drop l.at vs))

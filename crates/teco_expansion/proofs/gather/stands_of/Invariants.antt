@@ -5,4 +5,5 @@ use Rattle.teco_expansion.proofs.gather.stands_of.Given as goal
 
 abbrev pub invariant-loop-visit : goal.invariant-loop-visit
 invariant-loop-visit l =
-    map (stand_seen l.texts) l.stands.items ≡ map stand_of_visit (map (visit_seen l.texts) (take l.visit-index l.walk.visits.items))
+    map (stand_seen l.texts) l.stands.items ≡ map stand_of_visit
+    (map (visit_seen l.texts) (take l.visit-index l.walk.visits.items))

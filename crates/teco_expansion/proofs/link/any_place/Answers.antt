@@ -13,9 +13,13 @@ returns-then-is_at c =
     let place = position_seen c.args.texts.now c.args.position.now in
     let x = c.index-stands-at.result in
     let same : c.is_at.result ≡ true = search rules in
-    let here : same_place place (seen (get_or c.args.stands.now c.loop-at.at x)).position ≡ true = sym (ap (λ (s : code.Stand). same_place place (seen s).position) c.index-stands-at.is) ∙ sym c.is_at.ensures ∙ same in
-    let rest = list_any (λ (other : Stand). same_place place other.position) (drop (c.loop-at.at + 1) (map seen c.args.stands.now)) in
-    sym (c.loop-at.invariant ∙ any_on seen (λ (other : Stand). same_place place other.position) c.args.stands.now c.loop-at.at x (omega arith) ∙ ap (λ b. b || rest) here)
+    let here : same_place place (seen (get_or c.args.stands.now c.loop-at.at x)).position ≡ true =
+    sym (ap (λ (s : code.Stand). same_place place (seen s).position) c.index-stands-at.is) ∙ sym c.is_at.ensures
+    ∙ same in
+    let rest = list_any (λ (other : Stand). same_place place other.position)
+    (drop (c.loop-at.at + 1) (map seen c.args.stands.now)) in
+    sym (c.loop-at.invariant ∙ any_on seen (λ (other : Stand). same_place place other.position) c.args.stands.now
+    c.loop-at.at x (omega arith) ∙ ap (λ b. b || rest) here)
 
 pub loop-at-preserved : goal.loop-at-preserved
 loop-at-preserved c =
@@ -23,6 +27,10 @@ loop-at-preserved c =
     let place = position_seen c.args.texts.now c.args.position.now in
     let x = c.index-stands-at.result in
     let other : c.is_at.result ≡ false = search rules in
-    let here : same_place place (seen (get_or c.args.stands.now c.loop-at.at x)).position ≡ false = sym (ap (λ (s : code.Stand). same_place place (seen s).position) c.index-stands-at.is) ∙ sym c.is_at.ensures ∙ other in
-    let rest = list_any (λ (other : Stand). same_place place other.position) (drop (c.loop-at.at + 1) (map seen c.args.stands.now)) in
-    c.loop-at.invariant ∙ any_on seen (λ (other : Stand). same_place place other.position) c.args.stands.now c.loop-at.at x (omega arith) ∙ ap (λ b. b || rest) here
+    let here : same_place place (seen (get_or c.args.stands.now c.loop-at.at x)).position ≡ false =
+    sym (ap (λ (s : code.Stand). same_place place (seen s).position) c.index-stands-at.is) ∙ sym c.is_at.ensures
+    ∙ other in
+    let rest = list_any (λ (other : Stand). same_place place other.position)
+    (drop (c.loop-at.at + 1) (map seen c.args.stands.now)) in
+    c.loop-at.invariant ∙ any_on seen (λ (other : Stand). same_place place other.position) c.args.stands.now
+    c.loop-at.at x (omega arith) ∙ ap (λ b. b || rest) here

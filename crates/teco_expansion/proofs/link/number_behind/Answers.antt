@@ -10,7 +10,8 @@ returns-then-same_stand c =
     let p = same_stand (seen c.args.stand.now) in
     let x = c.index-stands-at.result in
     let same : c.same_stand.result ≡ true = search rules in
-    let here : p (seen (get_or c.args.stands.now c.loop-at.at x)) ≡ true = rw (← c.index-stands-at.is) (sym c.same_stand.ensures ∙ same) in
+    let here : p (seen (get_or c.args.stands.now c.loop-at.at x)) ≡ true =
+    rw (← c.index-stands-at.is) (sym c.same_stand.ensures ∙ same) in
     sym (c.loop-at.invariant ∙ found_here seen p c.args.stands.now c.loop-at.at x (omega arith) here)
 
 pub loop-at-preserved : goal.loop-at-preserved
@@ -19,5 +20,6 @@ loop-at-preserved c =
     let p = same_stand (seen c.args.stand.now) in
     let x = c.index-stands-at.result in
     let other : c.same_stand.result ≡ false = search rules in
-    let here : p (seen (get_or c.args.stands.now c.loop-at.at x)) ≡ false = rw (← c.index-stands-at.is) (sym c.same_stand.ensures ∙ other) in
+    let here : p (seen (get_or c.args.stands.now c.loop-at.at x)) ≡ false =
+    rw (← c.index-stands-at.is) (sym c.same_stand.ensures ∙ other) in
     c.loop-at.invariant ∙ found_on seen p c.args.stands.now c.loop-at.at x (omega arith) here

@@ -10,7 +10,8 @@ use Rattle.teco_expansion.proofs.overlap.parts_on.Goals as goal
 
 pub returns-then-to-behind_blanks : goal.returns-then-to-behind_blanks
 returns-then-to-behind_blanks c =
-    nothing_between (spot_seen c.args.texts.now c.args.spot.now) c.args.element.now.next c.args.to (rw c.behind_blanks.ensures at c.if-to-behind_blanks.true)
+    nothing_between (spot_seen c.args.texts.now c.args.spot.now) c.args.element.now.next c.args.to
+    (rw c.behind_blanks.ensures at c.if-to-behind_blanks.true)
 
 pub returns-in-Some : goal.returns-in-Some
 returns-in-Some c =

@@ -13,7 +13,8 @@ returns-then-not-same_caller c =
     let ys = listed c.args.second.now in
     let k = c.loop-at.at in
     let rest = same_spots (map (spot_seen texts) (drop (k + 1) xs)) (map (spot_seen texts) (drop (k + 1) ys)) in
-    let here : same_waiting texts (slice_get xs k) (slice_get ys k) ≡ c.same_caller.result = rw (← c.get.ensures, ← c.get-in-loop-at.ensures) (sym c.same_caller.ensures) in
+    let here : same_waiting texts (slice_get xs k) (slice_get ys k) ≡ c.same_caller.result =
+    rw (← c.get.ensures, ← c.get-in-loop-at.ensures) (sym c.same_caller.ensures) in
     let other : c.same_caller.result ≡ false = search rules in
     sym (c.loop-at.invariant ∙ waiting_from texts xs ys k ∙ ap (λ b. b && rest) (here ∙ other))
 
@@ -24,6 +25,7 @@ loop-at-preserved c =
     let ys = listed c.args.second.now in
     let k = c.loop-at.at in
     let rest = same_spots (map (spot_seen texts) (drop (k + 1) xs)) (map (spot_seen texts) (drop (k + 1) ys)) in
-    let here : same_waiting texts (slice_get xs k) (slice_get ys k) ≡ c.same_caller.result = rw (← c.get.ensures, ← c.get-in-loop-at.ensures) (sym c.same_caller.ensures) in
+    let here : same_waiting texts (slice_get xs k) (slice_get ys k) ≡ c.same_caller.result =
+    rw (← c.get.ensures, ← c.get-in-loop-at.ensures) (sym c.same_caller.ensures) in
     let same : c.same_caller.result ≡ true = search rules in
     c.loop-at.invariant ∙ waiting_from texts xs ys k ∙ ap (λ b. b && rest) (here ∙ same)

@@ -8,7 +8,8 @@ use Rattle.teco_expansion.proofs.ways.skip_at.Goals as goal
 pub returns-in-Some : goal.returns-in-Some
 returns-in-Some c =
     let spot = c.args.spot.now in
-    c.in-Some.ensures ∙ skip_of_element (text_of c.args.texts.now spot.register) spot.place (seen c.args.element.now) c.requires
+    c.in-Some.ensures ∙ skip_of_element (text_of c.args.texts.now spot.register) spot.place
+    (seen c.args.element.now) c.requires
 
 pub returns-in-None : goal.returns-in-None
 returns-in-None c =

@@ -11,5 +11,7 @@ returns-then-is_none-clause-exits g c =
     let kept = c.args.editor.now in
     let held = c.args.pages.now in
     told-same
-    (λ files left. IsSameOutput held files → CopiesAll (world kept held files) (world kept held left) (Ok (model.exit (world kept held files))) (Ok tt) × IsSameOutput held left)
+    (λ files left. IsSameOutput held files
+    → CopiesAll (world kept held files) (world kept held left) (Ok (model.exit (world kept held files))) (Ok tt)
+    × IsSameOutput held left)
     (λ files. search rules) _

@@ -10,5 +10,7 @@ pub returns-in_err-check_name-clause-opens : goal.returns-in_err-check_name-clau
 returns-in_err-check_name-clause-opens g c = λ kept.
     let held = c.args.pages.now in
     told-same
-    (λ files left. IsSameOutput held files → OpensOutput (world kept held files) (world kept held left) (model.open_output c.args.name.now (world kept held files)) c.from_residual.result × IsSameOutput held left)
+    (λ files left. IsSameOutput held files
+    → OpensOutput (world kept held files) (world kept held left)
+    (model.open_output c.args.name.now (world kept held files)) c.from_residual.result × IsSameOutput held left)
     (λ files. search rules) _

@@ -5,7 +5,8 @@ use Rattle.teco_filing.proofs.files.write_and_close.Goals as goal
 
 pub returns-in-Ok-clause-closed : goal.returns-in-Ok-clause-closed
 returns-in-Ok-clause-closed g c =
-    closes-all c.args.editor.now c.args.pages.now c.close_out.result _ _ _ c.in-Ok.ensures.written c.close_out.ensures.files
+    closes-all c.args.editor.now c.args.pages.now c.close_out.result _ _ _ c.in-Ok.ensures.written
+    c.close_out.ensures.files
 
 pub returns-in-Err-clause-closed : goal.returns-in-Err-clause-closed
 returns-in-Err-clause-closed g c =

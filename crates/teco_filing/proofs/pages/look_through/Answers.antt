@@ -9,4 +9,5 @@ returns-in_err-look_through-clause-looks g c =
     let p = err_from_is_err_and c.from_residual.result c.from_residual.ensures.1 in
     let stopped : c.from_residual.result ≡ Err (halt_of c.in_err-look_through.field-0.0) = p.1 ∙ ap Err p.2 in
     rw (stopped, c.in_err-look_through.ensures.err)
-    (look-stopped c.args.editor.now c.args.pages.now c.args.text.now c.args.message.now c.in_err-look_through.field-0.0 _ _ _ _ c.in_err-look_through.ensures.out)
+    (look-stopped c.args.editor.now c.args.pages.now c.args.text.now c.args.message.now c.in_err-look_through.field-0.0
+    _ _ _ _ c.in_err-look_through.ensures.out)

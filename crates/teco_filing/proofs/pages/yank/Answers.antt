@@ -12,5 +12,7 @@ returns-then-size-gt0-clause-reads g c =
     let kept = c.args.editor.now in
     let held = c.args.pages.now in
     told-same
-    (λ files left. IsSameOutput held files → Reads (world kept held files) (world kept held left) (model.yank (world kept held files)) (Err (halt.Code code.Yca)) × IsSameOutput held left)
+    (λ files left. IsSameOutput held files
+    → Reads (world kept held files) (world kept held left) (model.yank (world kept held files))
+    (Err (halt.Code code.Yca)) × IsSameOutput held left)
     (λ files. search rules) _

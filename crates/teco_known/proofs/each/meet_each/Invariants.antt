@@ -4,4 +4,5 @@ use Rattle.teco_known.proofs.each.meet_each.Given as goal
 
 -- the items before this one are joined
 abbrev pub invariant-loop-at : goal.invariant-loop-at
-invariant-loop-at g l = l.one ≡ each_met g.T.Meets.met (take l.at l.initial.one) (take l.at l.two) ++ drop l.at l.initial.one
+invariant-loop-at g l = l.one ≡ each_met g.T.Meets.met (take l.at l.initial.one) (take l.at l.two)
+    ++ drop l.at l.initial.one

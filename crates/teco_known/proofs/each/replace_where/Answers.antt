@@ -9,6 +9,8 @@ loop-at-preserved g c =
     let xs = c.args.items.now in
     let at = c.loop-at.at in
     elim c.if-replaced-at.branch [
-      | then-replaced-at w ↦ rw (w.items-is, c.loop-at.invariant, add-one) (written_more c.args.other ws xs at (omega arith) (omega arith) w.if-replaced-at.true)
-      | else-replaced-at w ↦ rw (w.items-is, c.loop-at.invariant, add-one) (kept_more c.args.other ws xs at (omega arith) (omega arith) w.if-replaced-at.false)
+      | then-replaced-at w ↦ rw (w.items-is, c.loop-at.invariant, add-one)
+          (written_more c.args.other ws xs at (omega arith) (omega arith) w.if-replaced-at.true)
+      | else-replaced-at w ↦ rw (w.items-is, c.loop-at.invariant, add-one)
+          (kept_more c.args.other ws xs at (omega arith) (omega arith) w.if-replaced-at.false)
     ]

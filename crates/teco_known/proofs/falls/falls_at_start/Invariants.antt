@@ -6,4 +6,5 @@ use Rattle.teco_known.proofs.falls.falls_at_start.Given as goal
 abbrev pub invariant-loop-at : goal.invariant-loop-at
 invariant-loop-at l =
     l.start
-    ≡ in_order l.edition l.margins (falls_at_turn l.edition) ∷ map (in_order l.edition l.margins) (map (falls_outside l.kept) (take l.at l.outer))
+    ≡ in_order l.edition l.margins (falls_at_turn l.edition) ∷ map (in_order l.edition l.margins)
+    (map (falls_outside l.kept) (take l.at l.outer))

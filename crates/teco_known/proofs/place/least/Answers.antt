@@ -13,9 +13,27 @@ add-requires-2 c =
 pub returns-clause-near : goal.returns-clause-near
 returns-clause-near c = record {
   low =
-      omega (arith, ints, c.add-2.ensures, c.add.ensures, c.add-shares.ensures, c.share.ensures, c.share-2.ensures, c.least_code.invariant);
+      omega (
+        arith,
+        ints,
+        c.add-2.ensures,
+        c.add.ensures,
+        c.add-shares.ensures,
+        c.share.ensures,
+        c.share-2.ensures,
+        c.least_code.invariant,
+      );
   high =
-      omega (arith, ints, c.add-2.ensures, c.add.ensures, c.add-shares.ensures, c.share.ensures, c.share-2.ensures, c.least_code.invariant);
+      omega (
+        arith,
+        ints,
+        c.add-2.ensures,
+        c.add.ensures,
+        c.add-shares.ensures,
+        c.share.ensures,
+        c.share-2.ensures,
+        c.least_code.invariant,
+      );
 }
 
 pub returns-clause-value : goal.returns-clause-value

@@ -3,4 +3,5 @@ use Rattle.std.proofs.lemmas.Int.{ints}
 use Rattle.teco_known.proofs.place.least_behind.Goals as goal
 
 pub least-requires-clause-high : goal.least-requires-clause-high
-least-requires-clause-high c = rw (c.apart.ensures, c.place.ensures.value, c.size.ensures) (omega (arith, ints, c.requires))
+least-requires-clause-high c = rw (c.apart.ensures, c.place.ensures.value, c.size.ensures)
+    (omega (arith, ints, c.requires))

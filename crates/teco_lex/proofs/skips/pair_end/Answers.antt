@@ -10,7 +10,12 @@ loop-reading-preserved-in-Some-inner_behind c =
     let step = sym (pair_end-goes_on _ _ _ _ _ _ read behind) in
     record {
       text = c.next.ensures.text ∙ c.loop-reading.invariant.text;
-      within = omega (arith, c.next.ensures.within, ap length c.next.ensures.text, ap length c.loop-reading.invariant.text);
+      within = omega (
+        arith,
+        c.next.ensures.within,
+        ap length c.next.ensures.text,
+        ap length c.loop-reading.invariant.text,
+      );
       fits = omega (arith, c.in-Some.ensures.place, c.in-Some.ensures.on, c.in-Some-inner_behind.ensures.few);
       same = rw (rw c.in-Whole.is at c.in-Some.ensures.place) (step ∙ c.loop-reading.invariant.same);
     }
@@ -33,10 +38,16 @@ loop-reading-preserved c =
     let step = sym (pair_end-faulty c.args.pairs c.loop-reading.inner _ _ _ _ _ read) in
     record {
       text = c.next.ensures.text ∙ c.loop-reading.invariant.text;
-      within = omega (arith, c.next.ensures.within, ap length c.next.ensures.text, ap length c.loop-reading.invariant.text);
+      within = omega (
+        arith,
+        c.next.ensures.within,
+        ap length c.next.ensures.text,
+        ap length c.loop-reading.invariant.text,
+      );
       fits = omega (arith, c.in-Some.ensures.place, c.in-Some.ensures.on);
       same = rw (rw c.in_default-reading.is at c.in-Some.ensures.place) (step ∙ c.loop-reading.invariant.same);
     }
 
 pub returns-clause-value : goal.returns-clause-value
-returns-clause-value c = sym (pair_end-none c.args.pairs c.loop-reading.inner c.args.text.now c.loop-reading.ahead.place (sym (rw c.loop-reading.invariant.text at c.in_default.ensures.value))) ∙ c.loop-reading.invariant.same
+returns-clause-value c = sym (pair_end-none c.args.pairs c.loop-reading.inner c.args.text.now c.loop-reading.ahead.place
+    (sym (rw c.loop-reading.invariant.text at c.in_default.ensures.value))) ∙ c.loop-reading.invariant.same

@@ -8,7 +8,8 @@ invariant-loop-reading l = record {
   text : l.ahead.text ≡ l.text;
   within : l.ahead.place ≤ length l.text;
   fits : l.inner ≤ l.ahead.place;
-  same : model.pair_end l.pairs l.inner (readings l.text l.ahead.place) ≡ model.pair_end l.pairs 0 (readings l.text l.at);
+  same : model.pair_end l.pairs l.inner (readings l.text l.ahead.place) ≡ model.pair_end l.pairs 0
+      (readings l.text l.at);
 }
 
 abbrev pub decreases-loop-reading : goal.decreases-loop-reading

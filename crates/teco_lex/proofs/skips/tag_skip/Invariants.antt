@@ -9,7 +9,8 @@ invariant-loop-reading l = record {
   within : l.ahead.place ≤ length l.text;
   fits : l.inner ≤ l.ahead.place;
   few : l.leaves ≤ l.ahead.place;
-  same : model.tag_skip l.tag l.inner l.leaves (readings l.text l.ahead.place) ≡ model.tag_skip l.tag 0 0 (readings l.text l.at);
+  same : model.tag_skip l.tag l.inner l.leaves (readings l.text l.ahead.place) ≡ model.tag_skip l.tag 0 0
+      (readings l.text l.at);
 }
 
 abbrev pub decreases-loop-reading : goal.decreases-loop-reading

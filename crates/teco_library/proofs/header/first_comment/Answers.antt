@@ -7,4 +7,5 @@ pub returns-in_default : goal.returns-in_default
 returns-in_default c = sym (first_read c.args.file.now None (sym c.in_default.ensures.value))
 
 pub returns : goal.returns
-returns c = c.comment_in.ensures ∙ sym (first_read c.args.file.now (Some (seen c.in-Some.first)) (sym c.in-Some.ensures.value))
+returns c = c.comment_in.ensures
+    ∙ sym (first_read c.args.file.now (Some (seen c.in-Some.first)) (sym c.in-Some.ensures.value))

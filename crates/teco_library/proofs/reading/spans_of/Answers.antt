@@ -22,7 +22,8 @@ pub returns-then-not-admit : goal.returns-then-not-admit
 returns-then-not-admit c =
     let read = sym (rw c.loop-reading.invariant.text at c.in-Some.ensures.value) in
     let refused = rw c.if-not-admit.true at c.admit.ensures in
-    rw c.place.ensures (stops_at c.args.file.now c.loop-reading.ahead.place (seen c.in-Some.reading) c.loop-reading.spans c.loop-reading.invariant.read read refused)
+    rw c.place.ensures (stops_at c.args.file.now c.loop-reading.ahead.place
+    (seen c.in-Some.reading) c.loop-reading.spans c.loop-reading.invariant.read read refused)
 
 pub loop-reading-preserved : goal.loop-reading-preserved
 loop-reading-preserved c =
@@ -30,8 +31,15 @@ loop-reading-preserved c =
     let admitted = rw c.if-not-admit.false at c.admit.ensures in
     record {
       text = c.next.ensures.text ∙ c.loop-reading.invariant.text;
-      within = omega (arith, c.next.ensures.within, ap length c.next.ensures.text, ap length c.loop-reading.invariant.text);
-      read = rw c.in-Some.ensures.place (read_on c.args.file.now c.loop-reading.ahead.place (seen c.in-Some.reading) c.loop-reading.spans c.admit.new.spans c.requires c.loop-reading.invariant.read read admitted);
+      within = omega (
+        arith,
+        c.next.ensures.within,
+        ap length c.next.ensures.text,
+        ap length c.loop-reading.invariant.text,
+      );
+      read = rw c.in-Some.ensures.place
+          (read_on c.args.file.now c.loop-reading.ahead.place (seen c.in-Some.reading) c.loop-reading.spans
+          c.admit.new.spans c.requires c.loop-reading.invariant.read read admitted);
     }
 
 pub returns : goal.returns

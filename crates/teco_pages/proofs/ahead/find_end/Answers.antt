@@ -10,7 +10,8 @@ pub returns-then-len-bytes-clause-len : goal.returns-then-len-bytes-clause-len
 returns-then-len-bytes-clause-len c = c.inner_len-len.ensures ∙ sym (cut c.args.bytes.now).len
 
 pub returns-then-len-bytes-clause-taken : goal.returns-then-len-bytes-clause-taken
-returns-then-len-bytes-clause-taken c = ap (λ n. take n c.args.bytes.now) c.inner_len-len.ensures ∙ (cut c.args.bytes.now).taken
+returns-then-len-bytes-clause-taken c = ap (λ n. take n c.args.bytes.now) c.inner_len-len.ensures
+    ∙ (cut c.args.bytes.now).taken
 
 pub returns-then-len-bytes-clause-ff : goal.returns-then-len-bytes-clause-ff
 returns-then-len-bytes-clause-ff c = sym ((cut c.args.bytes.now).found (omega arith))
@@ -27,10 +28,12 @@ pub returns-else-len-bytes-clause-within : goal.returns-else-len-bytes-clause-wi
 returns-else-len-bytes-clause-within c = (omega arith, omega (arith, prefix_len-le-length is_inner c.args.bytes.now))
 
 pub returns-else-len-bytes-clause-taken : goal.returns-else-len-bytes-clause-taken
-returns-else-len-bytes-clause-taken c = ap (λ n. take n c.args.bytes.now) c.inner_len-len.ensures ∙ (cut c.args.bytes.now).taken
+returns-else-len-bytes-clause-taken c = ap (λ n. take n c.args.bytes.now) c.inner_len-len.ensures
+    ∙ (cut c.args.bytes.now).taken
 
 pub returns-else-len-bytes-clause-ff : goal.returns-else-len-bytes-clause-ff
 returns-else-len-bytes-clause-ff c = sym ((cut c.args.bytes.now).none (omega arith))
 
 pub returns-else-len-bytes-clause-left : goal.returns-else-len-bytes-clause-left
-returns-else-len-bytes-clause-left c = drop_all _ c.args.bytes.now (omega arith) ∙ sym (whole-none c.args.bytes.now ((cut c.args.bytes.now).none (omega arith))).1
+returns-else-len-bytes-clause-left c = drop_all _ c.args.bytes.now (omega arith)
+    ∙ sym (whole-none c.args.bytes.now ((cut c.args.bytes.now).none (omega arith))).1

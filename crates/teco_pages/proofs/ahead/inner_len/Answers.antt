@@ -1,5 +1,6 @@
 -- memchr finds the first form feed, if there is one.
-use Rattle.std.proofs.Common.{◌≡◌, ℕ, List, length, Bool, true, false, not, Option, Some, None, unwrap_or, refl, sym, ap, ◌∙◌, arith}
+use Rattle.std.proofs.Common.{◌≡◌, ℕ, List, length, Bool, true, false, not, Option, Some, None, unwrap_or, refl, sym}
+use Rattle.std.proofs.Common.{ap, ◌∙◌, arith}
 use Rattle.std.proofs.lemmas.List.Sums.{prefix_len_is}
 use Rattle.std.specs.List.{prefix_len}
 use Rattle.memchr.specs.Find.{IsFirstByte, is_byte}
@@ -11,11 +12,14 @@ inner_else : (b : Bool) → ¬ (b ≡ true) → not b ≡ true
 inner_else true h = absurd (h refl)
 inner_else false h = refl
 
-first_end : (bytes : List ℕ) (found : Option ℕ) → IsFirstByte (is_byte FF) bytes found → unwrap_or found (length bytes) ≡ prefix_len is_inner bytes
+first_end : (bytes : List ℕ) (found : Option ℕ) → IsFirstByte (is_byte FF) bytes found
+    → unwrap_or found (length bytes) ≡ prefix_len is_inner bytes
 first_end bytes None none =
-    sym (prefix_len_is is_inner bytes (length bytes) 0 (omega arith) (λ k l. inner_else _ (none k (omega arith) l)) (λ l. absurd (omega arith)))
+    sym (prefix_len_is is_inner bytes (length bytes) 0 (omega arith) (λ k l. inner_else _ (none k (omega arith) l))
+    (λ l. absurd (omega arith)))
 first_end bytes (Some k) first =
-    sym (prefix_len_is is_inner bytes k 0 (omega (arith, first.0.high)) (λ j l. inner_else _ (first.0.before j (omega arith) l)) (λ l. ap not first.1))
+    sym (prefix_len_is is_inner bytes k 0 (omega (arith, first.0.high))
+    (λ j l. inner_else _ (first.0.before j (omega arith) l)) (λ l. ap not first.1))
 
 pub returns : goal.returns
 returns c = c.unwrap_or.ensures ∙ first_end c.args.bytes.now c.memchr.result c.memchr.ensures

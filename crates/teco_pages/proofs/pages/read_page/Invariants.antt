@@ -11,7 +11,8 @@ invariant-loop g l = record {
   plain : has_form_feed l.into.items ≡ false;
   short : length l.into.items ≤ LIMIT;
   count : l.counter ≤ length l.into.items;
-  shifts : Shifts (l.fn.into.items ++ l.fn.ahead) (g.H.Host.files l.fn.host) (l.into.items ++ l.ahead) (g.H.Host.files l.host);
+  shifts : Shifts (l.fn.into.items ++ l.fn.ahead) (g.H.Host.files l.fn.host) (l.into.items ++ l.ahead)
+      (g.H.Host.files l.host);
   noted : Touches [] false false (g.H.Host.files l.fn.host) (g.H.Host.files l.host);
   same : g.H.Host.failures l.host ≡ g.H.Host.failures l.fn.host;
 }

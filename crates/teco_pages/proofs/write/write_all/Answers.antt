@@ -16,7 +16,8 @@ returns-in-Err-clause-written g c =
 pub loop-preserved : goal.loop-preserved
 loop-preserved g c =
     let bytes = c.args.bytes.now in
-    let rest : take (length bytes - c.loop.written) (drop c.loop.written bytes) ≡ drop c.loop.written bytes = take_all _ (drop c.loop.written bytes) (omega (arith, length-drop c.loop.written bytes)) in
+    let rest : take (length bytes - c.loop.written) (drop c.loop.written bytes) ≡ drop c.loop.written bytes =
+    take_all _ (drop c.loop.written bytes) (omega (arith, length-drop c.loop.written bytes)) in
     let files = rw rest at c.in-Ok.ensures.files in
     let bound = rw rest at c.in-Ok.ensures.bound in
     let some = rw rest at c.in-Ok.ensures.some in
@@ -27,7 +28,9 @@ loop-preserved g c =
       written = written-part bytes c.loop.written c.in-Ok.n _ _ _ c.loop.invariant.written files;
       same = c.in-Ok.ensures.counted ∙ c.loop.invariant.same;
       given = c.in-Ok.ensures.given ∙ c.loop.invariant.given;
-      noted = λ end. touches-on [] [] end end end _ _ _ (c.loop.invariant.noted end) (touches-writing c.in-Ok.n (drop c.loop.written bytes) end _ _ noted (bytes_left c.loop.written bytes c.are_bytes.ensures));
+      noted = λ end. touches-on [] [] end end end _ _ _ (c.loop.invariant.noted end)
+          (touches-writing c.in-Ok.n (drop c.loop.written bytes) end _ _ noted
+          (bytes_left c.loop.written bytes c.are_bytes.ensures));
     }
 
 pub returns-clause-written : goal.returns-clause-written
@@ -38,7 +41,8 @@ pub returns-then-written-bytes-clause-noted : goal.returns-then-written-bytes-cl
 returns-then-written-bytes-clause-noted g c = c.loop.invariant.noted
 
 pub returns-in-Err-clause-noted : goal.returns-in-Err-clause-noted
-returns-in-Err-clause-noted g c = λ end. touches-on [] [] end end end _ _ _ (c.loop.invariant.noted end) (touches-nothing end _ _ c.in-Err.ensures.noted)
+returns-in-Err-clause-noted g c = λ end. touches-on [] [] end end end _ _ _ (c.loop.invariant.noted end)
+    (touches-nothing end _ _ c.in-Err.ensures.noted)
 
 pub returns-clause-noted : goal.returns-clause-noted
 returns-clause-noted g c = c.loop.invariant.noted

@@ -13,4 +13,5 @@ returns-clause-written g c =
     both c.args.first.now c.args.second.now _ _ _ _ c.in_ok-write_all.ensures.written c.write_all-2.ensures.written
 
 pub returns-clause-noted : goal.returns-clause-noted
-returns-clause-noted g c = λ end. touches-more end end end _ _ _ (c.in_ok-write_all.ensures.noted end) (c.write_all-2.ensures.noted end)
+returns-clause-noted g c = λ end. touches-more end end end _ _ _ (c.in_ok-write_all.ensures.noted end)
+    (c.write_all-2.ensures.noted end)

@@ -14,7 +14,8 @@ loop-power-preserved c =
 pub returns : goal.returns
 returns c =
     c.loop-power.invariant
-    ∙ ap (λ p. fitted (product p c.args.right.now)) (all_left c.loop-power.power c.args.left.now c.loop-power-test.false)
+    ∙ ap (λ p. fitted (product p c.args.right.now))
+    (all_left c.loop-power.power c.args.left.now c.loop-power-test.false)
 
 pub returns-in_err-product : goal.returns-in_err-product
 returns-in_err-product c =

@@ -13,4 +13,5 @@ returns-in_err-scaled c =
 
 pub returns-in_err-raised : goal.returns-in_err-raised
 returns-in_err-raised c =
-    c.from_residual-in_err-raised.ensures ∙ raised_unfit c.args.factor c.args.right.now c.args.product.now c.in_err-raised.ensures
+    c.from_residual-in_err-raised.ensures
+    ∙ raised_unfit c.args.factor c.args.right.now c.args.product.now c.in_err-raised.ensures

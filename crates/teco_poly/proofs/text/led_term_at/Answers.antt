@@ -7,5 +7,6 @@ returns-in_err-led-clause-none c =
 
 pub returns-clause-found : goal.returns-clause-found
 returns-clause-found c =
-    led_found c.args.text.now c.args.lead.now c.in_ok-led.led.now c.args.power c.in_ok-led.ensures.cases.0 c.in_ok-led.ensures.cases.1
+    led_found c.args.text.now c.args.lead.now c.in_ok-led.led.now c.args.power c.in_ok-led.ensures.cases.0
+    c.in_ok-led.ensures.cases.1
     c.in_ok-coefficient.coefficient c.in_ok-coefficient.rest.now c.in_ok-coefficient.ensures.found

@@ -7,4 +7,5 @@ use Rattle.teco_poly.proofs.text.print.Given as goal
 abbrev pub invariant-loop-power : goal.invariant-loop-power
 invariant-loop-power l =
     let written = string_bytes l.text in
-    written ++ joined (lead_behind written) (terms_from l.power (drop l.power l.coefficients)) ≡ joined [] (terms_from 0 l.coefficients)
+    written ++ joined (lead_behind written) (terms_from l.power (drop l.power l.coefficients)) ≡ joined []
+    (terms_from 0 l.coefficients)

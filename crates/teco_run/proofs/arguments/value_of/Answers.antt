@@ -4,7 +4,8 @@ use Rattle.teco_run.proofs.arguments.value_of.Goals as goal
 
 pub returns-in-Size : goal.returns-in-Size
 returns-in-Size g c level =
-    let size = to_z-of_z w32 c.number-size.result (search rules) ∙ c.number-size.ensures ∙ ap pos c.size.ensures.value in
+    let size = to_z-of_z w32 c.number-size.result (search rules) ∙ c.number-size.ensures
+    ∙ ap pos c.size.ensures.value in
     rw (c.in-Size.is, size) refl
 
 pub returns-in-Pointer : goal.returns-in-Pointer

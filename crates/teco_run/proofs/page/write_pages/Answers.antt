@@ -16,7 +16,8 @@ use Rattle.teco_run.proofs.page.write_pages.Goals as goal
 pub returns-in-Some-clause-answers : goal.returns-in-Some-clause-answers
 returns-in-Some-clause-answers g c frame =
     let left : c.args.pending.now.left ≡ Some c.in-Some.n = search rules in
-    rw (left, reads-more c.args.page c.in-Some.n (taken_at c.args.pending.now.arguments.level) c.requires) (c.one_of.ensures.answers frame)
+    rw (left, reads-more c.args.page c.in-Some.n (taken_at c.args.pending.now.arguments.level) c.requires)
+    (c.one_of.ensures.answers frame)
 
 pub returns-in_err-taken-clause-answers : goal.returns-in_err-taken-clause-answers
 returns-in_err-taken-clause-answers g c frame =
@@ -24,7 +25,9 @@ returns-in_err-taken-clause-answers g c frame =
     let is : c.from_residual.result ≡ Err (halt_by_stuck why) = search rules in
     let pending = c.args.pending.now in
     let none : pending.left ≡ None = search rules in
-    rw (is, none) (untaken (kind.Page c.args.page) (reads_page c.args.page None (taken_at pending.arguments.level)) frame pending c.take.new.self c.take.new.self (λ old own p. in_pages p.arguments (pages (page_done c.args.page) own old))
+    rw (is, none) (untaken (kind.Page c.args.page) (reads_page c.args.page None (taken_at pending.arguments.level))
+    frame pending c.take.new.self c.take.new.self
+    (λ old own p. in_pages p.arguments (pages (page_done c.args.page) own old))
     why c.args.desk.now (g.H.Host.files c.args.host.now) c.in_err-taken.ensures)
 
 pub returns-in_err-need_output-clause-answers : goal.returns-in_err-need_output-clause-answers
@@ -32,12 +35,16 @@ returns-in_err-need_output-clause-answers g c frame =
     let is : c.from_residual-in_err-need_output.result ≡ Err (halt.Code code.Nfo) = search rules in
     let pending = c.args.pending.now in
     let left : pending.left ≡ None = search rules in
-    let none : c.args.desk.now.held.output ≡ None = subst (λ (d : Holdings). d.held.output ≡ None) c.desk.view_is (c.in_err-need_output.ensures.none).1 in
+    let none : c.args.desk.now.held.output ≡ None =
+    subst (λ (d : Holdings). d.held.output ≡ None) c.desk.view_is (c.in_err-need_output.ensures.none).1 in
     let k = kind.Page c.args.page in
     let reads = reads_page c.args.page None (taken_at pending.arguments.level) in
-    rw (is, left) (taken k reads frame pending c.take.new.self c.take.new.self (λ old own p. in_pages p.arguments (pages (page_done c.args.page) own old))
-    c.in_ok-taken.taken (Err (halt.Code code.Nfo)) c.args.desk.now c.args.desk.now (g.H.Host.files c.args.host.now) (g.H.Host.files c.args.host.now) c.in_ok-taken.ensures
-    (pages-need k reads frame c.take.new.self c.take.new.self (page_done c.args.page) c.in_ok-taken.taken c.args.desk.now (g.H.Host.files c.args.host.now) none))
+    rw (is, left) (taken k reads frame pending c.take.new.self c.take.new.self
+    (λ old own p. in_pages p.arguments (pages (page_done c.args.page) own old))
+    c.in_ok-taken.taken (Err (halt.Code code.Nfo)) c.args.desk.now c.args.desk.now (g.H.Host.files c.args.host.now)
+    (g.H.Host.files c.args.host.now) c.in_ok-taken.ensures
+    (pages-need k reads frame c.take.new.self c.take.new.self (page_done c.args.page) c.in_ok-taken.taken
+    c.args.desk.now (g.H.Host.files c.args.host.now) none))
 
 pub returns-clause-answers : goal.returns-clause-answers
 returns-clause-answers g c frame =
@@ -48,8 +55,16 @@ returns-clause-answers g c frame =
     let k = kind.Page c.args.page in
     let reads = reads_page c.args.page None (taken_at pending.arguments.level) in
     let same : taken_at pending.arguments.level ≡ own = ap taken_if_any c.in_ok-taken.ensures.0 in
-    let answers = subst (λ own'. Joined (λ old new. Answers k (reads_page c.args.page None own') frame c.first_of.new.pending (in_pages c.take.new.self.arguments (pages_of (page_done c.args.page) own.first own.value old)) old new c.first_of.result)
-    c.args.desk.now c.first_of.new.desk (g.H.Host.files c.args.host.now) (g.H.Host.files c.first_of.new.host)) (sym same) (c.first_of.ensures.answers frame) in
-    rw left (taken k reads frame pending c.take.new.self c.first_of.new.pending (λ old own p. in_pages p.arguments (pages (page_done c.args.page) own old))
-    own c.first_of.result c.args.desk.now c.first_of.new.desk (g.H.Host.files c.args.host.now) (g.H.Host.files c.first_of.new.host) c.in_ok-taken.ensures
-    (pages-open k reads frame c.take.new.self c.first_of.new.pending (page_done c.args.page) own c.first_of.result c.args.desk.now c.first_of.new.desk (g.H.Host.files c.args.host.now) (g.H.Host.files c.first_of.new.host) some answers))
+    let answers =
+    subst (λ own'. Joined (λ old new. Answers k (reads_page c.args.page None own') frame c.first_of.new.pending
+    (in_pages c.take.new.self.arguments (pages_of (page_done c.args.page) own.first own.value old)) old new
+    c.first_of.result)
+    c.args.desk.now c.first_of.new.desk (g.H.Host.files c.args.host.now) (g.H.Host.files c.first_of.new.host))
+    (sym same) (c.first_of.ensures.answers frame) in
+    rw left (taken k reads frame pending c.take.new.self c.first_of.new.pending
+    (λ old own p. in_pages p.arguments (pages (page_done c.args.page) own old))
+    own c.first_of.result c.args.desk.now c.first_of.new.desk (g.H.Host.files c.args.host.now)
+    (g.H.Host.files c.first_of.new.host) c.in_ok-taken.ensures
+    (pages-open k reads frame c.take.new.self c.first_of.new.pending (page_done c.args.page) own c.first_of.result
+    c.args.desk.now c.first_of.new.desk (g.H.Host.files c.args.host.now) (g.H.Host.files c.first_of.new.host) some
+    answers))

@@ -11,5 +11,6 @@ pub returns-in_err-take-clause-answers : goal.returns-in_err-take-clause-answers
 returns-in_err-take-clause-answers g c frame =
     let why = c.in_err-take.field-0.0 in
     let is : c.from_residual.result ≡ Err (halt_by_stuck why) = search rules in
-    rw is (untaken (kind.Page page.Yank) true frame c.args.pending.now c.take.new.self c.take.new.self (λ old own p. going_on p.left p.arguments (yank old))
+    rw is (untaken (kind.Page page.Yank) true frame c.args.pending.now c.take.new.self c.take.new.self
+    (λ old own p. going_on p.left p.arguments (yank old))
     why c.args.desk.now (g.H.Host.files c.args.host.now) c.in_err-take.ensures)

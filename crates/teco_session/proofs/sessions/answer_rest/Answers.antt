@@ -12,7 +12,9 @@ returns g c =
     let code = rest_code c.args.cut.now.limits c.args.cut.now.bytes.now in
     let writes = rw c.code_of_rest-code.ensures at c.write_code-line.ensures.line in
     let told = rw c.code_of_rest-code.ensures at c.write_code-line.ensures.told in
-    Joined-stays (λ (old : World) (new : World). Answers c.args.cut.now.limits piece.Rest c.args.cut.now.bytes.now old new (g.H.Host.failures c.args.host.now) (g.H.Host.failures c.args.host.now) (g.W.Write.contents c.args.writer.now) (g.W.Write.contents c.write_code-line.new.writer) c.said.result)
+    Joined-stays (λ (old : World) (new : World). Answers c.args.cut.now.limits piece.Rest c.args.cut.now.bytes.now old
+    new (g.H.Host.failures c.args.host.now) (g.H.Host.failures c.args.host.now)
+    (g.W.Write.contents c.args.writer.now) (g.W.Write.contents c.write_code-line.new.writer) c.said.result)
     c.args.machine.now (g.H.Host.files c.args.host.now)
     (λ world. record {
       lines = code_line code;

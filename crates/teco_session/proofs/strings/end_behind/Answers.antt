@@ -1,7 +1,9 @@
 use Rattle.std.proofs.Common.{◌∙◌, sym}
-use Rattle.teco_session.proofs.Pairs.{AreApart, apart_by_first, apart_by_last, ended_at_meeting, endless_behind, ended_within}
+use Rattle.teco_session.proofs.Pairs.{AreApart, apart_by_first, apart_by_last, ended_at_meeting, endless_behind}
+use Rattle.teco_session.proofs.Pairs.{ended_within}
 use Rattle.teco_session.proofs.strings.end_behind.Goals as goal
-use Rattle.teco_session.proofs.strings.end_behind.Goals.{else-has_esc_last-via-then-has_esc_last+else-has_esc_first, else-has_esc_last-via-else-has_esc_last}
+use Rattle.teco_session.proofs.strings.end_behind.Goals.{else-has_esc_last-via-then-has_esc_last+else-has_esc_first}
+use Rattle.teco_session.proofs.strings.end_behind.Goals.{else-has_esc_last-via-else-has_esc_last}
 
 pub returns-then-has_esc_first-clause-end : goal.returns-then-has_esc_first-clause-end
 returns-then-has_esc_first-clause-end c =

@@ -19,14 +19,18 @@ loop-i-preserved c =
     let more : 0 < now.left - 1 = omega (arith, c.if-left-eq0.false) in
     record {
       some = more;
-      inside = All-rest (λ (k : ℕ). k < length c.args.piece.now) c.in-Some.i c.next.new.self now.i-iterator c.in-Some.ensures.steps now.invariant.inside;
-      on = goes-past (line_places_from c.args.at c.args.piece.now) c.args.count now.left (c.args.at + c.in-Some.i + 1) _ (rw c.in-Some.ensures.steps at now.invariant.on) more;
+      inside = All-rest (λ (k : ℕ). k < length c.args.piece.now) c.in-Some.i c.next.new.self now.i-iterator
+          c.in-Some.ensures.steps now.invariant.inside;
+      on = goes-past (line_places_from c.args.at c.args.piece.now) c.args.count now.left (c.args.at + c.in-Some.i + 1) _
+          (rw c.in-Some.ensures.steps at now.invariant.on) more;
     }
 
 pub returns-then-left-eq0-clause-counted : goal.returns-then-left-eq0-clause-counted
 returns-then-left-eq0-clause-counted c =
-    ends-here (line_places_from c.args.at c.args.piece.now) c.args.count c.loop-i.left (c.args.at + c.in-Some.i + 1) _ (rw c.in-Some.ensures.steps at c.loop-i.invariant.on) c.if-left-eq0.true
+    ends-here (line_places_from c.args.at c.args.piece.now) c.args.count c.loop-i.left (c.args.at + c.in-Some.i + 1) _
+    (rw c.in-Some.ensures.steps at c.loop-i.invariant.on) c.if-left-eq0.true
 
 pub returns-clause-counted : goal.returns-clause-counted
 returns-clause-counted c =
-    falls-short (line_places_from c.args.at c.args.piece.now) c.args.count c.loop-i.left (rw c.in-None.ensures.steps.0 at c.loop-i.invariant.on) c.loop-i.invariant.some
+    falls-short (line_places_from c.args.at c.args.piece.now) c.args.count c.loop-i.left
+    (rw c.in-None.ensures.steps.0 at c.loop-i.invariant.on) c.loop-i.invariant.some

@@ -2,7 +2,8 @@ use Rattle.std.proofs.Common.{ℕ, ◌<◌, ◌+◌, ◌-◌, ◌∙◌, length,
 use Rattle.std.proofs.lemmas.List.Elements.{All-tail}
 use Rattle.std.specs.Iterator.Adapters.{rev_source}
 use Rattle.teco_base.specs.Lines.{line_places_from}
-use Rattle.teco_text.proofs.LineEnds.{behind-last, ends-here, ends-inside, falls-short, goes-past, last-inside, places-behind}
+use Rattle.teco_text.proofs.LineEnds.{behind-last, ends-here, ends-inside, falls-short, goes-past, last-inside}
+use Rattle.teco_text.proofs.LineEnds.{places-behind}
 use Rattle.teco_text.proofs.lines.nth_place_from_end.Goals as goal
 
 pub loop-i-init : goal.loop-i-init
@@ -21,14 +22,21 @@ loop-i-preserved c =
     let more : 0 < now.left - 1 = omega (arith, c.if-left-eq0.false) in
     record {
       some = more;
-      inside = All-tail (λ (k : ℕ). k < length c.args.piece.now) c.in-Some.i left (last-inside c.args.piece.now left c.in-Some.i (rw c.in-Some.ensures.steps at now.invariant.inside));
-      on = goes-past (reverse (line_places_from c.args.at c.args.piece.now)) c.args.count now.left (c.args.at + c.in-Some.i + 1) _ (rw (c.in-Some.ensures.steps, behind-last c.args.at left c.in-Some.i) at now.invariant.on) more;
+      inside = All-tail (λ (k : ℕ). k < length c.args.piece.now) c.in-Some.i left
+          (last-inside c.args.piece.now left c.in-Some.i (rw c.in-Some.ensures.steps at now.invariant.inside));
+      on = goes-past (reverse (line_places_from c.args.at c.args.piece.now)) c.args.count now.left
+          (c.args.at + c.in-Some.i + 1) _
+          (rw (c.in-Some.ensures.steps, behind-last c.args.at left c.in-Some.i) at now.invariant.on) more;
     }
 
 pub returns-then-left-eq0-clause-counted : goal.returns-then-left-eq0-clause-counted
 returns-then-left-eq0-clause-counted c =
-    ends-here (reverse (line_places_from c.args.at c.args.piece.now)) c.args.count c.loop-i.left (c.args.at + c.in-Some.i + 1) _ (rw (c.in-Some.ensures.steps, behind-last c.args.at (rev_source c.next.new.self) c.in-Some.i) at c.loop-i.invariant.on) c.if-left-eq0.true
+    ends-here (reverse (line_places_from c.args.at c.args.piece.now)) c.args.count c.loop-i.left
+    (c.args.at + c.in-Some.i + 1) _
+    (rw (c.in-Some.ensures.steps, behind-last c.args.at (rev_source c.next.new.self) c.in-Some.i) at
+    c.loop-i.invariant.on) c.if-left-eq0.true
 
 pub returns-clause-counted : goal.returns-clause-counted
 returns-clause-counted c =
-    falls-short (reverse (line_places_from c.args.at c.args.piece.now)) c.args.count c.loop-i.left (rw c.in-None.ensures.steps.0 at c.loop-i.invariant.on) c.loop-i.invariant.some
+    falls-short (reverse (line_places_from c.args.at c.args.piece.now)) c.args.count c.loop-i.left
+    (rw c.in-None.ensures.steps.0 at c.loop-i.invariant.on) c.loop-i.invariant.some

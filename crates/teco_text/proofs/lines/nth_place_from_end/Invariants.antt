@@ -9,5 +9,6 @@ abbrev pub invariant-loop-i : goal.invariant-loop-i
 invariant-loop-i l = record {
   some : 0 < l.left;
   inside : AreInside l.piece (rev_source l.i-iterator);
-  on : GoesOn (reverse (line_places_from l.at l.piece)) l.count (reverse (places_behind l.at (rev_source l.i-iterator))) l.left;
+  on : GoesOn (reverse (line_places_from l.at l.piece)) l.count (reverse (places_behind l.at (rev_source l.i-iterator)))
+      l.left;
 }

@@ -5,7 +5,8 @@ use Rattle.teco_transfer.proofs.search.ends_in_digit.Goals as goal
 
 pub returns-in-Ok-Some : goal.returns-in-Ok-Some
 returns-in-Ok-Some c =
-    c.is_digit_part.ensures ∙ sym (ends_by (parts c.args.text.now) (Some c.in-Ok-Some.part) (rw c.in-Ok-Some.field-0-is at c.in-Ok-Some.ensures))
+    c.is_digit_part.ensures ∙ sym (ends_by (parts c.args.text.now) (Some c.in-Ok-Some.part)
+    (rw c.in-Ok-Some.field-0-is at c.in-Ok-Some.ensures))
 
 pub returns-in-Ok-None : goal.returns-in-Ok-None
 returns-in-Ok-None c =

@@ -5,7 +5,10 @@ use Rattle.teco_verdicts.proofs.console.write_bytes.Goals as goal
 
 pub loop-preserved : goal.loop-preserved
 loop-preserved g c =
-    let rest : take (length c.args.bytes.now - c.loop.written) (drop c.loop.written c.args.bytes.now) ≡ drop c.loop.written c.args.bytes.now = take_all _ (drop c.loop.written c.args.bytes.now) (omega (arith, length-drop c.loop.written c.args.bytes.now)) in
+    let rest : take (length c.args.bytes.now - c.loop.written) (drop c.loop.written c.args.bytes.now) ≡ drop
+    c.loop.written c.args.bytes.now =
+    take_all _ (drop c.loop.written c.args.bytes.now) (omega (arith, length-drop c.loop.written c.args.bytes.now))
+    in
     let bound = rw rest at c.in_ok-more.ensures.bound in
     let more = rw rest at c.in_ok-more.ensures.ok in
     record {

@@ -5,4 +5,5 @@ use Rattle.teco_editor.proofs.editor.Editor.digits_end.Given as goal
 
 -- what is left of the run ends where all of it does
 abbrev pub invariant-loop-end : goal.invariant-loop-end
-invariant-loop-end g l = l.begin + prefix_len is_digit (drop l.begin l.self.text) ≡ l.end + prefix_len is_digit (drop l.end l.self.text)
+invariant-loop-end g l = l.begin + prefix_len is_digit (drop l.begin l.self.text) ≡ l.end + prefix_len is_digit
+    (drop l.end l.self.text)

@@ -17,6 +17,8 @@ returns c = λ node e h r.
     let at : numbered items c.args.number ≡ Some n = rw (← c.deref.ensures.value) c.node_of.ensures in
     let same = seen_at (node_seen texts) items c.args.number n node seen at in
     let read : read_of (element_at c.text.result.now place) ≡ Some e =
-    ap (λ (text : List ℕ). read_of (element_at text place)) c.text.ensures.value ∙ ap (λ (node : Node). node.element) same ∙ r in
+    ap (λ (text : List ℕ). read_of (element_at text place)) c.text.ensures.value
+    ∙ ap (λ (node : Node). node.element) same ∙ r in
     c.colon_at.ensures e read
-    ∙ ap (λ (text : List ℕ). has_colon e (frame_of text)) (c.text.ensures.value ∙ ap (λ (node : Node). node.stand.position.running.text) same)
+    ∙ ap (λ (text : List ℕ). has_colon e (frame_of text))
+    (c.text.ensures.value ∙ ap (λ (node : Node). node.stand.position.running.text) same)

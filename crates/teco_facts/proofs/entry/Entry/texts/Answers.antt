@@ -17,12 +17,15 @@ loop-register-preserved c =
     record {
       texts =
           rw (c.text_at_entry.ensures, c.loop-register.invariant.texts, ← c.self.view_is, add-one)
-          (one_more c.self.inside.rules c.self.inside.lengths REGISTERS c.loop-register.register _ (omega arith) (omega arith));
+          (one_more c.self.inside.rules c.self.inside.lengths REGISTERS c.loop-register.register _ (omega arith)
+          (omega arith));
       all = length-set c.loop-register.texts c.loop-register.register _ ∙ c.loop-register.invariant.all;
     }
 
 pub returns-clause-value : goal.returns-clause-value
 returns-clause-value c =
-    let all : length c.args.self.now.lengths ≤ c.loop-register.register = rw (← c.self.view_is) (omega (arith, c.self.invariant)) in
+    let all : length c.args.self.now.lengths ≤ c.loop-register.register =
+    rw (← c.self.view_is) (omega (arith, c.self.invariant)) in
     c.loop-register.invariant.texts
-    ∙ ap (λ lengths. texts_at_entry c.args.self.now.rules lengths REGISTERS) (take_all c.loop-register.register c.args.self.now.lengths all)
+    ∙ ap (λ lengths. texts_at_entry c.args.self.now.rules lengths REGISTERS)
+    (take_all c.loop-register.register c.args.self.now.lengths all)

@@ -9,7 +9,8 @@ abbrev pub invariant-loop-items : goal.invariant-loop-items
 invariant-loop-items l = record {
   within : length l.parts.rest.now ≤ length l.text;
   none : length l.text ≡ 0 → length l.items.items ≡ 0;
-  whole : (model.parts l.parts.rest.now >>= (λ ps. Ok (l.items.items ++ flat_map (model.items_of l.regs l.exact) ps))) ≡ model.pattern l.regs l.exact l.text;
+  whole : (model.parts l.parts.rest.now >>= (λ ps. Ok (l.items.items ++ flat_map (model.items_of l.regs l.exact) ps)))
+      ≡ model.pattern l.regs l.exact l.text;
 }
 
 abbrev pub decreases-loop-items : goal.decreases-loop-items

@@ -15,9 +15,11 @@ loop-turn-preserved c =
     let n = c.args.n in
     let at = c.loop-turn.at in
     let turn = c.loop-turn.turn in
-    let found : model.first_from pattern text at ≡ Some c.in-Some.span = sym c.first_from.ensures.value ∙ c.in-Some.is in
+    let found : model.first_from pattern text at ≡ Some c.in-Some.span =
+    sym c.first_from.ensures.value ∙ c.in-Some.is in
     let more = sought_more pattern text at turn n c.loop-turn-test.true in
     record {
       within = c.in-Some.ensures.within;
-      left = sym (ap (λ o. option_map_or (λ (span : Span). sought pattern text span.end (suc (n - (turn + 1)))) o (Wanted (suc (n - turn)))) found) ∙ sym more ∙ c.loop-turn.invariant.left;
+      left = sym (ap (λ o. option_map_or (λ (span : Span). sought pattern text span.end (suc (n - (turn + 1)))) o
+          (Wanted (suc (n - turn)))) found) ∙ sym more ∙ c.loop-turn.invariant.left;
     }

@@ -13,4 +13,6 @@ returns-in-Some c =
     let near = rw c.in-Some.is at c.requires.near in
     let small = small_known c.self.inside.least above (rw (← c.self.view_is) at c.requires.small) in
     rw (← c.self.view_is, c.in-Some.is)
-    (after_known c.self.inside.least c.in-Some.by _ above (omega (arith, ints, near.low, near.high, small.low, small.high)) (omega (arith, ints, near.low, near.high, small.low, small.high)))
+    (after_known c.self.inside.least c.in-Some.by _ above
+    (omega (arith, ints, near.low, near.high, small.low, small.high))
+    (omega (arith, ints, near.low, near.high, small.low, small.high)))

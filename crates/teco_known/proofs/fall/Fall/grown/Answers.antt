@@ -16,9 +16,11 @@ returns-then-self-le-UNKNOWN c =
 pub returns-then-self-by : goal.returns-then-self-by
 returns-then-self-by c =
     rw (← c.self.view_is)
-    (grown_most c.self.inside.least c.args.by (omega (arith, ints, c.if-self-le-UNKNOWN.false)) (omega (arith, ints, c.if-self-by.true)))
+    (grown_most c.self.inside.least c.args.by (omega (arith, ints, c.if-self-le-UNKNOWN.false))
+    (omega (arith, ints, c.if-self-by.true)))
 
 pub returns-else-self-by : goal.returns-else-self-by
 returns-else-self-by c =
     rw (← c.self.view_is)
-    (grown_known c.self.inside.least _ c.args.by (omega (arith, ints, c.if-self-le-UNKNOWN.false)) (omega (arith, ints)) (omega (arith, ints, c.if-self-by.false)))
+    (grown_known c.self.inside.least _ c.args.by (omega (arith, ints, c.if-self-le-UNKNOWN.false)) (omega (arith, ints))
+    (omega (arith, ints, c.if-self-by.false)))

@@ -7,5 +7,8 @@ kept-requires c =
     let i_hi = high_whole c.self.invariant in
     let j_lo = low_whole c.other.invariant in
     let j_hi = high_whole c.other.invariant in
-    rw (difference_whole i_lo j_hi (record { sfits = c.sub.type_inv }) c.sub.ensures, difference_whole i_hi j_lo (record { sfits = c.sub-2.type_inv }) c.sub-2.ensures)
+    rw (
+      difference_whole i_lo j_hi (record { sfits = c.sub.type_inv }) c.sub.ensures,
+      difference_whole i_hi j_lo (record { sfits = c.sub-2.type_inv }) c.sub-2.ensures,
+    )
     (differences_in_order c.self.invariant c.other.invariant)

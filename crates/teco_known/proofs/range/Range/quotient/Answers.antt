@@ -17,4 +17,16 @@ returns c =
     let low_high = rw (i_lo, j_hi) at c.quotient-2.ensures in
     let high_low = rw (i_hi, j_lo) at c.quotient-3.ensures in
     let high_high = rw (i_hi, j_hi) at c.quotient-4.ensures in
-    rw (c.hull.ensures, one, two, three, four, low_low, low_high, high_low, high_high, ← c.self.view_is, ← c.other.view_is) refl
+    rw (
+      c.hull.ensures,
+      one,
+      two,
+      three,
+      four,
+      low_low,
+      low_high,
+      high_low,
+      high_high,
+      ← c.self.view_is,
+      ← c.other.view_is,
+    ) refl

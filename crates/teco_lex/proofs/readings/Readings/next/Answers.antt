@@ -7,7 +7,10 @@ pub invariant_of-self : goal.invariant_of-self
 invariant_of-self c =
     let read = rw (← c.self.view_is) at c.in-Some.ensures.value in
     let within = rw (← c.self.view_is) at c.in-Some.ensures.within in
-    rw (c.next-self-inside.ensures, c.is_ill-self-inside.ensures) (within, behind_reading c.self.inside.text.now c.self.inside.place (seen c.in-Some.reading) (sym read))
+    rw (c.next-self-inside.ensures, c.is_ill-self-inside.ensures) (
+      within,
+      behind_reading c.self.inside.text.now c.self.inside.place (seen c.in-Some.reading) (sym read),
+    )
 
 pub returns-clause-on : goal.returns-clause-on
 returns-clause-on c = c.in-Some.ensures.next

@@ -42,10 +42,13 @@ module _ {M : Type 1} {𝓤 : Ura M} (𝓛 : Logic 𝓤) (at_mem : Memory → SP
     abbrev Post : Val → SProp 𝓤
     Post = (walk_of 𝓛 it.ended stayed clauses).post z
 
-    walks : ent 𝓤 ((walk_of 𝓛 it.ended stayed clauses).pre z) (WpFn 𝓤 H C Λ code.function ((walk_of 𝓛 it.ended stayed clauses).args z) Post)
+    walks : ent 𝓤 ((walk_of 𝓛 it.ended stayed clauses).pre z)
+        (WpFn 𝓤 H C Λ code.function ((walk_of 𝓛 it.ended stayed clauses).args z) Post)
     walks =
         let made : (History.the_row).Denot = record { events = [] } in
-        qed 𝓛 ((raw (alive 𝓛 (it.ended).signature z.0.0 z.0.1) ⊛ ‵ (owns (types_at (it.ended).signature.params z.0.0) z.0.3 z.0.4)) ∷ raw ((clauses z.0.0 z.0.3).requires z.1) ∷ []) ∵
+        qed 𝓛 ((raw (alive 𝓛 (it.ended).signature z.0.0 z.0.1) ⊛ ‵
+        (owns (types_at (it.ended).signature.params z.0.0) z.0.3 z.0.4)) ∷ raw
+        ((clauses z.0.0 z.0.3).requires z.1) ∷ []) ∵
         keep ! (0 ∷ []) $ split ! $ move ! (1 ∷ []) $ drop ! $
         enter ! C Λ code.function [] Post $ alloc_all ! (λ l. pass_all ! refl tt $
         sets ! (agg ! (no_more !)) refl (tt, tt) $
@@ -55,11 +58,13 @@ module _ {M : Type 1} {𝓤 : Ura M} (𝓛 : Logic 𝓤) (at_mem : Memory → SP
         nothing ! $ move ! (2 ∷ 0 ∷ 1 ∷ []) $ done !)
 
   meets : (𝓣 : Tables 𝓤 H) → Meets 𝓛 (it.ended).signature (WpFn 𝓤 H 𝓣.C 𝓣.Λ code.function) (closing 𝓛 it.ended clauses)
-  meets 𝓣 = walk_Meets 𝓛 it.ended stayed tt clauses (WpFn 𝓤 H 𝓣.C 𝓣.Λ code.function) (WpFn-mono 𝓤 H 𝓛.laws 𝓣 code.function) (walks 𝓣.C 𝓣.Λ)
+  meets 𝓣 = walk_Meets 𝓛 it.ended stayed tt clauses (WpFn 𝓤 H 𝓣.C 𝓣.Λ code.function)
+      (WpFn-mono 𝓤 H 𝓛.laws 𝓣 code.function) (walks 𝓣.C 𝓣.Λ)
 
 pub new_spec : {M : Type 1} → stated.statement M
 unfolding tables_of
 new_spec 𝓤 𝓛 𝓜 𝓡 wired =
     let 𝓣 : Tables 𝓤 𝓛.H = tables_of 𝓤 𝓛.H 𝓜 (tables 𝓤 𝓛.H 𝓜 𝓡 𝓡.env) in
-    entered 𝓤 𝓛.H (triple_of 𝓛 (it.ended).signature (closing 𝓛 it.ended (clauses 𝓛 𝓜.mem 𝓡.returns))) 𝓣.C 𝓣.Λ #it code.function
+    entered 𝓤 𝓛.H (triple_of 𝓛 (it.ended).signature (closing 𝓛 it.ended (clauses 𝓛 𝓜.mem 𝓡.returns))) 𝓣.C 𝓣.Λ #it
+    code.function
     (code.unfolded 𝓤 𝓛.H 𝓜 𝓡 wired) (meets 𝓛 𝓜.mem 𝓡.returns 𝓣)

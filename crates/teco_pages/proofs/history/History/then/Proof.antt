@@ -10,7 +10,8 @@ use contract.Monad.{Fun}
 use contract.Running.{tables, tables_of}
 use sound.WpLaws.{WpFn-mono}
 use types.Logic.{Logic}
-use types.Kit.{‵, raw, ◌⊛◌, prop, ◌$◌, ◌∵◌, !, qed, move, keep, drop, split, fsplit, fjoin, feq_l, regoal, suffices, done}
+use types.Kit.{‵, raw, ◌⊛◌, prop, ◌$◌, ◌∵◌, !, qed, move, keep, drop, split, fsplit, fjoin, feq_l, regoal, suffices}
+use types.Kit.{done}
 use types.Part.{agg}
 use types.Run.{enter, returns, no_more}
 use types.ByLocal.{alloc_all, pass_all, free_all, look_at, sets}
@@ -46,18 +47,22 @@ module _ {M : Type 1} {𝓤 : Ura M} (𝓛 : Logic 𝓤) (at_mem : Memory → SP
     abbrev Post : Val → SProp 𝓤
     Post = (walk_of 𝓛 it.ended stayed clauses).post z
 
-    walks : ent 𝓤 ((walk_of 𝓛 it.ended stayed clauses).pre z) (WpFn 𝓤 H C Λ code.function ((walk_of 𝓛 it.ended stayed clauses).args z) Post)
+    walks : ent 𝓤 ((walk_of 𝓛 it.ended stayed clauses).pre z)
+        (WpFn 𝓤 H C Λ code.function ((walk_of 𝓛 it.ended stayed clauses).args z) Post)
     walks =
         let a = z.0.3 in
         let vss = z.0.4 in
         let self : Val = vptr a.0.ref_ptr.0 a.0.ref_ptr.1 in
         let note : Val = vptr a.1.0.ref_ptr.0 a.1.0.ref_ptr.1 in
         let made : (History.the_row).Denot = record { events = a.0.now.events ++ event_of a.1.0.now ∷ [] } in
-        qed 𝓛 ((raw (alive 𝓛 (it.ended).signature z.0.0 z.0.1) ⊛ ‵ (owns (types_at (it.ended).signature.params z.0.0) a vss)) ∷ raw ((clauses z.0.0 a).requires z.1) ∷ []) ∵
-        keep ! (0 ∷ []) $ split ! $ move ! (1 ∷ []) $ fsplit ! $ fsplit ! $ feq_l ! (λ is. drop ! $ fsplit ! $ fsplit ! $ feq_l ! (λ is'. drop ! $ drop ! $
+        qed 𝓛 ((raw (alive 𝓛 (it.ended).signature z.0.0 z.0.1) ⊛ ‵
+        (owns (types_at (it.ended).signature.params z.0.0) a vss)) ∷ raw ((clauses z.0.0 a).requires z.1) ∷ []) ∵
+        keep ! (0 ∷ []) $ split ! $ move ! (1 ∷ []) $ fsplit ! $ fsplit ! $ feq_l !
+        (λ is. drop ! $ fsplit ! $ fsplit ! $ feq_l ! (λ is'. drop ! $ drop ! $
         regoal ! (λ (us : List Val). prop (WpFn 𝓤 H C Λ code.function (us ++ (vss.1.0 ++ [])) Post)) is refl $
         regoal ! (λ (us : List Val). prop (WpFn 𝓤 H C Λ code.function ((self ∷ []) ++ (us ++ [])) Post)) is' refl $
-        enter ! C Λ code.function (self ∷ note ∷ []) Post $ alloc_all ! (λ l. pass_all ! refl ((tt, tt), ((tt, tt), tt)) $
+        enter ! C Λ code.function (self ∷ note ∷ []) Post $ alloc_all !
+        (λ l. pass_all ! refl ((tt, tt), ((tt, tt), tt)) $
         sets ! (agg ! (no_more !)) refl (tt, tt) $
         nothing ! $ makes_bare ! $ fjoin ! $
         returns ! (look_at ! 0 refl) $ free_all ! refl $
@@ -68,12 +73,17 @@ module _ {M : Type 1} {𝓤 : Ura M} (𝓛 : Logic 𝓤) (at_mem : Memory → SP
   meets 𝓣 =
       walk_Meets 𝓛 it.ended stayed (
         Goes-dropped 𝓛 3 (RefOf (0 ∷ []) tt (plain (λ _. History.the_row)) (λ _. tt)) yes (λ κs x f. refl),
-        (Goes-dropped 𝓛 3 (RefOf (1 ∷ []) tt (plain (λ κs. Note.the_row (named_lft 3 2 tt κs))) (λ _. tt)) yes (λ κs x f. refl), tt),
+        (
+          Goes-dropped 𝓛 3 (RefOf (1 ∷ []) tt (plain (λ κs. Note.the_row (named_lft 3 2 tt κs))) (λ _. tt)) yes
+              (λ κs x f. refl),
+          tt,
+        ),
       ) clauses (WpFn 𝓤 H 𝓣.C 𝓣.Λ code.function) (WpFn-mono 𝓤 H 𝓛.laws 𝓣 code.function) (walks 𝓣.C 𝓣.Λ)
 
 pub then_spec : {M : Type 1} → stated.statement M
 unfolding tables_of
 then_spec 𝓤 𝓛 𝓜 𝓡 wired =
     let 𝓣 : Tables 𝓤 𝓛.H = tables_of 𝓤 𝓛.H 𝓜 (tables 𝓤 𝓛.H 𝓜 𝓡 𝓡.env) in
-    entered 𝓤 𝓛.H (triple_of 𝓛 (it.ended).signature (closing 𝓛 it.ended (clauses 𝓛 𝓜.mem 𝓡.returns))) 𝓣.C 𝓣.Λ #it code.function
+    entered 𝓤 𝓛.H (triple_of 𝓛 (it.ended).signature (closing 𝓛 it.ended (clauses 𝓛 𝓜.mem 𝓡.returns))) 𝓣.C 𝓣.Λ #it
+    code.function
     (code.unfolded 𝓤 𝓛.H 𝓜 𝓡 wired) (meets 𝓛 𝓜.mem 𝓡.returns 𝓣)

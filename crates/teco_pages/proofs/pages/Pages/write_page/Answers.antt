@@ -11,7 +11,8 @@ returns-in_err-write_both-clause-written g c =
 
 pub returns-clause-written : goal.returns-clause-written
 returns-clause-written g c =
-    both-as (c.args.first.now ++ c.args.second.now) c.ending.result.now _ c.write_all.result _ _ _ c.ending.ensures c.in_ok-write_both.ensures.written c.write_all.ensures.written
+    both-as (c.args.first.now ++ c.args.second.now) c.ending.result.now _ c.write_all.result _ _ _ c.ending.ensures
+    c.in_ok-write_both.ensures.written c.write_all.ensures.written
 
 pub returns-clause-noted : goal.returns-clause-noted
 returns-clause-noted g c =

@@ -5,7 +5,8 @@ use Rattle.teco_regs.proofs.Reversed.{All-from_reverse, each_reversed}
 use Rattle.teco_regs.proofs.regs.Regs.is_whole.Goals as goal
 
 pub are_whole-requires-2 : goal.are_whole-requires-2
-are_whole-requires-2 c = rw c.deref.ensures.value (All-from_reverse IsWithinLimit c.self.inside.stack.items c.self.invariant.stack_within)
+are_whole-requires-2 c = rw c.deref.ensures.value
+    (All-from_reverse IsWithinLimit c.self.inside.stack.items c.self.invariant.stack_within)
 
 pub returns : goal.returns
 returns c = rw (sym c.self.view_is) (record {
