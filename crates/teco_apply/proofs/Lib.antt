@@ -3,7 +3,7 @@ mod ByPages
 mod Edits
 mod FirstPage
 mod InPlace
-mod Opening
+pub mod Opening
 mod Parts
 mod Sure
 mod Touched

@@ -1,20 +1,24 @@
 -- A verified macro is sure to end.
-use Rattle.std.proofs.Common.{◌≡◌, ℕ, zero, suc, ◌<◌, ◌≤◌, ℤ, pos, negsuc, List, [], ◌∷◌, length, Option, Some, None, option_map, IsSome, refl, subst, arith, get_or}
+use Rattle.std.proofs.Common.{◌≡◌, ℕ, zero, suc, ◌<◌, ◌≤◌, ℤ, pos, negsuc, List, [], ◌∷◌, length, Option, Some, None}
+use Rattle.std.proofs.Common.{Result, Ok, option_map, IsSome, refl, subst, arith, get_or}
 use Rattle.std.proofs.lemmas.Bool.Decides.{nat_tests}
 use Rattle.std.specs.List.{sum_by}
 use Rattle.std.proofs.lemmas.List.Sums.{sum_by-cons}
-use Rattle.teco_apply.specs.Sure.{Call, Calls, HasFiles, IsReady, IsTaken, IsThere, MOST, Runs, TakesArgument, call_text, kept_loaded, n_of}
+use Rattle.teco_apply.specs.Sure.{Call, Calls, HasFiles, IsReady, IsTaken, IsThere, LeavesFramed, MOST, Runs}
+use Rattle.teco_apply.specs.Sure.{TakesArgument}
+use Rattle.teco_apply.specs.Sure.{call_text, kept_loaded, n_of}
 use Rattle.teco_base.specs.Register.{register_name}
 use Rattle.teco_base.specs.declared.TheConstants.{REGISTERS}
 use Rattle.teco_law_expansion.specs.Given.{call_given}
 use Rattle.teco_model.specs.Macros.{IsLoaded, IsAsked, Needs}
-use Rattle.teco_law_expansion.specs.Linked.{ExpansionsAreLinked}
+use Rattle.teco_law_expansion.specs.Linked.{AreLinked, ExpansionsAreLinked}
 use Rattle.teco_poly.specs.Polynomial.{value}
 use Rattle.teco_model.specs.Registers.{Pair, empty_pair, held_length_of_pair}
-use Rattle.teco_model.specs.Run.{Stops, IsSure}
-use Rattle.teco_model.specs.State.{Kept, World, start}
+use Rattle.teco_model.specs.Run.{Reaches, Stops, IsSure}
+use Rattle.teco_model.specs.State.{Kept, State, World, start}
 use Rattle.teco_model.specs.laws.Whole.{IsWhole}
 use Rattle.teco_model.specs.declared.stop.Stop.{Stop}
+use Rattle.teco_model.specs.declared.stop.Stop.TheVariants as stop
 use Rattle.teco_model.specs.Files.{Input, Output}
 use Rattle.teco_pages.specs.Held.{Held, HoldsBytes, IsSameOutput, input_of, unread_bytes}
 use Rattle.teco_pages.proofs.Bytes.{files_whole}
@@ -26,8 +30,15 @@ use Rattle.teco_model.specs.Paging.{unread_of}
 use Rattle.teco_law_facts.specs.SoundSteps.{AreOpen}
 use Rattle.teco_run.specs.Holdings.{Holdings, Joined}
 use Rattle.teco_law_tables.specs.Ending.{EndsWithin}
+use Rattle.teco_law_tables.specs.Keeping.{LeavesOpen, RunsLeaveOpen}
 use Rattle.teco_law_tables.specs.Sure.{RunsAreSure}
+use Rattle.teco_law_tables.specs.Verified as verified
 use Rattle.teco_law_tables.specs.Verified.{RunsAreVerified}
+use Rattle.teco_law_tables.specs.Framing.{IsFramed, RunsAreFramed}
+use Rattle.teco_law_tables.proofs.Keeping.{end_stays}
+use Rattle.teco_verifier.specs.expansion.Node.{Node}
+use Rattle.teco_verifier.specs.expansion.Expansion.{expansion}
+use Rattle.teco_verifier.specs.table.Printed.{needs_in}
 use Rattle.teco_verify.specs.Certified.{IsCertified}
 
 -- ---- N
@@ -45,17 +56,20 @@ enters now = record {
 }
 
 -- ---- files
-opened : (name : Option (List ℕ)) (held : Held) (files : HostFiles) → name ≡ held.input → IsSome name → (input : Input) × (input_of held files ≡ Some input)
+opened : (name : Option (List ℕ)) (held : Held) (files : HostFiles) → name ≡ held.input → IsSome name
+    → (input : Input) × (input_of held files ≡ Some input)
 opened None held files e none = absurd (cc)
 opened (Some name) held files e some = (record { name = name; unread = unread_bytes held files }, rw (← e) refl)
 
-named : (name : Option (List ℕ)) (output : Option Output) → name ≡ option_map (λ (o : Output). o.name) output → IsSome name → (o : Output) × (output ≡ Some o)
+named : (name : Option (List ℕ)) (output : Option Output) → name ≡ option_map (λ (o : Output). o.name) output
+    → IsSome name → (o : Output) × (output ≡ Some o)
 named None output e none = absurd (cc)
 named (Some name) None e some = absurd (cc)
 named (Some name) (Some output) e some = (output, refl)
 
 -- what a holder has open is open, where the host has the same output open
-are_open : (needs : Needs) (kept : Kept) (held : Held) (files : HostFiles) → IsSameOutput held files → IsThere needs.input held.input → IsThere needs.output held.output → AreOpen needs (world kept held files).files
+are_open : (needs : Needs) (kept : Kept) (held : Held) (files : HostFiles) → IsSameOutput held files
+    → IsThere needs.input held.input → IsThere needs.output held.output → AreOpen needs (world kept held files).files
 are_open needs kept held files same input output = record {
   input = λ needed. opened held.input held files refl (input needed);
   output = λ needed. named held.output files.output same (output needed);
@@ -66,6 +80,8 @@ pub record Laws : Type 0 where
   pub linked : ExpansionsAreLinked
   pub verified : RunsAreVerified
   pub sure : RunsAreSure
+  pub leave : RunsLeaveOpen
+  pub framed : RunsAreFramed
 
 -- where a verified macro is called
 pub record IsCalled (call : Call) (kept : Kept) (held : Held) : Type 0 where
@@ -81,48 +97,126 @@ pub record IsCalled (call : Call) (kept : Kept) (held : Held) : Type 0 where
 name_small : (r : ℕ) → r < REGISTERS → register_name r < 256
 name_small r small = grind (arith, nat_tests)
 
-module _ (laws : Laws) (call : Call) (kept : Kept) (held : Held) (is : IsCalled call kept held) (files : HostFiles) (bytes : AreOfBytes files) (same : IsSameOutput held files)
+module _ (laws : Laws) (call : Call) (kept : Kept) (held : Held) (is : IsCalled call kept held) (files : HostFiles)
+    (bytes : AreOfBytes files) (same : IsSameOutput held files)
     (ready : IsReady call.found.fields (world kept held files)) where
+  abbrev now : World
+  now = world kept held files
+
+  -- where it begins
+  entered : verified.IsReady call.found.library call.found.fields.entry call.found.fields.size (n_of now) now
+  entered = record {
+    named = is.named;
+    loaded = is.loaded;
+    whole = record { kept = is.whole; files = files_whole held files is.bytes bytes };
+    call = (omega arith, (name_small call.found.fields.entry is.named, tt));
+    begins = enters now;
+    small = ready.fits;
+  }
+
+  opened_there : AreOpen (needs_in is.certified.nodes is.certified.table) now.files
+  opened_there = subst (λ needs. AreOpen needs now.files) is.certified.needs_are
+      (are_open call.found.fields.needs kept held files same is.files.input is.files.output)
+
+  linked_there : AreLinked call.found.library call.found.fields.entry is.certified.nodes
+  linked_there = laws.linked call.found.library call.found.fields.entry is.certified.nodes is.certified.expanded
+
   -- with an argument that is asked for
-  ends : (given : Option ℕ) → IsAsked call.found.fields.argument given → EndsWithin (start (call_given call.found.fields.entry given) (world kept held files)) (value call.found.fields.commands (n_of (world kept held files)))
+  ends : (given : Option ℕ) → IsAsked call.found.fields.argument given
+      → EndsWithin (start (call_given call.found.fields.entry given) now) (value call.found.fields.commands (n_of now))
   ends given asked =
       let certified = is.certified in
       let fields = call.found.fields in
-      let now = world kept held files in
-      let files_open = are_open fields.needs kept held files same is.files.input is.files.output in
-      laws.verified call.found.library fields.entry fields.rules fields.argument given certified.nodes certified.table fields.commands fields.size (n_of now) now (laws.linked call.found.library fields.entry certified.nodes certified.expanded) certified.printed asked (record {
-        named = is.named;
-        loaded = is.loaded;
-        whole = record { kept = is.whole; files = files_whole held files is.bytes bytes };
-        call = (omega arith, (name_small fields.entry is.named, tt));
-        begins = enters now;
-        small = ready.fits;
-      }) (subst (λ needs. AreOpen needs now.files) certified.needs_are files_open)
+      laws.verified call.found.library fields.entry fields.rules fields.argument given certified.nodes certified.table
+      fields.commands fields.size (n_of now) now linked_there certified.printed asked entered opened_there
 
-  pub ends_with : (given : Option ℤ) → IsTaken call.found.fields.argument given → EndsWithin (start (call_text call.found.fields.entry given) (world kept held files)) (value call.found.fields.commands (n_of (world kept held files)))
+  frames : (given : Option ℕ) → IsAsked call.found.fields.argument given → (steps : ℕ) (s : State)
+      → Reaches steps (start (call_given call.found.fields.entry given) now) s
+      → IsFramed is.certified.nodes now.kept s.world.kept
+  frames given asked =
+      let certified = is.certified in
+      let fields = call.found.fields in
+      laws.framed call.found.library fields.entry fields.rules fields.argument given certified.nodes certified.table
+      fields.commands fields.size (n_of now) now linked_there certified.printed asked entered opened_there
+
+  frames_with : (given : Option ℤ) → IsTaken call.found.fields.argument given → (steps : ℕ) (s : State)
+      → Reaches steps (start (call_text call.found.fields.entry given) now) s
+      → IsFramed is.certified.nodes now.kept s.world.kept
+  frames_with None taken = frames None taken
+  frames_with (Some (pos n)) taken = frames (Some n) taken
+  frames_with (Some (negsuc n)) taken = absurd taken
+
+  pub ends_with : (given : Option ℤ) → IsTaken call.found.fields.argument given
+      → EndsWithin (start (call_text call.found.fields.entry given) (world kept held files))
+      (value call.found.fields.commands (n_of (world kept held files)))
   ends_with None taken = ends None taken
   ends_with (Some (pos n)) taken = ends (Some n) taken
   ends_with (Some (negsuc n)) taken = absurd taken
 
-  pub is_sure : (answer : Stop) (new : World) → Stops (start (call_text call.found.fields.entry call.given) (world kept held files)) MOST answer new → IsSure (value call.found.fields.commands (n_of (world kept held files))) answer
+  pub is_sure : (answer : Stop) (new : World)
+      → Stops (start (call_text call.found.fields.entry call.given) (world kept held files)) MOST answer new
+      → IsSure (value call.found.fields.commands (n_of (world kept held files))) answer
   is_sure answer new stops =
-      laws.sure (start (call_text call.found.fields.entry call.given) (world kept held files)) (value call.found.fields.commands (n_of (world kept held files))) MOST answer new (ends_with call.given is.taken) ready.counts stops
+      laws.sure (start (call_text call.found.fields.entry call.given) (world kept held files))
+      (value call.found.fields.commands (n_of (world kept held files))) MOST answer new
+      (ends_with call.given is.taken) ready.counts stops
 
-surely : Laws → (call : Call) (kept : Kept) (held : Held) → IsCalled call kept held → (files : HostFiles) → AreOfBytes files → (answer : Stop) (new : World) → IsSameOutput held files → Stops (start (call_text call.found.fields.entry call.given) (world kept held files)) MOST answer new → Calls call.found.fields call.given answer (world kept held files) new
+  pub is_left_open : (answer : Stop) (new : World)
+      → Stops (start (call_text call.found.fields.entry call.given) (world kept held files)) MOST answer new
+      → LeavesOpen answer (world kept held files).files new.files
+  is_left_open answer new stops =
+      laws.leave (start (call_text call.found.fields.entry call.given) (world kept held files))
+      (value call.found.fields.commands (n_of (world kept held files))) MOST answer new
+      (ends_with call.given is.taken) ready.counts stops
+
+  one_expansion : {E : Type 0} (nodes other : List Node) (r : Result (List Node) E) → r ≡ Ok nodes → r ≡ Ok other
+      → nodes ≡ other
+  one_expansion nodes other r is too = cc
+
+  pub is_framed : (answer : Stop) (new : World)
+      → Stops (start (call_text call.found.fields.entry call.given) now) MOST answer new
+      → LeavesFramed call.found answer now.kept new.kept
+  is_framed (stop.Ended n) new stops = λ nodes expanded.
+      let ends = stops.1 in
+      subst (λ nodes. IsFramed nodes now.kept new.kept)
+      (one_expansion is.certified.nodes nodes (expansion call.found.library call.found.fields.entry)
+      is.certified.expanded expanded)
+      (subst (λ (w : World). IsFramed is.certified.nodes now.kept w.kept) (end_stays ends.last new ends.end)
+      (frames_with call.given is.taken n ends.last ends.steps))
+  is_framed answer new stops = tt
+
+surely : Laws → (call : Call) (kept : Kept) (held : Held) → IsCalled call kept held → (files : HostFiles)
+    → AreOfBytes files → (answer : Stop) (new : World) → IsSameOutput held files
+    → Stops (start (call_text call.found.fields.entry call.given) (world kept held files)) MOST answer new
+    → Calls call answer (world kept held files) new
 surely laws call kept held is files bytes answer new same stops = record {
   taken = is.taken;
   stops = stops;
   sure = λ ready. is_sure laws call kept held is files bytes same ready answer new stops;
+  keeps = λ ready. is_left_open laws call kept held is files bytes same ready answer new stops;
+  framed = λ ready. is_framed laws call kept held is files bytes same ready answer new stops;
 }
 
-pub calls : Laws → (call : Call) (answer : Stop) (a b : Holdings) (f g : Telling) → IsCalled call a.kept a.held → Joined (λ old new. Stops (start (call_text call.found.fields.entry call.given) old) MOST answer new) a b f g → Joined (Calls call.found.fields call.given answer) a b f g
+pub calls : Laws → (call : Call) (answer : Stop) (a b : Holdings) (f g : Telling) → IsCalled call a.kept a.held
+    → Joined (λ old new. Stops (start (call_text call.found.fields.entry call.given) old) MOST answer new) a b f g
+    → Joined (Calls call answer) a b f g
 calls laws call answer a b f g is = told-whole
-    (λ files left. IsSameOutput a.held files → Stops (start (call_text call.found.fields.entry call.given) (world a.kept a.held files)) MOST answer (world b.kept b.held left) × IsSameOutput b.held left)
-    (λ files left. IsSameOutput a.held files → Calls call.found.fields call.given answer (world a.kept a.held files) (world b.kept b.held left) × IsSameOutput b.held left)
-    (λ files left bytes behind t same. (surely laws call a.kept a.held is files bytes answer _ same (t same).0, (t same).1)) f g
+    (λ files left. IsSameOutput a.held files
+    → Stops (start (call_text call.found.fields.entry call.given) (world a.kept a.held files)) MOST answer
+    (world b.kept b.held left) × IsSameOutput b.held left)
+    (λ files left. IsSameOutput a.held files → Calls call answer (world a.kept a.held files)
+    (world b.kept b.held left) × IsSameOutput b.held left)
+    (λ files left bytes behind t same. (
+      surely laws call a.kept a.held is files bytes answer _ same (t same).0,
+      (t same).1,
+    )) f g
 
 -- what is so of a call where the library is loaded is so of a run
-pub runs : (call : Call) (answer : Stop) (a loaded b : Holdings) (f g : Telling) → loaded ≡ record a { kept = kept_loaded call.found.library a.kept } → Joined (Calls call.found.fields call.given answer) loaded b f g → Joined (Runs call answer) a b f g
+pub runs : (call : Call) (answer : Stop) (a loaded b : Holdings) (f g : Telling)
+    → loaded ≡ record a { kept = kept_loaded call.found.library a.kept }
+    → Joined (Calls call answer) loaded b f g → Joined (Runs call answer) a b f g
 runs call answer a loaded b f g e t =
-    told-map (λ files left. IsSameOutput a.held files → Runs call answer (world a.kept a.held files) (world b.kept b.held left) × IsSameOutput b.held left) _ (λ files left t. t) f g
-    (subst (λ l. Joined (Calls call.found.fields call.given answer) l b f g) e t)
+    told-map (λ files left. IsSameOutput a.held files
+    → Runs call answer (world a.kept a.held files) (world b.kept b.held left) × IsSameOutput b.held left) _
+    (λ files left t. t) f g
+    (subst (λ l. Joined (Calls call answer) l b f g) e t)

@@ -1,5 +1,6 @@
 -- What editing a file by a verified macro does.
-use Rattle.std.specs.Prelude.{⊤, ◌≡◌, ◌≢◌, ◌≤◌, ◌⊎◌, ℕ, List, ◌∷◌, ◌++◌, codes, Bool, true, false, not, ◌&&◌, ◌==◌, Option, Result, Ok, Err, IfOk, IsSome}
+use Rattle.std.specs.Prelude.{⊤, ◌≡◌, ◌≢◌, ◌≤◌, ◌⊎◌, ℕ, List, ◌∷◌, ◌++◌, codes, Bool, true, false, not, ◌&&◌, ◌==◌}
+use Rattle.std.specs.Prelude.{Option, Result, Ok, Err, IfOk, IsSome}
 use Rattle.std.specs.Io.KnownBytes.{Keeps}
 use Rattle.std.specs.List.{list_any}
 use Rattle.teco_base.specs.declared.bytes.TheConstants.{ESC}

@@ -1,7 +1,9 @@
 -- What editing a file by pages does.
-use Rattle.std.specs.Prelude.{ℕ, ◌≡◌, ◌≢◌, ◌+◌, ◌≤◌, ◌⊎◌, min, List, [], ◌∷◌, ◌++◌, codes, Bool, true, false, ◌||◌, Option, IfSome, Result, Ok, Err}
+use Rattle.std.specs.Prelude.{ℕ, ◌≡◌, ◌≢◌, ◌+◌, ◌≤◌, ◌⊎◌, min, List, [], ◌∷◌, ◌++◌, codes, Bool, true, false, ◌||◌}
+use Rattle.std.specs.Prelude.{Option, IfSome, Result, Ok, Err}
 use Rattle.std.specs.Io.KnownBytes.{Keeps}
-use Rattle.teco_apply.specs.Apply.{AnswersText, BothOpen, Course, DropsIfCoded, IsNotRun, LineCounts, RunWrites, are_plain, closing, opening}
+use Rattle.teco_apply.specs.Apply.{AnswersText, BothOpen, Course, DropsIfCoded, IsNotRun, LineCounts, RunWrites}
+use Rattle.teco_apply.specs.Apply.{are_plain, closing, opening}
 use Rattle.teco_apply.specs.Sure.{Call, MOST, Runs, loaded}
 use Rattle.teco_apply.specs.declared.by_pages.Edited.{Edited}
 use Rattle.teco_apply.specs.declared.by_pages.Pages.{Pages}

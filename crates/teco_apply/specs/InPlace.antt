@@ -12,9 +12,9 @@ use Rattle.teco_pages.specs.Possible.{GivesMeasured}
 use Rattle.teco_run.specs.Holdings.{Holdings}
 use Rattle.teco_session.specs.declared.fault.SessionFault.{SessionFault}
 
--- The host has noted these events, which some files fit if no more was given of one than was measured. Whatever files
--- fit them, the edit of the file into a new one leaves some by the definition, and each file has its new text, if there is
--- one; else it is as it was.
+-- The host has noted these events, which some files fit if no more was given of one than was measured. Whatever
+-- files fit them, the edit of the file into a new one leaves some by the definition, and each file has its new text,
+-- if there is one; else it is as it was.
 pub record IsRewritten (pages : Pages) (order : Order) (name : List ℕ) (replaces : Bool) (old new : Holdings)
     (after : Telling) (f : ℕ) (sink sunk : Option (List ℕ)) (result : Result Edited SessionFault) : Type 0 where
   pub events : List Event
@@ -22,8 +22,10 @@ pub record IsRewritten (pages : Pages) (order : Order) (name : List ℕ) (replac
   pub possible : GivesMeasured events → AreFittedInPlace events
   pub failures : ℕ
   pub edits :
-      (files left : HostFiles) → AreOfBytes files → AreReady files → IsSameOutput old.held files → Happened events files left
+      (files left : HostFiles) → AreOfBytes files → AreReady files → IsSameOutput old.held files
+      → Happened events files left
       → (apart : HostFiles)
-      × FileEdited pages order name (new_text name) (world old.kept old.held files) (world new.kept new.held apart) f failures
+      × FileEdited pages order name (new_text name) (world old.kept old.held files)
+      (world new.kept new.held apart) f failures
       sink sunk result
       × AreInPlace replaces files left apart

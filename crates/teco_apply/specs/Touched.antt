@@ -36,8 +36,8 @@ pub record WasNotReady (ready : World → Type 0) (old new : Holdings) (before a
   pub fitted : SomeFit old.held.output before until
   pub unready : Joined (λ was is. ¬ ready was) old mid before until
 
--- Where the host notes its calls, no file was opened, named or dropped, and some files fit what was noted; or the macro was
--- not ready.
+-- Where the host notes its calls, no file was opened, named or dropped, and some files fit what was noted; or the
+-- macro was not ready.
 abbrev pub TouchesNone : (World → Type 0) → Holdings → Holdings → Telling → Telling → Type 0
 TouchesNone ready old new before after =
     (TouchesBetween [] old new before after × SomeFit old.held.output before after)
@@ -56,8 +56,9 @@ Measures held before after = (most : Option ℕ) × TouchesBetween (noted_left m
 abbrev pub IsOfPages : List ℕ → Type 0
 IsOfPages string = (string ≡ turning) ⊎ (string ≡ gathering) ⊎ (string ≡ to_start) ⊎ (string ≡ closing)
 
--- What is done behind it, in turn: calls that touch no file, or measure the input; these command strings and the one that
--- drops the output, each of which touches just what its steps touch by the definition; runs of the macro, which touch none.
+-- What is done behind it, in turn: calls that touch no file, or measure the input; these command strings and the one
+-- that drops the output, each of which touches just what its steps touch by the definition; runs of the macro, which
+-- touch none.
 pub data TouchesByParts (call : Call) : Holdings → Holdings → Telling → Telling → Type 0 where
   by_none : (old new : Holdings) (before after : Telling) → TouchesBetween [] old new before after
       → TouchesByParts call old new before after
@@ -95,15 +96,18 @@ pub record TouchesOpening (call : Call) (string : List ℕ) (old new : Holdings)
   pub behind : TouchesByParts call mid new until after
 
 -- The edit of one file into another.
-pub record TouchesInEdit (call : Call) (source target : List ℕ) (old new : Holdings) (before after : Telling) : Type 0 where
+pub record TouchesInEdit (call : Call) (source target : List ℕ) (old new : Holdings) (before after : Telling) :
+    Type 0 where
   pub opened : TouchesOpening call (opening source target) old new before after
   pub touched : List Event
   pub notes : TouchesBetween touched old new before after
   pub possible : FitMeasured old.held.output before after
 
 -- With an argument that is not taken, or without memory for the first command string, no call is made.
-abbrev pub EditTouches : {X : Type 0} → Call → List ℕ → List ℕ → Result X SessionFault → Holdings → Holdings → Telling → Telling
+abbrev pub EditTouches : {X : Type 0} → Call → List ℕ → List ℕ → Result X SessionFault → Holdings → Holdings → Telling
+    → Telling
     → Type 0
 EditTouches call source target (Ok edited) old new before after = TouchesInEdit call source target old new before after
-EditTouches call source target (Err fault.Write) old new before after = TouchesInEdit call source target old new before after
+EditTouches call source target (Err fault.Write) old new before after =
+    TouchesInEdit call source target old new before after
 EditTouches call source target (Err other) old new before after = (new ≡ old) × (after ≡ before)

@@ -1,7 +1,8 @@
 //! Editing a file by a verified macro, by pages.
 ghost use Rattle.std.specs.Prelude.{◌≡◌, ◌≤◌, ◌<◌, ◌↔◌, Err, length};
 ghost use Rattle.teco_apply.specs.Apply.{LineCounts};
-ghost use Rattle.teco_apply.specs.ByPages.{AllPages, EachPage, EditsPages, EditsText, FileCounts, FileEdited, FromStart, Gathers, Once, PagesCount, is_dropped, order_by};
+ghost use Rattle.teco_apply.specs.ByPages.{AllPages, EachPage, EditsPages, EditsText, FileCounts, FileEdited};
+ghost use Rattle.teco_apply.specs.ByPages.{FromStart, Gathers, Once, PagesCount, is_dropped, order_by};
 ghost use Rattle.teco_apply.specs.Sure.{Call, IsTaken, TakesArgument};
 ghost use Rattle.teco_apply.specs.Touched.{EditTouches, TouchesByParts, TouchesOpening};
 ghost use Rattle.teco_base.specs.declared.TheConstants.{LIMIT};

@@ -1,6 +1,7 @@
 //! The run of a verified macro.
 ghost use Rattle.std.specs.Prelude.{◌≡◌, ◌↔◌, Some, None, IfOk, OnOk, OnErr, IsTrue};
-ghost use Rattle.teco_apply.specs.Sure.{Answers, Calls, HasFiles, IsReady, IsTaken, Runs, TakesArgument, call_text as text_of_call, kept_loaded};
+ghost use Rattle.teco_apply.specs.Sure.{Answers, Calls, HasFiles, IsReady, IsTaken, Runs, TakesArgument};
+ghost use Rattle.teco_apply.specs.Sure.{call_text as text_of_call, kept_loaded};
 ghost use Rattle.teco_apply.specs.Touched.{IsReadyLoaded, TouchesNone};
 ghost use Rattle.teco_model.specs.Macros.{IsLoaded};
 ghost use Rattle.teco_model.specs.Run.{StopCounts};
@@ -11,7 +12,7 @@ use arrayvec::ArrayVec;
 use std::marker::Model;
 use teco_base::{Reg, decimal};
 use teco_law_expansion::laws::{expansions_are_linked, loading_loads};
-use teco_law_tables::laws::{runs_are_sure, runs_are_verified};
+use teco_law_tables::laws::{runs_are_framed, runs_are_sure, runs_are_verified, runs_leave_open};
 use teco_model::Stop;
 use teco_pages::Host;
 use teco_pages::laws::notes_fit;
@@ -72,7 +73,7 @@ pub fn call_verified<T: TextStore, H: Host>(
     requires loaded { IsLoaded call.now.found.library machine.old.kept }
     requires files { HasFiles call.now.found.fields.needs machine.old.held }
     requires taken { TakesArgument call.now }
-    ensures calls { Joined (Calls call.now.found.fields call.now.given result.stop)
+    ensures calls { Joined (Calls call.now result.stop)
         machine.old machine.new (H.files host.old) (H.files host.new) }
     ensures touches { TouchesNone (IsReady call.now.found.fields)
         machine.old machine.new (H.files host.old) (H.files host.new) }
@@ -83,6 +84,8 @@ pub fn call_verified<T: TextStore, H: Host>(
     expansions_are_linked();
     runs_are_verified();
     runs_are_sure();
+    runs_leave_open();
+    runs_are_framed();
     notes_fit();
     let entry = call.verified.entry();
     entry.index();

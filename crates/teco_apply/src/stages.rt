@@ -3,7 +3,9 @@
 ghost use Rattle.std.specs.Prelude.{◌≡◌, ◌≤◌, ◌<◌, ◌+◌, ◌^◌, MatchOption, IfSome, length, false};
 ghost use Rattle.teco_apply.specs.Apply.{AnswersText, LineCounts};
 ghost use Rattle.teco_apply.specs.ByPages as edit;
-ghost use Rattle.teco_apply.specs.ByPages.{AdmittedStops, Closing, EndsWith, IsAskedAt, IsRefused, PagesCount, RanBy, RanCounts, RunsAdmitted, TurnCounts, TurnedBy, Turns, edited_with, nothing_done, order_by, tally_after};
+ghost use Rattle.teco_apply.specs.ByPages.{AdmittedStops, Closing, EndsWith, IsAskedAt, IsRefused, PagesCount, RanBy};
+ghost use Rattle.teco_apply.specs.ByPages.{RanCounts, RunsAdmitted, TurnCounts, TurnedBy, Turns, edited_with};
+ghost use Rattle.teco_apply.specs.ByPages.{nothing_done, order_by, tally_after};
 ghost use Rattle.teco_apply.specs.Sure.{Call, TakesArgument};
 ghost use Rattle.teco_apply.specs.Touched.{IsOfPages, Measures, TouchesByParts};
 ghost use Rattle.teco_base.specs.declared.TheConstants.{LIMIT};

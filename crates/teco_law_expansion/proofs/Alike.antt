@@ -1,5 +1,6 @@
 -- States that are the same but for the text of the command string step to such.
-use Rattle.std.proofs.Common.{◌≡◌, ℕ, zero, suc, List, [], ◌∷◌, Option, Some, None, Result, Ok, Err, refl, sym, ap, ◌∙◌, subst, arith}
+use Rattle.std.proofs.Common.{◌≡◌, ℕ, zero, suc, List, [], ◌∷◌, Option, Some, None, Result, Ok, Err, refl, sym, ap}
+use Rattle.std.proofs.Common.{◌∙◌, subst, arith}
 use Rattle.teco_base.specs.declared.code.Code.{Code}
 use Rattle.teco_base.specs.declared.code.Code.TheVariants as code
 use Rattle.teco_model.specs.declared.flow.Loop.{Loop}
@@ -13,7 +14,9 @@ use Rattle.teco_model.specs.Run.{run, go_on}
 use Rattle.teco_model.specs.State.{World, Frame, State, Outcome, Next, End, Exit, Fail, Absent}
 use Rattle.teco_model.specs.Step.{reply_of, outcome_of, end_of_text, outcome_at, step}
 use Rattle.teco_model.specs.Storage.{text_in}
-use Rattle.teco_law_expansion.specs.Alike.{Waits, CallsLast, AreAtBottom, Waiting, Calling, AreTextsAlike, AreAlike, AreOutcomesAlike, ReadsAlike, StepsAreAlike, RunsAreAlike, ReadingsAreAlike}
+use Rattle.teco_law_expansion.specs.Alike.{Waits, CallsLast, AreAtBottom, Waiting, Calling, AreTextsAlike, AreAlike}
+use Rattle.teco_law_expansion.specs.Alike.{AreOutcomesAlike, ReadsAlike, StepsAreAlike, RunsAreAlike}
+use Rattle.teco_law_expansion.specs.Alike.{ReadingsAreAlike}
 
 -- ---- texts that wait below a running one
 module _ (c d : Frame) (cs ds : List Frame) (alike : AreTextsAlike c cs d ds) where
@@ -37,8 +40,10 @@ module _ (c d : Frame) (cs ds : List Frame) (alike : AreTextsAlike c cs d ds) wh
     abbrev t : State
     t = other w g l f
 
-    settled_alike : (e : Element) (reply : Reply) (course : Course) → AreOutcomesAlike (settled e s.frames reply course) (settled e t.frames reply course)
-    settled_alike e reply (Into text) = record { world = refl; arguments = refl; left = refl; texts = (refl, (refl, alike)) }
+    settled_alike : (e : Element) (reply : Reply) (course : Course)
+        → AreOutcomesAlike (settled e s.frames reply course) (settled e t.frames reply course)
+    settled_alike e reply (Into text) =
+        record { world = refl; arguments = refl; left = refl; texts = (refl, (refl, alike)) }
     settled_alike e reply Quit = refl
     settled_alike e reply NoFile = refl
     settled_alike e reply (Refused k) = (code_same k, refl)
@@ -55,13 +60,15 @@ module _ (c d : Frame) (cs ds : List Frame) (alike : AreTextsAlike c cs d ds) wh
     same_reply k e = refl
 
     element_alike : (k : Kind) (e : Element) → AreOutcomesAlike (outcome_of k e s) (outcome_of k e t)
-    element_alike k e = subst (λ r. AreOutcomesAlike (settle e s (reply_of k e s)) (settle e t r)) (same_reply k e) (settle_alike e (reply_of k e s))
+    element_alike k e = subst (λ r. AreOutcomesAlike (settle e s (reply_of k e s)) (settle e t r)) (same_reply k e)
+        (settle_alike e (reply_of k e s))
 
     end_alike : (loops : List Loop) → AreOutcomesAlike (end_of_text loops s) (end_of_text loops t)
     end_alike [] = record { world = refl; arguments = refl; left = refl; texts = alike }
     end_alike (loop ∷ outer) = (code_same code.Utc, refl)
 
-    outcomes_alike : (r : Result (Option Element) Code) → AreOutcomesAlike (outcome_at (one w g l f) r) (outcome_at (other w g l f) r)
+    outcomes_alike : (r : Result (Option Element) Code)
+        → AreOutcomesAlike (outcome_at (one w g l f) r) (outcome_at (other w g l f) r)
     outcomes_alike (Err k) = (code_same k, refl)
     outcomes_alike (Ok None) = end_alike f.loops
     outcomes_alike (Ok (Some e)) = element_alike e.kind e
@@ -80,9 +87,13 @@ module _ (w : World) (g : Arguments) (l : Option ℕ) where
   waiting_ends f h = ap (outcome_at (alone f)) h.over ∙ ap (λ loops. end_of_text loops (alone f)) h.closed
 
   abbrev called : Call → Frame → ℕ → State
-  called c f next = record (alone f) { frames = frames_in (text_in c.register w.kept) next (record { running = f; callers = [] }) }
+  called c f next = record (alone f) {
+    frames = frames_in (text_in c.register w.kept) next
+        (record { running = f; callers = [] });
+  }
 
-  by_kind : (k : Kind) (c : Call) (f : Frame) (e : Element) → k ≡ kind.Call c → outcome_of k e (alone f) ≡ Next (called c f e.next)
+  by_kind : (k : Kind) (c : Call) (f : Frame) (e : Element) → k ≡ kind.Call c
+      → outcome_of k e (alone f) ≡ Next (called c f e.next)
   unfolding reply_of
   by_kind k c f e h = rw h refl
 
@@ -93,22 +104,50 @@ module _ (w : World) (g : Arguments) (l : Option ℕ) where
   bottom_alike : (a b : Frame) → AreAtBottom a b → AreOutcomesAlike (step (alone a)) (step (alone b))
   bottom_alike a b (Waiting x y) = rw (waiting_ends a x, waiting_ends b y) refl
   bottom_alike a b (Calling c x y) =
-      let goal : AreOutcomesAlike (Next (called c a x.element.next)) (Next (called c b y.element.next)) = record { world = refl; arguments = refl; left = refl; texts = (refl, Waiting x.behind y.behind) } in
-      subst (λ o. AreOutcomesAlike o (step (alone b))) (sym (calling_calls c a x)) (subst (λ o. AreOutcomesAlike (Next (called c a x.element.next)) o) (sym (calling_calls c b y)) goal)
+      let goal : AreOutcomesAlike (Next (called c a x.element.next)) (Next (called c b y.element.next)) =
+      record { world = refl; arguments = refl; left = refl; texts = (refl, Waiting x.behind y.behind) } in
+      subst (λ o. AreOutcomesAlike o (step (alone b))) (sym (calling_calls c a x))
+      (subst (λ o. AreOutcomesAlike (Next (called c a x.element.next)) o) (sym (calling_calls c b y)) goal)
 
-texts_alike : (w : World) (g : Arguments) (l : Option ℕ) (a b : Frame) (callers others : List Frame) → AreTextsAlike a callers b others →
-    AreOutcomesAlike (step (record { world = w; arguments = g; frames = record { running = a; callers = callers }; left = l })) (step (record { world = w; arguments = g; frames = record { running = b; callers = others }; left = l }))
+texts_alike : (w : World) (g : Arguments) (l : Option ℕ) (a b : Frame) (callers others : List Frame)
+    → AreTextsAlike a callers b others →
+    AreOutcomesAlike (step (record {
+      world = w;
+      arguments = g;
+      frames = record { running = a; callers = callers };
+      left = l;
+    })) (step (record {
+      world = w;
+      arguments = g;
+      frames = record { running = b; callers = others };
+      left =
+          l;
+    }))
 texts_alike w g l a b [] [] h = bottom_alike w g l a b h
 texts_alike w g l a b (c ∷ cs) (d ∷ ds) h =
-    subst (λ b. AreOutcomesAlike (step (one c d cs ds h.1 w g l a)) (step (other c d cs ds h.1 w g l b))) h.0 (inner_alike c d cs ds h.1 w g l a)
+    subst (λ b. AreOutcomesAlike (step (one c d cs ds h.1 w g l a)) (step (other c d cs ds h.1 w g l b))) h.0
+    (inner_alike c d cs ds h.1 w g l a)
 texts_alike w g l a b callers others h = absurd (grind arith)
 
-by_parts : (v w : World) (f g : Arguments) (l m : Option ℕ) (a b : Frame) (callers others : List Frame) → v ≡ w → f ≡ g → l ≡ m → AreTextsAlike a callers b others →
-    AreOutcomesAlike (step (record { world = v; arguments = f; frames = record { running = a; callers = callers }; left = l })) (step (record { world = w; arguments = g; frames = record { running = b; callers = others }; left = m }))
+by_parts : (v w : World) (f g : Arguments) (l m : Option ℕ) (a b : Frame) (callers others : List Frame) → v ≡ w → f ≡ g
+    → l ≡ m → AreTextsAlike a callers b others →
+    AreOutcomesAlike (step (record {
+      world = v;
+      arguments = f;
+      frames = record { running = a; callers = callers };
+      left = l;
+    })) (step (record {
+      world = w;
+      arguments = g;
+      frames = record { running = b; callers = others };
+      left =
+          m;
+    }))
 by_parts v w f g l m a b callers others i j k h = rw (i, j, k) (texts_alike w g m a b callers others h)
 
 pub steps_are_alike : StepsAreAlike
-steps_are_alike s t h = by_parts s.world t.world s.arguments t.arguments s.left t.left s.frames.running t.frames.running s.frames.callers t.frames.callers h.world h.arguments h.left h.texts
+steps_are_alike s t h = by_parts s.world t.world s.arguments t.arguments s.left t.left s.frames.running t.frames.running
+    s.frames.callers t.frames.callers h.world h.arguments h.left h.texts
 
 -- ---- runs
 onward : (one other : Outcome) → AreOutcomesAlike one other → AreOutcomesAlike (go_on one) (go_on other)
@@ -144,7 +183,8 @@ runs_are_alike (suc n) s t h = onward (run n s) (run n t) (runs_are_alike n s t 
 same_element : (a b : Result (Option Element) Code) (read : Option Element) → a ≡ Ok read → b ≡ a → b ≡ Ok read
 same_element a b read h e = e ∙ h
 
-bottom_reads : (a b : Frame) (read : Option Element) (t : State) → t.frames.running ≡ b → AreAtBottom a b → element_at a.text a.place ≡ Ok read → ReadsAlike read t
+bottom_reads : (a b : Frame) (read : Option Element) (t : State) → t.frames.running ≡ b → AreAtBottom a b
+    → element_at a.text a.place ≡ Ok read → ReadsAlike read t
 bottom_reads a b read t at (Waiting x y) h =
     let e : None ≡ read = (let f = sym x.over ∙ h in cc) in
     record { other = None; reads = rw at y.over; kinds = rw (sym e) refl }
@@ -152,10 +192,12 @@ bottom_reads a b read t at (Calling c x y) h =
     let e : Some x.element ≡ read = (let f = sym x.reads ∙ h in cc) in
     record { other = Some y.element; reads = rw at y.reads; kinds = rw (sym e) (ap Some (x.calls ∙ sym y.calls)) }
 
-texts_read : (a b : Frame) (callers others : List Frame) (read : Option Element) (t : State) → t.frames.running ≡ b → AreTextsAlike a callers b others → element_at a.text a.place ≡ Ok read → ReadsAlike read t
+texts_read : (a b : Frame) (callers others : List Frame) (read : Option Element) (t : State) → t.frames.running ≡ b
+    → AreTextsAlike a callers b others → element_at a.text a.place ≡ Ok read → ReadsAlike read t
 texts_read a b [] [] read t at h r = bottom_reads a b read t at h r
 texts_read a b (c ∷ cs) (d ∷ ds) read t at h r = record { other = read; reads = rw (at, sym h.0) r; kinds = refl }
 texts_read a b callers others read t at h r = absurd (grind arith)
 
 pub readings_are_alike : ReadingsAreAlike
-readings_are_alike s t read h r = texts_read s.frames.running t.frames.running s.frames.callers t.frames.callers read t refl h.texts r
+readings_are_alike s t read h r =
+    texts_read s.frames.running t.frames.running s.frames.callers t.frames.callers read t refl h.texts r

@@ -1,5 +1,7 @@
 -- A number before a call is taken first, and then it is pending.
-use Rattle.std.proofs.Common.{◌≡◌, ℕ, zero, suc, ◌+◌, ◌-◌, ◌<◌, ◌≤◌, ◌^◌, arith, pos, List, [], ◌∷◌, ◌++◌, take, drop, map, length, length-append, true, false, Some, None, Ok, refl, sym, ap, ◌∙◌, subst, nat_le, lit<}
+use Rattle.std.proofs.Common.{◌≡◌, ℕ, zero, suc, ◌+◌, ◌-◌, ◌<◌, ◌≤◌, ◌^◌, arith, pos, List, [], ◌∷◌, ◌++◌, take, drop}
+use Rattle.std.proofs.Common.{map, length, length-append, true, false, Some, None, Ok, refl, sym, ap, ◌∙◌, subst}
+use Rattle.std.proofs.Common.{nat_le, lit<}
 use Rattle.std.proofs.Math.Seq.{take-append_seam, drop-append_seam}
 use Rattle.std.proofs.lemmas.Bool.{le-leb}
 use Rattle.std.proofs.lemmas.Bool.Decides.{nat_tests}
@@ -54,7 +56,8 @@ no_blank_before (suc (suc (suc (suc (suc (suc (suc (suc zero)))))))) c rest smal
 no_blank_before (suc (suc (suc (suc (suc (suc (suc (suc (suc zero))))))))) c rest small = refl
 no_blank_before (suc (suc (suc (suc (suc (suc (suc (suc (suc (suc k)))))))))) c rest small = absurd (omega arith)
 
-from_digit : (d c : ℕ) (rest : List ℕ) → d < 10 → element_from ((48 + d) ∷ (c ∷ rest)) 0 ≡ Ok (digits_element ((48 + d) ∷ (c ∷ rest)))
+from_digit : (d c : ℕ) (rest : List ℕ) → d < 10
+    → element_from ((48 + d) ∷ (c ∷ rest)) 0 ≡ Ok (digits_element ((48 + d) ∷ (c ∷ rest)))
 unfolding element_from letters
 from_digit zero c rest small = refl
 from_digit (suc zero) c rest small = refl
@@ -71,7 +74,8 @@ from_digit (suc (suc (suc (suc (suc (suc (suc (suc (suc (suc k)))))))))) c rest 
 some_there : (rest : ℕ) → nat_le (suc (suc rest)) 0 ≡ false
 some_there rest = grind (arith, nat_tests)
 
-first_digit : (d c : ℕ) (rest : List ℕ) → d < 10 → element_at ((48 + d) ∷ (c ∷ rest)) 0 ≡ Ok (Some (digits_element ((48 + d) ∷ (c ∷ rest))))
+first_digit : (d c : ℕ) (rest : List ℕ) → d < 10
+    → element_at ((48 + d) ∷ (c ∷ rest)) 0 ≡ Ok (Some (digits_element ((48 + d) ∷ (c ∷ rest))))
 unfolding element_at
 first_digit d c rest small = search (no_blank_before, some_there, from_digit, arith)
 
@@ -98,7 +102,13 @@ record AreDigits (n : ℕ) : Type 0 where
   value_is : number_from_digits 10 (first ∷ others) ≡ n
 
 digits_are : (n : ℕ) → n < 2 ^ 31 → AreDigits n
-digits_are zero small = record { first = 0; others = []; below = (lit< tt, tt); spelled = decimal_digit 0 (lit< tt); value_is = refl }
+digits_are zero small = record {
+  first = 0;
+  others = [];
+  below = (lit< tt, tt);
+  spelled = decimal_digit 0 (lit< tt);
+  value_is = refl;
+}
 digits_are (suc n) small = among (digits_of 10 (suc n)) refl
   where
     among : (ds : List ℕ) → digits_of 10 (suc n) ≡ ds → AreDigits (suc n)
@@ -126,7 +136,8 @@ call_element entry text place = record {
   next = length text - 0;
 }
 
-from_call : (text : List ℕ) (place entry : ℕ) → entry < REGISTERS → drop place text ≡ call_of entry → element_from text place ≡ Ok (call_element entry text place)
+from_call : (text : List ℕ) (place entry : ℕ) → entry < REGISTERS → drop place text ≡ call_of entry
+    → element_from text place ≡ Ok (call_element entry text place)
 unfolding element_from letters
 from_call text place entry small h = rw (h, name_read entry small) refl
 
@@ -137,12 +148,14 @@ no_blank place entry = omega arith
 below : (k : ℕ) → nat_le (k + 2) k ≡ false
 below k = grind (arith, nat_tests)
 
-call_read : (text : List ℕ) (place entry : ℕ) → entry < REGISTERS → length text ≡ place + 2 → drop place text ≡ call_of entry → element_at text place ≡ Ok (Some (call_element entry text place))
+call_read : (text : List ℕ) (place entry : ℕ) → entry < REGISTERS → length text ≡ place + 2
+    → drop place text ≡ call_of entry → element_at text place ≡ Ok (Some (call_element entry text place))
 unfolding element_at
 call_read text place entry small long h =
     let none : blank_end text place ≡ place = ap (λ bytes. place + blank_len bytes) h ∙ no_blank place entry in
     let shorter : nat_le (length text) place ≡ false = ap (λ k. nat_le k place) long ∙ below place in
-    ap (λ at. elim (nat_le (length text) at) [ true ↦ Ok None | false ↦ element_from text at >>= (λ e. Ok (Some e)) ]) none
+    ap (λ at. elim (nat_le (length text) at) [ true ↦ Ok None | false ↦ element_from text at >>= (λ e. Ok (Some e)) ])
+    none
     ∙ (ap (λ t. elim t [ true ↦ Ok None | false ↦ element_from text place >>= (λ e. Ok (Some e)) ]) shorter
     ∙ ap (λ r. r >>= (λ e. Ok (Some e))) (from_call text place entry small h))
 
@@ -152,7 +165,9 @@ end_read text place h =
     ap (λ t. elim t [ true ↦ Ok None | false ↦ element_from text (blank_end text place) >>= (λ e. Ok (Some e)) ])
     (le-leb (length text) (blank_end text place) (omega (arith, h)))
 
-calls_last : (text : List ℕ) (place entry : ℕ) → entry < REGISTERS → length text ≡ place + 2 → drop place text ≡ call_of entry → CallsLast (record { register = entry }) (record { text = text; place = place; loops = [] })
+calls_last : (text : List ℕ) (place entry : ℕ) → entry < REGISTERS → length text ≡ place + 2
+    → drop place text ≡ call_of entry
+    → CallsLast (record { register = entry }) (record { text = text; place = place; loops = [] })
 calls_last text place entry small long h = record {
   element = call_element entry text place;
   reads = call_read text place entry small long h;
@@ -181,7 +196,8 @@ module _ (entry n : ℕ) (world : World) (named : entry < REGISTERS) (small : n 
   rest_is = ap (λ k. drop k text) (sym (length-map ds (λ d. 48 + d))) ∙ drop-append_seam (glyphs ds) (call_of entry)
 
   front_is : take (digits_in text) text ≡ glyphs ds
-  front_is = ap (λ k. take k text) (count ∙ sym (length-map ds (λ d. 48 + d))) ∙ take-append_seam (glyphs ds) (call_of entry)
+  front_is = ap (λ k. take k text) (count ∙ sym (length-map ds (λ d. 48 + d)))
+      ∙ take-append_seam (glyphs ds) (call_of entry)
 
   number_is : run_value (take (digits_in text) text) ≡ pos n
   number_is = search (front_is, back, int_wrap_fits, arith, ints)
@@ -190,7 +206,14 @@ module _ (entry n : ℕ) (world : World) (named : entry < REGISTERS) (small : n 
   behind = record {
     world = world;
     arguments = levels_after_answer (Some (run_value (take (digits_in text) text))) no_arguments;
-    frames = record { running = record { text = text; place = length text - length (drop (digits_in text) text); loops = [] }; callers = [] };
+    frames = record {
+      running = record {
+        text = text;
+        place = length text - length (drop (digits_in text) text);
+        loops = [];
+      };
+      callers = [];
+    };
     left = None;
   }
 
@@ -198,13 +221,22 @@ module _ (entry n : ℕ) (world : World) (named : entry < REGISTERS) (small : n 
   reads = starts are.others refl
     where
       starts : (others : List ℕ) → are.others ≡ others → element_at text 0 ≡ Ok (Some (digits_element text))
-      starts [] e = let t : text ≡ (48 + are.first) ∷ (77 ∷ register_name entry ∷ []) = ap (λ xs. glyphs (are.first ∷ xs) ++ call_of entry) e in
-          subst (λ text. element_at text 0 ≡ Ok (Some (digits_element text))) (sym t) (first_digit are.first 77 (register_name entry ∷ []) are.below.0)
-      starts (d ∷ others) e = let t : text ≡ (48 + are.first) ∷ ((48 + d) ∷ (glyphs others ++ call_of entry)) = ap (λ xs. glyphs (are.first ∷ xs) ++ call_of entry) e in
-          subst (λ text. element_at text 0 ≡ Ok (Some (digits_element text))) (sym t) (first_digit are.first (48 + d) (glyphs others ++ call_of entry) are.below.0)
+      starts [] e = let t : text ≡ (48 + are.first) ∷ (77 ∷ register_name entry ∷ []) =
+          ap (λ xs. glyphs (are.first ∷ xs) ++ call_of entry) e in
+          subst (λ text. element_at text 0 ≡ Ok (Some (digits_element text))) (sym t)
+          (first_digit are.first 77 (register_name entry ∷ []) are.below.0)
+      starts (d ∷ others) e = let t : text ≡ (48 + are.first) ∷ ((48 + d) ∷ (glyphs others ++ call_of entry)) =
+          ap (λ xs. glyphs (are.first ∷ xs) ++ call_of entry) e in
+          subst (λ text. element_at text 0 ≡ Ok (Some (digits_element text))) (sym t)
+          (first_digit are.first (48 + d) (glyphs others ++ call_of entry) are.below.0)
 
   digits_step : (e : Element) → e.kind ≡ kind.Argument argument.Digits → outcome_of e.kind e (start text world) ≡
-      Next (record { world = world; arguments = levels_after_answer (Some (run_value e.text)) no_arguments; frames = record { running = record { text = text; place = e.next; loops = [] }; callers = [] }; left = None })
+      Next (record {
+        world = world;
+        arguments = levels_after_answer (Some (run_value e.text)) no_arguments;
+        frames = record { running = record { text = text; place = e.next; loops = [] }; callers = [] };
+        left = None;
+      })
   unfolding reply_of
   digits_step e h = rw h refl
 
@@ -221,7 +253,8 @@ module _ (entry n : ℕ) (world : World) (named : entry < REGISTERS) (small : n 
     arguments = ap (λ v. levels_after_answer (Some v) no_arguments) number_is;
     left = refl;
     texts = Calling (record { register = entry })
-        (calls_last text _ entry named (long ∙ ap (λ k. k + 2) (sym place_is)) (ap (λ k. drop k text) place_is ∙ rest_is))
+        (calls_last text _ entry named (long ∙ ap (λ k. k + 2) (sym place_is)) (ap (λ k. drop k text) place_is
+        ∙ rest_is))
         (calls_last (call_of entry) 0 entry named refl refl);
   }
 
@@ -234,6 +267,7 @@ numbers_are_pending entry n world named small = record {
   reads = ap (λ command. element_at command 0) (spelled entry n world named small) ∙ reads entry n world named small;
   are_digits = refl;
   behind = behind entry n world named small;
-  goes = ap (λ command. step (start command world)) (spelled entry n world named small) ∙ goes_on entry n world named small;
+  goes = ap (λ command. step (start command world)) (spelled entry n world named small)
+      ∙ goes_on entry n world named small;
   alike = pending entry n world named small;
 }

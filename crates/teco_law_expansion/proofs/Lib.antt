@@ -8,7 +8,7 @@ mod KeepingPages
 mod StayLoaded
 mod Iterations
 mod Leading
-mod Runs
+pub mod Runs
 mod Ends
 mod Places
 mod Worked

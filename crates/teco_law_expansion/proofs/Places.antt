@@ -1,5 +1,7 @@
 -- Places in texts.
-use Rattle.std.proofs.Common.{◌≡◌, ℕ, zero, suc, ◌+◌, ◌≤◌, List, [], ◌∷◌, length, drop, Bool, true, false, if◌then◌else◌, nat_le, Option, Some, None, Result, Ok, Err, refl, sym, ap, ◌∙◌, subst, slice_get, arith, length-drop}
+use Rattle.std.proofs.Common.{◌≡◌, ℕ, zero, suc, ◌+◌, ◌≤◌, List, [], ◌∷◌, length, drop, Bool, true, false}
+use Rattle.std.proofs.Common.{if◌then◌else◌, nat_le, Option, Some, None, Result, Ok, Err, refl, sym, ap, ◌∙◌, subst}
+use Rattle.std.proofs.Common.{slice_get, arith, length-drop}
 use Rattle.std.specs.List.{AllByRecursion}
 use Rattle.std.proofs.lemmas.Bool.{leb-true}
 use Rattle.teco_base.specs.Bytes.{is_blank}
@@ -38,11 +40,17 @@ blanks_within (b ∷ []) = among (is_blank b)
     among false = omega arith
 blanks_within (b ∷ c ∷ rest) = among (is_blank b) (blanks_within (c ∷ rest)) (blanks_within rest)
   where
-    pair : (t : Bool) → blank_len rest ≤ length rest → elim t [ true ↦ 2 + blank_len rest | false ↦ 0 ] ≤ length (b ∷ c ∷ rest)
+    pair : (t : Bool) → blank_len rest ≤ length rest
+        → elim t [ true ↦ 2 + blank_len rest | false ↦ 0 ] ≤ length (b ∷ c ∷ rest)
     pair true h = omega (arith, h)
     pair false h = omega arith
 
-    among : (t : Bool) → blank_len (c ∷ rest) ≤ length (c ∷ rest) → blank_len rest ≤ length rest → elim t [ true ↦ 1 + blank_len (c ∷ rest) | false ↦ elim (is_blank_pair b c) [ true ↦ 2 + blank_len rest | false ↦ 0 ] ] ≤ length (b ∷ c ∷ rest)
+    among : (t : Bool) → blank_len (c ∷ rest) ≤ length (c ∷ rest) → blank_len rest ≤ length rest
+        → elim t [
+          | true ↦ 1 + blank_len (c ∷ rest)
+          | false ↦ elim
+              (is_blank_pair b c) [ true ↦ 2 + blank_len rest | false ↦ 0 ]
+        ] ≤ length (b ∷ c ∷ rest)
     among true h g = omega (arith, h)
     among false h g = pair (is_blank_pair b c) g
 
@@ -54,11 +62,14 @@ end_read : (text : List ℕ) (at : ℕ) → at ≤ length text → element_at te
 unfolding element_at
 end_read text at l h = among (nat_le (length text) (blank_end text at)) refl h
   where
-    no_element : {P : Type 0} (r : Result Element Code) → Path (Result (Option Element) Code) (r >>= (λ e. Ok (Some e))) (Ok None) → P
+    no_element : {P : Type 0} (r : Result Element Code)
+        → Path (Result (Option Element) Code) (r >>= (λ e. Ok (Some e))) (Ok None) → P
     no_element r h = absurd (grind arith)
 
     among : (t : Bool) → nat_le (length text) (blank_end text at) ≡ t →
-        Path (Result (Option Element) Code) (elim t [ true ↦ Ok None | false ↦ element_from text (blank_end text at) >>= (λ e. Ok (Some e)) ]) (Ok None) → blank_end text at ≡ length text
+        Path (Result (Option Element) Code)
+        (elim t [ true ↦ Ok None | false ↦ element_from text (blank_end text at) >>= (λ e. Ok (Some e)) ]) (Ok None)
+        → blank_end text at ≡ length text
     among true t h = omega (arith, leb-true (length text) (blank_end text at) t, end_within text at l)
     among false t h = no_element (element_from text (blank_end text at)) h
 
@@ -76,41 +87,54 @@ is_in text at starts l = (end_within text at l, blank_end-again text at)
 abbrev AreIn : Position → Type 0
 AreIn p = AllByRecursion IsIn (p.running ∷ p.callers)
 
-in_text : (text : Option (List ℕ)) (e : Element) (p : Position) → e.next ≤ length p.running.text → AreIn p → AreIn (position_in_text text e p)
+in_text : (text : Option (List ℕ)) (e : Element) (p : Position) → e.next ≤ length p.running.text → AreIn p
+    → AreIn (position_in_text text e p)
 in_text None e p l i = (is_in p.running.text e.next p.running.starts l, i.1)
 in_text (Some text) e p l i = (is_in text 0 [] (omega arith), (is_in p.running.text e.next p.running.starts l, i.1))
 
-behind_call : (callers : List Spot) (p : Position) → p.callers ≡ callers → AreIn p → AreIn (position_behind_call callers p)
+behind_call : (callers : List Spot) (p : Position) → p.callers ≡ callers → AreIn p
+    → AreIn (position_behind_call callers p)
 behind_call [] p c i = i
 behind_call (caller ∷ callers) p c i = let rest = subst (AllByRecursion IsIn) c i.1 in (rest.0, rest.1)
 
-behind_kind : (library : Library) (number : ℕ) (k : Kind) (e : Element) (stand : Stand) → e.next ≤ length stand.position.running.text → AreIn stand.position → AreIn (stand_behind_kind library number k e stand).position
+behind_kind : (library : Library) (number : ℕ) (k : Kind) (e : Element) (stand : Stand)
+    → e.next ≤ length stand.position.running.text → AreIn stand.position
+    → AreIn (stand_behind_kind library number k e stand).position
 behind_kind library number (kind.Call c) e stand l i = in_text (macro library c.register) e stand.position l i
 behind_kind library number (kind.Flow flow.Iterate) e stand l i = (is_in stand.position.running.text e.next [] l, i.1)
 behind_kind library number (kind.Flow flow.EndTurn) e stand l i = (is_in stand.position.running.text e.next [] l, i.1)
 behind_kind library number k e stand l i = (is_in stand.position.running.text e.next [] l, i.1)
 
-element_read : (p : Position) (read : Option Element) → read_at p ≡ Ok read → element_at p.running.text p.running.place ≡ Ok read
+element_read : (p : Position) (read : Option Element) → read_at p ≡ Ok read
+    → element_at p.running.text p.running.place ≡ Ok read
 unfolding read_at
 element_read p read h = read_is (element_at p.running.text p.running.place) read h
 
-behind : (library : Library) (number : ℕ) (read : Option Element) (stand : Stand) → read_at stand.position ≡ Ok read → AreIn stand.position → AreIn (stand_behind library number read stand).position
+behind : (library : Library) (number : ℕ) (read : Option Element) (stand : Stand) → read_at stand.position ≡ Ok read
+    → AreIn stand.position → AreIn (stand_behind library number read stand).position
 behind library number None stand r i = behind_call stand.position.callers stand.position refl i
 behind library number (Some e) stand r i =
-    behind_kind library number e.kind e stand (advances stand.position.running.text stand.position.running.place e (element_read stand.position (Some e) r)).within i
+    behind_kind library number e.kind e stand (advances stand.position.running.text stand.position.running.place e
+    (element_read stand.position (Some e) r)).within i
 
-all_in : (library : Library) (entry : ℕ) (nodes : List Node) (k : ℕ) (node : Node) → AreLinked library entry nodes → slice_get nodes k ≡ Some node → AreIn node.stand.position
-all_in library entry nodes zero node are h = subst (λ (stand : Stand). AreIn stand.position) (first_is nodes (over entry) (beginning entry) node are.first h) (is_in (call_of entry) 0 [] (omega arith), tt)
+all_in : (library : Library) (entry : ℕ) (nodes : List Node) (k : ℕ) (node : Node) → AreLinked library entry nodes
+    → slice_get nodes k ≡ Some node → AreIn node.stand.position
+all_in library entry nodes zero node are h =
+    subst (λ (stand : Stand). AreIn stand.position) (first_is nodes (over entry) (beginning entry) node are.first h)
+    (is_in (call_of entry) 0 [] (omega arith), tt)
 all_in library entry nodes (suc k) node are h =
     let before = earlier nodes k node h in
     let linked = are.each (suc k) before.node before.at in
     let known = are.order (suc k) before.node before.at in
-    let same : Some node.stand ≡ Some (stand_behind library (suc k) before.node.element before.node.stand) = sym (node_stands nodes (over entry) (suc k) node h) ∙ known in
+    let same : Some node.stand ≡ Some (stand_behind library (suc k) before.node.element before.node.stand) =
+    sym (node_stands nodes (over entry) (suc k) node h) ∙ known in
     let is : node.stand ≡ stand_behind library (suc k) before.node.element before.node.stand = cc in
     subst (λ (stand : Stand). AreIn stand.position) (sym is)
-    (behind library (suc k) before.node.element before.node.stand linked.reads (all_in library entry nodes k before.node are before.at))
+    (behind library (suc k) before.node.element before.node.stand linked.reads
+    (all_in library entry nodes k before.node are before.at))
 
-placed : (read : Option Element) (p : Position) → AreIn p → read_at p ≡ Ok read → IsPlaceOf read p.running.text (place_at p)
+placed : (read : Option Element) (p : Position) → AreIn p → read_at p ≡ Ok read
+    → IsPlaceOf read p.running.text (place_at p)
 placed None p i r = sym i.0.1 ∙ end_read p.running.text p.running.place i.0.0 (element_read p None r)
 placed (Some e) p i r = sym ((advances p.running.text p.running.place e (element_read p (Some e) r)).stands ∙ i.0.1)
 
@@ -122,10 +146,13 @@ nodes_have_places library entry nodes (suc k) node are h =
 -- what is read is sound
 pub nodes_are_sound : NodesAreSound
 unfolding read_at
-nodes_are_sound library all number node linked =
-    (element_read node.stand.position node.element linked.reads, among (element_at node.stand.position.running.text node.stand.position.running.place) node.element linked.reads)
+nodes_are_sound library all number node linked = (
+  element_read node.stand.position node.element linked.reads,
+  among (element_at node.stand.position.running.text node.stand.position.running.place) node.element linked.reads,
+)
   where
-    among : (r : Result (Option Element) Code) (read : Option Element) → refusal.◌>>=◌ (as_fault r) (λ read. sound read) ≡ Ok read → IsSound read
+    among : (r : Result (Option Element) Code) (read : Option Element)
+        → refusal.◌>>=◌ (as_fault r) (λ read. sound read) ≡ Ok read → IsSound read
     among (Ok None) read h = subst IsSound (ok None read h) tt
     among (Ok (Some e)) read h =
         let p = bound (as_fault (pattern_parts e.kind e.text)) _ read h in

@@ -1,5 +1,6 @@
 -- A run stands at nodes alone.
-use Rattle.std.proofs.Common.{◌≡◌, ℕ, zero, suc, List, [], ◌∷◌, ◌++◌, map, Option, Some, None, Ok, refl, sym, ap, ◌∙◌, subst, slice_get, arith}
+use Rattle.std.proofs.Common.{◌≡◌, ℕ, zero, suc, List, [], ◌∷◌, ◌++◌, map, Option, Some, None, Ok, refl, sym, ap, ◌∙◌}
+use Rattle.std.proofs.Common.{subst, slice_get, arith}
 use Rattle.teco_model.specs.Element.{Element, blank_len, element_at}
 use Rattle.teco_model.specs.Run.{run, go_on}
 use Rattle.teco_model.specs.State.{Frame, State, Outcome, Next, start}
@@ -7,9 +8,11 @@ use Rattle.teco_model.specs.declared.flow.Loop.{Loop}
 use Rattle.teco_model.specs.Step.{end_outcome, end_of_text, step}
 use Rattle.teco_model.specs.Macros.{Library, IsLoaded, call_of}
 use Rattle.teco_law_expansion.specs.Linked.{IsNext, Lead, IsLinked, AreLinked}
-use Rattle.teco_verifier.specs.expansion.Node.{Stand, Node, beginning, over, stand_of_node, stands, numbered, stand_at, base_of, base_of_way}
+use Rattle.teco_verifier.specs.expansion.Node.{Stand, Node, beginning, over, stand_of_node, stands, numbered}
+use Rattle.teco_verifier.specs.expansion.Node.{stand_at, base_of, base_of_way}
 use Rattle.teco_verifier.specs.expansion.Position.{Position, start_of, spot_of, position_of, position_of_frames}
-use Rattle.teco_law_expansion.specs.Run.{MovesFrom, Went, Stayed, StepsGoAlongNodes, StandsAt, WritesNoMacro, ComesTo, RunsComeToNodes, RunsEnd}
+use Rattle.teco_law_expansion.specs.Run.{MovesFrom, Went, Stayed, StepsGoAlongNodes, StandsAt, WritesNoMacro, ComesTo}
+use Rattle.teco_law_expansion.specs.Run.{RunsComeToNodes, RunsEnd}
 use Rattle.teco_law_expansion.specs.Steps as steps
 use Rattle.teco_law_expansion.specs.Steps.{IsLeftAt, Moves}
 use Rattle.teco_verifier.specs.expansion.Ways.{read_at, ways_at}
@@ -23,7 +26,8 @@ pub record Numbered (all : List Stand) (base : ℕ) (ways : List ℕ) (way : ℕ
   pub taken : slice_get ways way ≡ Some number
   pub there : IsNext all base stand number
 
-way_number : (all : List Stand) (base number : ℕ) (from : Stand) (ways : List ℕ) (targets : List Position) (way : ℕ) (p : Position) → Lead all base number from targets ways → slice_get targets way ≡ Some p →
+way_number : (all : List Stand) (base number : ℕ) (from : Stand) (ways : List ℕ) (targets : List Position) (way : ℕ)
+    (p : Position) → Lead all base number from targets ways → slice_get targets way ≡ Some p →
     Numbered all (base_of_way way base number) ways way (stand_at number from p)
 way_number all base number from ways [] way p l h = absurd (cc)
 way_number all base number from [] (target ∷ targets) way p l h = absurd l
@@ -37,28 +41,41 @@ way_number all base number from (n ∷ ways) (target ∷ targets) (suc (suc way)
     let later = way_number all number number from ways targets (suc way) p l.1 h in
     record { number = later.number; taken = later.taken; there = later.there }
 
-along : (library : Library) (all : List Stand) (number : ℕ) (node : Node) (s t : State) → (linked : IsLinked library all number node) → Moves node.element linked.targets s t → MovesFrom all number node s t
+along : (library : Library) (all : List Stand) (number : ℕ) (node : Node) (s t : State)
+    → (linked : IsLinked library all number node) → Moves node.element linked.targets s t
+    → MovesFrom all number node s t
 along library all number node s t linked (steps.Stayed stays) = Stayed stays
 along library all number node s t linked (steps.Went goes) =
-    let n = way_number all (base_of node.element number node.stand.iterations) number node.stand node.ways linked.targets goes.way (position_of t) linked.leads goes.leads in
-    Went (record { way = goes.way; target = n.number; taken = n.taken; there = n.there; done = goes.done; was = goes.was })
+    let n = way_number all (base_of node.element number node.stand.iterations) number node.stand node.ways
+    linked.targets goes.way (position_of t) linked.leads goes.leads in
+    Went (record {
+      way = goes.way;
+      target = n.number;
+      taken = n.taken;
+      there = n.there;
+      done = goes.done;
+      was = goes.was;
+    })
 
 pub steps_go_along_nodes : StepsGoAlongNodes
 steps_go_along_nodes library entry nodes number node s t are n h l loaded g =
     let linked = are.each number node n in
     along library (stands nodes entry) number node s t linked
-    (steps_go_ways library s t node.element linked.targets loaded l (ap read_at (sym h) ∙ linked.reads) (ap (ways_at library node.element) (sym h) ∙ linked.goes) g)
+    (steps_go_ways library s t node.element linked.targets loaded l (ap read_at (sym h) ∙ linked.reads)
+    (ap (ways_at library node.element) (sym h) ∙ linked.goes) g)
 
 -- what is numbered is a node, or the end
 pub data AtNode (nodes : List Node) (end stand : Stand) (k : ℕ) : Type 0 where
   is_node : (node : Node) → slice_get nodes k ≡ Some node → node.stand ≡ stand → AtNode nodes end stand k
   ends : stand ≡ end → AtNode nodes end stand k
 
-later : (first : Node) (nodes : List Node) (end stand : Stand) (k : ℕ) → AtNode nodes end stand k → AtNode (first ∷ nodes) end stand (suc k)
+later : (first : Node) (nodes : List Node) (end stand : Stand) (k : ℕ) → AtNode nodes end stand k
+    → AtNode (first ∷ nodes) end stand (suc k)
 later first nodes end stand k (is_node n h e) = is_node n h e
 later first nodes end stand k (ends e) = ends e
 
-pub node_or_end : (nodes : List Node) (end stand : Stand) (k : ℕ) → slice_get (map stand_of_node nodes ++ end ∷ []) k ≡ Some stand → AtNode nodes end stand k
+pub node_or_end : (nodes : List Node) (end stand : Stand) (k : ℕ)
+    → slice_get (map stand_of_node nodes ++ end ∷ []) k ≡ Some stand → AtNode nodes end stand k
 node_or_end [] end stand zero h = let e : end ≡ stand = cc in ends (sym e)
 node_or_end [] end stand (suc k) h = absurd (cc)
 node_or_end (first ∷ nodes) end stand zero h = let e : first.stand ≡ stand = cc in is_node first refl e
@@ -81,7 +98,9 @@ no_step : {P : Type 0} (s t : State) → Moves None [] s t → P
 no_step s t (steps.Went goes) = let z = goes.leads in absurd (cc)
 no_step s t (steps.Stayed stays) = absurd (subst (IsLeftAt None) stays.left stays.long)
 
-came : (library : Library) (all : List Stand) (number : ℕ) (node : Node) (s t : State) → numbered all number ≡ Some node.stand → node.stand.position ≡ position_of s → read_at node.stand.position ≡ Ok node.element → IsLoaded library t.world.kept →
+came : (library : Library) (all : List Stand) (number : ℕ) (node : Node) (s t : State)
+    → numbered all number ≡ Some node.stand → node.stand.position ≡ position_of s
+    → read_at node.stand.position ≡ Ok node.element → IsLoaded library t.world.kept →
     MovesFrom all number node s t → ComesTo library all t
 came library all number node s t at h r loaded (Went goes) = record {
   number = goes.target;
@@ -104,24 +123,32 @@ came library all number node s t at h r loaded (Stayed stays) = record {
   };
 }
 
-step_comes : (library : Library) (entry : ℕ) (nodes : List Node) (k : ℕ) (s t : State) → AreLinked library entry nodes → (at : StandsAt library (stands nodes entry) (suc k) s) → AtNode nodes (over entry) at.stand k → WritesNoMacro library s → step s ≡ Next t →
+step_comes : (library : Library) (entry : ℕ) (nodes : List Node) (k : ℕ) (s t : State) → AreLinked library entry nodes
+    → (at : StandsAt library (stands nodes entry) (suc k) s) → AtNode nodes (over entry) at.stand k
+    → WritesNoMacro library s → step s ≡ Next t →
     ComesTo library (stands nodes entry) t
 step_comes library entry nodes k s t are at (is_node n h e) none g =
     let linked = are.each (suc k) n h in
     let position : n.stand.position ≡ position_of s = ap (λ (stand : Stand). stand.position) e ∙ at.position in
     let reads : read_at (position_of s) ≡ Ok n.element = ap read_at (sym position) ∙ linked.reads in
-    let left : IsLeftAt n.element s.left = at.left n.element (ap (λ (stand : Stand). read_at stand.position) (sym e) ∙ linked.reads) in
+    let left : IsLeftAt n.element s.left =
+    at.left n.element (ap (λ (stand : Stand). read_at stand.position) (sym e) ∙ linked.reads) in
     came library (stands nodes entry) (suc k) n s t (at.at ∙ ap Some (sym e)) position linked.reads
     (stays_loaded library s t n.element at.loaded (none.none n.element reads) reads g)
     (steps_go_along_nodes library entry nodes (suc k) n s t are h position left at.loaded g)
 step_comes library entry nodes k s t are at (ends e) none g =
     let position : position_of s ≡ (over entry).position = sym at.position ∙ ap (λ (stand : Stand). stand.position) e in
-    let left : IsLeftAt None s.left = at.left None (ap (λ (stand : Stand). read_at stand.position) e ∙ over_reads entry) in
-    no_step s t (steps_go_ways library s t None [] at.loaded left (ap read_at position ∙ over_reads entry) (ap (ways_at library None) position ∙ over_goes library entry) g)
+    let left : IsLeftAt None s.left =
+    at.left None (ap (λ (stand : Stand). read_at stand.position) e ∙ over_reads entry) in
+    no_step s t (steps_go_ways library s t None [] at.loaded left (ap read_at position ∙ over_reads entry)
+    (ap (ways_at library None) position ∙ over_goes library entry) g)
 
-at_number : (library : Library) (entry : ℕ) (nodes : List Node) (number : ℕ) (s t : State) → AreLinked library entry nodes → StandsAt library (stands nodes entry) number s → WritesNoMacro library s → step s ≡ Next t → ComesTo library (stands nodes entry) t
+pub at_number : (library : Library) (entry : ℕ) (nodes : List Node) (number : ℕ) (s t : State)
+    → AreLinked library entry nodes → StandsAt library (stands nodes entry) number s → WritesNoMacro library s
+    → step s ≡ Next t → ComesTo library (stands nodes entry) t
 at_number library entry nodes zero s t are at none g = let z = at.at in absurd (cc)
-at_number library entry nodes (suc k) s t are at none g = step_comes library entry nodes k s t are at (node_or_end nodes (over entry) at.stand k at.at) none g
+at_number library entry nodes (suc k) s t are at none g =
+    step_comes library entry nodes k s t are at (node_or_end nodes (over entry) at.stand k at.at) none g
 
 -- the last step of a run
 pub record Last (before : Outcome) (t : State) : Type 0 where
@@ -139,7 +166,13 @@ runs_come_to_nodes library entry nodes world zero s are l f r =
     let e : start (call_of entry) world ≡ s = cc in
     subst (ComesTo library (stands nodes entry)) e (record {
       number = 1;
-      there = record { stand = beginning entry; at = are.first; position = refl; left = λ read e. nothing_left read None refl; loaded = l };
+      there = record {
+        stand = beginning entry;
+        at = are.first;
+        position = refl;
+        left = λ read e. nothing_left read None refl;
+        loaded = l;
+      };
     })
 runs_come_to_nodes library entry nodes world (suc n) s are l f r =
     let last = last_step (run n (start (call_of entry) world)) s r in
@@ -157,7 +190,8 @@ no_callers (caller ∷ callers) h = absurd (cc)
 
 pub runs_end : RunsEnd
 runs_end entry s h =
-    let loops : s.frames.running.loops ≡ [] = no_loops s.frames.running.loops (ap (λ (p : Position). p.running.starts) h) in
+    let loops : s.frames.running.loops ≡ [] =
+    no_loops s.frames.running.loops (ap (λ (p : Position). p.running.starts) h) in
     let callers : s.frames.callers ≡ [] = no_callers s.frames.callers (ap (λ (p : Position). p.callers) h) in
     as_read s None (ap read_at (sym h) ∙ over_reads entry)
     ∙ (ap (λ loops. end_of_text loops s) loops ∙ ap (λ callers. end_outcome callers s) callers)

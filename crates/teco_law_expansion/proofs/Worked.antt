@@ -8,5 +8,6 @@ use Rattle.teco_verifier.specs.expansion.Expansion.{next_visit, walk, way_number
 use Rattle.teco_law_expansion.specs.Rows.{WorkedExpansions}
 
 pub worked_expansions : WorkedExpansions
-unfolding blank_len element_from element_at letters reading_at first_readings readings part_at parts_within parts read_at flow_ways ways_at next_visit walk way_numbers node_at nodes_at expansion
+unfolding blank_len element_from element_at letters reading_at first_readings readings part_at parts_within parts
+    read_at flow_ways ways_at next_visit walk way_numbers node_at nodes_at expansion
 worked_expansions = search rules

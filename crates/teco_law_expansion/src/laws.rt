@@ -4,8 +4,9 @@ ghost use Rattle.teco_law_expansion.specs.Ends.{IterationsEnd, LeftHaveEnded};
 ghost use Rattle.teco_law_expansion.specs.Given.{NumbersArePending};
 ghost use Rattle.teco_law_expansion.specs.Iterations.{IterationsAreOpen};
 ghost use Rattle.teco_law_expansion.specs.Leading.{WaysLead};
-ghost use Rattle.teco_law_expansion.specs.Linked.{ExpansionsAreLinked, ExpansionsAreSmall, NodesAreSound, NodesHaveTexts};
-ghost use Rattle.teco_law_expansion.specs.Loaded.{LoadingLoads, StaysLoaded};
+ghost use Rattle.teco_law_expansion.specs.Linked.{ExpansionsAreLinked, ExpansionsAreSmall, NodesAreSound};
+ghost use Rattle.teco_law_expansion.specs.Linked.{NodesHaveTexts};
+ghost use Rattle.teco_law_expansion.specs.Loaded.{LoadingLoads, StaysLoaded, StepsKeep};
 ghost use Rattle.teco_law_expansion.specs.Places.{NodesHavePlaces};
 ghost use Rattle.teco_law_expansion.specs.Rows.{WorkedExpansions};
 ghost use Rattle.teco_law_expansion.specs.Run.{RunsComeToNodes, RunsEnd, StepsGoAlongNodes};
@@ -24,6 +25,12 @@ pub fn steps_go_ways()
 /// A library is loaded where its texts are put into their registers.
 pub fn loading_loads()
     ensures { LoadingLoads }
+{}
+
+/// A step keeps each register that its element does not name, each text that it does not write, and
+/// the search mode, unless it is set.
+pub fn steps_keep()
+    ensures { StepsKeep }
 {}
 
 /// A library stays loaded through each step that writes none of its registers.

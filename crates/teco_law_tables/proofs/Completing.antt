@@ -1,5 +1,7 @@
 -- An element that begins where a run is described passes, by the laws of facts.
-use Rattle.std.proofs.Common.{◌&&◌, ◌||◌, if◌then◌else◌, [], ◌∷◌, ◌≡◌, ◌⊎◌, inl, inr, ℕ, zero, suc, ◌+◌, ◌≤◌, ◌<◌, refl, sym, ap, ◌∙◌, subst, arith, List, Bool, true, false, Option, Some, None, Result, Ok, Err, is_some, slice_get, ◌∷◌}
+use Rattle.std.proofs.Common.{◌&&◌, ◌||◌, if◌then◌else◌, [], ◌∷◌, ◌≡◌, ◌⊎◌, inl, inr, ℕ, zero, suc, ◌+◌, ◌≤◌, ◌<◌}
+use Rattle.std.proofs.Common.{refl, sym, ap, ◌∙◌, subst, arith, List, Bool, true, false, Option, Some, None, Result}
+use Rattle.std.proofs.Common.{Ok, Err, is_some, slice_get, ◌∷◌}
 use Rattle.std.specs.Prelude.{IsErr}
 use Rattle.std.specs.Option.{option_map_or}
 use Rattle.teco_verifier.specs.expansion.Node.{numbered, Node, stands}
@@ -42,7 +44,8 @@ use Rattle.teco_verifier.specs.facts.Printed.{steps, is_in_pages}
 use Rattle.teco_law_facts.specs.SoundElements.{FitsOn}
 use Rattle.teco_law_facts.specs.SoundPages.{IsTurnOrWrite}
 use Rattle.teco_law_facts.specs.SoundSeeking.{IsInPages}
-use Rattle.teco_law_facts.specs.SoundSteps.{AreOpen, BeginsAt, KindUnderway, IsUnderway, KindEnds, unread_left, Proceeds, StepsAreSound, LaterStepsAreSound}
+use Rattle.teco_law_facts.specs.SoundSteps.{AreOpen, BeginsAt, KindUnderway, IsUnderway, KindEnds, unread_left}
+use Rattle.teco_law_facts.specs.SoundSteps.{Proceeds, StepsAreSound, LaterStepsAreSound}
 use Rattle.teco_verifier.specs.facts.Transfer.{Placed, answer_for, without_answer, edges_of, transfer}
 use Rattle.teco_verifier.specs.table.Behind.{placed, edges_behind, edges_at}
 use Rattle.teco_law_tables.specs.Following.{run_at, is_paged_at, is_paged_from, apart_of}
@@ -61,12 +64,17 @@ one_named : (b : Bool) → (b ≡ true → ⊥) → b ≡ false
 one_named true h = absurd (h refl)
 one_named false h = refl
 
-storage_writes : (library : Library) (s : Storage) → (option_map_or (is_macro library) (named_by (kind.Command (command.Storage s))) false ≡ true → WritesText (kind.Command (command.Storage s)) → ⊥) → option_map_or (is_macro library) (written_by (kind.Command (command.Storage s))) false ≡ false
+storage_writes : (library : Library) (s : Storage)
+    → (option_map_or (is_macro library) (named_by (kind.Command (command.Storage s))) false ≡ true
+    → WritesText (kind.Command (command.Storage s)) → ⊥)
+    → option_map_or (is_macro library) (written_by (kind.Command (command.Storage s))) false ≡ false
 storage_writes library (storage.Copy r) h = one_named _ (λ e. h e tt)
 storage_writes library (storage.SetText r) h = one_named _ (λ e. h e tt)
 storage_writes library s h = refl
 
-kind_writes : (library : Library) (k : Kind) → (option_map_or (is_macro library) (named_by k) false ≡ true → WritesText k → ⊥) → option_map_or (is_macro library) (written_by k) false ≡ false
+kind_writes : (library : Library) (k : Kind)
+    → (option_map_or (is_macro library) (named_by k) false ≡ true → WritesText k → ⊥)
+    → option_map_or (is_macro library) (written_by k) false ≡ false
 kind_writes library (kind.Stack (stack.Pop r)) h = one_named _ (λ e. h e tt)
 kind_writes library (kind.Command (command.Storage s)) h = storage_writes library s h
 kind_writes library k h = refl
@@ -74,18 +82,24 @@ kind_writes library k h = refl
 not_refused : (r : Result Edges Refusal) (edges : Edges) → r ≡ Ok edges → IsErr r → ⊥
 not_refused r edges h e = absurd (grind arith)
 
-pub writes_nothing : (library : Library) (x : Placed) (facts : Facts) (edges : Edges) → x.library ≡ names_macro library (Some x.element) → transfer x facts ≡ Ok edges → writes_macro library (Some x.element) ≡ false
-writes_nothing library x facts edges names h = kind_writes library x.element.kind (λ e writes. not_refused (transfer x facts) edges h (library_stays x facts (names ∙ e) writes))
+pub writes_nothing : (library : Library) (x : Placed) (facts : Facts) (edges : Edges)
+    → x.library ≡ names_macro library (Some x.element) → transfer x facts ≡ Ok edges
+    → writes_macro library (Some x.element) ≡ false
+writes_nothing library x facts edges names h =
+    kind_writes library x.element.kind
+    (λ e writes. not_refused (transfer x facts) edges h (library_stays x facts (names ∙ e) writes))
 
 -- ---- no file is opened or closed
 never : (r : Result KnownTaken Refusal) (edges : Edges) → (r >>= (λ taken. Err refusal.Unverified)) ≡ Ok edges → ⊥
 never r edges h = absurd (grind arith)
 
-kind_no_file : (k : Kind) (x : Placed) (answer : Option Answer) (facts : Facts) (edges : Edges) → edges_of k x answer facts ≡ Ok edges → is_of_files k ≡ false
+kind_no_file : (k : Kind) (x : Placed) (answer : Option Answer) (facts : Facts) (edges : Edges)
+    → edges_of k x answer facts ≡ Ok edges → is_of_files k ≡ false
 kind_no_file (kind.File f) x answer facts edges h = absurd (never (arguments_of facts.arguments.level) edges h)
 kind_no_file k x answer facts edges h = refl
 
-no_file : (x : Placed) (facts : Facts) (edges : Edges) → transfer x facts ≡ Ok edges → is_of_files x.element.kind ≡ false
+no_file : (x : Placed) (facts : Facts) (edges : Edges) → transfer x facts ≡ Ok edges
+    → is_of_files x.element.kind ≡ false
 unfolding transfer
 no_file x facts edges h = kind_no_file x.element.kind x (answer_for x.element.kind facts) (without_answer facts) edges h
 
@@ -110,12 +124,14 @@ search_long search.FindInPages h = refl
 search_long search.ReplaceInPages h = refl
 search_long q h = absurd (grind arith)
 
-under_long : (k : Kind) (run : Run) (facts : Facts) (x : Placed) (edges : Edges) (old u : State) (rest : ℕ) → KindUnderway k run facts x edges old rest u → is_long k ≡ true
+under_long : (k : Kind) (run : Run) (facts : Facts) (x : Placed) (edges : Edges) (old u : State) (rest : ℕ)
+    → KindUnderway k run facts x edges old rest u → is_long k ≡ true
 under_long (kind.Page p) run facts x edges old u rest h = page_long p h.0
 under_long (kind.Search q) run facts x edges old u rest h = search_long q h.0
 under_long k run facts x edges old u rest h = absurd h
 
-under_left : (k : Kind) (run : Run) (facts : Facts) (x : Placed) (edges : Edges) (old u : State) (rest : ℕ) → KindUnderway k run facts x edges old rest u → (n : ℕ) × (u.left ≡ Some n)
+under_left : (k : Kind) (run : Run) (facts : Facts) (x : Placed) (edges : Edges) (old u : State) (rest : ℕ)
+    → KindUnderway k run facts x edges old rest u → (n : ℕ) × (u.left ≡ Some n)
 under_left (kind.Page p) run facts x edges old u rest h = (rest, h.1)
 under_left (kind.Search q) run facts x edges old u rest h = h.1
 under_left k run facts x edges old u rest h = absurd h
@@ -125,7 +141,8 @@ left_long e None h = tt
 left_long e (Some n) h = h
 
 -- ---- nothing is left where an element ends
-ends_done : (k : Kind) (run : Run) (facts : Facts) (x : Placed) (edges : Edges) (s new : State) → s.left ≡ None → KindEnds k run facts x edges s new → new.left ≡ None
+ends_done : (k : Kind) (run : Run) (facts : Facts) (x : Placed) (edges : Edges) (s new : State) → s.left ≡ None
+    → KindEnds k run facts x edges s new → new.left ≡ None
 ends_done (kind.Flow f) run facts x edges s new none h = ap (λ (s : State). s.left) h.gone ∙ none
 ends_done (kind.Call c) run facts x edges s new none h = ap (λ (s : State). s.left) h.gone ∙ none
 ends_done (kind.Search q) run facts x edges s new none (inl h) = h.done
@@ -139,7 +156,8 @@ pages_by rules k = is_second rules && turns_pages_by k
 abbrev is_paged_by : Rules → Option Element → Bool
 is_paged_by rules read = is_second rules && option_map_or (λ (e : Element). turns_pages_by e.kind) read false
 
-unread_is : (k : Kind) (facts : Facts) (unread : ℕ) → unread_left k facts unread ≡ (if pages_by facts.rules k then unread else 0)
+unread_is : (k : Kind) (facts : Facts) (unread : ℕ)
+    → unread_left k facts unread ≡ (if pages_by facts.rules k then unread else 0)
 unread_is (kind.Search q) facts unread = by (is_in_pages q) (is_second facts.rules)
   where
     by : (a b : Bool) → Path ℕ (if a && b then unread else 0) (if b && a then unread else 0)
@@ -153,10 +171,14 @@ unread_is k facts unread = by (is_second facts.rules)
     by true = refl
     by false = refl
 
-left_apart : (k : Kind) (rules : Rules) (paged : Bool) (j most now before : ℕ) → (paged ≡ false → pages_by rules k ≡ false) → now ≤ before → j + (if pages_by rules k then now else 0) ≤ most + (if pages_by rules k then before else 0) → j + (if paged then now else 0) ≤ most + (if paged then before else 0)
+left_apart : (k : Kind) (rules : Rules) (paged : Bool) (j most now before : ℕ)
+    → (paged ≡ false → pages_by rules k ≡ false) → now ≤ before
+    → j + (if pages_by rules k then now else 0) ≤ most + (if pages_by rules k then before else 0)
+    → j + (if paged then now else 0) ≤ most + (if paged then before else 0)
 left_apart k rules paged j most now before none less h = by paged (pages_by rules k) none h
   where
-    by : (p b : Bool) → (p ≡ false → b ≡ false) → j + (if b then now else 0) ≤ most + (if b then before else 0) → j + (if p then now else 0) ≤ most + (if p then before else 0)
+    by : (p b : Bool) → (p ≡ false → b ≡ false) → j + (if b then now else 0) ≤ most + (if b then before else 0)
+        → j + (if p then now else 0) ≤ most + (if p then before else 0)
     by true true none h = h
     by true false none h = omega (arith, h, less)
     by false false none h = h
@@ -170,16 +192,21 @@ none_later : (a b : Bool) → (a || b) ≡ false → b ≡ false
 none_later false b h = h
 none_later true b h = absurd (cc)
 
-none_paged_from : (table : Table) (k j : ℕ) (rest : List Node) (node : Node) → is_paged_from table k rest ≡ false → slice_get rest j ≡ Some node → is_paged_at table (k + j) node ≡ false
+none_paged_from : (table : Table) (k j : ℕ) (rest : List Node) (node : Node) → is_paged_from table k rest ≡ false
+    → slice_get rest j ≡ Some node → is_paged_at table (k + j) node ≡ false
 none_paged_from table k j [] node none at = absurd (cc)
 none_paged_from table k zero (x ∷ rest) node none at = search (none_first, arith)
 none_paged_from table k (suc j) (x ∷ rest) node none at =
     let z : suc k + j ≡ k + suc j = omega arith in
-    subst (λ i. is_paged_at table i node ≡ false) z (none_paged_from table (suc k) j rest node (none_later (is_paged_at table k x) (is_paged_from table (suc k) rest) none) at)
+    subst (λ i. is_paged_at table i node ≡ false) z
+    (none_paged_from table (suc k) j rest node
+    (none_later (is_paged_at table k x) (is_paged_from table (suc k) rest) none) at)
 
-none_paged : (table : Table) (nodes : List Node) (number : ℕ) (node : Node) → is_paged_from table 1 nodes ≡ false → numbered nodes number ≡ Some node → is_paged_at table number node ≡ false
+none_paged : (table : Table) (nodes : List Node) (number : ℕ) (node : Node) → is_paged_from table 1 nodes ≡ false
+    → numbered nodes number ≡ Some node → is_paged_at table number node ≡ false
 none_paged table nodes zero node none at = absurd (cc)
-none_paged table nodes (suc k) node none at = let z : 1 + k ≡ suc k = omega arith in subst (λ i. is_paged_at table i node ≡ false) z (none_paged_from table 1 k nodes node none at)
+none_paged table nodes (suc k) node none at = let z : 1 + k ≡ suc k = omega arith in
+    subst (λ i. is_paged_at table i node ≡ false) z (none_paged_from table 1 k nodes node none at)
 
 -- ---- the steps of an element
 pub record Facts_laws : Type 0 where
@@ -193,7 +220,12 @@ module _ (laws : Facts_laws) (ground : Ground) (arrival : Arrival ground) where
   open ground use {library, entry, nodes, table, n, below, are}
   open arrival use {number, turns, s, here}
 
-  module _ (e : Element) (reads : here.node.element ≡ Some e) (edges : Edges) (leads : edges_at nodes here.node here.facts ≡ Ok edges) (most : Polynomial) (takes : steps e.kind here.facts ≡ Ok most) (fits : FitsOn (run_at library n below turns) edges) (begins : BeginsAt (run_at library n below turns) here.facts (placed nodes here.node e) s) (wholes : (k : ℕ) (u : State) → Reaches k s u → IsWhole u.world.kept) (inside : (q : Search) → e.kind ≡ kind.Search q → (placed nodes here.node e).colon ≡ false → HasLoop s.frames.running) where
+  module _ (e : Element) (reads : here.node.element ≡ Some e) (edges : Edges)
+      (leads : edges_at nodes here.node here.facts ≡ Ok edges) (most : Polynomial)
+      (takes : steps e.kind here.facts ≡ Ok most) (fits : FitsOn (run_at library n below turns) edges)
+      (begins : BeginsAt (run_at library n below turns) here.facts (placed nodes here.node e) s)
+      (wholes : (k : ℕ) (u : State) → Reaches k s u → IsWhole u.world.kept) (inside : (q : Search)
+      → e.kind ≡ kind.Search q → (placed nodes here.node e).colon ≡ false → HasLoop s.frames.running) where
     abbrev run_here : Run
     run_here = run_at library n below turns
 
@@ -212,9 +244,11 @@ module _ (laws : Facts_laws) (ground : Ground) (arrival : Arrival ground) where
 
     last_of : (u : State) (rest : ℕ) → At u rest → IsLast here.node.element s u
     last_of u rest (inl same) = Alone same
-    last_of u rest (inr under) = Again under.frames (subst IsLong (sym reads) (under_long e.kind run_here here.facts x edges s u rest under.work))
+    last_of u rest (inr under) = Again under.frames
+        (subst IsLong (sym reads) (under_long e.kind run_here here.facts x edges s u rest under.work))
 
-    amid_of : (u : State) (rest : ℕ) → IsUnderway e.kind run_here here.facts x edges s rest u → IsAmid here.node.element s u
+    amid_of : (u : State) (rest : ℕ) → IsUnderway e.kind run_here here.facts x edges s rest u
+        → IsAmid here.node.element s u
     amid_of u rest under =
         let left = under_left e.kind run_here here.facts x edges s u rest under.work in
         record {
@@ -225,23 +259,29 @@ module _ (laws : Facts_laws) (ground : Ground) (arrival : Arrival ground) where
         }
 
     left_at : (u : State) (rest : ℕ) → At u rest → IsLeftAt here.node.element u.left
-    left_at u rest (inl same) = subst (λ left. IsLeftAt here.node.element left) (sym (ap (λ (s : State). s.left) same ∙ here.begins)) tt
-    left_at u rest (inr under) = subst (λ read. IsLeftAt read u.left) (sym reads) (left_long e u.left (under_long e.kind run_here here.facts x edges s u rest under.work))
+    left_at u rest (inl same) = subst (λ left. IsLeftAt here.node.element left)
+        (sym (ap (λ (s : State). s.left) same ∙ here.begins)) tt
+    left_at u rest (inr under) = subst (λ read. IsLeftAt read u.left) (sym reads)
+        (left_long e u.left (under_long e.kind run_here here.facts x edges s u rest under.work))
 
     position_is : (u : State) (rest : ℕ) → At u rest → here.node.stand.position ≡ position_of u
     position_is u rest at = here.position ∙ ap position_of_frames (sym (frames_same u rest at))
 
-    loaded_next : (u new : State) (rest : ℕ) → At u rest → IsLoaded library u.world.kept → step u ≡ Next new → IsLoaded library new.world.kept
+    loaded_next : (u new : State) (rest : ℕ) → At u rest → IsLoaded library u.world.kept → step u ≡ Next new
+        → IsLoaded library new.world.kept
     loaded_next u new rest at loaded goes =
         let linked = are.each number here.node here.at in
-        laws.loaded library u new (Some e) loaded (writes_nothing library x here.facts edges (linked.names ∙ ap (names_macro library) reads) knows)
+        laws.loaded library u new (Some e) loaded
+        (writes_nothing library x here.facts edges (linked.names ∙ ap (names_macro library) reads) knows)
         (ap read_at (sym (position_is u rest at)) ∙ (linked.reads ∙ ap Ok reads)) goes
 
     abbrev HasOpen : State → Type 0
     HasOpen u = AreOpen (needs_in nodes table) u.world.files
 
-    read_there : (u : State) (rest : ℕ) → At u rest → element_at u.frames.running.text u.frames.running.place ≡ Ok (Some e)
-    read_there u rest at = ap (λ (frames : Frames). element_at frames.running.text frames.running.place) (frames_same u rest at) ∙ begins.read
+    read_there : (u : State) (rest : ℕ) → At u rest
+        → element_at u.frames.running.text u.frames.running.place ≡ Ok (Some e)
+    read_there u rest at = ap (λ (frames : Frames). element_at frames.running.text frames.running.place)
+        (frames_same u rest at) ∙ begins.read
 
     none_there : (u : State) (rest : ℕ) → At u rest → ReadsNoFileCommand u
     none_there u rest at = reads_none u (Some e) (read_there u rest at) (no_file x here.facts edges knows)
@@ -252,7 +292,11 @@ module _ (laws : Facts_laws) (ground : Ground) (arrival : Arrival ground) where
         (laws.files u new (Some e) (no_file x here.facts edges knows) (read_there u rest at) goes) files
 
     -- the step that ends it
-    module _ (j : ℕ) (u new : State) (rest : ℕ) (at : At u rest) (came : Reaches j s u) (none : NoFileCommands s j) (loaded : IsLoaded library u.world.kept) (files : HasOpen u) (goes : step u ≡ Next new) (few : suc j + unread_left e.kind here.facts (unread_of new.world) ≤ value most n + unread_left e.kind here.facts (unread_of s.world)) (amid : AreAmid here.node.element s j) (ends : KindEnds e.kind run_here here.facts x edges s new) where
+    module _ (j : ℕ) (u new : State) (rest : ℕ) (at : At u rest) (came : Reaches j s u) (none : NoFileCommands s j)
+        (loaded : IsLoaded library u.world.kept) (files : HasOpen u) (goes : step u ≡ Next new)
+        (few : suc j + unread_left e.kind here.facts (unread_of new.world) ≤ value most n + unread_left e.kind
+        here.facts (unread_of s.world)) (amid : AreAmid here.node.element s j)
+        (ends : KindEnds e.kind run_here here.facts x edges s new) where
       done : new.left ≡ None
       done = ends_done e.kind run_here here.facts x edges s new here.begins ends
 
@@ -261,19 +305,29 @@ module _ (laws : Facts_laws) (ground : Ground) (arrival : Arrival ground) where
       moved (Stayed st) = let z : None ≡ Some st.n = sym done ∙ st.left in absurd (cc)
 
       went : GoesTo (stands nodes entry) number here.node u new
-      went = moved (laws.along library entry nodes number here.node u new are here.at (position_is u rest at) (left_at u rest at) loaded goes)
+      went = moved (laws.along library entry nodes number here.node u new are here.at (position_is u rest at)
+          (left_at u rest at) loaded goes)
 
       reached_next : Reaches (suc j) s new
       unfolding run
       reached_next = ap go_on came ∙ goes
 
       coming : Comes nodes here.node here.facts went.way run_here s new
-      coming = element_comes nodes here.node here.facts edges run_here s u new leads e reads (last_of u rest at) inside went.way went.was ends
+      coming = element_comes nodes here.node here.facts edges run_here s u new leads e reads
+          (last_of u rest at) inside went.way went.was ends
 
       few_apart : suc j + apart_of nodes table new.world ≤ value most n + apart_of nodes table s.world
-      few_apart = left_apart e.kind here.facts.rules (is_paged_from table 1 nodes) (suc j) (value most n) (unread_of new.world) (unread_of s.world)
-          (λ none. sym (ap (is_paged_by here.facts.rules) reads) ∙ (sym (ap (turns_pages here.node) here.known) ∙ none_paged table nodes number here.node none here.at)) coming.less
-          (omega (arith, few, unread_is e.kind here.facts (unread_of new.world), unread_is e.kind here.facts (unread_of s.world)))
+      few_apart = left_apart e.kind here.facts.rules (is_paged_from table 1 nodes) (suc j) (value most n)
+          (unread_of new.world) (unread_of s.world)
+          (λ none. sym (ap (is_paged_by here.facts.rules) reads)
+          ∙ (sym (ap (turns_pages here.node) here.known) ∙ none_paged table nodes number here.node none here.at))
+          coming.less
+          (omega (
+            arith,
+            few,
+            unread_is e.kind here.facts (unread_of new.world),
+            unread_is e.kind here.facts (unread_of s.world),
+          ))
 
       ending : Goes library entry nodes table n below number turns s here
       ending = record {
@@ -284,7 +338,8 @@ module _ (laws : Facts_laws) (ground : Ground) (arrival : Arrival ground) where
           next = new;
           reaches = came;
           steps = goes;
-          few = let e2 : value_of n (steps_of here.node.element here.facts) ≡ value most n = ap (value_of n) (ap (λ read. steps_of read here.facts) reads ∙ takes) in omega (arith, e2, few_apart);
+          few = let e2 : value_of n (steps_of here.node.element here.facts) ≡ value most n =
+              ap (value_of n) (ap (λ read. steps_of read here.facts) reads ∙ takes) in omega (arith, e2, few_apart);
           none = none_more j s u none came (none_there u rest at);
           again = last_of u rest at;
           goes = went;
@@ -299,10 +354,18 @@ module _ (laws : Facts_laws) (ground : Ground) (arrival : Arrival ground) where
     unfolding run
     reached j u new came goes = ap go_on came ∙ goes
 
-    proceeding : (fuel j : ℕ) (u : State) (rest : ℕ) → At u rest → Reaches j s u → NoFileCommands s j → IsLoaded library u.world.kept → HasOpen u → j + rest ≤ value most n + unread_left e.kind here.facts (unread_of s.world) → rest < fuel → AreAmid here.node.element s j → (o : Outcome) → step u ≡ o → Proceeds e.kind run_here here.facts x edges s rest o → Goes library entry nodes table n below number turns s here
-    proceeding (suc fuel) j u rest at came none loaded files few l amid (Next new) goes (inl p) = ending j u new rest at came none loaded files goes (omega (arith, p.0, few)) amid p.1
+    proceeding : (fuel j : ℕ) (u : State) (rest : ℕ) → At u rest → Reaches j s u → NoFileCommands s j
+        → IsLoaded library u.world.kept → HasOpen u
+        → j + rest ≤ value most n + unread_left e.kind here.facts (unread_of s.world) → rest < fuel
+        → AreAmid here.node.element s j → (o : Outcome) → step u ≡ o
+        → Proceeds e.kind run_here here.facts x edges s rest o
+        → Goes library entry nodes table n below number turns s here
+    proceeding (suc fuel) j u rest at came none loaded files few l amid (Next new) goes (inl p) =
+        ending j u new rest at came none loaded files goes (omega (arith, p.0, few)) amid p.1
     proceeding (suc fuel) j u rest at came none loaded files few l amid (Next new) goes (inr p) =
-        proceeding fuel (suc j) new p.0 (inr p.2) (reached j u new came goes) (none_more j s u none came (none_there u rest at)) (loaded_next u new rest at loaded goes) (open_next u new rest at files goes) (omega (arith, p.1, few)) (omega (arith, p.1, l))
+        proceeding fuel (suc j) new p.0 (inr p.2) (reached j u new came goes)
+        (none_more j s u none came (none_there u rest at)) (loaded_next u new rest at loaded goes)
+        (open_next u new rest at files goes) (omega (arith, p.1, few)) (omega (arith, p.1, l))
         (more_amid here.node.element s new j amid (reached j u new came goes) (amid_of new p.0 p.2)) (step new) refl
         (laws.later run_here here.facts x edges most s new p.0 begins knows fits takes p.2)
     proceeding fuel j u rest at came none loaded files few l amid o goes p = absurd (grind arith)
@@ -312,4 +375,7 @@ module _ (laws : Facts_laws) (ground : Ground) (arrival : Arrival ground) where
     reached_here = refl
 
     pub passing : HasOpen s → Goes library entry nodes table n below number turns s here
-    passing files = proceeding (suc (value most n + unread_left e.kind here.facts (unread_of s.world))) 0 s (value most n + unread_left e.kind here.facts (unread_of s.world)) (inl refl) reached_here (none_yet s) here.loaded files (omega arith) (omega arith) (none_amid here.node.element s) (step s) refl (laws.first run_here here.facts x edges most s begins knows fits takes)
+    passing files = proceeding (suc (value most n + unread_left e.kind here.facts (unread_of s.world))) 0 s
+        (value most n + unread_left e.kind here.facts (unread_of s.world)) (inl refl) reached_here
+        (none_yet s) here.loaded files (omega arith) (omega arith) (none_amid here.node.element s) (step s) refl
+        (laws.first run_here here.facts x edges most s begins knows fits takes)

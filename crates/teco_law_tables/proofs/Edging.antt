@@ -1,5 +1,6 @@
 -- The edge that goes on behind an element fits, where what is known at the nodes does.
-use Rattle.std.proofs.Common.{◌≡◌, ℕ, zero, suc, refl, sym, ap, ◌∙◌, subst, arith, List, length, nat_lt, false, Option, Some, None, MatchOption, Result, Ok, slice_get}
+use Rattle.std.proofs.Common.{◌≡◌, ℕ, zero, suc, refl, sym, ap, ◌∙◌, subst, arith, List, length, nat_lt, false}
+use Rattle.std.proofs.Common.{Option, Some, None, MatchOption, Result, Ok, slice_get}
 use Rattle.std.specs.Prelude.{⊤}
 use Rattle.std.proofs.lemmas.Bool.{ltb-false}
 use Rattle.teco_law_facts.specs.Describes.{Run}
@@ -27,28 +28,43 @@ use Rattle.teco_model.proofs.Chains.{bound}
 use Rattle.teco_law_tables.proofs.Lookup.{node_of}
 
 on_of : (r : Result Edges Refusal) (edges other : Edges) → r ≡ Ok edges → r ≡ Ok other → edges.on ≡ other.on
-on_of r edges other h g = let e : r ≡ Ok other = g in let f : edges ≡ other = same (sym h ∙ g) in ap (λ (edges : Edges). edges.on) f
+on_of r edges other h g = let e : r ≡ Ok other = g in let f : edges ≡ other = same (sym h ∙ g) in
+    ap (λ (edges : Edges). edges.on) f
   where
     same : Path (Result Edges Refusal) (Ok edges) (Ok other) → edges ≡ other
     same e = cc
 
-module _ (library : Library) (entry : ℕ) (nodes : List Node) (table : Table) (run : Run) (are : AreLinked library entry nodes) (passes : check_nodes nodes table ≡ Ok tt) (fit : (k : ℕ) (node : Node) (facts : Facts) → numbered nodes k ≡ Some node → facts_at table k ≡ Some facts → Fits run facts) where
-  fits_at : (target : ℕ) (facts : Facts) → nat_lt (length nodes) target ≡ false → facts_at table target ≡ Some facts → Fits run facts
+module _ (library : Library) (entry : ℕ) (nodes : List Node) (table : Table) (run : Run)
+    (are : AreLinked library entry nodes) (passes : check_nodes nodes table ≡ Ok tt)
+    (fit : (k : ℕ) (node : Node) (facts : Facts) → numbered nodes k ≡ Some node → facts_at table k ≡ Some facts
+    → Fits run facts) where
+  fits_at : (target : ℕ) (facts : Facts) → nat_lt (length nodes) target ≡ false → facts_at table target ≡ Some facts
+      → Fits run facts
   fits_at zero facts l known = absurd (cc)
-  fits_at (suc k) facts l known = let there = node_of nodes (suc k) (omega arith) (omega (arith, ltb-false (length nodes) (suc k) l)) in fit (suc k) there.0 facts there.1 known
+  fits_at (suc k) facts l known = let there =
+      node_of nodes (suc k) (omega arith) (omega (arith, ltb-false (length nodes) (suc k) l)) in
+      fit (suc k) there.0 facts there.1 known
 
-  module _ (number : ℕ) (node : Node) (e : Element) (facts : Facts) (edges : Edges) (reads : node.element ≡ Some e) (at : numbered nodes number ≡ Some node) (known : facts_at table number ≡ Some facts) (leads : edges_at nodes node facts ≡ Ok edges) where
-    on_fits : (way target : ℕ) → begins_turn node.element way ≡ false → along node.element way edges ≡ edges.on → slice_get node.ways way ≡ Some target → (o : Option Facts) → edges.on ≡ o → MatchOption o ⊤ (Fits run)
+  module _ (number : ℕ) (node : Node) (e : Element) (facts : Facts) (edges : Edges) (reads : node.element ≡ Some e)
+      (at : numbered nodes number ≡ Some node) (known : facts_at table number ≡ Some facts)
+      (leads : edges_at nodes node facts ≡ Ok edges) where
+    on_fits : (way target : ℕ) → begins_turn node.element way ≡ false → along node.element way edges ≡ edges.on
+        → slice_get node.ways way ≡ Some target → (o : Option Facts) → edges.on ≡ o → MatchOption o ⊤ (Fits run)
     on_fits way target turn is taken None on = tt
     on_fits way target turn is taken (Some next) on =
-        let within = way_within nodes table number node e facts next edges way target reads passes at known leads taken turn (is ∙ on) in
-        let covered = way_covered nodes table number node facts next edges way target passes at known leads taken turn (is ∙ on) within in
+        let within = way_within nodes table number node e facts next edges way target reads passes at known leads taken
+        turn (is ∙ on) in
+        let covered = way_covered nodes table number node facts next edges way target passes at known leads taken turn
+        (is ∙ on) within in
         fits_covered run covered.facts next covered.covered (fits_at target covered.facts within covered.known)
 
-    by_way : (k : Kind) → e.kind ≡ k → turns_by_kind k (on_way k) ≡ false → along_kind k (on_way k) edges ≡ edges.on → FitsOn run edges
+    by_way : (k : Kind) → e.kind ≡ k → turns_by_kind k (on_way k) ≡ false → along_kind k (on_way k) edges ≡ edges.on
+        → FitsOn run edges
     by_way k is turn on =
         let linked = are.each number node at in
-        let there = way_there library e node.stand.position linked.targets (stands nodes entry) (base_of node.element number node.stand.iterations) number node.stand node.ways (ap (λ read. ways_at library read node.stand.position) (sym reads) ∙ linked.goes) linked.leads in
+        let there = way_there library e node.stand.position linked.targets (stands nodes entry)
+        (base_of node.element number node.stand.iterations) number node.stand node.ways
+        (ap (λ read. ways_at library read node.stand.position) (sym reads) ∙ linked.goes) linked.leads in
         on_fits (on_way k) there.0
         (ap (λ read. begins_turn read (on_way k)) reads ∙ (ap (λ k'. turns_by_kind k' (on_way k)) is ∙ turn))
         (ap (λ read. along read (on_way k) edges) reads ∙ (ap (λ k'. along_kind k' (on_way k) edges) is ∙ on))
@@ -66,10 +82,14 @@ module _ (library : Library) (entry : ℕ) (nodes : List Node) (table : Table) (
 
     kind_fits : (k : Kind) → e.kind ≡ k → FitsOn run edges
     kind_fits (kind.Flow flow.Iterate) is = entered_fits is edges.on refl
-    kind_fits (kind.Flow flow.Otherwise) is = none_fits (on_of _ edges _ (kind_edges nodes node e (kind.Flow flow.Otherwise) facts edges reads is leads) refl)
-    kind_fits (kind.Flow (flow.GoAhead g)) is = none_fits (on_of _ edges _ (kind_edges nodes node e (kind.Flow (flow.GoAhead g)) facts edges reads is leads) refl)
+    kind_fits (kind.Flow flow.Otherwise) is =
+        none_fits (on_of _ edges _ (kind_edges nodes node e (kind.Flow flow.Otherwise) facts edges reads is leads) refl)
+    kind_fits (kind.Flow (flow.GoAhead g)) is =
+        none_fits (on_of _ edges _ (kind_edges nodes node e (kind.Flow (flow.GoAhead g)) facts edges reads is leads)
+        refl)
     kind_fits (kind.Flow flow.GoTo) is =
-        let taken = bound (arguments_of facts.arguments.level) _ edges (kind_edges nodes node e (kind.Flow flow.GoTo) facts edges reads is leads) in
+        let taken = bound (arguments_of facts.arguments.level) _ edges
+        (kind_edges nodes node e (kind.Flow flow.GoTo) facts edges reads is leads) in
         let alone = bound (without_value taken.before.value) _ edges taken.gives in
         none_fits (on_of _ edges _ alone.gives refl)
     kind_fits k is = by_way k is refl refl

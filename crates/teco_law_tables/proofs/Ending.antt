@@ -1,5 +1,7 @@
 -- A run with a closed table ends in time.
-use Rattle.std.proofs.Common.{◌≡◌, ◌⊎◌, inl, inr, ℕ, zero, suc, ◌+◌, ◌≤◌, ◌<◌, refl, sym, ap, ◌∙◌, subst, arith, List, [], ◌∷◌, map, length, get_or, Bool, true, false, if◌then◌else◌, Option, Some, None, option_map, Ok, is_some}
+use Rattle.std.proofs.Common.{◌≡◌, ◌⊎◌, inl, inr, ℕ, zero, suc, ◌+◌, ◌≤◌, ◌<◌, refl, sym, ap, ◌∙◌, subst, arith, List}
+use Rattle.std.proofs.Common.{[], ◌∷◌, map, length, get_or, Bool, true, false, if◌then◌else◌, Option, Some, None}
+use Rattle.std.proofs.Common.{option_map, Ok, is_some}
 use Rattle.std.specs.Prelude.{IsTrue}
 use Rattle.std.specs.List.{AllByRecursion}
 use Rattle.teco_verifier.specs.declared.rules.Rules.{Rules}
@@ -25,7 +27,8 @@ use Rattle.teco_model.specs.Paging.{unread_of}
 use Rattle.teco_law_facts.specs.SoundSteps.{AreOpen}
 use Rattle.teco_verifier.specs.table.Closed.{say_same, is_entry, check}
 use Rattle.teco_law_tables.specs.Ending.{Passes, ElementsPass, EndsWithin, start_given, RunsEndInTime}
-use Rattle.teco_law_tables.specs.Following.{OpenTurn, run_at, AreOpened, IsDescribed, held_of, loops_of, shown, is_paged_from, apart_of, pages_in}
+use Rattle.teco_law_tables.specs.Following.{OpenTurn, run_at, AreOpened, IsDescribed, held_of, loops_of, shown}
+use Rattle.teco_law_tables.specs.Following.{is_paged_from, apart_of, pages_in}
 use Rattle.teco_law_tables.specs.Laws.{TablesAreClosed}
 use Rattle.teco_law_tables.specs.Moving.{MovesOn, ComesOn, Over, On, StepsMove}
 use Rattle.teco_verifier.specs.table.Printed.{steps_of, needs_in}
@@ -67,9 +70,12 @@ module _ (laws : Laws) (c : Course) (pass : ElementsPass c.library c.entry c.nod
   pub closed : IsClosed (turning nodes table n)
   closed = laws.closed library entry nodes table n are passes
 
-  few_steps : (moves total k : ℕ) (last : Shown) → Came (turning nodes table n) moves zeroth total last → k ≤ (turning nodes table n).own last.node + last.apart → total + k ≤ steps_in (turning nodes table n) + pages_in nodes table n
+  few_steps : (moves total k : ℕ) (last : Shown) → Came (turning nodes table n) moves zeroth total last
+      → k ≤ (turning nodes table n).own last.node + last.apart
+      → total + k ≤ steps_in (turning nodes table n) + pages_in nodes table n
   few_steps moves total k last c l =
-      let all = laws.bounded (turning nodes table n) zeroth moves (total + k) closed begins (came_takes (turning nodes table n) moves zeroth last total k c l) in
+      let all = laws.bounded (turning nodes table n) zeroth moves (total + k) closed begins
+      (came_takes (turning nodes table n) moves zeroth last total k c l) in
       omega (arith, all, paged)
 
   -- where a run has come to
@@ -78,26 +84,35 @@ module _ (laws : Laws) (c : Course) (pass : ElementsPass c.library c.entry c.nod
     pub moves : ℕ
     pub reached : Reaches total first s
     pub here : IsDescribed library nodes table n below number turns s
-    pub came : Came (turning nodes table n) moves zeroth total (shown nodes table number here.node.stand.iterations turns s.world)
+    pub came : Came (turning nodes table n) moves zeroth total
+        (shown nodes table number here.node.stand.iterations turns s.world)
     pub files : AreOpen (needs_in nodes table) s.world.files
     pub none : NoFileCommands first total
 
-  ends_here : (number : ℕ) (turns : List OpenTurn) (s : State) (at : At number turns s) → step s ≡ End s.world → EndsInTime
+  ends_here : (number : ℕ) (turns : List OpenTurn) (s : State) (at : At number turns s) → step s ≡ End s.world
+      → EndsInTime
   ends_here number turns s at e = record {
     steps = at.total;
     new = s.world;
-    few = let few = few_steps at.moves at.total 0 (shown nodes table number at.here.node.stand.iterations turns s.world) at.came (omega arith) in omega (arith, few);
+    few = let few = few_steps at.moves at.total 0 (shown nodes table number at.here.node.stand.iterations turns s.world)
+        at.came (omega arith) in omega (arith, few);
     none = at.none;
     ends = record { last = s; steps = at.reached; end = e };
   }
 
-  module _ (number : ℕ) (turns : List OpenTurn) (s : State) (at : At number turns s) (passing : Passes library entry nodes table n below number turns s at.here) where
-    own_there : suc passing.before + apart_of nodes table passing.next.world ≤ own_of n (numbered nodes number) (facts_at table number) + apart_of nodes table s.world
-    own_there = let e : own_of n (numbered nodes number) (facts_at table number) ≡ value_of n (steps_of at.here.node.element at.here.facts) = ap (λ (o : Option Node). own_of n o (facts_at table number)) at.here.at ∙ ap (own_of n (Some at.here.node)) at.here.known in omega (arith, e, passing.few)
+  module _ (number : ℕ) (turns : List OpenTurn) (s : State) (at : At number turns s)
+      (passing : Passes library entry nodes table n below number turns s at.here) where
+    own_there : suc passing.before + apart_of nodes table passing.next.world ≤ own_of n (numbered nodes number)
+        (facts_at table number) + apart_of nodes table s.world
+    own_there = let e : own_of n (numbered nodes number) (facts_at table number) ≡ value_of n
+        (steps_of at.here.node.element at.here.facts) =
+        ap (λ (o : Option Node). own_of n o (facts_at table number)) at.here.at
+        ∙ ap (own_of n (Some at.here.node)) at.here.known in omega (arith, e, passing.few)
 
     reaches_next : Reaches (at.total + suc passing.before) first passing.next
     unfolding run
-    reaches_next = reaches_on at.total (suc passing.before) first s passing.next at.reached (ap go_on passing.reaches ∙ passing.steps)
+    reaches_next = reaches_on at.total (suc passing.before) first s passing.next at.reached
+        (ap go_on passing.reaches ∙ passing.steps)
 
     none_next : NoFileCommands first (at.total + suc passing.before)
     none_next = none_on at.total (suc passing.before) first s at.none at.reached passing.none
@@ -111,54 +126,81 @@ module _ (laws : Laws) (c : Course) (pass : ElementsPass c.library c.entry c.nod
       ends = record { last = passing.next; steps = reaches_next; end = laws.over entry passing.next o };
     }
 
-    pub on_there : (m : MovesOn library nodes table n below number at.here.node turns s passing.goes.target passing.next) → At passing.goes.target m.later passing.next
+    pub on_there : (m : MovesOn library nodes table n below number at.here.node turns s passing.goes.target
+        passing.next) → At passing.goes.target m.later passing.next
     on_there m =
-        let came = came_on (turning nodes table n) at.moves zeroth (shown nodes table number at.here.node.stand.iterations turns s.world) (shown nodes table passing.goes.target m.there.stand.iterations m.later passing.next.world) at.total (suc passing.before) at.came m.move own_there in
-        let within = (laws.covered (turning nodes table n) zeroth (shown nodes table passing.goes.target m.there.stand.iterations m.later passing.next.world) (suc at.moves) closed begins (came_leads (turning nodes table n) (suc at.moves) zeroth (shown nodes table passing.goes.target m.there.stand.iterations m.later passing.next.world) (at.total + suc passing.before) came)).held in
+        let came = came_on (turning nodes table n) at.moves zeroth
+        (shown nodes table number at.here.node.stand.iterations turns s.world)
+        (shown nodes table passing.goes.target m.there.stand.iterations m.later passing.next.world) at.total
+        (suc passing.before) at.came m.move own_there in
+        let within =
+        (laws.covered (turning nodes table n) zeroth
+        (shown nodes table passing.goes.target m.there.stand.iterations m.later passing.next.world)
+        (suc at.moves) closed begins (came_leads (turning nodes table n) (suc at.moves) zeroth
+        (shown nodes table passing.goes.target m.there.stand.iterations m.later passing.next.world)
+        (at.total + suc passing.before) came)).held in
         let next = m.held within in
         record {
           total = at.total + suc passing.before;
           moves = suc at.moves;
           reached = reaches_next;
           here = next;
-          came = subst (λ (node : Node). Came (turning nodes table n) (suc at.moves) zeroth (at.total + suc passing.before) (shown nodes table passing.goes.target node.stand.iterations m.later passing.next.world)) (same_node nodes passing.goes.target m.there next.node m.at next.at) came;
+          came = subst (λ (node : Node). Came (turning nodes table n) (suc at.moves) zeroth
+              (at.total + suc passing.before)
+              (shown nodes table passing.goes.target node.stand.iterations m.later passing.next.world))
+              (same_node nodes passing.goes.target m.there next.node m.at next.at) came;
           files = passing.files;
           none = none_next;
         }
 
-    more_there : (m : MovesOn library nodes table n below number at.here.node turns s passing.goes.target passing.next) → at.total + 1 ≤ (on_there m).total
+    more_there : (m : MovesOn library nodes table n below number at.here.node turns s passing.goes.target passing.next)
+        → at.total + 1 ≤ (on_there m).total
     unfolding on_there
     more_there m = omega arith
 
-  walk : (fuel : ℕ) (number : ℕ) (turns : List OpenTurn) (s : State) (at : At number turns s) → steps_in (turning nodes table n) + pages_in nodes table n < at.total + fuel → EndsInTime
+  walk : (fuel : ℕ) (number : ℕ) (turns : List OpenTurn) (s : State) (at : At number turns s)
+      → steps_in (turning nodes table n) + pages_in nodes table n < at.total + fuel → EndsInTime
   walk zero number turns s at l =
-      let few = few_steps at.moves at.total 0 (shown nodes table number at.here.node.stand.iterations turns s.world) at.came (omega arith) in
+      let few = few_steps at.moves at.total 0 (shown nodes table number at.here.node.stand.iterations turns s.world)
+      at.came (omega arith) in
       absurd (omega (arith, few, l))
-  walk (suc fuel) number turns s at l = go (pass number turns at.total s at.reached at.here at.files) (λ p m. walk fuel p.goes.target m.later p.next (on_there number turns s at p m) (omega (arith, l, more_there number turns s at p m)))
+  walk (suc fuel) number turns s at l =
+      go (pass number turns at.total s at.reached at.here at.files)
+      (λ p m. walk fuel p.goes.target m.later p.next (on_there number turns s at p m)
+      (omega (arith, l, more_there number turns s at p m)))
     where
-      by_end : (p : Passes library entry nodes table n below number turns s at.here) → ComesOn library entry nodes table n below number at.here.node turns s p.goes.target p.next →
-          (MovesOn library nodes table n below number at.here.node turns s p.goes.target p.next → EndsInTime) → EndsInTime
+      by_end : (p : Passes library entry nodes table n below number turns s at.here)
+          → ComesOn library entry nodes table n below number at.here.node turns s p.goes.target p.next →
+          (MovesOn library nodes table n below number at.here.node turns s p.goes.target p.next → EndsInTime)
+          → EndsInTime
       by_end p (Over o) on = ends_there number turns s at p o
       by_end p (On m) on = on m
 
       go : (step s ≡ End s.world) ⊎ Passes library entry nodes table n below number turns s at.here →
-          ((p : Passes library entry nodes table n below number turns s at.here) → MovesOn library nodes table n below number at.here.node turns s p.goes.target p.next → EndsInTime) → EndsInTime
+          ((p : Passes library entry nodes table n below number turns s at.here)
+          → MovesOn library nodes table n below number at.here.node turns s p.goes.target p.next → EndsInTime)
+          → EndsInTime
       go (inl e) on = ends_here number turns s at e
-      go (inr p) on = by_end p (laws.moves library entry nodes table n below number turns s p.last p.next are passes at.here p.again p.goes p.comes p.loaded p.whole) (on p)
+      go (inr p) on =
+          by_end p (laws.moves library entry nodes table n below number turns s p.last p.next are passes at.here p.again
+          p.goes p.comes p.loaded p.whole) (on p)
 
 -- ---- the start
 -- N holds all there, whatever is known of the argument
-held_given : (rules : Rules) (library : Library) (argument : Option ArgumentRange) (n : ℕ) → value (facts_given (entry_of rules library argument)).held n ≡ n
+held_given : (rules : Rules) (library : Library) (argument : Option ArgumentRange) (n : ℕ)
+    → value (facts_given (entry_of rules library argument)).held n ≡ n
 held_given rules library None n = (values_of_constants n 0).1
 held_given rules library (Some range) n = (values_of_constants n 0).1
 
 -- the texts of the library have their lengths there
-length_at : (library : Library) (r m : ℕ) → get_or (map (option_map length) library) r None ≡ Some m → (text : List ℕ) × (get_or library r None ≡ Some text) × (length text ≡ m)
+length_at : (library : Library) (r m : ℕ) → get_or (map (option_map length) library) r None ≡ Some m
+    → (text : List ℕ) × (get_or library r None ≡ Some text) × (length text ≡ m)
 length_at (Some text ∷ library) zero m h = (text, refl, cc)
 length_at (o ∷ library) (suc r) m h = length_at library r m h
 length_at library r m h = absurd (grind arith)
 
-have_lengths : (library : Library) (kept : Kept) → IsLoaded library kept → HaveLengths (map (option_map length) library) kept
+have_lengths : (library : Library) (kept : Kept) → IsLoaded library kept
+    → HaveLengths (map (option_map length) library) kept
 have_lengths library kept loaded r m h =
     let text = length_at library r m h in
     ap length (loaded.holds r text.0 text.1) ∙ text.2
@@ -186,7 +228,23 @@ pub record Call : Type 0 where
   pub entering : IsEntry n (unread_of world) world.kept
 
 module _ (call : Call) where
-  open call use {library, entry, rules, argument, given, nodes, table, n, world, are, passes, asked, loaded, whole, entering}
+  open call use {
+    library,
+    entry,
+    rules,
+    argument,
+    given,
+    nodes,
+    table,
+    n,
+    world,
+    are,
+    passes,
+    asked,
+    loaded,
+    whole,
+    entering,
+  }
 
   abbrev pub first : State
   first = start_given entry given world
@@ -200,14 +258,18 @@ module _ (call : Call) where
     known : facts_at table 1 ≡ Some facts
     same : IsTrue (say_same facts (facts_given (entry_of rules library argument)))
 
-  first_known : (node : Node) → numbered nodes 1 ≡ Some node → node.stand ≡ beginning entry → (o : Option Facts) → facts_at table 1 ≡ o → is_entry (entry_of rules library argument) o ≡ true → First
+  first_known : (node : Node) → numbered nodes 1 ≡ Some node → node.stand ≡ beginning entry → (o : Option Facts)
+      → facts_at table 1 ≡ o → is_entry (entry_of rules library argument) o ≡ true → First
   first_known node at stand None known e = absurd (cc)
-  first_known node at stand (Some facts) known e = record { node = node; facts = facts; at = at; stand = stand; known = known; same = e }
+  first_known node at stand (Some facts) known e =
+      record { node = node; facts = facts; at = at; stand = stand; known = known; same = e }
 
   first_at : Target nodes entry 1 (beginning entry) → First
   unfolding blank_len
-  first_at (AtNode node at stand) = first_known node at stand _ refl (entry_checked nodes table (entry_of rules library argument) passes)
-  first_at (AtEnd e) = let z : 2 ≡ 0 = ap (λ (stand : Stand). stand.position.running.place) e in absurd (omega (arith, z))
+  first_at (AtNode node at stand) =
+      first_known node at stand _ refl (entry_checked nodes table (entry_of rules library argument) passes)
+  first_at (AtEnd e) = let z : 2 ≡ 0 = ap (λ (stand : Stand). stand.position.running.place) e in
+      absurd (omega (arith, z))
 
   one : First
   one = first_at (target_is nodes entry 1 (beginning entry) are.first)
@@ -216,7 +278,9 @@ module _ (call : Call) where
   none_open = ap (λ (stand : Stand). stand.iterations) one.stand
 
   held_one : held_at nodes table n 1 ≡ n
-  held_one = held_known nodes table n 1 one.facts one.known ∙ (held_same one.facts (facts_given (entry_of rules library argument)) n one.same ∙ held_given rules library argument n)
+  held_one = held_known nodes table n 1 one.facts one.known
+      ∙ (held_same one.facts (facts_given (entry_of rules library argument)) n one.same
+      ∙ held_given rules library argument n)
 
   described : IsDescribed library nodes table n world.kept.registers.stack 1 [] first
   described = record {
@@ -229,14 +293,25 @@ module _ (call : Call) where
     loaded = loaded;
     whole = whole;
     opened = subst (λ begins. AreOpened nodes table n begins [] []) (sym none_open) tt;
-    described = covers_are_sound (run_at library n world.kept.registers.stack []) one.facts (facts_given (entry_of rules library argument)) (unread_of world) world.kept (arguments_given given) whole (and_both _ _ one.same).0 (entry_is_sound n (unread_of world) world.kept (entry_of rules library argument) (is_macro library) given whole entering (have_lengths library world.kept loaded) asked);
+    described = covers_are_sound (run_at library n world.kept.registers.stack []) one.facts
+        (facts_given (entry_of rules library argument)) (unread_of world) world.kept (arguments_given given) whole
+        (and_both _ _ one.same).0 (entry_is_sound n (unread_of world) world.kept (entry_of rules library argument)
+        (is_macro library) given whole entering (have_lengths library world.kept loaded) asked);
   }
 
   abbrev zeroth : Shown
   zeroth = shown nodes table 0 [] [] world
 
   pub begins : IsStart (turning nodes table n) zeroth
-  begins = record { node = refl; some = omega arith; reached = refl; loops = refl; opened = refl; held = entering.held; ahead = entering.held }
+  begins = record {
+    node = refl;
+    some = omega arith;
+    reached = refl;
+    loops = refl;
+    opened = refl;
+    held = entering.held;
+    ahead = entering.held;
+  }
 
   pub paged : zeroth.apart ≤ pages_in nodes table n
   paged = by (is_paged_from table 1 nodes)
@@ -254,22 +329,36 @@ module _ (call : Call) where
     opened = ap (λ begins. loops_of begins []) none_open;
     held = omega (arith, held_one);
     ahead = omega (arith, held_one, entering.held);
-    falls = subst (AllByRecursion (λ l. FallFollows ((turning nodes table n).fall 0 l) ((turning nodes table n).fall 1 l) (held_of world) (held_of world))) (sym (iterations_are nodes 1 one.node one.at ∙ none_open)) tt;
+    falls = subst (AllByRecursion (λ l. FallFollows ((turning nodes table n).fall 0 l)
+        ((turning nodes table n).fall 1 l) (held_of world) (held_of world)))
+        (sym (iterations_are nodes 1 one.node one.at ∙ none_open)) tt;
   })
 
   came_first : Came (turning nodes table n) 1 zeroth 0 (shown nodes table 1 one.node.stand.iterations [] world)
-  came_first = came_on (turning nodes table n) 0 zeroth zeroth (shown nodes table 1 one.node.stand.iterations [] world) 0 0 (refl, refl) into_first (omega arith)
+  came_first = came_on (turning nodes table n) 0 zeroth zeroth (shown nodes table 1 one.node.stand.iterations [] world)
+      0 0 (refl, refl) into_first (omega arith)
 
   abbrev pub course : Course
   course = record {
-    ground = record { library = library; entry = entry; nodes = nodes; table = table; n = n; below = world.kept.registers.stack; are = are; passes = nodes_checked nodes table (entry_of rules library argument) passes };
+    ground = record {
+      library = library;
+      entry = entry;
+      nodes = nodes;
+      table = table;
+      n = n;
+      below = world.kept.registers.stack;
+      are = are;
+      passes =
+          nodes_checked nodes table (entry_of rules library argument) passes;
+    };
     first = first;
     zeroth = zeroth;
     begins = begins;
     paged = paged;
   }
 
-  pub at_first : (laws : Laws) (pass : ElementsPass library entry nodes table n world.kept.registers.stack first) → AreOpen (needs_in nodes table) world.files → At laws course pass 1 [] first
+  pub at_first : (laws : Laws) (pass : ElementsPass library entry nodes table n world.kept.registers.stack first)
+      → AreOpen (needs_in nodes table) world.files → At laws course pass 1 [] first
   unfolding described one
   at_first laws pass files = record {
     total = 0;
@@ -283,6 +372,24 @@ module _ (call : Call) where
 
 pub runs_end_in_time : Laws → RunsEndInTime
 unfolding at_first
-runs_end_in_time laws library entry rules argument given nodes table n world are passes asked loaded whole entering files pass =
-    let call : Call = record { library = library; entry = entry; rules = rules; argument = argument; given = given; nodes = nodes; table = table; n = n; world = world; are = are; passes = passes; asked = asked; loaded = loaded; whole = whole; entering = entering } in
-    walk laws (course call) pass (suc (steps_in (turning nodes table n) + pages_in nodes table n)) 1 [] (start_given entry given world) (at_first call laws pass files) (omega arith)
+runs_end_in_time laws library entry rules argument given nodes table n world are passes asked loaded whole entering
+    files pass =
+    let call : Call = record {
+      library = library;
+      entry = entry;
+      rules = rules;
+      argument = argument;
+      given = given;
+      nodes = nodes;
+      table = table;
+      n = n;
+      world = world;
+      are = are;
+      passes = passes;
+      asked = asked;
+      loaded = loaded;
+      whole = whole;
+      entering = entering;
+    } in
+    walk laws (course call) pass (suc (steps_in (turning nodes table n) + pages_in nodes table n)) 1 []
+    (start_given entry given world) (at_first call laws pass files) (omega arith)

@@ -1,5 +1,6 @@
 -- What is known of where an element stands: in which iteration, and where it jumps.
-use Rattle.std.proofs.Common.{◌≡◌, ℕ, ◌≤◌, ◌<◌, refl, sym, ap, ◌∙◌, subst, arith, List, [], ◌∷◌, ◌++◌, map, Bool, true, false, Option, Some, None, Ok}
+use Rattle.std.proofs.Common.{◌≡◌, ℕ, ◌≤◌, ◌<◌, refl, sym, ap, ◌∙◌, subst, arith, List, [], ◌∷◌, ◌++◌, map, Bool}
+use Rattle.std.proofs.Common.{true, false, Option, Some, None, Ok}
 use Rattle.std.specs.Prelude.{IsTrue}
 use Rattle.std.specs.List.{AllByRecursion}
 use Rattle.std.specs.Option.{option_map_or}
@@ -54,8 +55,10 @@ record Head (nodes : List Node) (table : Table) (n : ℕ) (begins : List ℕ) (l
   is : begins ≡ begin ∷ outer
   own : IsOpened nodes table n begin loop turn turns
 
-head : (nodes : List Node) (table : Table) (n : ℕ) (begins : List ℕ) (loop : Loop) (loops : List Loop) (turns : List OpenTurn) → AreOpened nodes table n begins (loop ∷ loops) turns → Head nodes table n begins loop
-head nodes table n (b ∷ begins) loop loops (t ∷ turns) h = record { begin = b; outer = begins; turn = t; turns = turns; is = refl; own = h.0 }
+head : (nodes : List Node) (table : Table) (n : ℕ) (begins : List ℕ) (loop : Loop) (loops : List Loop)
+    (turns : List OpenTurn) → AreOpened nodes table n begins (loop ∷ loops) turns → Head nodes table n begins loop
+head nodes table n (b ∷ begins) loop loops (t ∷ turns) h =
+    record { begin = b; outer = begins; turn = t; turns = turns; is = refl; own = h.0 }
 head nodes table n begins loop loops turns h = absurd (grind arith)
 
 record NotEmpty (is : List Iteration) : Type 0 where
@@ -63,15 +66,20 @@ record NotEmpty (is : List Iteration) : Type 0 where
   others : List Iteration
   are : is ≡ one ∷ others
 
-not_empty : (is js : List Iteration) (j : Iteration) (rest : List Iteration) → IsTrue (each_covers is_same_iteration is js) → js ≡ j ∷ rest → NotEmpty is
-not_empty [] js j rest c e = let z : IsTrue (each_covers is_same_iteration [] (j ∷ rest)) = subst (λ js. IsTrue (each_covers is_same_iteration [] js)) e c in absurd (cc)
+not_empty : (is js : List Iteration) (j : Iteration) (rest : List Iteration)
+    → IsTrue (each_covers is_same_iteration is js) → js ≡ j ∷ rest → NotEmpty is
+not_empty [] js j rest c e = let z : IsTrue (each_covers is_same_iteration [] (j ∷ rest)) =
+    subst (λ js. IsTrue (each_covers is_same_iteration [] js)) e c in absurd (cc)
 not_empty (i ∷ is) js j rest c e = record { one = i; others = is; are = refl }
 
-not_empty_of : (is js : List Iteration) (i : Iteration) (rest : List Iteration) → IsTrue (each_covers is_same_iteration is js) → is ≡ i ∷ rest → NotEmpty js
-not_empty_of is [] i rest c e = let z : IsTrue (each_covers is_same_iteration (i ∷ rest) []) = subst (λ is. IsTrue (each_covers is_same_iteration is [])) e c in absurd (cc)
+not_empty_of : (is js : List Iteration) (i : Iteration) (rest : List Iteration)
+    → IsTrue (each_covers is_same_iteration is js) → is ≡ i ∷ rest → NotEmpty js
+not_empty_of is [] i rest c e = let z : IsTrue (each_covers is_same_iteration (i ∷ rest) []) =
+    subst (λ is. IsTrue (each_covers is_same_iteration is [])) e c in absurd (cc)
 not_empty_of is (j ∷ js) i rest c e = record { one = j; others = js; are = refl }
 
-iterations_covered : (facts edge : Facts) → IsTrue (covers facts edge) → IsTrue (each_covers is_same_iteration facts.iterations edge.iterations)
+iterations_covered : (facts edge : Facts) → IsTrue (covers facts edge)
+    → IsTrue (each_covers is_same_iteration facts.iterations edge.iterations)
 iterations_covered facts edge c =
     let p = and_both _ _ c in
     let q = and_both _ _ p.0 in
@@ -79,7 +87,8 @@ iterations_covered facts edge c =
     let s = and_both _ _ r.0 in
     (and_both _ _ s.0).1
 
-counted_where : (falling : Option Rank) (left : Option ℕ) (counted : Bool) (turn : OpenTurn) (turns : ℕ) → left ≡ Some turns → AreMore falling left counted turn → counted ≡ true
+counted_where : (falling : Option Rank) (left : Option ℕ) (counted : Bool) (turn : OpenTurn) (turns : ℕ)
+    → left ≡ Some turns → AreMore falling left counted turn → counted ≡ true
 counted_where falling None counted turn turns e h = absurd (cc)
 counted_where falling (Some left) counted turn turns e h = h.0
 
@@ -88,12 +97,14 @@ module _ (ground : Ground) (closed : AreClosed ground.nodes) (arrival : Arrival 
   open arrival use {number, turns, s, here}
 
   loop_there : HasStart here.node.stand.position.running.starts → HasLoop s.frames.running
-  loop_there h = has_loop s.frames.running s.frames.running.loops refl (subst HasStart (ap (λ (p : Position). p.running.starts) here.position) h)
+  loop_there h = has_loop s.frames.running s.frames.running.loops refl
+      (subst HasStart (ap (λ (p : Position). p.running.starts) here.position) h)
 
   module _ (has : HasLoop s.frames.running) where
     top : Head nodes table n here.node.stand.iterations has.loop
     top = head nodes table n here.node.stand.iterations has.loop (has.outer ++ loops_in s.frames.callers) turns
-        (subst (λ (ls : List Loop). AreOpened nodes table n here.node.stand.iterations (ls ++ loops_in s.frames.callers) turns) has.is here.opened)
+        (subst (λ (ls : List Loop). AreOpened nodes table n here.node.stand.iterations
+        (ls ++ loops_in s.frames.callers) turns) has.is here.opened)
 
     before : top.begin < number
     before = (subst (Descend number) top.is (closed.descend number here.node here.at)).0
@@ -105,23 +116,31 @@ module _ (ground : Ground) (closed : AreClosed ground.nodes) (arrival : Arrival 
     begin = (closed.begins top.begin (omega (arith, before, behind))).0
 
     body : Body nodes table top.begin begin.node top.own.start
-    body = body_is nodes table top.begin begin.node top.own.start top.own.started begin.element begin.reads begin.kind_is passes begin.at
+    body = body_is nodes table top.begin begin.node top.own.start top.own.started begin.element begin.reads
+        begin.kind_is passes begin.at
 
     entering : Entering body.facts body.entering
-    entering = enters nodes begin.node begin.element body.facts body.entering body.edges begin.reads begin.kind_is body.leads body.on
+    entering = enters nodes begin.node begin.element body.facts body.entering body.edges begin.reads begin.kind_is
+        body.leads body.on
 
     start_some : NotEmpty top.own.start.iterations
     start_some = not_empty top.own.start.iterations body.entering.iterations _ _
-        (iterations_covered top.own.start (body_start body.choice (changes_in nodes top.begin) body.entering) (and_both _ _ body.same).0)
+        (iterations_covered top.own.start (body_start body.choice (changes_in nodes top.begin) body.entering)
+        (and_both _ _ body.same).0)
         (ap (λ (facts : Facts). facts.iterations) entering.is)
 
     same_there : IsTrue (each_covers is_same_iteration top.own.start.iterations here.facts.iterations)
     same_there =
-        let known : IsTrue (is_known_in table (top.begin ∷ top.outer) here.facts) = subst (λ begins. IsTrue (is_known_in table begins here.facts)) top.is (known_in nodes table number here.node here.facts passes here.at here.known) in
-        subst (λ (o : Option Facts). IsTrue (option_map_or (λ (start : Facts). each_covers is_same_iteration start.iterations here.facts.iterations) o false)) top.own.started known
+        let known : IsTrue (is_known_in table (top.begin ∷ top.outer) here.facts) =
+        subst (λ begins. IsTrue (is_known_in table begins here.facts)) top.is
+        (known_in nodes table number here.node here.facts passes here.at here.known) in
+        subst (λ (o : Option Facts). IsTrue
+        (option_map_or (λ (start : Facts). each_covers is_same_iteration start.iterations here.facts.iterations) o
+        false)) top.own.started known
 
     here_some : NotEmpty here.facts.iterations
-    here_some = not_empty_of top.own.start.iterations here.facts.iterations start_some.one start_some.others same_there start_some.are
+    here_some = not_empty_of top.own.start.iterations here.facts.iterations start_some.one start_some.others same_there
+        start_some.are
 
     pub inside_is : IsInside here.facts s.frames.running
     inside_is = record {
@@ -131,14 +150,19 @@ module _ (ground : Ground) (closed : AreClosed ground.nodes) (arrival : Arrival 
       iteration = here_some.one;
       others = here_some.others;
       iterations = here_some.are;
-      counted = λ left e. sym (ap is_counted here_some.are) ∙ (sym (counted_by top.own.start.iterations here.facts.iterations same_there) ∙ counted_where (falling_in nodes table top.begin) has.loop.turns (is_counted top.own.start.iterations) top.turn left e top.own.more);
+      counted = λ left e. sym (ap is_counted here_some.are)
+          ∙ (sym (counted_by top.own.start.iterations here.facts.iterations same_there)
+          ∙ counted_where (falling_in nodes table top.begin) has.loop.turns (is_counted top.own.start.iterations)
+          top.turn left e top.own.more);
     }
 
-  module _ (e : Element) (reads : here.node.element ≡ Some e) (edges : Edges) (leads : edges_at nodes here.node here.facts ≡ Ok edges) where
+  module _ (e : Element) (reads : here.node.element ≡ Some e) (edges : Edges)
+      (leads : edges_at nodes here.node here.facts ≡ Ok edges) where
     jumps : JumpPlace e here.node.stand.position → LeadsAhead e s.frames.running
     jumps j = (j.0, subst (λ (p : Position). (skip_of p.running.text (Whole e)).to ≡ Some j.0) here.position j.1)
 
-    flow_stands : (f : Flow) → FlowHas f e here.node.stand.position → FlowStands f here.facts (placed nodes here.node e) s.frames.running
+    flow_stands : (f : Flow) → FlowHas f e here.node.stand.position
+        → FlowStands f here.facts (placed nodes here.node e) s.frames.running
     flow_stands flow.EndTurn h = inside_is (loop_there h)
     flow_stands flow.Leave h = (inside_is (loop_there h.0), jumps h.1)
     flow_stands flow.EndTest h = tt
@@ -146,10 +170,14 @@ module _ (ground : Ground) (closed : AreClosed ground.nodes) (arrival : Arrival 
     flow_stands (flow.GoAhead goal.EndTurn) h = (inside_is (loop_there h.0), jumps h.1)
     flow_stands f h = jumps h
 
-    ways_are : (k : Kind) → e.kind ≡ k → element_ways library k e here.node.stand.position ≡ Ok (are.each number here.node here.at).targets
+    ways_are : (k : Kind) → e.kind ≡ k
+        → element_ways library k e here.node.stand.position ≡ Ok (are.each number here.node here.at).targets
     unfolding ways_at
-    ways_are k is = subst (λ k. element_ways library k e here.node.stand.position ≡ Ok (are.each number here.node here.at).targets) is
-        (ap (λ read. ways_at library read here.node.stand.position) (sym reads) ∙ (are.each number here.node here.at).goes)
+    ways_are k is =
+        subst (λ k. element_ways library k e here.node.stand.position ≡ Ok (are.each number here.node here.at).targets)
+        is
+        (ap (λ read. ways_at library read here.node.stand.position) (sym reads)
+        ∙ (are.each number here.node here.at).goes)
 
     allowed : (inside colon : Bool) (u : Unit {0}) → search_allowed inside colon ≡ Ok u → colon ≡ false → inside ≡ true
     allowed true colon u h c = refl
@@ -159,22 +187,35 @@ module _ (ground : Ground) (closed : AreClosed ground.nodes) (arrival : Arrival 
     start_of_text [] h = absurd (cc)
     start_of_text (start ∷ outer) h = tt
 
-    pub search_start : (q : Search) → e.kind ≡ kind.Search q → (placed nodes here.node e).colon ≡ false → HasStart here.node.stand.position.running.starts
+    pub search_start : (q : Search) → e.kind ≡ kind.Search q → (placed nodes here.node e).colon ≡ false
+        → HasStart here.node.stand.position.running.starts
     search_start q is colon =
-        let taken = bound (facts_at_search q (without_answer here.facts)) _ edges (kind_edges nodes here.node e (kind.Search q) here.facts edges reads is leads) in
-        let free = bound (search_allowed (placed nodes here.node e).inside (placed nodes here.node e).colon) _ edges taken.gives in
-        start_of_text here.node.stand.position.running.starts (allowed (placed nodes here.node e).inside (placed nodes here.node e).colon free.before free.was colon)
+        let taken = bound (facts_at_search q (without_answer here.facts)) _ edges
+        (kind_edges nodes here.node e (kind.Search q) here.facts edges reads is leads) in
+        let free = bound (search_allowed (placed nodes here.node e).inside (placed nodes here.node e).colon) _ edges
+        taken.gives in
+        start_of_text here.node.stand.position.running.starts
+        (allowed (placed nodes here.node e).inside (placed nodes here.node e).colon free.before free.was colon)
 
     kind_stands : (k : Kind) → e.kind ≡ k → KindStands k here.facts (placed nodes here.node e) s.frames.running
-    kind_stands (kind.Flow f) is = flow_stands f (flow_has f e here.node.stand.position (are.each number here.node here.at).targets (ways_are (kind.Flow f) is))
+    kind_stands (kind.Flow f) is = flow_stands f
+        (flow_has f e here.node.stand.position (are.each number here.node here.at).targets (ways_are (kind.Flow f) is))
     kind_stands (kind.Search q) is = λ colon.
         let start = search_start q is colon in
-        let ways : search_ways false here.node.stand.position.running.starts e here.node.stand.position ≡ Ok (are.each number here.node here.at).targets = subst (λ colon. search_ways colon here.node.stand.position.running.starts e here.node.stand.position ≡ Ok (are.each number here.node here.at).targets) colon (ways_are (kind.Search q) is) in
-        (inside_is (loop_there start), jumps (search_has here.node.stand.position.running.starts e here.node.stand.position (are.each number here.node here.at).targets ways start))
+        let ways : search_ways false here.node.stand.position.running.starts e here.node.stand.position ≡ Ok
+        (are.each number here.node here.at).targets =
+        subst (λ colon. search_ways colon here.node.stand.position.running.starts e here.node.stand.position ≡ Ok
+        (are.each number here.node here.at).targets) colon (ways_are (kind.Search q) is) in (
+          inside_is (loop_there start),
+          jumps
+              (search_has here.node.stand.position.running.starts e here.node.stand.position
+              (are.each number here.node here.at).targets ways start),
+        )
     kind_stands k is = tt
 
     pub stands : KindStands e.kind here.facts (placed nodes here.node e) s.frames.running
     stands = kind_stands e.kind refl
 
-    pub search_inside : (q : Search) → e.kind ≡ kind.Search q → (placed nodes here.node e).colon ≡ false → HasLoop s.frames.running
+    pub search_inside : (q : Search) → e.kind ≡ kind.Search q → (placed nodes here.node e).colon ≡ false
+        → HasLoop s.frames.running
     search_inside q is colon = loop_there (search_start q is colon)

@@ -29,4 +29,6 @@ mod Verifying
 mod Described
 mod Bounding
 mod Sure
+pub mod Keeping
+mod Framing
 pub mod straight_text

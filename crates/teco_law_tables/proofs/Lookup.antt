@@ -1,5 +1,7 @@
 -- Nodes by their numbers.
-use Rattle.std.proofs.Common.{◌≡◌, ℕ, zero, suc, ◌+◌, ◌≤◌, ◌<◌, refl, sym, ap, ◌∙◌, arith, rules, eqb-true, List, [], ◌∷◌, ◌++◌, map, drop, length, ◌==◌, Bool, true, false, if◌then◌else◌, Option, Some, None, slice_get}
+use Rattle.std.proofs.Common.{◌≡◌, ℕ, zero, suc, ◌+◌, ◌≤◌, ◌<◌, refl, sym, ap, ◌∙◌, arith, rules, eqb-true, List, []}
+use Rattle.std.proofs.Common.{◌∷◌, ◌++◌, map, drop, length, ◌==◌, Bool, true, false, if◌then◌else◌, Option, Some}
+use Rattle.std.proofs.Common.{None, slice_get}
 use Rattle.teco_model.specs.declared.kind.Flow.TheVariants as flow
 use Rattle.teco_model.specs.declared.kind.Kind.{Kind}
 use Rattle.teco_model.specs.declared.kind.Kind.TheVariants as kind
@@ -18,7 +20,8 @@ got_within [] k x h = absurd (cc)
 got_within (y ∷ xs) zero x h = omega arith
 got_within (y ∷ xs) (suc k) x h = omega (arith, got_within xs k x h)
 
-pub got_mapped : {X Y : Type 0} (f : X → Y) (xs : List X) (ys : List Y) (k : ℕ) (x : X) → slice_get xs k ≡ Some x → slice_get (map f xs ++ ys) k ≡ Some (f x)
+pub got_mapped : {X Y : Type 0} (f : X → Y) (xs : List X) (ys : List Y) (k : ℕ) (x : X) → slice_get xs k ≡ Some x
+    → slice_get (map f xs ++ ys) k ≡ Some (f x)
 got_mapped f [] ys k x h = absurd (cc)
 got_mapped f (y ∷ xs) ys zero x h = let e : y ≡ x = cc in ap (λ y. Some (f y)) e
 got_mapped f (y ∷ xs) ys (suc k) x h = got_mapped f xs ys k x h
@@ -33,16 +36,20 @@ pub node_of : (nodes : List Node) (k : ℕ) → 0 < k → k ≤ length nodes →
 node_of nodes zero l m = absurd (omega arith)
 node_of nodes (suc k) l m = got nodes k (omega arith)
 
-pub number_within : (nodes : List Node) (k : ℕ) (node : Node) → numbered nodes k ≡ Some node → (0 < k) × (k ≤ length nodes)
+pub number_within : (nodes : List Node) (k : ℕ) (node : Node) → numbered nodes k ≡ Some node
+    → (0 < k) × (k ≤ length nodes)
 number_within nodes zero node h = absurd (cc)
 number_within nodes (suc k) node h = (omega arith, omega (arith, got_within nodes k node h))
 
-pub stand_of : (nodes : List Node) (entry k : ℕ) (node : Node) → numbered nodes k ≡ Some node → numbered (stands nodes entry) k ≡ Some node.stand
+pub stand_of : (nodes : List Node) (entry k : ℕ) (node : Node) → numbered nodes k ≡ Some node
+    → numbered (stands nodes entry) k ≡ Some node.stand
 stand_of nodes entry zero node h = absurd (cc)
 stand_of nodes entry (suc k) node h = got_mapped stand_of_node nodes (over entry ∷ []) k node h
 
-pub same_stand : (nodes : List Node) (entry k : ℕ) (node : Node) (stand : Stand) → numbered nodes k ≡ Some node → numbered (stands nodes entry) k ≡ Some stand → node.stand ≡ stand
-same_stand nodes entry k node stand h g = let e : Some node.stand ≡ Some stand = sym (stand_of nodes entry k node h) ∙ g in cc
+pub same_stand : (nodes : List Node) (entry k : ℕ) (node : Node) (stand : Stand) → numbered nodes k ≡ Some node
+    → numbered (stands nodes entry) k ≡ Some stand → node.stand ≡ stand
+same_stand nodes entry k node stand h g = let e : Some node.stand ≡ Some stand = sym (stand_of nodes entry k node h)
+    ∙ g in cc
 
 pub same_node : (nodes : List Node) (k : ℕ) (m n : Node) → numbered nodes k ≡ Some m → numbered nodes k ≡ Some n → m ≡ n
 same_node nodes k m n h g = let e : Some m ≡ Some n = sym h ∙ g in cc
@@ -63,13 +70,26 @@ first_end_at b n [] l m = absurd (omega arith)
 first_end_at b n (x ∷ xs) l m = here (ends b x) refl (λ k. first_end_at b (suc n) xs (omega arith) k)
   where
     here : (t : Bool) → ends b x ≡ t → (b < first_end b (suc n) xs → FirstEnd b (suc n) xs) → FirstEnd b n (x ∷ xs)
-    here true t on = record { i = 0; node = x; at = refl; ending = t; is = ap (λ t. if t then n else first_end b (suc n) xs) t ∙ (omega arith) }
+    here true t on = record {
+      i = 0;
+      node = x;
+      at = refl;
+      ending = t;
+      is = ap (λ t. if t then n else first_end b (suc n) xs) t ∙ (omega arith);
+    }
     here false t on =
         let e : first_end b n (x ∷ xs) ≡ first_end b (suc n) xs = ap (λ t. if t then n else first_end b (suc n) xs) t in
         let rest = on (omega (arith, e, m)) in
-        record { i = suc rest.i; node = rest.node; at = rest.at; ending = rest.ending; is = e ∙ (rest.is ∙ omega arith) }
+        record {
+          i = suc rest.i;
+          node = rest.node;
+          at = rest.at;
+          ending = rest.ending;
+          is = e ∙ (rest.is ∙ omega arith);
+        }
 
-pub ends_there : (nodes : List Node) (b : ℕ) → b < end_of nodes b → (node : Node) × (numbered nodes (end_of nodes b) ≡ Some node) × (ends b node ≡ true)
+pub ends_there : (nodes : List Node) (b : ℕ) → b < end_of nodes b
+    → (node : Node) × (numbered nodes (end_of nodes b) ≡ Some node) × (ends b node ≡ true)
 ends_there nodes b l =
     let f = first_end_at b (suc b) (drop b nodes) (omega arith) l in
     let e : end_of nodes b ≡ suc (b + f.i) = f.is ∙ (omega arith) in
@@ -79,10 +99,12 @@ pub innermost : (b : ℕ) (numbers : List ℕ) → is_innermost b numbers ≡ tr
 innermost b [] h = absurd (cc)
 innermost b (n ∷ outer) h = (outer, ap (λ n. n ∷ outer) (eqb-true n b h))
 
-innermost_by_kind : (b : ℕ) (k : Kind) (numbers : List ℕ) → ends_by_kind b k numbers ≡ true → (outer : List ℕ) × (numbers ≡ b ∷ outer)
+innermost_by_kind : (b : ℕ) (k : Kind) (numbers : List ℕ) → ends_by_kind b k numbers ≡ true
+    → (outer : List ℕ) × (numbers ≡ b ∷ outer)
 innermost_by_kind b (kind.Flow flow.EndTurn) numbers h = innermost b numbers h
 innermost_by_kind b k numbers h = absurd (cc)
 
-pub innermost_by : (b : ℕ) (e : Option Element) (numbers : List ℕ) → ends_by b e numbers ≡ true → (outer : List ℕ) × (numbers ≡ b ∷ outer)
+pub innermost_by : (b : ℕ) (e : Option Element) (numbers : List ℕ) → ends_by b e numbers ≡ true
+    → (outer : List ℕ) × (numbers ≡ b ∷ outer)
 innermost_by b None numbers h = absurd (cc)
 innermost_by b (Some e) numbers h = innermost_by_kind b e.kind numbers h

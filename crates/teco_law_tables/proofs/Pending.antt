@@ -1,11 +1,13 @@
 -- A run that begins with an argument's digits ends as one where it is pending already.
-use Rattle.std.proofs.Common.{◌≡◌, ℕ, ◌+◌, ◌<◌, ◌^◌, refl, sym, ap, ◌∙◌, subst, arith, false, Option, Some, None, option_map}
+use Rattle.std.proofs.Common.{◌≡◌, ℕ, ◌+◌, ◌<◌, ◌^◌, refl, sym, ap, ◌∙◌, subst, arith, false, Option, Some, None}
+use Rattle.std.proofs.Common.{option_map}
 use Rattle.std.specs.Option.{option_map_or}
 use Rattle.teco_base.specs.declared.TheConstants.{REGISTERS}
 use Rattle.teco_model.specs.Element.{Element}
 use Rattle.teco_model.specs.Run.{Reaches, Ends, run}
 use Rattle.teco_model.specs.State.{World, State, Outcome, Next, End, start}
-use Rattle.teco_law_expansion.specs.Alike.{AreAlike, AreOutcomesAlike, StepsAreAlike, RunsAreAlike, ReadingsAreAlike, kind_of}
+use Rattle.teco_law_expansion.specs.Alike.{AreAlike, AreOutcomesAlike, StepsAreAlike, RunsAreAlike, ReadingsAreAlike}
+use Rattle.teco_law_expansion.specs.Alike.{kind_of}
 use Rattle.teco_law_expansion.specs.Given.{call_given, start_pending, BeginsPending, NumbersArePending}
 use Rattle.teco_law_tables.specs.Ending.{EndsWithin}
 use Rattle.teco_law_tables.specs.Staying.{is_of_files, changes_files, NoFileCommands}
@@ -34,12 +36,13 @@ end_alike (End w) (End v) new a e = ap End a ∙ e
 end_alike one other new a e = absurd (grind arith)
 
 -- and the other way round
-record OtherNext (other : Outcome) (first : State) : Type 0 where
-  state : State
-  is : other ≡ Next state
-  alike : AreAlike first state
+pub record OtherNext (other : Outcome) (first : State) : Type 0 where
+  pub state : State
+  pub is : other ≡ Next state
+  pub alike : AreAlike first state
 
-other_next : (one other : Outcome) (first : State) → AreOutcomesAlike one other → one ≡ Next first → OtherNext other first
+pub other_next : (one other : Outcome) (first : State) → AreOutcomesAlike one other → one ≡ Next first
+    → OtherNext other first
 other_next (Next s) (Next t) first a e =
     let same : s ≡ first = cc in
     record { state = t; is = refl; alike = subst (λ s. AreAlike s t) same a }
@@ -50,7 +53,8 @@ files_by : (read : Option Element) → changes_files read ≡ option_map_or is_o
 files_by None = refl
 files_by (Some e) = refl
 
-same_files : (read other : Option Element) → option_map kind_of read ≡ option_map kind_of other → changes_files read ≡ changes_files other
+same_files : (read other : Option Element) → option_map kind_of read ≡ option_map kind_of other
+    → changes_files read ≡ changes_files other
 same_files read other kinds = files_by read ∙ (ap (λ k. option_map_or is_of_files k false) kinds ∙ sym (files_by other))
 
 module _ (laws : CallLaws) (s t : State) (alike : AreAlike s t) where
@@ -70,7 +74,8 @@ module _ (laws : CallLaws) (s t : State) (alike : AreAlike s t) where
       }
 
 -- ---- the step of the digits
-module _ (laws : CallLaws) (entry n : ℕ) (world : World) (steps : ℕ) (named : entry < REGISTERS) (small : n < 2 ^ 31) (ends : EndsWithin (start_pending entry n world) steps) where
+module _ (laws : CallLaws) (entry n : ℕ) (world : World) (steps : ℕ) (named : entry < REGISTERS) (small : n < 2 ^ 31)
+    (ends : EndsWithin (start_pending entry n world) steps) where
   abbrev first : State
   first = start (call_given entry (Some n)) world
 
@@ -86,15 +91,22 @@ module _ (laws : CallLaws) (entry n : ℕ) (world : World) (steps : ℕ) (named 
   not_yet = refl
 
   none_first : NoFileCommands first 1
-  none_first = none_more 0 first first (none_yet first) not_yet (reads_none first (Some digits.digits) digits.reads (ap is_of_files digits.are_digits))
+  none_first = none_more 0 first first (none_yet first) not_yet
+      (reads_none first (Some digits.digits) digits.reads (ap is_of_files digits.are_digits))
 
   pub given_ends : EndsWithin first (1 + steps)
   given_ends =
-      let later = ends_alike laws digits.behind (start_pending entry n world) digits.alike ends.steps ends.new ends.ends in
+      let later = ends_alike laws digits.behind (start_pending entry n world) digits.alike ends.steps ends.new ends.ends
+      in
       record {
         steps = 1 + ends.steps;
         new = ends.new;
         few = omega (arith, ends.few);
-        none = none_on 1 ends.steps first digits.behind none_first reached (none_alike laws digits.behind (start_pending entry n world) digits.alike ends.steps ends.none);
-        ends = record { last = later.last; steps = reaches_on 1 ends.steps first digits.behind later.last reached later.steps; end = later.end };
+        none = none_on 1 ends.steps first digits.behind none_first reached
+            (none_alike laws digits.behind (start_pending entry n world) digits.alike ends.steps ends.none);
+        ends = record {
+          last = later.last;
+          steps = reaches_on 1 ends.steps first digits.behind later.last reached later.steps;
+          end = later.end;
+        };
       }

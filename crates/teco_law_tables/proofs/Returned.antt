@@ -1,5 +1,6 @@
 -- A step of > back to the start of its body begins a further turn.
-use Rattle.std.proofs.Common.{◌≡◌, ℕ, zero, suc, ◌+◌, ◌-◌, ◌≤◌, ◌<◌, refl, sym, ap, ◌∙◌, subst, arith, List, [], ◌∷◌, ◌++◌, map, drop, Bool, false, Option, Some, None, is_some}
+use Rattle.std.proofs.Common.{◌≡◌, ℕ, zero, suc, ◌+◌, ◌-◌, ◌≤◌, ◌<◌, refl, sym, ap, ◌∙◌, subst, arith, List, [], ◌∷◌}
+use Rattle.std.proofs.Common.{◌++◌, map, drop, Bool, false, Option, Some, None, is_some}
 use Rattle.std.specs.Prelude.{IsTrue}
 use Rattle.teco_verifier.specs.facts.Ranks.{rank_of, rank_at}
 use Rattle.teco_verifier.specs.declared.falls.Rank.{Rank}
@@ -29,7 +30,8 @@ use Rattle.teco_verifier.specs.facts.Facts.{Facts}
 use Rattle.teco_law_facts.specs.Laws.{entered, amount_of, IsCarried, BeginsAgain}
 use Rattle.teco_model.specs.Paging.{unread_of}
 use Rattle.teco_verifier.specs.table.Closed.{is_counted}
-use Rattle.teco_law_tables.specs.Following.{OpenTurn, begun_of, run_at, falling_in, loops_in, open_loops, AreMore, IsOpened, AreOpened, IsDescribed, held_of, loops_of, shown}
+use Rattle.teco_law_tables.specs.Following.{OpenTurn, begun_of, run_at, falling_in, loops_in, open_loops, AreMore}
+use Rattle.teco_law_tables.specs.Following.{IsOpened, AreOpened, IsDescribed, held_of, loops_of, shown}
 use Rattle.teco_law_tables.specs.Moving.{MovesOn}
 use Rattle.teco_verifier.specs.table.Table.{Table, facts_at, choice_at}
 use Rattle.teco_law_tables.specs.Turning.{is_reached, held_at, turning}
@@ -46,50 +48,72 @@ same_some : {X : Type 0} (o : Option X) (x y : X) → o ≡ Some x → o ≡ Som
 same_some o x y h g = let e : Some x ≡ Some y = sym h ∙ g in cc
 
 -- the innermost open iteration, and the others
-record Innermost (nodes : List Node) (table : Table) (n begin : ℕ) (begins : List ℕ) (loop : Loop) (loops : List Loop) (turns : List OpenTurn) : Type 0 where
+record Innermost (nodes : List Node) (table : Table) (n begin : ℕ) (begins : List ℕ) (loop : Loop) (loops : List Loop)
+    (turns : List OpenTurn) : Type 0 where
   turn : OpenTurn
   outer : List OpenTurn
   turns_are : turns ≡ turn ∷ outer
   own : IsOpened nodes table n begin loop turn outer
   rest : AreOpened nodes table n begins loops outer
 
-innermost : (nodes : List Node) (table : Table) (n begin : ℕ) (begins : List ℕ) (loop : Loop) (loops : List Loop) (turns : List OpenTurn) → AreOpened nodes table n (begin ∷ begins) (loop ∷ loops) turns → Innermost nodes table n begin begins loop loops turns
+innermost : (nodes : List Node) (table : Table) (n begin : ℕ) (begins : List ℕ) (loop : Loop) (loops : List Loop)
+    (turns : List OpenTurn) → AreOpened nodes table n (begin ∷ begins) (loop ∷ loops) turns
+    → Innermost nodes table n begin begins loop loops turns
 innermost nodes table n begin begins loop loops [] h = absurd h
-innermost nodes table n begin begins loop loops (turn ∷ outer) h = record { turn = turn; outer = outer; turns_are = refl; own = h.0; rest = h.1 }
+innermost nodes table n begin begins loop loops (turn ∷ outer) h =
+    record { turn = turn; outer = outer; turns_are = refl; own = h.0; rest = h.1 }
 
 -- one turn fewer comes after this one
 record Fewer (falling : Option Rank) (counted : Bool) (turn : OpenTurn) (begun : Begun) (left : Option ℕ) : Type 0 where
   some : turn.more ≡ suc (turn.more - 1)
   is : AreMore falling left counted (record { begun = begun; more = turn.more - 1 })
 
-fewer : (falling : Option Rank) (counted : Bool) (turn : OpenTurn) (begun : Begun) (now next : Option ℕ) → AreMore falling now counted turn → went.CountsDown now next → (counted ≡ false → amount_of falling begun + 1 ≤ amount_of falling turn.begun) → Fewer falling counted turn begun next
+fewer : (falling : Option Rank) (counted : Bool) (turn : OpenTurn) (begun : Begun) (now next : Option ℕ)
+    → AreMore falling now counted turn → went.CountsDown now next
+    → (counted ≡ false → amount_of falling begun + 1 ≤ amount_of falling turn.begun)
+    → Fewer falling counted turn begun next
 fewer falling counted turn begun None next are counts falls =
     let less = falls are.0 in record {
       some = omega (arith, are.1, less);
-      is = subst (λ left. AreMore falling left counted (record { begun = begun; more = turn.more - 1 })) (sym counts) (are.0, omega (arith, are.1, less));
+      is = subst (λ left. AreMore falling left counted (record { begun = begun; more = turn.more - 1 })) (sym counts)
+          (are.0, omega (arith, are.1, less));
     }
 fewer falling counted turn begun (Some left) next are counts falls = record {
   some = omega (arith, are.1, counts.2);
-  is = subst (λ left. AreMore falling left counted (record { begun = begun; more = turn.more - 1 })) (sym counts.1) (are.0, omega (arith, are.1, counts.2));
+  is = subst (λ left. AreMore falling left counted (record { begun = begun; more = turn.more - 1 })) (sym counts.1)
+      (are.0, omega (arith, are.1, counts.2));
 }
 
-returns_by : (choice : Choice) (changes : Changes) (most : Polynomial) (entering end : Facts) (counted : Bool) (facts : Facts) → entering ≡ entered counted facts → IsTrue (choice_stands choice changes (is_counted entering.iterations) most entering (Some end)) → IsTrue (returns choice changes counted most (entered counted facts) end)
+returns_by : (choice : Choice) (changes : Changes) (most : Polynomial) (entering end : Facts) (counted : Bool)
+    (facts : Facts) → entering ≡ entered counted facts
+    → IsTrue (choice_stands choice changes (is_counted entering.iterations) most entering (Some end))
+    → IsTrue (returns choice changes counted most (entered counted facts) end)
 returns_by choice changes most entering end counted facts e h =
-    (and_both _ _ (subst (λ (entering : Facts). IsTrue (choice_stands choice changes (is_counted entering.iterations) most entering (Some end))) e h)).1
+    (and_both _ _
+    (subst (λ (entering : Facts). IsTrue
+    (choice_stands choice changes (is_counted entering.iterations) most entering (Some end))) e h)).1
 
 module _ (laws : Laws) (ground : Ground) (closed : AreClosed ground.nodes) (passage : Passage ground) where
   open ground use {library, entry, nodes, table, n, below, are, passes}
   open passage use {number, turns, s, last, t, here, again, goes, comes, loaded, whole}
 
-  module _ (there : Node) (at : numbered nodes goes.target ≡ Some there) (stand : there.stand ≡ stand_at number here.node.stand (position_of t)) where
-    module _ (e : Element) (reads : here.node.element ≡ Some e) (is : e.kind ≡ kind.Flow flow.EndTurn) (first : goes.way ≡ 0) where
+  module _ (there : Node) (at : numbered nodes goes.target ≡ Some there)
+      (stand : there.stand ≡ stand_at number here.node.stand (position_of t)) where
+    module _ (e : Element) (reads : here.node.element ≡ Some e) (is : e.kind ≡ kind.Flow flow.EndTurn)
+        (first : goes.way ≡ 0) where
       was : Turns flow.EndTurn zero e s t
-      was = subst (λ (last : State). Turns flow.EndTurn zero e last t) (not_again flow.EndTurn e here.node.element s last reads is again) (subst (λ k. ElementWas k zero e last t) is (subst (λ way. StepWas (Some e) way last t) first (subst (λ read. StepWas read goes.way last t) reads goes.was)))
+      was = subst (λ (last : State). Turns flow.EndTurn zero e last t)
+          (not_again flow.EndTurn e here.node.element s last reads is again)
+          (subst (λ k. ElementWas k zero e last t) is
+          (subst (λ way. StepWas (Some e) way last t) first
+          (subst (λ read. StepWas read goes.way last t) reads goes.was)))
 
       back : IsBack (place_at number here.node.stand) (place_at goes.target there.stand)
       back = subst (λ k. LeadsByKind k zero (place_at number here.node.stand) (place_at goes.target there.stand)) is
-          (subst (λ way. LeadsBy (Some e) way (place_at number here.node.stand) (place_at goes.target there.stand)) first
-          (subst (λ read. LeadsBy read goes.way (place_at number here.node.stand) (place_at goes.target there.stand)) reads
+          (subst (λ way. LeadsBy (Some e) way (place_at number here.node.stand) (place_at goes.target there.stand))
+          first
+          (subst (λ read. LeadsBy read goes.way (place_at number here.node.stand) (place_at goes.target there.stand))
+          reads
           (leads_there laws ground closed passage there at stand)))
 
       same_world : t.world ≡ s.world
@@ -101,13 +125,17 @@ module _ (laws : Laws) (ground : Ground) (closed : AreClosed ground.nodes) (pass
       abbrev falling : Option Rank
       falling = falling_in nodes table back.begin
 
-      opened : Innermost nodes table n back.begin back.outer was.went.loop (was.went.outer ++ loops_in s.frames.callers) turns
-      opened = innermost nodes table n back.begin back.outer was.went.loop (was.went.outer ++ loops_in s.frames.callers) turns
-          (subst (λ ls. AreOpened nodes table n (back.begin ∷ back.outer) (ls ++ loops_in s.frames.callers) turns) was.went.inside
+      opened : Innermost nodes table n back.begin back.outer was.went.loop (was.went.outer ++ loops_in s.frames.callers)
+          turns
+      opened = innermost nodes table n back.begin back.outer was.went.loop (was.went.outer ++ loops_in s.frames.callers)
+          turns
+          (subst (λ ls. AreOpened nodes table n (back.begin ∷ back.outer) (ls ++ loops_in s.frames.callers) turns)
+          was.went.inside
           (subst (λ begins. AreOpened nodes table n begins (open_loops s) turns) back.innermost here.opened))
 
       ends_here : end_of nodes back.begin ≡ number
-      ends_here = closed.only number here.node back.begin here.at (ending here.node e back.begin back.outer reads is back.innermost)
+      ends_here = closed.only number here.node back.begin here.at
+          (ending here.node e back.begin back.outer reads is back.innermost)
 
       before : back.begin < number
       before = (subst (Descend number) back.innermost (closed.descend number here.node here.at)).0
@@ -116,23 +144,29 @@ module _ (laws : Laws) (ground : Ground) (closed : AreClosed ground.nodes) (pass
       begin = (closed.begins back.begin (omega (arith, before, ends_here))).0
 
       body : Body nodes table back.begin begin.node opened.own.start
-      body = body_is nodes table back.begin begin.node opened.own.start opened.own.started begin.element begin.reads begin.kind_is passes begin.at
+      body = body_is nodes table back.begin begin.node opened.own.start opened.own.started begin.element begin.reads
+          begin.kind_is passes begin.at
 
       entering : Entering body.facts body.entering
-      entering = enters nodes begin.node begin.element body.facts body.entering body.edges begin.reads begin.kind_is body.leads body.on
+      entering = enters nodes begin.node begin.element body.facts body.entering body.edges begin.reads begin.kind_is
+          body.leads body.on
 
       abbrev counted : Bool
       counted = is_some entering.taken.value
 
       counted_is : is_counted opened.own.start.iterations ≡ counted
-      counted_is = counted_covered opened.own.start (body_start body.choice (changes_in nodes back.begin) body.entering) (and_both _ _ body.same).0 ∙ ap (λ (facts : Facts). is_counted facts.iterations) entering.is
+      counted_is = counted_covered opened.own.start (body_start body.choice (changes_in nodes back.begin) body.entering)
+          (and_both _ _ body.same).0 ∙ ap (λ (facts : Facts). is_counted facts.iterations) entering.is
 
       known_here : facts_at table (end_of nodes back.begin) ≡ Some here.facts
       known_here = ap (facts_at table) ends_here ∙ here.known
 
-      returning : IsTrue (returns body.choice (changes_in nodes back.begin) counted body.most (entered counted body.facts) here.facts)
-      returning = returns_by body.choice (changes_in nodes back.begin) body.most body.entering here.facts counted body.facts entering.is
-          (subst (λ o. IsTrue (choice_stands body.choice (changes_in nodes back.begin) (is_counted body.entering.iterations) body.most body.entering o)) known_here body.stands_there)
+      returning : IsTrue (returns body.choice (changes_in nodes back.begin) counted body.most
+          (entered counted body.facts) here.facts)
+      returning = returns_by body.choice (changes_in nodes back.begin) body.most body.entering here.facts counted
+          body.facts entering.is
+          (subst (λ o. IsTrue (choice_stands body.choice (changes_in nodes back.begin)
+          (is_counted body.entering.iterations) body.most body.entering o)) known_here body.stands_there)
 
       begun_are : map begun_of turns ≡ opened.turn.begun ∷ map begun_of opened.outer
       begun_are = ap (λ turns. map begun_of turns) opened.turns_are
@@ -140,15 +174,20 @@ module _ (laws : Laws) (ground : Ground) (closed : AreClosed ground.nodes) (pass
       falling_is : falling ≡ rank_of here.facts.position
       falling_is = ap rank_at known_here
 
-      falls : is_counted opened.own.start.iterations ≡ false → amount_of falling begun + 1 ≤ amount_of falling opened.turn.begun
+      falls : is_counted opened.own.start.iterations ≡ false
+          → amount_of falling begun + 1 ≤ amount_of falling opened.turn.begun
       falls none = subst (λ falling. amount_of falling begun + 1 ≤ amount_of falling opened.turn.begun) (sym falling_is)
-          (turns_fall (run_at library n below turns) here.facts (unread_of s.world) s.world.kept s.arguments body.choice (changes_in nodes back.begin) body.most (entered counted body.facts) opened.turn.begun (map begun_of opened.outer)
+          (turns_fall (run_at library n below turns) here.facts (unread_of s.world) s.world.kept s.arguments body.choice
+          (changes_in nodes back.begin) body.most (entered counted body.facts) opened.turn.begun
+          (map begun_of opened.outer)
           here.whole.inside
-          (subst (λ b. IsTrue (returns body.choice (changes_in nodes back.begin) b body.most (entered counted body.facts) here.facts)) (sym counted_is ∙ none) returning)
+          (subst (λ b. IsTrue (returns body.choice (changes_in nodes back.begin) b body.most
+          (entered counted body.facts) here.facts)) (sym counted_is ∙ none) returning)
           here.described begun_are)
 
       less : Fewer falling (is_counted opened.own.start.iterations) opened.turn begun was.went.turns
-      less = fewer falling (is_counted opened.own.start.iterations) opened.turn begun was.went.loop.turns was.went.turns opened.own.more was.went.counts falls
+      less = fewer falling (is_counted opened.own.start.iterations) opened.turn begun was.went.loop.turns was.went.turns
+          opened.own.more was.went.counts falls
 
       abbrev turn : OpenTurn
       turn = record { begun = begun; more = opened.turn.more - 1 }
@@ -163,7 +202,9 @@ module _ (laws : Laws) (ground : Ground) (closed : AreClosed ground.nodes) (pass
       started_at = ap (facts_at table) target_is ∙ opened.own.started
 
       -- the move
-      returning_it : moves.Returns (turning nodes table n) (shown nodes table number here.node.stand.iterations turns s.world) (shown nodes table goes.target there.stand.iterations later t.world)
+      returning_it : moves.Returns (turning nodes table n)
+          (shown nodes table number here.node.stand.iterations turns s.world)
+          (shown nodes table goes.target there.stand.iterations later t.world)
       returning_it = record {
         begin = back.begin;
         more = Some opened.turn.more;
@@ -172,9 +213,11 @@ module _ (laws : Laws) (ground : Ground) (closed : AreClosed ground.nodes) (pass
         at_end = sym ends_here;
         node = target_is;
         reached = ap (is_reached table) target_is ∙ ap (λ (o : Option Facts). is_some o) opened.own.started;
-        old_opened = ap (λ ls. loops_of ls turns) back.innermost ∙ ap (λ turns. loops_of (back.begin ∷ back.outer) turns) opened.turns_are;
+        old_opened = ap (λ ls. loops_of ls turns) back.innermost
+            ∙ ap (λ turns. loops_of (back.begin ∷ back.outer) turns) opened.turns_are;
         new_opened = ap (λ ls. loops_of ls later) (back.same ∙ back.innermost);
-        begins = let w : held_of t.world ≡ held_of s.world = ap held_of same_world in record { held = omega (arith, w); ahead = omega (arith, w); within = omega arith };
+        begins = let w : held_of t.world ≡ held_of s.world = ap held_of same_world in
+            record { held = omega (arith, w); ahead = omega (arith, w); within = omega arith };
         counts = (opened.turn.more - 1, less.some, refl);
       }
 
@@ -186,37 +229,66 @@ module _ (laws : Laws) (ground : Ground) (closed : AreClosed ground.nodes) (pass
       same_choice = same_some (choice_at table back.begin) opened.own.choice body.choice opened.own.chosen body.chosen
 
       carried : IsCarried n body.facts body.choice.kept opened.turn.begun (map begun_of opened.outer)
-      carried = subst (λ (choice : Choice). IsCarried n body.facts choice.kept opened.turn.begun (map begun_of opened.outer)) same_choice
-          (subst (λ (facts : Facts). IsCarried n facts opened.own.choice.kept opened.turn.begun (map begun_of opened.outer)) same_facts opened.own.carried)
+      carried = subst (λ (choice : Choice). IsCarried n body.facts choice.kept opened.turn.begun
+          (map begun_of opened.outer)) same_choice
+          (subst (λ (facts : Facts). IsCarried n facts opened.own.choice.kept opened.turn.begun
+          (map begun_of opened.outer)) same_facts opened.own.carried)
 
       held_start : held_at nodes table n goes.target ≡ value body.choice.held n
-      held_start = ap (held_at nodes table n) target_is ∙ (held_known nodes table n (suc back.begin) opened.own.start opened.own.started ∙ held_same opened.own.start (body_start body.choice (changes_in nodes back.begin) body.entering) n body.same)
+      held_start = ap (held_at nodes table n) target_is
+          ∙ (held_known nodes table n (suc back.begin) opened.own.start opened.own.started
+          ∙ held_same opened.own.start (body_start body.choice (changes_in nodes back.begin) body.entering) n body.same)
 
       module _ (few : held_of t.world ≤ held_at nodes table n goes.target) where
-        next_turn : BeginsAgain (run_at library n below turns) body.facts (body_start body.choice (changes_in nodes back.begin) (entered counted body.facts)) (unread_of s.world) s.world.kept body.choice.kept (map begun_of opened.outer)
-        next_turn = returns_are_sound (run_at library n below turns) body.facts here.facts (unread_of s.world) s.world.kept s.arguments body.choice (changes_in nodes back.begin) counted body.most opened.turn.begun (map begun_of opened.outer)
+        next_turn : BeginsAgain (run_at library n below turns) body.facts
+            (body_start body.choice (changes_in nodes back.begin) (entered counted body.facts))
+            (unread_of s.world) s.world.kept body.choice.kept (map begun_of opened.outer)
+        next_turn = returns_are_sound (run_at library n below turns) body.facts here.facts
+            (unread_of s.world) s.world.kept s.arguments body.choice (changes_in nodes back.begin) counted body.most
+            opened.turn.begun (map begun_of opened.outer)
             here.whole returning here.described begun_are
-            (let w : held_of t.world ≡ held_of s.world = ap held_of same_world in omega (arith, few, w, held_start)) carried
+            (let w : held_of t.world ≡ held_of s.world = ap held_of same_world in
+            omega (arith, few, w, held_start)) carried
 
-        run_is : run_in_turn (unread_of s.world) s.world.kept (run_behind 1 (run_at library n below turns)) ≡ run_at library n below later
-        run_is = ap (λ (all : List Begun). record { n = n; library = is_macro library; turns = begun ∷ drop 1 all; below = below }) begun_are
+        run_is : run_in_turn (unread_of s.world) s.world.kept (run_behind 1 (run_at library n below turns)) ≡ run_at
+            library n below later
+        run_is = ap (λ (all : List Begun). record {
+          n = n;
+          library = is_macro library;
+          turns = begun ∷ drop 1 all;
+          below = below;
+        }) begun_are
 
-        described_start : Describes (run_at library n below later) opened.own.start (unread_of s.world) s.world.kept model.no_arguments
-        described_start = covers_are_sound (run_at library n below later) opened.own.start (body_start body.choice (changes_in nodes back.begin) body.entering) (unread_of s.world) s.world.kept model.no_arguments here.whole (and_both _ _ body.same).0
-            (subst (λ facts. Describes (run_at library n below later) (body_start body.choice (changes_in nodes back.begin) facts) (unread_of s.world) s.world.kept model.no_arguments) (sym entering.is)
-            (subst (λ run. Describes run (body_start body.choice (changes_in nodes back.begin) (entered counted body.facts)) (unread_of s.world) s.world.kept model.no_arguments) run_is next_turn.described))
+        described_start : Describes (run_at library n below later) opened.own.start
+            (unread_of s.world) s.world.kept model.no_arguments
+        described_start = covers_are_sound (run_at library n below later) opened.own.start
+            (body_start body.choice (changes_in nodes back.begin) body.entering)
+            (unread_of s.world) s.world.kept model.no_arguments here.whole (and_both _ _ body.same).0
+            (subst (λ facts. Describes (run_at library n below later)
+            (body_start body.choice (changes_in nodes back.begin) facts)
+            (unread_of s.world) s.world.kept model.no_arguments) (sym entering.is)
+            (subst (λ run. Describes run (body_start body.choice (changes_in nodes back.begin)
+            (entered counted body.facts)) (unread_of s.world) s.world.kept model.no_arguments) run_is
+            next_turn.described))
 
         arguments_are : t.arguments ≡ model.no_arguments
         arguments_are = ap (λ (t : State). t.arguments) was.gone ∙ ap (λ (turn : Turn). turn.arguments) was.went.gone
 
-        described_there : Describes (run_at library n below later) opened.own.start (unread_of t.world) t.world.kept t.arguments
-        described_there = subst (λ arguments. Describes (run_at library n below later) opened.own.start (unread_of t.world) t.world.kept arguments) (sym arguments_are)
-            (subst (λ (world : World). Describes (run_at library n below later) opened.own.start (unread_of world) world.kept model.no_arguments) (sym same_world) described_start)
+        described_there : Describes (run_at library n below later) opened.own.start
+            (unread_of t.world) t.world.kept t.arguments
+        described_there = subst (λ arguments. Describes (run_at library n below later) opened.own.start
+            (unread_of t.world) t.world.kept arguments) (sym arguments_are)
+            (subst (λ (world : World). Describes (run_at library n below later) opened.own.start
+            (unread_of world) world.kept model.no_arguments) (sym same_world) described_start)
 
         opened_there : AreOpened nodes table n there.stand.iterations (open_loops t) later
         opened_there =
-            let to : open_loops t ≡ record { start = was.went.loop.start; turns = was.went.turns } ∷ (was.went.outer ++ loops_in s.frames.callers) = ap open_loops was.gone ∙ ap (λ (turn : Turn). turn.frame.loops ++ loops_in s.frames.callers) was.went.gone in
-            let own : IsOpened nodes table n back.begin (record { start = was.went.loop.start; turns = was.went.turns }) turn opened.outer = record {
+            let to : open_loops t ≡ record { start = was.went.loop.start; turns = was.went.turns } ∷
+            (was.went.outer ++ loops_in s.frames.callers) =
+            ap open_loops was.gone ∙ ap (λ (turn : Turn). turn.frame.loops ++ loops_in s.frames.callers)
+            was.went.gone in
+            let own : IsOpened nodes table n back.begin (record { start = was.went.loop.start; turns = was.went.turns })
+            turn opened.outer = record {
               facts = body.facts;
               start = opened.own.start;
               choice = body.choice;
@@ -226,10 +298,17 @@ module _ (laws : Laws) (ground : Ground) (closed : AreClosed ground.nodes) (pass
               more = less.is;
               carried = next_turn.carried;
             } in
-            subst (λ ls. AreOpened nodes table n ls (open_loops t) later) (sym (back.same ∙ back.innermost)) (subst (λ ls. AreOpened nodes table n (back.begin ∷ back.outer) ls later) (sym to) (own, opened.rest))
+            subst (λ ls. AreOpened nodes table n ls (open_loops t) later) (sym (back.same ∙ back.innermost))
+            (subst (λ ls. AreOpened nodes table n (back.begin ∷ back.outer) ls later) (sym to) (own, opened.rest))
 
         described_again : IsDescribed library nodes table n below goes.target later t
         described_again = search (started_at, stands_there, opened_there, described_there)
 
       pub begins_further : MovesOn library nodes table n below number here.node turns s goes.target t
-      begins_further = record { there = there; at = at; later = later; move = Back returning_it; held = described_again }
+      begins_further = record {
+        there = there;
+        at = at;
+        later = later;
+        move = Back returning_it;
+        held = described_again;
+      }

@@ -1,5 +1,7 @@
 -- A macro whose table is closed runs to its end in time.
-use Rattle.std.proofs.Common.{◌≡◌, ◌⊎◌, inl, inr, ℕ, zero, suc, ◌+◌, ◌<◌, ◌≤◌, refl, sym, ap, ◌∙◌, subst, arith, List, [], ◌∷◌, map, Bool, true, false, ◌||◌, Option, Some, None, Result, Ok, Err, IfOk, slice_get, rules}
+use Rattle.std.proofs.Common.{◌≡◌, ◌⊎◌, inl, inr, ℕ, zero, suc, ◌+◌, ◌<◌, ◌≤◌, refl, sym, ap, ◌∙◌, subst, arith, List}
+use Rattle.std.proofs.Common.{[], ◌∷◌, map, Bool, true, false, ◌||◌, Option, Some, None, Result, Ok, Err, IfOk}
+use Rattle.std.proofs.Common.{slice_get, rules}
 use Rattle.std.specs.Prelude.{IsTrue}
 use Rattle.std.specs.Option.{option_map_or}
 use Rattle.std.proofs.lemmas.Int.{ints}
@@ -37,12 +39,14 @@ use Rattle.teco_verifier.specs.facts.Facts.{Facts, entry_of, without_digit}
 use Rattle.teco_verifier.specs.facts.Flows.{Edges}
 use Rattle.teco_verifier.specs.facts.Printed.{no_needs, needs}
 use Rattle.teco_law_facts.specs.SoundSteps.{AreOpen, BeginsAt, ElementsAreNamed}
-use Rattle.teco_law_facts.specs.Wholeness.{AreBytes, AreWholeArguments, IsWholeWorld, IsWholeState, IsWholeOutcome, WholeIsKept}
+use Rattle.teco_law_facts.specs.Wholeness.{AreBytes, AreWholeArguments, IsWholeWorld, IsWholeState, IsWholeOutcome}
+use Rattle.teco_law_facts.specs.Wholeness.{WholeIsKept}
 use Rattle.teco_verifier.specs.table.Behind.{left_by, placed, edges_behind, edges_at, along}
 use Rattle.teco_verifier.specs.table.Closed.{closed_behind}
 use Rattle.teco_law_tables.specs.Ending.{EndsWithin, start_given, RunsEndInTime}
 use Rattle.teco_law_tables.specs.Following.{run_at, pages_in}
-use Rattle.teco_verifier.specs.table.Printed.{steps_before, steps_of, needs_of, known_needs, needs_from, needs_in, IsPrinted}
+use Rattle.teco_verifier.specs.table.Printed.{steps_before, steps_of, needs_of, known_needs, needs_from, needs_in}
+use Rattle.teco_verifier.specs.table.Printed.{IsPrinted}
 use Rattle.teco_law_tables.specs.Staying.{changes_files, ReadsNoFileCommand}
 use Rattle.teco_verifier.specs.table.Table.{Table, facts_at}
 use Rattle.teco_law_tables.specs.Verified.{IsReady, RunsAreVerified}
@@ -83,29 +87,41 @@ or_right false b h = h
 abbrev Among : Needs → Needs → Type 0
 Among a b = (a.input ≡ true → b.input ≡ true) × (a.output ≡ true → b.output ≡ true)
 
-needs_among : (table : Table) (k j : ℕ) (rest : List Node) (node : Node) (facts : Facts) → slice_get rest j ≡ Some node → facts_at table (k + j) ≡ Some facts → Among (needs_of node.element facts) (needs_from table k rest)
+needs_among : (table : Table) (k j : ℕ) (rest : List Node) (node : Node) (facts : Facts) → slice_get rest j ≡ Some node
+    → facts_at table (k + j) ≡ Some facts → Among (needs_of node.element facts) (needs_from table k rest)
 needs_among table k j [] node facts at known = absurd (cc)
 needs_among table k zero (x ∷ rest) node facts at known =
     let same : x ≡ node = cc in
     let z : k + 0 ≡ k = omega arith in
-    let first : option_map_or (needs_of x.element) (facts_at table k) no_needs ≡ needs_of node.element facts = ap (λ (o : Option Facts). option_map_or (needs_of x.element) o no_needs) (ap (facts_at table) (sym z) ∙ known) ∙ ap (λ (x : Node). needs_of x.element facts) same in
-    (λ h. or_left _ _ (ap (λ (a : Needs). a.input) first ∙ h), λ h. or_left _ _ (ap (λ (a : Needs). a.output) first ∙ h))
+    let first : option_map_or (needs_of x.element) (facts_at table k) no_needs ≡ needs_of node.element facts =
+    ap (λ (o : Option Facts). option_map_or (needs_of x.element) o no_needs) (ap (facts_at table) (sym z) ∙ known)
+    ∙ ap (λ (x : Node). needs_of x.element facts) same in (
+      λ h. or_left _ _ (ap (λ (a : Needs). a.input) first ∙ h),
+      λ h. or_left _ _ (ap (λ (a : Needs). a.output) first ∙ h),
+    )
 needs_among table k (suc j) (x ∷ rest) node facts at known =
     let z : suc k + j ≡ k + suc j = omega arith in
-    let later = needs_among table (suc k) j rest node facts at (ap (facts_at table) z ∙ known) in
-    (λ h. or_right (option_map_or (needs_of x.element) (facts_at table k) no_needs).input _ (later.0 h), λ h. or_right (option_map_or (needs_of x.element) (facts_at table k) no_needs).output _ (later.1 h))
+    let later = needs_among table (suc k) j rest node facts at (ap (facts_at table) z ∙ known) in (
+      λ h. or_right (option_map_or (needs_of x.element) (facts_at table k) no_needs).input _ (later.0 h),
+      λ h. or_right (option_map_or (needs_of x.element) (facts_at table k) no_needs).output _ (later.1 h),
+    )
 
-needs_in_all : (nodes : List Node) (table : Table) (k : ℕ) (node : Node) (facts : Facts) → numbered nodes k ≡ Some node → facts_at table k ≡ Some facts → Among (needs_of node.element facts) (needs_in nodes table)
+needs_in_all : (nodes : List Node) (table : Table) (k : ℕ) (node : Node) (facts : Facts) → numbered nodes k ≡ Some node
+    → facts_at table k ≡ Some facts → Among (needs_of node.element facts) (needs_in nodes table)
 unfolding needs_in
 needs_in_all nodes table zero node facts at known = absurd (cc)
-needs_in_all nodes table (suc k) node facts at known = let z : 1 + k ≡ suc k = omega arith in needs_among table 1 k nodes node facts at (ap (facts_at table) z ∙ known)
+needs_in_all nodes table (suc k) node facts at known = let z : 1 + k ≡ suc k = omega arith in
+    needs_among table 1 k nodes node facts at (ap (facts_at table) z ∙ known)
 
-open_for : (r : Result Needs Refusal) (all : Needs) (files : Files) → Among (known_needs r) all → AreOpen all files → IfOk r (λ need. AreOpen need files)
-open_for (Ok need) all files among open_all = record { input = λ h. open_all.input (among.0 h); output = λ h. open_all.output (among.1 h) }
+open_for : (r : Result Needs Refusal) (all : Needs) (files : Files) → Among (known_needs r) all → AreOpen all files
+    → IfOk r (λ need. AreOpen need files)
+open_for (Ok need) all files among open_all =
+    record { input = λ h. open_all.input (among.0 h); output = λ h. open_all.output (among.1 h) }
 open_for (Err why) all files among open_all = tt
 
 -- ---- the edges of a node that is reached
-edges_there : (nodes : List Node) (table : Table) (number : ℕ) (node : Node) (facts : Facts) (r : Result Edges Refusal) → IsTrue (closed_behind nodes table number node facts r) → (edges : Edges) × (r ≡ Ok edges)
+edges_there : (nodes : List Node) (table : Table) (number : ℕ) (node : Node) (facts : Facts) (r : Result Edges Refusal)
+    → IsTrue (closed_behind nodes table number node facts r) → (edges : Edges) × (r ≡ Ok edges)
 edges_there nodes table number node facts (Ok edges) h = (edges, refl)
 edges_there nodes table number node facts (Err why) h = absurd (cc)
 
@@ -116,13 +132,20 @@ pub record Laws : Type 0 where
   pub named : ElementsAreNamed
   pub whole : WholeIsKept
 
-returned : (run : Run) (facts : Facts) (unread : ℕ) (kept : Kept) (arguments : Arguments) → Describes run facts unread kept arguments → Describes run (without_digit (without_answer facts)) unread kept arguments
+returned : (run : Run) (facts : Facts) (unread : ℕ) (kept : Kept) (arguments : Arguments)
+    → Describes run facts unread kept arguments
+    → Describes run (without_digit (without_answer facts)) unread kept arguments
 returned run facts unread kept arguments d = search rules
 
-module _ (laws : Laws) (ground : Ground) (closed : AreClosed ground.nodes) (rules : Rules) (argument : Option ArgumentRange) (commands_are size_is : Polynomial) (printed : IsPrinted (entry_of rules ground.library argument) ground.nodes ground.table commands_are size_is) (small : value size_is ground.n ≤ LIMIT) (names : ElementsAreNamed) (first : State) (whole_first : IsWholeState first) where
+module _ (laws : Laws) (ground : Ground) (closed : AreClosed ground.nodes) (rules : Rules)
+    (argument : Option ArgumentRange) (commands_are size_is : Polynomial)
+    (printed : IsPrinted (entry_of rules ground.library argument) ground.nodes ground.table commands_are size_is)
+    (small : value size_is ground.n ≤ LIMIT) (names : ElementsAreNamed) (first : State)
+    (whole_first : IsWholeState first) where
   open ground use {library, entry, nodes, table, n, below, are, passes}
 
-  module _ (arrival : Arrival ground) (taken : ℕ) (reached : Reaches taken first arrival.s) (files : AreOpen (needs_in nodes table) arrival.s.world.files) where
+  module _ (arrival : Arrival ground) (taken : ℕ) (reached : Reaches taken first arrival.s)
+      (files : AreOpen (needs_in nodes table) arrival.s.world.files) where
     open arrival use {number, turns, s, here}
 
     read_here : element_at s.frames.running.text s.frames.running.place ≡ Ok here.node.element
@@ -132,11 +155,14 @@ module _ (laws : Laws) (ground : Ground) (closed : AreClosed ground.nodes) (rule
     whole_here = whole_there laws.whole taken first s whole_first reached
 
     edges_here : (edges : Edges) × (edges_at nodes here.node here.facts ≡ Ok edges)
-    edges_here = edges_there nodes table number here.node here.facts (edges_at nodes here.node here.facts) (where_checked nodes table number here.node here.facts passes here.at here.known).1
+    edges_here = edges_there nodes table number here.node here.facts (edges_at nodes here.node here.facts)
+        (where_checked nodes table number here.node here.facts passes here.at here.known).1
 
-    element_passes : (e : Element) → here.node.element ≡ Some e → Goes library entry nodes table n below number turns s here
+    element_passes : (e : Element) → here.node.element ≡ Some e
+        → Goes library entry nodes table n below number turns s here
     element_passes e reads =
-        let most = steps_known table (entry_of rules library argument) nodes number here.node here.facts commands_are printed.commands_are here.at here.known in
+        let most = steps_known table (entry_of rules library argument) nodes number here.node here.facts commands_are
+        printed.commands_are here.at here.known in
         let begins : BeginsAt (run_at library n below turns) here.facts (placed nodes here.node e) s = record {
           whole = whole_here;
           described = here.described;
@@ -144,13 +170,19 @@ module _ (laws : Laws) (ground : Ground) (closed : AreClosed ground.nodes) (rule
           read = read_here ∙ ap Ok reads;
           colon = ap (λ (p : Position). has_colon e (frame_of p.running.text)) here.position;
           named = names s.frames.running.text s.frames.running.place e (read_here ∙ ap Ok reads);
-          library = λ r e'. sym (ap (λ o. option_map_or (is_macro library) o false) e') ∙ sym ((are.each number here.node here.at).names ∙ ap (names_macro library) reads);
+          library = λ r e'. sym (ap (λ o. option_map_or (is_macro library) o false) e')
+              ∙ sym ((are.each number here.node here.at).names ∙ ap (names_macro library) reads);
           stands = stands_there ground closed arrival e reads edges_here.0 edges_here.1;
-          files = open_for (needs e.kind here.facts) (needs_in nodes table) s.world.files (subst (λ read. Among (needs_of read here.facts) (needs_in nodes table)) reads (needs_in_all nodes table number here.node here.facts here.at here.known)) files;
+          files = open_for (needs e.kind here.facts) (needs_in nodes table) s.world.files
+              (subst (λ read. Among (needs_of read here.facts) (needs_in nodes table)) reads
+              (needs_in_all nodes table number here.node here.facts here.at here.known)) files;
         } in
         completing.passing laws.steps ground arrival e reads edges_here.0 edges_here.1 most.0
         (sym (ap (λ read. steps_of read here.facts) reads) ∙ most.1)
-        (edges_fit library entry nodes table (run_at library n below turns) are passes (λ k node facts at known. facts_fit table rules library argument nodes k node facts size_is (run_at library n below turns) refl printed.size_is small at known) number here.node e here.facts edges_here.0 reads here.at here.known edges_here.1)
+        (edges_fit library entry nodes table (run_at library n below turns) are passes
+        (λ k node facts at known. facts_fit table rules library argument nodes k node facts size_is
+        (run_at library n below turns) refl printed.size_is small at known) number here.node e here.facts
+        edges_here.0 reads here.at here.known edges_here.1)
         begins
         (λ k u r. (whole_there laws.whole k s u whole_here r).world.kept)
         (λ q is colon. search_inside ground closed arrival e reads edges_here.0 edges_here.1 q is colon)
@@ -162,7 +194,8 @@ module _ (laws : Laws) (ground : Ground) (closed : AreClosed ground.nodes) (rule
       unfolding step
       step_is loops e = ap (outcome_at s) (read_here ∙ ap Ok reads) ∙ ap (λ loops. end_of_text loops s) e
 
-      no_starts : (starts : List ℕ) (callers : List Spot) (targets : List Position) → return_ways starts callers ≡ Ok targets → starts ≡ []
+      no_starts : (starts : List ℕ) (callers : List Spot) (targets : List Position)
+          → return_ways starts callers ≡ Ok targets → starts ≡ []
       no_starts [] callers targets h = refl
       no_starts (start ∷ outer) callers targets h = absurd (cc)
 
@@ -174,8 +207,10 @@ module _ (laws : Laws) (ground : Ground) (closed : AreClosed ground.nodes) (rule
       unfolding ways_at
       loops_none =
           let linked = are.each number here.node here.at in
-          let ways : return_ways here.node.stand.position.running.starts here.node.stand.position.callers ≡ Ok linked.targets = ap (λ read. ways_at library read here.node.stand.position) (sym reads) ∙ linked.goes in
-          none_open s.frames.running.loops (sym (ap (λ (p : Position). p.running.starts) here.position) ∙ no_starts here.node.stand.position.running.starts here.node.stand.position.callers linked.targets ways)
+          let ways : return_ways here.node.stand.position.running.starts here.node.stand.position.callers ≡ Ok
+          linked.targets = ap (λ read. ways_at library read here.node.stand.position) (sym reads) ∙ linked.goes in
+          none_open s.frames.running.loops (sym (ap (λ (p : Position). p.running.starts) here.position)
+          ∙ no_starts here.node.stand.position.running.starts here.node.stand.position.callers linked.targets ways)
 
       module _ (caller : Frame) (callers : List Frame) (waiting : s.frames.callers ≡ caller ∷ callers) where
         abbrev next : State
@@ -184,12 +219,14 @@ module _ (laws : Laws) (ground : Ground) (closed : AreClosed ground.nodes) (rule
         goes_back : step s ≡ Next next
         goes_back = step_is [] loops_none ∙ ap (λ callers. end_outcome callers s) waiting
 
-        moved : MovesFrom (stands nodes entry) number here.node s next → GoesTo (stands nodes entry) number here.node s next
+        moved : MovesFrom (stands nodes entry) number here.node s next
+            → GoesTo (stands nodes entry) number here.node s next
         moved (Went g) = g
         moved (Stayed st) = let z : None ≡ Some st.n = sym here.begins ∙ st.left in absurd (cc)
 
         went : GoesTo (stands nodes entry) number here.node s next
-        went = moved (laws.steps.along library entry nodes number here.node s next are here.at here.position (subst (λ left. IsLeftAt here.node.element left) (sym here.begins) tt) here.loaded goes_back)
+        went = moved (laws.steps.along library entry nodes number here.node s next are here.at here.position
+            (subst (λ left. IsLeftAt here.node.element left) (sym here.begins) tt) here.loaded goes_back)
 
         reached_here : Reaches 0 s s
         unfolding run
@@ -207,7 +244,9 @@ module _ (laws : Laws) (ground : Ground) (closed : AreClosed ground.nodes) (rule
             next = next;
             reaches = reached_here;
             steps = goes_back;
-            few = let one : value_of n (steps_of here.node.element here.facts) ≡ 1 = ap (value_of n) (ap (λ read. steps_of read here.facts) reads) ∙ (values_of_constants n 1).0 in omega (arith, one);
+            few = let one : value_of n (steps_of here.node.element here.facts) ≡ 1 =
+                ap (value_of n) (ap (λ read. steps_of read here.facts) reads) ∙ (values_of_constants n 1).0 in
+                omega (arith, one);
             none = none_more 0 s s (none_yet s) reached_here none_here;
             again = Alone refl;
             goes = went;
@@ -216,7 +255,12 @@ module _ (laws : Laws) (ground : Ground) (closed : AreClosed ground.nodes) (rule
               next = without_digit (without_answer here.facts);
               leads = ap (λ read. edges_behind nodes here.node read here.facts) reads;
               on_way = ap (λ read. along read went.way (transfer_return here.facts)) reads;
-              described = subst (λ run. Describes run (without_digit (without_answer here.facts)) (unread_of s.world) s.world.kept s.arguments) (sym (ap (λ read. run_along read went.way (left_by nodes here.node) s.world (run_at library n below turns)) reads)) (returned (run_at library n below turns) here.facts (unread_of s.world) s.world.kept s.arguments here.described);
+              described = subst (λ run. Describes run (without_digit (without_answer here.facts))
+                  (unread_of s.world) s.world.kept s.arguments)
+                  (sym (ap (λ read. run_along read went.way (left_by nodes here.node) s.world
+                  (run_at library n below turns)) reads))
+                  (returned (run_at library n below turns) here.facts (unread_of s.world) s.world.kept s.arguments
+                  here.described);
               less = omega arith;
               grown = omega arith;
             };
@@ -226,11 +270,13 @@ module _ (laws : Laws) (ground : Ground) (closed : AreClosed ground.nodes) (rule
           };
         }
 
-      return_by : (callers : List Frame) → s.frames.callers ≡ callers → (step s ≡ End s.world) ⊎ Goes library entry nodes table n below number turns s here
+      return_by : (callers : List Frame) → s.frames.callers ≡ callers
+          → (step s ≡ End s.world) ⊎ Goes library entry nodes table n below number turns s here
       return_by [] e = inl (step_is [] loops_none ∙ ap (λ callers. end_outcome callers s) e)
       return_by (caller ∷ callers) e = inr (returning caller callers e)
 
-    by_read : (read : Option Element) → here.node.element ≡ read → (step s ≡ End s.world) ⊎ Goes library entry nodes table n below number turns s here
+    by_read : (read : Option Element) → here.node.element ≡ read
+        → (step s ≡ End s.world) ⊎ Goes library entry nodes table n below number turns s here
     by_read None reads = return_by reads s.frames.callers refl
     by_read (Some e) reads = inr (element_passes e reads)
 
@@ -238,30 +284,62 @@ module _ (laws : Laws) (ground : Ground) (closed : AreClosed ground.nodes) (rule
     passes_here = by_read here.node.element refl
 
 -- ---- the start
-argument_whole : (argument : Option ArgumentRange) (given : Option ℕ) → IsAsked argument given → AreWholeArguments (arguments_given given)
+argument_whole : (argument : Option ArgumentRange) (given : Option ℕ) → IsAsked argument given
+    → AreWholeArguments (arguments_given given)
 argument_whole None None asked = record { level = record { first = tt; value = tt }; outer = tt }
-argument_whole (Some range) (Some n) asked = record { level = record { first = tt; value = omega (arith, ints, asked.small) }; outer = tt }
+argument_whole (Some range) (Some n) asked =
+    record { level = record { first = tt; value = omega (arith, ints, asked.small) }; outer = tt }
 argument_whole argument given asked = absurd (grind arith)
 
-start_whole : Laws → (entry : ℕ) (argument : Option ArgumentRange) (given : Option ℕ) (world : World) → IsAsked argument given → AreBytes (call_of entry) → IsWholeWorld world → IsWholeState (start_given entry given world)
+start_whole : Laws → (entry : ℕ) (argument : Option ArgumentRange) (given : Option ℕ) (world : World)
+    → IsAsked argument given → AreBytes (call_of entry) → IsWholeWorld world
+    → IsWholeState (start_given entry given world)
 start_whole laws entry argument given world asked call whole = search argument_whole
 
 -- the digits before the call take a step, where an argument is given
-in_all : (laws : Laws) (calls : CallLaws) (entry : ℕ) (argument : Option ArgumentRange) (given : Option ℕ) (world : World) (steps most : ℕ) → entry < REGISTERS → IsAsked argument given → steps_before argument + steps ≡ most →
+in_all : (laws : Laws) (calls : CallLaws) (entry : ℕ) (argument : Option ArgumentRange) (given : Option ℕ)
+    (world : World) (steps most : ℕ) → entry < REGISTERS → IsAsked argument given
+    → steps_before argument + steps ≡ most →
     EndsWithin (start_given entry given world) steps → EndsWithin (start (call_given entry given) world) most
 in_all laws calls entry None None world steps most named asked all ends = search arith
-in_all laws calls entry (Some range) (Some n) world steps most named asked all ends = subst (EndsWithin (start (call_given entry (Some n)) world)) all (given_ends calls entry n world steps named asked.small ends)
+in_all laws calls entry (Some range) (Some n) world steps most named asked all ends =
+    subst (EndsWithin (start (call_given entry (Some n)) world)) all
+    (given_ends calls entry n world steps named asked.small ends)
 in_all laws calls entry argument given world steps most named asked all ends = absurd (grind arith)
 
-pub elements_go : (laws : Laws) → IterationsEnd → (library : Library) (entry : ℕ) (rules : Rules) (argument : Option ArgumentRange) (given : Option ℕ) (nodes : List Node) (table : Table) (commands_are size_is : Polynomial) (n : ℕ) (world : World) → AreLinked library entry nodes → IsPrinted (entry_of rules library argument) nodes table commands_are size_is → IsAsked argument given → IsReady library entry size_is n world →
+pub elements_go : (laws : Laws) → IterationsEnd
+    → (library : Library) (entry : ℕ) (rules : Rules) (argument : Option ArgumentRange) (given : Option ℕ)
+    (nodes : List Node) (table : Table) (commands_are size_is : Polynomial) (n : ℕ) (world : World)
+    → AreLinked library entry nodes → IsPrinted (entry_of rules library argument) nodes table commands_are size_is
+    → IsAsked argument given → IsReady library entry size_is n world →
     ElementsGo library entry nodes table n world.kept.registers.stack (start_given entry given world)
-elements_go laws ends library entry rules argument given nodes table commands_are size_is n world are printed asked ready number turns steps s reached here files =
-    let ground : Ground = record { library = library; entry = entry; nodes = nodes; table = table; n = n; below = world.kept.registers.stack; are = are; passes = nodes_checked nodes table (entry_of rules library argument) printed.closed } in
-    passes_here laws ground (ends library entry nodes are) rules argument commands_are size_is printed ready.small laws.named (start_given entry given world) (start_whole laws entry argument given world asked ready.call ready.whole) (record { number = number; turns = turns; s = s; here = here }) steps reached files
+elements_go laws ends library entry rules argument given nodes table commands_are size_is n world are printed asked
+    ready number turns steps s reached here files =
+    let ground : Ground = record {
+      library = library;
+      entry = entry;
+      nodes = nodes;
+      table = table;
+      n = n;
+      below = world.kept.registers.stack;
+      are = are;
+      passes =
+          nodes_checked nodes table (entry_of rules library argument) printed.closed;
+    } in
+    passes_here laws ground (ends library entry nodes are) rules argument commands_are size_is printed ready.small
+    laws.named (start_given entry given world)
+    (start_whole laws entry argument given world asked ready.call ready.whole)
+    (record { number = number; turns = turns; s = s; here = here }) steps reached files
 
 pub runs_are_verified : Laws → CallLaws → IterationsEnd → RunsEndInTime → RunsAreVerified
-runs_are_verified laws calls ends in_time library entry rules argument given nodes table commands_are size_is n world are printed asked ready files =
-    in_all laws calls entry argument given world (steps_in (turning nodes table n) + pages_in nodes table n) (value commands_are n) ready.named asked (let all = commands_are_steps (entry_of rules library argument) nodes table commands_are n printed.commands_are in omega (arith, all))
-    (in_time library entry rules argument given nodes table n world are printed.closed asked ready.loaded ready.whole.kept ready.begins files
+runs_are_verified laws calls ends in_time library entry rules argument given nodes table commands_are size_is n world
+    are printed asked ready files =
+    in_all laws calls entry argument given world (steps_in (turning nodes table n) + pages_in nodes table n)
+    (value commands_are n) ready.named asked
+    (let all = commands_are_steps (entry_of rules library argument) nodes table commands_are n printed.commands_are
+    in omega (arith, all))
+    (in_time library entry rules argument given nodes table n world are printed.closed asked ready.loaded
+    ready.whole.kept ready.begins files
     (elements_pass library entry nodes table n world.kept.registers.stack (start_given entry given world)
-    (elements_go laws ends library entry rules argument given nodes table commands_are size_is n world are printed asked ready)))
+    (elements_go laws ends library entry rules argument given nodes table commands_are size_is n world are printed asked
+    ready)))

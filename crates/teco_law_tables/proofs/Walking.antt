@@ -1,5 +1,6 @@
 -- Runs that come to a state, move by move.
-use Rattle.std.proofs.Common.{◌≡◌, ◌⊎◌, inl, inr, ℕ, zero, suc, ◌+◌, ◌-◌, ◌≤◌, ◌<◌, refl, sym, ap, ◌∙◌, subst, arith, false, Option, Result, Ok}
+use Rattle.std.proofs.Common.{◌≡◌, ◌⊎◌, inl, inr, ℕ, zero, suc, ◌+◌, ◌-◌, ◌≤◌, ◌<◌, refl, sym, ap, ◌∙◌, subst, arith}
+use Rattle.std.proofs.Common.{false, Option, Result, Ok}
 use Rattle.std.proofs.lemmas.Bool.{cases_order}
 use Rattle.teco_law_turns.specs.Moves.{State as Shown, Move, RunTakes}
 use Rattle.teco_law_turns.specs.Table.{Table as Numbers}
@@ -14,20 +15,32 @@ use Rattle.teco_law_tables.specs.Staying.{changes_files, ReadsNoFileCommand, NoF
 abbrev pub Came : Numbers → ℕ → Shown → ℕ → Shown → Type 0
 Came t zero s total last = (s ≡ last) × (total ≡ 0)
 Came t (suc moves) s total last =
-    (new : Shown) × (own : ℕ) × (rest : ℕ) × Move t s new × (own + new.apart ≤ t.own s.node + s.apart) × Came t moves new rest last × (total ≡ own + rest)
+    (new : Shown) × (own : ℕ) × (rest : ℕ) × Move t s new × (own + new.apart ≤ t.own s.node + s.apart)
+    × Came t moves new rest last × (total ≡ own + rest)
 
-pub came_on : (t : Numbers) (moves : ℕ) (s last new : Shown) (total own : ℕ) → Came t moves s total last → Move t last new → own + new.apart ≤ t.own last.node + last.apart → Came t (suc moves) s (total + own) new
-came_on t zero s last new total own c m l =
-    (new, own, 0, subst (λ (s : Shown). Move t s new) (sym c.0) m, subst (λ (s : Shown). own + new.apart ≤ t.own s.node + s.apart) (sym c.0) l, (refl, refl), omega (arith, c.1))
+pub came_on : (t : Numbers) (moves : ℕ) (s last new : Shown) (total own : ℕ) → Came t moves s total last
+    → Move t last new → own + new.apart ≤ t.own last.node + last.apart → Came t (suc moves) s (total + own) new
+came_on t zero s last new total own c m l = (
+  new,
+  own,
+  0,
+  subst (λ (s : Shown). Move t s new) (sym c.0) m,
+  subst (λ (s : Shown). own + new.apart ≤ t.own s.node + s.apart) (sym c.0) l,
+  (refl, refl),
+  omega (arith, c.1),
+)
 came_on t (suc moves) s last new total own c m l =
     (c.0, c.1, c.2 + own, c.3, c.4, came_on t moves c.0 last new c.2 own c.5 m l, omega (arith, c.6))
 
-pub came_takes : (t : Numbers) (moves : ℕ) (s last : Shown) (total k : ℕ) → Came t moves s total last → k ≤ t.own last.node + last.apart → RunTakes t moves s (total + k)
-came_takes t zero s last total k c l = let e = subst (λ (s : Shown). k ≤ t.own s.node + s.apart) (sym c.0) l in omega (arith, c.1, e)
+pub came_takes : (t : Numbers) (moves : ℕ) (s last : Shown) (total k : ℕ) → Came t moves s total last
+    → k ≤ t.own last.node + last.apart → RunTakes t moves s (total + k)
+came_takes t zero s last total k c l = let e = subst (λ (s : Shown). k ≤ t.own s.node + s.apart) (sym c.0) l in
+    omega (arith, c.1, e)
 came_takes t (suc moves) s last total k c l =
     (c.0, c.1, c.2 + k, c.3, c.4, came_takes t moves c.0 last c.2 k c.5 l, omega (arith, c.6))
 
-pub came_leads : (t : Numbers) (moves : ℕ) (s last : Shown) (total : ℕ) → Came t moves s total last → Lead t moves s last
+pub came_leads : (t : Numbers) (moves : ℕ) (s last : Shown) (total : ℕ) → Came t moves s total last
+    → Lead t moves s last
 came_leads t zero s last total c = c.0
 came_leads t (suc moves) s last total c = (c.0, c.3, came_leads t moves c.0 last c.2 c.5)
 
@@ -47,13 +60,15 @@ same_next a b e = cc
 one_read : (r : Result (Option Element) Code) (read other : Option Element) → r ≡ Ok read → r ≡ Ok other → read ≡ other
 one_read r read other is reads = cc
 
-pub reads_none : (s : State) (read : Option Element) → element_at s.frames.running.text s.frames.running.place ≡ Ok read → changes_files read ≡ false → ReadsNoFileCommand s
+pub reads_none : (s : State) (read : Option Element) → element_at s.frames.running.text s.frames.running.place ≡ Ok read
+    → changes_files read ≡ false → ReadsNoFileCommand s
 reads_none s read is none other reads = ap changes_files (sym (one_read _ read other is reads)) ∙ none
 
 pub none_yet : (s : State) → NoFileCommands s 0
 none_yet s k t l = absurd (omega (arith, l))
 
-pub none_more : (j : ℕ) (s u : State) → NoFileCommands s j → Reaches j s u → ReadsNoFileCommand u → NoFileCommands s (suc j)
+pub none_more : (j : ℕ) (s u : State) → NoFileCommands s j → Reaches j s u → ReadsNoFileCommand u
+    → NoFileCommands s (suc j)
 none_more j s u none came at k t l h = by (cases_order k j)
   where
     by : (k ≡ j) ⊎ ((k < j) ⊎ (j < k)) → ReadsNoFileCommand t
@@ -61,7 +76,8 @@ none_more j s u none came at k t l h = by (cases_order k j)
     by (inr (inl less)) = none k t less h
     by (inr (inr more)) = absurd (omega (arith, l, more))
 
-pub none_on : (k m : ℕ) (s u : State) → NoFileCommands s k → Reaches k s u → NoFileCommands u m → NoFileCommands s (k + m)
+pub none_on : (k m : ℕ) (s u : State) → NoFileCommands s k → Reaches k s u → NoFileCommands u m
+    → NoFileCommands s (k + m)
 none_on k m s u none came later j t l h = by (cases_order k j)
   where
     behind : (i : ℕ) → j ≡ k + i → ReadsNoFileCommand t

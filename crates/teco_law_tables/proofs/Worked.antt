@@ -17,5 +17,7 @@ use Rattle.teco_law_tables.specs.Rows.{WorkedTables}
 use Rattle.teco_verifier.specs.table.Written.{written_in, written, ends_in}
 
 pub worked_tables : WorkedTables
-unfolding digits int_wrap blank_len element_from element_at letters reading_at first_readings readings part_at parts_within parts read_at flow_ways ways_at next_visit walk way_numbers node_at nodes_at expansion transfer check_nodes check derive commands size needs_in written_in written ends_in texts_at_entry
+unfolding digits int_wrap blank_len element_from element_at letters reading_at first_readings readings part_at
+    parts_within parts read_at flow_ways ways_at next_visit walk way_numbers node_at nodes_at expansion transfer
+    check_nodes check derive commands size needs_in written_in written ends_in texts_at_entry
 worked_tables = search rules

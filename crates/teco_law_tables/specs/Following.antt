@@ -1,6 +1,7 @@
 -- What is true of a run where an element begins: it stands at a node that the table has as reached, and is
 -- described there.
-use Rattle.std.specs.Prelude.{◌≡◌, ℕ, suc, ◌+◌, ◌≤◌, ⊤, List, [], ◌∷◌, ◌++◌, map, length, Bool, true, false, Option, Some, None, ◌||◌, if◌then◌else◌}
+use Rattle.std.specs.Prelude.{◌≡◌, ℕ, suc, ◌+◌, ◌≤◌, ⊤, List, [], ◌∷◌, ◌++◌, map, length, Bool, true, false, Option}
+use Rattle.std.specs.Prelude.{Some, None, ◌||◌, if◌then◌else◌}
 use Rattle.teco_law_turns.specs.Moves.{OpenLoop, State as Shown}
 use Rattle.teco_model.specs.declared.flow.Loop.{Loop}
 use Rattle.teco_model.specs.Registers.{Pair}

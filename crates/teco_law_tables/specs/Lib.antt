@@ -9,5 +9,7 @@ pub mod Rows
 pub mod SecondRows
 pub mod Verified
 pub mod Sure
+pub mod Keeping
+pub mod Framing
 pub mod Bounded
 pub mod straight_text

@@ -7,7 +7,8 @@ use Rattle.teco_verifier.specs.declared.rules.Rules.TheVariants.{Second}
 use Rattle.teco_verifier.specs.expansion.Expansion.{expansion}
 use Rattle.teco_verifier.specs.facts.Facts.{entry_of}
 use Rattle.teco_verifier.specs.table.Choices.{Chosen}
-use Rattle.teco_law_tables.specs.Rows.{Verdict, Printed, NotClosed, NotDerived, verdict_expanded, poly, kept_with, mark_pages}
+use Rattle.teco_law_tables.specs.Rows.{Verdict, Printed, NotClosed, NotDerived, verdict_expanded, poly, kept_with}
+use Rattle.teco_law_tables.specs.Rows.{mark_pages}
 
 -- of the macro A of a library
 abbrev pub by_second : Library → List Chosen → Verdict

@@ -1,9 +1,10 @@
 -- Files stay as open as they are, through each step whose element is no command of files.
-use Rattle.std.specs.Prelude.{◌≡◌, ℕ, ◌<◌, Bool, true, false, is_some, Option, Some, None, Ok}
+use Rattle.std.specs.Prelude.{◌≡◌, ℕ, ◌<◌, ◌≤◌, length, Bool, true, false, is_some, Option, Some, None, Ok}
 use Rattle.teco_model.specs.declared.kind.Kind.{Kind}
 use Rattle.teco_model.specs.declared.kind.Kind.TheVariants as kind
 use Rattle.teco_model.specs.Element.{Element, element_at}
 use Rattle.teco_model.specs.Files.{Files}
+use Rattle.teco_model.specs.Paging.{unread}
 use Rattle.teco_model.specs.Run.{Reaches}
 use Rattle.teco_model.specs.State.{State, Next}
 use Rattle.teco_model.specs.Step.{step}
@@ -27,10 +28,11 @@ ReadsNoFileCommand s =
 abbrev pub NoFileCommands : State → ℕ → Type 0
 NoFileCommands s steps = (k : ℕ) (t : State) → k < steps → Reaches k s t → ReadsNoFileCommand t
 
--- An input is open after it just where one was before, and so is an output.
+-- An input is open after it just where one was before, and so is an output; and no more is unread.
 pub record AreAsOpen (old new : Files) : Type 0 where
   pub input : is_some new.input ≡ is_some old.input
   pub output : is_some new.output ≡ is_some old.output
+  pub unread : length (unread new) ≤ length (unread old)
 
 abbrev pub FilesStayOpen : Type 0
 FilesStayOpen =

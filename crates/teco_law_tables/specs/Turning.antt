@@ -1,5 +1,6 @@
 -- A table of facts at one N, as the table of numbers that the law of turns speaks of.
-use Rattle.std.specs.Prelude.{ℕ, zero, suc, ◌-◌, ◌==◌, pos, List, [], length, Bool, true, false, is_some, if◌then◌else◌, Option, Some, None, Result, Ok, Err}
+use Rattle.std.specs.Prelude.{ℕ, zero, suc, ◌-◌, ◌==◌, pos, List, [], length, Bool, true, false, is_some}
+use Rattle.std.specs.Prelude.{if◌then◌else◌, Option, Some, None, Result, Ok, Err}
 use Rattle.std.specs.Option.{option_map_or}
 use Rattle.teco_law_turns.specs.Table.{Table as Numbers}
 use Rattle.teco_verifier.specs.expansion.Ends.{end_of}

@@ -1,12 +1,14 @@
 //! Laws of closed tables.
 ghost use Rattle.teco_law_tables.specs.Bounded.{IterationsAreBounded, RunsAreDescribed};
 ghost use Rattle.teco_law_tables.specs.Ending.{RunsEndInTime};
+ghost use Rattle.teco_law_tables.specs.Framing.{RunsAreFramed};
+ghost use Rattle.teco_law_tables.specs.Keeping.{RunsLeaveOpen};
 ghost use Rattle.teco_law_tables.specs.Laws.{CommandsAreSteps, TablesAreClosed};
 ghost use Rattle.teco_law_tables.specs.Moving.{StepsMove};
 ghost use Rattle.teco_law_tables.specs.Rows.{WorkedTables};
 ghost use Rattle.teco_law_tables.specs.SecondRows.{WorkedSecondTables};
 ghost use Rattle.teco_law_tables.specs.Staying.{FilesStayOpen};
-ghost use Rattle.teco_law_tables.specs.Sure.{RunsAreSure};
+ghost use Rattle.teco_law_tables.specs.Sure.{RunsAreSure, RunsEndOnce};
 ghost use Rattle.teco_law_tables.specs.Verified.{RunsAreVerified};
 
 /// The definition gives what is worked by hand.
@@ -104,6 +106,32 @@ pub fn runs_are_described()
     steps_move();
 }
 
+/// Wherever a run of a macro with a closed table comes to, the registers that no element of the macro
+/// names are as they were, and so is the search mode, where none may set it.
+pub fn runs_are_framed()
+    ensures { RunsAreFramed }
+{
+    teco_law_facts::sound::steps_are_sound();
+    teco_law_facts::sound::later_steps_are_sound();
+    teco_law_facts::sound::elements_are_named();
+    teco_law_facts::laws::whole_is_kept();
+    teco_law_expansion::laws::steps_go_along_nodes();
+    teco_law_expansion::laws::stays_loaded();
+    teco_law_expansion::laws::nodes_are_sound();
+    teco_law_expansion::laws::iterations_end();
+    teco_law_expansion::laws::runs_end();
+    teco_law_expansion::laws::steps_keep();
+    teco_law_expansion::laws::steps_are_alike();
+    teco_law_expansion::laws::runs_are_alike();
+    teco_law_expansion::laws::readings_are_alike();
+    teco_law_expansion::laws::numbers_are_pending();
+    teco_law_turns::laws::runs_are_bounded();
+    teco_law_turns::laws::runs_are_covered();
+    files_stay_open();
+    tables_are_closed();
+    steps_move();
+}
+
 /// Each iteration that a run of a macro with a closed table enters takes at most the turns that the
 /// table tells.
 pub fn turns_are_bounded()
@@ -126,8 +154,19 @@ pub fn turns_are_bounded()
     steps_move();
 }
 
+/// A run has one end: it comes to no other, nor to a code or a limit of steps; but want of memory
+/// may stop it before, or the host.
+pub fn runs_end_once()
+    ensures { RunsEndOnce }
+{}
+
 /// A run that ends within some steps, none of them a command of files, stops for nothing but its
 /// end, want of memory, or a fault of the host in reading or in writing.
 pub fn runs_are_sure()
     ensures { RunsAreSure }
+{}
+
+/// At the end of such a run the files are as open as they were, and no more is unread.
+pub fn runs_leave_open()
+    ensures { RunsLeaveOpen }
 {}

@@ -1,5 +1,6 @@
 //! Laws of straight text.
-ghost use Rattle.teco_law_tables.specs.straight_text.Accepted.{StraightTablesAreClosed, StraightTablesPrint, StraightTextsAreAccepted};
+ghost use Rattle.teco_law_tables.specs.straight_text.Accepted.{StraightTablesAreClosed, StraightTablesPrint};
+ghost use Rattle.teco_law_tables.specs.straight_text.Accepted.{StraightTextsAreAccepted};
 ghost use Rattle.teco_law_tables.specs.straight_text.Facts.{StraightTablesAreDerived};
 ghost use Rattle.teco_law_tables.specs.straight_text.Nodes.{StraightTextsAreExpanded};
 ghost use Rattle.teco_law_tables.specs.straight_text.Rows.{WorkedStraightText};

@@ -12,7 +12,8 @@ use Rattle.teco_law_tables.proofs.straight_text.Deriving.{straight_tables_are_de
 use Rattle.teco_law_tables.proofs.straight_text.Expanding.{straight_texts_are_expanded}
 use Rattle.teco_law_tables.proofs.straight_text.Printing.{straight_tables_print}
 
-rows_outside : (known : Entry) (count : ℕ) (elements : List Element) → AllByRecursion RowIsOutside (rows_in_text known count elements)
+rows_outside : (known : Entry) (count : ℕ) (elements : List Element)
+    → AllByRecursion RowIsOutside (rows_in_text known count elements)
 rows_outside known count [] = ((refl, refl), tt)
 rows_outside known count (e ∷ elements) = ((refl, refl), rows_outside known (count + inserted_by e) elements)
 

@@ -1,5 +1,6 @@
 -- A stand compares alike to itself, and so a way to the next node has the next number.
-use Rattle.std.proofs.Common.{◌≡◌, ℕ, zero, suc, ◌<◌, ◌≤◌, List, [], ◌∷◌, drop, Bool, true, false, ◌&&◌, ◌==◌, bytes_eq, Option, Some, None, refl, sym, ap, ◌∙◌, ⊎_elim, eqb-true, rules, arith}
+use Rattle.std.proofs.Common.{◌≡◌, ℕ, zero, suc, ◌<◌, ◌≤◌, List, [], ◌∷◌, drop, Bool, true, false, ◌&&◌, ◌==◌}
+use Rattle.std.proofs.Common.{bytes_eq, Option, Some, None, refl, sym, ap, ◌∙◌, ⊎_elim, eqb-true, rules, arith}
 use Rattle.std.proofs.lemmas.Bool.{cases_lt}
 use Rattle.std.proofs.lemmas.Slice.Eq.{bytes_eq-Decides}
 use Rattle.teco_base.specs.declared.TheConstants.{REGISTERS}
@@ -27,7 +28,8 @@ spots_alike (spot ∷ spots) = both (same_spot spot spot) (same_spots spots spot
 stand_alike : (a : Stand) → same_stand a a ≡ true
 stand_alike a = search (both, spot_alike, spots_alike, same_bytes)
 
-pub next_number : (all rest : List Stand) (number : ℕ) (stand : Stand) → drop number all ≡ stand ∷ rest → number_behind number all stand ≡ Some (suc number)
+pub next_number : (all rest : List Stand) (number : ℕ) (stand : Stand) → drop number all ≡ stand ∷ rest
+    → number_behind number all stand ≡ Some (suc number)
 next_number all rest number stand h = search (stand_alike, arith)
 
 pub drop-behind : {X : Type 0} (n : ℕ) (xs rest : List X) (x : X) → drop n xs ≡ x ∷ rest → drop (suc n) xs ≡ rest
@@ -57,7 +59,8 @@ named_below zero r h l = absurd (omega arith)
 named_below (suc n) r h l =
     let two = parts (is_number n (register_of (register_name n))) (are_named n) h in
     ⊎_elim (λ (k : r < n). named_below n r two.1 k)
-    (λ (k : n ≤ r). let e : n ≡ r = omega arith in ap (λ r. is_number r (register_of (register_name r))) (sym e) ∙ two.0)
+    (λ (k : n ≤ r). let e : n ≡ r = omega arith in ap (λ r. is_number r (register_of (register_name r))) (sym e)
+    ∙ two.0)
     (cases_lt r n)
 
 pub names_itself : (r : ℕ) → r < REGISTERS → register_of (register_name r) ≡ Some r

@@ -13,7 +13,8 @@ use Rattle.teco_verifier.specs.facts.Bodies.{Changes}
 use Rattle.teco_verifier.specs.facts.Flows.{Edges, goes_on}
 use Rattle.teco_verifier.specs.facts.Transfer.{Placed, transfer}
 use Rattle.teco_verifier.specs.table.Deriving.{arriving}
-use Rattle.teco_law_tables.specs.straight_text.Straight.{IsStraightKind, IsStraightElement, inserted_by_kind, inserted_by}
+use Rattle.teco_law_tables.specs.straight_text.Straight.{IsStraightKind, IsStraightElement, inserted_by_kind}
+use Rattle.teco_law_tables.specs.straight_text.Straight.{inserted_by}
 use Rattle.teco_law_tables.specs.straight_text.Facts.{facts_behind_insertions}
 
 pub plus_none : (n : ℕ) → n + 0 ≡ n
@@ -25,8 +26,10 @@ fits_64 n h = let l : n < 2 ^ 64 = omega arith in search rules
 capped_twice : (n m : ℕ) → min (min n LIMIT + m) LIMIT ≡ min (n + m) LIMIT
 capped_twice n m = omega arith
 
-edges_of_kind : (known : Entry) (k : Kind) (x : Placed) (count : ℕ) → IsStraightKind k → count + inserted_by_kind k x.element.text ≤ LIMIT →
-    transfer (record x { element = record x.element { kind = k } }) (facts_behind_insertions known count) ≡ Ok (goes_on (facts_behind_insertions known (count + inserted_by_kind k x.element.text)))
+edges_of_kind : (known : Entry) (k : Kind) (x : Placed) (count : ℕ) → IsStraightKind k
+    → count + inserted_by_kind k x.element.text ≤ LIMIT →
+    transfer (record x { element = record x.element { kind = k } }) (facts_behind_insertions known count) ≡ Ok
+    (goes_on (facts_behind_insertions known (count + inserted_by_kind k x.element.text)))
 unfolding transfer
 edges_of_kind known (kind.Argument DropAll) x count s l = rw (plus_none count) refl
 edges_of_kind known (kind.Flow flow.Comment) x count s l = rw (plus_none count) refl
@@ -34,15 +37,19 @@ edges_of_kind known (kind.Command (command.Insertion Text)) x count s l =
     rw (fits_64 (count + length x.element.text) l, capped_twice count (length x.element.text)) refl
 edges_of_kind known k x count s l = absurd s
 
-pub edges_of_element : (known : Entry) (x : Placed) (count : ℕ) → IsStraightElement x.element → count + inserted_by x.element ≤ LIMIT →
-    transfer x (facts_behind_insertions known count) ≡ Ok (goes_on (facts_behind_insertions known (count + inserted_by x.element)))
+pub edges_of_element : (known : Entry) (x : Placed) (count : ℕ) → IsStraightElement x.element
+    → count + inserted_by x.element ≤ LIMIT →
+    transfer x (facts_behind_insertions known count) ≡ Ok
+    (goes_on (facts_behind_insertions known (count + inserted_by x.element)))
 edges_of_element known x count s l = edges_of_kind known x.element.kind x count s l
 
-arriving_by_a_kind : (changes : Changes) (k : Kind) (e : Element) (edges : Edges) → IsStraightKind k → arriving changes None (Some (record e { kind = k })) 0 edges ≡ edges.on
+arriving_by_a_kind : (changes : Changes) (k : Kind) (e : Element) (edges : Edges) → IsStraightKind k
+    → arriving changes None (Some (record e { kind = k })) 0 edges ≡ edges.on
 arriving_by_a_kind changes (kind.Argument DropAll) e edges s = refl
 arriving_by_a_kind changes (kind.Flow flow.Comment) e edges s = refl
 arriving_by_a_kind changes (kind.Command (command.Insertion Text)) e edges s = refl
 arriving_by_a_kind changes k e edges s = absurd s
 
-pub arriving_by_element : (changes : Changes) (e : Element) (edges : Edges) → IsStraightElement e → arriving changes None (Some e) 0 edges ≡ edges.on
+pub arriving_by_element : (changes : Changes) (e : Element) (edges : Edges) → IsStraightElement e
+    → arriving changes None (Some e) 0 edges ≡ edges.on
 arriving_by_element changes e edges s = arriving_by_a_kind changes e.kind e edges s

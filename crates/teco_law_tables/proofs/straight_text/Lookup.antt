@@ -12,10 +12,14 @@ first_behind zero (y ∷ xs) rest x h = cc
 first_behind (suc n) (y ∷ xs) rest x h = first_behind n xs rest x h
 first_behind n xs rest x h = absurd (grind arith)
 
-pub facts_there : (known : Entry) (table : Table) (m count : ℕ) (elements : List Element) → drop m table ≡ rows_in_text known count elements → facts_at table (suc m) ≡ Some (facts_behind_insertions known count)
+pub facts_there : (known : Entry) (table : Table) (m count : ℕ) (elements : List Element)
+    → drop m table ≡ rows_in_text known count elements
+    → facts_at table (suc m) ≡ Some (facts_behind_insertions known count)
 facts_there known table m count [] h = rw (first_behind m table [] _ h) refl
-facts_there known table m count (e ∷ elements) h = rw (first_behind m table (rows_in_text known (count + inserted_by e) elements) _ h) refl
+facts_there known table m count (e ∷ elements) h =
+    rw (first_behind m table (rows_in_text known (count + inserted_by e) elements) _ h) refl
 
-pub length-nodes : (entry number place : ℕ) (text : List ℕ) (elements : List Element) → length (nodes_in_text entry text number place elements) ≡ suc (length elements)
+pub length-nodes : (entry number place : ℕ) (text : List ℕ) (elements : List Element)
+    → length (nodes_in_text entry text number place elements) ≡ suc (length elements)
 length-nodes entry number place text [] = refl
 length-nodes entry number place text (e ∷ elements) = ap suc (length-nodes entry (suc number) e.next text elements)

@@ -18,7 +18,8 @@ pub worked_straight_text : WorkedStraightText
 unfolding digits int_wrap
 worked_straight_text = record {
   straight = is_straight;
-  accepted = straight_texts_are_accepted First (only letters_put_in) 0 letters_put_in elements_put_in is_straight (omega arith);
+  accepted = straight_texts_are_accepted First (only letters_put_in) 0 letters_put_in elements_put_in is_straight
+      (omega arith);
   commands_text = refl;
   size_text = refl;
 }

@@ -7,25 +7,33 @@ use Rattle.teco_apply.proofs.by_pages.edit_from_start.Goals as goal
 
 pub returns-in-Ok-false-clause-edits : goal.returns-in-Ok-false-clause-edits
 returns-in-Ok-false-clause-edits g c =
-    behind-goes_on (AnswersText to_start) (Once (order_by (g.G.Guard.answers c.args.order.now.guard.now) c.args.order.now.call.now))
+    behind-goes_on (AnswersText to_start)
+    (Once (order_by (g.G.Guard.answers c.args.order.now.guard.now) c.args.order.now.call.now))
     c.args.machine.now c.answer_text.new.machine c.edit_once.new.machine
     (g.H.Host.files c.args.host.now) (g.H.Host.files c.answer_text.new.host) (g.H.Host.files c.edit_once.new.host)
-    (g.H.Host.failures c.args.host.now) (g.H.Host.failures c.answer_text.new.host) (g.H.Host.failures c.edit_once.new.host)
-    (g.W.Write.contents c.args.writer.now) (g.W.Write.contents c.answer_text.new.writer) (g.W.Write.contents c.edit_once.new.writer)
+    (g.H.Host.failures c.args.host.now) (g.H.Host.failures c.answer_text.new.host)
+    (g.H.Host.failures c.edit_once.new.host)
+    (g.W.Write.contents c.args.writer.now) (g.W.Write.contents c.answer_text.new.writer)
+    (g.W.Write.contents c.edit_once.new.writer)
     c.edit_once.result (rw c.in-Ok-false.field-0-test at c.in-Ok-false.ensures.answers) c.edit_once.ensures.edits
 
 pub returns-in-Ok-true-clause-edits : goal.returns-in-Ok-true-clause-edits
 returns-in-Ok-true-clause-edits g c =
-    behind-stops (AnswersText to_start) (Once (order_by (g.G.Guard.answers c.args.order.now.guard.now) c.args.order.now.call.now))
-    c.args.machine.now c.answer_text.new.machine (g.H.Host.files c.args.host.now) (g.H.Host.files c.answer_text.new.host)
+    behind-stops (AnswersText to_start)
+    (Once (order_by (g.G.Guard.answers c.args.order.now.guard.now) c.args.order.now.call.now))
+    c.args.machine.now c.answer_text.new.machine (g.H.Host.files c.args.host.now)
+    (g.H.Host.files c.answer_text.new.host)
     (g.H.Host.failures c.args.host.now) (g.H.Host.failures c.answer_text.new.host)
     (g.W.Write.contents c.args.writer.now) (g.W.Write.contents c.answer_text.new.writer)
-    (Ok true) (Ok c.edited.result) (λ same. cc) (ends-coded c.new.result c.edited.result c.new.ensures c.edited.ensures) (rw c.in-Ok-true.field-0-test at c.in-Ok-true.ensures.answers)
+    (Ok true) (Ok c.edited.result) (λ same. cc) (ends-coded c.new.result c.edited.result c.new.ensures c.edited.ensures)
+    (rw c.in-Ok-true.field-0-test at c.in-Ok-true.ensures.answers)
 
 pub returns-in-Err-clause-edits : goal.returns-in-Err-clause-edits
 returns-in-Err-clause-edits g c =
-    behind-stops (AnswersText to_start) (Once (order_by (g.G.Guard.answers c.args.order.now.guard.now) c.args.order.now.call.now))
-    c.args.machine.now c.answer_text.new.machine (g.H.Host.files c.args.host.now) (g.H.Host.files c.answer_text.new.host)
+    behind-stops (AnswersText to_start)
+    (Once (order_by (g.G.Guard.answers c.args.order.now.guard.now) c.args.order.now.call.now))
+    c.args.machine.now c.answer_text.new.machine (g.H.Host.files c.args.host.now)
+    (g.H.Host.files c.answer_text.new.host)
     (g.H.Host.failures c.args.host.now) (g.H.Host.failures c.answer_text.new.host)
     (g.W.Write.contents c.args.writer.now) (g.W.Write.contents c.answer_text.new.writer)
     (Err c.in-Err.fault) (Err c.in-Err.fault) (λ same. cc) refl c.in-Err.ensures.answers
@@ -34,13 +42,16 @@ pub returns-in-Ok-false-clause-touches : goal.returns-in-Ok-false-clause-touches
 returns-in-Ok-false-clause-touches g c =
     in_turn c.args.machine.now c.answer_text.new.machine c.edit_once.new.machine
     (g.H.Host.files c.args.host.now) (g.H.Host.files c.answer_text.new.host) (g.H.Host.files c.edit_once.new.host)
-    (by_string to_start c.args.machine.now c.answer_text.new.machine (g.H.Host.files c.args.host.now) (g.H.Host.files c.answer_text.new.host) (inr (inr (inl refl))) c.in-Ok-false.ensures.touches)
+    (by_string to_start c.args.machine.now c.answer_text.new.machine (g.H.Host.files c.args.host.now)
+    (g.H.Host.files c.answer_text.new.host) (inr (inr (inl refl))) c.in-Ok-false.ensures.touches)
     c.edit_once.ensures.touches
 
 pub returns-in-Ok-true-clause-touches : goal.returns-in-Ok-true-clause-touches
 returns-in-Ok-true-clause-touches g c =
-    by_string to_start c.args.machine.now c.answer_text.new.machine (g.H.Host.files c.args.host.now) (g.H.Host.files c.answer_text.new.host) (inr (inr (inl refl))) c.in-Ok-true.ensures.touches
+    by_string to_start c.args.machine.now c.answer_text.new.machine (g.H.Host.files c.args.host.now)
+    (g.H.Host.files c.answer_text.new.host) (inr (inr (inl refl))) c.in-Ok-true.ensures.touches
 
 pub returns-in-Err-clause-touches : goal.returns-in-Err-clause-touches
 returns-in-Err-clause-touches g c =
-    by_string to_start c.args.machine.now c.answer_text.new.machine (g.H.Host.files c.args.host.now) (g.H.Host.files c.answer_text.new.host) (inr (inr (inl refl))) c.in-Err.ensures.touches
+    by_string to_start c.args.machine.now c.answer_text.new.machine (g.H.Host.files c.args.host.now)
+    (g.H.Host.files c.answer_text.new.host) (inr (inr (inl refl))) c.in-Err.ensures.touches

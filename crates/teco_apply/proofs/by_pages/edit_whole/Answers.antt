@@ -6,24 +6,31 @@ use Rattle.teco_apply.proofs.by_pages.edit_whole.Goals as goal
 
 pub returns-in-Ok-false-clause-edits : goal.returns-in-Ok-false-clause-edits
 returns-in-Ok-false-clause-edits g c =
-    behind-goes_on (Gathers) (FromStart (order_by (g.G.Guard.answers c.args.order.now.guard.now) c.args.order.now.call.now))
+    behind-goes_on (Gathers) (FromStart
+    (order_by (g.G.Guard.answers c.args.order.now.guard.now) c.args.order.now.call.now))
     c.args.machine.now c.gather.new.machine c.edit_from_start.new.machine
     (g.H.Host.files c.args.host.now) (g.H.Host.files c.gather.new.host) (g.H.Host.files c.edit_from_start.new.host)
-    (g.H.Host.failures c.args.host.now) (g.H.Host.failures c.gather.new.host) (g.H.Host.failures c.edit_from_start.new.host)
-    (g.W.Write.contents c.args.writer.now) (g.W.Write.contents c.gather.new.writer) (g.W.Write.contents c.edit_from_start.new.writer)
-    c.edit_from_start.result (rw c.in-Ok-false.field-0-test at c.in-Ok-false.ensures.gathers) c.edit_from_start.ensures.edits
+    (g.H.Host.failures c.args.host.now) (g.H.Host.failures c.gather.new.host)
+    (g.H.Host.failures c.edit_from_start.new.host)
+    (g.W.Write.contents c.args.writer.now) (g.W.Write.contents c.gather.new.writer)
+    (g.W.Write.contents c.edit_from_start.new.writer)
+    c.edit_from_start.result (rw c.in-Ok-false.field-0-test at c.in-Ok-false.ensures.gathers)
+    c.edit_from_start.ensures.edits
 
 pub returns-in-Ok-true-clause-edits : goal.returns-in-Ok-true-clause-edits
 returns-in-Ok-true-clause-edits g c =
-    behind-stops (Gathers) (FromStart (order_by (g.G.Guard.answers c.args.order.now.guard.now) c.args.order.now.call.now))
+    behind-stops (Gathers) (FromStart
+    (order_by (g.G.Guard.answers c.args.order.now.guard.now) c.args.order.now.call.now))
     c.args.machine.now c.gather.new.machine (g.H.Host.files c.args.host.now) (g.H.Host.files c.gather.new.host)
     (g.H.Host.failures c.args.host.now) (g.H.Host.failures c.gather.new.host)
     (g.W.Write.contents c.args.writer.now) (g.W.Write.contents c.gather.new.writer)
-    (Ok true) (Ok c.edited.result) (λ same. cc) (ends-coded c.new.result c.edited.result c.new.ensures c.edited.ensures) (rw c.in-Ok-true.field-0-test at c.in-Ok-true.ensures.gathers)
+    (Ok true) (Ok c.edited.result) (λ same. cc) (ends-coded c.new.result c.edited.result c.new.ensures c.edited.ensures)
+    (rw c.in-Ok-true.field-0-test at c.in-Ok-true.ensures.gathers)
 
 pub returns-in-Err-clause-edits : goal.returns-in-Err-clause-edits
 returns-in-Err-clause-edits g c =
-    behind-stops (Gathers) (FromStart (order_by (g.G.Guard.answers c.args.order.now.guard.now) c.args.order.now.call.now))
+    behind-stops (Gathers) (FromStart
+    (order_by (g.G.Guard.answers c.args.order.now.guard.now) c.args.order.now.call.now))
     c.args.machine.now c.gather.new.machine (g.H.Host.files c.args.host.now) (g.H.Host.files c.gather.new.host)
     (g.H.Host.failures c.args.host.now) (g.H.Host.failures c.gather.new.host)
     (g.W.Write.contents c.args.writer.now) (g.W.Write.contents c.gather.new.writer)

@@ -11,7 +11,9 @@ use Rattle.teco_apply.proofs.by_pages.gather.Goals as goal
 pub loop-init : goal.loop-init
 loop-init g c = record {
   gathered =
-      Joined-stays (λ (old : World) (new : World). PagesGathered old (g.H.Host.failures c.args.host.now) (g.W.Write.contents c.args.writer.now) 0 new (g.H.Host.failures c.args.host.now) (g.W.Write.contents c.args.writer.now))
+      Joined-stays (λ (old : World) (new : World). PagesGathered old (g.H.Host.failures c.args.host.now)
+      (g.W.Write.contents c.args.writer.now) 0 new (g.H.Host.failures c.args.host.now)
+      (g.W.Write.contents c.args.writer.now))
       c.args.machine.now (g.H.Host.files c.args.host.now) (λ world. PagesGathered.none);
   touched = λ call. parts-same call c.args.machine.now c.args.machine.now (g.H.Host.files c.args.host.now) refl;
   failures = refl;
@@ -28,7 +30,8 @@ loop-preserved g c =
           (g.W.Write.contents c.args.writer.now) (g.W.Write.contents now.writer) (g.W.Write.contents c.turn.new.writer)
           now.invariant.gathered (rw c.in-Ok-On.field-0-is at c.in-Ok-On.ensures.turns);
       touched = λ call.
-          in_turn c.args.machine.now now.machine c.turn.new.machine (g.H.Host.files c.args.host.now) (g.H.Host.files now.host) (g.H.Host.files c.turn.new.host)
+          in_turn c.args.machine.now now.machine c.turn.new.machine (g.H.Host.files c.args.host.now)
+          (g.H.Host.files now.host) (g.H.Host.files c.turn.new.host)
           (now.invariant.touched call) (c.in-Ok-On.ensures.touches call (inr (inl refl)));
       failures = (rw c.in-Ok-On.field-0-is at c.in-Ok-On.ensures.counted) ∙ now.invariant.failures;
     }
@@ -71,24 +74,31 @@ returns-clause-gathers g c =
     (g.H.Host.failures c.args.host.now) (g.H.Host.failures now.host) (g.H.Host.failures now.host)
     (g.W.Write.contents c.args.writer.now) (g.W.Write.contents now.writer) (g.W.Write.contents c.tell.new.writer)
     c.tell.result all now.invariant.gathered
-    (Joined-too_many now.machine c.tell.new.machine (g.H.Host.files now.host) (g.H.Host.failures now.host) (g.W.Write.contents now.writer) (g.W.Write.contents c.tell.new.writer) c.tell.result lines told c.tell.ensures.taken)
+    (Joined-too_many now.machine c.tell.new.machine (g.H.Host.files now.host) (g.H.Host.failures now.host)
+    (g.W.Write.contents now.writer) (g.W.Write.contents c.tell.new.writer) c.tell.result lines told
+    c.tell.ensures.taken)
 
 pub returns-in-Ok-Through-clause-touches : goal.returns-in-Ok-Through-clause-touches
 returns-in-Ok-Through-clause-touches g c = λ call.
-    in_turn c.args.machine.now c.loop.machine c.turn.new.machine (g.H.Host.files c.args.host.now) (g.H.Host.files c.loop.host) (g.H.Host.files c.turn.new.host)
+    in_turn c.args.machine.now c.loop.machine c.turn.new.machine (g.H.Host.files c.args.host.now)
+    (g.H.Host.files c.loop.host) (g.H.Host.files c.turn.new.host)
     (c.loop.invariant.touched call) (c.in-Ok-Through.ensures.touches call (inr (inl refl)))
 
 pub returns-in-Ok-Coded-clause-touches : goal.returns-in-Ok-Coded-clause-touches
 returns-in-Ok-Coded-clause-touches g c = λ call.
-    in_turn c.args.machine.now c.loop.machine c.turn.new.machine (g.H.Host.files c.args.host.now) (g.H.Host.files c.loop.host) (g.H.Host.files c.turn.new.host)
+    in_turn c.args.machine.now c.loop.machine c.turn.new.machine (g.H.Host.files c.args.host.now)
+    (g.H.Host.files c.loop.host) (g.H.Host.files c.turn.new.host)
     (c.loop.invariant.touched call) (c.in-Ok-Coded.ensures.touches call (inr (inl refl)))
 
 pub returns-in-Err-clause-touches : goal.returns-in-Err-clause-touches
 returns-in-Err-clause-touches g c = λ call.
-    in_turn c.args.machine.now c.loop.machine c.turn.new.machine (g.H.Host.files c.args.host.now) (g.H.Host.files c.loop.host) (g.H.Host.files c.turn.new.host)
+    in_turn c.args.machine.now c.loop.machine c.turn.new.machine (g.H.Host.files c.args.host.now)
+    (g.H.Host.files c.loop.host) (g.H.Host.files c.turn.new.host)
     (c.loop.invariant.touched call) (c.in-Err.ensures.touches call (inr (inl refl)))
 
 pub returns-clause-touches : goal.returns-clause-touches
 returns-clause-touches g c = λ call.
-    in_turn c.args.machine.now c.loop.machine c.tell.new.machine (g.H.Host.files c.args.host.now) (g.H.Host.files c.loop.host) (g.H.Host.files c.loop.host)
-    (c.loop.invariant.touched call) (parts-taken call c.loop.machine c.tell.new.machine (g.H.Host.files c.loop.host) c.tell.ensures.taken)
+    in_turn c.args.machine.now c.loop.machine c.tell.new.machine (g.H.Host.files c.args.host.now)
+    (g.H.Host.files c.loop.host) (g.H.Host.files c.loop.host)
+    (c.loop.invariant.touched call)
+    (parts-taken call c.loop.machine c.tell.new.machine (g.H.Host.files c.loop.host) c.tell.ensures.taken)

@@ -13,7 +13,8 @@ returns-clause-edits g c =
 
 pub returns-clause-counted : goal.returns-clause-counted
 returns-clause-counted g c =
-    first-counts c.edit_file.result c.said.result (g.H.Host.failures c.args.host.now) (g.H.Host.failures c.edit_file.new.host)
+    first-counts c.edit_file.result c.said.result (g.H.Host.failures c.args.host.now)
+    (g.H.Host.failures c.edit_file.new.host)
     (rw c.dropped.ensures at c.said.ensures) c.edit_file.ensures.counted
 
 pub returns-clause-argument : goal.returns-clause-argument

@@ -19,12 +19,15 @@ returns-clause-calls g c =
     let new = c.run_to_stop.new.self in
     let before = g.H.Host.files c.args.host.now in
     let behind = g.H.Host.files c.run_to_stop.new.host in
-    let text = c.as_slice.ensures.value ∙ c.call_text-text.ensures ∙ ap (λ entry. call_text entry call.given) c.entry-entry.ensures in
-    subst (λ (k : Call). Joined (Calls k.found.fields k.given c.run_to_stop.result.stop) old new before behind) same
+    let text = c.as_slice.ensures.value ∙ c.call_text-text.ensures
+    ∙ ap (λ entry. call_text entry call.given) c.entry-entry.ensures in
+    subst (λ (k : Call). Joined (Calls k c.run_to_stop.result.stop) old new before behind) same
     (calls (record {
       linked = c.expansions_are_linked.ensures;
       verified = c.runs_are_verified.ensures;
       sure = c.runs_are_sure.ensures;
+      leave = c.runs_leave_open.ensures;
+      framed = c.runs_are_framed.ensures;
     }) call c.run_to_stop.result.stop old new before behind (record {
       certified = c.is_certified.ensures;
       loaded = subst (λ (k : Call). IsLoaded k.found.library old.kept) (sym same) c.requires.loaded;
@@ -33,7 +36,8 @@ returns-clause-calls g c =
       named = subst (λ r. r < REGISTERS) (c.index.ensures.value ∙ c.entry-entry.ensures) c.index.ensures.within;
       files = subst (λ (k : Call). HasFiles k.found.fields.needs old.held) (sym same) c.requires.files;
       taken = subst TakesArgument (sym same) c.requires.taken;
-    }) (subst (λ text. Joined (λ old new. Stops (start text old) MOST c.run_to_stop.result.stop new) old new before behind) text c.run_to_stop.ensures.stops))
+    }) (subst (λ text. Joined (λ old new. Stops (start text old) MOST c.run_to_stop.result.stop new) old new before
+    behind) text c.run_to_stop.ensures.stops))
 
 pub returns-clause-touches : goal.returns-clause-touches
 returns-clause-touches g c =
@@ -44,12 +48,15 @@ returns-clause-touches g c =
     let before = g.H.Host.files c.args.host.now in
     let behind = g.H.Host.files c.run_to_stop.new.host in
     let stopped = c.run_to_stop.result in
-    let text = c.as_slice.ensures.value ∙ c.call_text-text.ensures ∙ ap (λ entry. call_text entry call.given) c.entry-entry.ensures in
+    let text = c.as_slice.ensures.value ∙ c.call_text-text.ensures
+    ∙ ap (λ entry. call_text entry call.given) c.entry-entry.ensures in
     subst (λ (k : Call). TouchesNone (IsReady k.found.fields) old new before behind) same
     (touches-none c.notes_fit.ensures (record {
       linked = c.expansions_are_linked.ensures;
       verified = c.runs_are_verified.ensures;
       sure = c.runs_are_sure.ensures;
+      leave = c.runs_leave_open.ensures;
+      framed = c.runs_are_framed.ensures;
     }) call old (record {
       certified = c.is_certified.ensures;
       loaded = subst (λ (k : Call). IsLoaded k.found.library old.kept) (sym same) c.requires.loaded;
@@ -59,4 +66,5 @@ returns-clause-touches g c =
       files = subst (λ (k : Call). HasFiles k.found.fields.needs old.held) (sym same) c.requires.files;
       taken = subst TakesArgument (sym same) c.requires.taken;
     }) stopped new before behind
-    (subst (λ text. TouchesBySteps (start text) (touched_in_run stopped) old new before behind) text c.run_to_stop.ensures.noted))
+    (subst (λ text. TouchesBySteps (start text) (touched_in_run stopped) old new before behind) text
+    c.run_to_stop.ensures.noted))

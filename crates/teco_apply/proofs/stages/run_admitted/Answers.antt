@@ -17,8 +17,10 @@ returns-clause-runs g c =
 pub returns-in_default-clause-runs : goal.returns-in_default-clause-runs
 returns-in_default-clause-runs g c =
     Joined-refused (order_by (g.G.Guard.answers c.args.order.now.guard.now) c.args.order.now.call.now)
-    c.args.machine.now c.run_guarded.new.machine (g.H.Host.files c.args.host.now) (g.H.Host.files c.run_guarded.new.host)
-    (g.H.Host.failures c.args.host.now) (g.H.Host.failures c.run_guarded.new.host) (g.W.Write.contents c.args.writer.now)
+    c.args.machine.now c.run_guarded.new.machine (g.H.Host.files c.args.host.now)
+    (g.H.Host.files c.run_guarded.new.host)
+    (g.H.Host.failures c.args.host.now) (g.H.Host.failures c.run_guarded.new.host)
+    (g.W.Write.contents c.args.writer.now)
     c.in_default.ensures.counted c.in_default.ensures.stops
 
 pub returns-clause-touches : goal.returns-clause-touches
@@ -26,4 +28,5 @@ returns-clause-touches g c =
     in_turn c.args.machine.now c.run_guarded.new.machine c.tell-line.new.machine
     (g.H.Host.files c.args.host.now) (g.H.Host.files c.run_guarded.new.host) (g.H.Host.files c.run_guarded.new.host)
     c.in-Some.ensures.touches
-    (parts-taken c.args.order.now.call.now c.run_guarded.new.machine c.tell-line.new.machine (g.H.Host.files c.run_guarded.new.host) c.tell-line.ensures.taken)
+    (parts-taken c.args.order.now.call.now c.run_guarded.new.machine c.tell-line.new.machine
+    (g.H.Host.files c.run_guarded.new.host) c.tell-line.ensures.taken)

@@ -8,12 +8,15 @@ use Rattle.teco_apply.proofs.stages.run_guarded.Goals as goal
 pub returns-in-Err-clause-stops : goal.returns-in-Err-clause-stops
 returns-in-Err-clause-stops g c =
     let order : Order = order_by (g.G.Guard.answers c.args.order.now.guard.now) c.args.order.now.call.now in
-    rw (c.not_begun.ensures, c.stop_of.ensures, c.in-Err.ensures.err) (Joined-unready order c.args.machine.now (g.H.Host.files c.args.host.now) c.in-Err.not_ready c.requires c.in-Err.ensures.answer)
+    rw (c.not_begun.ensures, c.stop_of.ensures, c.in-Err.ensures.err)
+    (Joined-unready order c.args.machine.now (g.H.Host.files c.args.host.now) c.in-Err.not_ready c.requires
+    c.in-Err.ensures.answer)
 
 pub returns-then-not-asked-clause-stops : goal.returns-then-not-asked-clause-stops
 returns-then-not-asked-clause-stops g c =
     let order : Order = order_by (g.G.Guard.answers c.args.order.now.guard.now) c.args.order.now.call.now in
-    Joined-asked order c.args.machine.now c.make_ready.new.machine (g.H.Host.files c.args.host.now) (g.H.Host.files c.ask-asked.new.host)
+    Joined-asked order c.args.machine.now c.make_ready.new.machine (g.H.Host.files c.args.host.now)
+    (g.H.Host.files c.ask-asked.new.host)
     c.ask-asked.result.admitted c.in_default.ensures.loaded (search rules) c.ask-asked.ensures.asked
 
 pub returns-clause-stops : goal.returns-clause-stops
@@ -26,7 +29,8 @@ returns-clause-stops g c =
 
 pub returns-then-not-asked-clause-touches : goal.returns-then-not-asked-clause-touches
 returns-then-not-asked-clause-touches g c =
-    asked-touches c.args.order.now.call.now c.args.machine.now c.make_ready.new.machine (g.H.Host.files c.args.host.now) (g.H.Host.files c.ask-asked.new.host)
+    asked-touches c.args.order.now.call.now c.args.machine.now c.make_ready.new.machine (g.H.Host.files c.args.host.now)
+    (g.H.Host.files c.ask-asked.new.host)
     c.in_default.ensures.loaded c.ask-asked.ensures.touches
 
 pub returns-clause-touches : goal.returns-clause-touches
@@ -37,4 +41,5 @@ returns-clause-touches g c =
 
 pub returns-in-Err-clause-touches : goal.returns-in-Err-clause-touches
 returns-in-Err-clause-touches g c =
-    parts-same c.args.order.now.call.now c.args.machine.now c.make_ready.new.machine (g.H.Host.files c.args.host.now) (ap (λ (h : Holdings). h.held) c.in-Err.ensures.err)
+    parts-same c.args.order.now.call.now c.args.machine.now c.make_ready.new.machine (g.H.Host.files c.args.host.now)
+    (ap (λ (h : Holdings). h.held) c.in-Err.ensures.err)

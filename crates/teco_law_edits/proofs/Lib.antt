@@ -1,0 +1,6 @@
+mod Texts
+mod Opening
+mod Running
+mod Pages
+mod Strict
+mod Bounds

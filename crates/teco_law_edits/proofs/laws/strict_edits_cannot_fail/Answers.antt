@@ -1,0 +1,9 @@
+use Rattle.teco_edits.proofs.Strict.{strict-admits}
+use Rattle.teco_edits.specs.Strict.{on_terms}
+use Rattle.teco_law_edits.proofs.Strict.{strict_cannot_fail}
+use Rattle.teco_law_edits.proofs.laws.strict_edits_cannot_fail.Goals as goal
+
+pub returns : goal.returns
+returns c = λ terms call strict.
+    strict_cannot_fail c.runs_end_once.ensures c.texts_end.ensures (on_terms terms call)
+    (strict-admits c.values_grow.ensures terms call strict)

@@ -1,0 +1,29 @@
+//! Laws of edits.
+ghost use Rattle.teco_law_edits.specs.Bounds.{StrictEditsAreBounded};
+ghost use Rattle.teco_law_edits.specs.Strict.{StrictEditsCannotFail};
+ghost use Rattle.teco_law_edits.specs.Texts.{TextsEnd};
+
+use teco_law_tables::laws::runs_end_once;
+use teco_poly::laws::values_grow;
+
+/// Where each command string of an edit ends: those that turn pages, go to the start, and close.
+pub fn texts_end()
+    ensures { TextsEnd }
+{}
+
+/// An edit on strict terms, of a file that is there and fits, comes to no code, but for want of
+/// memory or a fault of the host.
+pub fn strict_edits_cannot_fail()
+    ensures { StrictEditsCannotFail }
+{
+    values_grow();
+    runs_end_once();
+    texts_end();
+}
+
+/// Its runs together take at most the sum of their printed numbers of commands.
+pub fn strict_edits_are_bounded()
+    ensures { StrictEditsAreBounded }
+{
+    values_grow();
+}

@@ -1,0 +1,4 @@
+//! Laws of edits.
+#![tactic(auto)]
+
+pub mod laws;

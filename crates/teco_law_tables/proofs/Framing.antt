@@ -1,0 +1,168 @@
+-- A run keeps what no element of its macro names, since each element that it reads is one of a node.
+use Rattle.std.proofs.Common.{◌≡◌, ◌≢◌, ℕ, zero, suc, ◌+◌, ◌<◌, List, [], false, Option, Some, None, Ok, refl, sym}
+use Rattle.std.proofs.Common.{ap, ◌∙◌}
+use Rattle.std.proofs.Common.{subst, arith, ◌^◌}
+use Rattle.teco_base.specs.declared.TheConstants.{REGISTERS}
+use Rattle.teco_law_expansion.proofs.Runs.{over_reads}
+use Rattle.teco_law_expansion.specs.Ends.{IterationsEnd}
+use Rattle.teco_law_expansion.specs.Given.{BeginsPending, call_given, start_pending}
+use Rattle.teco_law_expansion.specs.Loaded.{KeepsBy, StepsKeep}
+use Rattle.teco_law_facts.specs.SoundSteps.{AreOpen}
+use Rattle.teco_law_tables.proofs.Described as described
+use Rattle.teco_law_tables.proofs.Described.{at_first, reaches_later, reaches_none, ready_call}
+use Rattle.teco_law_tables.proofs.Ending as ending
+use Rattle.teco_law_tables.proofs.Ending.{Call, Course, course}
+use Rattle.teco_law_tables.proofs.Pending.{CallLaws, other_next}
+use Rattle.teco_law_tables.proofs.Underway.{ElementsGo}
+use Rattle.teco_law_tables.proofs.Verifying as verifying
+use Rattle.teco_law_tables.specs.Ending.{start_given}
+use Rattle.teco_law_tables.specs.Framing.{IsFramed, NoneNames, NoneSetsMode, RunsAreFramed, named_in, sets_mode_in}
+use Rattle.teco_model.specs.Element.{Element}
+use Rattle.teco_model.specs.Macros.{ArgumentRange, IsAsked}
+use Rattle.teco_model.specs.Run.{Reaches, go_on, run}
+use Rattle.teco_model.specs.State.{Kept, Outcome, Next, State, World, start}
+use Rattle.teco_model.specs.Step.{step}
+use Rattle.teco_verifier.specs.expansion.Node.{Node, numbered}
+use Rattle.teco_verifier.specs.expansion.Position.{position_of, position_of_frames}
+use Rattle.teco_verifier.specs.expansion.Ways.{read_at}
+use Rattle.teco_verifier.specs.table.Printed.{needs_in}
+
+-- what is read is of a node, or nothing is
+data ReadsIn (nodes : List Node) (s : State) : Type 0 where
+  OfNode : (number : ℕ) (node : Node) → numbered nodes number ≡ Some node → read_at (position_of s) ≡ Ok node.element
+      → ReadsIn nodes s
+  OfNone : read_at (position_of s) ≡ Ok None → ReadsIn nodes s
+
+-- ---- a step
+framed_by : (nodes : List Node) (read : Option Element) (old new : Kept)
+    → ((r : ℕ) → NoneNames nodes r → named_in read ≢ Some r) → (NoneSetsMode nodes → sets_mode_in read ≡ false)
+    → KeepsBy read old new → IsFramed nodes old new
+framed_by nodes None old new names sets keeps = record {
+  pairs = λ r none. keeps.pairs r (names r none);
+  mode = λ none. keeps.mode refl;
+}
+framed_by nodes (Some e) old new names sets keeps = record {
+  pairs = λ r none. keeps.pairs r (names r none);
+  mode = λ none. keeps.mode (sets none);
+}
+
+step_framed : StepsKeep → (nodes : List Node) (s t : State) → ReadsIn nodes s → step s ≡ Next t
+    → IsFramed nodes s.world.kept t.world.kept
+step_framed keep nodes s t (OfNode number node at reads) goes =
+    framed_by nodes node.element s.world.kept t.world.kept (λ r none. none number node at) (λ none. none number node at)
+    (keep s t node.element reads goes)
+step_framed keep nodes s t (OfNone reads) goes =
+    framed_by nodes None s.world.kept t.world.kept (λ r none e. absurd (cc)) (λ none. refl) (keep s t None reads goes)
+
+-- ---- steps one after another
+unchanged : (nodes : List Node) (kept : Kept) → IsFramed nodes kept kept
+unchanged nodes kept = record { pairs = λ r none. refl; mode = λ none. refl }
+
+onward : (nodes : List Node) (a b c : Kept) → IsFramed nodes a b → IsFramed nodes b c → IsFramed nodes a c
+onward nodes a b c first next = record {
+  pairs = λ r none. next.pairs r none ∙ first.pairs r none;
+  mode = λ none. next.mode none ∙ first.mode none;
+}
+
+record Last (before : Outcome) (t : State) : Type 0 where
+  last : State
+  was : before ≡ Next last
+  goes : step last ≡ Next t
+
+last_step : (before : Outcome) (t : State) → go_on before ≡ Next t → Last before t
+last_step (Next s) t h = record { last = s; was = refl; goes = h }
+last_step before t h = absurd (grind arith)
+
+module _ (keep : StepsKeep) (nodes : List Node) (first : State)
+    (reads : (k : ℕ) (u : State) → Reaches k first u → ReadsIn nodes u) where
+  run_framed : (n : ℕ) (s : State) → Reaches n first s → IsFramed nodes first.world.kept s.world.kept
+  unfolding run
+  run_framed zero s came =
+      subst (λ (s : State). IsFramed nodes first.world.kept s.world.kept) (reaches_none first s came)
+      (unchanged nodes first.world.kept)
+  run_framed (suc n) s came =
+      let last = last_step (run n first) s came in
+      onward nodes first.world.kept last.last.world.kept s.world.kept (run_framed n last.last last.was)
+      (step_framed keep nodes last.last s (reads n last.last last.was) last.goes)
+
+-- ---- what is read on the way
+module _ (laws : ending.Laws) (c : Course)
+    (go : ElementsGo c.library c.entry c.nodes c.table c.n c.below c.first) where
+  open c use {library, entry, nodes, table, n, below, are}
+
+  read_here : (number : ℕ) (turns : List _) (s u : State) (at : described.At laws c go number turns s)
+      → u.frames ≡ s.frames → ReadsIn nodes u
+  read_here number turns s u at same =
+      OfNode number at.here.node at.here.at
+      (ap read_at (ap position_of_frames same ∙ sym at.here.position)
+      ∙ (are.each number at.here.node at.here.at).reads)
+
+  reads_in : (u : State) → described.Comes laws c go u → ReadsIn nodes u
+  reads_in u (described.Here number turns at) = read_here number turns u u at refl
+  reads_in u (described.Within number turns begun at g k l came) =
+      read_here number turns begun u at (g.amid (suc k) u (omega arith) l came).frames
+  reads_in u (described.Behind o) = OfNone (ap read_at (sym o) ∙ over_reads entry)
+
+module _ (laws : ending.Laws) (keep : StepsKeep) (call : Call)
+    (go : ElementsGo call.library call.entry call.nodes call.table call.n call.world.kept.registers.stack
+    (start_given call.entry call.given call.world)) (files : AreOpen (needs_in call.nodes call.table) call.world.files)
+  where
+    reads_there : (steps : ℕ) (s : State) → Reaches steps (course call).first s → ReadsIn call.nodes s
+    reads_there steps s came =
+        reads_in laws (course call) go s
+        (described.comes laws (course call) go (suc steps) steps 1 [] (course call).first s
+        (at_first laws call go files)
+        (omega arith) came)
+
+    given_framed : (steps : ℕ) (s : State) → Reaches steps (start_given call.entry call.given call.world) s
+        → IsFramed call.nodes call.world.kept s.world.kept
+    given_framed = run_framed keep call.nodes (start_given call.entry call.given call.world) reads_there
+
+-- ---- with the argument before the call
+module _ (calls : CallLaws) (nodes : List Node) (entry n : ℕ) (world : World) (named : entry < REGISTERS)
+    (small : n < 2 ^ 31)
+    (framed : (steps : ℕ) (s : State) → Reaches steps (start_pending entry n world) s
+    → IsFramed nodes world.kept s.world.kept) where
+  digits : BeginsPending entry n world
+  digits = calls.pending entry n world named small
+
+  abbrev first : State
+  first = start (call_given entry (Some n)) world
+
+  behind_framed : (k : ℕ) (s : State) → Reaches k digits.behind s → IsFramed nodes world.kept s.world.kept
+  behind_framed k s came =
+      let other = other_next _ _ s (calls.runs k digits.behind (start_pending entry n world) digits.alike) came in
+      subst (λ (w : World). IsFramed nodes world.kept w.kept) (sym other.alike.world)
+      (framed k other.state other.is)
+
+  one_step : Reaches 1 first digits.behind
+  unfolding run
+  one_step = digits.goes
+
+  digits_framed : (steps : ℕ) (s : State) → Reaches steps first s → IsFramed nodes world.kept s.world.kept
+  digits_framed zero s came =
+      subst (λ (s : State). IsFramed nodes world.kept s.world.kept) (reaches_none first s came)
+      (unchanged nodes world.kept)
+  digits_framed (suc k) s came =
+      let later : suc k ≡ 1 + k = omega arith in
+      behind_framed k s
+      (reaches_later 1 k first digits.behind s one_step (subst (λ k. Reaches k first s) later came))
+
+call_framed : (calls : CallLaws) (nodes : List Node) (entry : ℕ) (argument : Option ArgumentRange) (given : Option ℕ)
+    (world : World) → entry < REGISTERS → IsAsked argument given
+    → ((steps : ℕ) (s : State) → Reaches steps (start_given entry given world) s
+    → IsFramed nodes world.kept s.world.kept)
+    → (steps : ℕ) (s : State) → Reaches steps (start (call_given entry given) world) s
+    → IsFramed nodes world.kept s.world.kept
+call_framed calls nodes entry None None world named asked framed = framed
+call_framed calls nodes entry (Some range) (Some n) world named asked framed =
+    digits_framed calls nodes entry n world named asked.small framed
+call_framed calls nodes entry argument given world named asked framed = absurd (grind arith)
+
+pub runs_are_framed : ending.Laws → verifying.Laws → CallLaws → IterationsEnd → StepsKeep → RunsAreFramed
+runs_are_framed laws sound calls ends keep library entry rules argument given nodes table commands most n world are
+    printed asked ready files =
+    call_framed calls nodes entry argument given world ready.named asked
+    (given_framed laws keep (ready_call library entry rules argument given nodes table commands most n world are printed
+    asked ready) (verifying.elements_go sound ends library entry rules argument given nodes table commands most n world
+    are printed asked ready) files)
