@@ -1,11 +1,12 @@
 //! Files of cases: a line that names their kind, and cases, each with its fields.
 use crate::fault::{CaseFault, Mistake};
+use crate::phrase::Phrase;
 use crate::spelling::{Ending, Line};
 use std::alloc::{AllocError, Global};
 use std::str;
 
 /// What the cases of a file are about.
-#[derive(Clone, Copy, Debug, PartialEq, Eq)]
+#[derive(Clone, Copy)]
 pub enum Kind {
     /// Command strings: what they type, and the files that they leave.
     Sessions,
@@ -19,20 +20,42 @@ pub enum Kind {
     Macros,
     /// Files of cases: how they are read.
     Formats,
+    /// Linear programs: their least values.
+    Programs,
+    /// Linear forms: what follows from inequalities between them.
+    Implications,
+    /// Texts of claims: how they are read.
+    Claims,
+    /// Command strings: what may come of their last element, by forms.
+    Outcomes,
+    /// Macros with claims at cut points: whether these hang together.
+    Paths,
 }
+
+/// The kinds, by their names.
+const KINDS: &[(&str, Kind)] = &[
+    ("sessions", Kind::Sessions),
+    ("verdicts", Kind::Verdicts),
+    ("certificates", Kind::Certificates),
+    ("edits", Kind::Edits),
+    ("macros", Kind::Macros),
+    ("formats", Kind::Formats),
+    ("programs", Kind::Programs),
+    ("implications", Kind::Implications),
+    ("claims", Kind::Claims),
+    ("outcomes", Kind::Outcomes),
+    ("paths", Kind::Paths),
+];
 
 impl Kind {
     // The kind of a name.
     fn of(name: &str) -> Option<Kind> {
-        match name {
-            "sessions" => Some(Kind::Sessions),
-            "verdicts" => Some(Kind::Verdicts),
-            "certificates" => Some(Kind::Certificates),
-            "edits" => Some(Kind::Edits),
-            "macros" => Some(Kind::Macros),
-            "formats" => Some(Kind::Formats),
-            _ => None,
+        for (word, kind) in KINDS {
+            if *word == name {
+                return Some(*kind);
+            }
         }
+        None
     }
 }
 
@@ -79,6 +102,16 @@ impl Field<'_> {
     // Is this its key and its name?
     fn is(&self, key: &str, name: &[u8]) -> bool {
         self.key == key && self.name.as_slice() == name
+    }
+
+    // Is its key one of these?
+    fn has_key(&self, keys: &[&str]) -> bool {
+        for key in keys {
+            if self.key == *key {
+                return true;
+            }
+        }
+        false
     }
 
     // Takes a line of its text, behind so many empty ones.
@@ -141,7 +174,12 @@ impl<'a> Case<'a> {
 
     /// Has it one of these keys?
     pub fn has_any(&self, keys: &[&str]) -> bool {
-        self.fields.iter().any(|field| keys.contains(&field.key))
+        for field in self.fields.iter() {
+            if field.has_key(keys) {
+                return true;
+            }
+        }
+        false
     }
 
     /// The texts of a key, with the names of their files.
@@ -160,7 +198,12 @@ impl<'a> Case<'a> {
 
     // The field of a key and a name.
     fn field(&self, key: &str, name: &[u8]) -> Option<&Field<'a>> {
-        self.fields.iter().find(|field| field.is(key, name))
+        for field in self.fields.iter() {
+            if field.is(key, name) {
+                return Some(field);
+            }
+        }
+        None
     }
 
     /// The text of a key and a name, if it is there.
@@ -194,6 +237,29 @@ impl<'a> Case<'a> {
         match str::from_utf8(text) {
             Ok(word) => Ok(Some(word)),
             Err(_) => Err(self.wrong(key)),
+        }
+    }
+
+    /// The text of a key that is read further, if it is there.
+    pub fn phrase_if_any(&self, key: &'static str) -> Result<Option<Phrase<'_>>, CaseFault> {
+        let Some(field) = self.field(key, b"") else {
+            return Ok(None);
+        };
+        match str::from_utf8(&field.text) {
+            Ok(words) => Ok(Some(Phrase {
+                line: field.line.number,
+                key,
+                words,
+            })),
+            Err(_) => Err(self.wrong(key)),
+        }
+    }
+
+    /// The text of a key that is read further.
+    pub fn phrase(&self, key: &'static str) -> Result<Phrase<'_>, CaseFault> {
+        match self.phrase_if_any(key)? {
+            Some(phrase) => Ok(phrase),
+            None => Err(self.lacks(key)),
         }
     }
 
@@ -294,9 +360,19 @@ impl<'a> CaseReader<'a> {
         }
     }
 
+    // Has a case this name?
+    fn has_case(&self, name: &str) -> bool {
+        for case in self.cases.iter() {
+            if case.name == name {
+                return true;
+            }
+        }
+        false
+    }
+
     // Begins a case.
     fn take_case(&mut self, line: Line<'a>, name: &'a str) -> Result<(), CaseFault> {
-        if self.cases.iter().any(|case| case.name == name) {
+        if self.has_case(name) {
             return Err(line.fault(Mistake::NameTwice));
         }
         self.cases.push(Case {

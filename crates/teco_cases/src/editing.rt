@@ -112,6 +112,25 @@ impl<'a> Trial<'a> {
         Ok(())
     }
 
+    // Edits the file: the exit status and the steps.
+    fn edited<T: TextStore, H: Host>(
+        &self,
+        machine: &mut Machine<T>,
+        host: &mut H,
+        typed: &mut Vec<u8>,
+    ) -> Result<(u64, u64), SessionFault> {
+        let edit = Edit {
+            alloc: self.alloc,
+            verified: self.task.verified,
+            source: SOURCE,
+            target: TARGET,
+            given: self.task.argument,
+            pages: self.task.pages,
+            guard: &Willing,
+        };
+        status_of(edit_file(machine, &edit, host, typed, &mut Willing))
+    }
+
     // Compares the steps of the run.
     fn compare_steps(&self, findings: &mut Findings, steps: u64) -> Result<(), AllocError> {
         if let Some(wanted) = self.wanted.steps {
@@ -139,17 +158,7 @@ impl Job for Trial<'_> {
     ) -> Result<Ran, CaseFault> {
         let mut machine = Machine::new(self.alloc, text);
         let mut typed = Vec::new(self.alloc);
-        let edit = Edit {
-            alloc: self.alloc,
-            verified: self.task.verified,
-            source: SOURCE,
-            target: TARGET,
-            given: self.task.argument,
-            pages: self.task.pages,
-            guard: &Willing,
-        };
-        let edited = edit_file(&mut machine, &edit, host, &mut typed, &mut Willing);
-        let (status, steps) = status_of(edited)?;
+        let (status, steps) = self.edited(&mut machine, host, &mut typed)?;
         Ok(Ran {
             typed,
             status,

@@ -1,15 +1,16 @@
 //! What keeps files of cases from being run.
 use std::alloc::{AllocError, AllocFailed};
 use std::{fmt, io};
+use teco_linear::LinearFault;
 use teco_session::SessionFault;
+use teco_simplex::SimplexFault;
 use teco_verdicts::AnswerFault;
-use thiserror::Error;
 
 /// How many characters a line has at most.
 pub const WIDTH: usize = 120;
 
 /// Why a line is none of a file of cases, or a case none of its kind.
-#[derive(Clone, Copy, Debug, PartialEq, Eq)]
+#[derive(Clone, Copy)]
 pub enum Mistake {
     /// The first line names no kind of cases.
     Kind,
@@ -39,31 +40,42 @@ pub enum Mistake {
     Value(&'static str),
 }
 
+impl Mistake {
+    // What is wrong, but for keys and numbers.
+    fn words(self) -> &'static str {
+        match self {
+            Mistake::Kind => "the first line names no kind of cases",
+            Mistake::Control => "a control character stands here",
+            Mistake::Blank => "the line ends in a blank",
+            Mistake::Long => "the line is too long",
+            Mistake::NoCase => "no case begins before this line",
+            Mistake::NoText => "no text begins before this line",
+            Mistake::Escape => "a backslash says no byte",
+            Mistake::NameTwice => "a case before this one has the name",
+            Mistake::KeyTwice => "the case has this already",
+            Mistake::UnknownKey => "no case of this kind has this key",
+            Mistake::Bare => "the key has no text",
+            Mistake::Missing(_) => "the case lacks a key",
+            Mistake::Value(_) => "this is no text of its key",
+        }
+    }
+}
+
 impl fmt::Display for Mistake {
     fn fmt<W: fmt::Write>(&self, f: &mut fmt::Formatter<W>) -> fmt::Result {
         match self {
-            Mistake::Kind => write!(f, "the first line names no kind of cases"),
-            Mistake::Control => write!(f, "a control character stands here"),
-            Mistake::Blank => write!(f, "the line ends in a blank"),
             Mistake::Long => write!(f, "the line has more than {WIDTH} characters"),
-            Mistake::NoCase => write!(f, "no case begins before this line"),
-            Mistake::NoText => write!(f, "no text begins before this line"),
-            Mistake::Escape => write!(f, "a backslash says no byte"),
-            Mistake::NameTwice => write!(f, "a case before this one has the name"),
-            Mistake::KeyTwice => write!(f, "the case has this already"),
-            Mistake::UnknownKey => write!(f, "no case of this kind has this key"),
-            Mistake::Bare => write!(f, "the key has no text"),
             Mistake::Missing(key) => write!(f, "the case lacks {key}"),
             Mistake::Value(key) => write!(f, "this is no {key}"),
+            _ => write!(f, "{}", self.words()),
         }
     }
 }
 
 /// Why cases are not run.
-#[derive(Debug, Drop, Error)]
+#[derive(Drop)]
 pub enum CaseFault {
     /// A line, or the case that it begins, is not as it is to be.
-    #[error("line {line}: {mistake}")]
     Format {
         /// The line's number, from 1 on.
         line: usize,
@@ -71,17 +83,28 @@ pub enum CaseFault {
         mistake: Mistake,
     },
     /// A file or a folder failed.
-    #[error("{0}")]
     Files(io::Error),
     /// A session failed for another reason than its commands.
-    #[error("{0}")]
     Session(SessionFault),
     /// A verdict was not given.
-    #[error("{0}")]
     Answer(AnswerFault),
+    /// A form is refused.
+    Linear(LinearFault),
     /// A growth was refused.
-    #[error("out of memory")]
     Memory,
+}
+
+impl fmt::Display for CaseFault {
+    fn fmt<W: fmt::Write>(&self, f: &mut fmt::Formatter<W>) -> fmt::Result {
+        match self {
+            CaseFault::Format { line, mistake } => write!(f, "line {line}: {mistake}"),
+            CaseFault::Files(fault) => write!(f, "{fault}"),
+            CaseFault::Session(fault) => write!(f, "{fault}"),
+            CaseFault::Answer(fault) => write!(f, "{fault}"),
+            CaseFault::Linear(fault) => write!(f, "{fault}"),
+            CaseFault::Memory => write!(f, "out of memory"),
+        }
+    }
 }
 
 impl From<AllocError> for CaseFault {
@@ -111,5 +134,17 @@ impl From<SessionFault> for CaseFault {
 impl From<AnswerFault> for CaseFault {
     fn from(fault: AnswerFault) -> CaseFault {
         CaseFault::Answer(fault)
+    }
+}
+
+impl From<LinearFault> for CaseFault {
+    fn from(fault: LinearFault) -> CaseFault {
+        CaseFault::Linear(fault)
+    }
+}
+
+impl From<SimplexFault> for CaseFault {
+    fn from(_fault: SimplexFault) -> CaseFault {
+        CaseFault::Memory
     }
 }

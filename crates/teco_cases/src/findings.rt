@@ -1,4 +1,5 @@
 //! What is found to be other than a case says.
+use crate::fault::CaseFault;
 use crate::settings::Setting;
 use std::alloc::{AllocError, Global};
 use std::fmt;
@@ -37,6 +38,18 @@ impl Findings {
             setting: Some(setting),
             all: Vec::new(alloc),
         }
+    }
+
+    /// The bytes that were got, unless they are the expected ones.
+    pub fn of_text(
+        alloc: Global,
+        what: &str,
+        expected: &[u8],
+        got: &[u8],
+    ) -> Result<Findings, CaseFault> {
+        let mut findings = Findings::new(alloc);
+        findings.compare(what, expected, got)?;
+        Ok(findings)
     }
 
     /// Is all as the case says?

@@ -1,6 +1,7 @@
 //! A folder of the system for the files of a case, and what is left in it.
 use crate::case_file::NamedText;
 use crate::fault::CaseFault;
+use std::fs::DirEntry;
 use std::{env, fs, io, str};
 use teco_pages::MemHost;
 
@@ -40,15 +41,25 @@ pub fn leave(rt: &HostRuntime) -> Result<Contents, CaseFault> {
     Ok(contents)
 }
 
+// Adds a file of the folder and its name.
+fn add_file(
+    rt: &HostRuntime,
+    files: &mut MemHost,
+    names: &mut Vec<String>,
+    entry: &DirEntry,
+) -> Result<(), CaseFault> {
+    let text = fs::read(rt, entry.path())?;
+    files.put(entry.file_name().as_bytes(), &text)?;
+    names.push(String::from_str(rt.alloc(), entry.file_name())?)?;
+    Ok(())
+}
+
 // What the folder has.
 fn read_folder(rt: &HostRuntime) -> Result<Contents, CaseFault> {
     let mut files = MemHost::new(rt.alloc());
     let mut names = Vec::new(rt.alloc());
     for entry in fs::read_dir(rt, FOLDER)? {
-        let entry = entry?;
-        let text = fs::read(rt, entry.path())?;
-        files.put(entry.file_name().as_bytes(), &text)?;
-        names.push(String::from_str(rt.alloc(), entry.file_name())?)?;
+        add_file(rt, &mut files, &mut names, &entry?)?;
     }
     Ok(Contents { files, names })
 }

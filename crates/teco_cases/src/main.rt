@@ -2,27 +2,39 @@
 #![tactic(auto)]
 
 mod case_file;
+mod claims;
 mod editing;
 mod edits;
 mod fault;
 mod findings;
 mod folder;
 mod formats;
+mod implications;
 mod macros;
+mod outcomes;
+mod paths;
+mod phrase;
 mod pieces;
+mod programs;
 mod running;
 mod sessions;
 mod settings;
 mod spelling;
 mod subject;
+mod sums;
 mod verdicts;
 
 use crate::case_file::{Case, CaseFile, Kind};
+use crate::claims::run_claims;
 use crate::edits::run_edit;
 use crate::fault::CaseFault;
 use crate::findings::Findings;
 use crate::formats::run_format;
+use crate::implications::run_implication;
 use crate::macros::run_macro;
+use crate::outcomes::run_outcomes;
+use crate::paths::run_paths;
+use crate::programs::run_program;
 use crate::sessions::run_session;
 use crate::settings::Extent;
 use crate::verdicts::{run_certificate, run_verdict};
@@ -82,6 +94,11 @@ fn run_case(
         Kind::Edits => run_edit(rt, case),
         Kind::Macros => run_macro(rt, case),
         Kind::Formats => run_format(rt.alloc(), case),
+        Kind::Programs => run_program(rt.alloc(), case),
+        Kind::Implications => run_implication(rt.alloc(), case),
+        Kind::Claims => run_claims(rt.alloc(), case),
+        Kind::Outcomes => run_outcomes(rt.alloc(), case),
+        Kind::Paths => run_paths(rt.alloc(), case),
     }
 }
 
@@ -152,7 +169,9 @@ const QUICK: &str = "quick";
 fn words(rt: &HostRuntime) -> io::Result<(Extent, Vec<String>)> {
     let mut paths = Vec::new(rt.alloc());
     let mut extent = Extent::Whole;
-    for word in env::args(rt)?.skip(1) {
+    let mut args = env::args(rt)?;
+    let _program = args.next();
+    for word in args {
         if paths.is_empty() && word.as_str() == QUICK {
             extent = Extent::Quick;
         } else {

@@ -8,7 +8,7 @@ use crate::settings::Extent;
 use std::alloc::{AllocError, Global};
 use teco_pages::Host;
 use teco_run::Machine;
-use teco_session::session;
+use teco_session::{SessionFault, session};
 use teco_text::TextStore;
 
 const KEYS: Keys = Keys {
@@ -51,6 +51,16 @@ impl<'a> Typed<'a> {
             }
         }
     }
+}
+
+// Is a file of this name among some?
+fn is_among(files: &[NamedText<'_>], name: &[u8]) -> bool {
+    for file in files {
+        if file.name == name {
+            return true;
+        }
+    }
+    false
 }
 
 // A text without its blanks and line ends.
@@ -99,14 +109,20 @@ impl<'a> Session<'a> {
         !self.files.is_empty() || !self.left.is_empty()
     }
 
-    // Is a file of this name to be left?
-    fn is_left(&self, name: &[u8]) -> bool {
-        self.left.iter().any(|file| file.name == name)
-    }
-
-    // Is a file of this name there before?
-    fn is_given(&self, name: &[u8]) -> bool {
-        self.files.iter().any(|file| file.name == name)
+    // Has a machine read the input, so many bytes at a time. Does the session end in a code?
+    fn coded<T: TextStore, H: Host>(
+        &self,
+        machine: &mut Machine<T>,
+        piece: usize,
+        host: &mut H,
+        typed: &mut Vec<u8>,
+    ) -> Result<bool, SessionFault> {
+        let mut reader = PieceReader {
+            bytes: self.input,
+            piece,
+        };
+        let done = session(self.alloc, machine, &mut reader, typed, host, self.limit)?;
+        Ok(done.coded)
     }
 
     // Compares the buffer and the pointer, where these are told.
@@ -126,13 +142,13 @@ impl<'a> Session<'a> {
             findings.compare_files(file.name, Some(file.text), left.files.file(file.name))?;
         }
         for file in self.files.iter() {
-            if !self.is_left(file.name) {
+            if !is_among(&self.left, file.name) {
                 findings.compare_files(file.name, None, left.files.file(file.name))?;
             }
         }
         for name in left.names {
             let name = name.as_bytes();
-            if !self.is_left(name) && !self.is_given(name) {
+            if !is_among(&self.left, name) && !is_among(&self.files, name) {
                 findings.compare_files(name, None, left.files.file(name))?;
             }
         }
@@ -152,22 +168,11 @@ impl Job for Session<'_> {
         host: &mut H,
     ) -> Result<Ran, CaseFault> {
         let mut machine = Machine::new(self.alloc, text);
-        let mut reader = PieceReader {
-            bytes: self.input,
-            piece,
-        };
         let mut typed = Vec::new(self.alloc);
-        let done = session(
-            self.alloc,
-            &mut machine,
-            &mut reader,
-            &mut typed,
-            host,
-            self.limit,
-        )?;
+        let coded = self.coded(&mut machine, piece, host, &mut typed)?;
         Ok(Ran {
             typed,
-            status: u64::from(done.coded || machine.has_output()),
+            status: u64::from(coded || machine.has_output()),
             steps: 0,
             buffer: buffer_of(self.alloc, &machine)?,
             pointer: machine.dot(),

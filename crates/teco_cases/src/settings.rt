@@ -3,7 +3,7 @@ use std::fmt;
 use teco_pages::{HostCall, MemHost, TestHost};
 
 /// A store of a text.
-#[derive(Clone, Copy, Debug, PartialEq, Eq)]
+#[derive(Clone, Copy)]
 pub enum Store {
     /// In one vector.
     Vector,
@@ -21,7 +21,7 @@ impl fmt::Display for Store {
 }
 
 /// Where files are.
-#[derive(Clone, Copy, Debug, PartialEq, Eq)]
+#[derive(Clone, Copy)]
 pub enum Place {
     /// In memory.
     Memory,
@@ -42,7 +42,7 @@ impl fmt::Display for Place {
 }
 
 /// What a case is run over.
-#[derive(Clone, Copy, Debug, PartialEq, Eq)]
+#[derive(Clone, Copy)]
 pub struct Setting(pub Store, pub Place);
 
 impl fmt::Display for Setting {
@@ -71,7 +71,7 @@ pub const IN_FOLDER: &[Setting] = &[
 ];
 
 /// Over how much sessions are run.
-#[derive(Clone, Copy, Debug, PartialEq, Eq)]
+#[derive(Clone, Copy)]
 pub enum Extent {
     /// Over each store and each host.
     Whole,

@@ -29,7 +29,7 @@ impl<'a> Line<'a> {
 
     /// Refuses what a reader could not see, control characters and blanks at the end, and long lines.
     pub fn check(self) -> Result<(), CaseFault> {
-        if self.text.bytes().any(|byte| byte.is_ascii_control()) {
+        if has_control(self.text) {
             return Err(self.fault(Mistake::Control));
         }
         if self.text.ends_with(' ') {
@@ -67,8 +67,18 @@ impl<'a> Line<'a> {
     }
 }
 
+// Has a line a control character?
+fn has_control(line: &str) -> bool {
+    for byte in line.bytes() {
+        if byte.is_ascii_control() {
+            return true;
+        }
+    }
+    false
+}
+
 /// How a line ends.
-#[derive(Clone, Copy, Debug, PartialEq, Eq)]
+#[derive(Clone, Copy)]
 pub enum Ending {
     /// As any line.
     Plain,
@@ -97,7 +107,12 @@ impl Within {
             Within::Plain => Some(byte),
             Within::Escape if byte == b'x' => return Ok(Some(Within::Code)),
             Within::Escape => escaped(byte),
-            Within::Code => return Ok(digit(byte).map(Within::HalfCode)),
+            Within::Code => {
+                return match digit(byte) {
+                    Some(high) => Ok(Some(Within::HalfCode(high))),
+                    None => Ok(None),
+                };
+            }
             Within::HalfCode(high) => code_of(high, byte),
         };
         let Some(said) = said else {

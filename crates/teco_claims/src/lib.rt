@@ -8,8 +8,6 @@ mod printing;
 mod reading;
 mod spelled;
 mod term;
-#[cfg(test)]
-mod tests;
 
 pub use claims::{Claim, Claims, Cut};
 pub use fault::ClaimsFault;

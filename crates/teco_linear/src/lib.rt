@@ -11,8 +11,6 @@ mod implied;
 mod table;
 mod term;
 mod terms;
-#[cfg(test)]
-mod tests;
 
 pub use bounds::DifferenceBounds;
 pub use difference::Difference;

@@ -51,13 +51,13 @@ use Rattle.teco_rows.proofs.Lines.{IsEnd, above_or, clash, ends, line_begin, lin
 use Rattle.teco_rows.proofs.Pending.{value_there}
 use Rattle.teco_rows.proofs.Ways.{IsWay, by}
 use Rattle.teco_outcomes.specs.declared.conversions.TheConstants.{READS, WRITES, WRITES_SIGN}
-use Rattle.teco_outcomes.specs.Changes.{IsChanged, read_given, with_kept}
+use Rattle.teco_command_outcomes.specs.Changes.{IsChangedFrom, read_given, with_kept}
 use Rattle.teco_outcomes.specs.Conversions.{IsBehindNumber, IsStanding, ReadsNumber, WritesNumber}
 use Rattle.teco_outcomes.specs.Conversions.{kept_behind_number}
-use Rattle.teco_outcomes.specs.Deletions.{IsDone}
+use Rattle.teco_command_outcomes.specs.Deletions.{IsDone}
 use Rattle.teco_outcomes.specs.Queries.{Asks}
-use Rattle.teco_outcomes.proofs.Changing.{changes_singles}
-use Rattle.teco_outcomes.proofs.Inserting.{grown_end, grown_kept, grown_long, inserted, kept_with}
+use Rattle.teco_command_outcomes.proofs.Changing.{changes_plainly, changes_singles}
+use Rattle.teco_command_outcomes.proofs.Inserting.{grown_end, grown_kept, grown_long, inserted, kept_with}
 use Rattle.teco_outcomes.proofs.Valuing.{levels_succeed}
 
 -- ---- a place further on in the line
@@ -173,9 +173,9 @@ number_fits text =
     read_fits (is_minus text) (sign_len text) (take (prefix_len is_digit behind) behind)
 
 -- ---- the pointer goes behind it
-pub goes_behind : (case made : Case) → IsChanged case READS [] made → IsBehindNumber case made
+pub goes_behind : (case made : Case) → IsChangedFrom case READS [] made → IsBehindNumber case made
 goes_behind case made changes n v s true_of whole =
-    changes n v s kept s.unread (λ i. pos k) true_of (λ here.
+    changes_plainly case made READS [] changes n v s kept s.unread (λ i. pos k) true_of (λ here.
     changes_singles READS (read_given [] n v s (λ i. pos k) here) s kept s.unread refl refl
     (omega (arith, ints), (omega (arith, ints, reached text p k order inside plain), tt)) (singles here)) where
       text : List ℕ

@@ -1,24 +1,7 @@
 -- Lemmas of elements.
-pub mod Storing
-pub mod Moving
 pub mod Valuing
-pub mod Arguing
 pub mod Asking
 pub mod Stepping
-pub mod Ranging
-pub mod Turning
-pub mod Branching
 pub mod Pushing
-pub mod Cutting
-pub mod Lining
-pub mod Inserting
-pub mod Matching
-pub mod Changing
-pub mod Searching
-pub mod Seeking
 pub mod Reading
 pub mod Converting
-pub mod Paging
-pub mod Copying
-pub mod Writing
-pub mod Parting

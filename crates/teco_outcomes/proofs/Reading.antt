@@ -1,11 +1,14 @@
 -- The code of a character.
-use Rattle.std.proofs.Common.{◌≡◌, ℕ, zero, suc, ◌<◌, ◌≤◌, inl, inr, ℤ, pos, negsuc, ◌+ℤ◌, List, [], ◌∷◌, length}
-use Rattle.std.proofs.Common.{Some, None, slice_index_or, refl, sym, ap, subst, ◌∙◌, arith}
+use Rattle.std.proofs.Common.{◌≡◌, ℕ, zero, suc, ◌+◌, ◌<◌, ◌≤◌, ◌⊎◌, inl, inr, ℤ, pos, negsuc, ◌+ℤ◌, List, [], ◌∷◌, length}
+use Rattle.std.proofs.Common.{Bool, true, false, Some, None, get_or, slice_index_or, refl, sym, ap, subst, ◌∙◌, arith}
+use Rattle.std.proofs.lemmas.Bool.Decides.{nat_tests}
 use Rattle.std.proofs.lemmas.Int.{ints}
+use Rattle.teco_base.specs.Bytes.{is_line_end}
+use Rattle.teco_base.specs.Lines.{line_place}
 use Rattle.teco_linear.specs.declared.term.Term.{Term}
-use Rattle.teco_linear.specs.Form.{value}
+use Rattle.teco_linear.specs.Form.{Valuation, value}
 use Rattle.teco_model.specs.Arguments.{levels_after_taking}
-use Rattle.teco_model.specs.Character.{code_at}
+use Rattle.teco_model.specs.Character.{character, code_at}
 use Rattle.teco_model.specs.Checked.{◌>>=◌}
 use Rattle.teco_model.specs.Element.{Element}
 use Rattle.teco_model.specs.Going as going
@@ -25,20 +28,23 @@ use Rattle.teco_rows.specs.declared.row.Places.{Places}
 use Rattle.teco_rows.specs.Cases.{value_if}
 use Rattle.teco_rows.specs.Commands.{AreCommanded, IsAtLevel, IsTaken, Leads, commanded}
 use Rattle.teco_rows.specs.Foretold.{Describe}
-use Rattle.teco_rows.specs.States.{Point, single}
+use Rattle.teco_rows.specs.Rows.{Before}
+use Rattle.teco_rows.specs.declared.row.Clause.{Clause}
+use Rattle.teco_rows.specs.States.{IsTrueOf, Point, single}
 use Rattle.teco_rows.proofs.Commanding.{read_at}
 use Rattle.teco_rows.proofs.Leading.{answers, leads}
-use Rattle.teco_rows.proofs.Lines.{above_or}
+use Rattle.teco_rows.proofs.Lines.{IsBegin, IsEnd, above_or, begin_most, clash, end_least, ends, line_begin, line_end}
 use Rattle.teco_rows.proofs.Ways.{IsWay, by}
-use Rattle.teco_outcomes.specs.declared.characters.TheConstants.{BEFORE, BEHIND, INSIDE}
-use Rattle.teco_outcomes.specs.Characters.{GivesCharacter}
-use Rattle.teco_outcomes.specs.Law.{Goes, Law, StepsTo, point_of}
+use Rattle.teco_outcomes.specs.declared.characters.TheConstants.{AT_FIRST, AT_LAST, BEFORE, BEHIND, ENDS_HERE, ENDS_THERE, HIGH_HERE}
+use Rattle.teco_outcomes.specs.declared.characters.TheConstants.{HIGH_THERE, INSIDE, LOW_HERE, LOW_THERE}
+use Rattle.teco_outcomes.specs.Characters.{AnswersCode, GivesCharacter}
+use Rattle.teco_flow_outcomes.specs.Law.{Goes, Law, StepsTo, point_of}
 
 -- a character that is there is a byte, and outside there is none
 code_inside : (text : List ℕ) (k : ℕ) → k < length text → AreBytes text
-    → (c : ℕ) × (code_at text (pos k) ≡ pos c) × (c < 256)
+    → (c : ℕ) × (code_at text (pos k) ≡ pos c) × (c < 256) × (get_or text k 0 ≡ c)
 code_inside [] k h bytes = absurd (omega arith)
-code_inside (c ∷ text) zero h bytes = (c, refl, bytes.0)
+code_inside (c ∷ text) zero h bytes = (c, refl, bytes.0, refl)
 code_inside (c ∷ text) (suc k) h bytes = code_inside text k (omega arith) bytes.1
 
 code_outside : (text : List ℕ) (k : ℕ) → length text ≤ k → code_at text (pos k) ≡ negsuc 0
@@ -90,6 +96,231 @@ module _ (s : Point) (here : Places) (given : ℕ → ℤ) (at : here.level ≡ 
     stack = refl;
   })
 
+-- ---- the character at the pointer, and the one before it
+-- a character ends its line, or is below or above those that do
+data Sort (c : ℕ) : Type 0 where
+  ends_one : is_line_end c ≡ true → 10 ≤ c → c ≤ 12 → Sort c
+  is_low : is_line_end c ≡ false → c ≤ 9 → Sort c
+  is_high : is_line_end c ≡ false → 13 ≤ c → Sort c
+
+end_code : (c : ℕ) → is_line_end c ≡ true → (10 ≤ c) × (c ≤ 12)
+end_code c e = (grind (arith, nat_tests), grind (arith, nat_tests))
+
+other_code : (c : ℕ) → is_line_end c ≡ false → (c ≤ 9) ⊎ (13 ≤ c)
+other_code c e = grind (arith, nat_tests)
+
+sort_of : (c : ℕ) → Sort c
+sort_of c = by_test (is_line_end c) refl where
+  by_test : (b : Bool) → is_line_end c ≡ b → Sort c
+  by_test true e = let k = end_code c e in ends_one e k.0 k.1
+  by_test false e = elim (other_code c e) [ inl h ↦ is_low e h | inr h ↦ is_high e h ]
+
+module _ (s : Point) (here : Places) (given : ℕ → ℤ) (at : here.level ≡ length s.arguments.outer)
+    (whole : s.kept.pointer ≤ length s.kept.text) where
+  abbrev read_code : ℕ → Before
+  read_code c = read_at s here given (λ i. pos c)
+
+  end : IsEnd s.kept.text s.kept.pointer (line_place s.kept.text s.kept.pointer (pos 1))
+  end = line_end s.kept.text s.kept.pointer whole
+
+  begin : IsBegin s.kept.text s.kept.pointer (line_place s.kept.text s.kept.pointer (pos 0))
+  begin = line_begin s.kept.text s.kept.pointer
+
+  later : s.kept.pointer < length s.kept.text
+      → s.kept.pointer + 1 ≤ line_place s.kept.text s.kept.pointer (pos 1)
+  later h = elim (above_or (length s.kept.text) (line_place s.kept.text s.kept.pointer (pos 1))) [
+    | inl w ↦ omega arith
+    | inr w ↦ omega (arith, end.more w)
+  ]
+
+  ends_here : (c : ℕ) → s.kept.pointer < length s.kept.text → ends s.kept.text s.kept.pointer ≡ true → 10 ≤ c → c ≤ 12
+      → Leads ENDS_HERE (read_code c) s s.kept (Some (pos c))
+  ends_here c h e low high =
+      let near = end_least s.kept.text s.kept.pointer _ s.kept.pointer end (omega arith) e in
+      leads ENDS_HERE _ s s.kept (Some (pos c)) refl refl refl refl (record {
+        met = (
+          omega (arith, ints),
+          (omega (arith, ints), (omega (arith, ints, later h), (omega (arith, ints, near), tt))),
+        );
+        singles = stays s here given at (pos c);
+        numbers = λ i. refl;
+        lengths = λ i. refl;
+        values = λ i. answers s s.kept here i (pos c) _ at (ap Some (omega (arith, ints)));
+        stack = refl;
+      })
+
+  low_here : (c : ℕ) → s.kept.pointer < length s.kept.text → c ≤ 9
+      → Leads LOW_HERE (read_code c) s s.kept (Some (pos c))
+  low_here c h low = leads LOW_HERE _ s s.kept (Some (pos c)) refl refl refl refl (record {
+    met = (omega (arith, ints), (omega (arith, ints), (omega (arith, ints, later h), tt)));
+    singles = stays s here given at (pos c);
+    numbers = λ i. refl;
+    lengths = λ i. refl;
+    values = λ i. answers s s.kept here i (pos c) _ at (ap Some (omega (arith, ints)));
+    stack = refl;
+  })
+
+  high_here : (c : ℕ) → s.kept.pointer < length s.kept.text → 13 ≤ c → c < 256
+      → Leads HIGH_HERE (read_code c) s s.kept (Some (pos c))
+  high_here c h low byte = leads HIGH_HERE _ s s.kept (Some (pos c)) refl refl refl refl (record {
+    met = (omega (arith, ints), (omega (arith, ints), (omega (arith, ints, later h), tt)));
+    singles = stays s here given at (pos c);
+    numbers = λ i. refl;
+    lengths = λ i. refl;
+    values = λ i. answers s s.kept here i (pos c) _ at (ap Some (omega (arith, ints)));
+    stack = refl;
+  })
+
+  at_last : length s.kept.text ≤ s.kept.pointer → Leads AT_LAST (read_code 0) s s.kept (Some (negsuc 0))
+  at_last h = leads AT_LAST _ s s.kept (Some (negsuc 0)) refl refl refl refl (record {
+    met = (omega (arith, ints), tt);
+    singles = stays s here given at (negsuc 0);
+    numbers = λ i. refl;
+    lengths = λ i. refl;
+    values = λ i. answers s s.kept here i (negsuc 0) _ at (ap Some (omega (arith, ints)));
+    stack = refl;
+  })
+
+  -- before the pointer
+  module _ (k : ℕ) (before : k + 1 ≡ s.kept.pointer) where
+    ends_there : (c : ℕ) → ends s.kept.text k ≡ true → 10 ≤ c → c ≤ 12
+        → Leads ENDS_THERE (read_code c) s s.kept (Some (pos c))
+    ends_there c e low high =
+        let near = begin_most s.kept.text s.kept.pointer _ k begin (omega arith) e in
+        leads ENDS_THERE _ s s.kept (Some (pos c)) refl refl refl refl (record {
+          met = (
+            omega (arith, ints),
+            (omega (arith, ints), (omega (arith, ints, before), (omega (arith, ints, near, before), tt))),
+          );
+          singles = stays s here given at (pos c);
+          numbers = λ i. refl;
+          lengths = λ i. refl;
+          values = λ i. answers s s.kept here i (pos c) _ at (ap Some (omega (arith, ints)));
+          stack = refl;
+        })
+
+    earlier : ends s.kept.text k ≡ false → line_place s.kept.text s.kept.pointer (pos 0) + 1 ≤ s.kept.pointer
+    earlier e = elim (above_or s.kept.pointer (line_place s.kept.text s.kept.pointer (pos 0))) [
+      | inl w ↦ absurd (clash (ends s.kept.text k) (begin.one k (omega (arith, before, begin.before))) e)
+      | inr w ↦ omega arith
+    ]
+
+    low_there : (c : ℕ) → ends s.kept.text k ≡ false → c ≤ 9
+        → Leads LOW_THERE (read_code c) s s.kept (Some (pos c))
+    low_there c e low = leads LOW_THERE _ s s.kept (Some (pos c)) refl refl refl refl (record {
+      met = (omega (arith, ints), (omega (arith, ints), (omega (arith, ints, earlier e), tt)));
+      singles = stays s here given at (pos c);
+      numbers = λ i. refl;
+      lengths = λ i. refl;
+      values = λ i. answers s s.kept here i (pos c) _ at (ap Some (omega (arith, ints)));
+      stack = refl;
+    })
+
+    high_there : (c : ℕ) → ends s.kept.text k ≡ false → 13 ≤ c → c < 256
+        → Leads HIGH_THERE (read_code c) s s.kept (Some (pos c))
+    high_there c e low byte = leads HIGH_THERE _ s s.kept (Some (pos c)) refl refl refl refl (record {
+      met = (omega (arith, ints), (omega (arith, ints), (omega (arith, ints, earlier e), tt)));
+      singles = stays s here given at (pos c);
+      numbers = λ i. refl;
+      lengths = λ i. refl;
+      values = λ i. answers s s.kept here i (pos c) _ at (ap Some (omega (arith, ints)));
+      stack = refl;
+    })
+
+  at_first : s.kept.pointer ≡ 0 → Leads AT_FIRST (read_code 0) s s.kept (Some (negsuc 0))
+  at_first h = leads AT_FIRST _ s s.kept (Some (negsuc 0)) refl refl refl refl (record {
+    met = (omega (arith, ints), tt);
+    singles = stays s here given at (negsuc 0);
+    numbers = λ i. refl;
+    lengths = λ i. refl;
+    values = λ i. answers s s.kept here i (negsuc 0) _ at (ap Some (omega (arith, ints)));
+    stack = refl;
+  })
+
+module _ (case : Case) (ways : List command.Way) (here : Places) (all : Outcomes) (level : IsAtLevel here case)
+    (are : AreCommanded case ways [] here all.cases.items) where
+  abbrev none_given : ℕ → Valuation → ℕ → ℤ
+  none_given n v i = value (slice_index_or [] i []) n v
+
+  -- a way by its row, with some code
+  answered_by : (n : ℕ) (v : Valuation) (s : Point) (i c : ℕ) (row : List Clause) (x y : ℤ) → IsTrueOf n v case s
+      → IsWay ways i row → y ≡ x → Leads row (read_at s here (none_given n v) (λ i. pos c)) s s.kept (Some x)
+      → Describe n all (commanded s s.kept (Some y))
+  answered_by n v s i c row x y true_of w same leading =
+      subst (λ z. Describe n all (commanded s s.kept (Some z))) (sym same)
+      (by n v case ways [] here all i row s s.kept (Some x) (λ i. pos c) are w true_of leading)
+
+  pub character_here : IsWay ways 0 ENDS_HERE → IsWay ways 1 LOW_HERE → IsWay ways 2 HIGH_HERE → IsWay ways 3 AT_LAST
+      → AnswersCode (pos 0) case all
+  character_here w0 w1 w2 w3 n v s begins = elim (above_or (length s.kept.text) s.kept.pointer) [
+    | inl h ↦ answered_by n v s 3 0 AT_LAST (negsuc 0) _ begins.true_of w3
+        (ap (code_at s.kept.text) there ∙ code_outside s.kept.text s.kept.pointer h)
+        (at_last s here (none_given n v) level_at begins.whole.inside h)
+    | inr h ↦
+        let c = code_inside s.kept.text s.kept.pointer h begins.whole.bytes in
+        let code = ap (code_at s.kept.text) there ∙ c.1 in
+        let same = ap is_line_end c.3 in
+        by_sort c.0 code h c.2 same (sort_of c.0)
+  ] where
+    level_at : here.level ≡ length s.arguments.outer
+    level_at = level s begins.true_of.shape
+
+    there : (pos s.kept.pointer +ℤ pos 0) ≡ pos s.kept.pointer
+    there = omega (arith, ints)
+
+    by_sort : (c : ℕ) → code_at s.kept.text (pos s.kept.pointer +ℤ pos 0) ≡ pos c
+        → s.kept.pointer < length s.kept.text → c < 256 → ends s.kept.text s.kept.pointer ≡ is_line_end c → Sort c
+        → Describe n all (commanded s s.kept (Some (code_at s.kept.text (pos s.kept.pointer +ℤ pos 0))))
+    by_sort c code h byte same (ends_one e low high) =
+        answered_by n v s 0 c ENDS_HERE (pos c) _ begins.true_of w0 code
+        (ends_here s here (none_given n v) level_at begins.whole.inside c h (same ∙ e) low high)
+    by_sort c code h byte same (is_low e low) =
+        answered_by n v s 1 c LOW_HERE (pos c) _ begins.true_of w1 code
+        (low_here s here (none_given n v) level_at begins.whole.inside c h low)
+    by_sort c code h byte same (is_high e high) =
+        answered_by n v s 2 c HIGH_HERE (pos c) _ begins.true_of w2 code
+        (high_here s here (none_given n v) level_at begins.whole.inside c h high byte)
+
+  pub character_before : IsWay ways 0 ENDS_THERE → IsWay ways 1 LOW_THERE → IsWay ways 2 HIGH_THERE
+      → IsWay ways 3 AT_FIRST → AnswersCode (negsuc 0) case all
+  character_before w0 w1 w2 w3 n v s begins = by_place s.kept.pointer refl where
+    level_at : here.level ≡ length s.arguments.outer
+    level_at = level s begins.true_of.shape
+
+    D : ℤ → Type 0
+    D x = Describe n all (commanded s s.kept (Some (code_at s.kept.text x)))
+
+    by_sort : (k c : ℕ) → k + 1 ≡ s.kept.pointer → code_at s.kept.text (pos k) ≡ pos c → c < 256
+        → ends s.kept.text k ≡ is_line_end c → Sort c → D (pos k)
+    by_sort k c before code byte same (ends_one e low high) =
+        answered_by n v s 0 c ENDS_THERE (pos c) _ begins.true_of w0 code
+        (ends_there s here (none_given n v) level_at begins.whole.inside k before c (same ∙ e) low high)
+    by_sort k c before code byte same (is_low e low) =
+        answered_by n v s 1 c LOW_THERE (pos c) _ begins.true_of w1 code
+        (low_there s here (none_given n v) level_at begins.whole.inside k before c (same ∙ e) low)
+    by_sort k c before code byte same (is_high e high) =
+        answered_by n v s 2 c HIGH_THERE (pos c) _ begins.true_of w2 code
+        (high_there s here (none_given n v) level_at begins.whole.inside k before c (same ∙ e) high byte)
+
+    by_place : (p : ℕ) → p ≡ s.kept.pointer → D (pos s.kept.pointer +ℤ negsuc 0)
+    by_place zero e =
+        let there : pos s.kept.pointer +ℤ negsuc 0 ≡ negsuc 0 = omega (arith, ints) in
+        subst D (sym there)
+        (answered_by n v s 3 0 AT_FIRST (negsuc 0) _ begins.true_of w3 refl
+        (at_first s here (none_given n v) level_at begins.whole.inside (sym e)))
+    by_place (suc k) e =
+        let there : pos s.kept.pointer +ℤ negsuc 0 ≡ pos k = omega (arith, ints) in
+        let before : k + 1 ≡ s.kept.pointer = omega arith in
+        let inside : k < length s.kept.text = omega (arith, begins.whole.inside) in
+        let c = code_inside s.kept.text k inside begins.whole.bytes in
+        subst D (sym there) (by_sort k c.0 before c.1 c.2 (ap is_line_end c.3) (sort_of c.0))
+
+pub gives_code : (case : Case) (form : List Term) (number : ℤ) (all : Outcomes)
+    → ((n : ℕ) (v : Valuation) → value form n v ≡ number) → AnswersCode number case all → GivesCharacter form case all
+gives_code case form number all known answers n v s begins =
+    subst (λ x. Describe n all (commanded s s.kept (Some (character x s.kept)))) (sym (known n v)) (answers n v s begins)
+
+-- ---- a character that is anywhere
 pub gives_character : (case : Case) (ways : List command.Way) (form : List Term) (here : Places) (all : Outcomes)
     → IsAtLevel here case → AreCommanded case ways (form ∷ []) here all.cases.items → IsWay ways 0 INSIDE
     → IsWay ways 1 BEFORE → IsWay ways 2 BEHIND → GivesCharacter form case all

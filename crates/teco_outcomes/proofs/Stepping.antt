@@ -22,8 +22,8 @@ use Rattle.teco_rows.specs.declared.commands.Taken.{Taken}
 use Rattle.teco_rows.specs.declared.outcomes.Outcomes.{Outcomes}
 use Rattle.teco_rows.specs.Commands.{IsTaken, Performs, commanded, taken_by}
 use Rattle.teco_rows.specs.Foretold.{Describe, Foretells, Rearranges, Succeeds}
-use Rattle.teco_outcomes.specs.Flow.{IsTurnOf, Turns}
-use Rattle.teco_outcomes.specs.Law.{Goes, Law, StepsTo, loops_in, point_of}
+use Rattle.teco_flow_outcomes.specs.Flow.{IsTurnOf, Turns}
+use Rattle.teco_flow_outcomes.specs.Law.{Goes, Law, StepsTo, loops_in, point_of}
 use Rattle.teco_outcomes.specs.Queries.{Asks}
 use Rattle.teco_rows.specs.States.{Point, behind}
 

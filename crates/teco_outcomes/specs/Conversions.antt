@@ -13,8 +13,8 @@ use Rattle.teco_rows.specs.declared.outcomes.Outcomes.{Outcomes}
 use Rattle.teco_rows.specs.Cases.{value_if}
 use Rattle.teco_rows.specs.Foretold.{Begins, Describe, Succeeds, with_level}
 use Rattle.teco_rows.specs.States.{Point, IsTrueOf, Describes, behind}
-use Rattle.teco_outcomes.specs.Changes.{with_kept}
-use Rattle.teco_outcomes.specs.Deletions.{IsDone}
+use Rattle.teco_command_outcomes.specs.Changes.{with_kept}
+use Rattle.teco_command_outcomes.specs.Deletions.{IsDone}
 
 -- a form is the value that stands, if one does
 abbrev pub IsStanding : Case → Option (List Term) → Type 0

@@ -1,17 +1,18 @@
 //! What comes of `nA`, the code of a character of the buffer.
-ghost use Rattle.std.specs.Prelude.{◌≡◌, IfOk};
+ghost use Rattle.std.specs.Prelude.{◌≡◌, IfOk, pos, negsuc};
 ghost use Rattle.teco_model.specs.Element as model;
 ghost use Rattle.teco_model.specs.declared.kind.Kind.TheVariants as kinds;
-ghost use Rattle.teco_outcomes.specs.Characters.{GivesCharacter};
-ghost use Rattle.teco_outcomes.specs.Law.{Law};
+ghost use Rattle.teco_outcomes.specs.Characters.{AnswersCode, GivesCharacter};
+ghost use Rattle.teco_flow_outcomes.specs.Law.{Law};
 
-use crate::motions::{POINTER, SIZE};
 use std::alloc::Global;
+use teco_command_outcomes::motions::{LINE_END, LINE_START, POINTER, SIZE};
 use teco_linear::Form;
 use teco_model::kind::Page;
 use teco_rows::case::Case;
 use teco_rows::commands::{Taken, Way, commands, take_arguments};
 use teco_rows::fault::Fault;
+use teco_rows::forms::is_number;
 use teco_rows::levels::{NO, VALUE, at_level};
 use teco_rows::outcomes::Outcomes;
 use teco_rows::row::{Clause, Of};
@@ -44,7 +45,134 @@ const BEHIND: [Clause; 2] = [
     Clause::Wants(0, [(1, Of::Was(POINTER)), (1, BY), (-1, Of::Was(SIZE)), NO]),
 ];
 
-// The code of the character so far from the pointer is answered, or -1.
+// At the start of the buffer none is before the pointer, and at its end none is at it.
+const AT_FIRST: [Clause; 2] = [
+    Clause::Sets(VALUE, -1, [NO, NO, NO, NO]),
+    Clause::Wants(0, [(-1, Of::Was(POINTER)), NO, NO, NO]),
+];
+
+const AT_LAST: [Clause; 2] = [
+    Clause::Sets(VALUE, -1, [NO, NO, NO, NO]),
+    Clause::Wants(0, [(1, Of::Was(POINTER)), (-1, Of::Was(SIZE)), NO, NO]),
+];
+
+const GIVES: Clause = Clause::Sets(VALUE, 0, [(1, CODE), NO, NO, NO]);
+
+// A code is that of a line end, or below those, or above them.
+const ENDS_FROM: Clause = Clause::Wants(-10, [(1, CODE), NO, NO, NO]);
+
+const ENDS_TO: Clause = Clause::Wants(12, [(-1, CODE), NO, NO, NO]);
+
+const LOW_FROM: Clause = Clause::Wants(0, [(1, CODE), NO, NO, NO]);
+
+const LOW_TO: Clause = Clause::Wants(9, [(-1, CODE), NO, NO, NO]);
+
+const HIGH_FROM: Clause = Clause::Wants(-13, [(1, CODE), NO, NO, NO]);
+
+const HIGH_TO: Clause = Clause::Wants(255, [(-1, CODE), NO, NO, NO]);
+
+// A character is at the pointer, so its line ends behind it.
+const AHEAD: Clause = Clause::Wants(-1, [(1, Of::Was(LINE_END)), (-1, Of::Was(POINTER)), NO, NO]);
+
+// It ends its line, or it does not.
+const ENDS_HERE: [Clause; 5] = [
+    GIVES,
+    ENDS_FROM,
+    ENDS_TO,
+    AHEAD,
+    Clause::Wants(1, [(-1, Of::Was(LINE_END)), (1, Of::Was(POINTER)), NO, NO]),
+];
+
+const LOW_HERE: [Clause; 4] = [GIVES, LOW_FROM, LOW_TO, AHEAD];
+
+const HIGH_HERE: [Clause; 4] = [GIVES, HIGH_FROM, HIGH_TO, AHEAD];
+
+// The character before the pointer ends its line, and the pointer's starts; or the line goes on.
+const ENDS_THERE: [Clause; 5] = [
+    GIVES,
+    ENDS_FROM,
+    ENDS_TO,
+    Clause::Wants(-1, [(1, Of::Was(POINTER)), NO, NO, NO]),
+    Clause::Wants(
+        0,
+        [(1, Of::Was(LINE_START)), (-1, Of::Was(POINTER)), NO, NO],
+    ),
+];
+
+const SAME_LINE: Clause = Clause::Wants(
+    -1,
+    [(1, Of::Was(POINTER)), (-1, Of::Was(LINE_START)), NO, NO],
+);
+
+const LOW_THERE: [Clause; 4] = [GIVES, LOW_FROM, LOW_TO, SAME_LINE];
+
+const HIGH_THERE: [Clause; 4] = [GIVES, HIGH_FROM, HIGH_TO, SAME_LINE];
+
+// The code of the character at the pointer is answered, or -1. A line end says where the line ends.
+fn character_here(case: &Case, alloc: Global) -> Result<Outcomes, Fault>
+    ensures { IfOk result (λ all. AnswersCode (pos 0) case.now all) }
+{
+    let here = at_level(case)?;
+    let ways = [
+        Way {
+            answers: &ENDS_HERE,
+            does: &[],
+        },
+        Way {
+            answers: &LOW_HERE,
+            does: &[],
+        },
+        Way {
+            answers: &HIGH_HERE,
+            does: &[],
+        },
+        Way {
+            answers: &AT_LAST,
+            does: &[],
+        },
+    ];
+    let cases = commands(case, &ways, &[], here, alloc)?;
+    Ok(Outcomes {
+        conditions: Vec::new(alloc),
+        guarded: Vec::new(alloc),
+        cases,
+        away: Vec::new(alloc),
+    })
+}
+
+// So is that of the one before it. It says whether the line starts at the pointer.
+fn character_before(case: &Case, alloc: Global) -> Result<Outcomes, Fault>
+    ensures { IfOk result (λ all. AnswersCode (negsuc 0) case.now all) }
+{
+    let here = at_level(case)?;
+    let ways = [
+        Way {
+            answers: &ENDS_THERE,
+            does: &[],
+        },
+        Way {
+            answers: &LOW_THERE,
+            does: &[],
+        },
+        Way {
+            answers: &HIGH_THERE,
+            does: &[],
+        },
+        Way {
+            answers: &AT_FIRST,
+            does: &[],
+        },
+    ];
+    let cases = commands(case, &ways, &[], here, alloc)?;
+    Ok(Outcomes {
+        conditions: Vec::new(alloc),
+        guarded: Vec::new(alloc),
+        cases,
+        away: Vec::new(alloc),
+    })
+}
+
+// The code of a character so far from the pointer is answered, or -1.
 fn character_at(case: &Case, by: Form, alloc: Global) -> Result<Outcomes, Fault>
     ensures { IfOk result (λ all. GivesCharacter by case.now all) }
 {
@@ -66,9 +194,23 @@ fn character_at(case: &Case, by: Form, alloc: Global) -> Result<Outcomes, Fault>
     let cases = commands(case, &ways, &[by], here, alloc)?;
     Ok(Outcomes {
         conditions: Vec::new(alloc),
+        guarded: Vec::new(alloc),
         cases,
         away: Vec::new(alloc),
     })
+}
+
+// The code of a character is answered; of those at the pointer and before it more is known.
+fn answer_code(case: &Case, by: Form, alloc: Global) -> Result<Outcomes, Fault>
+    ensures { IfOk result (λ all. GivesCharacter by case.now all) }
+{
+    if is_number(&by, 0) {
+        return character_here(case, alloc);
+    }
+    if is_number(&by, -1) {
+        return character_before(case, alloc);
+    }
+    character_at(case, by, alloc)
 }
 
 /// `nA` answers the code of a character. What becomes of pages is told elsewhere, under a premise
@@ -83,7 +225,7 @@ pub fn turn_page(case: &Case, page: Page, alloc: Global) -> Result<Outcomes, Fau
     } = taken;
     match page {
         Page::Append => match value {
-            Some(by) => character_at(case, by, alloc),
+            Some(by) => answer_code(case, by, alloc),
             None => Err(Fault::NotTold),
         },
         _ => Err(Fault::NotTold),

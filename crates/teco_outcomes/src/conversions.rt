@@ -7,12 +7,12 @@ ghost use Rattle.teco_outcomes.specs.Conversions.{IsBehindNumber, IsStanding, Re
 ghost use Rattle.teco_outcomes.specs.Queries.{Asks};
 ghost use Rattle.teco_rows.specs.States.{Point, IsTrueOf};
 
-use crate::changes::changed;
-use crate::deletions::HELD;
-use crate::insertions::counted;
-use crate::motions::{LINE_END, POINTER, SIZE};
 use std::alloc::Global;
 use teco_base::LIMIT;
+use teco_command_outcomes::changes::changed;
+use teco_command_outcomes::deletions::HELD;
+use teco_command_outcomes::insertions::counted;
+use teco_command_outcomes::motions::{LINE_END, POINTER, SIZE};
 use teco_linear::Form;
 use teco_model::kind::Query;
 use teco_rows::case::Case;
@@ -132,6 +132,7 @@ fn write_number(case: &Case, number: Form, alloc: Global) -> Result<Outcomes, Fa
     let cases = commands(case, &ways, &[number], here, alloc)?;
     Ok(Outcomes {
         conditions,
+        guarded: Vec::new(alloc),
         cases,
         away: Vec::new(alloc),
     })

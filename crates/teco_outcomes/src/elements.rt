@@ -9,30 +9,30 @@ ghost use Rattle.teco_model.specs.declared.kind.Storage.TheVariants.{Get};
 ghost use Rattle.teco_model.specs.Step.{after_command};
 ghost use Rattle.teco_rows.specs.Commands.{Performs};
 ghost use Rattle.teco_rows.specs.Foretold.{Foretells};
-ghost use Rattle.teco_outcomes.specs.Law.{Law};
+ghost use Rattle.teco_flow_outcomes.specs.Law.{Law};
 
-use crate::arguments::change_arguments;
 use crate::characters::turn_page;
-use crate::deletions::delete;
-use crate::flow::turn;
-use crate::insertions::{get, insert};
-use crate::line_motions::move_lines;
-use crate::motions::move_to;
 use crate::pushes::stack;
 use crate::queries::ask;
-use crate::searches::search;
-use crate::storages::{add_number, set_number};
-use crate::texts::{copy, set_text};
-use crate::typings::{type_register, type_text};
 use crate::values::give_value;
 use std::alloc::Global;
 use teco_base::Reg;
+use teco_command_outcomes::deletions::delete;
+use teco_command_outcomes::insertions::{get, insert};
+use teco_command_outcomes::line_motions::move_lines;
+use teco_command_outcomes::motions::move_to;
+use teco_command_outcomes::storages::{add_number, set_number};
+use teco_command_outcomes::texts::{copy, set_text};
+use teco_command_outcomes::typings::{type_register, type_text};
+use teco_flow_outcomes::arguments::change_arguments;
+use teco_flow_outcomes::flow::turn;
 use teco_model::kind::{Command, Motion, Search, Storage};
 use teco_model::{Element, Kind};
 use teco_rows::case::Case;
 use teco_rows::commands::{Taken, take_arguments};
 use teco_rows::fault::Fault;
 use teco_rows::outcomes::Outcomes;
+use teco_search_outcomes::searches::search;
 
 // Whether there is a colon. These elements have one at most.
 fn has_colon(colons: u8) -> Result<bool, Fault>

@@ -5,9 +5,9 @@ ghost use Rattle.teco_model.specs.Step.{after_stack};
 ghost use Rattle.teco_rows.specs.Foretold.{Foretells};
 ghost use Rattle.teco_outcomes.specs.Pushes.{IsPopped, IsPushed, IsStacked};
 
-use crate::storages::NUMBER;
 use std::alloc::Global;
 use teco_base::Reg;
+use teco_command_outcomes::storages::NUMBER;
 use teco_model::kind::Stack;
 use teco_rows::applied::applied;
 use teco_rows::case::Case;

@@ -3,8 +3,8 @@ ghost use Rattle.std.specs.Prelude.{IfOk};
 ghost use Rattle.teco_model.specs.Step.{after_value};
 ghost use Rattle.teco_rows.specs.Foretold.{Foretells};
 
-use crate::pairs::give_pair;
 use std::alloc::Global;
+use teco_flow_outcomes::pairs::give_pair;
 use teco_linear::Form;
 use teco_model::kind::Value;
 use teco_rows::case::Case;

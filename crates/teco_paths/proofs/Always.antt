@@ -132,7 +132,8 @@ measure_is : (k c : ℕ) → 7 ≤ k → (k - 7) % 7 ≡ c → measure_of k ≡ 
 measure_is k c l e = by (nat_lt k 7) refl
   where
     by : (b : Bool) → nat_lt k 7 ≡ b
-        → (if b then One (single_of k) else Each (family_of ((k - 7) % 7)) ((k - 7) / 7)) ≡ Each (family_of c) ((k - 7) / 7)
+        → (if b then One (single_of k) else Each (family_of ((k - 7) % 7)) ((k - 7) / 7)) ≡ Each (family_of c)
+        ((k - 7) / 7)
     by true h = absurd (omega (arith, l, ltb-true k 7 h))
     by false h = ap (λ c. Each (family_of c) ((k - 7) / 7)) e
 

@@ -1,7 +1,9 @@
 -- The state at the entry is as the cut point there says.
-use Rattle.std.proofs.Common.{◌≡◌, ℕ, zero, suc, ◌+◌, ◌-◌, ◌*◌, ◌/◌, ◌%◌, ◌<◌, ◌≤◌, refl, sym, ap, ◌∙◌, arith, List, [], ◌∷◌, length}
+use Rattle.std.proofs.Common.{◌≡◌, ℕ, zero, suc, ◌+◌, ◌-◌, ◌*◌, ◌/◌, ◌%◌, ◌<◌, ◌≤◌, refl, sym, ap, ◌∙◌, arith, List}
+use Rattle.std.proofs.Common.{[], ◌∷◌, length}
 use Rattle.std.proofs.Common.{eqb-true, Bool, true, false, Option, Some, None, nat_lt, slice_get, ◌==◌, if◌then◌else◌}
-use Rattle.std.specs.Prelude.{ℤ, pos, unwrap_or, ◌+ℤ◌, ◌-ℤ◌, is_some, option_map, option_and_then, slice_index_or, ◌&&◌}
+use Rattle.std.specs.Prelude.{ℤ, pos, unwrap_or, ◌+ℤ◌, ◌-ℤ◌, ◌≤ℤ◌, is_some, option_map, option_and_then}
+use Rattle.std.specs.Prelude.{slice_index_or, ◌&&◌}
 use Rattle.std.proofs.lemmas.Bool.{ltb-true, ltb-false}
 use Rattle.std.proofs.lemmas.Int.{ints}
 use Rattle.std.proofs.lemmas.List.Sums.{sum_by-cons}
@@ -11,7 +13,8 @@ use Rattle.teco_linear.specs.declared.term.Term.{Term}
 use Rattle.teco_linear.specs.Form.{Valuation, value}
 use Rattle.teco_model.specs.Arguments.{Arguments}
 use Rattle.teco_model.specs.Macros.{ArgumentRange, IsAsked}
-use Rattle.teco_model.specs.Registers.{Pair, held_length_of_pair}
+use Rattle.teco_model.specs.Registers.{Pair, empty_pair, held_length_of_pair}
+use Rattle.teco_model.specs.Storage.{text_in}
 use Rattle.teco_model.specs.declared.arguments.Level.{Level}
 use Rattle.teco_rows.specs.declared.measure.Family.{Family}
 use Rattle.teco_rows.specs.declared.measure.Family.TheVariants.{Number, Length, Turns, PushedNumber, PushedLength}
@@ -21,7 +24,8 @@ use Rattle.teco_rows.specs.declared.measure.Measure.TheVariants.{One, Each}
 use Rattle.teco_rows.specs.Measures.{place}
 use Rattle.teco_rows.specs.States.{Point, from_end, levels, measures_of, number_of, length_of, operators_of}
 use Rattle.teco_paths.specs.declared.cut.Cut.{Cut}
-use Rattle.teco_paths.specs.Entry.{AreThere, IsEntered, IsEntryClaim, IsEntryCut, family_is_there, is_there, lengths}
+use Rattle.teco_paths.specs.Entry.{AreThere, IsEntered, IsEntryClaim, IsEntryCut, family_is_there, is_there}
+use Rattle.teco_paths.specs.Entry.{length_if, used_lengths}
 use Rattle.teco_paths.specs.Symbols.{family_of, measure_of, numbers_of, single_of}
 use Rattle.teco_paths.proofs.Symbols.{measure_again}
 use Rattle.teco_verifier.specs.facts.Argument.{arguments_given}
@@ -76,19 +80,24 @@ some_either false x = refl
 first_of : (given : Option ℕ) (i : ℕ)
     → is_some (option_and_then (λ (level : Level). level.first) (from_end (levels (arguments_given given)) i)) ≡ false
 first_of None i =
-    ap is_some (at_level (arguments_given None).level (λ (level : Level). level.first) i) ∙ none_either (0 == i) None refl
+    ap is_some (at_level (arguments_given None).level (λ (level : Level). level.first) i)
+    ∙ none_either (0 == i) None refl
 first_of (Some n) i =
-    ap is_some (at_level (arguments_given (Some n)).level (λ (level : Level). level.first) i) ∙ none_either (0 == i) None refl
+    ap is_some (at_level (arguments_given (Some n)).level (λ (level : Level). level.first) i)
+    ∙ none_either (0 == i) None refl
 
 value_none : (i : ℕ)
     → is_some (option_and_then (λ (level : Level). level.value) (from_end (levels (arguments_given None)) i)) ≡ false
 value_none i =
-    ap is_some (at_level (arguments_given None).level (λ (level : Level). level.value) i) ∙ none_either (0 == i) None refl
+    ap is_some (at_level (arguments_given None).level (λ (level : Level). level.value) i)
+    ∙ none_either (0 == i) None refl
 
 value_some : (n i : ℕ)
-    → is_some (option_and_then (λ (level : Level). level.value) (from_end (levels (arguments_given (Some n))) i)) ≡ (0 == i)
+    → is_some (option_and_then (λ (level : Level). level.value) (from_end (levels (arguments_given (Some n))) i)) ≡
+    (0 == i)
 value_some n i =
-    ap is_some (at_level (arguments_given (Some n)).level (λ (level : Level). level.value) i) ∙ some_either (0 == i) (pos n)
+    ap is_some (at_level (arguments_given (Some n)).level (λ (level : Level). level.value) i)
+    ∙ some_either (0 == i) (pos n)
 
 value_of : (argument : Option ArgumentRange) (given : Option ℕ) (i : ℕ) → IsAsked argument given
     → is_some (option_and_then (λ (level : Level). level.value) (from_end (levels (arguments_given given)) i))
@@ -100,24 +109,46 @@ value_of argument given i asked = absurd (grind arith)
 -- the argument is the value at the only level
 given_is : (given : ℕ) (s : Point) → s.arguments ≡ arguments_given (Some given) → numbers_of s 13 ≡ pos given
 given_is given s e =
-    ap (λ (a : Arguments). unwrap_or (option_and_then (λ (level : Level). level.value) (from_end (levels a) 0)) (pos 0)) e
+    ap (λ (a : Arguments). unwrap_or (option_and_then (λ (level : Level). level.value) (from_end (levels a) 0)) (pos 0))
+    e
 
 -- ---- the texts of registers are held
-pub lengths_more : (v : Valuation) (k : ℕ) → lengths v (k + 1) ≡ lengths v k +ℤ v (8 + 7 * k)
-lengths_more v k = let z : k + 1 ≡ suc k = omega arith in rw z refl
+pub lengths_more : (used : List Bool) (v : Valuation) (k : ℕ)
+    → used_lengths used v (k + 1) ≡ used_lengths used v k +ℤ length_if (slice_index_or used (8 + 7 * k) false) v k
+lengths_more used v k = let z : k + 1 ≡ suc k = omega arith in rw z refl
 
 abbrev texts_in : List Pair → ℕ → ℤ
 texts_in pairs zero = pos 0
 texts_in pairs (suc k) = texts_in pairs k +ℤ unwrap_or (length_of (slice_get pairs k)) (pos 0)
 
-same_lengths : (s : Point) (k : ℕ) → lengths (numbers_of s) k ≡ texts_in s.kept.registers.pairs k
-same_lengths s zero = refl
-same_lengths s (suc k) =
-    let m : measure_of (8 + 7 * k) ≡ Each Length k =
-    ap measure_of (omega arith) ∙ measure_again (Each Length k) in
-    let here : numbers_of s (8 + 7 * k) ≡ unwrap_or (length_of (slice_get s.kept.registers.pairs k)) (pos 0) =
-    ap (λ m. unwrap_or (measures_of s m) (pos 0)) m in
-    omega (arith, ints, here, same_lengths s k)
+one_length : (s : Point) (k : ℕ)
+    → numbers_of s (8 + 7 * k) ≡ unwrap_or (length_of (slice_get s.kept.registers.pairs k)) (pos 0)
+one_length s k =
+    ap (λ m. unwrap_or (measures_of s m) (pos 0)) (ap measure_of (omega arith) ∙ measure_again (Each Length k))
+
+no_length_below : (o : Option Pair) → pos 0 ≤ℤ unwrap_or (length_of o) (pos 0)
+no_length_below None = omega (arith, ints)
+no_length_below (Some p) = omega (arith, ints)
+
+one_more_used : (s : Point) (k : ℕ) (sum : ℤ) (b : Bool) → sum ≤ℤ texts_in s.kept.registers.pairs k
+    → (sum +ℤ length_if b (numbers_of s) k) ≤ℤ texts_in s.kept.registers.pairs (suc k)
+one_more_used s k sum true most = omega (arith, ints, one_length s k, most)
+one_more_used s k sum false most = omega (arith, ints, no_length_below (slice_get s.kept.registers.pairs k), most)
+
+used_most : (used : List Bool) (s : Point) (k : ℕ)
+    → used_lengths used (numbers_of s) k ≤ℤ texts_in s.kept.registers.pairs k
+used_most used s zero = omega (arith, ints)
+used_most used s (suc k) = one_more_used s k _ (slice_index_or used (8 + 7 * k) false) (used_most used s k)
+
+text_of_pair : (pairs : List Pair) (k : ℕ)
+    → unwrap_or (length_of (slice_get pairs k)) (pos 0) ≡ pos (length (slice_index_or pairs k empty_pair).text)
+text_of_pair [] k = refl
+text_of_pair (p ∷ pairs) zero = refl
+text_of_pair (p ∷ pairs) (suc k) = text_of_pair pairs k
+
+-- the number of a length's place is how long the text of the register is
+long_is : (s : Point) (k : ℕ) → numbers_of s (8 + 7 * k) ≡ pos (length (text_in k s.kept))
+long_is s k = one_length s k ∙ text_of_pair s.kept.registers.pairs k
 
 texts_of_more : (p : Pair) (pairs : List Pair) (k : ℕ)
     → texts_in (p ∷ pairs) (suc k) ≡ pos (length p.text) +ℤ texts_in pairs k
@@ -132,27 +163,28 @@ texts_most (p ∷ pairs) (suc k) e =
     let rest = texts_most pairs k (omega (arith, e)) in
     omega (arith, ints, texts_of_more p pairs k, rest, sum_by-cons held_length_of_pair p pairs)
 
-lengths_most : (s : Point) (k : ℕ) → length s.kept.registers.pairs ≡ k
-    → lengths (numbers_of s) k ≡ pos (sum_by held_length_of_pair s.kept.registers.pairs)
-lengths_most s k e = same_lengths s k ∙ texts_most s.kept.registers.pairs k (sym e)
-
-module _ (argument : Option ArgumentRange) (n : ℕ) (given : Option ℕ) (s : Point)
-    (e : IsEntered argument n given s) where
+module _ (lengths : List (Option ℕ)) (argument : Option ArgumentRange) (n : ℕ) (given : Option ℕ) (s : Point)
+    (e : IsEntered lengths argument n given s) where
   there : (m : Measure) → is_some (measures_of s m) ≡ is_there (is_some argument) m
   there (One single) = refl
-  there (Each Number i) = some_mapped (λ p. p.number) (slice_get s.kept.registers.pairs i) ∙ of_pair s.kept.registers.pairs i e.whole.count
+  there (Each Number i) = some_mapped (λ p. p.number) (slice_get s.kept.registers.pairs i)
+      ∙ of_pair s.kept.registers.pairs i e.whole.count
   there (Each Length i) =
-      some_mapped (λ p. pos (length p.text)) (slice_get s.kept.registers.pairs i) ∙ of_pair s.kept.registers.pairs i e.whole.count
-  there (Each Turns i) = ap (λ loops. is_some (option_and_then (λ loop. option_map pos loop.turns) (from_end loops i))) e.loops
+      some_mapped (λ p. pos (length p.text)) (slice_get s.kept.registers.pairs i)
+      ∙ of_pair s.kept.registers.pairs i e.whole.count
+  there (Each Turns i) = ap (λ loops. is_some (option_and_then (λ loop. option_map pos loop.turns) (from_end loops i)))
+      e.loops
   there (Each PushedNumber i) =
       ap (λ o. is_some (number_of o)) (none_from_end s.kept.registers.stack (s.below + i) (omega (arith, e.below)))
   there (Each PushedLength i) =
       ap (λ o. is_some (length_of o)) (none_from_end s.kept.registers.stack (s.below + i) (omega (arith, e.below)))
   there (Each First i) =
-      ap (λ (a : Arguments). is_some (option_and_then (λ (level : Level). level.first) (from_end (levels a) i))) e.arguments
+      ap (λ (a : Arguments). is_some (option_and_then (λ (level : Level). level.first) (from_end (levels a) i)))
+      e.arguments
       ∙ first_of given i
   there (Each Value i) =
-      ap (λ (a : Arguments). is_some (option_and_then (λ (level : Level). level.value) (from_end (levels a) i))) e.arguments
+      ap (λ (a : Arguments). is_some (option_and_then (λ (level : Level). level.value) (from_end (levels a) i)))
+      e.arguments
       ∙ value_of argument given i e.asked
 
   pub has_present : (present : List Bool) → AreThere (is_some argument) present → (m : Measure)
@@ -161,29 +193,48 @@ module _ (argument : Option ArgumentRange) (n : ℕ) (given : Option ℕ) (s : P
       there m ∙ sym (are (place m) ∙ ap (is_there (is_some argument)) (measure_again m))
 
 -- ---- the claims
-module _ (argument : Option ArgumentRange) (form : List Term) where
+module _ (lengths : List (Option ℕ)) (argument : Option ArgumentRange) (form : List Term) where
   pub least_steps_claim : ((n : ℕ) (v : Valuation) → value form n v ≡ v 0 -ℤ pos (steps_before argument))
-      → IsEntryClaim argument form
+      → IsEntryClaim lengths argument form
   least_steps_claim is n given s e = omega (arith, ints, is n (numbers_of s), e.steps)
 
   pub most_steps_claim : ((n : ℕ) (v : Valuation) → value form n v ≡ pos (steps_before argument) -ℤ v 0)
-      → IsEntryClaim argument form
+      → IsEntryClaim lengths argument form
   most_steps_claim is n given s e = omega (arith, ints, is n (numbers_of s), e.steps)
 
-  pub most_held_claim : ((n : ℕ) (v : Valuation) → value form n v ≡ (pos n -ℤ v 3) -ℤ lengths v REGISTERS)
-      → IsEntryClaim argument form
-  most_held_claim is n given s e =
-      omega (arith, ints, is n (numbers_of s), e.held, lengths_most s REGISTERS e.whole.count)
+  pub most_held_claim : (used : List Bool)
+      → ((n : ℕ) (v : Valuation) → value form n v ≡ (pos n -ℤ v 3) -ℤ used_lengths used v REGISTERS)
+      → IsEntryClaim lengths argument form
+  most_held_claim used is n given s e =
+      omega (
+        arith,
+        ints,
+        is n (numbers_of s),
+        e.held,
+        used_most used s REGISTERS,
+        texts_most s.kept.registers.pairs REGISTERS (sym e.whole.count),
+      )
 
-module _ (range : ArgumentRange) (form : List Term) where
+  module _ (register long : ℕ) (known : slice_index_or lengths register None ≡ Some long) where
+    pub least_length_claim : ((n : ℕ) (v : Valuation) → value form n v ≡ v (8 + 7 * register) -ℤ pos long)
+        → IsEntryClaim lengths argument form
+    least_length_claim is n given s e =
+        omega (arith, ints, is n (numbers_of s), long_is s register, e.loaded register long known)
+
+    pub most_length_claim : ((n : ℕ) (v : Valuation) → value form n v ≡ pos long -ℤ v (8 + 7 * register))
+        → IsEntryClaim lengths argument form
+    most_length_claim is n given s e =
+        omega (arith, ints, is n (numbers_of s), long_is s register, e.loaded register long known)
+
+module _ (lengths : List (Option ℕ)) (range : ArgumentRange) (form : List Term) where
   pub least_argument_claim : ((n : ℕ) (v : Valuation) → value form n v ≡ v 13 -ℤ pos range.low)
-      → IsEntryClaim (Some range) form
+      → IsEntryClaim lengths (Some range) form
   least_argument_claim is n None s e = absurd e.asked
   least_argument_claim is n (Some given) s e =
       omega (arith, ints, is n (numbers_of s), given_is given s e.arguments, e.asked.low)
 
   pub most_argument_claim : ((n : ℕ) (v : Valuation) → value form n v ≡ pos range.high -ℤ v 13)
-      → IsEntryClaim (Some range) form
+      → IsEntryClaim lengths (Some range) form
   most_argument_claim is n None s e = absurd e.asked
   most_argument_claim is n (Some given) s e =
       omega (arith, ints, is n (numbers_of s), given_is given s e.arguments, e.asked.high)
@@ -193,16 +244,17 @@ waits_none : (given : Option ℕ) (a : Arguments) → a ≡ arguments_given give
 waits_none None a e = ap (λ (a : Arguments). operators_of (levels a)) (sym e)
 waits_none (Some n) a e = ap (λ (a : Arguments). operators_of (levels a)) (sym e)
 
-pub is_entry_cut : (argument : Option ArgumentRange) (cut : Cut) → cut.shape.operators.items ≡ None ∷ []
+pub is_entry_cut : (lengths : List (Option ℕ)) (argument : Option ArgumentRange) (cut : Cut)
+    → cut.shape.operators.items ≡ None ∷ []
     → cut.shape.iterations ≡ 0 → cut.shape.pushes ≡ 0 → AreThere (is_some argument) cut.present.items
-    → All (IsEntryClaim argument) cut.claims.items → IsEntryCut argument cut
-is_entry_cut argument cut operators iterations pushes present claims n given s e = record {
+    → All (IsEntryClaim lengths argument) cut.claims.items → IsEntryCut lengths argument cut
+is_entry_cut lengths argument cut operators iterations pushes present claims n given s e = record {
   shape = record {
     operators = operators ∙ waits_none given s.arguments e.arguments;
     iterations = iterations ∙ sym (ap length e.loops);
     pushes = omega (arith, pushes, e.below);
   };
-  present = has_present argument n given s e cut.present.items present;
+  present = has_present lengths argument n given s e cut.present.items present;
   claims = λ k d l. claims k d l n given s e;
 }
 

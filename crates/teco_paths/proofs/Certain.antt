@@ -1,35 +1,40 @@
 -- Every run of a macro whose claims hang together ends in time.
 use Rattle.std.proofs.Common.{◌≡◌, ℕ, zero, suc, ◌+◌, ◌≤◌, ◌<◌, ◌^◌, refl, sym, ap, ◌∙◌, subst, arith, length, false}
-use Rattle.std.proofs.Common.{Option, Some, None, option_map, []}
+use Rattle.std.proofs.Common.{Option, Some, None, option_map, List, [], ◌∷◌, map}
+use Rattle.std.specs.Prelude.{slice_index_or}
 use Rattle.std.proofs.lemmas.Int.{ints}
 use Rattle.std.specs.List.{All}
 use Rattle.std.specs.Option.{option_map_or}
 use Rattle.teco_base.specs.declared.TheConstants.{REGISTERS}
-use Rattle.teco_law_expansion.specs.Alike.{AreAlike, AreOutcomesAlike, StepsAreAlike, RunsAreAlike, ReadingsAreAlike, kind_of}
+use Rattle.teco_law_expansion.specs.Alike.{AreAlike, AreOutcomesAlike, StepsAreAlike, RunsAreAlike, ReadingsAreAlike}
+use Rattle.teco_law_expansion.specs.Alike.{kind_of}
 use Rattle.teco_law_expansion.specs.Given.{call_given, start_pending, BeginsPending, NumbersArePending}
 use Rattle.teco_law_expansion.specs.Linked.{AreLinked}
+use Rattle.teco_law_facts.specs.SoundSteps.{AreOpen}
 use Rattle.teco_law_facts.specs.Wholeness.{AreWholeArguments}
 use Rattle.teco_law_tables.specs.Ending.{start_given}
 use Rattle.teco_law_tables.specs.Staying.{is_of_files, changes_files, NoFileCommands}
 use Rattle.teco_law_tables.specs.Verified.{IsReady}
 use Rattle.teco_model.specs.Element.{Element}
 use Rattle.teco_model.specs.Files.{Input}
-use Rattle.teco_model.specs.Macros.{Library, ArgumentRange, IsAsked}
+use Rattle.teco_model.specs.Macros.{Library, ArgumentRange, IsAsked, IsLoaded, Needs, macro}
 use Rattle.teco_model.specs.Run.{Reaches, Ends}
-use Rattle.teco_model.specs.State.{World, State, Outcome, Next, End, start}
+use Rattle.teco_model.specs.State.{Kept, World, State, Outcome, Next, End, start}
 use Rattle.teco_rows.specs.declared.case.Case.{Case}
-use Rattle.teco_outcomes.specs.Law.{point_of, unread_in}
+use Rattle.teco_flow_outcomes.specs.Law.{point_of, unread_in}
 use Rattle.teco_paths.specs.declared.cut.Cut.{Cut}
 use Rattle.teco_paths.specs.Claims.{IsCaseOf}
-use Rattle.teco_paths.specs.Entry.{IsEntered, IsEntryCut}
+use Rattle.teco_paths.specs.Entry.{HaveLengths, IsEntered, IsEntryCut}
 use Rattle.teco_paths.specs.Paths as paths
 use Rattle.teco_paths.specs.Paths.{Course, IsFollowed, Leads}
 use Rattle.teco_paths.specs.Runs.{Ground, IsAt, EndsBy, held_in}
-use Rattle.teco_paths.specs.Sure.{n_of, CertainEnd, IsCertain}
+use Rattle.teco_paths.specs.Sure.{n_of, AreLengths, CertainEnd, IsCertain}
 use Rattle.teco_paths.specs.Symbols.{numbers_of}
 use Rattle.teco_paths.proofs.Ending.{run_ends}
-use Rattle.teco_paths.proofs.Walking.{none_more, none_on, none_yet, one_step, reached_none, reaches_here, reaches_on, reads_none, run_on}
-use Rattle.teco_verifier.specs.expansion.Node.{beginning}
+use Rattle.teco_paths.proofs.Walking.{none_more, none_on, none_yet, one_step, reached_none, reaches_here, reaches_on}
+use Rattle.teco_paths.proofs.Walking.{reads_none, run_on}
+use Rattle.teco_poly.specs.Polynomial.{Polynomial, value}
+use Rattle.teco_verifier.specs.expansion.Node.{Node, beginning}
 use Rattle.teco_verifier.specs.facts.Argument.{arguments_given}
 use Rattle.teco_verifier.specs.table.Printed.{steps_before}
 
@@ -37,6 +42,19 @@ use Rattle.teco_verifier.specs.table.Printed.{steps_before}
 same_unread : (input : Option Input) → unread_in input ≡ length (option_map_or (λ (i : Input). i.unread) input [])
 same_unread None = refl
 same_unread (Some input) = refl
+
+mapped_some : (library : Library) (r long : ℕ) → slice_index_or (map (option_map length) library) r None ≡ Some long
+    → (text : List ℕ) × (macro library r ≡ Some text) × (length text ≡ long)
+mapped_some [] r long h = absurd (cc)
+mapped_some (None ∷ library) zero long h = absurd (cc)
+mapped_some (Some text ∷ library) zero long h = let e : Some (length text) ≡ Some long = h in (text, refl, cc)
+mapped_some (x ∷ library) (suc r) long h = mapped_some library r long h
+
+have_lengths : (library : Library) (lengths : List (Option ℕ)) (kept : Kept) → AreLengths lengths library
+    → IsLoaded library kept → HaveLengths lengths kept
+have_lengths library lengths kept are loaded r long h =
+    let m = mapped_some library r long (ap (λ all. slice_index_or all r None) are ∙ h) in
+    ap length (loaded.holds r m.0 m.1) ∙ m.2
 
 argument_whole : (argument : Option ArgumentRange) (given : Option ℕ) → IsAsked argument given
     → AreWholeArguments (arguments_given given)
@@ -46,12 +64,20 @@ argument_whole (Some range) (Some n) asked =
 argument_whole argument given asked = absurd (grind arith)
 
 module _ (course : Course) (argument : Option ArgumentRange) (cut : Cut) (case : Case)
-    (is_case : IsCaseOf course.size cut case) (is_entry : IsEntryCut argument cut) (leads : Leads course 1 1 case)
+    (is_case : IsCaseOf course.size cut case) (is_entry : IsEntryCut course.lengths argument cut)
+    (leads : Leads course 1 1 case)
     (followed : All (IsFollowed course) course.cuts) (library : Library) (entry : ℕ) (given : Option ℕ) (world : World)
-    (linked : AreLinked library entry course.nodes) (asked : IsAsked argument given)
-    (ready : IsReady library entry course.size (n_of world) world) where
+    (long : AreLengths course.lengths library) (linked : AreLinked library entry course.nodes)
+    (asked : IsAsked argument given) (ready : IsReady library entry course.size (n_of world) world)
+    (opened : AreOpen course.needs world.files) where
   abbrev ground : Ground
-  ground = record { library = library; entry = entry; n = n_of world; below = length world.kept.registers.stack }
+  ground = record {
+    library = library;
+    entry = entry;
+    n = n_of world;
+    below = length world.kept.registers.stack;
+    needs = course.needs;
+  }
 
   abbrev first : State
   first = start_given entry given world
@@ -66,11 +92,13 @@ module _ (course : Course) (argument : Option ArgumentRange) (cut : Cut) (case :
       arguments = argument_whole argument given asked;
       frames = record { running = ready.call; callers = tt };
     };
+    files = opened;
   }
 
-  entered : IsEntered argument (n_of world) given (point_of (steps_before argument) ground.below first)
+  entered : IsEntered course.lengths argument (n_of world) given (point_of (steps_before argument) ground.below first)
   entered = record {
     whole = ready.whole.kept;
+    loaded = have_lengths library course.lengths world.kept long ready.loaded;
     steps = refl;
     held = let e = same_unread world.files.input in omega (arith, e);
     asked = asked;
@@ -81,7 +109,8 @@ module _ (course : Course) (argument : Option ArgumentRange) (cut : Cut) (case :
 
   pub pending_ends : paths.Ends course ground (steps_before argument) first
   pending_ends =
-      run_ends course ground (record { linked = linked; room = ready.small }) followed 1 (steps_before argument) case first leads at (
+      run_ends course ground (record { linked = linked; needs = refl; room = ready.small }) followed 1
+      (steps_before argument) case first leads at (
         numbers_of (point_of (steps_before argument) ground.below first),
         is_case (n_of world) _ ready.whole.kept ready.small (is_entry (n_of world) given _ entered),
       )
@@ -113,7 +142,8 @@ record OtherNext (other : Outcome) (first : State) : Type 0 where
   is : other ≡ Next state
   alike : AreAlike first state
 
-other_next : (one other : Outcome) (first : State) → AreOutcomesAlike one other → one ≡ Next first → OtherNext other first
+other_next : (one other : Outcome) (first : State) → AreOutcomesAlike one other → one ≡ Next first
+    → OtherNext other first
 other_next (Next s) (Next t) first a e =
     let same : s ≡ first = cc in
     record { state = t; is = refl; alike = subst (λ s. AreAlike s t) same a }
@@ -144,12 +174,15 @@ module _ (laws : CallLaws) (s t : State) (alike : AreAlike s t) where
         end = end_alike _ _ new (laws.steps there.state ends.last there.alike) ends.end;
       }
 
-  held_alike : (held k : ℕ) (u : State) → ((v : State) → Reaches k t v → held_in v ≤ held) → Reaches k s u → held_in u ≤ held
+  held_alike : (held k : ℕ) (u : State) → ((v : State) → Reaches k t v → held_in v ≤ held) → Reaches k s u
+      → held_in u ≤ held
   held_alike held k u small came =
       let there = other_next _ _ u (laws.runs k s t alike) came in
-      subst (λ (w : World). length w.kept.text + unread_in w.files.input ≤ held) (sym there.alike.world) (small there.state there.is)
+      subst (λ (w : World). length w.kept.text + unread_in w.files.input ≤ held) (sym there.alike.world)
+      (small there.state there.is)
 
-module _ (laws : CallLaws) (entry n : ℕ) (world : World) (most held : ℕ) (named : entry < REGISTERS) (small : n < 2 ^ 31)
+module _ (laws : CallLaws) (entry n : ℕ) (world : World) (most held : ℕ) (named : entry < REGISTERS)
+    (small : n < 2 ^ 31)
     (ends : EndsBy most held 1 (start_pending entry n world)) where
   abbrev called : State
   called = start (call_given entry (Some n)) world
@@ -170,12 +203,14 @@ module _ (laws : CallLaws) (entry n : ℕ) (world : World) (most held : ℕ) (na
       let e : suc k ≡ 1 + k = omega arith in
       held_alike laws digits.behind (start_pending entry n world) digits.alike held k u
       (λ v came. ends.small k v (omega (arith, least)) came)
-      (sym (run_on 1 called digits.behind (one_step called digits.behind digits.goes) k) ∙ subst (λ k. Reaches k called u) e r)
+      (sym (run_on 1 called digits.behind (one_step called digits.behind digits.goes) k)
+      ∙ subst (λ k. Reaches k called u) e r)
 
   pub digits_end : EndsBy most held 0 called
   digits_end =
       let first = one_step called digits.behind digits.goes in
-      let later = ends_alike laws digits.behind (start_pending entry n world) digits.alike ends.more ends.new ends.ends in
+      let later = ends_alike laws digits.behind (start_pending entry n world) digits.alike ends.more ends.new ends.ends
+      in
       record {
         more = 1 + ends.more;
         new = ends.new;
@@ -191,8 +226,10 @@ module _ (laws : CallLaws) (entry n : ℕ) (world : World) (most held : ℕ) (na
         };
       }
 
-in_all : (laws : CallLaws) (entry : ℕ) (argument : Option ArgumentRange) (given : Option ℕ) (world : World) (most held : ℕ)
-    → entry < REGISTERS → IsAsked argument given → EndsBy most held (steps_before argument) (start_given entry given world)
+in_all : (laws : CallLaws) (entry : ℕ) (argument : Option ArgumentRange) (given : Option ℕ) (world : World)
+    (most held : ℕ)
+    → entry < REGISTERS → IsAsked argument given
+    → EndsBy most held (steps_before argument) (start_given entry given world)
     → EndsBy most held 0 (start (call_given entry given) world)
 in_all laws entry None None world most held named asked ends = ends
 in_all laws entry (Some range) (Some n) world most held named asked ends =
@@ -200,15 +237,18 @@ in_all laws entry (Some range) (Some n) world most held named asked ends =
 in_all laws entry argument given world most held named asked ends = absurd (grind arith)
 
 pub certain : CallLaws → (course : Course) (argument : Option ArgumentRange) (cut : Cut) (case : Case)
-    → IsCaseOf course.size cut case → IsEntryCut argument cut → Leads course 1 1 case
-    → All (IsFollowed course) course.cuts → IsCertain course.nodes argument course.commands course.size
-certain laws course argument cut case is_case is_entry leads followed library entry given world linked asked ready =
+    → IsCaseOf course.size cut case → IsEntryCut course.lengths argument cut → Leads course 1 1 case
+    → All (IsFollowed course) course.cuts
+    → IsCertain course.nodes course.lengths argument course.needs course.commands course.size
+certain laws course argument cut case is_case is_entry leads followed library entry given world long linked asked ready
+    opened =
     in_all laws entry argument given world _ _ ready.named asked
-    (pending_ends course argument cut case is_case is_entry leads followed library entry given world linked asked ready)
+    (pending_ends course argument cut case is_case is_entry leads followed library entry given world long linked asked
+    ready opened)
 
 pub certain_end : CertainEnd
-certain_end nodes argument commands size is library entry given world linked asked ready =
-    let ends = is library entry given world linked asked ready in
+certain_end nodes lengths argument needs commands size is library entry given world long linked asked ready opened =
+    let ends = is library entry given world long linked asked ready opened in
     record {
       steps = ends.more;
       new = ends.new;
@@ -216,3 +256,22 @@ certain_end nodes argument commands size is library entry given world linked ask
       none = ends.none;
       ends = ends.ends;
     }
+
+-- by polynomials that have the same values
+pub certain_as : (nodes : List Node) (lengths : List (Option ℕ)) (argument : Option ArgumentRange) (needs : Needs)
+    (commands size printed most : Polynomial) → ((n : ℕ) → value commands n ≡ value printed n)
+    → ((n : ℕ) → value size n ≡ value most n) → IsCertain nodes lengths argument needs commands size
+    → IsCertain nodes lengths argument needs printed most
+certain_as nodes lengths argument needs commands size printed most same held is library entry given world long linked
+    asked ready opened =
+    let ends = is library entry given world long linked asked (record {
+      named = ready.named;
+      loaded = ready.loaded;
+      whole = ready.whole;
+      call = ready.call;
+      begins = ready.begins;
+      small = omega (arith, held (n_of world), ready.small);
+    }) opened in
+    subst (λ m. EndsBy m (value most (n_of world)) 0 (start (call_given entry given) world)) (same (n_of world))
+    (subst (λ m. EndsBy (value commands (n_of world)) m 0 (start (call_given entry given) world))
+    (held (n_of world)) ends)

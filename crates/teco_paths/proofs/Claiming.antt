@@ -12,7 +12,8 @@ use Rattle.teco_rows.specs.Cases.{value_if}
 use Rattle.teco_rows.specs.Measures.{place}
 use Rattle.teco_rows.specs.States.{Point, IsShape, IsTrueOf, Describes}
 use Rattle.teco_paths.specs.declared.cut.Cut.{Cut}
-use Rattle.teco_paths.specs.Claims.{AreClaimed, AreFilled, AreKnown, ArePresent, AreSymbols, ClaimHolds, ComesTo, HasPresent, filled_by}
+use Rattle.teco_paths.specs.Claims.{AreClaimed, AreFilled, AreKnown, ArePresent, AreSymbols, ClaimHolds, ComesTo}
+use Rattle.teco_paths.specs.Claims.{HasPresent, filled_by}
 use Rattle.teco_paths.specs.Facts.{IsFact}
 use Rattle.teco_paths.specs.Symbols.{measure_of, numbers_of}
 use Rattle.teco_paths.proofs.Lists.{all_joined}
@@ -36,7 +37,8 @@ some_value : (o : Option (List Term)) (n : ℕ) (v : Valuation) → is_some (val
 some_value None n v = refl
 some_value (Some form) n v = refl
 
-pub filled_value : (o : Option (List Term)) (n : ℕ) (v : Valuation) → value (filled_by o) n v ≡ unwrap_or (value_if o n v) (pos 0)
+pub filled_value : (o : Option (List Term)) (n : ℕ) (v : Valuation)
+    → value (filled_by o) n v ≡ unwrap_or (value_if o n v) (pos 0)
 filled_value None n v = refl
 filled_value (Some form) n v = refl
 
@@ -47,7 +49,8 @@ module _ (case : Case) (n : ℕ) (v : Valuation) (s : Point) (true_of : IsTrueOf
       ∙ some_value (slice_index_or case.forms.items (place m) None) n v ∙ sym (are (place m))
 
   -- with the forms in place of its symbols a claim is that of the state's numbers
-  same_number : (filled : List (List Term)) → AreFilled case.forms.items filled → (k : ℕ) → values filled n v k ≡ numbers_of s k
+  same_number : (filled : List (List Term)) → AreFilled case.forms.items filled → (k : ℕ)
+      → values filled n v k ≡ numbers_of s k
   same_number filled are k =
       are n v k ∙ filled_value (slice_index_or case.forms.items k None) n v
       ∙ ap (λ j. unwrap_or (value_if (slice_index_or case.forms.items j None) n v) (pos 0)) (sym (place_again k))
@@ -62,8 +65,10 @@ module _ (case : Case) (n : ℕ) (v : Valuation) (s : Point) (true_of : IsTrueOf
 -- the whole of a cut point
 pub comes : (case : Case) (cut : Cut) (filled : List (List Term))
     → case.shape.operators.items ≡ cut.shape.operators.items → case.shape.iterations ≡ cut.shape.iterations
-    → case.shape.pushes ≡ cut.shape.pushes → ArePresent cut.present.items case.forms.items → AreFilled case.forms.items filled
-    → ((n : ℕ) (v : Valuation) → All (Holds n v) case.constraints.items → All (Holds n (values filled n v)) cut.claims.items)
+    → case.shape.pushes ≡ cut.shape.pushes → ArePresent cut.present.items case.forms.items
+    → AreFilled case.forms.items filled
+    → ((n : ℕ) (v : Valuation) → All (Holds n v) case.constraints.items
+    → All (Holds n (values filled n v)) cut.claims.items)
     → ComesTo case cut
 comes case cut filled operators iterations pushes present are claims n v s true_of = record {
   shape = record {

@@ -6,11 +6,12 @@ use Rattle.teco_model.specs.Run.{Reaches}
 use Rattle.teco_model.specs.State.{State, Next, End}
 use Rattle.teco_model.specs.Step.{step}
 use Rattle.teco_rows.specs.declared.case.Case.{Case}
-use Rattle.teco_outcomes.specs.Law.{point_of}
+use Rattle.teco_flow_outcomes.specs.Law.{point_of}
 use Rattle.teco_rows.specs.States.{Describes}
 use Rattle.teco_paths.specs.Paths.{Course, Ends, IsAtCut, IsOf, CutsEnd, IsFollowed, Leads}
 use Rattle.teco_paths.specs.Runs.{Ground, IsAt, EndsBy, held_in}
-use Rattle.teco_paths.proofs.Walking.{none_more, none_on, none_yet, one_step, reached_none, reaches_here, reaches_on, run_on}
+use Rattle.teco_paths.proofs.Walking.{none_more, none_on, none_yet, one_step, reached_none, reaches_here, reaches_on}
+use Rattle.teco_paths.proofs.Walking.{run_on}
 use Rattle.teco_poly.specs.Polynomial.{value}
 
 -- at the end

@@ -5,7 +5,7 @@ use Rattle.std.specs.List.{Any}
 use Rattle.teco_rows.specs.declared.case.Case.{Case}
 use Rattle.teco_paths.specs.declared.spot.Spot.{Spot}
 use Rattle.teco_rows.specs.declared.outcomes.Outcomes.{Outcomes}
-use Rattle.teco_outcomes.specs.Law.{point_of}
+use Rattle.teco_flow_outcomes.specs.Law.{point_of}
 use Rattle.teco_rows.specs.States.{Describes}
 use Rattle.teco_paths.specs.Steps.{AreKept, AreLeft, ArePossible, AreSpots, IsTarget, IsThere, Steps, cases_by}
 use Rattle.teco_paths.proofs.Lists.{any_back, any_front}
@@ -25,7 +25,8 @@ any_split P (z ∷ xs) y (suc k, x, l, e, p) = by (any_split P xs y (k, x, omega
 pub any_one : {X : Type 0} (P : X → Type 0) (x : X) → P x → Any P (x ∷ [])
 any_one P x p = (0, x, omega arith, refl, p)
 
-pub left_first : (nodes : List Node) (number : ℕ) (away : Bool) (cases : List Case) → AreLeft nodes number away cases cases []
+pub left_first : (nodes : List Node) (number : ℕ) (away : Bool) (cases : List Case)
+    → AreLeft nodes number away cases cases []
 left_first nodes number away cases ground steps s t st any = inl any
 
 pub left_none : (nodes : List Node) (number : ℕ) (away : Bool) (cases rest : List Case) (spots : List Spot)

@@ -2,8 +2,9 @@
 use Rattle.std.proofs.Common.{◌≡◌, ℕ, ◌<◌, ◌≤◌, refl, sym, ap, ◌∙◌, subst, arith, List, [], ◌∷◌}
 use Rattle.std.proofs.Common.{map, length, Bool, true, false, Some, Ok, ok_or, nat_lt}
 use Rattle.std.proofs.lemmas.Bool.{ltb-true}
-use Rattle.std.specs.Prelude.{⊤}
+use Rattle.std.specs.Prelude.{⊤, is_some}
 use Rattle.teco_law_expansion.specs.Linked.{AreLinked, NodesAreSound}
+use Rattle.teco_law_facts.specs.SoundSteps.{AreOpen}
 use Rattle.teco_model.specs.Ahead.{Whole}
 use Rattle.teco_model.specs.declared.flow.Loop.{Loop}
 use Rattle.teco_model.specs.declared.kind.Flow.{Flow}
@@ -11,19 +12,23 @@ use Rattle.teco_model.specs.declared.kind.Flow.TheVariants as flow
 use Rattle.teco_model.specs.declared.kind.Goal.TheVariants as goal
 use Rattle.teco_model.specs.declared.kind.Kind.{Kind}
 use Rattle.teco_model.specs.declared.kind.Kind.TheVariants as kind
+use Rattle.teco_model.specs.declared.kind.Page.{Page}
+use Rattle.teco_model.specs.declared.kind.Page.TheVariants as page
 use Rattle.teco_model.specs.declared.kind.Search.{Search}
 use Rattle.teco_model.specs.Element.{Element, element_at}
-use Rattle.teco_model.specs.Macros.{Library}
+use Rattle.teco_model.specs.Files.{Files}
+use Rattle.teco_model.specs.Macros.{Library, Needs}
 use Rattle.teco_model.specs.Searching.{has_colon}
 use Rattle.teco_model.specs.Skip.{skip_of, route_of}
 use Rattle.teco_model.specs.State.{State, frame_of}
 use Rattle.teco_model.proofs.Chains.{bound, some_of}
 use Rattle.teco_rows.specs.declared.case.Case.{Case}
 use Rattle.teco_rows.specs.declared.outcomes.Outcomes.{Outcomes}
-use Rattle.teco_outcomes.specs.Law.{IsOfIteration, Law, LeadsOn, StandsAt}
-use Rattle.teco_outcomes.specs.Searches.{IsAsked, SearchLaw}
+use Rattle.teco_flow_outcomes.specs.Law.{IsOfIteration, Law, LeadsOn, StandsAt}
+use Rattle.teco_search_outcomes.specs.Pages.{IsOpenFor, PageLaw}
+use Rattle.teco_search_outcomes.specs.Searches.{IsAsked, SearchLaw}
 use Rattle.teco_paths.specs.Runs.{Ground, IsAt}
-use Rattle.teco_paths.specs.Steps.{HasPair, IsRead, LawAt}
+use Rattle.teco_paths.specs.Steps.{HasPair, IsMet, IsRead, LawAt}
 use Rattle.teco_paths.proofs.Lists.{node_of}
 use Rattle.teco_paths.proofs.Standing.{linked_here, mapped, position_here, reads_here}
 use Rattle.teco_verifier.specs.expansion.Node.{Node, numbered}
@@ -170,10 +175,18 @@ module _ (sound : NodesAreSound) (nodes : List Node) (number : ℕ) (e : Element
         (colon_here ∙ is_so) search_here) in
         (colon_here ∙ is_so, is_inside is_so, to.0, to.1)
 
-module _ (sound : NodesAreSound) (nodes : List Node) (number : ℕ) (e : Element) (case : Case) (all : Outcomes)
+-- the file that a command on pages wants is open
+open_for : (p : Page) (needs : Needs) (files : Files) → IsMet needs p → AreOpen needs files → IsOpenFor p files
+open_for page.Next needs files met opened = ap is_some (opened.output met).1
+open_for page.Write needs files met opened = ap is_some (opened.output met).1
+open_for page.Yank needs files met opened = ap is_some (opened.input met).1
+open_for page.Append needs files met opened = ap is_some (opened.input met).1
+
+module _ (sound : NodesAreSound) (nodes : List Node) (needs : Needs) (number : ℕ) (e : Element) (case : Case)
+    (all : Outcomes)
     (one : 0 < number) (last : number ≤ length nodes) (read : IsRead nodes number (Some e)) where
-  pub law_at_element : HasPair e.kind → Law e case all → LawAt nodes number e case all
-  law_at_element pair law ground v s steps linked at begins =
+  pub law_at_element : HasPair e.kind → Law e case all → LawAt nodes needs number e case all
+  law_at_element pair law ground v s steps same linked at begins =
       let n = node_of nodes number one last in
       law ground.n v s steps ground.below (stands_at sound nodes number e read ground s linked at n.0 n.1 pair) begins
 
@@ -182,9 +195,21 @@ module _ (sound : NodesAreSound) (nodes : List Node) (number : ℕ) (e : Element
       → answers ≡ has_colon f (frame_of node.stand.position.running.text))
       → (answers ≡ false → (node : Node) → numbered nodes number ≡ Some node
       → true ≡ nat_lt 0 (length node.stand.position.running.starts))
-      → SearchLaw answers e case all → LawAt nodes number e case all
-  law_at_search x answers kind_is colon inside law ground v s steps linked at begins =
+      → SearchLaw answers e case all → LawAt nodes needs number e case all
+  law_at_search x answers kind_is colon inside law ground v s steps same linked at begins =
       let n = node_of nodes number one last in
       law ground.n v s steps ground.below (reads sound nodes number e read ground s linked at n.0 n.1)
       (is_asked sound nodes number e read ground s linked at n.0 n.1 x kind_is answers
-      (colon n.0 e n.1 (read n.0 n.1)) (λ none. ltb-true 0 (length n.0.stand.position.running.starts) (sym (inside none n.0 n.1))) answers refl) begins
+      (colon n.0 e n.1 (read n.0 n.1))
+      (λ none. ltb-true 0 (length n.0.stand.position.running.starts) (sym (inside none n.0 n.1))) answers refl)
+      begins
+
+  pub law_at_page : (p : Page) → e.kind ≡ kind.Page p → IsMet needs p → PageLaw p e case all
+      → LawAt nodes needs number e case all
+  law_at_page p kind_is met law ground v s steps same linked at begins =
+      let n = node_of nodes number one last in
+      law ground.n v s steps ground.below (record {
+        stands = stands_at sound nodes number e read ground s linked at n.0 n.1 (subst HasPair (sym kind_is) tt);
+        begins = at.begins;
+        file = open_for p needs s.world.files met (subst (λ (x : Needs). AreOpen x s.world.files) same at.files);
+      }) begins

@@ -1,5 +1,6 @@
 -- To which node a step leads.
-use Rattle.std.proofs.Common.{◌≡◌, ◌⊎◌, inl, inr, ℕ, zero, suc, ◌≤◌, refl, sym, ap, ◌∙◌, subst, arith, List, ◌++◌, length}
+use Rattle.std.proofs.Common.{◌≡◌, ◌⊎◌, inl, inr, ℕ, zero, suc, ◌≤◌, refl, sym, ap, ◌∙◌, subst, arith, List, ◌++◌}
+use Rattle.std.proofs.Common.{length}
 use Rattle.std.proofs.Common.{Bool, true, false, Option, Some, None, slice_get}
 use Rattle.teco_law_expansion.specs.Iterations.{IterationsAreOpen}
 use Rattle.teco_law_expansion.specs.Run.{GoesTo, StepsGoAlongNodes}
@@ -13,7 +14,7 @@ use Rattle.teco_model.specs.Flow.{Turn}
 use Rattle.teco_model.specs.Skip.{skip_of}
 use Rattle.teco_model.specs.State.{Frames, State}
 use Rattle.teco_rows.specs.declared.case.Case.{Case}
-use Rattle.teco_outcomes.specs.Law.{loops_in, place_away, point_of}
+use Rattle.teco_flow_outcomes.specs.Law.{loops_in, place_away, point_of}
 use Rattle.teco_rows.specs.States.{IsShape}
 use Rattle.teco_paths.specs.Runs.{Ground, StandsBy}
 use Rattle.teco_paths.specs.Steps.{AreApart, GoesBy, IsTarget, IsTest, IsTold, IsToldApart, Steps}
@@ -82,7 +83,8 @@ module _ (along : StepsGoAlongNodes) (nodes : List Node) (ground : Ground) (numb
           subst (λ k. StandsBy nodes ground k t)
           (taken_is steps.node.ways goes_to.way goes_to.target first 0 goes_to.taken is e) there
       by (suc way) e =
-          absurd (none_behind steps.node.ways way goes_to.target none (subst (λ w. slice_get steps.node.ways w ≡ Some goes_to.target) e goes_to.taken))
+          absurd (none_behind steps.node.ways way goes_to.target none
+          (subst (λ w. slice_get steps.node.ways w ≡ Some goes_to.target) e goes_to.taken))
 
   -- two, at a conditional
   turns_at : (e : Element) (test : Test) → steps.node.element ≡ Some e → e.kind ≡ kind.Flow (flow.Test test)
@@ -103,7 +105,8 @@ module _ (along : StepsGoAlongNodes) (nodes : List Node) (ground : Ground) (numb
   -- two others, which differ in how many iterations are open
   module _ (iterations : IterationsAreOpen) (few : length steps.node.ways ≤ 2) (this that this_way that_way : ℕ)
       (one other : Node) (ways : (way : ℕ) → (way ≡ 0) ⊎ (way ≡ 1) → (way ≡ this_way) ⊎ (way ≡ that_way))
-      (this_is : slice_get steps.node.ways this_way ≡ Some this) (that_is : slice_get steps.node.ways that_way ≡ Some that)
+      (this_is : slice_get steps.node.ways this_way ≡ Some this)
+      (that_is : slice_get steps.node.ways that_way ≡ Some that)
       (one_is : numbered nodes this ≡ Some one) (other_is : numbered nodes that ≡ Some other)
       (as_one : length (t.frames.running.loops ++ loops_in t.frames.callers) ≡ length one.stand.iterations)
       (differ : length one.stand.iterations ≡ length other.stand.iterations → ⊥) where
@@ -126,13 +129,16 @@ module _ (along : StepsGoAlongNodes) (nodes : List Node) (ground : Ground) (numb
     open_way = by_way_taken (ways goes_to.way (two_ways goes_to.way goes_to.taken))
 
 -- ---- targets
-module _ (along : StepsGoAlongNodes) (nodes : List Node) (number : ℕ) (away : Bool) (case : Case) (first : ℕ) (one : Option ℕ)
-    (one_is : one ≡ Some first) (ways_one : (node : Node) → numbered nodes number ≡ Some node → one ≡ slice_get node.ways 0) where
+module _ (along : StepsGoAlongNodes) (nodes : List Node) (number : ℕ) (away : Bool) (case : Case) (first : ℕ)
+    (one : Option ℕ)
+    (one_is : one ≡ Some first) (ways_one : (node : Node) → numbered nodes number ≡ Some node
+    → one ≡ slice_get node.ways 0) where
   pub one_target : (other : Option ℕ) → other ≡ None
       → ((node : Node) → numbered nodes number ≡ Some node → other ≡ slice_get node.ways 1)
       → IsTarget nodes number away case first
   one_target other none ways ground k s t st shape =
-      only_way along nodes ground number away s t st first (sym (ways_one st.node st.is) ∙ one_is) (sym (ways st.node st.is) ∙ none)
+      only_way along nodes ground number away s t st first (sym (ways_one st.node st.is) ∙ one_is)
+      (sym (ways st.node st.is) ∙ none)
 
   pub first_target : IsTest nodes number → away ≡ false → IsTarget nodes number away case first
   first_target test is ground k s t st shape =
@@ -145,10 +151,12 @@ module _ (along : StepsGoAlongNodes) (nodes : List Node) (number : ℕ) (away : 
     pub second_target : IsTest nodes number → away ≡ true → IsTarget nodes number away case second
     second_target test is ground k s t st shape =
         let x = test st.node st.is in
-        test_way along nodes ground number away s t st x.0 x.1 second 1 x.2 x.3 (sym (ways_other st.node st.is) ∙ other_is)
+        test_way along nodes ground number away s t st x.0 x.1 second 1 x.2 x.3 (sym (ways_other st.node st.is)
+        ∙ other_is)
         (sym (ap way_of is))
 
-    module _ (iterations : IterationsAreOpen) (few : (node : Node) → numbered nodes number ≡ Some node → length node.ways ≤ 2)
+    module _ (iterations : IterationsAreOpen) (few : (node : Node) → numbered nodes number ≡ Some node
+        → length node.ways ≤ 2)
         (ground : Ground) (k : ℕ) (s t : State) (st : Steps nodes ground number away s t)
         (shape : IsShape case.shape (point_of k ground.below t)) where
       by_open : (this that this_way that_way : ℕ) → AreApart nodes case.shape.iterations this that
@@ -159,7 +167,8 @@ module _ (along : StepsGoAlongNodes) (nodes : List Node) (number : ℕ) (away : 
           let here = node_of nodes this apart.here.one apart.here.last in
           let there = node_of nodes that apart.there.one apart.there.last in
           let as_here = apart.here.as_many here.0 here.1 in
-          open_way along nodes ground number away s t st iterations (few st.node st.is) this that this_way that_way here.0 there.0
+          open_way along nodes ground number away s t st iterations (few st.node st.is) this that this_way that_way
+          here.0 there.0
           ways this_is that_is here.1 there.1 (sym shape.iterations ∙ sym as_here)
           (λ same. apart.differ (sym (apart.there.as_many there.0 there.1) ∙ sym same ∙ as_here))
 
@@ -167,14 +176,19 @@ module _ (along : StepsGoAlongNodes) (nodes : List Node) (number : ℕ) (away : 
       swapped way (inl e) = inr e
       swapped way (inr e) = inl e
 
-      pub open_stands : (target : ℕ) → IsToldApart nodes case.shape.iterations first second target → StandsBy nodes ground target t
+      pub open_stands : (target : ℕ) → IsToldApart nodes case.shape.iterations first second target
+          → StandsBy nodes ground target t
       open_stands target (inl a) =
           subst (λ k. StandsBy nodes ground k t) (sym a.0)
-          (by_open first second 0 1 a.1 (λ way h. h) (sym (ways_one st.node st.is) ∙ one_is) (sym (ways_other st.node st.is) ∙ other_is))
+          (by_open first second 0 1 a.1 (λ way h. h) (sym (ways_one st.node st.is) ∙ one_is)
+          (sym (ways_other st.node st.is) ∙ other_is))
       open_stands target (inr a) =
           subst (λ k. StandsBy nodes ground k t) (sym a.0)
-          (by_open second first 1 0 a.1 swapped (sym (ways_other st.node st.is) ∙ other_is) (sym (ways_one st.node st.is) ∙ one_is))
+          (by_open second first 1 0 a.1 swapped (sym (ways_other st.node st.is) ∙ other_is)
+          (sym (ways_one st.node st.is) ∙ one_is))
 
     pub open_target : IterationsAreOpen → ((node : Node) → numbered nodes number ≡ Some node → length node.ways ≤ 2)
-        → (target : ℕ) → IsToldApart nodes case.shape.iterations first second target → IsTarget nodes number away case target
-    open_target iterations few target told ground k s t st shape = open_stands iterations few ground k s t st shape target told
+        → (target : ℕ) → IsToldApart nodes case.shape.iterations first second target
+        → IsTarget nodes number away case target
+    open_target iterations few target told ground k s t st shape =
+        open_stands iterations few ground k s t st shape target told

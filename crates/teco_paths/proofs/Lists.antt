@@ -52,12 +52,14 @@ mapped_length : {X Y : Type 0} (f : X → Y) (xs : List X) → length (map f xs)
 mapped_length f [] = refl
 mapped_length f (x ∷ xs) = ap suc (mapped_length f xs)
 
-pub over_behind : (nodes : List Node) (entry : ℕ) (stand : Stand) → numbered (stands nodes entry) (length nodes + 1) ≡ Some stand
+pub over_behind : (nodes : List Node) (entry : ℕ) (stand : Stand)
+    → numbered (stands nodes entry) (length nodes + 1) ≡ Some stand
     → stand ≡ over entry
 over_behind nodes entry stand h =
     let z : length nodes + 1 ≡ suc (length nodes) = omega arith in
     let e : Some (over entry) ≡ Some stand =
-    sym (ap (slice_get (stands nodes entry)) (sym (mapped_length stand_of_node nodes)) ∙ last_of (map stand_of_node nodes) (over entry))
+    sym (ap (slice_get (stands nodes entry)) (sym (mapped_length stand_of_node nodes))
+    ∙ last_of (map stand_of_node nodes) (over entry))
     ∙ subst (λ k. numbered (stands nodes entry) k ≡ Some stand) z h in
     cc
 
@@ -116,7 +118,8 @@ one_more P xs x d n long first last k l = by (cases_order k n)
     by : (k ≡ n) ⊎ ((k < n) ⊎ (n < k)) → P k (slice_index_or (xs ++ x ∷ []) k d)
     by (inl e) =
         let at : k ≡ length xs = e ∙ sym long in
-        subst (P k) (sym (ap (λ j. slice_index_or (xs ++ x ∷ []) j d) at ∙ pushed_last xs x d)) (subst (λ j. P j x) (sym e) last)
+        subst (P k) (sym (ap (λ j. slice_index_or (xs ++ x ∷ []) j d) at ∙ pushed_last xs x d))
+        (subst (λ j. P j x) (sym e) last)
     by (inr (inl less)) = subst (P k) (sym (pushed_front xs x d k (omega (arith, less, long)))) (first k less)
     by (inr (inr more)) = absurd (omega (arith, l, more))
 

@@ -1,11 +1,12 @@
 -- Paths from spot to spot.
 use Rattle.std.proofs.lemmas.Bool.{cases_order}
-use Rattle.std.proofs.Common.{◌≡◌, ◌⊎◌, inl, inr, ℕ, zero, suc, ◌+◌, ◌-◌, ◌<◌, refl, sym, ap, ◌∙◌, subst, arith, List, [], ◌∷◌, ◌++◌, length}
+use Rattle.std.proofs.Common.{◌≡◌, ◌⊎◌, inl, inr, ℕ, zero, suc, ◌+◌, ◌-◌, ◌<◌, refl, sym, ap, ◌∙◌, subst, arith, List}
+use Rattle.std.proofs.Common.{[], ◌∷◌, ◌++◌, length}
 use Rattle.std.specs.Prelude.{slice_index_or}
 use Rattle.std.specs.List.{All}
 use Rattle.teco_law_expansion.specs.Run.{RunsEnd}
 use Rattle.teco_rows.specs.declared.case.Case.{Case}
-use Rattle.teco_outcomes.specs.Law.{point_of}
+use Rattle.teco_flow_outcomes.specs.Law.{point_of}
 use Rattle.teco_paths.specs.declared.cut.Cut.{Cut}
 use Rattle.teco_paths.specs.declared.spot.Spot.{Spot}
 use Rattle.teco_paths.specs.Claims.{ComesTo, IsCaseOf}
@@ -20,15 +21,16 @@ use Rattle.teco_verifier.specs.expansion.Node.{Stand, stands, numbered}
 
 -- from the spots behind one
 pub leads_by : (course : Course) (number : ℕ) (case : Case) (spots : List Spot) → IsSmall course case
-    → GoOn course.nodes number case spots → All (LeadsOn course) spots → Leads course 1 number case
+    → GoOn course.nodes course.needs number case spots → All (LeadsOn course) spots → Leads course 1 number case
 leads_by course number case spots small go all ground steps s of at d cuts =
-    let g = go ground steps s of.linked at d in
+    let g = go ground steps s of.needs of.linked at d in
     let any = g.there in
     let there : IsThere course.nodes ground (steps + 1) g.next any.1 = any.4 in
     let leads : LeadsOn course any.1 = subst (LeadsOn course) any.3 (all any.0 any.1 any.2) in
     ends_on (value course.commands ground.n) (value course.size ground.n) steps s g.next g.goes (small ground.n _ d)
     (leads ground (steps + 1) g.next of
-    (record { stands = there.stands; begins = g.begins; loaded = g.loaded; whole = g.whole }) there.described
+    (record { stands = there.stands; begins = g.begins; loaded = g.loaded; whole = g.whole; files = g.files })
+    there.described
     (cuts_on course ground steps s g.next g.goes cuts))
     g.none
 
@@ -38,7 +40,8 @@ leads_at_once course spot leads ground steps s linked at d cuts =
 
 -- from a case of which more is known
 pub sharper_leads : (course : Course) (number : ℕ) (case sharp : Case) → IsSharper case sharp
-    → LeadsOn course (record { number = number; case = sharp }) → LeadsOn course (record { number = number; case = case })
+    → LeadsOn course (record { number = number; case = sharp })
+    → LeadsOn course (record { number = number; case = case })
 sharper_leads course number case sharp is leads ground steps s of at d cuts =
     leads ground steps s of at (is ground.n (point_of steps ground.below s) at.whole.world.kept d) cuts
 
@@ -86,7 +89,8 @@ all_and_one P (y ∷ xs) x h p zero d l = h 0 d (omega arith)
 all_and_one P (y ∷ xs) x h p (suc k) d l =
     all_and_one P xs x (λ j e m. h (suc j) e (omega (arith, m))) p k d (omega (arith, l))
 
-pub in_place : (course : Course) (ahead more : List Spot) (spot : Spot) → (All (LeadsOn course) more → LeadsOn course spot)
+pub in_place : (course : Course) (ahead more : List Spot) (spot : Spot)
+    → (All (LeadsOn course) more → LeadsOn course spot)
     → All (LeadsOn course) (ahead ++ more) → All (LeadsOn course) (ahead ++ spot ∷ [])
 in_place course ahead more spot leads all =
     let both = all_both (LeadsOn course) ahead more all in
@@ -101,7 +105,8 @@ same_there [] k c d l = absurd (omega arith)
 same_there (x ∷ cuts) zero c d l = refl
 same_there (x ∷ cuts) (suc k) c d l = same_there cuts k c d (omega (arith, l))
 
-pub followed_more : (course : Course) (n : ℕ) (cut : Cut) → n < length course.cuts → slice_index_or course.cuts n cut ≡ cut
+pub followed_more : (course : Course) (n : ℕ) (cut : Cut) → n < length course.cuts
+    → slice_index_or course.cuts n cut ≡ cut
     → ((k : ℕ) (d : Cut) → k < n → IsFollowed course (slice_index_or course.cuts k d)) → IsFollowed course cut
     → (k : ℕ) (d : Cut) → k < n + 1 → IsFollowed course (slice_index_or course.cuts k d)
 followed_more course n cut within e first last k d l = by (cases_order k n)

@@ -10,8 +10,8 @@ use Rattle.teco_model.specs.State.{Frame}
 use Rattle.teco_rows.specs.declared.case.Case.{Case}
 use Rattle.teco_rows.specs.declared.fault.Fault.{Fault}
 use Rattle.teco_rows.specs.declared.outcomes.Outcomes.{Outcomes}
-use Rattle.teco_outcomes.specs.Flow.{IsTurnOf, Turns, turned}
-use Rattle.teco_outcomes.specs.Law.{IsMatched}
+use Rattle.teco_flow_outcomes.specs.Flow.{IsTurnOf, Turns, turned}
+use Rattle.teco_flow_outcomes.specs.Law.{IsMatched}
 use Rattle.teco_rows.specs.States.{Point, Describes}
 use Rattle.teco_paths.specs.Steps.{Passes}
 

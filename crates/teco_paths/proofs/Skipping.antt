@@ -15,12 +15,15 @@ advance : (text : List ℕ) (at : ℕ) (r : Reading) → reading_at text at ≡ 
 advance text at r h = let a = reading_at-advances text at r h in omega (arith, a.stands, a.on)
 
 Ahead : List ℕ → ℕ → Pairs → Type 0
-Ahead text more pairs = (at inner : ℕ) (e : Element) → pair_end pairs inner (first_readings more text at) ≡ Some e → at < e.next
+Ahead text more pairs = (at inner : ℕ) (e : Element) → pair_end pairs inner (first_readings more text at) ≡ Some e
+    → at < e.next
 
 module _ (text : List ℕ) (pairs : Pairs) (more at : ℕ)
-    (on : (next inner : ℕ) (e : Element) → pair_end pairs inner (first_readings more text next) ≡ Some e → next < e.next) where
+    (on : (next inner : ℕ) (e : Element) → pair_end pairs inner (first_readings more text next) ≡ Some e
+    → next < e.next) where
   by_inner : (x e : Element) (behind : Option ℕ) → at < x.next
-      → (elim behind [ None ↦ Some x | Some b ↦ pair_end pairs b (first_readings more text x.next) ]) ≡ Some e → at < e.next
+      → (elim behind [ None ↦ Some x | Some b ↦ pair_end pairs b (first_readings more text x.next) ]) ≡ Some e
+      → at < e.next
   by_inner x e None l h = let same : x ≡ e = cc in subst (λ (y : Element). at < y.next) same l
   by_inner x e (Some b) l h = omega (arith, l, on x.next b e h)
 
@@ -51,7 +54,8 @@ pub test_skips : (text : List ℕ) (e : Element) (t : Test) (place : ℕ) → e.
     → (skip_of text (Whole e)).to ≡ Some place → e.next < place
 unfolding readings
 test_skips text e t place is h =
-    let to : option_map (λ (e : Element). e.next) (pair_end Branches 0 (first_readings (length text) text e.next)) ≡ Some place =
+    let to : option_map (λ (e : Element). e.next)
+    (pair_end Branches 0 (first_readings (length text) text e.next)) ≡ Some place =
     subst (λ k. (skip_on (route_of k) e.text (first_readings (length text) text e.next)).to ≡ Some place) is h in
     let found = next_is (pair_end Branches 0 (first_readings (length text) text e.next)) place to in
     omega (arith, end_ahead (length text) text Branches e.next 0 found.0 found.1, found.2)

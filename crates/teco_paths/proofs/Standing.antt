@@ -10,7 +10,7 @@ use Rattle.teco_model.specs.Element.{element_at}
 use Rattle.teco_model.specs.State.{Frame, State, Next}
 use Rattle.teco_model.specs.Step.{step}
 use Rattle.teco_model.proofs.Ahead.{element_at-again}
-use Rattle.teco_outcomes.specs.Law.{loops_in}
+use Rattle.teco_flow_outcomes.specs.Law.{loops_in}
 use Rattle.teco_paths.specs.Runs.{Ground, StandsBy, IsAt}
 use Rattle.teco_paths.proofs.Lists.{same_stand}
 use Rattle.teco_verifier.specs.expansion.Node.{Node, Stand, stands, numbered}
@@ -30,7 +30,8 @@ in_texts : (nodes : List Node) (entry below : ℕ) (spots : List Spot) (numbers 
     → AreOpen nodes entry below spots numbers → length numbers ≡ length (starts_in spots)
 in_texts nodes entry below [] numbers h = ap length h
 in_texts nodes entry below (spot ∷ callers) numbers h =
-    in_text nodes entry below spot.text callers (AreOpen nodes entry below callers) spot.starts numbers (length (starts_in callers))
+    in_text nodes entry below spot.text callers (AreOpen nodes entry below callers) spot.starts numbers
+    (length (starts_in callers))
     (λ rest open_rest. in_texts nodes entry below callers rest open_rest) h
     ∙ sym (length-append spot.starts (starts_in callers))
 

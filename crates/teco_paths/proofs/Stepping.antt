@@ -1,13 +1,16 @@
 -- One step of a path.
-use Rattle.std.proofs.Common.{◌≡◌, ◌⊎◌, inl, inr, ℕ, ◌+◌, ◌<◌, ◌≤◌, refl, sym, ap, ◌∙◌, subst, arith, List, [], ◌∷◌, ◌++◌}
+use Rattle.std.proofs.Common.{◌≡◌, ◌⊎◌, inl, inr, ℕ, ◌+◌, ◌<◌, ◌≤◌, refl, sym, ap, ◌∙◌, subst, arith, List, [], ◌∷◌}
+use Rattle.std.proofs.Common.{◌++◌}
 use Rattle.std.proofs.Common.{map, length, Bool, true, false, Option, Some, None, Ok}
 use Rattle.std.specs.List.{All, Any}
+use Rattle.std.specs.Prelude.{is_some}
 use Rattle.std.specs.Option.{option_map_or}
 use Rattle.teco_law_expansion.specs.Linked.{AreLinked, Lead, NodesAreSound}
 use Rattle.teco_law_expansion.specs.Loaded.{StaysLoaded}
 use Rattle.teco_law_expansion.specs.Run.{StepsGoAlongNodes}
 use Rattle.teco_law_facts.specs.Wholeness.{IsWholeState, IsWholeOutcome, WholeIsKept}
-use Rattle.teco_law_tables.specs.Staying.{changes_files, is_of_files}
+use Rattle.teco_law_facts.specs.SoundSteps.{AreOpen}
+use Rattle.teco_law_tables.specs.Staying.{AreAsOpen, FilesStayOpen, changes_files, is_of_files}
 use Rattle.teco_linear.specs.declared.term.Term.{Term}
 use Rattle.teco_linear.specs.Form.{Valuation}
 use Rattle.teco_linear.specs.Implied.{Holds, Implies}
@@ -19,22 +22,24 @@ use Rattle.teco_model.specs.declared.kind.Kind.TheVariants as kind
 use Rattle.teco_model.specs.declared.kind.Stack.TheVariants as stack
 use Rattle.teco_model.specs.declared.kind.Storage.TheVariants as storage
 use Rattle.teco_model.specs.Element.{Element, element_at}
-use Rattle.teco_model.specs.Macros.{Library, is_macro}
+use Rattle.teco_model.specs.Files.{Files}
+use Rattle.teco_model.specs.Macros.{Library, Needs, is_macro}
 use Rattle.teco_model.specs.State.{Frame, State, Outcome, Next}
 use Rattle.teco_model.specs.Step.{step, end_outcome, end_of_text, outcome_at, outcome_of, reply_of}
 use Rattle.teco_model.specs.Storage.{text_in}
 use Rattle.teco_model.specs.Going.{frames_in}
 use Rattle.teco_model.proofs.Chains.{ok}
 use Rattle.teco_rows.specs.declared.case.Case.{Case}
+use Rattle.teco_rows.specs.declared.outcomes.Guarded.{Guarded}
 use Rattle.teco_rows.specs.declared.outcomes.Outcomes.{Outcomes}
-use Rattle.teco_outcomes.specs.Flow.{turned}
-use Rattle.teco_rows.specs.Foretold.{Begins}
-use Rattle.teco_outcomes.specs.Law.{Goes, StepsTo, loops_in, point_of}
+use Rattle.teco_flow_outcomes.specs.Flow.{turned}
+use Rattle.teco_rows.specs.Foretold.{Begins, IsGuarded}
+use Rattle.teco_flow_outcomes.specs.Law.{Goes, StepsTo, loops_in, point_of}
 use Rattle.teco_rows.specs.States.{Describes, IsTrueOf}
 use Rattle.teco_paths.specs.declared.spot.Spot.{Spot}
 use Rattle.teco_paths.specs.Runs.{Ground, IsAt}
 use Rattle.teco_paths.specs.Steps.{AreSpots, GoOn, GoesBy, GoesOn, IsCall, IsEndOrCall, IsPlain, IsRead}
-use Rattle.teco_paths.specs.Steps.{IsTextEnd, IsTold, LawAt, Passes, cases_by}
+use Rattle.teco_paths.specs.Steps.{AreMet, IsKept, IsTextEnd, IsTold, LawAt, Passes, cases_by}
 use Rattle.teco_paths.proofs.Lists.{node_of}
 use Rattle.teco_paths.proofs.Standing.{position_here, linked_here, reads_here, reads_there}
 use Rattle.teco_paths.proofs.Walking.{reads_none}
@@ -75,27 +80,46 @@ no_files (kind.Call a) told = refl
 no_files (kind.Search a) told = refl
 no_files (kind.File a) told = absurd told
 
+-- ---- files stay open
+some_there : {X : Type 0} (o : Option X) → is_some o ≡ true → (x : X) × (o ≡ Some x)
+some_there None h = absurd (cc)
+some_there (Some x) h = (x, refl)
+
+open_as_before : (needs : Needs) (old new : Files) → AreAsOpen old new → AreOpen needs old → AreOpen needs new
+open_as_before needs old new same files = record {
+  input = λ h. some_there new.input (same.input ∙ ap is_some (files.input h).1);
+  output = λ h. some_there new.output (same.output ∙ ap is_some (files.output h).1);
+}
+
 -- ---- the laws that steps stand on
 pub record Laws : Type 0 where
   pub whole : WholeIsKept
   pub along : StepsGoAlongNodes
   pub loaded : StaysLoaded
   pub sound : NodesAreSound
+  pub opened : FilesStayOpen
 
-conditions_hold : (case : Case) (targets : List (List Term)) (n : ℕ) (v : Valuation) → All (Implies case.constraints.items) targets
+conditions_hold : (case : Case) (targets : List (List Term)) (n : ℕ) (v : Valuation)
+    → All (Implies case.constraints.items) targets
     → All (Holds n v) case.constraints.items → All (Holds n v) targets
 conditions_hold case targets n v implied hold k d l = implied k d l n v hold
 
+guarded_hold : (targets : List Guarded) (n : ℕ) (v : Valuation) → All IsKept targets
+    → All (IsGuarded n v) targets
+guarded_hold targets n v kept k d l w agree hold = kept k d l n w hold
+
 module _ (laws : Laws) (nodes : List Node) (number : ℕ) (case : Case) (all : Outcomes) (spots : List Spot)
-    (asked : All (Implies case.constraints.items) all.conditions.items) (are : AreSpots nodes number all spots)
+    (asked : AreMet case all) (are : AreSpots nodes number all spots)
     (ground : Ground) (steps : ℕ) (s : State) (linked : AreLinked ground.library ground.entry nodes)
-    (at : IsAt nodes ground number s) (v : Valuation) (true_of : IsTrueOf ground.n v case (point_of steps ground.below s))
+    (at : IsAt nodes ground number s) (v : Valuation)
+    (true_of : IsTrueOf ground.n v case (point_of steps ground.below s))
     (node : Node) (is : numbered nodes number ≡ Some node) where
   begins : Begins ground.n v case all (point_of steps ground.below s)
   begins = record {
     whole = at.whole.world.kept;
     true_of = true_of;
-    conditions = conditions_hold case all.conditions.items ground.n v asked true_of.fits.constraints;
+    conditions = conditions_hold case all.conditions.items ground.n v asked.conditions true_of.fits.constraints;
+    guarded = guarded_hold all.guarded.items ground.n v asked.guarded;
   }
 
   reads : element_at s.frames.running.text s.frames.running.place ≡ Ok node.element
@@ -116,6 +140,9 @@ module _ (laws : Laws) (nodes : List Node) (number : ℕ) (case : Case) (all : O
         laws.loaded ground.library s t node.element at.loaded unwritten
         (reads_there nodes ground number s node linked is at) goes;
     whole = whole_next laws.whole s t at.whole goes;
+    files =
+        open_as_before ground.needs s.world.files t.world.files (laws.opened s t node.element unfiled reads goes)
+        at.files;
     there =
         are ground (steps + 1) s t away
         (record { linked = linked; at = at; goes = goes; done = done; node = node; is = is; along = along }) described;
@@ -123,15 +150,17 @@ module _ (laws : Laws) (nodes : List Node) (number : ℕ) (case : Case) (all : O
 
   -- an element whose law is told
   module _ (e : Element) (element_is : node.element ≡ Some e) (plain : IsPlain nodes number e.kind)
-      (law : LawAt nodes number e case all) where
+      (needs : Needs) (same : ground.needs ≡ needs) (law : LawAt nodes needs number e case all) where
     same_element : (f : Element) → node.element ≡ Some f → e ≡ f
     same_element f h = let z : Some e ≡ Some f = sym element_is ∙ h in cc
 
-    by_writes : (written_by e.kind ≡ None) ⊎ (node.names_macro ≡ false) → option_map_or (is_macro ground.library) (written_by e.kind) false ≡ false
+    by_writes : (written_by e.kind ≡ None) ⊎ (node.names_macro ≡ false)
+        → option_map_or (is_macro ground.library) (written_by e.kind) false ≡ false
     by_writes (inl none) = ap (λ o. option_map_or (is_macro ground.library) o false) none
     by_writes (inr unnamed_here) =
         unnamed ground.library (written_by e.kind) (named_by e.kind) (named_too e.kind)
-        (ap (names_macro ground.library) (sym element_is) ∙ sym (linked_here nodes ground number s node linked is at).names ∙ unnamed_here)
+        (ap (names_macro ground.library) (sym element_is)
+        ∙ sym (linked_here nodes ground number s node linked is at).names ∙ unnamed_here)
 
     unwritten_here : writes_macro ground.library node.element ≡ false
     unwritten_here = ap (writes_macro ground.library) element_is ∙ by_writes (plain.writes node is)
@@ -139,19 +168,23 @@ module _ (laws : Laws) (nodes : List Node) (number : ℕ) (case : Case) (all : O
     unfiled_here : changes_files node.element ≡ false
     unfiled_here = ap changes_files element_is ∙ no_files e.kind plain.told
 
-    goes_by : (away : Bool) (t : State) → GoesBy away e s t → (f : Element) → node.element ≡ Some f → IsTold f.kind → GoesBy away f s t
+    goes_by : (away : Bool) (t : State) → GoesBy away e s t → (f : Element) → node.element ≡ Some f → IsTold f.kind
+        → GoesBy away f s t
     goes_by away t h f reads told = subst (λ f. GoesBy away f s t) (same_element f reads) h
 
-    by_goes : (t : State) → step s ≡ Next t → Goes ground.n all e steps ground.below s t → GoesOn nodes ground steps s spots
+    by_goes : (t : State) → step s ≡ Next t → Goes ground.n all e steps ground.below s t
+        → GoesOn nodes ground steps s spots
     by_goes t goes (inl a) =
         going t false goes (a.left ∙ at.begins) (goes_by false t a.there) unwritten_here unfiled_here a.described
     by_goes t goes (inr away) =
         let a = away.2 in
-        going t true goes (a.left ∙ at.begins) (goes_by true t (away.0, away.1, a.there)) unwritten_here unfiled_here a.described
+        going t true goes (a.left ∙ at.begins) (goes_by true t (away.0, away.1, a.there)) unwritten_here unfiled_here
+        a.described
 
     pub element_goes : GoesOn nodes ground steps s spots
     element_goes =
-        let next = steps_to (Goes ground.n all e steps ground.below s) (step s) (law ground v s steps linked at begins) in
+        let next = steps_to (Goes ground.n all e steps ground.below s) (step s)
+        (law ground v s steps same linked at begins) in
         by_goes next.0 next.1 next.2
 
   -- a call, or the end of a text
@@ -165,8 +198,12 @@ module _ (laws : Laws) (nodes : List Node) (number : ℕ) (case : Case) (all : O
     passed t goes done untold unwritten same =
         by (passes ground.n v (point_of steps ground.below s) begins)
       where
-        by : Any (λ made. Describes ground.n made (turned (point_of steps ground.below s) s.arguments (s.frames.running.loops ++ loops_in s.frames.callers))) all.cases.items
-            ⊎ Any (λ made. Describes ground.n made (turned (point_of steps ground.below s) s.arguments (s.frames.running.loops ++ loops_in s.frames.callers))) all.away.items
+        by : Any (λ made. Describes ground.n made
+            (turned (point_of steps ground.below s) s.arguments (s.frames.running.loops ++ loops_in s.frames.callers)))
+            all.cases.items
+            ⊎ Any (λ made. Describes ground.n made
+            (turned (point_of steps ground.below s) s.arguments
+            (s.frames.running.loops ++ loops_in s.frames.callers))) all.away.items
             → GoesOn nodes ground steps s spots
         by (inl d) =
             going t false goes done (λ e r told. absurd (untold e r told)) unwritten unfiled
@@ -176,7 +213,8 @@ module _ (laws : Laws) (nodes : List Node) (number : ℕ) (case : Case) (all : O
             (subst (λ p. Any (λ made. Describes ground.n made p) all.away.items) (sym same) d)
 
   -- M goes to the beginning of its text
-  module _ (passes : Passes case all) (e : Element) (c : Call) (element_is : node.element ≡ Some e) (kind_is : e.kind ≡ kind.Call c) where
+  module _ (passes : Passes case all) (e : Element) (c : Call) (element_is : node.element ≡ Some e)
+      (kind_is : e.kind ≡ kind.Call c) where
     abbrev called : State
     called = record s { frames = frames_in (text_in c.register s.world.kept) e.next s.frames }
 
@@ -193,7 +231,8 @@ module _ (laws : Laws) (nodes : List Node) (number : ℕ) (case : Case) (all : O
     pub call_goes : GoesOn nodes ground steps s spots
     call_goes =
         passed passes (ap changes_files element_is ∙ ap is_of_files kind_is) called calls at.begins untold_call
-        (ap (writes_macro ground.library) element_is ∙ ap (λ k. option_map_or (is_macro ground.library) (written_by k) false) kind_is)
+        (ap (writes_macro ground.library) element_is
+        ∙ ap (λ k. option_map_or (is_macro ground.library) (written_by k) false) kind_is)
         refl
 
   -- the end of a text goes back to the text that waits
@@ -202,7 +241,8 @@ module _ (laws : Laws) (nodes : List Node) (number : ℕ) (case : Case) (all : O
         ≡ Ok (linked_here nodes ground number s node linked is at).targets
     unfolding ways_at
     returns_here =
-        subst (λ (p : Position). return_ways p.running.starts p.callers ≡ Ok (linked_here nodes ground number s node linked is at).targets)
+        subst (λ (p : Position). return_ways p.running.starts p.callers ≡ Ok
+        (linked_here nodes ground number s node linked is at).targets)
         (position_here nodes ground number s node linked is at)
         (ap (λ read. ways_at ground.library read node.stand.position) (sym element_is)
         ∙ (linked_here nodes ground number s node linked is at).goes)
@@ -212,7 +252,8 @@ module _ (laws : Laws) (nodes : List Node) (number : ℕ) (case : Case) (all : O
     none_open [] callers targets h = refl
     none_open (loop ∷ outer) callers targets h = absurd (cc)
 
-    some_way : (all : List Stand) (base n : ℕ) (from : Stand) (targets : List Position) (ways : List ℕ) → Lead all base n from targets ways
+    some_way : (all : List Stand) (base n : ℕ) (from : Stand) (targets : List Position) (ways : List ℕ)
+        → Lead all base n from targets ways
         → length ways ≡ 1 → targets ≡ [] → ⊥
     some_way all base n from [] [] h l e = omega (arith, l)
     some_way all base n from [] (way ∷ ways) h l e = h
@@ -269,16 +310,19 @@ module _ (laws : Laws) (nodes : List Node) (number : ℕ) (case : Case) (all : O
 
 -- ---- the spots behind a node
 module _ (laws : Laws) (nodes : List Node) (number : ℕ) (case : Case) (all : Outcomes) (spots : List Spot)
-    (asked : All (Implies case.constraints.items) all.conditions.items) (are : AreSpots nodes number all spots)
+    (asked : AreMet case all) (are : AreSpots nodes number all spots)
     (one : 0 < number) (last : number ≤ length nodes) where
-  pub go_on_element : (e : Element) → IsRead nodes number (Some e) → IsPlain nodes number e.kind
-      → LawAt nodes number e case all → GoOn nodes number case spots
-  go_on_element e read plain law ground steps s linked at d =
+  pub go_on_element : (needs : Needs) (e : Element) → IsRead nodes number (Some e) → IsPlain nodes number e.kind
+      → LawAt nodes needs number e case all → GoOn nodes needs number case spots
+  go_on_element needs e read plain law ground steps s same linked at d =
       let n = node_of nodes number one last in
-      element_goes laws nodes number case all spots asked are ground steps s linked at d.0 d.1 n.0 n.1 e (read n.0 n.1) plain law
+      element_goes laws nodes number case all spots asked are ground steps s linked at d.0 d.1 n.0 n.1 e
+      (read n.0 n.1) plain needs same law
 
-  pub go_on_text : Passes case all → ((node : Node) → numbered nodes number ≡ Some node → length node.ways ≡ 1)
-      → IsTextEnd nodes number → GoOn nodes number case spots
-  go_on_text passes ways text ground steps s linked at d =
+  pub go_on_text : (needs : Needs) → Passes case all
+      → ((node : Node) → numbered nodes number ≡ Some node → length node.ways ≡ 1)
+      → IsTextEnd nodes number → GoOn nodes needs number case spots
+  go_on_text needs passes ways text ground steps s same linked at d =
       let n = node_of nodes number one last in
-      text_goes laws nodes number case all spots asked are ground steps s linked at d.0 d.1 n.0 n.1 passes (ways n.0 n.1) (text n.0 n.1)
+      text_goes laws nodes number case all spots asked are ground steps s linked at d.0 d.1 n.0 n.1 passes
+      (ways n.0 n.1) (text n.0 n.1)

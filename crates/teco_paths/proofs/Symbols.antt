@@ -67,7 +67,8 @@ each_again f i k e = among (nat_lt k 7) refl
         let fits = family_fits f in
         let code : (k - 7) % 7 ≡ family_code f = omega (arith, fits.0, e) in
         let index : (k - 7) / 7 ≡ i = omega (arith, fits.0, e) in
-        ap (λ c. Each (family_of c) ((k - 7) / 7)) code ∙ ap (λ g. Each g ((k - 7) / 7)) fits.1 ∙ ap (λ j. Each f j) index
+        ap (λ c. Each (family_of c) ((k - 7) / 7)) code ∙ ap (λ g. Each g ((k - 7) / 7)) fits.1
+        ∙ ap (λ j. Each f j) index
 
 -- and each measure its place
 pub measure_again : (m : Measure) → measure_of (place m) ≡ m
@@ -87,7 +88,8 @@ by_mark None false h = refl
 by_mark (Some x) true h = refl
 by_mark (Some x) false h = absurd (cc)
 
-pub marked : (present : List Bool) (s : Point) (m : Measure) → is_some (measures_of s m) ≡ slice_index_or present (place m) false
+pub marked : (present : List Bool) (s : Point) (m : Measure)
+    → is_some (measures_of s m) ≡ slice_index_or present (place m) false
     → (if slice_index_or present (place m) false then Some (numbers_of s (place m)) else None) ≡ measures_of s m
 marked present s m h =
     ap (λ o. if slice_index_or present (place m) false then Some (unwrap_or (measures_of s o) (pos 0)) else None)

@@ -1,11 +1,12 @@
 -- What is known of a macro's state at its entry.
 use Rattle.std.specs.Prelude.{◌≡◌, ℕ, zero, suc, ◌+◌, ◌*◌, ◌≤◌, nat_lt, ◌&&◌, ◌==◌, ℤ, pos, ◌+ℤ◌, List, [], length}
-use Rattle.std.specs.Prelude.{Bool, true, false, Option, slice_index_or}
+use Rattle.std.specs.Prelude.{Bool, true, false, Option, Some, None, slice_index_or}
 use Rattle.teco_base.specs.declared.TheConstants.{REGISTERS}
 use Rattle.teco_linear.specs.declared.term.Term.{Term}
 use Rattle.teco_linear.specs.Form.{Valuation}
 use Rattle.teco_model.specs.Macros.{ArgumentRange, IsAsked}
-use Rattle.teco_model.specs.State.{held_length}
+use Rattle.teco_model.specs.State.{Kept, held_length}
+use Rattle.teco_model.specs.Storage.{text_in}
 use Rattle.teco_model.specs.laws.Whole.{IsWhole}
 use Rattle.teco_rows.specs.declared.measure.Family.{Family}
 use Rattle.teco_rows.specs.declared.measure.Family.TheVariants.{Number, Length}
@@ -19,9 +20,17 @@ use Rattle.teco_paths.specs.Symbols.{measure_of}
 use Rattle.teco_verifier.specs.facts.Argument.{arguments_given}
 use Rattle.teco_verifier.specs.table.Printed.{steps_before}
 
+-- texts of registers are as long as is said
+abbrev pub HaveLengths : List (Option ℕ) → Kept → Type 0
+HaveLengths lengths kept =
+    (r long : ℕ) → slice_index_or lengths r None ≡ Some long → length (text_in r kept) ≡ long
+
 -- the state at the entry, where N is n and this is given
-pub record IsEntered (argument : Option ArgumentRange) (n : ℕ) (given : Option ℕ) (s : Point) : Type 0 where
+pub record IsEntered
+    (lengths : List (Option ℕ)) (argument : Option ArgumentRange) (n : ℕ) (given : Option ℕ) (s : Point) :
+    Type 0 where
   pub whole : IsWhole s.kept
+  pub loaded : HaveLengths lengths s.kept
   pub steps : s.steps ≡ steps_before argument
   pub held : held_length s.kept + s.unread ≤ n
   pub asked : IsAsked argument given
@@ -29,15 +38,21 @@ pub record IsEntered (argument : Option ArgumentRange) (n : ℕ) (given : Option
   pub loops : s.loops ≡ []
   pub below : s.below ≡ length s.kept.registers.stack
 
--- the lengths of the texts of the first registers, together
-abbrev pub lengths : Valuation → ℕ → ℤ
-lengths v zero = pos 0
-lengths v (suc registers) = lengths v registers +ℤ v (8 + 7 * registers)
+-- the length of the text of a register, or 0
+abbrev pub length_if : Bool → Valuation → ℕ → ℤ
+length_if false v register = pos 0
+length_if true v register = v (8 + 7 * register)
+
+-- the lengths of those texts of the first registers, together, whose places are marked
+abbrev pub used_lengths : List Bool → Valuation → ℕ → ℤ
+used_lengths used v zero = pos 0
+used_lengths used v (suc registers) =
+    used_lengths used v registers +ℤ length_if (slice_index_or used (8 + 7 * registers) false) v registers
 
 -- a claim holds at each such state
-abbrev pub IsEntryClaim : Option ArgumentRange → List Term → Type 0
-IsEntryClaim argument claim =
-    (n : ℕ) (given : Option ℕ) (s : Point) → IsEntered argument n given s → ClaimHolds n s claim
+abbrev pub IsEntryClaim : List (Option ℕ) → Option ArgumentRange → List Term → Type 0
+IsEntryClaim lengths argument claim =
+    (n : ℕ) (given : Option ℕ) (s : Point) → IsEntered lengths argument n given s → ClaimHolds n s claim
 
 abbrev pub family_is_there : Bool → Family → ℕ → Bool
 family_is_there has_argument Number i = nat_lt i REGISTERS
@@ -55,6 +70,6 @@ AreThere has_argument present =
     (k : ℕ) → slice_index_or present k false ≡ is_there has_argument (measure_of k)
 
 -- the state at each entry is as a cut point says
-abbrev pub IsEntryCut : Option ArgumentRange → Cut → Type 0
-IsEntryCut argument cut =
-    (n : ℕ) (given : Option ℕ) (s : Point) → IsEntered argument n given s → AreClaimed n cut s
+abbrev pub IsEntryCut : List (Option ℕ) → Option ArgumentRange → Cut → Type 0
+IsEntryCut lengths argument cut =
+    (n : ℕ) (given : Option ℕ) (s : Point) → IsEntered lengths argument n given s → AreClaimed n cut s

@@ -1,12 +1,13 @@
 -- Paths from cut point to cut point.
-use Rattle.std.specs.Prelude.{ℕ, ◌+◌, ◌≤◌, List}
+use Rattle.std.specs.Prelude.{◌≡◌, ℕ, ◌+◌, ◌≤◌, List, Option}
 use Rattle.std.specs.List.{Any}
 use Rattle.teco_base.specs.declared.TheConstants.{LIMIT}
 use Rattle.teco_law_expansion.specs.Linked.{AreLinked}
+use Rattle.teco_model.specs.Macros.{Needs}
 use Rattle.teco_model.specs.Run.{Reaches}
 use Rattle.teco_model.specs.State.{State}
 use Rattle.teco_rows.specs.declared.case.Case.{Case}
-use Rattle.teco_outcomes.specs.Law.{point_of}
+use Rattle.teco_flow_outcomes.specs.Law.{point_of}
 use Rattle.teco_rows.specs.States.{Describes}
 use Rattle.teco_paths.specs.declared.cut.Cut.{Cut}
 use Rattle.teco_paths.specs.declared.spot.Spot.{Spot}
@@ -15,16 +16,20 @@ use Rattle.teco_paths.specs.Runs.{Ground, IsAt, EndsBy}
 use Rattle.teco_poly.specs.Polynomial.{Polynomial, value}
 use Rattle.teco_verifier.specs.expansion.Node.{Node}
 
--- The nodes of a macro, the cut points, and how many steps a run may take and how much it may hold.
+-- The nodes of a macro, how long the texts of its library are, which files are open, the cut points, and how many
+-- steps a run may take and how much it may hold.
 pub record Course : Type 0 where
   pub nodes : List Node
+  pub lengths : List (Option ℕ)
+  pub needs : Needs
   pub cuts : List Cut
   pub commands : Polynomial
   pub size : Polynomial
 
--- A run is of the nodes of a course, and the size may be held.
+-- A run is of the nodes of a course, with its files open, and the size may be held.
 pub record IsOf (course : Course) (ground : Ground) : Type 0 where
   pub linked : AreLinked ground.library ground.entry course.nodes
+  pub needs : ground.needs ≡ course.needs
   pub room : value course.size ground.n ≤ LIMIT
 
 -- A run ends in time from a state, so many steps after its entry.

@@ -1,20 +1,22 @@
 -- Runs of a macro among the nodes of its expansion.
 use Rattle.std.specs.Prelude.{◌≡◌, ℕ, ◌+◌, ◌≤◌, List, length, Some, None}
+use Rattle.teco_law_facts.specs.SoundSteps.{AreOpen}
 use Rattle.teco_law_facts.specs.Wholeness.{IsWholeState}
 use Rattle.teco_law_tables.specs.Staying.{NoFileCommands}
-use Rattle.teco_model.specs.Macros.{Library, IsLoaded}
+use Rattle.teco_model.specs.Macros.{Library, IsLoaded, Needs}
 use Rattle.teco_model.specs.Run.{Reaches, Ends}
 use Rattle.teco_model.specs.State.{World, State}
-use Rattle.teco_outcomes.specs.Law.{unread_in}
+use Rattle.teco_flow_outcomes.specs.Law.{unread_in}
 use Rattle.teco_verifier.specs.expansion.Node.{Node, Stand, stands, numbered}
 use Rattle.teco_verifier.specs.expansion.Position.{position_of}
 
--- What a run is of: the library and the entry, N, and how many pairs were pushed before it.
+-- What a run is of: the library and the entry, N, how many pairs were pushed before it, and which files are open.
 pub record Ground : Type 0 where
   pub library : Library
   pub entry : ℕ
   pub n : ℕ
   pub below : ℕ
+  pub needs : Needs
 
 -- a state stands where a number does
 pub record StandsBy (nodes : List Node) (ground : Ground) (number : ℕ) (s : State) : Type 0 where
@@ -22,12 +24,13 @@ pub record StandsBy (nodes : List Node) (ground : Ground) (number : ℕ) (s : St
   pub at : numbered (stands nodes ground.entry) number ≡ Some stand
   pub position : stand.position ≡ position_of s
 
--- A state of a run stands where a number does, and begins there; the library is loaded.
+-- A state of a run stands where a number does, and begins there; the library is loaded, and the files are open.
 pub record IsAt (nodes : List Node) (ground : Ground) (number : ℕ) (s : State) : Type 0 where
   pub stands : StandsBy nodes ground number s
   pub begins : s.left ≡ None
   pub loaded : IsLoaded ground.library s.world.kept
   pub whole : IsWholeState s
+  pub files : AreOpen ground.needs s.world.files
 
 -- how much is in the buffer and unread
 abbrev pub held_in : State → ℕ

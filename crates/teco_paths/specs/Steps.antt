@@ -5,22 +5,26 @@ use Rattle.teco_law_expansion.specs.Linked.{AreLinked}
 use Rattle.teco_linear.specs.declared.term.Term.{Term}
 use Rattle.teco_linear.specs.Form.{Valuation}
 use Rattle.teco_linear.specs.Implied.{Holds, Implies}
+use Rattle.teco_law_facts.specs.SoundSteps.{AreOpen}
 use Rattle.teco_law_facts.specs.Wholeness.{IsWholeState}
 use Rattle.teco_law_tables.specs.Staying.{ReadsNoFileCommand}
 use Rattle.teco_model.specs.declared.kind.Flow.TheVariants as flow
 use Rattle.teco_model.specs.declared.kind.Kind.{Kind}
 use Rattle.teco_model.specs.declared.kind.Kind.TheVariants as kind
+use Rattle.teco_model.specs.declared.kind.Page.{Page}
+use Rattle.teco_model.specs.declared.kind.Page.TheVariants as page
 use Rattle.teco_model.specs.declared.kind.Test.{Test}
 use Rattle.teco_model.specs.Element.{Element}
 use Rattle.teco_model.specs.laws.Whole.{IsWhole}
-use Rattle.teco_model.specs.Macros.{IsLoaded}
+use Rattle.teco_model.specs.Macros.{IsLoaded, Needs}
 use Rattle.teco_model.specs.State.{State, Next}
 use Rattle.teco_model.specs.Step.{step}
 use Rattle.teco_rows.specs.declared.case.Case.{Case}
+use Rattle.teco_rows.specs.declared.outcomes.Guarded.{Guarded}
 use Rattle.teco_rows.specs.declared.outcomes.Outcomes.{Outcomes}
-use Rattle.teco_outcomes.specs.Flow.{turned}
+use Rattle.teco_flow_outcomes.specs.Flow.{turned}
 use Rattle.teco_rows.specs.Foretold.{Begins}
-use Rattle.teco_outcomes.specs.Law.{Goes, StepsTo, frames_on, place_away, point_of}
+use Rattle.teco_flow_outcomes.specs.Law.{Goes, StepsTo, frames_on, place_away, point_of}
 use Rattle.teco_rows.specs.States.{Point, IsShape, IsTrueOf, Describes}
 use Rattle.teco_paths.specs.declared.spot.Spot.{Spot}
 use Rattle.teco_paths.specs.Runs.{Ground, StandsBy, IsAt}
@@ -50,11 +54,17 @@ HasPair (kind.Search x) = ⊥
 HasPair (kind.Call c) = ⊥
 HasPair k = ⊤
 
+-- The file that a command on pages wants is one of those that are open.
+abbrev pub IsMet : Needs → Page → Type 0
+IsMet needs page.Next = needs.output ≡ true
+IsMet needs page.Write = needs.output ≡ true
+IsMet needs p = needs.input ≡ true
+
 -- The law of an element, where a run stands at its node.
-abbrev pub LawAt : List Node → ℕ → Element → Case → Outcomes → Type 0
-LawAt nodes number e case all =
+abbrev pub LawAt : List Node → Needs → ℕ → Element → Case → Outcomes → Type 0
+LawAt nodes needs number e case all =
     (ground : Ground) (v : Valuation) (s : State) (steps : ℕ)
-    → AreLinked ground.library ground.entry nodes → IsAt nodes ground number s
+    → ground.needs ≡ needs → AreLinked ground.library ground.entry nodes → IsAt nodes ground number s
     → Begins ground.n v case all (point_of steps ground.below s)
     → StepsTo (Goes ground.n all e steps ground.below s) (step s)
 
@@ -118,10 +128,20 @@ AreKept nodes number away cases spots =
     → Any (λ case. Describes ground.n case (point_of steps ground.below t)) cases
     → Any (IsThere nodes ground steps t) spots
 
+-- the constraints of a guarded condition imply it
+abbrev pub IsKept : Guarded → Type 0
+IsKept guarded = Implies guarded.constraints.items guarded.wanted
+
+-- A case implies the conditions, and each that is guarded is implied by its constraints.
+pub record AreMet (case : Case) (all : Outcomes) : Type 0 where
+  pub conditions : All (Implies case.constraints.items) all.conditions.items
+  pub guarded : All IsKept all.guarded.items
+
 -- such a law, and a case implies the conditions
-pub record IsAskedAt (nodes : List Node) (number : ℕ) (e : Element) (case : Case) (all : Outcomes) : Type 0 where
-  pub law : LawAt nodes number e case all
-  pub asked : All (Implies case.constraints.items) all.conditions.items
+pub record IsAskedAt (nodes : List Node) (needs : Needs) (number : ℕ) (e : Element) (case : Case) (all : Outcomes) :
+    Type 0 where
+  pub law : LawAt nodes needs number e case all
+  pub asked : AreMet case all
 
 -- a case with one constraint more
 abbrev pub IsWith : Case → List Term → Case → Type 0
@@ -150,7 +170,8 @@ AreLeft nodes number away cases rest spots =
     (ground : Ground) (steps : ℕ) (s t : State)
     → Steps nodes ground number away s t
     → Any (λ case. Describes ground.n case (point_of steps ground.below t)) cases
-    → Any (λ case. Describes ground.n case (point_of steps ground.below t)) rest ⊎ Any (IsThere nodes ground steps t) spots
+    → Any (λ case. Describes ground.n case (point_of steps ground.below t)) rest
+    ⊎ Any (IsThere nodes ground steps t) spots
 
 -- of either way
 abbrev pub AreSpots : List Node → ℕ → Outcomes → List Spot → Type 0
@@ -203,13 +224,14 @@ pub record GoesOn (nodes : List Node) (ground : Ground) (steps : ℕ) (s : State
   pub begins : next.left ≡ None
   pub loaded : IsLoaded ground.library next.world.kept
   pub whole : IsWholeState next
+  pub files : AreOpen ground.needs next.world.files
   pub there : Any (IsThere nodes ground (steps + 1) next) spots
 
 -- from each state at a number that a case describes
-abbrev pub GoOn : List Node → ℕ → Case → List Spot → Type 0
-GoOn nodes number case spots =
+abbrev pub GoOn : List Node → Needs → ℕ → Case → List Spot → Type 0
+GoOn nodes needs number case spots =
     (ground : Ground) (steps : ℕ) (s : State)
-    → AreLinked ground.library ground.entry nodes → IsAt nodes ground number s
+    → ground.needs ≡ needs → AreLinked ground.library ground.entry nodes → IsAt nodes ground number s
     → Describes ground.n case (point_of steps ground.below s) → GoesOn nodes ground steps s spots
 
 -- no more is held than may be

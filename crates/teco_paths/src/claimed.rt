@@ -1,65 +1,120 @@
 //! The claims of a certificate.
+ghost use Rattle.std.specs.Prelude.{◌≡◌, ℕ, IfOk, OnOk};
+ghost use Rattle.teco_paths.specs.Sure.{IsCertain};
+ghost use Rattle.teco_poly.specs.Polynomial as poly;
 
+use crate::coefficients::coefficients;
 use crate::course::Course;
-use crate::cut::case_of;
+use crate::cut::{Cut, case_of};
 use crate::entry::entry_cut;
 use crate::fault::PathFault;
 use crate::shapes::shapes;
 use crate::translated::cuts_of;
+use crate::used::used;
 use crate::verdict::check_claims;
 use std::alloc::Global;
 use teco_claims::Claims;
 use teco_expansion::Nodes;
-use teco_model::ArgumentRange;
-use teco_poly::Poly;
+use teco_model::{ArgumentRange, Needs};
 
-// The highest power of a polynomial.
-const HIGHEST: usize = 8;
-
-// The greatest number that, times a power of N, a polynomial is no less than.
-fn coefficient(polynomial: &Poly, power: &Poly) -> u64 {
-    let mut found = 0u64;
-    for bit in (0..u64::BITS).rev() {
-        let more = found | (1 << bit);
-        match Poly::number(more).mul(power) {
-            Some(multiple) if multiple.le(polynomial) => found = more,
-            _ => {}
-        }
-    }
-    found
+/// The nodes of a macro, and what is known where it is called: the lengths of the library's texts by
+/// the places of their registers, the argument that is declared, and which files are open.
+#[derive(Clone, Copy)]
+pub struct Called<'a> {
+    pub nodes: &'a Nodes<'a>,
+    pub lengths: &'a [Option<usize>],
+    pub argument: Option<ArgumentRange>,
+    pub needs: Needs,
 }
 
-// The coefficients of a polynomial.
-fn coefficients(polynomial: &Poly, alloc: Global) -> Result<Vec<u64>, PathFault> {
-    let mut found = Vec::new(alloc);
-    let mut power = Some(Poly::number(1));
-    for _ in 0..=HIGHEST {
-        let Some(this) = power else {
-            return Ok(found);
-        };
-        found.push(coefficient(polynomial, &this))?;
-        power = this.mul(&Poly::variable());
-    }
-    Ok(found)
+// Claims as paths are followed by: the cut points, which measures the macro uses, and the coefficients.
+#[derive(Drop)]
+struct Prepared {
+    cuts: Vec<Cut>,
+    used: Vec<bool>,
+    commands: Vec<u64>,
+    size: Vec<u64>,
 }
 
-/// Follows all paths of a macro by the claims of a certificate.
-pub fn check_claimed(
-    nodes: &Nodes<'_>,
-    argument: Option<ArgumentRange>,
-    claimed: &Claims,
-    alloc: Global,
-) -> Result<(), PathFault> {
+// The shapes of states at the nodes.
+fn stands(called: &Called<'_>, prepared: &Prepared, alloc: Global) -> Result<Vec<Cut>, PathFault> {
+    let course = Course {
+        nodes: called.nodes,
+        lengths: called.lengths,
+        needs: called.needs,
+        used: &prepared.used,
+        cuts: &prepared.cuts,
+        commands: &prepared.commands,
+        size: &prepared.size,
+    };
+    let first = entry_cut(called.lengths, called.argument, &prepared.used, alloc)?;
+    let entry = case_of(&prepared.size, &first, alloc)?;
+    shapes(&course, entry, alloc)
+}
+
+// The same with cut points.
+fn with_cuts(prepared: Prepared, cuts: Vec<Cut>) -> Prepared
+    ensures commands { result.commands.items ≡ prepared.commands.items }
+    ensures size { result.size.items ≡ prepared.size.items }
+{
+    let Prepared {
+        cuts: _none,
+        used,
+        commands,
+        size,
+    } = prepared;
+    Prepared {
+        cuts,
+        used,
+        commands,
+        size,
+    }
+}
+
+// What is claimed of a macro, but for the cut points.
+fn bounds(nodes: &Nodes<'_>, claimed: &Claims, alloc: Global) -> Result<Prepared, PathFault>
+    ensures commands { IfOk result (λ prepared. (n : ℕ)
+        → poly.value prepared.commands.items n ≡ poly.value claimed.now.commands n) }
+    ensures size { IfOk result (λ prepared. (n : ℕ)
+        → poly.value prepared.size.items n ≡ poly.value claimed.now.size n) }
+{
     let commands = coefficients(&claimed.commands, alloc)?;
     let size = coefficients(&claimed.size, alloc)?;
-    let entry = case_of(&size, &entry_cut(argument, alloc)?, alloc)?;
-    let stands = shapes(nodes, entry, alloc)?;
-    let cuts = cuts_of(nodes, claimed, &stands, alloc)?;
+    let used = used(nodes, claimed, alloc)?;
+    Ok(Prepared {
+        cuts: Vec::new(alloc),
+        used,
+        commands,
+        size,
+    })
+}
+
+// Follows all paths by them.
+fn check_prepared(called: &Called<'_>, prepared: &Prepared, alloc: Global) -> Result<(), PathFault>
+    ensures { OnOk result (IsCertain called.now.nodes.now called.now.lengths.now called.now.argument
+        called.now.needs prepared.now.commands.items prepared.now.size.items) }
+{
     let course = Course {
-        nodes,
-        cuts: &cuts,
-        commands: &commands,
-        size: &size,
+        nodes: called.nodes,
+        lengths: called.lengths,
+        needs: called.needs,
+        used: &prepared.used,
+        cuts: &prepared.cuts,
+        commands: &prepared.commands,
+        size: &prepared.size,
     };
-    check_claims(&course, argument, alloc)
+    check_claims(&course, called.argument, alloc)
+}
+
+/// Follows all paths of a macro by the claims of a certificate. Where nothing is refused, every run of
+/// it ends within the commands that the certificate says, and holds no more than it says.
+pub fn check_claimed(called: &Called<'_>, claimed: &Claims, alloc: Global) -> Result<(), PathFault>
+    ensures { OnOk result (IsCertain called.now.nodes.now called.now.lengths.now called.now.argument
+        called.now.needs claimed.now.commands claimed.now.size) }
+{
+    let first = bounds(called.nodes, claimed, alloc)?;
+    let stands = stands(called, &first, alloc)?;
+    let cuts = cuts_of(called.nodes, claimed, &stands, &first.used, alloc)?;
+    let prepared = with_cuts(first, cuts);
+    check_prepared(called, &prepared, alloc)
 }

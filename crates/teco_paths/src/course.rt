@@ -8,12 +8,18 @@ use std::alloc::Global;
 use std::marker::Model;
 use teco_expansion::Nodes;
 use teco_linear::{Form, LinearFault, Term};
+use teco_model::Needs;
 
-/// The nodes of a macro, the cut points, and how many commands a run may take and how much it may
-/// hold: polynomials in N, each by its coefficients, that of the constant first.
+/// The nodes of a macro, the lengths of the library's texts by the places of their registers, the
+/// files that are open, which measures the macro uses, by their places, the cut points, and how many
+/// commands a run may take and how much it may hold: polynomials in N, each by its coefficients, that
+/// of the constant first.
 #[derive(Drop)]
 pub struct Course<'a> {
     pub nodes: &'a Nodes<'a>,
+    pub lengths: &'a [Option<usize>],
+    pub needs: Needs,
+    pub used: &'a [bool],
     pub cuts: &'a [Cut],
     pub commands: &'a [u64],
     pub size: &'a [u64],
@@ -26,6 +32,8 @@ impl<'a> Model for Course<'a> {
 
     ghost view = { λ c. record {
       nodes = c.nodes.now;
+      lengths = c.lengths.now;
+      needs = c.needs;
       cuts = c.cuts.now;
       commands = c.commands.now;
       size = c.size.now;

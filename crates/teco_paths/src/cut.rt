@@ -18,12 +18,14 @@ use teco_rows::applied::{copied_constraints, form_at};
 use teco_rows::case::{Case, Shape};
 
 /// A cut point: where it stands, the shape of a state there, which measures it has, by their places,
-/// and what is claimed of these: each symbol is the measure in its place.
+/// of which of these is told what always holds, and what is claimed: each symbol is the measure in its
+/// place.
 #[derive(Drop)]
 pub struct Cut {
     pub number: usize,
     pub shape: Shape,
     pub present: Vec<bool>,
+    pub told: Vec<bool>,
     pub claims: Vec<Form>,
 }
 
@@ -72,7 +74,7 @@ fn known(size: &[u64], cut: &Cut, alloc: Global) -> Result<Vec<Form>, PathFault>
     ensures { IfOk result (λ all. AreKnown size.now cut.now all.items) }
 {
     let mut all = copied_constraints(&cut.claims, alloc)?;
-    let mut facts = facts(size, &cut.present, alloc)?;
+    let mut facts = facts(size, &cut.told, alloc)?;
     all.append(&mut facts)?;
     Ok(all)
 }

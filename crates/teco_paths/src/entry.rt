@@ -1,8 +1,12 @@
 //! What is known at the entry of a macro.
-ghost use Rattle.std.specs.Prelude.{◌≡◌, ◌-ℤ◌, ℕ, pos, IfOk, OnOk, is_some};
+ghost use Rattle.std.specs.Prelude.{◌≡◌, ◌-ℤ◌, ◌<◌, ◌+◌, ◌*◌, ℕ, List, Option, pos, IfOk, IfSome, OnOk, None, Some};
+ghost use Rattle.std.specs.Prelude.{is_some, false};
+ghost use Rattle.std.specs.Prelude.{slice_index_or};
+ghost use Rattle.teco_base.specs.declared.TheConstants.{REGISTERS};
+ghost use Rattle.teco_model.specs.Macros.{ArgumentRange};
 ghost use Rattle.std.specs.List.{All};
 ghost use Rattle.teco_linear.specs.Form.{Valuation, value};
-ghost use Rattle.teco_paths.specs.Entry.{AreThere, IsEntryClaim, IsEntryCut, is_there, lengths};
+ghost use Rattle.teco_paths.specs.Entry.{AreThere, IsEntryClaim, IsEntryCut, is_there, length_if, used_lengths};
 ghost use Rattle.teco_paths.specs.Symbols.{measure_of};
 ghost use Rattle.teco_verifier.specs.table.Printed.{steps_before};
 
@@ -26,7 +30,7 @@ const FIRST_LENGTH: u32 = 8;
 const ARGUMENT: u32 = 13;
 
 // How many places there are at an entry.
-const PLACES: usize = 7 + 7 * REGISTERS;
+pub const PLACES: usize = 7 + 7 * REGISTERS;
 
 // How many steps were done there.
 fn steps_done(argument: Option<ArgumentRange>) -> u32
@@ -55,14 +59,28 @@ fn most_held(alloc: Global) -> Result<Form, PathFault>
     Ok(form)
 }
 
-// N is no less than what is held with the texts of all registers.
-fn most_in_all(alloc: Global) -> Result<Form, PathFault>
+// The length of a register's text, or 0 where the macro does not use it.
+fn length_used(used: &[bool], register: u32, alloc: Global) -> Result<Form, PathFault>
+    requires { register < REGISTERS }
     ensures { IfOk result (λ form. (n : ℕ) (v : Valuation)
-        → value form n v ≡ (pos n -ℤ v HELD) -ℤ lengths v REGISTERS) }
+        → value form n v ≡ length_if (slice_index_or used.now (8 + 7 * register) false) v register) }
+{
+    let place = FIRST_LENGTH + 7 * register;
+    if used.get(place as usize) == Some(&true) {
+        Ok(Form::symbol(place, alloc)?)
+    } else {
+        Ok(Form::zero(alloc))
+    }
+}
+
+// N is no less than what is held with the texts of the registers that the macro uses.
+fn most_in_all(used: &[bool], alloc: Global) -> Result<Form, PathFault>
+    ensures { IfOk result (λ form. (n : ℕ) (v : Valuation)
+        → value form n v ≡ (pos n -ℤ v HELD) -ℤ used_lengths used.now v REGISTERS) }
 {
     let mut form = most_held(alloc)?;
     for register in 0..REGISTERS as u32 {
-        let length = Form::symbol(FIRST_LENGTH + 7 * register, alloc)?;
+        let length = length_used(used, register, alloc)?;
         form = form.sub(&length, alloc)?;
     }
     Ok(form)
@@ -74,8 +92,8 @@ fn add_range(
     argument: Option<ArgumentRange>,
     alloc: Global,
 ) -> Result<(), PathFault>
-    ensures { OnOk result (All (IsEntryClaim argument) claims.old.items
-        → All (IsEntryClaim argument) claims.new.items) }
+    ensures { OnOk result ((lengths : List (Option ℕ)) → All (IsEntryClaim lengths argument) claims.old.items
+        → All (IsEntryClaim lengths argument) claims.new.items) }
 {
     if let Some(range) = argument {
         claims.push(no_less(ARGUMENT, range.low(), alloc)?)?;
@@ -84,15 +102,63 @@ fn add_range(
     Ok(())
 }
 
+// How long the text of a register is, if that is known.
+fn length_at(lengths: &[Option<usize>], register: u32) -> Option<u32>
+    ensures { IfSome result (λ long. slice_index_or lengths.now register None ≡ Some long) }
+{
+    match lengths.get(register as usize) {
+        Some(Some(long)) => match u32::try_from(*long) {
+            Ok(long) => Some(long),
+            Err(_) => None,
+        },
+        _ => None,
+    }
+}
+
+// Adds how long it is.
+fn add_length(
+    claims: &mut Vec<Form>,
+    lengths: &[Option<usize>],
+    register: u32,
+    alloc: Global,
+) -> Result<(), PathFault>
+    requires { register < REGISTERS }
+    ensures { OnOk result ((argument : Option ArgumentRange) → All (IsEntryClaim lengths.now argument) claims.old.items
+        → All (IsEntryClaim lengths.now argument) claims.new.items) }
+{
+    if let Some(long) = length_at(lengths, register) {
+        claims.push(no_less(FIRST_LENGTH + 7 * register, long, alloc)?)?;
+        claims.push(no_more(FIRST_LENGTH + 7 * register, long, alloc)?)?;
+    }
+    Ok(())
+}
+
+// How long the texts of registers are, where that is known.
+fn length_claims(lengths: &[Option<usize>], alloc: Global) -> Result<Vec<Form>, PathFault>
+    ensures { IfOk result (λ claims. (argument : Option ArgumentRange)
+        → All (IsEntryClaim lengths.now argument) claims.items) }
+{
+    let mut claims = Vec::new(alloc);
+    for register in 0..REGISTERS as u32 {
+        add_length(&mut claims, lengths, register, alloc)?;
+    }
+    Ok(claims)
+}
+
 // What is claimed at the entry.
-fn entry_claims(argument: Option<ArgumentRange>, alloc: Global) -> Result<Vec<Form>, PathFault>
-    ensures { IfOk result (λ claims. All (IsEntryClaim argument) claims.items) }
+fn entry_claims(
+    lengths: &[Option<usize>],
+    argument: Option<ArgumentRange>,
+    used: &[bool],
+    alloc: Global,
+) -> Result<Vec<Form>, PathFault>
+    ensures { IfOk result (λ claims. All (IsEntryClaim lengths.now argument) claims.items) }
 {
     let done = steps_done(argument);
-    let mut claims = Vec::new(alloc);
+    let mut claims = length_claims(lengths, alloc)?;
     claims.push(no_less(STEPS, done, alloc)?)?;
     claims.push(no_more(STEPS, done, alloc)?)?;
-    claims.push(most_in_all(alloc)?)?;
+    claims.push(most_in_all(used, alloc)?)?;
     add_range(&mut claims, argument, alloc)?;
     Ok(claims)
 }
@@ -127,12 +193,27 @@ fn present(has_argument: bool, alloc: Global) -> Result<Vec<bool>, PathFault>
     Ok(all)
 }
 
+/// The places that are marked in both.
+pub fn both(present: &[bool], used: &[bool], alloc: Global) -> Result<Vec<bool>, PathFault> {
+    let mut told = Vec::new(alloc);
+    for place in 0..present.len() {
+        told.push(present[place] && used.get(place) == Some(&true))?;
+    }
+    Ok(told)
+}
+
 /// The cut point that the state at an entry is as: what it says is so.
-pub fn entry_cut(argument: Option<ArgumentRange>, alloc: Global) -> Result<Cut, PathFault>
-    ensures { IfOk result (λ cut. IsEntryCut argument cut) }
+pub fn entry_cut(
+    lengths: &[Option<usize>],
+    argument: Option<ArgumentRange>,
+    used: &[bool],
+    alloc: Global,
+) -> Result<Cut, PathFault>
+    ensures { IfOk result (λ cut. IsEntryCut lengths.now argument cut) }
 {
     let present = present(argument.is_some(), alloc)?;
-    let claims = entry_claims(argument, alloc)?;
+    let claims = entry_claims(lengths, argument, used, alloc)?;
+    let told = both(&present, used, alloc)?;
     let mut operators = Vec::new(alloc);
     operators.push(None)?;
     Ok(Cut {
@@ -143,6 +224,7 @@ pub fn entry_cut(argument: Option<ArgumentRange>, alloc: Global) -> Result<Cut, 
             pushes: 0,
         },
         present,
+        told,
         claims,
     })
 }

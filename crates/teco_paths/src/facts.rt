@@ -217,9 +217,9 @@ fn add_ends(facts: &mut Vec<Form>, place: usize, alloc: Global) -> Result<(), Pa
     add_most(facts, symbol, alloc)
 }
 
-/// What always holds of states with the measures in the places that are marked, where the size that
+/// What always holds of states and of the measures in the places that are marked, where the size that
 /// is claimed may be held.
-pub fn facts(size: &[u64], present: &[bool], alloc: Global) -> Result<Vec<Form>, PathFault>
+pub fn facts(size: &[u64], told: &[bool], alloc: Global) -> Result<Vec<Form>, PathFault>
     ensures { IfOk result (λ facts. All (IsFact size.now) facts.items) }
 {
     let mut facts = Vec::new(alloc);
@@ -227,8 +227,8 @@ pub fn facts(size: &[u64], present: &[bool], alloc: Global) -> Result<Vec<Form>,
     for at in 0..ORDER.len() {
         facts.push(bound(&ORDER[at], alloc)?)?;
     }
-    for place in 0..present.len() {
-        if present[place] {
+    for place in 0..told.len() {
+        if told[place] {
             add_ends(&mut facts, place, alloc)?;
         }
     }

@@ -17,6 +17,9 @@ pub enum PathFault {
     /// What comes of an element is not told.
     #[error("what comes of element {0} is not told")]
     NotTold(usize),
+    /// The file that an element wants is not one of those that are open.
+    #[error("the file that element {0} wants is not open")]
+    NotOpen(usize),
     /// A condition of an element is not implied.
     #[error("a condition of element {0} is not implied")]
     Condition(usize),

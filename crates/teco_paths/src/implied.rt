@@ -3,13 +3,14 @@ ghost use Rattle.std.specs.Prelude.{◌≡◌, IfOk};
 ghost use Rattle.std.specs.Bool.{OnTrue};
 ghost use Rattle.std.specs.List.{All};
 ghost use Rattle.teco_linear.specs.Implied.{Implies};
-ghost use Rattle.teco_paths.specs.Steps.{IsImpossible};
+ghost use Rattle.teco_paths.specs.Steps.{AreMet, IsImpossible, IsKept};
 
 use crate::fault::PathFault;
-use crate::multipliers::{Found, find};
+use crate::multipliers::{Depth, Found, find};
 use std::alloc::Global;
 use teco_linear::{Form, LinearFault, is_implied};
 use teco_rows::case::Case;
+use teco_rows::outcomes::{Guarded, Outcomes};
 
 // Whether multipliers show it. Where a number passes its bounds, they do not.
 fn is_shown(
@@ -34,26 +35,46 @@ fn is_shown(
 }
 
 // Whether multipliers are found that show it, by way of what shares symbols with the seeds.
-fn is_found(case: &Case, seeds: &[Form], target: &Form, alloc: Global) -> Result<bool, PathFault>
+fn is_found(
+    case: &Case,
+    seeds: &[Form],
+    target: &Form,
+    depth: Depth,
+    alloc: Global,
+) -> Result<bool, PathFault>
     ensures { IfOk result (λ answer. OnTrue answer (Implies case.now.constraints.items target.now)) }
 {
-    let Some(found) = find(&case.constraints, seeds, target, alloc)? else {
+    let Some(found) = find(&case.constraints, seeds, target, depth, alloc)? else {
         return Ok(false);
     };
     is_shown(&case.constraints, &found, target, alloc)
+}
+
+// Whether multipliers are sought and found that show it.
+fn is_shown_by(case: &Case, target: &Form, depth: Depth, alloc: Global) -> Result<bool, PathFault>
+    ensures { IfOk result (λ answer. OnTrue answer (Implies case.now.constraints.items target.now)) }
+{
+    let mut seeds = Vec::new(alloc);
+    seeds.push(target.add(&Form::zero(alloc), alloc)?)?;
+    is_found(case, &seeds, target, depth, alloc)
 }
 
 /// Whether a form is found to be at least 0 wherever the constraints of a case hold.
 pub fn is_so(case: &Case, target: &Form, alloc: Global) -> Result<bool, PathFault>
     ensures { IfOk result (λ answer. OnTrue answer (Implies case.now.constraints.items target.now)) }
 {
-    let mut seeds = Vec::new(alloc);
-    seeds.push(target.add(&Form::zero(alloc), alloc)?)?;
-    is_found(case, &seeds, target, alloc)
+    is_shown_by(case, target, Depth::All, alloc)
 }
 
-/// Whether all of these are.
-pub fn are_so(case: &Case, targets: &[Form], alloc: Global) -> Result<bool, PathFault>
+/// Whether it is found to be so by what is near the target, which takes less time.
+pub fn is_so_nearby(case: &Case, target: &Form, alloc: Global) -> Result<bool, PathFault>
+    ensures { IfOk result (λ answer. OnTrue answer (Implies case.now.constraints.items target.now)) }
+{
+    is_shown_by(case, target, Depth::Near, alloc)
+}
+
+// Whether all of these are.
+fn are_so(case: &Case, targets: &[Form], alloc: Global) -> Result<bool, PathFault>
     ensures { IfOk result (λ answer.
         OnTrue answer (All (Implies case.now.constraints.items) targets.now)) }
 {
@@ -65,6 +86,48 @@ pub fn are_so(case: &Case, targets: &[Form], alloc: Global) -> Result<bool, Path
     Ok(true)
 }
 
+// Whether a guarded condition is found to hold wherever its constraints do.
+fn is_guarded(guarded: &Guarded, alloc: Global) -> Result<bool, PathFault>
+    ensures { IfOk result (λ answer. OnTrue answer (IsKept guarded.now)) }
+{
+    let mut seeds = Vec::new(alloc);
+    seeds.push(guarded.wanted.add(&Form::zero(alloc), alloc)?)?;
+    let Some(found) = find(
+        &guarded.constraints,
+        &seeds,
+        &guarded.wanted,
+        Depth::All,
+        alloc,
+    )?
+    else {
+        return Ok(false);
+    };
+    is_shown(&guarded.constraints, &found, &guarded.wanted, alloc)
+}
+
+// Whether all of these are.
+fn are_guarded(all: &[Guarded], alloc: Global) -> Result<bool, PathFault>
+    ensures { IfOk result (λ answer. OnTrue answer (All IsKept all.now)) }
+{
+    for guarded in all {
+        if !is_guarded(guarded, alloc)? {
+            return Ok(false);
+        }
+    }
+    Ok(true)
+}
+
+/// Whether the conditions of outcomes are found to hold wherever the constraints of a case do.
+pub fn are_met(case: &Case, outcomes: &Outcomes, alloc: Global) -> Result<bool, PathFault>
+    ensures { IfOk result (λ answer. OnTrue answer (AreMet case.now outcomes.now)) }
+{
+    let are_all_so = are_so(case, &outcomes.conditions, alloc)?;
+    if !are_all_so {
+        return Ok(false);
+    }
+    are_guarded(&outcomes.guarded, alloc)
+}
+
 /// Whether no state is found to be as a case says, of whose constraints so many can all hold: they
 /// imply that -1 is at least 0.
 pub fn is_impossible(case: &Case, known: usize, alloc: Global) -> Result<bool, PathFault>
@@ -72,5 +135,5 @@ pub fn is_impossible(case: &Case, known: usize, alloc: Global) -> Result<bool, P
 {
     let below = Form::constant(-1, alloc)?;
     let new = case.constraints.get(known..).unwrap_or(&[]);
-    is_found(case, new, &below, alloc)
+    is_found(case, new, &below, Depth::Near, alloc)
 }

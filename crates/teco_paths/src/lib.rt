@@ -4,6 +4,7 @@
 
 mod chains;
 pub mod claimed;
+pub mod coefficients;
 pub mod course;
 pub mod cut;
 pub mod entry;
@@ -22,7 +23,6 @@ mod sharp;
 pub mod spot;
 pub mod steps;
 pub mod targets;
-#[cfg(test)]
-mod tests;
 pub mod translated;
+mod used;
 pub mod verdict;

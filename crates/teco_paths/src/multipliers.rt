@@ -3,7 +3,7 @@
 use crate::chains::chain;
 use crate::fault::PathFault;
 use crate::kinds::{Kind, highest, highest_in, kinds_of};
-use crate::relevant::relevant;
+use crate::relevant::{near, relevant};
 use std::alloc::Global;
 use teco_linear::{Form, Multiplier};
 use teco_simplex::{Answer, Program, Relation, Row, Sign, SimplexFault, Values};
@@ -13,6 +13,18 @@ const PIVOTS: usize = 2000;
 
 // The highest power of N that constraints are multiplied with.
 const MOST_POWER: u32 = 2;
+
+// How many programs of nearby constraints there are.
+const NEAR: usize = 2;
+
+/// How far multipliers are sought.
+#[derive(Clone, Copy, PartialEq, Eq)]
+pub enum Depth {
+    /// By linear programs of nearby constraints.
+    Near,
+    /// And by one of all constraints.
+    All,
+}
 
 /// Multipliers, and the divisor.
 #[derive(Drop)]
@@ -193,20 +205,50 @@ fn by_program(
     }
 }
 
-/// Looks for multipliers that show a target, by way of the constraints that share symbols with the
-/// seeds: for chains of differences first, and then by a linear program.
+// By linear programs of more and more constraints: first of those that speak of the seeds' symbols
+// alone, and last, if that is wanted, of all that are connected with the seeds.
+fn by_programs(
+    constraints: &[Form],
+    seeds: &[Form],
+    target: &Form,
+    depth: Depth,
+    alloc: Global,
+) -> Result<Option<Found>, PathFault> {
+    let mut tried = 0;
+    for steps in 0..NEAR {
+        let places = near(constraints, seeds, steps, alloc)?;
+        if places.len() > tried {
+            tried = places.len();
+            let found = by_program(constraints, &places, target, alloc)?;
+            if found.is_some() {
+                return Ok(found);
+            }
+        }
+    }
+    if depth == Depth::All {
+        let places = relevant(constraints, seeds, alloc)?;
+        if places.len() > tried {
+            return by_program(constraints, &places, target, alloc);
+        }
+    }
+    Ok(None)
+}
+
+/// Looks for multipliers that show a target, by way of the constraints that are connected with the
+/// seeds by symbols: for chains of differences first, and then by linear programs.
 pub fn find(
     constraints: &[Form],
     seeds: &[Form],
     target: &Form,
+    depth: Depth,
     alloc: Global,
 ) -> Result<Option<Found>, PathFault> {
     if target.is_harmless() {
         return Ok(Some(once(&[], alloc)?));
     }
     let places = relevant(constraints, seeds, alloc)?;
-    match chain(constraints, &places, target, alloc)? {
-        Some(found) => Ok(Some(once(&found, alloc)?)),
-        None => by_program(constraints, &places, target, alloc),
+    if let Some(found) = chain(constraints, &places, target, alloc)? {
+        return Ok(Some(once(&found, alloc)?));
     }
+    by_programs(constraints, seeds, target, depth, alloc)
 }

@@ -2,20 +2,23 @@
 ghost use Rattle.std.specs.Prelude.{◌≡◌, ◌<◌, ◌≤◌, length, IfOk, Some, true, false};
 ghost use Rattle.std.specs.Bool.{OnTrue};
 ghost use Rattle.teco_model.specs.declared.kind.Kind.TheVariants as kinds;
+ghost use Rattle.teco_model.specs.Element as model;
 ghost use Rattle.teco_model.specs.Element.{seen};
-ghost use Rattle.teco_paths.specs.Steps.{HasPair, IsRead, LawAt, Passes};
+ghost use Rattle.teco_search_outcomes.specs.Pages.{PageLaw};
+ghost use Rattle.teco_paths.specs.Steps.{HasPair, IsMet, IsRead, LawAt, Passes};
 
+use crate::course::Course;
 use crate::fault::PathFault;
 use std::alloc::Global;
-use teco_expansion::Nodes;
-use teco_model::kind::Flow;
-use teco_model::{Element, Kind};
+use teco_flow_outcomes::flow::turn;
+use teco_model::kind::{Flow, Page};
+use teco_model::{Element, Kind, Needs};
 use teco_outcomes::elements::outcomes_of;
-use teco_outcomes::flow::turn;
-use teco_outcomes::searches::search;
 use teco_rows::case::Case;
 use teco_rows::fault::Fault;
 use teco_rows::outcomes::Outcomes;
+use teco_search_outcomes::pages::{read_pages, write_pages};
+use teco_search_outcomes::searches::search;
 
 /// The outcomes of a step that changes nothing but the text that is executed.
 pub fn passing(case: &Case, alloc: Global) -> Result<Outcomes, Fault>
@@ -41,26 +44,36 @@ fn is_told(answers: bool, is_inside: bool) -> bool
     answers || is_inside
 }
 
+// The outcomes of a command on pages.
+fn told_of(case: &Case, page: Page, alloc: Global) -> Result<Outcomes, Fault>
+    ensures { IfOk result (λ all. (e : model.Element) → e.kind ≡ kinds.Page page → PageLaw page e case.now all) }
+{
+    match page {
+        Page::Next | Page::Write => write_pages(case, page, alloc),
+        Page::Append | Page::Yank => read_pages(case, page, alloc),
+    }
+}
+
 // The outcomes of a search. It answers where it has a colon or ; is behind it, and else leaves its
 // iteration, where one is open in its text.
 fn search_at(
-    nodes: &Nodes<'_>,
+    course: &Course<'_>,
     number: usize,
     case: &Case,
     element: &Element,
     alloc: Global,
 ) -> Result<Outcomes, PathFault>
     requires one { 0 < number }
-    requires last { number ≤ length nodes.now }
-    requires reads { IsRead nodes.now number (Some (seen element.now)) }
-    ensures { IfOk result (λ all. LawAt nodes.now number (seen element.now) case.now all) }
+    requires last { number ≤ length course.now.nodes }
+    requires reads { IsRead course.now.nodes number (Some (seen element.now)) }
+    ensures { IfOk result (λ all. LawAt course.now.nodes course.now.needs number (seen element.now) case.now all) }
 {
     teco_law_expansion::laws::nodes_are_sound();
     let Kind::Search(kind) = element.kind else {
         return Err(PathFault::NotTold(number));
     };
-    let answers = nodes.colon(number);
-    let is_inside = nodes.inside(number);
+    let answers = course.nodes.colon(number);
+    let is_inside = course.nodes.inside(number);
     if !is_told(answers, is_inside) {
         return Err(PathFault::NotTold(number));
     }
@@ -70,22 +83,58 @@ fn search_at(
     }
 }
 
-/// The outcomes of an element at its node, where a sum fits 32 bits.
-pub fn outcomes_at(
-    nodes: &Nodes<'_>,
+// Whether the file that a command on pages wants is open.
+fn is_met(needs: Needs, page: Page) -> bool
+    ensures { OnTrue result (IsMet needs page) }
+{
+    match page {
+        Page::Next | Page::Write => needs.output,
+        Page::Append | Page::Yank => needs.input,
+    }
+}
+
+// The outcomes of a command on pages, where its file is open.
+fn page_at(
+    course: &Course<'_>,
     number: usize,
     case: &Case,
     element: &Element,
     alloc: Global,
 ) -> Result<Outcomes, PathFault>
     requires one { 0 < number }
-    requires last { number ≤ length nodes.now }
-    requires reads { IsRead nodes.now number (Some (seen element.now)) }
-    ensures { IfOk result (λ all. LawAt nodes.now number (seen element.now) case.now all) }
+    requires last { number ≤ length course.now.nodes }
+    requires reads { IsRead course.now.nodes number (Some (seen element.now)) }
+    ensures { IfOk result (λ all. LawAt course.now.nodes course.now.needs number (seen element.now) case.now all) }
+{
+    teco_law_expansion::laws::nodes_are_sound();
+    let Kind::Page(page) = element.kind else {
+        return Err(PathFault::NotTold(number));
+    };
+    if !is_met(course.needs, page) {
+        return Err(PathFault::NotOpen(number));
+    }
+    match told_of(case, page, alloc) {
+        Ok(all) => Ok(all),
+        Err(_) => Err(PathFault::NotTold(number)),
+    }
+}
+
+// The outcomes of any other element, where a sum fits 32 bits.
+fn fitting_at(
+    course: &Course<'_>,
+    number: usize,
+    case: &Case,
+    element: &Element,
+    alloc: Global,
+) -> Result<Outcomes, PathFault>
+    requires one { 0 < number }
+    requires last { number ≤ length course.now.nodes }
+    requires reads { IsRead course.now.nodes number (Some (seen element.now)) }
+    ensures { IfOk result (λ all. LawAt course.now.nodes course.now.needs number (seen element.now) case.now all) }
 {
     teco_law_expansion::laws::nodes_are_sound();
     if !has_pair(element.kind) {
-        return search_at(nodes, number, case, element, alloc);
+        return Err(PathFault::NotTold(number));
     }
     match outcomes_of(case, element, false, alloc) {
         Ok(all) => Ok(all),
@@ -93,18 +142,57 @@ pub fn outcomes_at(
     }
 }
 
-/// The outcomes of an element at its node, where a sum may be any number of 32 bits.
-pub fn wrapped_at(
-    nodes: &Nodes<'_>,
+// The outcomes of a command on pages, or of `nA`, which tells a character.
+fn page_or_character(
+    course: &Course<'_>,
     number: usize,
     case: &Case,
     element: &Element,
     alloc: Global,
 ) -> Result<Outcomes, PathFault>
     requires one { 0 < number }
-    requires last { number ≤ length nodes.now }
-    requires reads { IsRead nodes.now number (Some (seen element.now)) }
-    ensures { IfOk result (λ all. LawAt nodes.now number (seen element.now) case.now all) }
+    requires last { number ≤ length course.now.nodes }
+    requires reads { IsRead course.now.nodes number (Some (seen element.now)) }
+    ensures { IfOk result (λ all. LawAt course.now.nodes course.now.needs number (seen element.now) case.now all) }
+{
+    match fitting_at(course, number, case, element, alloc) {
+        Ok(all) => Ok(all),
+        Err(_) => page_at(course, number, case, element, alloc),
+    }
+}
+
+/// The outcomes of an element at its node, where a sum fits 32 bits.
+pub fn outcomes_at(
+    course: &Course<'_>,
+    number: usize,
+    case: &Case,
+    element: &Element,
+    alloc: Global,
+) -> Result<Outcomes, PathFault>
+    requires one { 0 < number }
+    requires last { number ≤ length course.now.nodes }
+    requires reads { IsRead course.now.nodes number (Some (seen element.now)) }
+    ensures { IfOk result (λ all. LawAt course.now.nodes course.now.needs number (seen element.now) case.now all) }
+{
+    match element.kind {
+        Kind::Search(_) => search_at(course, number, case, element, alloc),
+        Kind::Page(_) => page_or_character(course, number, case, element, alloc),
+        _ => fitting_at(course, number, case, element, alloc),
+    }
+}
+
+/// The outcomes of an element at its node, where a sum may be any number of 32 bits.
+pub fn wrapped_at(
+    course: &Course<'_>,
+    number: usize,
+    case: &Case,
+    element: &Element,
+    alloc: Global,
+) -> Result<Outcomes, PathFault>
+    requires one { 0 < number }
+    requires last { number ≤ length course.now.nodes }
+    requires reads { IsRead course.now.nodes number (Some (seen element.now)) }
+    ensures { IfOk result (λ all. LawAt course.now.nodes course.now.needs number (seen element.now) case.now all) }
 {
     teco_law_expansion::laws::nodes_are_sound();
     if !has_pair(element.kind) {
@@ -112,6 +200,6 @@ pub fn wrapped_at(
     }
     match outcomes_of(case, element, true, alloc) {
         Ok(all) => Ok(all),
-        Err(_) => Err(PathFault::NotTold(number)),
+        Err(_) => Err(PathFault::Condition(number)),
     }
 }

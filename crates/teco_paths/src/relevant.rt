@@ -43,6 +43,13 @@ impl Reached {
         }
     }
 
+    // Whether all symbols of a form are reached.
+    fn covers(&self, form: &Form) -> bool {
+        form.terms()
+            .iter()
+            .all(|term| term.symbol.is_none() || self.has(term))
+    }
+
     // Whether a form shares a symbol, or N, with what is reached. One without any is always taken.
     fn touches(&self, form: &Form) -> bool {
         let is_number = form
@@ -77,6 +84,46 @@ fn spread(constraints: &[Form], reached: &mut Reached, taken: &mut [bool]) -> bo
         }
     }
     is_more
+}
+
+// Reaches the symbols of the constraints that touch what is reached.
+fn widen(constraints: &[Form], reached: &mut Reached, alloc: Global) -> Result<(), PathFault> {
+    let mut touched = Vec::new(alloc);
+    for place in 0..constraints.len() {
+        if reached.touches(&constraints[place]) {
+            touched.push(place)?;
+        }
+    }
+    for place in &touched {
+        if let Some(constraint) = constraints.get(*place) {
+            reached.add(constraint);
+        }
+    }
+    Ok(())
+}
+
+/// The places of the constraints that speak only of symbols of the seeds, or of those that so many
+/// steps by way of constraints lead to.
+pub fn near(
+    constraints: &[Form],
+    seeds: &[Form],
+    steps: usize,
+    alloc: Global,
+) -> Result<Vec<usize>, PathFault> {
+    let mut reached = Reached::none(constraints, seeds, alloc)?;
+    for seed in seeds {
+        reached.add(seed);
+    }
+    for _ in 0..steps {
+        widen(constraints, &mut reached, alloc)?;
+    }
+    let mut places = Vec::new(alloc);
+    for place in 0..constraints.len() {
+        if reached.covers(&constraints[place]) {
+            places.push(place)?;
+        }
+    }
+    Ok(places)
 }
 
 /// The places of the constraints that share a symbol with the seeds, or with another that does.

@@ -2,7 +2,8 @@
 //! nothing is asked of numbers. Nothing is promised of what is found.
 ghost use Rattle.std.specs.Prelude.{◌<◌, ◌≤◌, length};
 
-use crate::cut::{Cut, case_of, copied_shape, is_same_shape};
+use crate::course::Course;
+use crate::cut::{Cut, copied_shape, is_same_shape};
 use crate::fault::PathFault;
 use crate::outcomes::{outcomes_at, passing};
 use crate::spot::Spot;
@@ -44,6 +45,7 @@ fn stand_of(spot: &Spot, alloc: Global) -> Result<Cut, PathFault> {
         number: spot.number,
         shape: copied_shape(&spot.case.shape, alloc)?,
         present: present_in(&spot.case.forms, alloc)?,
+        told: Vec::new(alloc),
         claims: Vec::new(alloc),
     })
 }
@@ -59,18 +61,18 @@ fn is_known(found: &[Cut], stand: &Cut) -> bool {
 
 // What comes of the element of a node, or of the end of a text.
 fn outcomes_behind(
-    nodes: &Nodes<'_>,
+    course: &Course<'_>,
     number: usize,
     case: &Case,
     alloc: Global,
 ) -> Result<Outcomes, PathFault>
     requires one { 0 < number }
-    requires last { number ≤ length nodes.now }
+    requires last { number ≤ length course.now.nodes }
 {
-    match nodes.element(number) {
+    match course.nodes.element(number) {
         Some(element) => match element.kind {
             Kind::Call(_) => Ok(passing(case, alloc)?),
-            _ => outcomes_at(nodes, number, case, &element, alloc),
+            _ => outcomes_at(course, number, case, &element, alloc),
         },
         None => Ok(passing(case, alloc)?),
     }
@@ -101,7 +103,7 @@ fn add_spots(
 
 /// Goes through a macro from a case at its first node, and tells each node that is come to with its
 /// shapes.
-pub fn shapes(nodes: &Nodes<'_>, first: Case, alloc: Global) -> Result<Vec<Cut>, PathFault> {
+pub fn shapes(course: &Course<'_>, first: Case, alloc: Global) -> Result<Vec<Cut>, PathFault> {
     let mut found = Vec::new(alloc);
     let mut ahead = Vec::new(alloc);
     ahead.push(Spot {
@@ -112,7 +114,7 @@ pub fn shapes(nodes: &Nodes<'_>, first: Case, alloc: Global) -> Result<Vec<Cut>,
         let Some(spot) = ahead.pop() else {
             return Ok(found);
         };
-        if spot.number == 0 || spot.number > nodes.len() {
+        if spot.number == 0 || spot.number > course.nodes.len() {
             continue;
         }
         let stand = stand_of(&spot, alloc)?;
@@ -120,14 +122,15 @@ pub fn shapes(nodes: &Nodes<'_>, first: Case, alloc: Global) -> Result<Vec<Cut>,
             continue;
         }
         found.push(stand)?;
-        let outcomes = outcomes_behind(nodes, spot.number, &spot.case, alloc)?;
+        let outcomes = outcomes_behind(course, spot.number, &spot.case, alloc)?;
         let Outcomes {
             conditions: _conditions,
+            guarded: _guarded,
             cases,
             away,
         } = outcomes;
-        add_spots(&mut ahead, nodes, spot.number, false, cases)?;
-        add_spots(&mut ahead, nodes, spot.number, true, away)?;
+        add_spots(&mut ahead, course.nodes, spot.number, false, cases)?;
+        add_spots(&mut ahead, course.nodes, spot.number, true, away)?;
     }
     Err(PathFault::TooLong)
 }

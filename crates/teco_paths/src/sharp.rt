@@ -4,7 +4,7 @@ ghost use Rattle.teco_linear.specs.Form.{Valuation, value};
 ghost use Rattle.teco_paths.specs.Steps.{IsSharper, IsWith};
 
 use crate::fault::PathFault;
-use crate::implied::is_so;
+use crate::implied::is_so_nearby;
 use std::alloc::Global;
 use teco_linear::Form;
 use teco_rows::case::Case;
@@ -42,7 +42,7 @@ pub fn sharpened(case: Case, alloc: Global) -> Result<Case, PathFault>
     let behind = pointer.add(&one, alloc)?;
     let ahead = size.sub(&behind, alloc)?;
     let more = end.sub(&behind, alloc)?;
-    if is_so(&case, &ahead, alloc)? {
+    if is_so_nearby(&case, &ahead, alloc)? {
         with_constraint(case, more)
     } else {
         Ok(case)

@@ -9,7 +9,7 @@ ghost use Rattle.teco_paths.specs.Steps.{IsSmall, IsTextEnd};
 
 use crate::course::{Course, form_of};
 use crate::fault::PathFault;
-use crate::implied::{are_so, is_so};
+use crate::implied::{are_met, is_so};
 use crate::outcomes::{outcomes_at, passing, wrapped_at};
 use crate::possible::{MOST_CASES, possible};
 use crate::spot::Spot;
@@ -105,6 +105,7 @@ fn spots_of(
 {
     let Outcomes {
         conditions: _conditions,
+        guarded: _guarded,
         cases,
         away,
     } = outcomes;
@@ -118,24 +119,24 @@ fn spots_of(
 // The outcomes of an element whose conditions a case implies: those where a sum fits 32 bits, or else
 // those where it may not.
 fn asked_at(
-    nodes: &Nodes<'_>,
+    course: &Course<'_>,
     number: usize,
     case: &Case,
     element: &Element,
     alloc: Global,
 ) -> Result<Outcomes, PathFault>
     requires one { 0 < number }
-    requires last { number ≤ length nodes.now }
-    requires reads { IsRead nodes.now number (Some (seen element.now)) }
-    ensures { IfOk result (λ all. IsAskedAt nodes.now number (seen element.now) case.now all) }
+    requires last { number ≤ length course.now.nodes }
+    requires reads { IsRead course.now.nodes number (Some (seen element.now)) }
+    ensures { IfOk result (λ all. IsAskedAt course.now.nodes course.now.needs number (seen element.now) case.now all) }
 {
-    let outcomes = outcomes_at(nodes, number, case, element, alloc)?;
-    let is_asked = are_so(case, &outcomes.conditions, alloc)?;
+    let outcomes = outcomes_at(course, number, case, element, alloc)?;
+    let is_asked = are_met(case, &outcomes, alloc)?;
     if is_asked {
         return Ok(outcomes);
     }
-    let wrapped = wrapped_at(nodes, number, case, element, alloc)?;
-    let is_so = are_so(case, &wrapped.conditions, alloc)?;
+    let wrapped = wrapped_at(course, number, case, element, alloc)?;
+    let is_so = are_met(case, &wrapped, alloc)?;
     if !is_so {
         return Err(PathFault::Condition(number));
     }
@@ -144,72 +145,86 @@ fn asked_at(
 
 // The spots behind an element.
 fn behind_element(
-    nodes: &Nodes<'_>,
+    course: &Course<'_>,
     number: usize,
     case: &Case,
     element: &Element,
     alloc: Global,
 ) -> Result<Vec<Spot>, PathFault>
     requires one { 0 < number }
-    requires last { number ≤ length nodes.now }
-    requires reads { IsRead nodes.now number (Some (seen element.now)) }
-    ensures { IfOk result (λ spots. GoOn nodes.now number case.now spots.items) }
+    requires last { number ≤ length course.now.nodes }
+    requires reads { IsRead course.now.nodes number (Some (seen element.now)) }
+    ensures { IfOk result (λ spots. GoOn course.now.nodes course.now.needs number case.now spots.items) }
 {
     teco_law_facts::laws::whole_is_kept();
     teco_law_expansion::laws::steps_go_along_nodes();
     teco_law_expansion::laws::stays_loaded();
     teco_law_expansion::laws::nodes_are_sound();
-    if !is_plain(nodes, number, element.kind) {
+    teco_law_tables::laws::files_stay_open();
+    if !is_plain(course.nodes, number, element.kind) {
         return Err(PathFault::NotTold(number));
     }
-    let outcomes = asked_at(nodes, number, case, element, alloc)?;
-    spots_of(nodes, number, case.constraints.len(), outcomes, alloc)
+    let outcomes = asked_at(course, number, case, element, alloc)?;
+    spots_of(
+        course.nodes,
+        number,
+        case.constraints.len(),
+        outcomes,
+        alloc,
+    )
 }
 
 // The spots behind a call, or behind the end of a text.
 fn behind_text(
-    nodes: &Nodes<'_>,
+    course: &Course<'_>,
     number: usize,
     case: &Case,
     alloc: Global,
 ) -> Result<Vec<Spot>, PathFault>
     requires one { 0 < number }
-    requires last { number ≤ length nodes.now }
-    requires reads { IsTextEnd nodes.now number }
-    ensures { IfOk result (λ spots. GoOn nodes.now number case.now spots.items) }
+    requires last { number ≤ length course.now.nodes }
+    requires reads { IsTextEnd course.now.nodes number }
+    ensures { IfOk result (λ spots. GoOn course.now.nodes course.now.needs number case.now spots.items) }
 {
     teco_law_facts::laws::whole_is_kept();
     teco_law_expansion::laws::steps_go_along_nodes();
     teco_law_expansion::laws::stays_loaded();
     teco_law_expansion::laws::nodes_are_sound();
-    if nodes.ways(number) != 1 {
+    teco_law_tables::laws::files_stay_open();
+    if course.nodes.ways(number) != 1 {
         return Err(PathFault::NotTold(number));
     }
     let outcomes = passing(case, alloc)?;
-    let is_asked = are_so(case, &outcomes.conditions, alloc)?;
+    let is_asked = are_met(case, &outcomes, alloc)?;
     if !is_asked {
         return Err(PathFault::Condition(number));
     }
-    spots_of(nodes, number, case.constraints.len(), outcomes, alloc)
+    spots_of(
+        course.nodes,
+        number,
+        case.constraints.len(),
+        outcomes,
+        alloc,
+    )
 }
 
 // The spots behind a node.
 fn behind_node(
-    nodes: &Nodes<'_>,
+    course: &Course<'_>,
     number: usize,
     case: &Case,
     alloc: Global,
 ) -> Result<Vec<Spot>, PathFault>
     requires one { 0 < number }
-    requires last { number ≤ length nodes.now }
-    ensures { IfOk result (λ spots. GoOn nodes.now number case.now spots.items) }
+    requires last { number ≤ length course.now.nodes }
+    ensures { IfOk result (λ spots. GoOn course.now.nodes course.now.needs number case.now spots.items) }
 {
-    match nodes.element(number) {
+    match course.nodes.element(number) {
         Some(element) => match element.kind {
-            Kind::Call(_) => behind_text(nodes, number, case, alloc),
-            _ => behind_element(nodes, number, case, &element, alloc),
+            Kind::Call(_) => behind_text(course, number, case, alloc),
+            _ => behind_element(course, number, case, &element, alloc),
         },
-        None => behind_text(nodes, number, case, alloc),
+        None => behind_text(course, number, case, alloc),
     }
 }
 
@@ -231,5 +246,5 @@ pub fn behind(
     if !is_within {
         return Err(PathFault::Size(number));
     }
-    behind_node(course.nodes, number, case, alloc)
+    behind_node(course, number, case, alloc)
 }

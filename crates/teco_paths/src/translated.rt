@@ -2,6 +2,7 @@
 ghost use Rattle.std.specs.Prelude.{◌<◌, ◌≤◌, length};
 
 use crate::cut::{Cut, copied_shape};
+use crate::entry::both;
 use crate::fault::PathFault;
 use std::alloc::Global;
 use teco_expansion::Nodes;
@@ -146,6 +147,7 @@ fn cut_of(
     nodes: &Nodes<'_>,
     cut: &teco_claims::Cut,
     stand: &Cut,
+    used: &[bool],
     alloc: Global,
 ) -> Result<Cut, PathFault> {
     let number = cut.point;
@@ -158,10 +160,12 @@ fn cut_of(
     }
     let mut present = Vec::new(alloc);
     present.extend_from_slice(&stand.present)?;
+    let told = both(&present, used, alloc)?;
     Ok(Cut {
         number,
         shape: copied_shape(&stand.shape, alloc)?,
         present,
+        told,
         claims,
     })
 }
@@ -172,13 +176,14 @@ pub fn cuts_of(
     nodes: &Nodes<'_>,
     claimed: &teco_claims::Claims,
     stands: &[Cut],
+    used: &[bool],
     alloc: Global,
 ) -> Result<Vec<Cut>, PathFault> {
     let mut cuts = Vec::new(alloc);
     for cut in &claimed.cuts {
         for stand in stands {
             if stand.number == cut.point && cut.point != 1 {
-                cuts.push(cut_of(nodes, cut, stand, alloc)?)?;
+                cuts.push(cut_of(nodes, cut, stand, used, alloc)?)?;
             }
         }
     }

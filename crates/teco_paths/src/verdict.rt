@@ -18,13 +18,13 @@ pub fn check_claims(
     alloc: Global,
 ) -> Result<(), PathFault>
     ensures { OnOk result
-        (IsCertain course.now.nodes argument course.now.commands course.now.size) }
+        (IsCertain course.now.nodes course.now.lengths argument course.now.needs course.now.commands course.now.size) }
 {
     teco_law_expansion::laws::steps_are_alike();
     teco_law_expansion::laws::runs_are_alike();
     teco_law_expansion::laws::readings_are_alike();
     teco_law_expansion::laws::numbers_are_pending();
-    let cut = entry_cut(argument, alloc)?;
+    let cut = entry_cut(course.lengths, argument, course.used, alloc)?;
     let case = case_of(course.size, &cut, alloc)?;
     follow_cuts(course, alloc)?;
     follow_case(course, 1, &case, alloc)

@@ -1,11 +1,11 @@
 -- Where the line places of 1 and of 0 lie, character by character.
 use Rattle.std.proofs.Common.{◌≡◌, ℕ, zero, suc, ◌+◌, ◌≤◌, ◌<◌, ◌⊎◌, inl, inr, ◌∙◌, arith, refl, sym, ap, subst, List}
-use Rattle.std.proofs.Common.{[], ◌∷◌, ◌++◌, length, get_or, filter, reverse, Bool, true, false, cond, pos, nat_lt}
+use Rattle.std.proofs.Common.{[], ◌∷◌, ◌++◌, ◌-◌, length, get_or, filter, reverse, Bool, true, false, cond, pos, negsuc, nat_lt}
 use Rattle.std.proofs.Common.{nat_le}
 use Rattle.std.proofs.lemmas.Bool.Decides.{nat_tests}
 use Rattle.std.proofs.lemmas.List.{reverse-append}
 use Rattle.teco_base.specs.Bytes.{is_line_end}
-use Rattle.teco_base.specs.Lines.{line_places_from, line_places, line_place}
+use Rattle.teco_base.specs.Lines.{line_places_from, line_places, line_place, places_back}
 
 -- does a line end stand at a place?
 abbrev pub ends : List ℕ → ℕ → Bool
@@ -276,3 +276,90 @@ end_inside text p x s e f b a c v w = end_before text p x e f a c (later f c) wh
     | inl i ↦ omega arith
     | inr i ↦ absurd (omega (arith, c.more l, begin_most text p s k b i (c.one k (omega arith) l)))
   ]
+
+-- ---- the lines before
+-- no line place is up to where the text begins
+none_if : (x y : Bool) (at p : ℕ) (places : List ℕ) → nat_le (at + 1) p ≡ y → p ≤ at → places ≡ []
+    → cond x (cond y ((at + 1) ∷ places) places) places ≡ []
+none_if true true at p places e h k = absurd (omega (arith, up_to p (at + 1) e))
+none_if true false at p places e h k = k
+none_if false y at p places e h k = k
+
+none_up_to : (text : List ℕ) (at p : ℕ) → p ≤ at → filter (λ q. nat_le q p) (line_places_from at text) ≡ []
+none_up_to [] at p h = refl
+none_up_to (b ∷ text) at p h =
+    subst (λ places. places ≡ []) (filter_if (λ q. nat_le q p) (is_line_end b) (at + 1)
+    (line_places_from (at + 1) text)) (none_if (is_line_end b) (nat_le (at + 1) p) at p _ refl h
+    (none_up_to text (at + 1) p (omega arith)))
+
+-- there is none where the last one is what stands for none
+no_last_if : (x y : Bool) (at p d : ℕ) (places : List ℕ) → d ≤ at → at + 1 ≤ last_or places (at + 1)
+    → last_or (cond x (cond y ((at + 1) ∷ places) places) places) d ≡ d → (last_or places d ≡ d → places ≡ [])
+    → cond x (cond y ((at + 1) ∷ places) places) places ≡ []
+no_last_if true true at p d places h low e f = absurd (omega arith)
+no_last_if true false at p d places h low e f = f e
+no_last_if false y at p d places h low e f = f e
+
+no_last : (text : List ℕ) (at p d : ℕ) → d ≤ at → last_or (filter (λ q. nat_le q p) (line_places_from at text)) d ≡ d
+    → filter (λ q. nat_le q p) (line_places_from at text) ≡ []
+no_last [] at p d h e = refl
+no_last (b ∷ text) at p d h e =
+    let joined = filter_if (λ q. nat_le q p) (is_line_end b) (at + 1) (line_places_from (at + 1) text) in
+    subst (λ places. places ≡ []) joined (no_last_if (is_line_end b) (nat_le (at + 1) p) at p d _ h
+    (last text (at + 1) p (at + 1) (omega arith)).low (subst (λ places. last_or places d ≡ d) (sym joined) e)
+    (no_last text (at + 1) p d (omega arith)))
+
+-- those up to a place are those before the last of them, and that
+more_if : (x y z : Bool) (at p d s : ℕ) (upper lower : List ℕ) → d ≤ at → d < s → nat_le (at + 1) p ≡ y
+    → nat_le (at + 1) (s - 1) ≡ z → last_or (cond x (cond y ((at + 1) ∷ upper) upper) upper) d ≡ s
+    → at + 1 ≤ last_or upper (at + 1) → (p ≤ at → upper ≡ []) → (s ≤ at + 1 → lower ≡ [])
+    → (last_or upper (at + 1) ≡ at + 1 → upper ≡ [])
+    → ((c : ℕ) → c ≤ at + 1 → c < s → last_or upper c ≡ s → upper ≡ lower ++ s ∷ [])
+    → cond x (cond y ((at + 1) ∷ upper) upper) upper ≡ cond x (cond z ((at + 1) ∷ lower) lower) lower ++ s ∷ []
+more_if true true true at p d s upper lower h k y z e low none others empty more =
+    ap (λ places. (at + 1) ∷ places) (more (at + 1) (omega arith) (omega (arith, up_to (s - 1) (at + 1) z)) e)
+more_if true true false at p d s upper lower h k y z e low none others empty more =
+    let near : s ≤ at + 1 = omega (arith, beyond (s - 1) at z) in
+    let same : s ≡ at + 1 = omega arith in
+    ap (λ places. (at + 1) ∷ places) (empty (e ∙ same)) ∙ ap (λ q. q ∷ []) (sym same)
+    ∙ sym (ap (λ places. places ++ s ∷ []) (others near))
+more_if true false z at p d s upper lower h k y w e low none others empty more =
+    absurd (omega (arith, sym e, ap (λ places. last_or places d) (none (beyond p at y))))
+more_if false y z at p d s upper lower h k u w e low none others empty more = more d (omega arith) k e
+
+more_up_to : (text : List ℕ) (at p d s : ℕ) → d ≤ at → d < s
+    → last_or (filter (λ q. nat_le q p) (line_places_from at text)) d ≡ s
+    → filter (λ q. nat_le q p) (line_places_from at text)
+    ≡ filter (λ q. nat_le q (s - 1)) (line_places_from at text) ++ s ∷ []
+more_up_to [] at p d s h k e = absurd (omega arith)
+more_up_to (b ∷ text) at p d s h k e =
+    let places = line_places_from (at + 1) text in
+    let joined = filter_if (λ q. nat_le q p) (is_line_end b) (at + 1) places in
+    sym joined
+    ∙ more_if (is_line_end b) (nat_le (at + 1) p) (nat_le (at + 1) (s - 1)) at p d s _ _ h k refl refl
+    (ap (λ qs. last_or qs d) joined ∙ e) (last text (at + 1) p (at + 1) (omega arith)).low
+    (λ l. none_up_to text (at + 1) p (omega arith)) (λ l. none_up_to text (at + 1) (s - 1) (omega arith))
+    (no_last text (at + 1) p (at + 1) (omega arith))
+    (λ c l m f. more_up_to text (at + 1) p c s l m f)
+    ∙ ap (λ qs. qs ++ s ∷ []) (filter_if (λ q. nat_le q (s - 1)) (is_line_end b) (at + 1) places)
+
+last_place : (text : List ℕ) (p : ℕ)
+    → last_or (filter (λ q. nat_le q p) (line_places text)) 0 ≡ line_place text p (pos 0)
+last_place text p = head_reversed (filter (λ q. nat_le q p) (line_places text)) 0
+
+-- the lines back are the line of the pointer, and those back from the end of the line before
+pub back_more : (text : List ℕ) (p : ℕ) → 1 ≤ line_place text p (pos 0)
+    → places_back text p ≡ line_place text p (pos 0) ∷ places_back text (line_place text p (pos 0) - 1)
+back_more text p h =
+    let s = line_place text p (pos 0) in
+    ap reverse (more_up_to text 0 p 0 s (omega arith) (omega arith) (last_place text p))
+    ∙ reverse-append (filter (λ q. nat_le q (s - 1)) (line_places text)) (s ∷ [])
+
+pub line_above : (text : List ℕ) (p m : ℕ) → 1 ≤ line_place text p (pos 0)
+    → line_place text p (negsuc m) ≡ get_or (places_back text (line_place text p (pos 0) - 1)) m 0
+line_above text p m h = ap (λ places. get_or places (suc m) 0) (back_more text p h)
+
+-- in the first line none is back
+pub top_line : (text : List ℕ) (p m : ℕ) → line_place text p (pos 0) ≡ 0 → line_place text p (negsuc m) ≡ 0
+top_line text p m e =
+    ap (λ places. get_or (reverse places) (suc m) 0) (no_last text 0 p 0 (omega arith) (last_place text p ∙ e))

@@ -15,7 +15,9 @@ use Rattle.teco_model.specs.declared.arguments.Operator.{Operator}
 use Rattle.teco_model.specs.declared.arguments.Operator.TheVariants.{Over}
 use Rattle.teco_model.specs.laws.Whole.{IsWhole}
 use Rattle.teco_rows.specs.declared.case.Case.{Case}
+use Rattle.teco_rows.specs.declared.outcomes.Guarded.{Guarded}
 use Rattle.teco_rows.specs.declared.outcomes.Outcomes.{Outcomes}
+use Rattle.teco_rows.specs.Cases.{Agree}
 use Rattle.teco_rows.specs.States.{Point, IsTrueOf, Describes, behind}
 
 -- no code comes, and what comes has a property
@@ -23,11 +25,19 @@ abbrev pub Succeeds : {X : Type 0} → (X → Type 0) → Result X Code → Type
 Succeeds P (Ok x) = P x
 Succeeds P (Err c) = ⊥
 
+-- Where the constraints of a guarded condition hold, with values that differ at most at symbols from its number on, it
+-- does.
+abbrev pub IsGuarded : ℕ → Valuation → Guarded → Type 0
+IsGuarded n v guarded =
+    (w : Valuation)
+    → Agree guarded.symbols v w → All (Holds n w) guarded.constraints.items → Holds n w guarded.wanted
+
 -- a case is true of a whole state, and the conditions hold with the same values of the symbols
 pub record Begins (n : ℕ) (v : Valuation) (case : Case) (outcomes : Outcomes) (s : Point) : Type 0 where
   pub whole : IsWhole s.kept
   pub true_of : IsTrueOf n v case s
   pub conditions : All (Holds n v) outcomes.conditions.items
+  pub guarded : All (IsGuarded n v) outcomes.guarded.items
 
 -- one of the cases describes a state
 abbrev pub Describe : ℕ → Outcomes → Point → Type 0

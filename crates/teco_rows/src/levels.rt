@@ -118,6 +118,7 @@ pub fn one(case: Case, conditions: Vec<Form>, alloc: Global) -> Result<Outcomes,
     cases.push(case)?;
     Ok(Outcomes {
         conditions,
+        guarded: Vec::new(alloc),
         cases,
         away: Vec::new(alloc),
     })

@@ -11,8 +11,6 @@ mod read;
 mod simplex;
 mod solve;
 mod tableau;
-#[cfg(test)]
-mod tests;
 
 pub use fault::SimplexFault;
 pub use program::{Answer, Program, Relation, Row, Sign, Term, Values};

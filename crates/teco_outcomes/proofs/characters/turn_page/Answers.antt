@@ -6,8 +6,8 @@ use Rattle.teco_outcomes.proofs.characters.turn_page.Goals as goal
 
 pub returns-in-Some : goal.returns-in-Some
 returns-in-Some c =
-    IfOk-weaker c.character_at.result _ _
+    IfOk-weaker c.answer_code.result _ _
     (λ all gives e is.
     character_law e c.args.case.now c.in_ok-taken.taken c.in-Some.by all (is ∙ ap kind.Page c.in-Append.is)
     c.in_ok-taken.ensures c.in-Some.is gives)
-    c.character_at.ensures
+    c.answer_code.ensures

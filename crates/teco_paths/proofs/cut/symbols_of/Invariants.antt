@@ -8,5 +8,6 @@ abbrev pub invariant-loop-place : goal.invariant-loop-place
 invariant-loop-place l = record {
   count : length l.forms.items ≡ l.place;
   same : (k : ℕ) → k < l.place → (n : ℕ) (v : Valuation)
-      → value_if (slice_index_or l.forms.items k None) n v ≡ (if slice_index_or l.present k false then Some (v k) else None);
+      → value_if (slice_index_or l.forms.items k None) n v ≡
+      (if slice_index_or l.present k false then Some (v k) else None);
 }

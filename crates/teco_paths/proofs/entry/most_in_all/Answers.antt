@@ -11,5 +11,5 @@ loop-register-preserved c n v =
       c.in_ok-form-2.ensures n v,
       c.in_ok-length.ensures n v,
       c.loop-register.invariant n v,
-      lengths_more v c.loop-register.register,
+      lengths_more c.args.used.now v c.loop-register.register,
     )

@@ -5,5 +5,6 @@ use Rattle.teco_paths.proofs.facts.add_least.Goals as goal
 
 pub returns : goal.returns
 returns c size facts =
-    all_last (IsFact size) c.args.facts.now.items c.push.new.self.items c.in_ok-fact.fact c.in_ok-push.ensures.items facts
+    all_last (IsFact size) c.args.facts.now.items c.push.new.self.items c.in_ok-fact.fact c.in_ok-push.ensures.items
+    facts
     (least_fact size c.in_ok-fact.fact c.args.place c.in-Some.below c.in-Some.ensures c.in_ok-fact.ensures)

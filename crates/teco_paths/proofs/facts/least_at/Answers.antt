@@ -1,6 +1,7 @@
 use Rattle.std.proofs.Common.{◌-◌, ◌/◌, arith}
 use Rattle.teco_paths.specs.declared.facts.TheConstants.{MOST_BELOW}
-use Rattle.teco_paths.proofs.Always.{least_here, length_least, number_least, pushed_length_least, pushed_number_least, turns_least}
+use Rattle.teco_paths.proofs.Always.{least_here, length_least, number_least, pushed_length_least, pushed_number_least}
+use Rattle.teco_paths.proofs.Always.{turns_least}
 use Rattle.teco_paths.proofs.facts.least_at.Goals as goal
 
 pub returns-in-0 : goal.returns-in-0

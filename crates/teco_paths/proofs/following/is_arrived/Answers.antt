@@ -9,5 +9,6 @@ pub returns-then-is_claimed : goal.returns-then-is_claimed
 returns-then-is_claimed c =
     on_true c.in_ok-is_timely.is_timely
     (arrives c.args.course.now c.args.spot.now c.args.cut.now (omega arith)
-    (subst (λ b. OnTrue b (ComesTo c.args.spot.now.case c.args.cut.now)) c.if-is_claimed.true c.in_ok-is_claimed.ensures))
+    (subst (λ b. OnTrue b (ComesTo c.args.spot.now.case c.args.cut.now)) c.if-is_claimed.true
+    c.in_ok-is_claimed.ensures))
     c.in_ok-is_timely.ensures

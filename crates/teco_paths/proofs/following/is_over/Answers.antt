@@ -11,5 +11,6 @@ returns-then-is_timely c =
     on_true c.in_ok-is_within.is_within
     (over_leads c.runs_end.ensures c.args.course.now c.args.spot.now (omega arith)
     (omega (arith, c.len.ensures, ap (λ (x : Course). length x.nodes) c.course.view_is))
-    (subst (λ b. OnTrue b (IsInTime c.args.course.now c.args.spot.now.case)) c.if-is_timely.true c.in_ok-is_timely.ensures))
+    (subst (λ b. OnTrue b (IsInTime c.args.course.now c.args.spot.now.case)) c.if-is_timely.true
+    c.in_ok-is_timely.ensures))
     c.in_ok-is_within.ensures

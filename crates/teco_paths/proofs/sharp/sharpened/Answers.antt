@@ -10,7 +10,7 @@ pub returns-then-branch : goal.returns-then-branch
 returns-then-branch c =
     let implied : Implies c.args.case.constraints.items c.in_ok-ahead.ahead =
     subst (λ b. OnTrue b (Implies c.args.case.constraints.items c.in_ok-ahead.ahead)) c.if-branch.true
-    c.in_ok-is_so.ensures in
+    c.in_ok-is_so_nearby.ensures in
     if_ok (λ more. IsWith c.args.case c.in_ok-more.more more) (λ sharp. IsSharper c.args.case sharp)
     c.with_constraint.result
     (λ more with. sharper c.args.case more c.in_ok-one.one c.in_ok-pointer.pointer c.in_ok-behind.behind

@@ -1,5 +1,6 @@
 use Rattle.std.proofs.Common.{subst}
 use Rattle.teco_paths.specs.Claims.{IsCaseOf}
+use Rattle.teco_paths.specs.Entry.{IsEntryCut}
 use Rattle.teco_paths.specs.Paths.{Course}
 use Rattle.teco_paths.proofs.Answered.{on_ok}
 use Rattle.teco_paths.proofs.Certain.{certain}
@@ -15,6 +16,7 @@ returns c =
       pending = c.numbers_are_pending.ensures;
     }) c.args.course.now c.args.argument c.in_ok-cut.cut c.in_ok-case.case
     (subst (λ (x : Course). IsCaseOf x.size c.in_ok-cut.cut c.in_ok-case.case) c.course.view_is c.in_ok-case.ensures)
-    c.in_ok-cut.ensures leads
+    (subst (λ (x : Course). IsEntryCut x.lengths c.args.argument c.in_ok-cut.cut) c.course.view_is c.in_ok-cut.ensures)
+    leads
     c.in_ok-follow_cuts.ensures)
     c.follow_case.ensures

@@ -1,0 +1,59 @@
+//! Cases of macros with claims at cut points: whether these are found to hang together.
+use crate::case_file::{Case, Keys};
+use crate::fault::CaseFault;
+use crate::findings::Findings;
+use crate::subject::{Subject, library_of};
+use std::alloc::Global;
+use teco_claims::Claims;
+use teco_expansion::expand;
+use teco_library::Library;
+use teco_model::Needs;
+use teco_paths::claimed::{Called, check_claimed};
+
+const KEYS: &[&str] = &["library", "entry", "claims", "verdict"];
+
+// How long the texts of a library are.
+fn lengths_of(alloc: Global, library: &Library) -> Result<Vec<Option<usize>>, CaseFault> {
+    let mut lengths = Vec::new(alloc);
+    for text in library.texts() {
+        let length = match text {
+            Some(text) => Some(text.len()),
+            None => None,
+        };
+        lengths.push(length)?;
+    }
+    Ok(lengths)
+}
+
+// What is said of the claims of a case, where both files are open.
+fn said_of(alloc: Global, case: &Case<'_>) -> Result<String, CaseFault> {
+    let Subject { entry, .. } = Subject::of(case)?;
+    let library = library_of(alloc, case)?;
+    let Ok(claims) = Claims::read(alloc, case.text("claims")?) else {
+        return Err(case.wrong("claims"));
+    };
+    let Ok(nodes) = expand(alloc, &library, entry) else {
+        return Err(case.wrong("library"));
+    };
+    let lengths = lengths_of(alloc, &library)?;
+    let called = Called {
+        nodes: &nodes,
+        lengths: &lengths,
+        argument: library.argument(entry),
+        needs: Needs {
+            input: true,
+            output: true,
+        },
+    };
+    match check_claimed(&called, &claims, alloc) {
+        Ok(()) => Ok(String::from_str(alloc, "accepted")?),
+        Err(fault) => Ok(format!(in alloc; "{fault}")?),
+    }
+}
+
+/// Follows all paths of the macro of a case by its claims.
+pub fn run_paths(alloc: Global, case: &Case<'_>) -> Result<Findings, CaseFault> {
+    case.check(Keys::of_texts(KEYS))?;
+    let said = said_of(alloc, case)?;
+    Findings::of_text(alloc, "verdict", case.text("verdict")?, said.as_bytes())
+}

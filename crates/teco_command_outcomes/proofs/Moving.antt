@@ -1,0 +1,346 @@
+-- C, R and J.
+use Rattle.std.proofs.Common.{◌≡◌, ℕ, zero, suc, ◌+◌, ◌<◌, ◌≤◌, ◌⊎◌, inl, inr, ℤ, pos, negsuc, List, [], ◌∷◌, ◌++◌}
+use Rattle.std.proofs.Common.{length, true, false, Option, Some, None, Ok, if◌then◌else◌, nat_le, slice_index_or, refl}
+use Rattle.std.proofs.Common.{sym, ap, subst, ◌∙◌, arith}
+use Rattle.std.proofs.lemmas.Bool.Decides.{nat_tests}
+use Rattle.std.proofs.lemmas.Int.{ints}
+use Rattle.std.specs.List.{All}
+use Rattle.teco_base.specs.Lines.{line_place}
+use Rattle.teco_linear.specs.declared.term.Term.{Term}
+use Rattle.teco_linear.specs.Form.{Valuation, value}
+use Rattle.teco_linear.specs.Implied as linear
+use Rattle.teco_model.specs.Effect.{no_answer, with_answer}
+use Rattle.teco_model.specs.Motion.{motion, motion_to, target}
+use Rattle.teco_model.specs.Element.{Element}
+use Rattle.teco_model.specs.declared.kind.Motion.{Motion}
+use Rattle.teco_model.specs.declared.kind.Motion.TheVariants.{Forward, Backward, To, Lines}
+use Rattle.teco_model.specs.Places.{place_in}
+use Rattle.teco_model.specs.State.{Kept}
+use Rattle.teco_model.specs.laws.Whole.{IsWhole}
+use Rattle.teco_rows.specs.declared.case.Case.{Case}
+use Rattle.teco_rows.specs.declared.measure.Single.{Single}
+use Rattle.teco_rows.specs.declared.measure.Single.TheVariants.{Steps, Pointer, Size, Held, LineEnd, LineStart}
+use Rattle.teco_rows.specs.declared.measure.Single.TheVariants.{LastLength}
+use Rattle.teco_rows.specs.declared.measure.Measure.TheVariants.{One, Each}
+use Rattle.teco_rows.specs.declared.measure.Family.TheVariants.{Number, Length, Turns, PushedNumber, PushedLength}
+use Rattle.teco_rows.specs.declared.measure.Family.TheVariants.{First, Value}
+use Rattle.teco_rows.specs.Cases.{value_if}
+use Rattle.teco_rows.specs.declared.commands.Taken.{Taken}
+use Rattle.teco_rows.specs.declared.commands.Way as command
+use Rattle.teco_command_outcomes.specs.declared.motions.TheConstants.{AHEAD, WITHIN, BACK, FOUND, BEFORE, BEHIND}
+use Rattle.teco_rows.specs.declared.outcomes.Outcomes.{Outcomes}
+use Rattle.teco_rows.specs.declared.row.Clause.{Clause}
+use Rattle.teco_rows.specs.declared.row.Places.{Places}
+use Rattle.teco_rows.specs.Rows.{Before, AreMet, changed}
+use Rattle.teco_rows.specs.States.{Point, IsTrueOf, each, single}
+use Rattle.teco_rows.specs.Foretold.{Describe, Succeeds}
+use Rattle.teco_rows.specs.Commands.{AreCommanded, IsAtLevel, Leads, Performs, commanded, taken_by}
+use Rattle.teco_command_outcomes.specs.Motions.{GoesTo, IsPlace, IsToPlace}
+use Rattle.teco_rows.proofs.Commanding.{read_at}
+use Rattle.teco_rows.proofs.Leading.{leads, leaves, left_alone, answers, performed}
+use Rattle.teco_rows.proofs.Ways.{IsWay, by, answering}
+use Rattle.teco_rows.proofs.Lines.{IsEnd, IsBegin, line_end, line_begin, end_before, begin_before, end_inside}
+use Rattle.teco_rows.proofs.Lines.{end_least, above_or}
+
+-- what the line places are at another place
+pub record IsMoved (text : List ℕ) (p x e s f t : ℕ) : Type 0 where
+  pub end : IsEnd text p e
+  pub begin : IsBegin text p s
+  pub end_there : IsEnd text x f
+  pub begin_there : IsBegin text x t
+
+-- ahead of the pointer, back in its line, and back past its start
+data Way (p x e s f t z : ℕ) : Type 0 where
+  Ahead : p + 1 ≤ x → e ≤ f → x ≤ f → f ≤ z → s ≤ t → t ≤ x → Way p x e s f t z
+  Within : x ≤ p → s ≤ x → f ≡ e → t ≡ s → Way p x e s f t z
+  Back : x + 1 ≤ s → x + 1 ≤ f → f ≤ s → t ≤ x → Way p x e s f t z
+
+-- a line start that is not 0 stands behind a line end
+start_behind : (text : List ℕ) (p x s f : ℕ) → IsBegin text p s → IsEnd text x f → x + 1 ≤ s → f ≤ s
+start_behind text p x zero f b e h = absurd (omega arith)
+start_behind text p x (suc k) f b e h = omega (arith, end_least text x f k e (omega arith) (b.one k (omega arith)))
+
+way_of : (text : List ℕ) (p x e s f t : ℕ) → p ≤ length text → IsMoved text p x e s f t → Way p x e s f t (length text)
+way_of text p x e s f t h m = elim (above_or x p) [
+  | inr w ↦ Ahead (omega arith) (end_before text p x e f m.end m.end_there (λ l. omega (arith, m.end_there.more l)))
+      m.end_there.after m.end_there.within (begin_before text p x s t m.begin m.begin_there (omega
+      (arith, m.begin.before)))
+      m.begin_there.before
+  | inl w ↦ elim (above_or s x) [
+    | inl u ↦ Within w u
+        (omega (
+          arith,
+          end_before text x p f e m.end_there m.end (λ l. omega (arith, m.end.more l)),
+          end_inside text p x s e f m.begin m.end m.end_there u w,
+        ))
+        (omega (
+          arith,
+          begin_before text p x s t m.begin m.begin_there u,
+          begin_before text x p t s m.begin_there m.begin (omega (arith, m.begin_there.before)),
+        ))
+    | inr u ↦ Back (omega arith) (beyond (omega arith) (above_or (length text) f))
+        (start_behind text p x s f m.begin m.end_there (omega arith))
+        m.begin_there.before
+  ]
+] where
+  beyond : x + 1 ≤ s → ((length text ≤ f) ⊎ (f < length text)) → x + 1 ≤ f
+  beyond u (inl k) = omega (arith, m.begin.before)
+  beyond u (inr k) = omega (arith, m.end_there.more k)
+
+module _ (s : Point) (here : Places) (given unknown : ℕ → ℤ) (k : ℕ) (whole : IsWhole s.kept)
+    (in' : k ≤ length s.kept.text) (e : given 0 ≡ pos k) (end : unknown 0 ≡ pos (line_place s.kept.text k (pos 1)))
+    (start : unknown 1 ≡ pos (line_place s.kept.text k (pos 0))) where
+  abbrev kept : Kept
+  kept = record s.kept { pointer = k }
+
+  abbrev b : Before
+  b = read_at s here given unknown
+
+  way : Way s.kept.pointer k (line_place s.kept.text s.kept.pointer (pos 1)) (line_place s.kept.text s.kept.pointer
+      (pos 0))
+      (line_place s.kept.text k (pos 1)) (line_place s.kept.text k (pos 0)) (length s.kept.text)
+  way = way_of s.kept.text s.kept.pointer k _ _ _ _ whole.inside (record {
+    end = line_end s.kept.text s.kept.pointer whole.inside;
+    begin = line_begin s.kept.text s.kept.pointer;
+    end_there = line_end s.kept.text k in';
+    begin_there = line_begin s.kept.text k;
+  })
+
+  -- what is moved, by a row that says so; the line places stay where the row leaves them
+  moved : (row : List Clause) (answer : Option ℤ) → leaves Turns row ≡ true → leaves PushedNumber row ≡ true
+      → leaves PushedLength row ≡ true → leaves First row ≡ true → leaves Number row ≡ true → leaves Length row ≡ true
+      → AreMet row b
+      → ((which : Single) → Some (pos (single (commanded s kept answer) which))
+      ≡ changed row b (One which) (Some (pos (single (commanded s s.kept None) which))))
+      → ((i : ℕ) → each (commanded s kept answer) Value i
+      ≡ changed row b (Each Value i) (each (commanded s s.kept None) Value i))
+      → Leads row b s kept answer
+  moved row answer t pn pl f n l met singles values = leads row b s kept answer t pn pl f (record {
+    met = met;
+    singles = singles;
+    numbers = λ i. left_alone row b Number i _ n;
+    lengths = λ i. left_alone row b Length i _ l;
+    values = values;
+    stack = refl;
+  })
+
+  pub lead : (here.level ≡ length s.arguments.outer)
+      → Leads AHEAD b s kept None ⊎ (Leads WITHIN b s kept None ⊎ Leads BACK b s kept None)
+  lead at = elim way [
+    | Ahead a c d f g h ↦ inl (moved AHEAD None refl refl refl refl refl refl (
+      omega (arith, ints),
+      (
+        omega (arith, ints),
+        (
+          omega (arith, ints),
+          (
+            omega (arith, ints),
+            (
+              omega
+                  (arith, ints),
+              (omega (arith, ints), tt),
+            ),
+          ),
+        ),
+      ),
+    )
+        ahead (λ i. refl))
+    | Within a c d f ↦ inr (inl (moved WITHIN None refl refl refl refl refl refl
+        (omega (arith, ints), (omega (arith, ints), tt)) (within d f) (λ i. refl)))
+    | Back a c d f ↦ inr (inr (moved BACK None refl refl refl refl refl refl (
+      omega (arith, ints),
+      (
+        omega (arith, ints),
+        (
+          omega (arith, ints),
+          (
+            omega (arith, ints),
+            (
+              omega
+                  (arith, ints),
+              tt,
+            ),
+          ),
+        ),
+      ),
+    )
+        back (λ i. refl)))
+  ] where
+    ahead : (which : Single) → Some (pos (single (commanded s kept None) which))
+        ≡ changed AHEAD b (One which) (Some (pos (single (commanded s s.kept None) which)))
+    ahead Steps = refl
+    ahead Pointer = ap Some (omega (arith, ints))
+    ahead Size = refl
+    ahead Held = refl
+    ahead LineEnd = ap Some (omega (arith, ints))
+    ahead LineStart = ap Some (omega (arith, ints))
+    ahead LastLength = refl
+
+    within : line_place s.kept.text k (pos 1) ≡ line_place s.kept.text s.kept.pointer (pos 1)
+        → line_place s.kept.text k (pos 0) ≡ line_place s.kept.text s.kept.pointer (pos 0)
+        → (which : Single) → Some (pos (single (commanded s kept None) which))
+        ≡ changed WITHIN b (One which) (Some (pos (single (commanded s s.kept None) which)))
+    within d f Steps = refl
+    within d f Pointer = ap Some (omega (arith, ints))
+    within d f Size = refl
+    within d f Held = refl
+    within d f LineEnd = ap (λ x. Some (pos x)) d
+    within d f LineStart = ap (λ x. Some (pos x)) f
+    within d f LastLength = refl
+
+    back : (which : Single) → Some (pos (single (commanded s kept None) which))
+        ≡ changed BACK b (One which) (Some (pos (single (commanded s s.kept None) which)))
+    back Steps = refl
+    back Pointer = ap Some (omega (arith, ints))
+    back Size = refl
+    back Held = refl
+    back LineEnd = ap Some (omega (arith, ints))
+    back LineStart = ap Some (omega (arith, ints))
+    back LastLength = refl
+
+-- ---- to a place that a number names, or off the buffer
+pub place_there : (text : List ℕ) (k : ℕ) → k ≤ length text → place_in text (pos k) ≡ Some k
+place_there text k h = let e : nat_le k (length text) ≡ true = grind (arith, nat_tests) in
+    ap (λ b. if b then Some k else None) e
+
+off : (text : List ℕ) (k : ℕ) → length text < k → place_in text (pos k) ≡ None
+off text k h = let e : nat_le k (length text) ≡ false =
+    grind (arith, nat_tests) in ap (λ b. if b then Some k else None) e
+
+-- what is not known of a place that is gone to
+abbrev places_at : Point → ℕ → ℕ → ℤ
+places_at s k zero = pos (line_place s.kept.text k (pos 1))
+places_at s k (suc i) = pos (line_place s.kept.text k (pos 0))
+
+module _ (case : Case) (ways : List command.Way) (place : List Term) (here : Places) (level : IsAtLevel here case)
+    (all : Outcomes) (are : AreCommanded case ways (place ∷ []) here all.cases.items) where
+  abbrev read : ℕ → Valuation → Point → (ℕ → ℤ) → Before
+  read n v s unknown = read_at s here (λ i. value (slice_index_or (place ∷ []) i []) n v) unknown
+
+  pub goes : IsWay ways 0 AHEAD → IsWay ways 1 WITHIN → IsWay ways 2 BACK
+      → ((n : ℕ) (v : Valuation) (s : Point) → IsTrueOf n v case s
+      → All (linear.Holds n v) all.conditions.items → IsPlace s.kept.text (value place n v))
+      → GoesTo 0 place case all
+  goes w0 w1 w2 placed n v s begins =
+      let k = placed n v s begins.true_of begins.conditions in
+      let e : motion_to 0 (place_in s.kept.text (value place n v)) s.kept ≡ Ok (no_answer (record s.kept {
+        pointer =
+            k.0;
+      })) =
+      ap (λ x. motion_to 0 (place_in s.kept.text x) s.kept) k.1
+      ∙ ap (λ o. motion_to 0 o s.kept) (place_there s.kept.text k.0 k.2) in
+      performed n all s _ (no_answer (record s.kept { pointer = k.0 })) e
+      (chosen k (lead s here _ (places_at s k.0) k.0 begins.whole k.2 k.1 refl refl
+      (level s begins.true_of.shape))) where
+        chosen : (k : IsPlace s.kept.text (value place n v))
+            → (Leads AHEAD (read n v s (places_at s k.0)) s (record s.kept { pointer = k.0 }) None
+            ⊎ (Leads WITHIN (read n v s (places_at s k.0)) s (record s.kept { pointer = k.0 }) None
+            ⊎ Leads BACK (read n v s (places_at s k.0)) s (record s.kept { pointer = k.0 }) None))
+            → Describe n all (commanded s (record s.kept { pointer = k.0 }) None)
+        chosen k (inl h) =
+            by n v case ways (place ∷ []) here all 0 AHEAD s _ None (places_at s k.0) are w0 begins.true_of h
+        chosen k (inr (inl h)) =
+            by n v case ways (place ∷ []) here all 1 WITHIN s _ None (places_at s k.0) are w1 begins.true_of h
+        chosen k (inr (inr h)) =
+            by n v case ways (place ∷ []) here all 2 BACK s _ None (places_at s k.0) are w2 begins.true_of h
+
+  pub tries : IsWay ways 0 (FOUND ++ AHEAD) → IsWay ways 1 (FOUND ++ WITHIN) → IsWay ways 2 (FOUND ++ BACK)
+      → IsWay ways 3 BEFORE → IsWay ways 4 BEHIND → GoesTo 1 place case all
+  tries w0 w1 w2 w3 w4 n v s begins = by_number (value place n v) refl where
+    at : here.level ≡ length s.arguments.outer
+    at = level s begins.true_of.shape
+
+    -- one of the rows of a motion, with the answer -1
+    found_by : (i k : ℕ) (row : List Clause) → value place n v ≡ pos k → k ≤ length s.kept.text
+        → leaves Value row ≡ true
+        → IsWay ways i (FOUND ++ row) → Leads row (read n v s (places_at s k)) s (record s.kept { pointer = k }) None
+        → Describe n all (commanded s (record s.kept { pointer = k }) (Some (negsuc 0)))
+    found_by i k row e h left w leading =
+        by n v case ways (place ∷ []) here all i (FOUND ++ row) s (record s.kept { pointer = k }) (Some (negsuc 0))
+        (places_at s k) are w begins.true_of
+        (answering FOUND row (read n v s (places_at s k)) s (record s.kept { pointer = k }) (negsuc 0) leading
+        (omega (arith, ints), (omega (arith, ints), tt)) refl refl refl refl refl refl refl left
+        (λ j. answers s (record s.kept { pointer = k }) here j (negsuc 0) _ at (ap Some (omega (arith, ints)))))
+
+    found : (k : ℕ) → value place n v ≡ pos k → k ≤ length s.kept.text
+        → (Leads AHEAD (read n v s (places_at s k)) s (record s.kept { pointer = k }) None
+        ⊎ (Leads WITHIN (read n v s (places_at s k)) s (record s.kept { pointer = k }) None
+        ⊎ Leads BACK (read n v s (places_at s k)) s (record s.kept { pointer = k }) None))
+        → Describe n all (commanded s (record s.kept { pointer = k }) (Some (negsuc 0)))
+    found k e h (inl leading) = found_by 0 k AHEAD e h refl w0 leading
+    found k e h (inr (inl leading)) = found_by 1 k WITHIN e h refl w1 leading
+    found k e h (inr (inr leading)) = found_by 2 k BACK e h refl w2 leading
+
+    stays : (which : Single)
+        → Some (pos (single (commanded s s.kept (Some (pos 0))) which)) ≡ Some (pos (single
+        (commanded s s.kept None) which))
+    stays Steps = refl
+    stays Pointer = refl
+    stays Size = refl
+    stays Held = refl
+    stays LineEnd = refl
+    stays LineStart = refl
+    stays LastLength = refl
+
+    -- nothing moves, and 0 is answered
+    nothing : Succeeds (λ effect. Describe n all (commanded s effect.kept effect.answer)) (Ok (with_answer
+        (pos 0) s.kept))
+        → place_in s.kept.text (value place n v) ≡ None
+        → Succeeds (λ effect. Describe n all (commanded s effect.kept effect.answer))
+        (motion_to 1 (place_in s.kept.text (value place n v)) s.kept)
+    nothing d e =
+        performed n all s _ (with_answer (pos 0) s.kept) (ap (λ o. motion_to 1 o s.kept) e) d
+
+    by_number : (x : ℤ) → value place n v ≡ x
+        → Succeeds (λ effect. Describe n all (commanded s effect.kept effect.answer))
+        (motion_to 1 (place_in s.kept.text (value place n v)) s.kept)
+    by_number (negsuc m) e =
+        nothing
+        (by n v case ways (place ∷ []) here all 3 BEFORE s s.kept (Some (pos 0)) (λ i. pos 0) are w3 begins.true_of
+        (leads BEFORE (read n v s (λ i. pos 0)) s s.kept (Some (pos 0)) refl refl refl refl (record {
+          met = (omega (arith, ints), tt);
+          singles = stays;
+          numbers = λ i. refl;
+          lengths = λ i. refl;
+          values = λ i. answers s s.kept here i (pos 0) _ at (ap Some (omega (arith, ints)));
+          stack = refl;
+        })))
+        (ap (place_in s.kept.text) e)
+    by_number (pos k) e = elim (above_or k (length s.kept.text)) [
+      | inl h ↦ performed n all s _ (with_answer (negsuc 0) (record s.kept { pointer = k }))
+          (ap (λ x. motion_to 1 (place_in s.kept.text x) s.kept) e
+          ∙ ap (λ o. motion_to 1 o s.kept) (place_there s.kept.text k h))
+          (found k e h (lead s here _ (places_at s k) k begins.whole h e refl refl at))
+      | inr h ↦ nothing
+          (by n v case ways (place ∷ []) here all 4 BEHIND s s.kept (Some (pos 0)) (λ i. pos 0) are w4 begins.true_of
+          (leads BEHIND (read n v s (λ i. pos 0)) s s.kept (Some (pos 0)) refl refl refl refl (record {
+            met = (omega (arith, ints), tt);
+            singles = stays;
+            numbers = λ i. refl;
+            lengths = λ i. refl;
+            values = λ i. answers s s.kept here i (pos 0) _ at (ap Some (omega (arith, ints)));
+            stack = refl;
+          })))
+          (ap (place_in s.kept.text) e ∙ off s.kept.text k h)
+    ]
+
+-- the motions that name a place are those
+pub moves : (case : Case) (kind : Motion) (taken : Taken) (place : List Term) (all : Outcomes) (colons : ℕ)
+    → IsToPlace kind
+    → ((n : ℕ) (v : Valuation) (s : Point) → IsTrueOf n v case s
+    → value place n v ≡ target kind s.kept.pointer (value_if taken.value n v))
+    → GoesTo colons place case all → (e : Element) → e.colons ≡ colons → Performs (motion kind e) taken case all
+moves case kind taken place all colons to place_is goes e same n v s begins =
+    let P = Succeeds (λ effect. Describe n all (commanded s effect.kept effect.answer)) in
+    subst P (sym (motion_is kind to))
+    (subst (λ c. P (motion_to c (place_in s.kept.text (target kind s.kept.pointer
+    (value_if taken.value n v))) s.kept)) (sym same)
+    (subst (λ x. P (motion_to colons (place_in s.kept.text x) s.kept)) (place_is n v s begins.true_of)
+    (goes n v s begins))) where
+      motion_is : (m : Motion) → IsToPlace m
+          → motion m e (taken_by taken n v) s.kept
+          ≡ motion_to e.colons (place_in s.kept.text (target m s.kept.pointer (value_if taken.value n v))) s.kept
+      motion_is Forward h = refl
+      motion_is Backward h = refl
+      motion_is To h = refl
+      motion_is Lines h = absurd h

@@ -1,0 +1,7 @@
+use Rattle.std.proofs.Common.{refl}
+use Rattle.teco_command_outcomes.proofs.Lining.{lines_before}
+use Rattle.teco_command_outcomes.proofs.line_motions.lines_before.Goals as goal
+
+pub returns : goal.returns
+returns c =
+    lines_before c.args.case.now _ _ c.in_ok-here.here _ c.in_ok-cases.ensures (_, refl, refl) (_, refl, refl)

@@ -1,0 +1,511 @@
+//! What comes of deletions: the part of the buffer between two places goes.
+ghost use Rattle.std.specs.Prelude.{◌≡◌, ℕ, IfOk, pos, negsuc, true};
+ghost use Rattle.std.specs.List.{All};
+ghost use Rattle.teco_linear.specs.Form.{Valuation, value};
+ghost use Rattle.teco_linear.specs.Implied.{Holds};
+ghost use Rattle.teco_model.specs.Deletion.{deletion};
+ghost use Rattle.teco_rows.specs.Commands.{Performs};
+ghost use Rattle.teco_command_outcomes.specs.Deletions.{CutsBy, CutsLines, CutsTo, DeletesCharacters, DeletesLines, DeletesPart};
+ghost use Rattle.teco_command_outcomes.specs.Motions.{IsPlace};
+ghost use Rattle.teco_rows.specs.States.{Point, IsTrueOf};
+
+use crate::line_motions::is_negative;
+use crate::motions::{LINE_END, LINE_START, POINTER, SIZE, in_buffer};
+use std::alloc::Global;
+use teco_linear::Form;
+use teco_model::kind::Unit;
+use teco_rows::applied::copied;
+use teco_rows::case::Case;
+use teco_rows::commands::{Taken, Way, argument, commands};
+use teco_rows::fault::Fault;
+use teco_rows::forms::{is_number, single};
+use teco_rows::levels::{NO, at_level};
+use teco_rows::measure::Single;
+use teco_rows::outcomes::Outcomes;
+use teco_rows::row::{Clause, Mark, Of};
+
+pub const HELD: Mark = Mark::One(Single::Held);
+
+// The two places between which all goes.
+const FROM: Of = Of::Given(0);
+
+const TO: Of = Of::Given(1);
+
+// What is not known behind: where the line ends and where it starts, and how long the buffer is.
+const END: Of = Of::Unknown(0);
+
+const OTHER: Of = Of::Unknown(1);
+
+const REST: Of = Of::Unknown(2);
+
+// How many lines.
+const COUNT: Of = Of::Given(0);
+
+// The first place is before the second.
+const SHORTER: Clause = Clause::Sets(SIZE, 0, [(1, Of::Was(SIZE)), (1, FROM), (-1, TO), NO]);
+
+const LESS: Clause = Clause::Sets(HELD, 0, [(1, Of::Was(HELD)), (1, FROM), (-1, TO), NO]);
+
+const AT_FIRST: Clause = Clause::Sets(POINTER, 0, [(1, FROM), NO, NO, NO]);
+
+// The second is before the first.
+const SHORTER_BACK: Clause = Clause::Sets(SIZE, 0, [(1, Of::Was(SIZE)), (-1, FROM), (1, TO), NO]);
+
+const LESS_BACK: Clause = Clause::Sets(HELD, 0, [(1, Of::Was(HELD)), (-1, FROM), (1, TO), NO]);
+
+const AT_SECOND: Clause = Clause::Sets(POINTER, 0, [(1, TO), NO, NO, NO]);
+
+const NEARER_BACK: Clause = Clause::Sets(
+    LINE_END,
+    0,
+    [(1, Of::Was(LINE_END)), (-1, FROM), (1, TO), NO],
+);
+
+const ENDS: Clause = Clause::Sets(LINE_END, 0, [(1, END), NO, NO, NO]);
+
+const STARTS: Clause = Clause::Sets(LINE_START, 0, [(1, OTHER), NO, NO, NO]);
+
+// From the pointer on, within the line: its end comes nearer.
+const CUTS: [Clause; 6] = [
+    AT_FIRST,
+    SHORTER,
+    LESS,
+    Clause::Sets(
+        LINE_END,
+        0,
+        [(1, Of::Was(LINE_END)), (1, FROM), (-1, TO), NO],
+    ),
+    Clause::Wants(0, [(1, TO), (-1, FROM), NO, NO]),
+    Clause::Wants(-1, [(1, Of::Was(LINE_END)), (-1, TO), NO, NO]),
+];
+
+// Past its end: what is behind it follows.
+const CUTS_PAST: [Clause; 7] = [
+    AT_FIRST,
+    SHORTER,
+    LESS,
+    ENDS,
+    Clause::Wants(0, [(1, TO), (-1, Of::Was(LINE_END)), NO, NO]),
+    Clause::Wants(0, [(1, END), (-1, FROM), NO, NO]),
+    Clause::Wants(0, [(1, Of::Was(SIZE)), (1, FROM), (-1, TO), (-1, END)]),
+];
+
+// Back from the pointer within the line: its start stays.
+const CUTS_BACK: [Clause; 6] = [
+    AT_SECOND,
+    SHORTER_BACK,
+    LESS_BACK,
+    NEARER_BACK,
+    Clause::Wants(-1, [(1, FROM), (-1, TO), NO, NO]),
+    Clause::Wants(0, [(1, TO), (-1, Of::Was(LINE_START)), NO, NO]),
+];
+
+// Past its start: the line starts further back.
+const CUTS_BACK_PAST: [Clause; 8] = [
+    AT_SECOND,
+    SHORTER_BACK,
+    LESS_BACK,
+    NEARER_BACK,
+    STARTS,
+    Clause::Wants(-1, [(1, Of::Was(LINE_START)), (-1, TO), NO, NO]),
+    Clause::Wants(0, [(1, OTHER), NO, NO, NO]),
+    Clause::Wants(0, [(1, TO), (-1, OTHER), NO, NO]),
+];
+
+// Anywhere, in the order of the places or not.
+const PART: [Clause; 10] = [
+    AT_FIRST,
+    SHORTER,
+    LESS,
+    ENDS,
+    STARTS,
+    Clause::Wants(0, [(1, TO), (-1, FROM), NO, NO]),
+    Clause::Wants(0, [(1, END), (-1, FROM), NO, NO]),
+    Clause::Wants(0, [(1, Of::Was(SIZE)), (1, FROM), (-1, TO), (-1, END)]),
+    Clause::Wants(0, [(1, OTHER), NO, NO, NO]),
+    Clause::Wants(0, [(1, FROM), (-1, OTHER), NO, NO]),
+];
+
+const PART_BACK: [Clause; 10] = [
+    AT_SECOND,
+    SHORTER_BACK,
+    LESS_BACK,
+    ENDS,
+    STARTS,
+    Clause::Wants(-1, [(1, FROM), (-1, TO), NO, NO]),
+    Clause::Wants(0, [(1, END), (-1, TO), NO, NO]),
+    Clause::Wants(0, [(1, Of::Was(SIZE)), (-1, FROM), (1, TO), (-1, END)]),
+    Clause::Wants(0, [(1, OTHER), NO, NO, NO]),
+    Clause::Wants(0, [(1, TO), (-1, OTHER), NO, NO]),
+];
+
+// Lines ahead, from the pointer up to the end of its own at least.
+const LINES: [Clause; 7] = [
+    Clause::Sets(SIZE, 0, [(1, REST), NO, NO, NO]),
+    Clause::Sets(
+        HELD,
+        0,
+        [(1, Of::Was(HELD)), (-1, Of::Was(SIZE)), (1, REST), NO],
+    ),
+    ENDS,
+    Clause::Wants(-1, [(1, COUNT), NO, NO, NO]),
+    Clause::Wants(
+        0,
+        [
+            (1, Of::Was(SIZE)),
+            (1, Of::Was(POINTER)),
+            (-1, Of::Was(LINE_END)),
+            (-1, REST),
+        ],
+    ),
+    Clause::Wants(0, [(1, END), (-1, Of::Was(POINTER)), NO, NO]),
+    Clause::Wants(0, [(1, REST), (-1, END), NO, NO]),
+];
+
+// Lines back, from the pointer to the start of its own at least.
+const LINES_BACK: [Clause; 8] = [
+    Clause::Sets(POINTER, 0, [(1, OTHER), NO, NO, NO]),
+    Clause::Sets(
+        SIZE,
+        0,
+        [(1, Of::Was(SIZE)), (-1, Of::Was(POINTER)), (1, OTHER), NO],
+    ),
+    Clause::Sets(
+        HELD,
+        0,
+        [(1, Of::Was(HELD)), (-1, Of::Was(POINTER)), (1, OTHER), NO],
+    ),
+    Clause::Sets(
+        LINE_END,
+        0,
+        [
+            (1, Of::Was(LINE_END)),
+            (-1, Of::Was(POINTER)),
+            (1, OTHER),
+            NO,
+        ],
+    ),
+    STARTS,
+    Clause::Wants(0, [(-1, COUNT), NO, NO, NO]),
+    Clause::Wants(0, [(1, OTHER), NO, NO, NO]),
+    Clause::Wants(0, [(1, Of::Was(LINE_START)), (-1, OTHER), NO, NO]),
+];
+
+// The pointer's line to its end. At the end of the buffer there is none.
+const KEEPS: [Clause; 1] = [Clause::Wants(0, [(1, Of::Was(POINTER)), (-1, Of::Was(SIZE)), NO, NO])];
+
+const CUTS_LINE: [Clause; 6] = [
+    Clause::Sets(
+        SIZE,
+        0,
+        [
+            (1, Of::Was(SIZE)),
+            (1, Of::Was(POINTER)),
+            (-1, Of::Was(LINE_END)),
+            NO,
+        ],
+    ),
+    Clause::Sets(
+        HELD,
+        0,
+        [
+            (1, Of::Was(HELD)),
+            (1, Of::Was(POINTER)),
+            (-1, Of::Was(LINE_END)),
+            NO,
+        ],
+    ),
+    ENDS,
+    Clause::Wants(-1, [(1, Of::Was(LINE_END)), (-1, Of::Was(POINTER)), NO, NO]),
+    Clause::Wants(0, [(1, END), (-1, Of::Was(POINTER)), NO, NO]),
+    Clause::Wants(
+        0,
+        [
+            (1, Of::Was(SIZE)),
+            (1, Of::Was(POINTER)),
+            (-1, Of::Was(LINE_END)),
+            (-1, END),
+        ],
+    ),
+];
+
+// Lines back: in the first line to its start, and else up to where some line before starts.
+const CUTS_TOP: [Clause; 5] = [
+    Clause::Sets(POINTER, 0, [NO, NO, NO, NO]),
+    Clause::Sets(
+        SIZE,
+        0,
+        [(1, Of::Was(SIZE)), (-1, Of::Was(POINTER)), NO, NO],
+    ),
+    Clause::Sets(
+        HELD,
+        0,
+        [(1, Of::Was(HELD)), (-1, Of::Was(POINTER)), NO, NO],
+    ),
+    Clause::Sets(
+        LINE_END,
+        0,
+        [(1, Of::Was(LINE_END)), (-1, Of::Was(POINTER)), NO, NO],
+    ),
+    Clause::Wants(0, [(-1, Of::Was(LINE_START)), NO, NO, NO]),
+];
+
+const CUTS_UP: [Clause; 7] = [
+    Clause::Sets(POINTER, 0, [(1, OTHER), NO, NO, NO]),
+    Clause::Sets(
+        SIZE,
+        0,
+        [(1, Of::Was(SIZE)), (-1, Of::Was(POINTER)), (1, OTHER), NO],
+    ),
+    Clause::Sets(
+        HELD,
+        0,
+        [(1, Of::Was(HELD)), (-1, Of::Was(POINTER)), (1, OTHER), NO],
+    ),
+    Clause::Sets(
+        LINE_END,
+        0,
+        [
+            (1, Of::Was(LINE_END)),
+            (-1, Of::Was(POINTER)),
+            (1, OTHER),
+            NO,
+        ],
+    ),
+    STARTS,
+    Clause::Wants(0, [(1, OTHER), NO, NO, NO]),
+    Clause::Wants(-1, [(1, Of::Was(LINE_START)), (-1, OTHER), NO, NO]),
+];
+
+// The ways of a part that begins or ends at the pointer, and the cases behind them.
+fn cut_to(case: &Case, place: Form, conditions: Vec<Form>, alloc: Global) -> Result<Outcomes, Fault>
+    ensures conditions { IfOk result (λ all. all.conditions.items ≡ conditions.items) }
+    ensures cuts { IfOk result (λ all. CutsTo place case.now all) }
+{
+    let here = at_level(case)?;
+    let pointer = single(case, Single::Pointer, alloc)?;
+    let ways = [
+        Way {
+            answers: &[],
+            does: &CUTS,
+        },
+        Way {
+            answers: &[],
+            does: &CUTS_PAST,
+        },
+        Way {
+            answers: &[],
+            does: &CUTS_BACK,
+        },
+        Way {
+            answers: &[],
+            does: &CUTS_BACK_PAST,
+        },
+    ];
+    let cases = commands(case, &ways, &[pointer, place], here, alloc)?;
+    Ok(Outcomes {
+        conditions,
+        guarded: Vec::new(alloc),
+        cases,
+        away: Vec::new(alloc),
+    })
+}
+
+// `D` deletes characters; too many are a code.
+fn delete_characters(case: &Case, value: Option<Form>, alloc: Global) -> Result<Outcomes, Fault>
+    ensures { IfOk result (λ all. DeletesCharacters value case.now all) }
+{
+    let by = argument(value, 1, alloc)?;
+    let pointer = single(case, Single::Pointer, alloc)?;
+    let place = pointer.add(&by, alloc)?;
+    let conditions = in_buffer(case, &place, alloc)?;
+    let all = cut_to(case, place, conditions, alloc)?;
+    Ok(all)
+}
+
+// As many lines as a form says.
+fn cut_lines(case: &Case, by: Form, alloc: Global) -> Result<Outcomes, Fault>
+    ensures { IfOk result (λ all. CutsLines by case.now all) }
+{
+    let here = at_level(case)?;
+    let ways = [
+        Way {
+            answers: &[],
+            does: &LINES,
+        },
+        Way {
+            answers: &[],
+            does: &LINES_BACK,
+        },
+    ];
+    let cases = commands(case, &ways, &[by], here, alloc)?;
+    Ok(Outcomes {
+        conditions: Vec::new(alloc),
+        guarded: Vec::new(alloc),
+        cases,
+        away: Vec::new(alloc),
+    })
+}
+
+// Up to the end of the line.
+fn cut_line(case: &Case, alloc: Global) -> Result<Outcomes, Fault>
+    ensures { IfOk result (λ all. CutsBy (pos 1) case.now all) }
+{
+    let here = at_level(case)?;
+    let ways = [
+        Way {
+            answers: &[],
+            does: &KEEPS,
+        },
+        Way {
+            answers: &[],
+            does: &CUTS_LINE,
+        },
+    ];
+    let cases = commands(case, &ways, &[], here, alloc)?;
+    Ok(Outcomes {
+        conditions: Vec::new(alloc),
+        guarded: Vec::new(alloc),
+        cases,
+        away: Vec::new(alloc),
+    })
+}
+
+// Any number of lines back.
+fn cut_back(case: &Case, alloc: Global) -> Result<Outcomes, Fault>
+    ensures { IfOk result (λ all. (m : ℕ) → CutsBy (negsuc m) case.now all) }
+{
+    let here = at_level(case)?;
+    let ways = [
+        Way {
+            answers: &[],
+            does: &CUTS_TOP,
+        },
+        Way {
+            answers: &[],
+            does: &CUTS_UP,
+        },
+    ];
+    let cases = commands(case, &ways, &[], here, alloc)?;
+    Ok(Outcomes {
+        conditions: Vec::new(alloc),
+        guarded: Vec::new(alloc),
+        cases,
+        away: Vec::new(alloc),
+    })
+}
+
+// `K` deletes up to the end of the line, `0K` back to its start, and `-K` lines before.
+fn delete_lines(case: &Case, value: Option<Form>, alloc: Global) -> Result<Outcomes, Fault>
+    ensures { IfOk result (λ all. DeletesLines value case.now all) }
+{
+    let by = argument(value, 1, alloc)?;
+    if is_number(&by, 1) {
+        let all = cut_line(case, alloc)?;
+        return Ok(all);
+    }
+    if is_negative(&by) {
+        let all = cut_back(case, alloc)?;
+        return Ok(all);
+    }
+    if is_number(&by, 0) {
+        let start = single(case, Single::LineStart, alloc)?;
+        let all = cut_to(case, start, Vec::new(alloc), alloc)?;
+        return Ok(all);
+    }
+    let all = cut_lines(case, by, alloc)?;
+    Ok(all)
+}
+
+/// The conditions that two places are in the buffer.
+pub fn both_in_buffer(
+    case: &Case,
+    first: &Form,
+    second: &Form,
+    alloc: Global,
+) -> Result<Vec<Form>, Fault>
+    ensures { IfOk result (λ conditions. (n : ℕ) (v : Valuation) (s : Point) → IsTrueOf n v case.now s
+        → All (Holds n v) conditions.items
+        → IsPlace s.kept.text (value first.now n v) × IsPlace s.kept.text (value second.now n v)) }
+{
+    let size = single(case, Single::Size, alloc)?;
+    let least = copied(first, alloc)?;
+    let most = size.sub(first, alloc)?;
+    let other_least = copied(second, alloc)?;
+    let other_most = size.sub(second, alloc)?;
+    let mut conditions = Vec::new(alloc);
+    conditions.push(least)?;
+    conditions.push(most)?;
+    conditions.push(other_least)?;
+    conditions.push(other_most)?;
+    Ok(conditions)
+}
+
+// A part between any two places.
+fn cut_between(case: &Case, first: Form, second: Form, alloc: Global) -> Result<Outcomes, Fault>
+    ensures { IfOk result (λ all. DeletesPart first second case.now all) }
+{
+    let here = at_level(case)?;
+    let conditions = both_in_buffer(case, &first, &second, alloc)?;
+    let ways = [
+        Way {
+            answers: &[],
+            does: &PART,
+        },
+        Way {
+            answers: &[],
+            does: &PART_BACK,
+        },
+    ];
+    let cases = commands(case, &ways, &[first, second], here, alloc)?;
+    Ok(Outcomes {
+        conditions,
+        guarded: Vec::new(alloc),
+        cases,
+        away: Vec::new(alloc),
+    })
+}
+
+// Whether a form is that of the pointer.
+fn is_pointer(case: &Case, form: &Form, alloc: Global) -> Result<bool, Fault>
+    ensures { IfOk result (λ answer. answer ≡ true → (n : ℕ) (v : Valuation) (s : Point) → IsTrueOf n v case.now s
+        → value form.now n v ≡ pos s.kept.pointer) }
+{
+    let pointer = single(case, Single::Pointer, alloc)?;
+    let apart = form.sub(&pointer, alloc)?;
+    Ok(is_number(&apart, 0))
+}
+
+// `m,nK` deletes a part; one end of it is mostly the pointer.
+fn delete_part(case: &Case, first: Form, second: Form, alloc: Global) -> Result<Outcomes, Fault>
+    ensures { IfOk result (λ all. DeletesPart first second case.now all) }
+{
+    if is_pointer(case, &second, alloc)? {
+        let conditions = in_buffer(case, &first, alloc)?;
+        let all = cut_to(case, first, conditions, alloc)?;
+        return Ok(all);
+    }
+    if is_pointer(case, &first, alloc)? {
+        let conditions = in_buffer(case, &second, alloc)?;
+        let all = cut_to(case, second, conditions, alloc)?;
+        return Ok(all);
+    }
+    cut_between(case, first, second, alloc)
+}
+
+/// `D` deletes characters, and `K` lines; with two values either deletes the part between them.
+pub fn delete(case: &Case, unit: Unit, taken: Taken, alloc: Global) -> Result<Outcomes, Fault>
+    ensures { IfOk result (λ all. Performs (deletion unit) taken case.now all) }
+{
+    let Taken { first, value } = taken;
+    match first {
+        Some(first) => match value {
+            Some(second) => delete_part(case, first, second, alloc),
+            None => Err(Fault::Argument),
+        },
+        None => match unit {
+            Unit::Characters => delete_characters(case, value, alloc),
+            Unit::Lines => delete_lines(case, value, alloc),
+        },
+    }
+}

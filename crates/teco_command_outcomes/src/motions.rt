@@ -1,0 +1,213 @@
+//! What comes of motions to a place.
+ghost use Rattle.std.specs.Prelude.{◌≡◌, ℕ, if◌then◌else◌, IfOk};
+ghost use Rattle.std.specs.List.{All};
+ghost use Rattle.teco_linear.specs.Form.{Valuation, value};
+ghost use Rattle.teco_linear.specs.Implied.{Holds};
+ghost use Rattle.teco_model.specs.Element.{Element};
+ghost use Rattle.teco_model.specs.Motion.{motion, target};
+ghost use Rattle.teco_rows.specs.Cases.{value_if};
+ghost use Rattle.teco_rows.specs.Commands.{Performs};
+ghost use Rattle.teco_command_outcomes.specs.Motions.{GoesTo, IsPlace, IsToPlace};
+ghost use Rattle.teco_rows.specs.States.{Point, IsTrueOf};
+
+use std::alloc::Global;
+use teco_linear::Form;
+use teco_model::kind::Motion;
+use teco_rows::case::Case;
+use teco_rows::commands::{Taken, Way, argument, commands};
+use teco_rows::fault::Fault;
+use teco_rows::forms::single;
+use teco_rows::levels::{NO, VALUE, at_level};
+use teco_rows::measure::Single;
+use teco_rows::outcomes::Outcomes;
+use teco_rows::row::{Clause, Mark, Of};
+
+pub const POINTER: Mark = Mark::One(Single::Pointer);
+
+pub const SIZE: Mark = Mark::One(Single::Size);
+
+pub const LINE_END: Mark = Mark::One(Single::LineEnd);
+
+pub const LINE_START: Mark = Mark::One(Single::LineStart);
+
+// The place that is gone to, and the line's end and start there.
+const PLACE: Of = Of::Given(0);
+
+const END: Of = Of::Unknown(0);
+
+const START: Of = Of::Unknown(1);
+
+const GOES: Clause = Clause::Sets(POINTER, 0, [(1, PLACE), NO, NO, NO]);
+
+const ENDS: Clause = Clause::Sets(LINE_END, 0, [(1, END), NO, NO, NO]);
+
+const STARTS: Clause = Clause::Sets(LINE_START, 0, [(1, START), NO, NO, NO]);
+
+// Ahead: neither the line's end nor its start goes back.
+const AHEAD: [Clause; 9] = [
+    GOES,
+    ENDS,
+    STARTS,
+    Clause::Wants(-1, [(1, PLACE), (-1, Of::Was(POINTER)), NO, NO]),
+    Clause::Wants(0, [(1, END), (-1, Of::Was(LINE_END)), NO, NO]),
+    Clause::Wants(0, [(1, END), (-1, PLACE), NO, NO]),
+    Clause::Wants(0, [(1, Of::Was(SIZE)), (-1, END), NO, NO]),
+    Clause::Wants(0, [(1, START), (-1, Of::Was(LINE_START)), NO, NO]),
+    Clause::Wants(0, [(1, PLACE), (-1, START), NO, NO]),
+];
+
+// Back within the line: its end and start stay.
+const WITHIN: [Clause; 3] = [
+    GOES,
+    Clause::Wants(0, [(1, Of::Was(POINTER)), (-1, PLACE), NO, NO]),
+    Clause::Wants(0, [(1, PLACE), (-1, Of::Was(LINE_START)), NO, NO]),
+];
+
+// Back past its start: the line ends there at the latest.
+const BACK: [Clause; 8] = [
+    GOES,
+    ENDS,
+    STARTS,
+    Clause::Wants(-1, [(1, Of::Was(LINE_START)), (-1, PLACE), NO, NO]),
+    Clause::Wants(-1, [(1, END), (-1, PLACE), NO, NO]),
+    Clause::Wants(0, [(1, Of::Was(LINE_START)), (-1, END), NO, NO]),
+    Clause::Wants(0, [(1, START), NO, NO, NO]),
+    Clause::Wants(0, [(1, PLACE), (-1, START), NO, NO]),
+];
+
+// It is in the buffer, which is answered; or it is not, and nothing moves.
+const FOUND: [Clause; 3] = [
+    Clause::Sets(VALUE, -1, [NO, NO, NO, NO]),
+    Clause::Wants(0, [(1, PLACE), NO, NO, NO]),
+    Clause::Wants(0, [(1, Of::Was(SIZE)), (-1, PLACE), NO, NO]),
+];
+
+const BEFORE: [Clause; 2] = [
+    Clause::Sets(VALUE, 0, [NO, NO, NO, NO]),
+    Clause::Wants(-1, [(-1, PLACE), NO, NO, NO]),
+];
+
+const BEHIND: [Clause; 2] = [
+    Clause::Sets(VALUE, 0, [NO, NO, NO, NO]),
+    Clause::Wants(-1, [(1, PLACE), (-1, Of::Was(SIZE)), NO, NO]),
+];
+
+// The place that an argument names.
+fn place(case: &Case, kind: Motion, taken: Taken, alloc: Global) -> Result<Form, Fault>
+    requires { IsToPlace kind }
+    ensures { IfOk result (λ form. (n : ℕ) (v : Valuation) (s : Point) → IsTrueOf n v case.now s
+        → value form n v ≡ target kind s.kept.pointer (value_if taken.value n v)) }
+{
+    let Taken {
+        first: _first,
+        value,
+    } = taken;
+    let by = match kind {
+        Motion::To => argument(value, 0, alloc)?,
+        _ => argument(value, 1, alloc)?,
+    };
+    let pointer = single(case, Single::Pointer, alloc)?;
+    match kind {
+        Motion::Forward => Ok(pointer.add(&by, alloc)?),
+        Motion::Backward => Ok(pointer.sub(&by, alloc)?),
+        _ => Ok(by),
+    }
+}
+
+/// The conditions that a place is in the buffer.
+pub fn in_buffer(case: &Case, place: &Form, alloc: Global) -> Result<Vec<Form>, Fault>
+    ensures { IfOk result (λ conditions. (n : ℕ) (v : Valuation) (s : Point) → IsTrueOf n v case.now s
+        → All (Holds n v) conditions.items → IsPlace s.kept.text (value place.now n v)) }
+{
+    let size = single(case, Single::Size, alloc)?;
+    let mut conditions = Vec::new(alloc);
+    conditions.push(place.add(&Form::zero(alloc), alloc)?)?;
+    conditions.push(size.sub(place, alloc)?)?;
+    Ok(conditions)
+}
+
+// Without a colon the place must be in the buffer.
+fn go(case: &Case, place: Form, alloc: Global) -> Result<Outcomes, Fault>
+    ensures { IfOk result (λ all. GoesTo 0 place case.now all) }
+{
+    let conditions = in_buffer(case, &place, alloc)?;
+    let here = at_level(case)?;
+    let ways = [
+        Way {
+            answers: &[],
+            does: &AHEAD,
+        },
+        Way {
+            answers: &[],
+            does: &WITHIN,
+        },
+        Way {
+            answers: &[],
+            does: &BACK,
+        },
+    ];
+    let cases = commands(case, &ways, &[place], here, alloc)?;
+    Ok(Outcomes {
+        conditions,
+        guarded: Vec::new(alloc),
+        cases,
+        away: Vec::new(alloc),
+    })
+}
+
+// With a colon it answers whether the place is in the buffer.
+fn try_to_go(case: &Case, place: Form, alloc: Global) -> Result<Outcomes, Fault>
+    ensures { IfOk result (λ all. GoesTo 1 place case.now all) }
+{
+    let here = at_level(case)?;
+    let ways = [
+        Way {
+            answers: &FOUND,
+            does: &AHEAD,
+        },
+        Way {
+            answers: &FOUND,
+            does: &WITHIN,
+        },
+        Way {
+            answers: &FOUND,
+            does: &BACK,
+        },
+        Way {
+            answers: &BEFORE,
+            does: &[],
+        },
+        Way {
+            answers: &BEHIND,
+            does: &[],
+        },
+    ];
+    let cases = commands(case, &ways, &[place], here, alloc)?;
+    let conditions = Vec::new(alloc);
+    Ok(Outcomes {
+        conditions,
+        guarded: Vec::new(alloc),
+        cases,
+        away: Vec::new(alloc),
+    })
+}
+
+/// `C`, `R` and `J` go to a place.
+pub fn move_to(
+    case: &Case,
+    kind: Motion,
+    has_colon: bool,
+    taken: Taken,
+    alloc: Global,
+) -> Result<Outcomes, Fault>
+    requires { IsToPlace kind }
+    ensures { IfOk result (λ all. (e : Element) → e.colons ≡ (if has_colon then 1 else 0)
+        → Performs (motion kind e) taken case.now all) }
+{
+    let place = place(case, kind, taken, alloc)?;
+    if has_colon {
+        try_to_go(case, place, alloc)
+    } else {
+        go(case, place, alloc)
+    }
+}

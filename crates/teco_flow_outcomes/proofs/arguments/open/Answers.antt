@@ -1,0 +1,8 @@
+use Rattle.std.proofs.lemmas.Result.{IfOk-weaker}
+use Rattle.teco_flow_outcomes.proofs.Arguing.{opens}
+use Rattle.teco_flow_outcomes.proofs.arguments.open.Goals as goal
+
+pub returns : goal.returns
+returns c =
+    IfOk-weaker c.one.result _ _
+    (λ all one. opens c.args.case.now c.in_ok-after.after _ all c.in_ok-after.ensures one) c.one.ensures

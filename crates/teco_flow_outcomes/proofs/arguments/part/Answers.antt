@@ -1,0 +1,15 @@
+use Rattle.std.proofs.Common.{◌≡◌, None, subst, arith}
+use Rattle.std.proofs.lemmas.Grind.{common_steps}
+use Rattle.std.proofs.lemmas.Result.{IfOk-weaker}
+use Rattle.teco_rows.specs.Commands.{EndsWith}
+use Rattle.teco_flow_outcomes.proofs.Arguing.{is_alone, parts}
+use Rattle.teco_flow_outcomes.proofs.arguments.part.Goals as goal
+
+pub returns-in-Some : goal.returns-in-Some
+returns-in-Some c =
+    let none : c.in_ok-first.first ≡ None = grind (arith, common_steps) in
+    IfOk-weaker c.part_at.result _ _
+    (λ all at.
+    parts c.args.case.now c.in-Some.value all (is_alone c.args.case.now c.in_ok-first.first none c.in_ok-first.ensures)
+    (subst (EndsWith c.args.case.now) c.in-Some.is c.in_ok-value.ensures) at)
+    c.part_at.ensures

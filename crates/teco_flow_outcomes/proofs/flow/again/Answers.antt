@@ -1,0 +1,12 @@
+use Rattle.std.proofs.Common.{refl, arith}
+use Rattle.std.proofs.lemmas.Grind.{common_steps}
+use Rattle.std.proofs.lemmas.Result.{IfOk-weaker}
+use Rattle.teco_flow_outcomes.proofs.Turning.{is_again}
+use Rattle.teco_flow_outcomes.proofs.flow.again.Goals as goal
+
+pub returns : goal.returns
+returns c =
+    IfOk-weaker c.turned.result _ _
+    (λ made turns.
+    is_again c.args.case.now made _ _ turns refl c.in_ok-here.ensures.iteration (grind (arith, common_steps)))
+    c.turned.ensures

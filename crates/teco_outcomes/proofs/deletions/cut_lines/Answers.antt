@@ -1,7 +1,0 @@
-use Rattle.std.proofs.Common.{refl}
-use Rattle.teco_outcomes.proofs.Cutting.{cuts_lines}
-use Rattle.teco_outcomes.proofs.deletions.cut_lines.Goals as goal
-
-pub returns : goal.returns
-returns c =
-    cuts_lines c.args.case.now _ c.args.by c.in_ok-here.here _ c.in_ok-cases.ensures (_, refl, refl) (_, refl, refl)

@@ -1,7 +1,0 @@
-use Rattle.std.proofs.Common.{arith}
-use Rattle.std.proofs.lemmas.Int.{ints}
-use Rattle.teco_outcomes.proofs.pages.room_behind.Goals as goal
-
-pub returns : goal.returns
-returns c = λ n v s t h.
-    omega (arith, ints, h, c.in_ok-held.ensures n v s t, c.in_ok-most.ensures n v, c.in_ok-left.ensures n v)

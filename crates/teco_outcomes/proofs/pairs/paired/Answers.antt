@@ -1,9 +1,0 @@
-use Rattle.std.proofs.Common.{refl}
-use Rattle.std.proofs.lemmas.Result.{IfOk-weaker}
-use Rattle.teco_outcomes.proofs.Arguing.{is_paired}
-use Rattle.teco_outcomes.proofs.pairs.paired.Goals as goal
-
-pub returns : goal.returns
-returns c =
-    IfOk-weaker c.led.result _ _
-    (λ after led. is_paired c.args.case.now after _ refl c.in_ok-at_level.ensures led) c.led.ensures

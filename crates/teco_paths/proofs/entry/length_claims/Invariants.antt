@@ -1,0 +1,10 @@
+use Rattle.std.specs.List.{All}
+use Rattle.std.specs.Prelude.{Option}
+use Rattle.teco_model.specs.Macros.{ArgumentRange}
+use Rattle.teco_paths.specs.Entry.{IsEntryClaim}
+use Rattle.teco_paths.proofs.entry.length_claims.Given as goal
+
+-- all hold at the entry
+abbrev pub invariant-loop-register : goal.invariant-loop-register
+invariant-loop-register l =
+    (argument : Option ArgumentRange) → All (IsEntryClaim l.lengths argument) l.claims.items

@@ -1,0 +1,17 @@
+use Rattle.std.proofs.Common.{◌≡◌, [], ◌∷◌, None, arith, refl, subst}
+use Rattle.std.proofs.lemmas.Grind.{common_steps}
+use Rattle.std.proofs.lemmas.List.Elements.{All-head}
+use Rattle.std.specs.List.{All}
+use Rattle.teco_linear.specs.Implied as linear
+use Rattle.teco_search_outcomes.proofs.Paging.{appends_page}
+use Rattle.teco_search_outcomes.proofs.pages.append_page.Goals as goal
+
+pub returns : goal.returns
+returns c =
+    let conditions : c.push.new.self.items ≡ c.in_ok-left.left ∷ [] = grind (arith, common_steps) in
+    let items : c.push-3.new.self.items ≡ c.in_ok-none.none ∷ c.in_ok-some.some ∷ [] = grind (arith, common_steps) in
+    appends_page c.args.case.now c.in_ok-stays.stays c.in_ok-longer.longer c.in_ok-none.none c.in_ok-some.some _
+    c.in_ok-stays.ensures c.in_ok-longer.ensures (c.in_ok-none.ensures None refl) (c.in_ok-some.ensures None refl) items
+    (λ n v s t h.
+    c.in_ok-left.ensures n v s t
+    (All-head (linear.Holds n v) c.in_ok-left.left [] (subst (All (linear.Holds n v)) conditions h)))

@@ -1,0 +1,14 @@
+use Rattle.std.proofs.Common.{◌≡◌, ℕ, pos, ◌+ℤ◌, drop, Bool}
+use Rattle.teco_linear.specs.Form.{Valuation, value}
+use Rattle.teco_model.specs.laws.Whole.{IsWhole}
+use Rattle.teco_rows.specs.States.{Point, IsTrueOf}
+use Rattle.teco_search_outcomes.proofs.Parting.{count}
+use Rattle.teco_search_outcomes.proofs.patterns.least.Given as goal
+
+-- what is added so far and what the rest stands for are the whole
+abbrev pub invariant-loop-part : goal.invariant-loop-part
+invariant-loop-part l =
+    (exact : Bool) (n : ℕ) (v : Valuation) (s : Point)
+    → IsTrueOf n v l.case s → IsWhole s.kept
+    → value l.sum n v +ℤ pos (count s.kept.registers exact (drop l.part-index l.parts))
+    ≡ pos (count s.kept.registers exact l.parts)

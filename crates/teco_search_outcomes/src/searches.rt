@@ -1,0 +1,444 @@
+//! What comes of searches in the buffer.
+ghost use Rattle.std.specs.Prelude.{◌≡◌, ℕ, IfOk, OnOk, if◌then◌else◌, [], ◌++◌};
+ghost use Rattle.std.specs.List.{All};
+ghost use Rattle.teco_linear.specs.Form.{Valuation};
+ghost use Rattle.teco_linear.specs.Implied.{Holds};
+ghost use Rattle.teco_model.specs.Element.{seen};
+ghost use Rattle.teco_model.specs.declared.kind.Kind.TheVariants as kinds;
+ghost use Rattle.teco_search_outcomes.specs.Searches.{Aims, Answers, Ends, IsFoundBy, IsKnown, IsMissed};
+ghost use Rattle.teco_search_outcomes.specs.Searches.{HasRoom, IsReplacedBy, Leaves, SearchLaw};
+ghost use Rattle.teco_search_outcomes.specs.Searches.{aimed, direction_clauses, extra_clauses};
+
+use crate::patterns::{are_single, end_line, least, parts, stay_in_line};
+use std::alloc::Global;
+use teco_base::LIMIT;
+use teco_command_outcomes::changes::{changed, told};
+use teco_command_outcomes::deletions::HELD;
+use teco_command_outcomes::insertions::{counted, last_start};
+use teco_command_outcomes::motions::{LINE_END, LINE_START, POINTER, SIZE};
+use teco_flow_outcomes::flow::left;
+use teco_flow_outcomes::ranges::Range;
+use teco_linear::Form;
+use teco_model::Element;
+use teco_model::kind::Search;
+use teco_model::pattern::Part;
+use teco_rows::applied::copied_constraints;
+use teco_rows::case::Case;
+use teco_rows::commands::{Taken, take_arguments};
+use teco_rows::fault::Fault;
+use teco_rows::forms::{known, single};
+use teco_rows::levels::{NO, VALUE};
+use teco_rows::measure::Single;
+use teco_rows::outcomes::{Guarded, Outcomes};
+use teco_rows::row::{Clause, Mark, Of};
+
+/// Where a search looks: ahead of the pointer, back from it, or at it.
+#[derive(Clone, Copy)]
+pub enum Direction {
+    Ahead,
+    Back,
+    Here,
+}
+
+/// Where a search looks, and under which conditions it does.
+#[derive(Drop)]
+pub struct Aim {
+    pub direction: Direction,
+    pub conditions: Vec<Form>,
+}
+
+/// What is asked where a search begins.
+#[derive(Drop)]
+pub struct Asked {
+    pub conditions: Vec<Form>,
+    pub guarded: Vec<Guarded>,
+}
+
+/// What is known of a match: where it lies, whether it is as long as its parts say and no longer,
+/// whether it ends with a line end, and whether it has none.
+#[derive(Clone, Copy)]
+pub struct Known {
+    pub direction: Direction,
+    pub is_exact: bool,
+    pub ends_line: bool,
+    pub stays_in_line: bool,
+}
+
+// Where the match starts and ends, and the end and start of the line behind it.
+const START: Of = Of::Unknown(0);
+
+const PLACE: Of = Of::Unknown(1);
+
+const END: Of = Of::Unknown(2);
+
+const BEGIN: Of = Of::Unknown(3);
+
+// How long the match is at least; how long the text is that is put in its stead, and where the
+// last line of that starts.
+const LEAST: Of = Of::Given(0);
+
+const LONG: Of = Of::Given(1);
+
+const LAST_START: Of = Of::Given(2);
+
+const LAST: Mark = Mark::One(Single::LastLength);
+
+// The match is in the buffer and has a character, and its last line goes on behind it.
+const LIES: [Clause; 6] = [
+    Clause::Wants(-1, [(1, PLACE), (-1, START), NO, NO]),
+    Clause::Wants(0, [(1, PLACE), (-1, START), (-1, LEAST), NO]),
+    Clause::Wants(0, [(1, END), (-1, PLACE), NO, NO]),
+    Clause::Wants(0, [(1, Of::Was(SIZE)), (-1, END), NO, NO]),
+    Clause::Wants(0, [(1, START), NO, NO, NO]),
+    Clause::Wants(0, [(1, BEGIN), NO, NO, NO]),
+];
+
+// The pointer is behind it.
+const FOUND: [Clause; 5] = [
+    Clause::Sets(POINTER, 0, [(1, PLACE), NO, NO, NO]),
+    Clause::Sets(LINE_END, 0, [(1, END), NO, NO, NO]),
+    Clause::Sets(LINE_START, 0, [(1, BEGIN), NO, NO, NO]),
+    Clause::Sets(LAST, 0, [(1, PLACE), (-1, START), NO, NO]),
+    Clause::Wants(0, [(1, PLACE), (-1, BEGIN), NO, NO]),
+];
+
+// Another text is in its stead, and the pointer behind that.
+const REPLACED: [Clause; 7] = [
+    Clause::Sets(POINTER, 0, [(1, START), (1, LONG), NO, NO]),
+    Clause::Sets(
+        SIZE,
+        0,
+        [(1, Of::Was(SIZE)), (-1, PLACE), (1, START), (1, LONG)],
+    ),
+    Clause::Sets(
+        HELD,
+        0,
+        [(1, Of::Was(HELD)), (-1, PLACE), (1, START), (1, LONG)],
+    ),
+    Clause::Sets(LINE_END, 0, [(1, END), (-1, PLACE), (1, START), (1, LONG)]),
+    Clause::Sets(LINE_START, 0, [(1, BEGIN), NO, NO, NO]),
+    Clause::Sets(LAST, 0, [(1, LONG), NO, NO, NO]),
+    Clause::Wants(0, [(1, START), (1, LONG), (-1, BEGIN), NO]),
+];
+
+// Where nothing is found the pointer goes to the start of the buffer.
+const STARTED: [Clause; 5] = [
+    Clause::Sets(POINTER, 0, [NO, NO, NO, NO]),
+    Clause::Sets(LINE_START, 0, [NO, NO, NO, NO]),
+    Clause::Sets(LINE_END, 0, [(1, START), NO, NO, NO]),
+    Clause::Wants(0, [(1, START), NO, NO, NO]),
+    Clause::Wants(0, [(1, Of::Was(SIZE)), (-1, START), NO, NO]),
+];
+
+/// What is answered where it is found.
+pub const YES: [Clause; 1] = [Clause::Sets(VALUE, -1, [NO, NO, NO, NO])];
+
+// What is answered where nothing is.
+const MISS: [Clause; 1] = [Clause::Sets(VALUE, 0, [NO, NO, NO, NO])];
+
+// From the pointer on the lines only go on.
+const AHEAD: [Clause; 3] = [
+    Clause::Wants(0, [(1, START), (-1, Of::Was(POINTER)), NO, NO]),
+    Clause::Wants(0, [(1, END), (-1, Of::Was(LINE_END)), NO, NO]),
+    Clause::Wants(0, [(1, BEGIN), (-1, Of::Was(LINE_START)), NO, NO]),
+];
+
+const HERE: [Clause; 4] = [
+    Clause::Wants(0, [(1, START), (-1, Of::Was(POINTER)), NO, NO]),
+    Clause::Wants(0, [(1, END), (-1, Of::Was(LINE_END)), NO, NO]),
+    Clause::Wants(0, [(1, BEGIN), (-1, Of::Was(LINE_START)), NO, NO]),
+    Clause::Wants(0, [(-1, START), (1, Of::Was(POINTER)), NO, NO]),
+];
+
+const BACK: [Clause; 1] = [Clause::Wants(-1, [(-1, START), (1, Of::Was(POINTER)), NO, NO])];
+
+// The match is no longer than its parts say.
+const EXACT: [Clause; 1] = [Clause::Wants(0, [(-1, PLACE), (1, START), (1, LEAST), NO])];
+
+// A line starts behind it, or the line goes on in which it starts.
+const NEW_LINE: [Clause; 1] = [Clause::Wants(0, [(1, BEGIN), (-1, PLACE), NO, NO])];
+
+const SAME_LINE: [Clause; 1] = [Clause::Wants(0, [(1, START), (-1, BEGIN), NO, NO])];
+
+// The last line of the other text starts in it, where it ends a line.
+const OTHER_LINE: [Clause; 2] = [
+    Clause::Wants(0, [(1, BEGIN), (-1, START), (-1, LAST_START), NO]),
+    Clause::Wants(0, [(-1, BEGIN), (1, START), (1, LAST_START), NO]),
+];
+
+// Adds the clauses of where a search looks.
+fn add_direction(row: &mut Vec<Clause>, direction: Direction) -> Result<(), Fault>
+    ensures { OnOk result (row.new.items ≡ row.old.items ++ direction_clauses direction) }
+{
+    match direction {
+        Direction::Ahead => row.extend_from_slice(&AHEAD)?,
+        Direction::Back => row.extend_from_slice(&BACK)?,
+        Direction::Here => row.extend_from_slice(&HERE)?,
+    }
+    Ok(())
+}
+
+// Adds clauses where something is so.
+fn add_if(row: &mut Vec<Clause>, is_so: bool, clauses: &[Clause]) -> Result<(), Fault>
+    ensures { OnOk result (row.new.items ≡ row.old.items ++ (if is_so then clauses.now else [])) }
+{
+    if is_so {
+        row.extend_from_slice(clauses)?;
+    } else {
+        row.extend_from_slice(&[])?;
+    }
+    Ok(())
+}
+
+// What is wanted of a match besides lying in the buffer.
+fn extras(known: Known, alloc: Global) -> Result<Vec<Clause>, Fault>
+    ensures { IfOk result (λ row. row.items ≡ extra_clauses known) }
+{
+    let mut row = Vec::new(alloc);
+    row.extend_from_slice(&LIES)?;
+    add_direction(&mut row, known.direction)?;
+    add_if(&mut row, known.is_exact, &EXACT)?;
+    add_if(&mut row, known.ends_line, &NEW_LINE)?;
+    add_if(&mut row, known.stays_in_line, &SAME_LINE)?;
+    Ok(row)
+}
+
+// What is known of a match of parts.
+fn known_of(parts: &[Part], direction: Direction) -> Known
+    ensures { IsKnown parts.now direction result }
+{
+    Known {
+        direction,
+        is_exact: are_single(parts),
+        ends_line: end_line(parts),
+        stays_in_line: stay_in_line(parts),
+    }
+}
+
+/// The case where the pointer is behind a match.
+pub fn find(case: &Case, parts: &[Part], direction: Direction, alloc: Global) -> Result<Case, Fault>
+    ensures { IfOk result (λ made. IsFoundBy parts.now direction case.now made) }
+{
+    let least = least(case, parts, alloc)?;
+    let more = extras(known_of(parts, direction), alloc)?;
+    let mut row = Vec::new(alloc);
+    row.extend_from_slice(&FOUND)?;
+    row.extend_from_slice(&more)?;
+    changed(case, &row, &[least], alloc)
+}
+
+/// The case where a text is put in the stead of a match.
+pub fn replace(
+    case: &Case,
+    parts: &[Part],
+    direction: Direction,
+    text: &[u8],
+    alloc: Global,
+) -> Result<Case, Fault>
+    ensures { IfOk result (λ made. IsReplacedBy parts.now direction text.now case.now made) }
+{
+    let start = last_start(text);
+    let known = Known {
+        ends_line: false,
+        stays_in_line: start == 0,
+        ..known_of(parts, direction)
+    };
+    let more = extras(known, alloc)?;
+    let mut row = Vec::new(alloc);
+    row.extend_from_slice(&REPLACED)?;
+    row.extend_from_slice(&more)?;
+    add_if(&mut row, start > 0, &OTHER_LINE)?;
+    let least = least(case, parts, alloc)?;
+    let long = counted(text.len(), alloc)?;
+    let last = counted(start, alloc)?;
+    changed(case, &row, &[least, long, last], alloc)
+}
+
+/// The condition that the buffer of a case that is made of another is not too long.
+pub fn fitted(case: &Case, made: &Case, alloc: Global) -> Result<Guarded, Fault>
+    ensures { IfOk result (λ guarded. HasRoom case.now made.now guarded) }
+{
+    let size = single(made, Single::Size, alloc)?;
+    let most = counted(LIMIT, alloc)?;
+    let wanted = most.sub(&size, alloc)?;
+    let constraints = copied_constraints(&made.constraints, alloc)?;
+    Ok(Guarded {
+        symbols: case.symbols,
+        constraints,
+        wanted,
+    })
+}
+
+// The case where nothing is found: with two colons the pointer stays.
+fn missed(case: &Case, colons: u8, alloc: Global) -> Result<Case, Fault>
+    ensures { IfOk result (λ made. IsMissed colons case.now made) }
+{
+    if colons >= 2 {
+        changed(case, &[], &[], alloc)
+    } else {
+        changed(case, &STARTED, &[], alloc)
+    }
+}
+
+// A search that answers goes on behind itself.
+fn answering(found: &Case, missed: &Case, asked: Asked, alloc: Global) -> Result<Outcomes, Fault>
+    ensures conditions { IfOk result (λ all. all.conditions.items ≡ asked.conditions.items) }
+    ensures guarded { IfOk result (λ all. all.guarded.items ≡ asked.guarded.items) }
+    ensures answers { IfOk result (λ all. Answers found.now missed.now all) }
+{
+    let Asked {
+        conditions,
+        guarded,
+    } = asked;
+    let yes = told(found, &YES, alloc)?;
+    let no = told(missed, &MISS, alloc)?;
+    let mut cases = Vec::new(alloc);
+    cases.push(yes)?;
+    cases.push(no)?;
+    Ok(Outcomes {
+        conditions,
+        guarded,
+        cases,
+        away: Vec::new(alloc),
+    })
+}
+
+// Where one that does not answer finds nothing, it leaves its iteration.
+fn leaving(found: &Case, missed: &Case, asked: Asked, alloc: Global) -> Result<Outcomes, Fault>
+    ensures conditions { IfOk result (λ all. all.conditions.items ≡ asked.conditions.items) }
+    ensures guarded { IfOk result (λ all. all.guarded.items ≡ asked.guarded.items) }
+    ensures leaves { IfOk result (λ all. Leaves found.now missed.now all) }
+{
+    let Asked {
+        conditions,
+        guarded,
+    } = asked;
+    let behind = told(found, &[], alloc)?;
+    let gone = left(missed, Range::Any, &[], alloc)?;
+    let mut cases = Vec::new(alloc);
+    cases.push(behind)?;
+    let mut away = Vec::new(alloc);
+    away.push(gone)?;
+    Ok(Outcomes {
+        conditions,
+        guarded,
+        cases,
+        away,
+    })
+}
+
+// The direction of a search back or ahead; with two colons it looks at the pointer alone.
+fn directed(is_back: bool, colons: u8) -> Direction
+    ensures { result ≡ aimed is_back colons }
+{
+    if colons >= 2 {
+        Direction::Here
+    } else if is_back {
+        Direction::Back
+    } else {
+        Direction::Ahead
+    }
+}
+
+// Where a search looks for so many matches. A number that is not known is to be positive.
+fn sought(number: &Option<Form>, colons: u8, alloc: Global) -> Result<Aim, Fault>
+    ensures { IfOk result (λ aim. Aims number.now colons aim) }
+{
+    let mut conditions = Vec::new(alloc);
+    let Some(form) = number else {
+        let direction = directed(false, colons);
+        return Ok(Aim {
+            direction,
+            conditions,
+        });
+    };
+    match known(form) {
+        Some(0) => Err(Fault::Argument),
+        Some(number) => {
+            let direction = directed(number < 0, colons);
+            Ok(Aim {
+                direction,
+                conditions,
+            })
+        }
+        None => {
+            let least = Form::constant(1, alloc)?;
+            conditions.push(form.sub(&least, alloc)?)?;
+            let direction = directed(false, colons);
+            Ok(Aim {
+                direction,
+                conditions,
+            })
+        }
+    }
+}
+
+/// The outcomes of what is found and what is missed.
+pub fn ended(
+    found: &Case,
+    missed: &Case,
+    asked: Asked,
+    answers: bool,
+    alloc: Global,
+) -> Result<Outcomes, Fault>
+    ensures conditions { IfOk result (λ all. all.conditions.items ≡ asked.conditions.items) }
+    ensures guarded { IfOk result (λ all. all.guarded.items ≡ asked.guarded.items) }
+    ensures ends { IfOk result (λ all. Ends answers found.now missed.now all) }
+{
+    if answers {
+        answering(found, missed, asked, alloc)
+    } else {
+        leaving(found, missed, asked, alloc)
+    }
+}
+
+/// What comes of `S` and `FS`, where they answer, as with a colon or before `;`, or do not.
+pub fn search(
+    case: &Case,
+    kind: Search,
+    element: &Element,
+    answers: bool,
+    alloc: Global,
+) -> Result<Outcomes, Fault>
+    ensures { IfOk result (λ all. element.now.kind ≡ kinds.Search kind
+        → SearchLaw answers (seen element.now) case.now all) }
+{
+    let taken = take_arguments(case, alloc)?;
+    let Taken { first, value } = taken;
+    if first.is_some() {
+        return Err(Fault::Argument);
+    }
+    if element.text.is_empty() {
+        return Err(Fault::NotTold);
+    }
+    let parts = parts(element.text, alloc)?;
+    let aim = sought(&value, element.colons, alloc)?;
+    let start = missed(case, element.colons, alloc)?;
+    let Aim {
+        direction,
+        conditions,
+    } = aim;
+    let mut guarded = Vec::new(alloc);
+    match kind {
+        Search::Find => {
+            let behind = find(case, &parts, direction, alloc)?;
+            let asked = Asked {
+                conditions,
+                guarded,
+            };
+            let all = ended(&behind, &start, asked, answers, alloc)?;
+            Ok(all)
+        }
+        Search::Replace => {
+            let behind = replace(case, &parts, direction, element.second, alloc)?;
+            guarded.push(fitted(case, &behind, alloc)?)?;
+            let asked = Asked {
+                conditions,
+                guarded,
+            };
+            let all = ended(&behind, &start, asked, answers, alloc)?;
+            Ok(all)
+        }
+        _ => Err(Fault::NotTold),
+    }
+}
