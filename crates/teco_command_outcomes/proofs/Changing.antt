@@ -24,7 +24,8 @@ use Rattle.teco_rows.specs.States.{single}
 use Rattle.teco_rows.proofs.Commanding.{read_at}
 use Rattle.teco_rows.proofs.Describing.{described}
 use Rattle.teco_rows.proofs.Leading.{answers, is_of_singles, leads, leaves, left_alone, left_of, right_of}
-use Rattle.teco_command_outcomes.specs.Changes.{Changes, IsChanged, IsChangedFrom, IsTold, answer_row, with_page, with_steps}
+use Rattle.teco_command_outcomes.specs.Changes.{Changes, IsChanged, IsChangedFrom, IsTold, answer_row, with_page}
+use Rattle.teco_command_outcomes.specs.Changes.{with_steps}
 
 -- ---- a row that changes what is kept and what is unread
 pub is_changed : (case made : Case) (step : Step) (operator : Option Operator) → WaitsFor operator case
@@ -46,8 +47,8 @@ is_changed case made step operator waits led n v s steps kept unread unknown tru
       },
     )
 
-pub changes_plainly : (case made : Case) (row : List Clause) (given : List (List Term)) → IsChangedFrom case row given made
-    → IsChanged case row given made
+pub changes_plainly : (case made : Case) (row : List Clause) (given : List (List Term))
+    → IsChangedFrom case row given made → IsChanged case row given made
 changes_plainly case made row given from n v s kept unread unknown true_of changes =
     let d = from n v s s.steps kept unread unknown true_of changes in (d.0, d.2)
 

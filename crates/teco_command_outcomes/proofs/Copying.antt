@@ -51,7 +51,8 @@ use Rattle.teco_rows.proofs.Ways.{IsWay, by, leaves_singles, single_alone}
 use Rattle.teco_command_outcomes.specs.declared.texts.TheConstants.{COPIES, COPIES_BACK, LINES, LINES_BACK, STORES}
 use Rattle.teco_command_outcomes.specs.Deletions.{IsDone}
 use Rattle.teco_command_outcomes.specs.Motions.{IsPlace}
-use Rattle.teco_command_outcomes.specs.Texts.{Copies, CopiesCount, CopiesCounted, CopiesLines, CopiesPart, Fits, HasRoomFor}
+use Rattle.teco_command_outcomes.specs.Texts.{Copies, CopiesCount, CopiesCounted, CopiesLines, CopiesPart, Fits}
+use Rattle.teco_command_outcomes.specs.Texts.{HasRoomFor}
 use Rattle.teco_command_outcomes.specs.Texts.{IsGrownBy, IsRest, kept_with_text, rest_of}
 use Rattle.teco_command_outcomes.proofs.Lining.{ahead_within, back_within}
 use Rattle.teco_command_outcomes.proofs.Moving.{place_there}

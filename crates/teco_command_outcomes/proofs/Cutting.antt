@@ -37,7 +37,8 @@ use Rattle.teco_rows.specs.declared.row.Clause.{Clause}
 use Rattle.teco_rows.specs.declared.row.Places.{Places}
 use Rattle.teco_rows.specs.Cases.{value_if}
 use Rattle.teco_rows.specs.Commands.{AreCommanded, Leads, Performs, commanded}
-use Rattle.teco_command_outcomes.specs.Deletions.{CutsBy, CutsLines, CutsTo, DeletesCharacters, DeletesLines, DeletesPart}
+use Rattle.teco_command_outcomes.specs.Deletions.{CutsBy, CutsLines, CutsTo, DeletesCharacters, DeletesLines}
+use Rattle.teco_command_outcomes.specs.Deletions.{DeletesPart}
 use Rattle.teco_command_outcomes.specs.Deletions.{IsDone}
 use Rattle.teco_command_outcomes.specs.Deletions.{kept_without}
 use Rattle.teco_rows.specs.Foretold.{Begins, Describe}

@@ -35,7 +35,8 @@ use Rattle.teco_rows.specs.States.{IsTrueOf, Point, single}
 use Rattle.teco_rows.proofs.Commanding.{read_at}
 use Rattle.teco_rows.proofs.Leading.{leads_singles}
 use Rattle.teco_rows.proofs.Lines.{ends, IsEnd, IsBegin, line_end, line_begin, one_begin, end_before}
-use Rattle.teco_rows.proofs.Lines.{begin_before, begin_most, end_inside, end_least, clash, above_or, line_above, one_end, top_line}
+use Rattle.teco_rows.proofs.Lines.{begin_before, begin_most, end_inside, end_least, clash, above_or, line_above}
+use Rattle.teco_rows.proofs.Lines.{one_end, top_line}
 use Rattle.teco_rows.proofs.Ways.{IsWay, by}
 
 -- ---- where line places may lie
@@ -130,9 +131,10 @@ above_within text p inside one m = at (line_place text p (pos 0)) refl where
       let begin = line_begin text p in
       let within : s - 1 ≤ length text = omega (arith, begin.before) in
       let there = back_at text (s - 1) within m in
-      let same : line_place text p (negsuc m) ≡ get_or (reverse (filter (λ q. nat_le q (s - 1)) (line_places text))) m 0 =
-      line_above text p m one ∙ ap (λ k. get_or (reverse (filter (λ q. nat_le q (k - 1)) (line_places text))) m 0) (sym e)
-      in
+      let same : line_place text p (negsuc m)
+      ≡ get_or (reverse (filter (λ q. nat_le q (s - 1)) (line_places text))) m 0 =
+      line_above text p m one
+      ∙ ap (λ k. get_or (reverse (filter (λ q. nat_le q (k - 1)) (line_places text))) m 0) (sym e) in
       let low = (line_begin text (s - 1)).before in
       subst (LiesAbove text p) (sym same) (record {
         before = omega (arith, there.0, low, e, one);
@@ -464,7 +466,8 @@ module _ (case : Case) (ways : List command.Way) (given : List (List Term)) (her
       → ((n : ℕ) (v : Valuation) (s : Point) (whole : s.kept.pointer ≤ length s.kept.text)
       (inside : line_place s.kept.text s.kept.pointer (negsuc m) ≤ length s.kept.text)
       → LiesAbove s.kept.text s.kept.pointer (line_place s.kept.text s.kept.pointer (negsuc m))
-      → Leads row (read_at s here (read n v) (unknown_at s.kept.text (line_place s.kept.text s.kept.pointer (negsuc m)))) s
+      → Leads row (read_at s here (read n v)
+      (unknown_at s.kept.text (line_place s.kept.text s.kept.pointer (negsuc m)))) s
       (record s.kept { pointer = line_place s.kept.text s.kept.pointer (negsuc m) }) None)
       → GoesBy (negsuc m) case all
   back_by row m w0 w1 leading n v s begins = elim (above_or (line_place s.kept.text s.kept.pointer (pos 0)) 0) [

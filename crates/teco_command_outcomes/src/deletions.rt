@@ -5,7 +5,8 @@ ghost use Rattle.teco_linear.specs.Form.{Valuation, value};
 ghost use Rattle.teco_linear.specs.Implied.{Holds};
 ghost use Rattle.teco_model.specs.Deletion.{deletion};
 ghost use Rattle.teco_rows.specs.Commands.{Performs};
-ghost use Rattle.teco_command_outcomes.specs.Deletions.{CutsBy, CutsLines, CutsTo, DeletesCharacters, DeletesLines, DeletesPart};
+ghost use Rattle.teco_command_outcomes.specs.Deletions.{CutsBy, CutsLines, CutsTo, DeletesCharacters, DeletesLines};
+ghost use Rattle.teco_command_outcomes.specs.Deletions.{DeletesPart};
 ghost use Rattle.teco_command_outcomes.specs.Motions.{IsPlace};
 ghost use Rattle.teco_rows.specs.States.{Point, IsTrueOf};
 

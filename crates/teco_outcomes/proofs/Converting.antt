@@ -3,7 +3,8 @@ use Rattle.std.proofs.Common.{◌≡◌, ℕ, zero, suc, ◌+◌, ◌-◌, ◌^�
 use Rattle.std.proofs.Common.{List, [], ◌∷◌, ◌++◌, length, Bool, true, false, Option, Some, None, Result, Ok, Err}
 use Rattle.std.proofs.Common.{if◌then◌else◌}
 use Rattle.std.proofs.Common.{get_or, take, drop, codes, slice_index_or, refl, sym, ap, subst, ◌∙◌, arith}
-use Rattle.std.proofs.Common.{length-drop, FitsSigned, w32}
+use Rattle.std.proofs.Common.{length-drop, FitsSigned, w32, neg_ℤ, ◌-ℤ◌, ◌≤ℤ◌}
+use Rattle.std.proofs.lemmas.List.Elements.{All-pop, All-push}
 use Rattle.std.proofs.lemmas.Bool.Decides.{nat_tests}
 use Rattle.std.proofs.lemmas.Fmt.{decimal_by_steps, decimal_nonempty, length-decimal-le}
 use Rattle.std.proofs.lemmas.Int.{ints, SFits-int_wrap}
@@ -38,11 +39,15 @@ use Rattle.teco_rows.specs.declared.measure.Measure.TheVariants.{One}
 use Rattle.teco_rows.specs.declared.measure.Single.{Single}
 use Rattle.teco_rows.specs.declared.measure.Single.TheVariants.{Steps, Pointer, Size, Held, LineEnd, LineStart}
 use Rattle.teco_rows.specs.declared.measure.Single.TheVariants.{LastLength}
+use Rattle.teco_rows.specs.declared.levels.TheConstants.{NO}
+use Rattle.teco_rows.specs.declared.outcomes.Guarded.{Guarded}
 use Rattle.teco_rows.specs.declared.outcomes.Outcomes.{Outcomes}
+use Rattle.teco_rows.specs.declared.row.Clause.{Clause}
+use Rattle.teco_rows.specs.declared.row.Clause.TheVariants.{Wants}
 use Rattle.teco_rows.specs.declared.row.Places.{Places}
 use Rattle.teco_rows.specs.Cases.{value_if}
 use Rattle.teco_rows.specs.Commands.{AreCommanded, Leads, commanded}
-use Rattle.teco_rows.specs.Foretold.{Describe, GivesAny, Succeeds}
+use Rattle.teco_rows.specs.Foretold.{Describe, GivesAny, IsGuarded, Succeeds}
 use Rattle.teco_rows.specs.Rows.{AreMet, Before, changed}
 use Rattle.teco_rows.specs.States.{Point, IsShape, IsTrueOf, behind, each, single}
 use Rattle.teco_rows.proofs.Commanding.{read_at}
@@ -50,10 +55,12 @@ use Rattle.teco_rows.proofs.Leading.{leads_singles, performed}
 use Rattle.teco_rows.proofs.Lines.{IsEnd, above_or, clash, ends, line_begin, line_end, one_begin, one_end}
 use Rattle.teco_rows.proofs.Pending.{value_there}
 use Rattle.teco_rows.proofs.Ways.{IsWay, by}
-use Rattle.teco_outcomes.specs.declared.conversions.TheConstants.{READS, WRITES, WRITES_SIGN}
+use Rattle.teco_outcomes.specs.declared.conversions.Span.{Span}
+use Rattle.teco_outcomes.specs.declared.conversions.TheConstants.{ALL, BELOW, FEW, FURTHER, LAST, LONG, LONGER, MANY}
+use Rattle.teco_outcomes.specs.declared.conversions.TheConstants.{MORE, MOVES, NUMBER, ONE, READS}
 use Rattle.teco_command_outcomes.specs.Changes.{IsChangedFrom, read_given, with_kept}
-use Rattle.teco_outcomes.specs.Conversions.{IsBehindNumber, IsStanding, ReadsNumber, WritesNumber}
-use Rattle.teco_outcomes.specs.Conversions.{kept_behind_number}
+use Rattle.teco_outcomes.specs.Conversions.{AddsRoom, FitsIn, HasRoomFor, IsBehindNumber, IsStanding, ReadsNumber}
+use Rattle.teco_outcomes.specs.Conversions.{WritesNumber, kept_behind_number}
 use Rattle.teco_command_outcomes.specs.Deletions.{IsDone}
 use Rattle.teco_outcomes.specs.Queries.{Asks}
 use Rattle.teco_command_outcomes.proofs.Changing.{changes_plainly, changes_singles}
@@ -246,13 +253,17 @@ one_line text plain =
     })
 
 -- ---- how long it is
-few_digits : (m : ℕ) → m < 10 ^ 10 → (1 ≤ length (fmt.decimal m)) × (length (fmt.decimal m) ≤ 10)
-few_digits m h = (
-  omega (arith, decimal_nonempty m (omega arith)),
-  length-decimal-le 10 m (omega arith) h (omega arith),
-)
+some_digits : (m : ℕ) → m < 2 ^ 64 → 1 ≤ length (fmt.decimal m)
+some_digits m h = omega (arith, decimal_nonempty m h)
 
 -- ---- it is inserted
+-- what is written of a number within bounds, by a text of so few or many characters
+abbrev pub written : ℤ → ℤ → ℤ → ℤ → List Clause
+written least most few many =
+    MOVES ∷ LONGER ∷ MORE ∷ FURTHER ∷ LAST ∷ Wants least ((pos 1, NUMBER) ∷ NO ∷ NO ∷ NO ∷ [])
+    ∷ Wants most ((negsuc 0, NUMBER) ∷ NO ∷ NO ∷ NO ∷ []) ∷ Wants few ((pos 1, LONG) ∷ NO ∷ NO ∷ NO ∷ [])
+    ∷ Wants many ((negsuc 0, LONG) ∷ NO ∷ NO ∷ NO ∷ []) ∷ []
+
 module _ (s : Point) (here : Places) (given : ℕ → ℤ) (new : List ℕ) (inside : s.kept.pointer ≤ length s.kept.text)
     (plain : line_place new (length new) (pos 0) ≡ 0) where
   abbrev before : Before
@@ -265,81 +276,159 @@ module _ (s : Point) (here : Places) (given : ℕ → ℤ) (new : List ℕ) (ins
       ≡ line_place s.kept.text s.kept.pointer (pos 1) + length new
   end = grown_end s.kept.text new s.kept.pointer inside
 
-  writes : AreMet WRITES before → Leads WRITES before s (kept_with new s.kept) None
-  writes met = leads_singles WRITES before s (kept_with new s.kept) refl refl met singles where
-    singles : (which : Single) → Some (pos (single (commanded s (kept_with new s.kept) None) which))
-        ≡ changed WRITES before (One which) (Some (pos (single (commanded s s.kept None) which)))
-    singles Steps = refl
-    singles Pointer = ap Some (omega (arith, ints))
-    singles Size = ap Some (omega (arith, ints, long))
-    singles Held = ap Some (omega (arith, ints, long))
-    singles LineEnd = ap Some (omega (arith, ints, end))
-    singles LineStart = ap (λ x. Some (pos x)) (grown_kept s.kept.text new s.kept.pointer inside plain)
-    singles LastLength = ap Some (omega (arith, ints))
+  writes : (row : List Clause) (a b c d : ℤ) → row ≡ written a b c d → AreMet (written a b c d) before
+      → Leads row before s (kept_with new s.kept) None
+  writes row a b c d e met =
+      subst (λ r. Leads r before s (kept_with new s.kept) None) (sym e)
+      (leads_singles (written a b c d) before s (kept_with new s.kept) refl refl met singles) where
+        singles : (which : Single) → Some (pos (single (commanded s (kept_with new s.kept) None) which))
+            ≡ changed (written a b c d) before (One which) (Some (pos (single (commanded s s.kept None) which)))
+        singles Steps = refl
+        singles Pointer = ap Some (omega (arith, ints))
+        singles Size = ap Some (omega (arith, ints, long))
+        singles Held = ap Some (omega (arith, ints, long))
+        singles LineEnd = ap Some (omega (arith, ints, end))
+        singles LineStart = ap (λ x. Some (pos x)) (grown_kept s.kept.text new s.kept.pointer inside plain)
+        singles LastLength = ap Some (omega (arith, ints))
 
-  writes_sign : AreMet WRITES_SIGN before → Leads WRITES_SIGN before s (kept_with new s.kept) None
-  writes_sign met = leads_singles WRITES_SIGN before s (kept_with new s.kept) refl refl met singles where
-    singles : (which : Single) → Some (pos (single (commanded s (kept_with new s.kept) None) which))
-        ≡ changed WRITES_SIGN before (One which) (Some (pos (single (commanded s s.kept None) which)))
-    singles Steps = refl
-    singles Pointer = ap Some (omega (arith, ints))
-    singles Size = ap Some (omega (arith, ints, long))
-    singles Held = ap Some (omega (arith, ints, long))
-    singles LineEnd = ap Some (omega (arith, ints, end))
-    singles LineStart = ap (λ x. Some (pos x)) (grown_kept s.kept.text new s.kept.pointer inside plain)
-    singles LastLength = ap Some (omega (arith, ints))
+-- a number is within bounds, and its text is not longer than they say
+pub record IsWithin (span : Span) (x : ℤ) : Type 0 where
+  least : span.least ≤ℤ x
+  most : x ≤ℤ span.most
+  some : 1 ≤ length (decimal x)
+  few : length (decimal x) ≤ span.long
+
+-- each number of 32 bits is within the bounds of one of these
+data IsOneOf (x : ℤ) : Type 0 where
+  is_one : IsWithin ONE x → IsOneOf x
+  is_few : IsWithin FEW x → IsOneOf x
+  is_many : IsWithin MANY x → IsOneOf x
+  is_most : IsWithin ALL x → IsOneOf x
+  is_below : IsWithin BELOW x → IsOneOf x
+
+one_of : (x : ℤ) → FitsSigned w32 x → IsOneOf x
+one_of (pos m) fits = elim (above_or 10 m) as (λ x. IsOneOf (pos m)) [
+  | inl ten ↦ elim (above_or 1000 m) as (λ x. IsOneOf (pos m)) [
+    | inl thousand ↦ elim (above_or 1000000000 m) as (λ x. IsOneOf (pos m)) [
+      | inl more ↦ is_most (record {
+        least = omega (arith, ints, more);
+        most = omega (arith, ints, fits);
+        some = some_digits m (omega (arith, ints, fits));
+        few = length-decimal-le 10 m (omega arith) (omega (arith, ints, fits)) (omega arith);
+      })
+      | inr less ↦ is_many (record {
+        least = omega (arith, ints, thousand);
+        most = omega (arith, ints, less);
+        some = some_digits m (omega (arith, less));
+        few = length-decimal-le 9 m (omega arith) (omega (arith, less)) (omega arith);
+      })
+    ]
+    | inr less ↦ is_few (record {
+      least = omega (arith, ints, ten);
+      most = omega (arith, ints, less);
+      some = some_digits m (omega (arith, less));
+      few = length-decimal-le 3 m (omega arith) (omega (arith, less)) (omega arith);
+    })
+  ]
+  | inr less ↦ is_one (record {
+    least = omega (arith, ints);
+    most = omega (arith, ints, less);
+    some = some_digits m (omega (arith, less));
+    few = length-decimal-le 1 m (omega arith) (omega (arith, less)) (omega arith);
+  })
+]
+one_of (negsuc m) fits =
+    let most = length-decimal-le 10 (suc m) (omega arith) (omega (arith, ints)) (omega arith) in
+    is_below (record {
+      least = omega (arith, ints);
+      most = omega (arith, ints);
+      some = omega arith;
+      few = omega (arith, most);
+    })
+
+-- what is asked and done of a number within bounds
+pub record IsWritten (case : Case) (ways : List command.Way) (form : List Term) (all : Outcomes) (span : Span) :
+    Type 0 where
+  pub room : (n : ℕ) (v : Valuation) (s : Point)
+      → IsTrueOf n v case s → All (IsGuarded n v) all.guarded.items → FitsIn span n v form s
+  pub place : ℕ
+  pub row : List Clause
+  pub way : IsWay ways place row
+  pub is : row ≡ written (neg_ℤ span.least) span.most (negsuc 0) (pos span.long)
+
+pub record AreWritten (case : Case) (ways : List command.Way) (form : List Term) (all : Outcomes) : Type 0 where
+  pub one : IsWritten case ways form all ONE
+  pub few : IsWritten case ways form all FEW
+  pub many : IsWritten case ways form all MANY
+  pub most : IsWritten case ways form all ALL
+  pub below : IsWritten case ways form all BELOW
 
 pub writes_number : (case : Case) (ways : List command.Way) (form : List Term) (here : Places) (all : Outcomes)
-    → AreCommanded case ways (form ∷ []) here all.cases.items → IsWay ways 0 WRITES → IsWay ways 1 WRITES_SIGN
-    → ((n : ℕ) (v : Valuation) (s : Point) → IsTrueOf n v case s → All (linear.Holds n v) all.conditions.items
-    → FitsSigned w32 (value form n v) × (length s.kept.text + 11 ≤ LIMIT))
+    → AreCommanded case ways (form ∷ []) here all.cases.items → AreWritten case ways form all
+    → ((n : ℕ) (v : Valuation) → All (linear.Holds n v) all.conditions.items → FitsSigned w32 (value form n v))
     → WritesNumber form case all
-writes_number case ways form here all are w0 w1 room n v s begins =
-    performed n all s _ (no_answer (kept_with new s.kept)) (inserted new s.kept small) (by_sign x refl) where
-      x : ℤ
-      x = value form n v
+writes_number case ways form here all are spans fits n v s begins = by_span (one_of x r) where
+  x : ℤ
+  x = value form n v
 
-      new : List ℕ
-      new = decimal x
+  new : List ℕ
+  new = decimal x
 
-      given : ℕ → ℤ
-      given i = value (slice_index_or (form ∷ []) i []) n v
+  r : FitsSigned w32 x
+  r = fits n v begins.conditions
 
-      r : FitsSigned w32 x × (length s.kept.text + 11 ≤ LIMIT)
-      r = room n v s begins.true_of begins.conditions
+  plain : line_place new (length new) (pos 0) ≡ 0
+  plain = one_line new (written_plain x r)
 
-      plain : line_place new (length new) (pos 0) ≡ 0
-      plain = one_line new (written_plain x r.0)
+  within : (span : Span) → IsWritten case ways form all span → IsWithin span x
+      → IsDone n all s (insertion_of (decimal x) s.kept)
+  within span is w =
+      let room : length s.kept.text + span.long ≤ LIMIT =
+      is.room n v s begins.true_of begins.guarded w.least w.most in
+      let small : length (text_after_insertion s.kept.text s.kept.pointer new) ≤ LIMIT =
+      omega (arith, grown_long s.kept.text new s.kept.pointer begins.whole.inside, w.few) in
+      performed n all s _ (no_answer (kept_with new s.kept)) (inserted new s.kept small)
+      (by n v case ways (form ∷ []) here all is.place is.row s (kept_with new s.kept) None (λ i. pos (length new)) are
+      is.way begins.true_of
+      (writes s here (λ i. value (slice_index_or (form ∷ []) i []) n v) new begins.whole.inside plain is.row
+      (neg_ℤ span.least) span.most (negsuc 0) (pos span.long) is.is (
+        omega (arith, ints, w.least),
+        (omega (arith, ints, w.most), (omega (arith, ints, w.some), (omega (arith, ints, w.few), tt))),
+      )))
 
-      D : Type 0
-      D = Describe n all (commanded s (kept_with new s.kept) None)
+  by_span : IsOneOf x → IsDone n all s (insertion_of (decimal x) s.kept)
+  by_span (is_one w) = within ONE spans.one w
+  by_span (is_few w) = within FEW spans.few w
+  by_span (is_many w) = within MANY spans.many w
+  by_span (is_most w) = within ALL spans.most w
+  by_span (is_below w) = within BELOW spans.below w
 
-      short : (y : ℤ) → x ≡ y → length new ≤ 11
-      short (pos m) e =
-          let few = few_digits m (omega (arith, ints, r.0)) in
-          subst (λ z. length (decimal z) ≤ 11) (sym e) (omega (arith, few.1))
-      short (negsuc m) e =
-          let few = few_digits (suc m) (omega (arith, ints, r.0)) in
-          subst (λ z. length (decimal z) ≤ 11) (sym e) (omega (arith, few.1))
+-- ---- room
+pub has_room : (case : Case) (form : List Term) (span : Span) (guarded : Guarded) (least most : List Term)
+    (others : List (List Term)) → guarded.symbols ≡ case.symbols
+    → ((n : ℕ) (v : Valuation) → All (linear.Holds n v) case.constraints.items → All (linear.Holds n v) others)
+    → ((n : ℕ) (v : Valuation) → value least n v ≡ value form n v -ℤ span.least)
+    → ((n : ℕ) (v : Valuation) → value most n v ≡ span.most -ℤ value form n v)
+    → guarded.constraints.items ≡ (others ++ least ∷ []) ++ most ∷ []
+    → ((n : ℕ) (v : Valuation) (s : Point) → IsTrueOf n v case s
+    → value guarded.wanted n v ≡ pos LIMIT -ℤ pos (length s.kept.text) -ℤ pos span.long)
+    → HasRoomFor case form span guarded
+has_room case form span guarded least most others symbols copies least_is most_is items wanted n v s true_of holds low
+    high =
+    let H = linear.Holds n v in
+    let known = copies n v true_of.fits.constraints in
+    let above : H least = omega (arith, ints, least_is n v, low) in
+    let below : H most = omega (arith, ints, most_is n v, high) in
+    let asked = All-push H (others ++ least ∷ []) most (All-push H others least known above) below in
+    let so : H guarded.wanted = holds v (λ symbol h. refl) (subst (All H) (sym items) asked) in
+    omega (arith, ints, so, wanted n v s true_of)
 
-      small : length (text_after_insertion s.kept.text s.kept.pointer new) ≤ LIMIT
-      small = omega (arith, grown_long s.kept.text new s.kept.pointer begins.whole.inside, short x refl, r.1)
-
-      by_sign : (y : ℤ) → x ≡ y → D
-      by_sign (pos m) e =
-          let few = few_digits m (omega (arith, ints, r.0)) in
-          let long : length new ≡ length (decimal (pos m)) = ap (λ z. length (decimal z)) e in
-          by n v case ways (form ∷ []) here all 0 WRITES s (kept_with new s.kept) None (λ i. pos (length new)) are w0
-          begins.true_of
-          (writes s here given new begins.whole.inside plain
-          (omega (arith, ints, e), (omega (arith, ints, few.0, long), (omega (arith, ints, few.1, long), tt))))
-      by_sign (negsuc m) e =
-          let few = few_digits (suc m) (omega (arith, ints, r.0)) in
-          let long : length new ≡ length (decimal (negsuc m)) = ap (λ z. length (decimal z)) e in
-          by n v case ways (form ∷ []) here all 1 WRITES_SIGN s (kept_with new s.kept) None (λ i. pos (length new)) are
-          w1 begins.true_of
-          (writes_sign s here given new begins.whole.inside plain
-          (omega (arith, ints, e), (omega (arith, ints, few.0, long), (omega (arith, ints, few.1, long), tt))))
+pub adds_room : (case : Case) (form : List Term) (span : Span) (asked all : List Guarded) (guarded : Guarded)
+    → all ≡ asked ++ guarded ∷ [] → HasRoomFor case form span guarded → AddsRoom case form span asked all
+adds_room case form span asked all guarded items has = record {
+  others = λ n v h. (All-pop (IsGuarded n v) all asked (Some guarded) items h).0;
+  room = λ n v s t h. has n v s t (All-pop (IsGuarded n v) all asked (Some guarded) items h).1;
+}
 
 -- ---- what is asked
 pub stands_alone : (case : Case) (form : Option (List Term)) (operator : Option Operator) → operator ≡ None

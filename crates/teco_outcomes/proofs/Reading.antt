@@ -1,5 +1,6 @@
 -- The code of a character.
-use Rattle.std.proofs.Common.{◌≡◌, ℕ, zero, suc, ◌+◌, ◌<◌, ◌≤◌, ◌⊎◌, inl, inr, ℤ, pos, negsuc, ◌+ℤ◌, List, [], ◌∷◌, length}
+use Rattle.std.proofs.Common.{◌≡◌, ℕ, zero, suc, ◌+◌, ◌<◌, ◌≤◌, ◌⊎◌, inl, inr, ℤ, pos, negsuc, ◌+ℤ◌, List, [], ◌∷◌}
+use Rattle.std.proofs.Common.{length}
 use Rattle.std.proofs.Common.{Bool, true, false, Some, None, get_or, slice_index_or, refl, sym, ap, subst, ◌∙◌, arith}
 use Rattle.std.proofs.lemmas.Bool.Decides.{nat_tests}
 use Rattle.std.proofs.lemmas.Int.{ints}
@@ -35,7 +36,8 @@ use Rattle.teco_rows.proofs.Commanding.{read_at}
 use Rattle.teco_rows.proofs.Leading.{answers, leads}
 use Rattle.teco_rows.proofs.Lines.{IsBegin, IsEnd, above_or, begin_most, clash, end_least, ends, line_begin, line_end}
 use Rattle.teco_rows.proofs.Ways.{IsWay, by}
-use Rattle.teco_outcomes.specs.declared.characters.TheConstants.{AT_FIRST, AT_LAST, BEFORE, BEHIND, ENDS_HERE, ENDS_THERE, HIGH_HERE}
+use Rattle.teco_outcomes.specs.declared.characters.TheConstants.{AT_FIRST, AT_LAST, BEFORE, BEHIND, ENDS_HERE}
+use Rattle.teco_outcomes.specs.declared.characters.TheConstants.{ENDS_THERE, HIGH_HERE}
 use Rattle.teco_outcomes.specs.declared.characters.TheConstants.{HIGH_THERE, INSIDE, LOW_HERE, LOW_THERE}
 use Rattle.teco_outcomes.specs.Characters.{AnswersCode, GivesCharacter}
 use Rattle.teco_flow_outcomes.specs.Law.{Goes, Law, StepsTo, point_of}
@@ -318,7 +320,8 @@ module _ (case : Case) (ways : List command.Way) (here : Places) (all : Outcomes
 pub gives_code : (case : Case) (form : List Term) (number : ℤ) (all : Outcomes)
     → ((n : ℕ) (v : Valuation) → value form n v ≡ number) → AnswersCode number case all → GivesCharacter form case all
 gives_code case form number all known answers n v s begins =
-    subst (λ x. Describe n all (commanded s s.kept (Some (character x s.kept)))) (sym (known n v)) (answers n v s begins)
+    subst (λ x. Describe n all (commanded s s.kept (Some (character x s.kept)))) (sym (known n v))
+    (answers n v s begins)
 
 -- ---- a character that is anywhere
 pub gives_character : (case : Case) (ways : List command.Way) (form : List Term) (here : Places) (all : Outcomes)

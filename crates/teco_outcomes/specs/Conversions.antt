@@ -1,5 +1,7 @@
 -- What is asked of \.
-use Rattle.std.specs.Prelude.{◌≡◌, ℕ, ◌+◌, List, Option}
+use Rattle.std.specs.Prelude.{◌≡◌, ℕ, ◌+◌, ◌≤◌, ◌≤ℤ◌, List, Option, length}
+use Rattle.std.specs.List.{All}
+use Rattle.teco_base.specs.declared.TheConstants.{LIMIT}
 use Rattle.teco_base.specs.NumberText.{decimal}
 use Rattle.teco_linear.specs.declared.term.Term.{Term}
 use Rattle.teco_linear.specs.Form.{Valuation, value}
@@ -9,10 +11,12 @@ use Rattle.teco_model.specs.Insertion.{insertion_of}
 use Rattle.teco_model.specs.State.{Kept}
 use Rattle.teco_model.specs.laws.Whole.{IsWhole}
 use Rattle.teco_rows.specs.declared.case.Case.{Case}
+use Rattle.teco_rows.specs.declared.outcomes.Guarded.{Guarded}
 use Rattle.teco_rows.specs.declared.outcomes.Outcomes.{Outcomes}
 use Rattle.teco_rows.specs.Cases.{value_if}
-use Rattle.teco_rows.specs.Foretold.{Begins, Describe, Succeeds, with_level}
+use Rattle.teco_rows.specs.Foretold.{Begins, Describe, IsGuarded, Succeeds, with_level}
 use Rattle.teco_rows.specs.States.{Point, IsTrueOf, Describes, behind}
+use Rattle.teco_outcomes.specs.declared.conversions.Span.{Span}
 use Rattle.teco_command_outcomes.specs.Changes.{with_kept}
 use Rattle.teco_command_outcomes.specs.Deletions.{IsDone}
 
@@ -45,3 +49,19 @@ abbrev pub WritesNumber : List Term → Case → Outcomes → Type 0
 WritesNumber form case all =
     (n : ℕ) (v : Valuation) (s : Point)
     → Begins n v case all s → IsDone n all s (insertion_of (decimal (value form n v)) s.kept)
+
+-- the buffer has room for a number that is within bounds
+abbrev pub FitsIn : Span → ℕ → Valuation → List Term → Point → Type 0
+FitsIn span n v form s =
+    span.least ≤ℤ value form n v → value form n v ≤ℤ span.most → length s.kept.text + span.long ≤ LIMIT
+
+-- it has, if a guarded condition holds
+abbrev pub HasRoomFor : Case → List Term → Span → Guarded → Type 0
+HasRoomFor case form span guarded =
+    (n : ℕ) (v : Valuation) (s : Point) → IsTrueOf n v case s → IsGuarded n v guarded → FitsIn span n v form s
+
+-- it has, if these guarded conditions hold, and those others hold too
+pub record AddsRoom (case : Case) (form : List Term) (span : Span) (asked all : List Guarded) : Type 0 where
+  pub others : (n : ℕ) (v : Valuation) → All (IsGuarded n v) all → All (IsGuarded n v) asked
+  pub room : (n : ℕ) (v : Valuation) (s : Point)
+      → IsTrueOf n v case s → All (IsGuarded n v) all → FitsIn span n v form s

@@ -1,11 +1,8 @@
 //! What comes of `\`, which reads a number at the pointer, or writes one.
-ghost use Rattle.std.specs.Prelude.{◌≡◌, ℕ, ◌+◌, ◌≤◌, IfOk, length};
-ghost use Rattle.teco_base.specs.declared.TheConstants.{LIMIT};
-ghost use Rattle.teco_linear.specs.Form.{Valuation};
-ghost use Rattle.teco_linear.specs.Implied.{Holds};
-ghost use Rattle.teco_outcomes.specs.Conversions.{IsBehindNumber, IsStanding, ReadsNumber, WritesNumber};
+ghost use Rattle.std.specs.Prelude.{◌≡◌, ℕ, IfOk};
+ghost use Rattle.teco_outcomes.specs.Conversions.{AddsRoom, IsBehindNumber, IsStanding, ReadsNumber};
+ghost use Rattle.teco_outcomes.specs.Conversions.{HasRoomFor, WritesNumber};
 ghost use Rattle.teco_outcomes.specs.Queries.{Asks};
-ghost use Rattle.teco_rows.specs.States.{Point, IsTrueOf};
 
 use std::alloc::Global;
 use teco_base::LIMIT;
@@ -15,13 +12,14 @@ use teco_command_outcomes::insertions::counted;
 use teco_command_outcomes::motions::{LINE_END, POINTER, SIZE};
 use teco_linear::Form;
 use teco_model::kind::Query;
+use teco_rows::applied::copied_constraints;
 use teco_rows::case::Case;
 use teco_rows::commands::{Way, commands};
 use teco_rows::fault::Fault;
 use teco_rows::forms::{single, within_32_bits};
 use teco_rows::levels::{NO, at_level, give_any, pending, waiting};
 use teco_rows::measure::{Family, Single};
-use teco_rows::outcomes::Outcomes;
+use teco_rows::outcomes::{Guarded, Outcomes};
 use teco_rows::row::{Clause, Mark, Of};
 
 // Where the number ends.
@@ -31,9 +29,6 @@ const PLACE: Of = Of::Unknown(0);
 const NUMBER: Of = Of::Given(0);
 
 const LONG: Of = Of::Unknown(0);
-
-// The most characters of a number of 32 bits.
-const MOST: usize = 11;
 
 // A number has no line end in it.
 const READS: [Clause; 3] = [
@@ -52,26 +47,102 @@ const FURTHER: Clause = Clause::Sets(LINE_END, 0, [(1, Of::Was(LINE_END)), (1, L
 
 const LAST: Clause = Clause::Sets(Mark::One(Single::LastLength), 0, [(1, LONG), NO, NO, NO]);
 
-// A number of 32 bits has 1 to 10 digits, and one below 0 a sign.
-const WRITES: [Clause; 8] = [
+// The bounds of a number, and the most characters that one within them has.
+#[derive(Clone, Copy)]
+struct Span {
+    least: i64,
+    most: i64,
+    long: usize,
+}
+
+const ONE: Span = Span {
+    least: 0,
+    most: 9,
+    long: 1,
+};
+
+const FEW: Span = Span {
+    least: 10,
+    most: 999,
+    long: 3,
+};
+
+const MANY: Span = Span {
+    least: 1_000,
+    most: 999_999_999,
+    long: 9,
+};
+
+const ALL: Span = Span {
+    least: 1_000_000_000,
+    most: 2_147_483_647,
+    long: 10,
+};
+
+const BELOW: Span = Span {
+    least: -2_147_483_648,
+    most: -1,
+    long: 11,
+};
+
+// What is written of a number within those bounds.
+const WRITES_ONE: [Clause; 9] = [
     MOVES,
     LONGER,
     MORE,
     FURTHER,
     LAST,
     Clause::Wants(0, [(1, NUMBER), NO, NO, NO]),
+    Clause::Wants(9, [(-1, NUMBER), NO, NO, NO]),
     Clause::Wants(-1, [(1, LONG), NO, NO, NO]),
-    Clause::Wants(10, [(-1, LONG), NO, NO, NO]),
+    Clause::Wants(1, [(-1, LONG), NO, NO, NO]),
 ];
 
-const WRITES_SIGN: [Clause; 8] = [
+const WRITES_FEW: [Clause; 9] = [
     MOVES,
     LONGER,
     MORE,
     FURTHER,
     LAST,
+    Clause::Wants(-10, [(1, NUMBER), NO, NO, NO]),
+    Clause::Wants(999, [(-1, NUMBER), NO, NO, NO]),
+    Clause::Wants(-1, [(1, LONG), NO, NO, NO]),
+    Clause::Wants(3, [(-1, LONG), NO, NO, NO]),
+];
+
+const WRITES_MANY: [Clause; 9] = [
+    MOVES,
+    LONGER,
+    MORE,
+    FURTHER,
+    LAST,
+    Clause::Wants(-1_000, [(1, NUMBER), NO, NO, NO]),
+    Clause::Wants(999_999_999, [(-1, NUMBER), NO, NO, NO]),
+    Clause::Wants(-1, [(1, LONG), NO, NO, NO]),
+    Clause::Wants(9, [(-1, LONG), NO, NO, NO]),
+];
+
+const WRITES_ALL: [Clause; 9] = [
+    MOVES,
+    LONGER,
+    MORE,
+    FURTHER,
+    LAST,
+    Clause::Wants(-1_000_000_000, [(1, NUMBER), NO, NO, NO]),
+    Clause::Wants(2_147_483_647, [(-1, NUMBER), NO, NO, NO]),
+    Clause::Wants(-1, [(1, LONG), NO, NO, NO]),
+    Clause::Wants(10, [(-1, LONG), NO, NO, NO]),
+];
+
+const WRITES_BELOW: [Clause; 9] = [
+    MOVES,
+    LONGER,
+    MORE,
+    FURTHER,
+    LAST,
+    Clause::Wants(2_147_483_648, [(1, NUMBER), NO, NO, NO]),
     Clause::Wants(-1, [(-1, NUMBER), NO, NO, NO]),
-    Clause::Wants(-2, [(1, LONG), NO, NO, NO]),
+    Clause::Wants(-1, [(1, LONG), NO, NO, NO]),
     Clause::Wants(11, [(-1, LONG), NO, NO, NO]),
 ];
 
@@ -100,15 +171,43 @@ fn read_number(case: &Case, alloc: Global) -> Result<Outcomes, Fault>
     give_any(&behind, alloc)
 }
 
-// The condition that the buffer has room for any number.
-fn room(case: &Case, alloc: Global) -> Result<Form, Fault>
-    ensures { IfOk result (λ condition. (n : ℕ) (v : Valuation) (s : Point) → IsTrueOf n v case.now s
-        → Holds n v condition → length s.kept.text + 11 ≤ LIMIT) }
+// The condition that the buffer has room for a number, asked where that is within bounds.
+fn room(case: &Case, number: &Form, span: Span, alloc: Global) -> Result<Guarded, Fault>
+    ensures { IfOk result (λ guarded. HasRoomFor case.now number.now span guarded) }
 {
+    let least = Form::constant(i128::from(span.least), alloc)?;
+    let most = Form::constant(i128::from(span.most), alloc)?;
+    let above = number.sub(&least, alloc)?;
+    let below = most.sub(number, alloc)?;
+    let mut constraints = copied_constraints(&case.constraints, alloc)?;
+    constraints.push(above)?;
+    constraints.push(below)?;
     let size = single(case, Single::Size, alloc)?;
-    let most = counted(LIMIT - MOST, alloc)?;
-    let left = most.sub(&size, alloc)?;
-    Ok(left)
+    let limit = counted(LIMIT, alloc)?;
+    let long = counted(span.long, alloc)?;
+    let free = limit.sub(&size, alloc)?;
+    let wanted = free.sub(&long, alloc)?;
+    Ok(Guarded {
+        symbols: case.symbols,
+        constraints,
+        wanted,
+    })
+}
+
+// With what is asked of others.
+fn with_room(
+    case: &Case,
+    number: &Form,
+    span: Span,
+    asked: Vec<Guarded>,
+    alloc: Global,
+) -> Result<Vec<Guarded>, Fault>
+    ensures { IfOk result (λ all. AddsRoom case.now number.now span asked.items all.items) }
+{
+    let guarded = room(case, number, span, alloc)?;
+    let mut all = asked;
+    all.push(guarded)?;
+    Ok(all)
 }
 
 // A number is inserted in decimal, where it is one of 32 bits.
@@ -116,23 +215,38 @@ fn write_number(case: &Case, number: Form, alloc: Global) -> Result<Outcomes, Fa
     ensures { IfOk result (λ all. WritesNumber number case.now all) }
 {
     let here = at_level(case)?;
-    let mut conditions = within_32_bits(&number, alloc)?;
-    let left = room(case, alloc)?;
-    conditions.push(left)?;
+    let conditions = within_32_bits(&number, alloc)?;
+    let one = with_room(case, &number, ONE, Vec::new(alloc), alloc)?;
+    let few = with_room(case, &number, FEW, one, alloc)?;
+    let many = with_room(case, &number, MANY, few, alloc)?;
+    let most = with_room(case, &number, ALL, many, alloc)?;
+    let guarded = with_room(case, &number, BELOW, most, alloc)?;
     let ways = [
         Way {
             answers: &[],
-            does: &WRITES,
+            does: &WRITES_ONE,
         },
         Way {
             answers: &[],
-            does: &WRITES_SIGN,
+            does: &WRITES_FEW,
+        },
+        Way {
+            answers: &[],
+            does: &WRITES_MANY,
+        },
+        Way {
+            answers: &[],
+            does: &WRITES_ALL,
+        },
+        Way {
+            answers: &[],
+            does: &WRITES_BELOW,
         },
     ];
     let cases = commands(case, &ways, &[number], here, alloc)?;
     Ok(Outcomes {
         conditions,
-        guarded: Vec::new(alloc),
+        guarded,
         cases,
         away: Vec::new(alloc),
     })

@@ -1,17 +1,17 @@
 -- Runs end from cut points.
-use Rattle.std.proofs.Common.{◌≡◌, ℕ, zero, suc, ◌+◌, ◌≤◌, sym, ◌∙◌, subst, arith}
+use Rattle.std.proofs.Common.{◌≡◌, ◌⊎◌, inl, inr, ℕ, zero, suc, ◌+◌, ◌-◌, ◌<◌, ◌≤◌, sym, ◌∙◌, subst, arith}
+use Rattle.std.proofs.lemmas.Bool.{cases_order}
 use Rattle.std.specs.List.{All, Any}
-use Rattle.teco_law_tables.specs.Staying.{ReadsNoFileCommand}
+use Rattle.teco_law_tables.specs.Staying.{NoFileCommands}
 use Rattle.teco_model.specs.Run.{Reaches}
-use Rattle.teco_model.specs.State.{State, Next, End}
+use Rattle.teco_model.specs.State.{State, End}
 use Rattle.teco_model.specs.Step.{step}
 use Rattle.teco_rows.specs.declared.case.Case.{Case}
 use Rattle.teco_flow_outcomes.specs.Law.{point_of}
 use Rattle.teco_rows.specs.States.{Describes}
 use Rattle.teco_paths.specs.Paths.{Course, Ends, IsAtCut, IsOf, CutsEnd, IsFollowed, Leads}
 use Rattle.teco_paths.specs.Runs.{Ground, IsAt, EndsBy, held_in}
-use Rattle.teco_paths.proofs.Walking.{none_more, none_on, none_yet, one_step, reached_none, reaches_here, reaches_on}
-use Rattle.teco_paths.proofs.Walking.{run_on}
+use Rattle.teco_paths.proofs.Walking.{none_on, none_yet, reached_none, reaches_here, reaches_on, run_on}
 use Rattle.teco_poly.specs.Polynomial.{value}
 
 -- at the end
@@ -30,37 +30,43 @@ ends_here most held steps s over within small = record {
   ends = record { last = s; steps = reaches_here s; end = over };
 }
 
--- a step before it
-module _ (most held steps : ℕ) (s t : State) (goes : step s ≡ Next t) (small : held_in s ≤ held)
-    (later : EndsBy most held (steps + 1) t) where
-  small_on : (k : ℕ) (u : State) → k ≤ 1 + later.more → Reaches k s u → held_in u ≤ held
-  small_on zero u least r = subst (λ u. held_in u ≤ held) (reached_none s u r) small
-  small_on (suc k) u least r =
-      let e : suc k ≡ 1 + k = omega arith in
-      later.small k u (omega (arith, least))
-      (sym (run_on 1 s t (one_step s t goes) k) ∙ subst (λ k. Reaches k s u) e r)
+-- some steps before it
+module _ (most held steps j : ℕ) (s t : State) (came : Reaches j s t)
+    (small : (k : ℕ) (u : State) → k < j → Reaches k s u → held_in u ≤ held) (later : EndsBy most held (steps + j) t)
+  where
+    small_on : (k : ℕ) (u : State) → k ≤ j + later.more → Reaches k s u → held_in u ≤ held
+    small_on k u least r = by (cases_order k j)
+      where
+        behind : (i : ℕ) → k ≡ j + i → held_in u ≤ held
+        behind i e =
+            later.small i u (omega (arith, least, e)) (sym (run_on j s t came i) ∙ subst (λ k. Reaches k s u) e r)
 
-  pub ends_on : ReadsNoFileCommand s → EndsBy most held steps s
-  ends_on none = record {
-    more = 1 + later.more;
-    new = later.new;
-    within = omega (arith, later.within);
-    none = none_on 1 later.more s t (none_more 0 s s (none_yet s) (reaches_here s) none) (one_step s t goes) later.none;
-    small = small_on;
-    ends = record {
-      last = later.ends.last;
-      steps = reaches_on 1 later.more s t later.ends.last (one_step s t goes) later.ends.steps;
-      end = later.ends.end;
-    };
-  }
+        by : (k ≡ j) ⊎ ((k < j) ⊎ (j < k)) → held_in u ≤ held
+        by (inl e) = behind 0 (omega (arith, e))
+        by (inr (inl less)) = small k u less r
+        by (inr (inr more)) = behind (k - j) (omega (arith, more))
+
+    pub ends_on : NoFileCommands s j → EndsBy most held steps s
+    ends_on none = record {
+      more = j + later.more;
+      new = later.new;
+      within = omega (arith, later.within);
+      none = none_on j later.more s t none came later.none;
+      small = small_on;
+      ends = record {
+        last = later.ends.last;
+        steps = reaches_on j later.more s t later.ends.last came later.ends.steps;
+        end = later.ends.end;
+      };
+    }
 
 -- the cut points that a run comes to later
-pub cuts_on : (course : Course) (ground : Ground) (steps : ℕ) (s t : State) → step s ≡ Next t
-    → CutsEnd course ground 1 steps s → CutsEnd course ground 0 (steps + 1) t
-cuts_on course ground steps s t goes cuts k u least r any =
-    let e : (steps + 1) + k ≡ steps + (1 + k) = omega arith in
+pub cuts_on : (course : Course) (ground : Ground) (steps j : ℕ) (s t : State) → 1 ≤ j → Reaches j s t
+    → CutsEnd course ground 1 steps s → CutsEnd course ground 0 (steps + j) t
+cuts_on course ground steps j s t some came cuts k u least r any =
+    let e : (steps + j) + k ≡ steps + (j + k) = omega arith in
     subst (λ m. Ends course ground m u) (sym e)
-    (cuts (1 + k) u (omega arith) (reaches_on 1 k s t u (one_step s t goes) r)
+    (cuts (j + k) u (omega (arith, some)) (reaches_on j k s t u came r)
     (subst (λ m. Any (IsAtCut course ground m u) course.cuts) e any))
 
 pub cuts_later : (course : Course) (ground : Ground) (steps : ℕ) (s : State)

@@ -1,5 +1,5 @@
 -- The law of an element, where a run stands at its node.
-use Rattle.std.proofs.Common.{◌≡◌, ℕ, ◌<◌, ◌≤◌, refl, sym, ap, ◌∙◌, subst, arith, List, [], ◌∷◌}
+use Rattle.std.proofs.Common.{◌≡◌, ℕ, ◌+◌, ◌<◌, ◌≤◌, refl, sym, ap, ◌∙◌, subst, arith, List, [], ◌∷◌}
 use Rattle.std.proofs.Common.{map, length, Bool, true, false, Some, Ok, ok_or, nat_lt}
 use Rattle.std.proofs.lemmas.Bool.{ltb-true}
 use Rattle.std.specs.Prelude.{⊤, is_some}
@@ -21,10 +21,12 @@ use Rattle.teco_model.specs.Macros.{Library, Needs}
 use Rattle.teco_model.specs.Searching.{has_colon}
 use Rattle.teco_model.specs.Skip.{skip_of, route_of}
 use Rattle.teco_model.specs.State.{State, frame_of}
+use Rattle.teco_model.specs.Step.{step}
 use Rattle.teco_model.proofs.Chains.{bound, some_of}
 use Rattle.teco_rows.specs.declared.case.Case.{Case}
 use Rattle.teco_rows.specs.declared.outcomes.Outcomes.{Outcomes}
-use Rattle.teco_flow_outcomes.specs.Law.{IsOfIteration, Law, LeadsOn, StandsAt}
+use Rattle.teco_flow_outcomes.specs.Law.{Goes, IsOfIteration, Law, LeadsOn, StandsAt, StepsTo}
+use Rattle.teco_search_outcomes.specs.PageSearches.{Comes, LongLaw}
 use Rattle.teco_search_outcomes.specs.Pages.{IsOpenFor, PageLaw}
 use Rattle.teco_search_outcomes.specs.Searches.{IsAsked, SearchLaw}
 use Rattle.teco_paths.specs.Runs.{Ground, IsAt}
@@ -125,18 +127,18 @@ module _ (sound : NodesAreSound) (nodes : List Node) (number : ℕ) (e : Element
     (ground : Ground) (s : State) (linked : AreLinked ground.library ground.entry nodes)
     (at : IsAt nodes ground number s) (node : Node) (is : numbered nodes number ≡ Some node) where
   reads : element_at s.frames.running.text s.frames.running.place ≡ Ok (Some e)
-  reads = reads_here nodes ground number s node linked is at sound ∙ ap Ok (read node is)
+  reads = reads_here nodes ground number s node linked is at.stands sound ∙ ap Ok (read node is)
 
   abbrev targets : List Position
-  targets = (linked_here nodes ground number s node linked is at).targets
+  targets = (linked_here nodes ground number s node linked is at.stands).targets
 
   ways_here : element_ways ground.library e.kind e (position_of s) ≡ Ok targets
   unfolding ways_at
   ways_here =
       subst (λ (p : Position). element_ways ground.library e.kind e p ≡ Ok targets)
-      (position_here nodes ground number s node linked is at)
+      (position_here nodes ground number s node linked is at.stands)
       (ap (λ r. ways_at ground.library r node.stand.position) (sym (read node is))
-      ∙ (linked_here nodes ground number s node linked is at).goes)
+      ∙ (linked_here nodes ground number s node linked is at.stands).goes)
 
   stands_at : HasPair e.kind → StandsAt e s
   stands_at pair =
@@ -150,7 +152,7 @@ module _ (sound : NodesAreSound) (nodes : List Node) (number : ℕ) (e : Element
     colon_here : has_colon e s.frames.running ≡ answers
     colon_here =
         sym (colon ∙ ap (λ (p : Position). has_colon e (frame_of p.running.text))
-        (position_here nodes ground number s node linked is at))
+        (position_here nodes ground number s node linked is at.stands))
 
     search_here : search_ways (has_colon e s.frames.running) (map start_of s.frames.running.loops) e (position_of s)
         ≡ Ok targets
@@ -161,7 +163,7 @@ module _ (sound : NodesAreSound) (nodes : List Node) (number : ℕ) (e : Element
         omega (
           arith,
           inside none,
-          ap (λ (p : Position). length p.running.starts) (position_here nodes ground number s node linked is at),
+          ap (λ (p : Position). length p.running.starts) (position_here nodes ground number s node linked is at.stands),
           mapped s.frames.running.loops,
         )
 
@@ -182,13 +184,21 @@ open_for page.Write needs files met opened = ap is_some (opened.output met).1
 open_for page.Yank needs files met opened = ap is_some (opened.input met).1
 open_for page.Append needs files met opened = ap is_some (opened.input met).1
 
+-- an element of one step
+at_once : (n : ℕ) (all : Outcomes) (e : Element) (steps below : ℕ) (s : State)
+    → StepsTo (Goes n all e steps below s) (step s)
+    → (more : ℕ) × Comes more (Goes n all e (steps + more) below s) s (step s)
+at_once n all e steps below s h =
+    let same : steps ≡ steps + 0 = omega arith in (0, subst (λ k. StepsTo (Goes n all e k below s) (step s)) same h)
+
 module _ (sound : NodesAreSound) (nodes : List Node) (needs : Needs) (number : ℕ) (e : Element) (case : Case)
     (all : Outcomes)
     (one : 0 < number) (last : number ≤ length nodes) (read : IsRead nodes number (Some e)) where
   pub law_at_element : HasPair e.kind → Law e case all → LawAt nodes needs number e case all
   law_at_element pair law ground v s steps same linked at begins =
       let n = node_of nodes number one last in
-      law ground.n v s steps ground.below (stands_at sound nodes number e read ground s linked at n.0 n.1 pair) begins
+      at_once ground.n all e steps ground.below s
+      (law ground.n v s steps ground.below (stands_at sound nodes number e read ground s linked at n.0 n.1 pair) begins)
 
   pub law_at_search : (x : Search) (answers : Bool) → e.kind ≡ kind.Search x
       → ((node : Node) (f : Element) → numbered nodes number ≡ Some node → node.element ≡ Some f
@@ -198,18 +208,36 @@ module _ (sound : NodesAreSound) (nodes : List Node) (needs : Needs) (number : �
       → SearchLaw answers e case all → LawAt nodes needs number e case all
   law_at_search x answers kind_is colon inside law ground v s steps same linked at begins =
       let n = node_of nodes number one last in
+      at_once ground.n all e steps ground.below s
+      (law ground.n v s steps ground.below (reads sound nodes number e read ground s linked at n.0 n.1)
+      (is_asked sound nodes number e read ground s linked at n.0 n.1 x kind_is answers
+      (colon n.0 e n.1 (read n.0 n.1))
+      (λ none. ltb-true 0 (length n.0.stand.position.running.starts) (sym (inside none n.0 n.1))) answers refl)
+      begins)
+
+  -- a search over pages, where an output is open
+  pub law_at_long_search : (x : Search) (answers : Bool) → e.kind ≡ kind.Search x
+      → ((node : Node) (f : Element) → numbered nodes number ≡ Some node → node.element ≡ Some f
+      → answers ≡ has_colon f (frame_of node.stand.position.running.text))
+      → (answers ≡ false → (node : Node) → numbered nodes number ≡ Some node
+      → true ≡ nat_lt 0 (length node.stand.position.running.starts))
+      → needs.output ≡ true → LongLaw answers e case all → LawAt nodes needs number e case all
+  law_at_long_search x answers kind_is colon inside met law ground v s steps same linked at begins =
+      let n = node_of nodes number one last in
       law ground.n v s steps ground.below (reads sound nodes number e read ground s linked at n.0 n.1)
       (is_asked sound nodes number e read ground s linked at n.0 n.1 x kind_is answers
       (colon n.0 e n.1 (read n.0 n.1))
       (λ none. ltb-true 0 (length n.0.stand.position.running.starts) (sym (inside none n.0 n.1))) answers refl)
-      begins
+      at.begins
+      (ap is_some ((subst (λ (x : Needs). AreOpen x s.world.files) same at.files).output met).1) at.whole.world begins
 
   pub law_at_page : (p : Page) → e.kind ≡ kind.Page p → IsMet needs p → PageLaw p e case all
       → LawAt nodes needs number e case all
   law_at_page p kind_is met law ground v s steps same linked at begins =
       let n = node_of nodes number one last in
-      law ground.n v s steps ground.below (record {
+      at_once ground.n all e steps ground.below s
+      (law ground.n v s steps ground.below (record {
         stands = stands_at sound nodes number e read ground s linked at n.0 n.1 (subst HasPair (sym kind_is) tt);
         begins = at.begins;
         file = open_for p needs s.world.files met (subst (λ (x : Needs). AreOpen x s.world.files) same at.files);
-      }) begins
+      }) begins)

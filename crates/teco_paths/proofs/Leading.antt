@@ -68,10 +68,14 @@ taken_is ways way target other k h g e = let z : Some target ≡ Some other = sy
 module _ (along : StepsGoAlongNodes) (nodes : List Node) (ground : Ground) (number : ℕ) (away : Bool) (s t : State)
     (steps : Steps nodes ground number away s t) where
   abbrev goes_to : GoesTo (stands nodes ground.entry) number steps.node s t
-  goes_to = went nodes ground number s steps.node steps.linked steps.is steps.at along t steps.goes steps.done
+  goes_to =
+      went nodes ground number s steps.node steps.linked steps.is steps.at.stands along
+      (steps.at.left steps.node steps.is) steps.at.loaded t steps.goes steps.done
 
   there : StandsBy nodes ground goes_to.target t
-  there = stands_there nodes ground number s steps.node steps.linked steps.is steps.at along t steps.goes steps.done
+  there =
+      stands_there nodes ground number s steps.node steps.linked steps.is steps.at.stands along
+      (steps.at.left steps.node steps.is) steps.at.loaded t steps.goes steps.done
 
   -- one way
   pub only_way : (first : ℕ) → slice_get steps.node.ways 0 ≡ Some first → slice_get steps.node.ways 1 ≡ None

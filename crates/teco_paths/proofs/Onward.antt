@@ -1,7 +1,7 @@
 -- Paths from spot to spot.
 use Rattle.std.proofs.lemmas.Bool.{cases_order}
-use Rattle.std.proofs.Common.{◌≡◌, ◌⊎◌, inl, inr, ℕ, zero, suc, ◌+◌, ◌-◌, ◌<◌, refl, sym, ap, ◌∙◌, subst, arith, List}
-use Rattle.std.proofs.Common.{[], ◌∷◌, ◌++◌, length}
+use Rattle.std.proofs.Common.{◌≡◌, ◌⊎◌, inl, inr, ℕ, zero, suc, ◌+◌, ◌-◌, ◌<◌, ◌≤◌, refl, sym, ap, ◌∙◌, subst, arith}
+use Rattle.std.proofs.Common.{List, [], ◌∷◌, ◌++◌, length}
 use Rattle.std.specs.Prelude.{slice_index_or}
 use Rattle.std.specs.List.{All}
 use Rattle.teco_law_expansion.specs.Run.{RunsEnd}
@@ -11,7 +11,7 @@ use Rattle.teco_paths.specs.declared.cut.Cut.{Cut}
 use Rattle.teco_paths.specs.declared.spot.Spot.{Spot}
 use Rattle.teco_paths.specs.Claims.{ComesTo, IsCaseOf}
 use Rattle.teco_paths.specs.Paths.{Arrives, Course, IsFollowed, Leads, LeadsOn}
-use Rattle.teco_paths.specs.Runs.{IsAt}
+use Rattle.teco_paths.specs.Runs.{IsAt, held_in}
 use Rattle.teco_paths.specs.Steps.{GoOn, IsInTime, IsSharper, IsSmall, IsThere}
 use Rattle.teco_paths.proofs.Ending.{cut_here, cuts_later, cuts_on, ends_here, ends_on}
 use Rattle.teco_paths.proofs.Lists.{all_both, over_behind}
@@ -25,13 +25,16 @@ pub leads_by : (course : Course) (number : ℕ) (case : Case) (spots : List Spot
 leads_by course number case spots small go all ground steps s of at d cuts =
     let g = go ground steps s of.needs of.linked at d in
     let any = g.there in
-    let there : IsThere course.nodes ground (steps + 1) g.next any.1 = any.4 in
+    let j = g.more + 1 in
+    let there : IsThere course.nodes ground (steps + j) g.next any.1 = any.4 in
     let leads : LeadsOn course any.1 = subst (LeadsOn course) any.3 (all any.0 any.1 any.2) in
-    ends_on (value course.commands ground.n) (value course.size ground.n) steps s g.next g.goes (small ground.n _ d)
-    (leads ground (steps + 1) g.next of
+    let held : held_in s ≤ value course.size ground.n = small ground.n _ d in
+    ends_on (value course.commands ground.n) (value course.size ground.n) steps j s g.next g.goes
+    (λ k u less r. omega (arith, held, g.small k u (omega (arith, less)) r))
+    (leads ground (steps + j) g.next of
     (record { stands = there.stands; begins = g.begins; loaded = g.loaded; whole = g.whole; files = g.files })
     there.described
-    (cuts_on course ground steps s g.next g.goes cuts))
+    (cuts_on course ground steps j s g.next (omega arith) g.goes cuts))
     g.none
 
 pub leads_at_once : (course : Course) (spot : Spot) → Leads course 1 spot.number spot.case → LeadsOn course spot

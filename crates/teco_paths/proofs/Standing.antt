@@ -7,11 +7,12 @@ use Rattle.teco_law_expansion.specs.Run.{GoesTo, MovesFrom, Went, Stayed, StepsG
 use Rattle.teco_law_expansion.specs.Steps.{IsLeftAt}
 use Rattle.teco_model.specs.declared.flow.Loop.{Loop}
 use Rattle.teco_model.specs.Element.{element_at}
+use Rattle.teco_model.specs.Macros.{IsLoaded}
 use Rattle.teco_model.specs.State.{Frame, State, Next}
 use Rattle.teco_model.specs.Step.{step}
 use Rattle.teco_model.proofs.Ahead.{element_at-again}
 use Rattle.teco_flow_outcomes.specs.Law.{loops_in}
-use Rattle.teco_paths.specs.Runs.{Ground, StandsBy, IsAt}
+use Rattle.teco_paths.specs.Runs.{Ground, StandsBy}
 use Rattle.teco_paths.proofs.Lists.{same_stand}
 use Rattle.teco_verifier.specs.expansion.Node.{Node, Stand, stands, numbered}
 use Rattle.teco_verifier.specs.expansion.Position.{Spot, Position, starts_in, start_of, spot_of, position_of}
@@ -61,11 +62,11 @@ as_many nodes ground number s node iterations linked is st =
 -- what is read
 module _ (nodes : List Node) (ground : Ground) (number : ℕ) (s : State) (node : Node)
     (linked : AreLinked ground.library ground.entry nodes) (is : numbered nodes number ≡ Some node)
-    (at : IsAt nodes ground number s) where
+    (st : StandsBy nodes ground number s) where
   pub position_here : node.stand.position ≡ position_of s
   position_here =
-      ap (λ (x : Stand). x.position) (same_stand nodes ground.entry number node at.stands.stand is at.stands.at)
-      ∙ at.stands.position
+      ap (λ (x : Stand). x.position) (same_stand nodes ground.entry number node st.stand is st.at)
+      ∙ st.position
 
   pub linked_here : IsLinked ground.library (stands nodes ground.entry) number node
   linked_here = linked.each number node is
@@ -80,15 +81,27 @@ module _ (nodes : List Node) (ground : Ground) (number : ℕ) (s : State) (node 
   reads_there = subst (λ (p : Position). read_at p ≡ Ok node.element) position_here linked_here.reads
 
   -- a step that leaves nothing to do goes one of the ways
-  module _ (along : StepsGoAlongNodes) (t : State) (goes : step s ≡ Next t) (done : t.left ≡ None) where
+  module _ (along : StepsGoAlongNodes) (left : IsLeftAt node.element s.left)
+      (loaded : IsLoaded ground.library s.world.kept) (t : State) (goes : step s ≡ Next t) where
+    pub moves : MovesFrom (stands nodes ground.entry) number node s t
+    moves = along ground.library ground.entry nodes number node s t linked is position_here left loaded goes
+
+    -- behind a step the element is left, or it is one of several steps
+    left_by : MovesFrom (stands nodes ground.entry) number node s t → IsLeftAt node.element t.left
+    left_by (Went g) = subst (IsLeftAt node.element) (sym g.done) tt
+    left_by (Stayed st) = st.long
+
+    pub left_behind : IsLeftAt node.element t.left
+    left_behind = left_by moves
+
+  module _ (along : StepsGoAlongNodes) (left : IsLeftAt node.element s.left)
+      (loaded : IsLoaded ground.library s.world.kept) (t : State) (goes : step s ≡ Next t) (done : t.left ≡ None) where
     went_of : MovesFrom (stands nodes ground.entry) number node s t → GoesTo (stands nodes ground.entry) number node s t
     went_of (Went g) = g
     went_of (Stayed st) = let z : None ≡ Some st.n = sym done ∙ st.left in absurd (cc)
 
     pub went : GoesTo (stands nodes ground.entry) number node s t
-    went =
-        went_of (along ground.library ground.entry nodes number node s t linked is position_here
-        (subst (λ left. IsLeftAt node.element left) (sym at.begins) tt) at.loaded goes)
+    went = went_of (moves along left loaded t goes)
 
     pub stands_there : StandsBy nodes ground went.target t
     stands_there = record { stand = _; at = went.there.at; position = refl }

@@ -1,7 +1,7 @@
 -- One step of a path.
-use Rattle.std.proofs.Common.{◌≡◌, ◌⊎◌, inl, inr, ℕ, ◌+◌, ◌<◌, ◌≤◌, refl, sym, ap, ◌∙◌, subst, arith, List, [], ◌∷◌}
-use Rattle.std.proofs.Common.{◌++◌}
-use Rattle.std.proofs.Common.{map, length, Bool, true, false, Option, Some, None, Ok}
+use Rattle.std.proofs.lemmas.Bool.{cases_order}
+use Rattle.std.proofs.Common.{◌≡◌, ◌⊎◌, inl, inr, ℕ, zero, suc, ◌+◌, ◌<◌, ◌≤◌, refl, sym, ap, ◌∙◌, subst, arith}
+use Rattle.std.proofs.Common.{List, [], ◌∷◌, ◌++◌, map, length, Bool, true, false, Option, Some, None, Ok}
 use Rattle.std.specs.List.{All, Any}
 use Rattle.std.specs.Prelude.{is_some}
 use Rattle.std.specs.Option.{option_map_or}
@@ -10,7 +10,8 @@ use Rattle.teco_law_expansion.specs.Loaded.{StaysLoaded}
 use Rattle.teco_law_expansion.specs.Run.{StepsGoAlongNodes}
 use Rattle.teco_law_facts.specs.Wholeness.{IsWholeState, IsWholeOutcome, WholeIsKept}
 use Rattle.teco_law_facts.specs.SoundSteps.{AreOpen}
-use Rattle.teco_law_tables.specs.Staying.{AreAsOpen, FilesStayOpen, changes_files, is_of_files}
+use Rattle.teco_law_expansion.specs.Steps.{IsLeftAt}
+use Rattle.teco_law_tables.specs.Staying.{AreAsOpen, FilesStayOpen, NoFileCommands, changes_files, is_of_files}
 use Rattle.teco_linear.specs.declared.term.Term.{Term}
 use Rattle.teco_linear.specs.Form.{Valuation}
 use Rattle.teco_linear.specs.Implied.{Holds, Implies}
@@ -23,8 +24,9 @@ use Rattle.teco_model.specs.declared.kind.Stack.TheVariants as stack
 use Rattle.teco_model.specs.declared.kind.Storage.TheVariants as storage
 use Rattle.teco_model.specs.Element.{Element, element_at}
 use Rattle.teco_model.specs.Files.{Files}
-use Rattle.teco_model.specs.Macros.{Library, Needs, is_macro}
-use Rattle.teco_model.specs.State.{Frame, State, Outcome, Next}
+use Rattle.teco_model.specs.Macros.{IsLoaded, Library, Needs, is_macro}
+use Rattle.teco_model.specs.Run.{Reaches, run}
+use Rattle.teco_model.specs.State.{Frame, Frames, State, Outcome, Next}
 use Rattle.teco_model.specs.Step.{step, end_outcome, end_of_text, outcome_at, outcome_of, reply_of}
 use Rattle.teco_model.specs.Storage.{text_in}
 use Rattle.teco_model.specs.Going.{frames_in}
@@ -37,15 +39,17 @@ use Rattle.teco_rows.specs.Foretold.{Begins, IsGuarded}
 use Rattle.teco_flow_outcomes.specs.Law.{Goes, StepsTo, loops_in, point_of}
 use Rattle.teco_rows.specs.States.{Describes, IsTrueOf}
 use Rattle.teco_paths.specs.declared.spot.Spot.{Spot}
-use Rattle.teco_paths.specs.Runs.{Ground, IsAt}
-use Rattle.teco_paths.specs.Steps.{AreSpots, GoOn, GoesBy, GoesOn, IsCall, IsEndOrCall, IsPlain, IsRead}
-use Rattle.teco_paths.specs.Steps.{AreMet, IsKept, IsTextEnd, IsTold, LawAt, Passes, cases_by}
+use Rattle.teco_search_outcomes.specs.PageSearches.{Comes, IsStill}
+use Rattle.teco_paths.specs.Runs.{Ground, IsAt, held_in}
+use Rattle.teco_paths.specs.Steps.{AreSpots, GoOn, GoesBy, GoesByFrames, GoesOn, IsCall, IsDuring, IsEndOrCall}
+use Rattle.teco_paths.specs.Steps.{AreMet, IsKept, IsPlain, IsRead, IsTextEnd, IsTold, LawAt, Passes, cases_by}
 use Rattle.teco_paths.proofs.Lists.{node_of}
-use Rattle.teco_paths.proofs.Standing.{position_here, linked_here, reads_here, reads_there}
-use Rattle.teco_paths.proofs.Walking.{reads_none}
+use Rattle.teco_paths.proofs.Standing.{left_behind, position_here, linked_here, reads_here, reads_there}
+use Rattle.teco_paths.proofs.Walking.{none_more, none_yet, one_step, reached_none, reaches_here, reaches_on, reads_none}
+use Rattle.teco_paths.proofs.Walking.{same_next}
 use Rattle.teco_verifier.specs.expansion.Names.{named_by, written_by, names_macro, writes_macro}
 use Rattle.teco_verifier.specs.expansion.Node.{Node, Stand, numbered}
-use Rattle.teco_verifier.specs.expansion.Position.{Position, start_of, spot_of}
+use Rattle.teco_verifier.specs.expansion.Position.{Position, position_of_frames, start_of, spot_of}
 use Rattle.teco_verifier.specs.expansion.Ways.{return_ways, ways_at}
 
 -- ---- what comes of a step
@@ -91,6 +95,10 @@ open_as_before needs old new same files = record {
   output = λ h. some_there new.output (same.output ∙ ap is_some (files.output h).1);
 }
 
+from_frames : (away : Bool) (e : Element) (t : State) (old new : Frames) → old ≡ new
+    → GoesByFrames away e old t → GoesByFrames away e new t
+from_frames away e t old new same h = subst (λ f. GoesByFrames away e f t) same h
+
 -- ---- the laws that steps stand on
 pub record Laws : Type 0 where
   pub whole : WholeIsKept
@@ -98,6 +106,16 @@ pub record Laws : Type 0 where
   pub loaded : StaysLoaded
   pub sound : NodesAreSound
   pub opened : FilesStayOpen
+
+-- a state that a run comes to at an element so many steps after the first
+record IsMidway (nodes : List Node) (ground : Ground) (number : ℕ) (s : State) (k : ℕ) (u : State) : Type 0 where
+  pub during : IsDuring nodes ground number u
+  pub whole : IsWholeState u
+  pub files : AreOpen ground.needs u.world.files
+  pub frames : u.frames ≡ s.frames
+  pub reached : Reaches k s u
+  pub none : NoFileCommands s k
+  pub small : (j : ℕ) (t : State) → j ≤ k → Reaches j s t → held_in t ≤ held_in s
 
 conditions_hold : (case : Case) (targets : List (List Term)) (n : ℕ) (v : Valuation)
     → All (Implies case.constraints.items) targets
@@ -122,31 +140,117 @@ module _ (laws : Laws) (nodes : List Node) (number : ℕ) (case : Case) (all : O
     guarded = guarded_hold all.guarded.items ground.n v asked.guarded;
   }
 
-  reads : element_at s.frames.running.text s.frames.running.place ≡ Ok node.element
-  reads = reads_here nodes ground number s node linked is at laws.sound
+  abbrev Midway : ℕ → State → Type 0
+  Midway k u = IsMidway nodes ground number s k u
 
-  -- a step whose state is known
-  going : (t : State) (away : Bool) → step s ≡ Next t → t.left ≡ None
-      → ((e : Element) → node.element ≡ Some e → IsTold e.kind → GoesBy away e s t)
-      → writes_macro ground.library node.element ≡ false → changes_files node.element ≡ false
-      → Any (λ made. Describes ground.n made (point_of (steps + 1) ground.below t)) (cases_by away all)
-      → GoesOn nodes ground steps s spots
-  going t away goes done along unwritten unfiled described = record {
-    next = t;
-    goes = goes;
-    none = reads_none s node.element reads unfiled;
-    begins = done;
-    loaded =
-        laws.loaded ground.library s t node.element at.loaded unwritten
-        (reads_there nodes ground number s node linked is at) goes;
-    whole = whole_next laws.whole s t at.whole goes;
-    files =
-        open_as_before ground.needs s.world.files t.world.files (laws.opened s t node.element unfiled reads goes)
-        at.files;
-    there =
-        are ground (steps + 1) s t away
-        (record { linked = linked; at = at; goes = goes; done = done; node = node; is = is; along = along }) described;
+  small_first : (j : ℕ) (t : State) → j ≤ 0 → Reaches j s t → held_in t ≤ held_in s
+  small_first j t l r =
+      let z : j ≡ 0 = omega (arith, l) in
+      let same : s ≡ t = reached_none s t (subst (λ j. Reaches j s t) z r) in
+      subst (λ u. held_in u ≤ held_in s) same (omega arith)
+
+  first : Midway 0 s
+  first = record {
+    during = record {
+      stands = at.stands;
+      left = λ other h. subst (IsLeftAt other.element) (sym at.begins) tt;
+      loaded = at.loaded;
+    };
+    whole = at.whole;
+    files = at.files;
+    frames = refl;
+    reached = reaches_here s;
+    none = none_yet s;
+    small = small_first;
   }
+
+  module _ (k : ℕ) (u : State) (mid : Midway k u) where
+    reads : element_at u.frames.running.text u.frames.running.place ≡ Ok node.element
+    reads = reads_here nodes ground number u node linked is mid.during.stands laws.sound
+
+    module _ (t : State) (goes : step u ≡ Next t) (unwritten : writes_macro ground.library node.element ≡ false)
+        (unfiled : changes_files node.element ≡ false) where
+      loaded_behind : IsLoaded ground.library t.world.kept
+      loaded_behind =
+          laws.loaded ground.library u t node.element mid.during.loaded unwritten
+          (reads_there nodes ground number u node linked is mid.during.stands) goes
+
+      open_behind : AreOpen ground.needs t.world.files
+      open_behind =
+          open_as_before ground.needs u.world.files t.world.files (laws.opened u t node.element unfiled reads goes)
+          mid.files
+
+      none_behind : NoFileCommands s (suc k)
+      none_behind = none_more k s u mid.none mid.reached (reads_none u node.element reads unfiled)
+
+      reaches_behind : Reaches (k + 1) s t
+      reaches_behind = reaches_on k 1 s u t mid.reached (one_step u t goes)
+
+      -- a step that stays at the element
+      module _ (still : IsStill s t) where
+        left_there : (other : Node) → numbered nodes number ≡ Some other → IsLeftAt other.element t.left
+        left_there other h =
+            left_behind nodes ground number u other linked h mid.during.stands laws.along (mid.during.left other h)
+            mid.during.loaded t goes
+
+        small_there : (j : ℕ) (w : State) → j ≤ suc k → Reaches j s w → held_in w ≤ held_in s
+        small_there j w l r = by (cases_order j (suc k))
+          where
+            by : (j ≡ suc k) ⊎ ((j < suc k) ⊎ (suc k < j)) → held_in w ≤ held_in s
+            by (inl e) =
+                let z : k + 1 ≡ j = omega (arith, e) in
+                let same : t ≡ w = same_next t w (sym reaches_behind ∙ (ap (λ i. run i s) z ∙ r)) in
+                subst (λ x. held_in x ≤ held_in s) same still.held
+            by (inr (inl less)) = mid.small j w (omega (arith, less)) r
+            by (inr (inr more)) = absurd (omega (arith, l, more))
+
+        midway_next : Midway (suc k) t
+        midway_next = record {
+          during = record {
+            stands = record {
+              stand = mid.during.stands.stand;
+              at = mid.during.stands.at;
+              position = mid.during.stands.position ∙ ap position_of_frames (mid.frames ∙ sym still.frames);
+            };
+            left = left_there;
+            loaded = loaded_behind;
+          };
+          whole = whole_next laws.whole u t mid.whole goes;
+          files = open_behind;
+          frames = still.frames;
+          reached = let z : k + 1 ≡ suc k = omega arith in subst (λ j. Reaches j s t) z reaches_behind;
+          none = none_behind;
+          small = small_there;
+        }
+
+      -- a step whose state is known
+      going : (away : Bool) → t.left ≡ None
+          → ((e : Element) → node.element ≡ Some e → IsTold e.kind → GoesBy away e u t)
+          → Any (λ made. Describes ground.n made (point_of (steps + (k + 1)) ground.below t)) (cases_by away all)
+          → GoesOn nodes ground steps s spots
+      going away done along described = record {
+        more = k;
+        next = t;
+        goes = reaches_behind;
+        none = let z : suc k ≡ k + 1 = omega arith in subst (NoFileCommands s) z none_behind;
+        small = mid.small;
+        begins = done;
+        loaded = loaded_behind;
+        whole = whole_next laws.whole u t mid.whole goes;
+        files = open_behind;
+        there =
+            are ground (steps + (k + 1)) u t away
+            (record {
+              linked = linked;
+              at = mid.during;
+              goes = goes;
+              done = done;
+              node = node;
+              is = is;
+              along = along;
+            })
+            described;
+      }
 
   -- an element whose law is told
   module _ (e : Element) (element_is : node.element ≡ Some e) (plain : IsPlain nodes number e.kind)
@@ -160,7 +264,7 @@ module _ (laws : Laws) (nodes : List Node) (number : ℕ) (case : Case) (all : O
     by_writes (inr unnamed_here) =
         unnamed ground.library (written_by e.kind) (named_by e.kind) (named_too e.kind)
         (ap (names_macro ground.library) (sym element_is)
-        ∙ sym (linked_here nodes ground number s node linked is at).names ∙ unnamed_here)
+        ∙ sym (linked_here nodes ground number s node linked is at.stands).names ∙ unnamed_here)
 
     unwritten_here : writes_macro ground.library node.element ≡ false
     unwritten_here = ap (writes_macro ground.library) element_is ∙ by_writes (plain.writes node is)
@@ -168,24 +272,51 @@ module _ (laws : Laws) (nodes : List Node) (number : ℕ) (case : Case) (all : O
     unfiled_here : changes_files node.element ≡ false
     unfiled_here = ap changes_files element_is ∙ no_files e.kind plain.told
 
-    goes_by : (away : Bool) (t : State) → GoesBy away e s t → (f : Element) → node.element ≡ Some f → IsTold f.kind
-        → GoesBy away f s t
-    goes_by away t h f reads told = subst (λ f. GoesBy away f s t) (same_element f reads) h
+    module _ (k : ℕ) (u : State) (mid : Midway k u) where
+      -- it goes on as it would from the first state
+      goes_by : (away : Bool) (t : State) → GoesBy away e s t → (f : Element) → node.element ≡ Some f → IsTold f.kind
+          → GoesBy away f u t
+      goes_by away t h f reads told =
+          subst (λ f. GoesBy away f u t) (same_element f reads)
+          (from_frames away e t s.frames u.frames (sym mid.frames) h)
 
-    by_goes : (t : State) → step s ≡ Next t → Goes ground.n all e steps ground.below s t
+      described_there : (t : State) (cases : List Case)
+          → Any (λ made. Describes ground.n made (point_of ((steps + k) + 1) ground.below t)) cases
+          → Any (λ made. Describes ground.n made (point_of (steps + (k + 1)) ground.below t)) cases
+      described_there t cases h =
+          let z : (steps + k) + 1 ≡ steps + (k + 1) = omega arith in
+          subst (λ j. Any (λ made. Describes ground.n made (point_of j ground.below t)) cases) z h
+
+      by_goes : (t : State) → step u ≡ Next t → Goes ground.n all e (steps + k) ground.below s t
+          → GoesOn nodes ground steps s spots
+      by_goes t goes (inl a) =
+          going k u mid t goes unwritten_here unfiled_here false (a.left ∙ at.begins) (goes_by false t a.there)
+          (described_there t all.cases.items a.described)
+      by_goes t goes (inr away) =
+          let a = away.2 in
+          going k u mid t goes unwritten_here unfiled_here true (a.left ∙ at.begins)
+          (goes_by true t (away.0, away.1, a.there)) (described_there t all.away.items a.described)
+
+    -- the steps at the element, one by one
+    comes : (more k total : ℕ) (u : State) → k + more ≡ total → Midway k u
+        → Comes more (Goes ground.n all e (steps + total) ground.below s) s (step u)
         → GoesOn nodes ground steps s spots
-    by_goes t goes (inl a) =
-        going t false goes (a.left ∙ at.begins) (goes_by false t a.there) unwritten_here unfiled_here a.described
-    by_goes t goes (inr away) =
-        let a = away.2 in
-        going t true goes (a.left ∙ at.begins) (goes_by true t (away.0, away.1, a.there)) unwritten_here unfiled_here
-        a.described
+    comes zero k total u sum mid h =
+        let z : total ≡ k = omega (arith, sum) in
+        let next = steps_to (Goes ground.n all e (steps + total) ground.below s) (step u) h in
+        by_goes k u mid next.0 next.1
+        (subst (λ j. Goes ground.n all e (steps + j) ground.below s next.0) z next.2)
+    comes (suc more) k total u sum mid h =
+        let next =
+        steps_to (λ t. IsStill s t × Comes more (Goes ground.n all e (steps + total) ground.below s) s (step t))
+        (step u) h in
+        comes more (suc k) total next.0 (omega (arith, sum))
+        (midway_next k u mid next.0 next.1 unwritten_here unfiled_here next.2.0) next.2.1
 
     pub element_goes : GoesOn nodes ground steps s spots
     element_goes =
-        let next = steps_to (Goes ground.n all e steps ground.below s) (step s)
-        (law ground v s steps same linked at begins) in
-        by_goes next.0 next.1 next.2
+        let l = law ground v s steps same linked at begins in
+        comes l.0 0 l.0 s (omega arith) first l.1
 
   -- a call, or the end of a text
   module _ (passes : Passes case all) (unfiled : changes_files node.element ≡ false) where
@@ -206,10 +337,10 @@ module _ (laws : Laws) (nodes : List Node) (number : ℕ) (case : Case) (all : O
             (s.frames.running.loops ++ loops_in s.frames.callers))) all.away.items
             → GoesOn nodes ground steps s spots
         by (inl d) =
-            going t false goes done (λ e r told. absurd (untold e r told)) unwritten unfiled
+            going 0 s first t goes unwritten unfiled false done (λ e r told. absurd (untold e r told))
             (subst (λ p. Any (λ made. Describes ground.n made p) all.cases.items) (sym same) d)
         by (inr d) =
-            going t true goes done (λ e r told. absurd (untold e r told)) unwritten unfiled
+            going 0 s first t goes unwritten unfiled true done (λ e r told. absurd (untold e r told))
             (subst (λ p. Any (λ made. Describes ground.n made p) all.away.items) (sym same) d)
 
   -- M goes to the beginning of its text
@@ -220,7 +351,7 @@ module _ (laws : Laws) (nodes : List Node) (number : ℕ) (case : Case) (all : O
 
     calls : step s ≡ Next called
     unfolding step reply_of
-    calls = ap (outcome_at s) (reads ∙ ap Ok element_is) ∙ ap (λ k. outcome_of k e s) kind_is
+    calls = ap (outcome_at s) (reads 0 s first ∙ ap Ok element_is) ∙ ap (λ k. outcome_of k e s) kind_is
 
     untold_call : (f : Element) → node.element ≡ Some f → IsTold f.kind → ⊥
     untold_call f r told =
@@ -238,14 +369,14 @@ module _ (laws : Laws) (nodes : List Node) (number : ℕ) (case : Case) (all : O
   -- the end of a text goes back to the text that waits
   module _ (passes : Passes case all) (element_is : node.element ≡ None) (one : length node.ways ≡ 1) where
     returns_here : return_ways (map start_of s.frames.running.loops) (map spot_of s.frames.callers)
-        ≡ Ok (linked_here nodes ground number s node linked is at).targets
+        ≡ Ok (linked_here nodes ground number s node linked is at.stands).targets
     unfolding ways_at
     returns_here =
         subst (λ (p : Position). return_ways p.running.starts p.callers ≡ Ok
-        (linked_here nodes ground number s node linked is at).targets)
-        (position_here nodes ground number s node linked is at)
+        (linked_here nodes ground number s node linked is at.stands).targets)
+        (position_here nodes ground number s node linked is at.stands)
         (ap (λ read. ways_at ground.library read node.stand.position) (sym element_is)
-        ∙ (linked_here nodes ground number s node linked is at).goes)
+        ∙ (linked_here nodes ground number s node linked is at.stands).goes)
 
     none_open : (loops : List Loop) (callers : List Frame) (targets : List Position)
         → return_ways (map start_of loops) (map spot_of callers) ≡ Ok targets → loops ≡ []
@@ -271,7 +402,7 @@ module _ (laws : Laws) (nodes : List Node) (number : ℕ) (case : Case) (all : O
 
     caller_here : (caller : Frame) × (others : List Frame) × (s.frames.callers ≡ caller ∷ others)
     caller_here =
-        let l = linked_here nodes ground number s node linked is at in
+        let l = linked_here nodes ground number s node linked is at.stands in
         waiting s.frames.running.loops s.frames.callers l.targets returns_here
         (some_way _ _ number node.stand l.targets node.ways l.leads one)
 
@@ -281,7 +412,7 @@ module _ (laws : Laws) (nodes : List Node) (number : ℕ) (case : Case) (all : O
     returns : step s ≡ Next returned
     unfolding step
     returns =
-        ap (outcome_at s) (reads ∙ ap Ok element_is) ∙ ap (λ loops. end_of_text loops s) closed
+        ap (outcome_at s) (reads 0 s first ∙ ap Ok element_is) ∙ ap (λ loops. end_of_text loops s) closed
         ∙ ap (λ callers. end_outcome callers s) caller_here.2
 
     same_loops : caller_here.0.loops ++ loops_in caller_here.1 ≡ s.frames.running.loops ++ loops_in s.frames.callers

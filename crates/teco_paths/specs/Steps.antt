@@ -7,7 +7,8 @@ use Rattle.teco_linear.specs.Form.{Valuation}
 use Rattle.teco_linear.specs.Implied.{Holds, Implies}
 use Rattle.teco_law_facts.specs.SoundSteps.{AreOpen}
 use Rattle.teco_law_facts.specs.Wholeness.{IsWholeState}
-use Rattle.teco_law_tables.specs.Staying.{ReadsNoFileCommand}
+use Rattle.teco_law_expansion.specs.Steps.{IsLeftAt}
+use Rattle.teco_law_tables.specs.Staying.{NoFileCommands}
 use Rattle.teco_model.specs.declared.kind.Flow.TheVariants as flow
 use Rattle.teco_model.specs.declared.kind.Kind.{Kind}
 use Rattle.teco_model.specs.declared.kind.Kind.TheVariants as kind
@@ -17,29 +18,34 @@ use Rattle.teco_model.specs.declared.kind.Test.{Test}
 use Rattle.teco_model.specs.Element.{Element}
 use Rattle.teco_model.specs.laws.Whole.{IsWhole}
 use Rattle.teco_model.specs.Macros.{IsLoaded, Needs}
-use Rattle.teco_model.specs.State.{State, Next}
+use Rattle.teco_model.specs.Run.{Reaches}
+use Rattle.teco_model.specs.State.{Frames, State, Next}
 use Rattle.teco_model.specs.Step.{step}
 use Rattle.teco_rows.specs.declared.case.Case.{Case}
 use Rattle.teco_rows.specs.declared.outcomes.Guarded.{Guarded}
 use Rattle.teco_rows.specs.declared.outcomes.Outcomes.{Outcomes}
 use Rattle.teco_flow_outcomes.specs.Flow.{turned}
 use Rattle.teco_rows.specs.Foretold.{Begins}
-use Rattle.teco_flow_outcomes.specs.Law.{Goes, StepsTo, frames_on, place_away, point_of}
+use Rattle.teco_flow_outcomes.specs.Law.{Goes, frames_on, place_away, point_of}
+use Rattle.teco_search_outcomes.specs.PageSearches.{Comes}
 use Rattle.teco_rows.specs.States.{Point, IsShape, IsTrueOf, Describes}
 use Rattle.teco_paths.specs.declared.spot.Spot.{Spot}
-use Rattle.teco_paths.specs.Runs.{Ground, StandsBy, IsAt}
+use Rattle.teco_paths.specs.Runs.{Ground, StandsBy, IsAt, held_in}
 use Rattle.teco_paths.specs.Paths.{Course}
 use Rattle.teco_poly.specs.Polynomial.{value}
 use Rattle.teco_verifier.specs.expansion.Names.{written_by}
 use Rattle.teco_verifier.specs.expansion.Node.{Node, numbered}
 
 -- Where a text goes on: behind an element, or elsewhere.
-abbrev pub GoesBy : Bool → Element → State → State → Type 0
-GoesBy false e s t = t.frames ≡ frames_on e.next t.frames.running.loops s.frames
-GoesBy true e s t =
+abbrev pub GoesByFrames : Bool → Element → Frames → State → Type 0
+GoesByFrames false e frames t = t.frames ≡ frames_on e.next t.frames.running.loops frames
+GoesByFrames true e frames t =
     (place : ℕ)
-    × (place_away e.kind e s.frames.running ≡ Some place)
-    × (t.frames ≡ frames_on place t.frames.running.loops s.frames)
+    × (place_away e.kind e frames.running ≡ Some place)
+    × (t.frames ≡ frames_on place t.frames.running.loops frames)
+
+abbrev pub GoesBy : Bool → Element → State → State → Type 0
+GoesBy away e s t = GoesByFrames away e s.frames t
 
 -- neither a command of files nor a call
 abbrev pub IsTold : Kind → Type 0
@@ -60,18 +66,24 @@ IsMet needs page.Next = needs.output ≡ true
 IsMet needs page.Write = needs.output ≡ true
 IsMet needs p = needs.input ≡ true
 
--- The law of an element, where a run stands at its node.
+-- The law of an element, where a run stands at its node: so many steps lead on at the element, and one more leaves it.
 abbrev pub LawAt : List Node → Needs → ℕ → Element → Case → Outcomes → Type 0
 LawAt nodes needs number e case all =
     (ground : Ground) (v : Valuation) (s : State) (steps : ℕ)
     → ground.needs ≡ needs → AreLinked ground.library ground.entry nodes → IsAt nodes ground number s
     → Begins ground.n v case all (point_of steps ground.below s)
-    → StepsTo (Goes ground.n all e steps ground.below s) (step s)
+    → (more : ℕ) × Comes more (Goes ground.n all e (steps + more) ground.below s) s (step s)
+
+-- A state of a run stands where a number does, and may be at an element of several steps there.
+pub record IsDuring (nodes : List Node) (ground : Ground) (number : ℕ) (s : State) : Type 0 where
+  pub stands : StandsBy nodes ground number s
+  pub left : (node : Node) → numbered nodes number ≡ Some node → IsLeftAt node.element s.left
+  pub loaded : IsLoaded ground.library s.world.kept
 
 -- a step from the node of a number goes by a way
 pub record Steps (nodes : List Node) (ground : Ground) (number : ℕ) (away : Bool) (s t : State) : Type 0 where
   pub linked : AreLinked ground.library ground.entry nodes
-  pub at : IsAt nodes ground number s
+  pub at : IsDuring nodes ground number s
   pub goes : step s ≡ Next t
   pub done : t.left ≡ None
   pub node : Node
@@ -216,16 +228,19 @@ pub record IsPlain (nodes : List Node) (number : ℕ) (k : Kind) : Type 0 where
   pub writes :
       (node : Node) → numbered nodes number ≡ Some node → written_by k ≡ None ⊎ (node.names_macro ≡ false)
 
--- A step goes to a state that one of the spots describes, where it stands.
+-- So many steps and one more go to a state that one of the spots describes, where it stands, by no command of files;
+-- and no more is held before the last than at first.
 pub record GoesOn (nodes : List Node) (ground : Ground) (steps : ℕ) (s : State) (spots : List Spot) : Type 0 where
+  pub more : ℕ
   pub next : State
-  pub goes : step s ≡ Next next
-  pub none : ReadsNoFileCommand s
+  pub goes : Reaches (more + 1) s next
+  pub none : NoFileCommands s (more + 1)
+  pub small : (k : ℕ) (t : State) → k ≤ more → Reaches k s t → held_in t ≤ held_in s
   pub begins : next.left ≡ None
   pub loaded : IsLoaded ground.library next.world.kept
   pub whole : IsWholeState next
   pub files : AreOpen ground.needs next.world.files
-  pub there : Any (IsThere nodes ground (steps + 1) next) spots
+  pub there : Any (IsThere nodes ground (steps + (more + 1)) next) spots
 
 -- from each state at a number that a case describes
 abbrev pub GoOn : List Node → Needs → ℕ → Case → List Spot → Type 0

@@ -120,24 +120,33 @@ impl Distances {
 }
 
 impl Graph {
-    // The constraints by which a kind was reached, back to another.
+    // The constraints by which a kind was reached, back to another, if their sum shows what is wanted:
+    // where all can't hold, it may not.
     fn back(
         &self,
         distances: &Distances,
-        first: usize,
-        last: usize,
+        wanted: &Edge,
         alloc: Global,
     ) -> Result<Option<Vec<usize>>, PathFault> {
         let mut places = Vec::new(alloc);
-        let mut at = last;
+        let mut at = wanted.to;
+        let mut total: i128 = 0;
         for _ in 0..=self.kinds.len() {
             let Some(edge) = distances.edge(at).and_then(|place| self.edges.get(place)) else {
                 return Ok(None);
             };
+            let Some(sum) = total.checked_add(edge.most) else {
+                return Ok(None);
+            };
             places.push(edge.constraint)?;
+            total = sum;
             at = edge.from;
-            if at == first {
-                return Ok(Some(places));
+            if at == wanted.from {
+                return Ok(if total <= wanted.most {
+                    Some(places)
+                } else {
+                    None
+                });
             }
         }
         Ok(None)
@@ -163,9 +172,7 @@ impl Graph {
             }
         }
         match distances.far(wanted.to) {
-            Some(far) if far <= wanted.most => {
-                self.back(&distances, wanted.from, wanted.to, alloc)
-            }
+            Some(far) if far <= wanted.most => self.back(&distances, wanted, alloc),
             _ => Ok(None),
         }
     }
@@ -189,7 +196,13 @@ impl Graph {
                 None => return Ok(None),
             }
         }
-        self.back(&distances, at, at, alloc)
+        let below = Edge {
+            from: at,
+            to: at,
+            most: -1,
+            constraint: 0,
+        };
+        self.back(&distances, &below, alloc)
     }
 }
 

@@ -11,12 +11,13 @@ use crate::course::Course;
 use crate::fault::PathFault;
 use std::alloc::Global;
 use teco_flow_outcomes::flow::turn;
-use teco_model::kind::{Flow, Page};
+use teco_model::kind::{Flow, Page, Search};
 use teco_model::{Element, Kind, Needs};
 use teco_outcomes::elements::outcomes_of;
 use teco_rows::case::Case;
 use teco_rows::fault::Fault;
 use teco_rows::outcomes::Outcomes;
+use teco_search_outcomes::page_searches::search_pages;
 use teco_search_outcomes::pages::{read_pages, write_pages};
 use teco_search_outcomes::searches::search;
 
@@ -90,6 +91,37 @@ fn is_met(needs: Needs, page: Page) -> bool
     match page {
         Page::Next | Page::Write => needs.output,
         Page::Append | Page::Yank => needs.input,
+    }
+}
+
+// The outcomes of a search over pages, where an output is open.
+fn long_search_at(
+    course: &Course<'_>,
+    number: usize,
+    case: &Case,
+    element: &Element,
+    alloc: Global,
+) -> Result<Outcomes, PathFault>
+    requires one { 0 < number }
+    requires last { number ≤ length course.now.nodes }
+    requires reads { IsRead course.now.nodes number (Some (seen element.now)) }
+    ensures { IfOk result (λ all. LawAt course.now.nodes course.now.needs number (seen element.now) case.now all) }
+{
+    teco_law_expansion::laws::nodes_are_sound();
+    let Kind::Search(kind) = element.kind else {
+        return Err(PathFault::NotTold(number));
+    };
+    if !is_met(course.needs, Page::Next) {
+        return Err(PathFault::NotOpen(number));
+    }
+    let answers = course.nodes.colon(number);
+    let is_inside = course.nodes.inside(number);
+    if !is_told(answers, is_inside) {
+        return Err(PathFault::NotTold(number));
+    }
+    match search_pages(case, kind, element, answers, alloc) {
+        Ok(all) => Ok(all),
+        Err(_) => Err(PathFault::NotTold(number)),
     }
 }
 
@@ -175,6 +207,9 @@ pub fn outcomes_at(
     ensures { IfOk result (λ all. LawAt course.now.nodes course.now.needs number (seen element.now) case.now all) }
 {
     match element.kind {
+        Kind::Search(Search::FindInPages | Search::ReplaceInPages) => {
+            long_search_at(course, number, case, element, alloc)
+        }
         Kind::Search(_) => search_at(course, number, case, element, alloc),
         Kind::Page(_) => page_or_character(course, number, case, element, alloc),
         _ => fitting_at(course, number, case, element, alloc),

@@ -1,22 +1,23 @@
 -- What giving a value does to the measures.
 use Rattle.std.proofs.Common.{◌≡◌, ℕ, ℤ, pos, ◌+ℤ◌, ◌*ℤ◌, List, [], ◌∷◌, length, Some, None, Result, Ok, Err, unwrap_or}
-use Rattle.std.proofs.Common.{Option, false}
+use Rattle.std.proofs.Common.{Option, false, ◌≤ℤ◌, ◌<◌}
 use Rattle.std.proofs.Common.{slice_index_or, zero, suc, negsuc, ◌-ℤ◌, subst, refl, sym, ap, ◌∙◌, arith, FitsSigned}
 use Rattle.std.proofs.lemmas.Int.{ints, SFits-int_wrap, int_wrap_fits}
+use Rattle.std.proofs.lemmas.Nat.{and_le_r}
 use Rattle.std.specs.Prelude.{int_div, IfOk}
 use Rattle.teco_base.specs.Arithmetic.{and, or}
 use Rattle.teco_base.specs.declared.code.Code.{Code}
 use Rattle.teco_model.specs.declared.arguments.Operator.TheVariants.{Plus, Minus, Times, Over, And, Or}
 use Rattle.teco_linear.specs.Implied as linear
 use Rattle.std.specs.List.{All}
-use Rattle.std.specs.Int.{w32}
+use Rattle.std.specs.Int.{w32, cast_unsigned}
 use Rattle.teco_linear.specs.declared.term.Term.{Term}
 use Rattle.teco_linear.specs.Form.{Valuation, value}
 use Rattle.teco_model.specs.Arguments.{level_with, value_with, result_of}
 use Rattle.teco_model.specs.declared.arguments.Level.{Level}
 use Rattle.teco_model.specs.declared.arguments.Operator.{Operator}
 use Rattle.teco_rows.specs.declared.case.Case.{Case}
-use Rattle.teco_rows.specs.declared.levels.TheConstants.{GIVES, WRAPS, STEP, VALUE, NO}
+use Rattle.teco_rows.specs.declared.levels.TheConstants.{GIVES, MASKS, WRAPS, STEP, VALUE, NO}
 use Rattle.teco_rows.specs.declared.row.Of.{Of}
 use Rattle.teco_rows.specs.declared.row.Of.TheVariants.{Given, Unknown}
 use Rattle.teco_rows.specs.declared.row.Clause.TheVariants.{Sets}
@@ -32,7 +33,8 @@ use Rattle.teco_rows.specs.declared.row.Step.{Step}
 use Rattle.teco_rows.specs.Rows.{Before, Holds, changed, weight}
 use Rattle.teco_rows.specs.Cases.{read_with}
 use Rattle.teco_rows.specs.States.{Point, IsShape, IsLed, IsTrueOf, Describes, WaitsFor, behind, measures_of}
-use Rattle.teco_rows.specs.Foretold.{Describe, Gives, IsAllowed, IsOne, IsValued, IsWrapped, Makes, Succeeds}
+use Rattle.teco_rows.specs.Foretold.{Describe, Gives, IsAllowed, IsMaskOf, IsMasked, IsOne, IsValued, IsWrapped, Makes}
+use Rattle.teco_rows.specs.Foretold.{Succeeds}
 use Rattle.teco_rows.specs.Foretold.{Values, Wraps, with_level, level_of, valued_at}
 use Rattle.teco_rows.specs.Foretold.{GivesAny, is_over}
 use Rattle.teco_rows.proofs.Pending.{level_at, level_same}
@@ -82,6 +84,15 @@ module _ (s : Point) (level : Level) (here : Places) (given unknown : ℕ
     becomes = becomes x (Unknown 0) worth (sym e);
   }
 
+  pub masks_holds : (x : ℤ) → level.value ≡ Some x → unknown 0 ≡ x → pos 0 ≤ℤ x → x ≤ℤ given 0
+      → Holds MASKS (record { here = here; measures = measures_of s; given = given; unknown = unknown })
+      (measures_of (behind s (with_level s level)))
+  unfolding before
+  masks_holds x worth e least most = record {
+    met = (omega (arith, ints), (omega (arith, ints), tt));
+    becomes = becomes x (Unknown 0) worth (sym e);
+  }
+
 pub is_valued : (case after : Case) (step : Step) → step.clauses.now ≡ GIVES
     → ((s : Point) → IsShape case.shape s → step.here.level ≡ length s.arguments.outer) → IsLed case step None after
     → IsValued case (slice_index_or step.given.now 0 []) after
@@ -98,6 +109,16 @@ pub is_wrapped : (case after : Case) (step : Step) → step.clauses.now ≡ WRAP
 is_wrapped case after step row at led n v s x true_of fits =
     let b = read_with step n v (measures_of s) (λ i. x) in
     let holds = wraps_holds s (level_of s x) step.here b.given b.unknown (at s true_of.shape) refl x refl refl fits in
+    led_to n v case after step s (level_of s x) b.unknown led true_of
+    (subst (λ r. Holds r b (measures_of (valued_at s x))) (sym row) holds)
+
+pub is_masked : (case after : Case) (step : Step) → step.clauses.now ≡ MASKS
+    → ((s : Point) → IsShape case.shape s → step.here.level ≡ length s.arguments.outer) → IsLed case step None after
+    → IsMasked case (slice_index_or step.given.now 0 []) after
+is_masked case after step row at led n v s x true_of least most =
+    let b = read_with step n v (measures_of s) (λ i. x) in
+    let shape = at s true_of.shape in
+    let holds = masks_holds s (level_of s x) step.here b.given b.unknown shape refl x refl refl least most in
     led_to n v case after step s (level_of s x) b.unknown led true_of
     (subst (λ r. Holds r b (measures_of (valued_at s x))) (sym row) holds)
 
@@ -216,6 +237,27 @@ wraps_one case after operator number conditions all positive wrapped one n v s l
     subst (Succeeds (λ x. Describe n all (valued_at s x))) (sym r.1)
     (describes_one n conditions after all _ one
     (wrapped n v s r.0 begins.true_of (result_fits operator left (value number n v) r.0 r.1)))
+
+-- what is left of a number by a mask
+and_within : (x : ℤ) (k : ℕ) → k < 2147483648 → (pos 0 ≤ℤ and x (pos k)) × (and x (pos k) ≤ℤ pos k)
+and_within x k h =
+    let low = and_le_r (cast_unsigned w32 x) (cast_unsigned w32 (pos k)) in
+    (omega (arith, ints, low), omega (arith, ints, low))
+
+and_mask : (x y : ℤ) → pos 0 ≤ℤ y → y ≤ℤ pos 2147483647 → (pos 0 ≤ℤ and x y) × (and x y ≤ℤ y)
+and_mask x (pos k) h l = and_within x k (omega (arith, ints))
+and_mask x (negsuc k) h l = absurd (omega (arith, ints))
+
+pub masks_one : (case after : Case) (operator : Operator) (number mask : List Term)
+    (conditions : List (List Term)) (all : Outcomes)
+    → IsMaskOf operator number → ((n : ℕ) (v : Valuation) → value mask n v ≡ value number n v)
+    → IsMasked case mask after → IsOne conditions after all → Wraps operator number case all
+masks_one case after operator number mask conditions all is same masked one =
+    subst (λ o. Wraps o number case all) (sym is.takes) (λ n v s left begins.
+    let k = and_mask left (value number n v) (is.least n v) (is.most n v) in
+    describes_one n conditions after all _ one
+    (masked n v s (and left (value number n v)) begins.true_of k.0 (subst (λ y. and left (value number n v) ≤ℤ y)
+    (sym (same n v)) k.1)))
 
 -- any number is given, where nothing is divided by it
 abbrev IsLevel : ℕ → Outcomes → Point → Result Level Code → Type 0

@@ -1,6 +1,7 @@
 -- Where the line places of 1 and of 0 lie, character by character.
 use Rattle.std.proofs.Common.{◌≡◌, ℕ, zero, suc, ◌+◌, ◌≤◌, ◌<◌, ◌⊎◌, inl, inr, ◌∙◌, arith, refl, sym, ap, subst, List}
-use Rattle.std.proofs.Common.{[], ◌∷◌, ◌++◌, ◌-◌, length, get_or, filter, reverse, Bool, true, false, cond, pos, negsuc, nat_lt}
+use Rattle.std.proofs.Common.{[], ◌∷◌, ◌++◌, ◌-◌, length, get_or, filter, reverse, Bool, true, false, cond, pos, negsuc}
+use Rattle.std.proofs.Common.{nat_lt}
 use Rattle.std.proofs.Common.{nat_le}
 use Rattle.std.proofs.lemmas.Bool.Decides.{nat_tests}
 use Rattle.std.proofs.lemmas.List.{reverse-append}

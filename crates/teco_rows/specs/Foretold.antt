@@ -12,7 +12,7 @@ use Rattle.teco_model.specs.Arguments.{Arguments, level_with, result_of}
 use Rattle.teco_model.specs.Going.{After, after}
 use Rattle.teco_model.specs.declared.arguments.Level.{Level}
 use Rattle.teco_model.specs.declared.arguments.Operator.{Operator}
-use Rattle.teco_model.specs.declared.arguments.Operator.TheVariants.{Over}
+use Rattle.teco_model.specs.declared.arguments.Operator.TheVariants.{And, Over}
 use Rattle.teco_model.specs.laws.Whole.{IsWhole}
 use Rattle.teco_rows.specs.declared.case.Case.{Case}
 use Rattle.teco_rows.specs.declared.outcomes.Guarded.{Guarded}
@@ -106,6 +106,18 @@ abbrev pub IsWrapped : Case → Case → Type 0
 IsWrapped case after =
     (n : ℕ) (v : Valuation) (s : Point) (x : ℤ)
     → IsTrueOf n v case s → FitsSigned w32 x → Describes n after (valued_at s x)
+
+-- and where it is any number from 0 to a form
+abbrev pub IsMasked : Case → List Term → Case → Type 0
+IsMasked case form after =
+    (n : ℕ) (v : Valuation) (s : Point) (x : ℤ)
+    → IsTrueOf n v case s → pos 0 ≤ℤ x → x ≤ℤ value form n v → Describes n after (valued_at s x)
+
+-- a form is a number from 0 on of which an operator takes the bits
+pub record IsMaskOf (operator : Operator) (form : List Term) : Type 0 where
+  pub takes : operator ≡ And
+  pub least : (n : ℕ) (v : Valuation) → pos 0 ≤ℤ value form n v
+  pub most : (n : ℕ) (v : Valuation) → value form n v ≤ℤ pos 2147483647
 
 -- there is one case
 pub record IsOne (wanted : List (List Term)) (case : Case) (all : Outcomes) : Type 0 where

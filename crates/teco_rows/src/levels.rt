@@ -1,20 +1,20 @@
 //! What becomes of pending arguments.
 ghost use Rattle.std.specs.Prelude.{◌≡◌, ◌∷◌, [], length, ℕ, IfOk, IfSome, slice_index_or, FitsSigned, ◌*ℤ◌, pos};
-ghost use Rattle.std.specs.Prelude.{unwrap_or};
+ghost use Rattle.std.specs.Prelude.{true, unwrap_or};
 ghost use Rattle.std.specs.Int.{w32};
 ghost use Rattle.std.specs.List.{All};
 ghost use Rattle.teco_linear.specs.Form.{Valuation, value, scale_value};
 ghost use Rattle.teco_linear.specs.Implied.{Holds};
 ghost use Rattle.teco_rows.specs.Cases.{value_if};
 ghost use Rattle.teco_rows.specs.Foretold.{Gives, IsAllowed, IsOne, IsValued, IsWrapped, Makes, Values, Wraps};
-ghost use Rattle.teco_rows.specs.Foretold.{GivesAny, is_over};
+ghost use Rattle.teco_rows.specs.Foretold.{GivesAny, IsMaskOf, IsMasked, is_over};
 ghost use Rattle.teco_rows.specs.States.{Point, IsShape, IsTrueOf, IsLast, IsLed, WaitsFor, each, single};
 ghost use Rattle.teco_rows.specs.States.{measures_of};
 
-use crate::applied::applied;
+use crate::applied::{applied, copied};
 use crate::case::{Case, Shape};
 use crate::fault::Fault;
-use crate::forms::{measured, product, within_32_bits};
+use crate::forms::{known, measured, product, within_32_bits};
 use crate::measure::{Family, Measure, Single};
 use crate::outcomes::Outcomes;
 use crate::row::{Clause, Mark, Of, Part, Places, Step};
@@ -45,6 +45,14 @@ const WRAPS: [Clause; 4] = [
     Clause::Sets(VALUE, 0, [(1, Of::Unknown(0)), NO, NO, NO]),
     Clause::Wants(1 << 31, [(1, Of::Unknown(0)), NO, NO, NO]),
     Clause::Wants((1 << 31) - 1, [(-1, Of::Unknown(0)), NO, NO, NO]),
+];
+
+// A number is given that has no bits but those of one that is known.
+const MASKS: [Clause; 4] = [
+    STEP,
+    Clause::Sets(VALUE, 0, [(1, Of::Unknown(0)), NO, NO, NO]),
+    Clause::Wants(0, [(1, Of::Unknown(0)), NO, NO, NO]),
+    Clause::Wants(0, [(1, Of::Given(0)), (-1, Of::Unknown(0)), NO, NO]),
 ];
 
 // The places at hand where an element is about the innermost level.
@@ -215,6 +223,47 @@ fn allowed(operator: Operator, number: &Form, alloc: Global) -> Result<Vec<Form>
     }
 }
 
+// The case where that value is some number from 0 to a form.
+fn masked(case: &Case, mask: &[Form], alloc: Global) -> Result<Case, Fault>
+    ensures { IfOk result (λ after. IsMasked case.now (slice_index_or mask.now 0 []) after) }
+{
+    let step = Step {
+        clauses: &MASKS,
+        here: at_level(case)?,
+        given: mask,
+        unknowns: 1,
+    };
+    led(case, &step, None, alloc)
+}
+
+// Whether the bits of a number are taken that is known, and is one of 32 bits from 0 on.
+fn is_mask(operator: Operator, number: &Form) -> bool
+    ensures { result ≡ true → IsMaskOf operator number.now }
+{
+    match operator {
+        Operator::And => match known(number) {
+            Some(mask) => mask >= 0 && mask < 1 << 31,
+            None => false,
+        },
+        _ => false,
+    }
+}
+
+// Of any number no more is left than that.
+fn give_masked(
+    case: &Case,
+    operator: Operator,
+    number: &Form,
+    alloc: Global,
+) -> Result<Outcomes, Fault>
+    requires { IsMaskOf operator number.now }
+    ensures { IfOk result (λ all. Wraps operator number.now case.now all) }
+{
+    let mask = copied(number, alloc)?;
+    let after = masked(case, &[mask], alloc)?;
+    one(after, Vec::new(alloc), alloc)
+}
+
 // Or it is some number.
 fn give_wrapped(
     case: &Case,
@@ -224,6 +273,9 @@ fn give_wrapped(
 ) -> Result<Outcomes, Fault>
     ensures { IfOk result (λ all. Wraps operator number.now case.now all) }
 {
+    if is_mask(operator, number) {
+        return give_masked(case, operator, number, alloc);
+    }
     let conditions = allowed(operator, number, alloc)?;
     let after = wrapped(case, alloc)?;
     one(after, conditions, alloc)

@@ -1,5 +1,5 @@
 -- N and FN.
-use Rattle.std.proofs.Common.{◌≡◌, ℕ, zero, suc, ◌+◌, ◌==◌, ◌<◌, ◌≤◌, inl, inr, ℤ, pos, negsuc, ◌≤ℤ◌, ◌-ℤ◌, List, [], ◌∷◌}
+use Rattle.std.proofs.Common.{◌≡◌, ℕ, zero, suc, ◌+◌, ◌==◌, ◌<◌, ◌≤◌, inl, inr, ℤ, pos, negsuc, ◌≤ℤ◌, List, [], ◌∷◌}
 use Rattle.std.proofs.Common.{◌++◌, length, Bool, true, false, is_some, not, Option, Some, None, option_map, Result, Ok}
 use Rattle.std.proofs.Common.{Err, refl, sym, ap, if◌then◌else◌, nat_le, unwrap_or, subst, ◌∙◌, arith, length-append}
 use Rattle.std.proofs.lemmas.Bool.Decides.{nat_tests}
@@ -15,13 +15,13 @@ use Rattle.teco_base.specs.declared.bytes.TheConstants.{FF}
 use Rattle.teco_base.specs.declared.code.Code.{Code}
 use Rattle.teco_base.specs.declared.code.Code.TheVariants as code
 use Rattle.teco_linear.specs.declared.term.Term.{Term}
-use Rattle.teco_linear.specs.Form.{Valuation, value}
+use Rattle.teco_linear.specs.Form.{Valuation}
 use Rattle.teco_linear.specs.Implied as linear
 use Rattle.teco_model.specs.Arguments.{Arguments, levels_after_taking, no_arguments}
-use Rattle.teco_model.specs.Checked.{◌>>=◌, ◌>>-◌}
+use Rattle.teco_model.specs.Checked.{◌>>=◌}
 use Rattle.teco_model.specs.Condition.{is_zero}
 use Rattle.teco_model.specs.Element.{Element, element_at}
-use Rattle.teco_model.specs.Files.{Files, Input, Output, with_written}
+use Rattle.teco_model.specs.Files.{Input, Output, with_written}
 use Rattle.teco_model.specs.Going as going
 use Rattle.teco_model.specs.Match.{first_from}
 use Rattle.teco_model.specs.Pages.{before_form_feed, behind_first_page, behind_form_feed, first_page, written_page}
@@ -35,10 +35,8 @@ use Rattle.teco_model.specs.Search.{kept_after, kept_at, pattern_of, search_text
 use Rattle.teco_model.specs.Searching.{Miss, found_in_pages, looked, looking, miss_of, miss_where, missed, search_reply}
 use Rattle.teco_model.specs.Searching.{with_message}
 use Rattle.teco_model.specs.Searching as miss
-use Rattle.teco_model.specs.Skip.{skip_of}
-use Rattle.teco_model.specs.State.{Frame, Kept, Outcome, State, World}
+use Rattle.teco_model.specs.State.{Kept, Outcome, State, World}
 use Rattle.teco_model.specs.Step.{outcome_at, reply_of, step}
-use Rattle.teco_model.specs.declared.flow.Loop.{Loop}
 use Rattle.teco_model.specs.declared.kind.Kind.TheVariants as kind
 use Rattle.teco_model.specs.declared.kind.Search.{Search}
 use Rattle.teco_model.specs.declared.kind.Search.TheVariants.{FindInPages, ReplaceInPages}
@@ -47,7 +45,7 @@ use Rattle.teco_model.specs.declared.pattern.Sought.{Sought}
 use Rattle.teco_model.specs.declared.pattern.Sought.TheVariants.{Last, Wanted}
 use Rattle.teco_model.specs.declared.pattern.Span.{Span}
 use Rattle.teco_model.specs.laws.Matching.{HasNoneFrom, IsFirstFrom, IsMatch}
-use Rattle.teco_model.specs.laws.Whole.{AreBytes, IsWhole, IsWholeWorld}
+use Rattle.teco_model.specs.laws.Whole.{AreBytes, IsWhole}
 use Rattle.teco_model.proofs.Searches.{first_finds}
 use Rattle.teco_rows.specs.declared.case.Case.{Case}
 use Rattle.teco_rows.specs.declared.commands.Taken.{Taken}
@@ -59,7 +57,7 @@ use Rattle.teco_rows.specs.declared.outcomes.Guarded.{Guarded}
 use Rattle.teco_rows.specs.declared.outcomes.Outcomes.{Outcomes}
 use Rattle.teco_rows.specs.declared.row.Places.{Places}
 use Rattle.teco_rows.specs.Cases.{Agree, value_if}
-use Rattle.teco_rows.specs.Commands.{IsTaken, taken_by}
+use Rattle.teco_rows.specs.Commands.{IsTaken}
 use Rattle.teco_rows.specs.Foretold.{Begins, Describe, IsGuarded, Succeeds}
 use Rattle.teco_rows.specs.Rows.{changed}
 use Rattle.teco_rows.specs.States.{Point, IsTrueOf, Describes, single}
@@ -71,9 +69,9 @@ use Rattle.teco_flow_outcomes.specs.Flow.{turned as turned_point}
 use Rattle.teco_flow_outcomes.specs.Law.{Goes, StepsTo, loops_in, place_away, point_of, unread_in}
 use Rattle.teco_search_outcomes.specs.declared.page_searches.TheConstants.{LATER_PAGE, THROUGH}
 use Rattle.teco_search_outcomes.specs.declared.searches.Direction.TheVariants.{Ahead}
-use Rattle.teco_search_outcomes.specs.PageSearches.{Comes, HasEmptied, HasMore, HasTurned, IsLaterPage, IsPositive}
-use Rattle.teco_search_outcomes.specs.PageSearches.{IsStill, IsThrough, LongLaw, answer_of}
-use Rattle.teco_search_outcomes.specs.Searches.{Answers, Ends, HasRoom, IsAsked, IsFoundBy, IsOf, IsReplacedBy, Leaves}
+use Rattle.teco_search_outcomes.specs.PageSearches.{Comes, HasMore, IsLaterPage, IsPositive}
+use Rattle.teco_search_outcomes.specs.PageSearches.{IsThrough, LongLaw}
+use Rattle.teco_search_outcomes.specs.Searches.{Ends, HasRoom, IsAsked, IsFoundBy, IsOf, IsReplacedBy}
 use Rattle.teco_search_outcomes.proofs.Matching.{match_lies}
 use Rattle.teco_search_outcomes.proofs.Paging.{behind_there, fits, got, split, unread_there}
 use Rattle.teco_search_outcomes.proofs.Seeking.{Keeps, left_by, nonempty, own_text}
@@ -447,7 +445,8 @@ module _ (x : Search) (answering : Bool) (e : Element) (taken : Taken) (case on 
   by_result pages t (Err c) h = absurd h
 
   -- a match is met
-  met_goes : (b : Bool) → IsAsked b e s.frames.running → (found : Case) → Ends b found gone all → (k : ℕ) (world : World)
+  met_goes : (b : Bool) → IsAsked b e s.frames.running → (found : Case) → Ends b found gone all → (k : ℕ)
+      (world : World)
       → Describes n found (with_steps point k world.kept (unread_in world.files.input))
       → StepsTo (Goes n all e k below s)
       (going.settle e s (Ok (miss.met m None left_arguments world)))
@@ -489,8 +488,9 @@ module _ (x : Search) (answering : Bool) (e : Element) (taken : Taken) (case on 
       → StepsTo (Goes n all e (steps + pages) below s) (settled (Through world))
   through_goes true a found h pages world o none =
       let kept = (looked_through world).kept in
-      subst (λ m. StepsTo (Goes n all e (steps + pages) below s) (going.settle e s (Ok (missed m None left_arguments world
-      (looked_through world))))) (sym (ap (λ b. miss_where b e s.frames.running) a))
+      subst (λ m. StepsTo (Goes n all e (steps + pages) below s)
+      (going.settle e s (Ok (missed m None left_arguments world (looked_through world)))))
+      (sym (ap (λ b. miss_where b e s.frames.running) a))
       (inl (record {
         described = h.no n (with_steps point (steps + pages) kept (unread_in world.files.input))
             (emptied pages world kept o none refl refl refl refl);
@@ -500,8 +500,9 @@ module _ (x : Search) (answering : Bool) (e : Element) (taken : Taken) (case on 
   through_goes false a found h pages world o none =
       let kept = (with_message (looked_through world)).kept in
       let l = nonempty s.frames.running.loops a.1 in
-      subst (λ m. StepsTo (Goes n all e (steps + pages) below s) (going.settle e s (Ok (missed m None left_arguments world
-      (looked_through world))))) (sym (left_by x e s.frames.running l.0 l.1 a.2 is a.0 l.2 a.3))
+      subst (λ m. StepsTo (Goes n all e (steps + pages) below s)
+      (going.settle e s (Ok (missed m None left_arguments world (looked_through world)))))
+      (sym (left_by x e s.frames.running l.0 l.1 a.2 is a.0 l.2 a.3))
       (inr (
         a.2,
         ap (λ k. place_away k e s.frames.running) is ∙ a.3,

@@ -57,7 +57,8 @@ use Rattle.teco_search_outcomes.specs.declared.pages.TheConstants.{APPENDED, EMP
 use Rattle.teco_command_outcomes.specs.Changes.{IsChanged, IsChangedFrom, IsTold, read_given, with_page}
 use Rattle.teco_flow_outcomes.specs.Law.{Goes, StepsTo, point_of, unread_in}
 use Rattle.teco_command_outcomes.specs.Motions.{IsPlace}
-use Rattle.teco_search_outcomes.specs.Pages.{IsDoneAtOnce, IsOnce, IsOpenFor, IsPaged, PageLaw, Reads, TurnsPage, Writes}
+use Rattle.teco_search_outcomes.specs.Pages.{IsDoneAtOnce, IsOnce, IsOpenFor, IsPaged, PageLaw, Reads, TurnsPage}
+use Rattle.teco_search_outcomes.specs.Pages.{Writes}
 use Rattle.teco_search_outcomes.specs.Pages.{with_next_page}
 use Rattle.teco_command_outcomes.proofs.Changing.{changes_plainly, changes_singles}
 use Rattle.teco_command_outcomes.proofs.Moving.{place_there}

@@ -1,7 +1,7 @@
 -- What is found, and what is missed.
 use Rattle.std.proofs.Common.{◌≡◌, ℕ, zero, suc, ◌+◌, ◌-◌, ◌<◌, ◌≤◌, inl, inr, ℤ, pos, List, [], ◌∷◌, ◌++◌, length}
 use Rattle.std.proofs.Common.{Bool, true, false, Option, Some, if◌then◌else◌, slice_get, slice_index_or, take, drop}
-use Rattle.std.proofs.Common.{refl, sym, ap, subst, ◌∙◌, arith, ◌+ℤ◌, ◌-ℤ◌}
+use Rattle.std.proofs.Common.{refl, sym, ap, subst, ◌∙◌, arith, ◌-ℤ◌}
 use Rattle.std.proofs.lemmas.Int.{ints}
 use Rattle.std.proofs.lemmas.List.{append_assoc}
 use Rattle.std.specs.List.{All}
@@ -36,7 +36,7 @@ use Rattle.teco_search_outcomes.specs.declared.searches.Known.{Known}
 use Rattle.teco_search_outcomes.specs.declared.searches.TheConstants.{EXACT, FOUND, LIES, NEW_LINE}
 use Rattle.teco_search_outcomes.specs.declared.searches.TheConstants.{OTHER_LINE, REPLACED, SAME_LINE, STARTED}
 use Rattle.teco_search_outcomes.specs.Patterns.{IsLong, IsSingle}
-use Rattle.teco_command_outcomes.specs.Changes.{Changes, DescribesFrom, IsChangedFrom, read_given, with_kept}
+use Rattle.teco_command_outcomes.specs.Changes.{Changes, IsChangedFrom, read_given, with_kept}
 use Rattle.teco_search_outcomes.specs.Searches.{HasFound, HasReplaced, IsFoundBy, IsKnown}
 use Rattle.teco_search_outcomes.specs.Searches.{IsMissed, IsMissedPlace, IsReplacedBy, LiesTo, HasRoom}
 use Rattle.teco_search_outcomes.specs.Searches.{direction_clauses, extra_clauses}

@@ -37,7 +37,6 @@ use Rattle.teco_model.specs.declared.kind.Kind.TheVariants as kind
 use Rattle.teco_base.specs.Text.{text_after_replacement}
 use Rattle.teco_base.specs.declared.TheConstants.{LIMIT}
 use Rattle.teco_model.specs.declared.kind.Search.{Search}
-use Rattle.teco_model.specs.declared.kind.Search.TheVariants.{Find, Replace}
 use Rattle.teco_model.specs.declared.pattern.Part.{Part}
 use Rattle.teco_model.specs.declared.pattern.Span.{Span}
 use Rattle.teco_model.specs.declared.skip.Skip.{Skip}

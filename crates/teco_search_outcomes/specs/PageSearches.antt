@@ -1,9 +1,10 @@
 -- What is asked of searches over pages, N and FN. Such a search takes a step for each page that it turns, at the same
--- element, and one more that ends it. So its law is that of a search whose cases are met some steps later: where a state
--- begins it and an output is open, none of the steps comes to a code; each but the last leads to a state at the element
--- in which no more is held than where it began; and one of the cases describes the state behind the last, with all of
--- them counted.
-use Rattle.std.specs.Prelude.{◌≡◌, ℕ, zero, suc, ◌+◌, ◌≤◌, ℤ, pos, negsuc, ◌≤ℤ◌, List, [], ◌∷◌, ◌++◌, length, Bool, true}
+-- element, and one more that ends it. So its law is that of a search whose cases are met some steps later: where a
+-- state begins it and an output is open, none of the steps comes to a code; each but the last leads to a state at the
+-- element in which no more is held than where it began; and one of the cases describes the state behind the last, with
+-- all of them counted.
+use Rattle.std.specs.Prelude.{◌≡◌, ℕ, zero, suc, ◌+◌, ◌≤◌, ℤ, pos, negsuc, ◌≤ℤ◌, List, [], ◌∷◌, ◌++◌, length, Bool}
+use Rattle.std.specs.Prelude.{true}
 use Rattle.std.specs.Prelude.{is_some, if◌then◌else◌, unwrap_or, Option, Some, None, Ok}
 use Rattle.std.specs.List.{All}
 use Rattle.teco_linear.specs.declared.term.Term.{Term}

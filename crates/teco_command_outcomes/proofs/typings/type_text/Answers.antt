@@ -4,7 +4,8 @@ use Rattle.std.specs.List.{All}
 use Rattle.teco_linear.specs.Implied as linear
 use Rattle.teco_model.specs.Typing.{typing}
 use Rattle.teco_rows.specs.Commands.{Performs}
-use Rattle.teco_command_outcomes.proofs.Writing.{byte_typed, lines_typed, number_typed, part_typed, text_typed, view_typed}
+use Rattle.teco_command_outcomes.proofs.Writing.{byte_typed, lines_typed, number_typed, part_typed, text_typed}
+use Rattle.teco_command_outcomes.proofs.Writing.{view_typed}
 use Rattle.teco_command_outcomes.proofs.typings.type_text.Goals as goal
 
 pub returns-in-Some-value : goal.returns-in-Some-value

@@ -9,7 +9,8 @@ use Rattle.teco_model.specs.declared.kind.Search.TheVariants.{FindInPages, Repla
 use Rattle.teco_rows.specs.Foretold.{IsGuarded}
 use Rattle.teco_search_outcomes.specs.declared.searches.Direction.TheVariants.{Ahead}
 use Rattle.teco_search_outcomes.specs.Searches.{IsFoundBy, IsReplacedBy}
-use Rattle.teco_search_outcomes.proofs.Looking.{keeps_found_later, keeps_replaced_later, more_here, more_later, pages_law}
+use Rattle.teco_search_outcomes.proofs.Looking.{keeps_found_later, keeps_replaced_later, more_here, more_later}
+use Rattle.teco_search_outcomes.proofs.Looking.{pages_law}
 use Rattle.teco_search_outcomes.proofs.Seeking.{keeps_found, keeps_replaced}
 use Rattle.teco_search_outcomes.proofs.page_searches.search_pages.Goals as goal
 

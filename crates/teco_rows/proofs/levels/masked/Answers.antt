@@ -1,0 +1,9 @@
+use Rattle.std.proofs.Common.{refl}
+use Rattle.std.proofs.lemmas.Result.{IfOk-weaker}
+use Rattle.teco_rows.proofs.Giving.{is_masked}
+use Rattle.teco_rows.proofs.levels.masked.Goals as goal
+
+pub returns : goal.returns
+returns c =
+    IfOk-weaker c.led.result _ _ (λ after led. is_masked c.args.case.now after _ refl c.in_ok-at_level.ensures led)
+    c.led.ensures
