@@ -4,8 +4,9 @@ use Rattle.teco_apply.proofs.Touched.{touches-none-loaded}
 use Rattle.teco_apply.specs.Apply.{opening}
 use Rattle.teco_apply.specs.ByPages.{is_dropped}
 use Rattle.teco_apply.specs.Sure.{Call, IsReady, MOST, kept_loaded}
-use Rattle.teco_apply.specs.Touched.{EditTouches, FitMeasured, IsReadyLoaded, Measures, TouchesByParts, TouchesInEdit}
-use Rattle.teco_apply.specs.Touched.{TouchesNone, TouchesOpening, by_none, by_measure, by_string, by_dropping}
+use Rattle.teco_apply.specs.Touched.{AreMeasuredAnew, EditTouches, IsReadyLoaded, Measures, TouchesByParts}
+use Rattle.teco_apply.specs.Touched.{TouchesInEdit, TouchesNone, TouchesOpening, by_none, by_measure, by_string}
+use Rattle.teco_apply.specs.Touched.{by_dropping}
 use Rattle.teco_apply.specs.Touched.{by_macro, in_turn}
 use Rattle.teco_apply.specs.declared.by_pages.Edited.{Edited}
 use Rattle.teco_pages.proofs.Touching.{touches-none, touches-on}
@@ -13,7 +14,7 @@ use Rattle.teco_pages.specs.Events.{Event}
 use Rattle.teco_pages.specs.Held.{Held}
 use Rattle.teco_pages.specs.HostFiles.{Telling, Tells, Notes}
 use Rattle.teco_pages.specs.Noting.{Touches, noted_left}
-use Rattle.teco_pages.specs.Possible.{NotesFit}
+use Rattle.teco_pages.specs.Possible.{FitWhere, NotesFit}
 use Rattle.teco_run.specs.Holdings.{Holdings}
 use Rattle.teco_run.specs.Touched.{TouchesBetween}
 use Rattle.teco_session.specs.Answers.{Said}
@@ -85,14 +86,15 @@ parts-touch call a b x y (in_turn c m d u mid v first next) =
 
 -- ---- the whole
 fit-measured : NotesFit → (output : Option (List ℕ)) (touched : List Event) (end end' : Bool) (x y : Telling)
-    → Touches touched end end' x y → FitMeasured output x y
+    → Touches touched end end' x y → FitWhere (AreMeasuredAnew output) output x y
 fit-measured fit output touched end end' (Tells f) (Tells g) t = tt
 fit-measured fit output touched end end' (Tells f) (Notes b) t = absurd t
 fit-measured fit output touched end end' (Notes a) (Tells g) t = absurd t
 fit-measured fit output touched end end' (Notes a) (Notes b) t = record {
   meanwhile = t.meanwhile;
   noted = t.noted;
-  fitted = λ anew unopened gives. fit output end end' t.meanwhile t.bytes t.order gives anew unopened;
+  fitted = λ anew. fit output end end' t.meanwhile t.bytes t.order anew.gives anew.opened.inputs
+      anew.opened.own;
 }
 
 in-edit : NotesFit → (call : Call) (source target : List ℕ) (a b c : Holdings) (x y z : Telling)

@@ -4,7 +4,7 @@ use Rattle.std.proofs.Common.{Result, Ok, option_map, IsSome, refl, subst, arith
 use Rattle.std.proofs.lemmas.Bool.Decides.{nat_tests}
 use Rattle.std.specs.List.{sum_by}
 use Rattle.std.proofs.lemmas.List.Sums.{sum_by-cons}
-use Rattle.teco_apply.specs.Sure.{Call, Calls, HasFiles, IsReady, IsTaken, IsThere, LeavesFramed, MOST, Runs}
+use Rattle.teco_apply.specs.Sure.{Call, Calls, HasFiles, IsReady, IsTaken, IsThere, MOST, Runs}
 use Rattle.teco_apply.specs.Sure.{TakesArgument}
 use Rattle.teco_apply.specs.Sure.{call_text, kept_loaded, n_of}
 use Rattle.teco_base.specs.Register.{register_name}
@@ -14,8 +14,8 @@ use Rattle.teco_model.specs.Macros.{IsLoaded, IsAsked, Needs}
 use Rattle.teco_law_expansion.specs.Linked.{AreLinked, ExpansionsAreLinked}
 use Rattle.teco_poly.specs.Polynomial.{value}
 use Rattle.teco_model.specs.Registers.{Pair, empty_pair, held_length_of_pair}
-use Rattle.teco_model.specs.Run.{Reaches, Stops, IsSure}
-use Rattle.teco_model.specs.State.{Kept, State, World, start}
+use Rattle.teco_model.specs.Run.{Stops, IsSure}
+use Rattle.teco_model.specs.State.{Kept, World, start}
 use Rattle.teco_model.specs.laws.Whole.{IsWhole}
 use Rattle.teco_model.specs.declared.stop.Stop.{Stop}
 use Rattle.teco_model.specs.declared.stop.Stop.TheVariants as stop
@@ -34,10 +34,6 @@ use Rattle.teco_law_tables.specs.Keeping.{LeavesOpen, RunsLeaveOpen}
 use Rattle.teco_law_tables.specs.Sure.{RunsAreSure}
 use Rattle.teco_law_tables.specs.Verified as verified
 use Rattle.teco_law_tables.specs.Verified.{RunsAreVerified}
-use Rattle.teco_law_tables.specs.Framing.{IsFramed, RunsAreFramed}
-use Rattle.teco_law_tables.proofs.Keeping.{end_stays}
-use Rattle.teco_verifier.specs.expansion.Node.{Node}
-use Rattle.teco_verifier.specs.expansion.Expansion.{expansion}
 use Rattle.teco_verifier.specs.table.Printed.{needs_in}
 use Rattle.teco_verify.specs.Certified.{IsCertified}
 
@@ -49,7 +45,7 @@ one_of (pair ∷ pairs) zero = omega (arith, sum_by-cons held_length_of_pair pai
 one_of (pair ∷ pairs) (suc r) = omega (arith, one_of pairs r, sum_by-cons held_length_of_pair pair pairs)
 
 -- the entry facts are so at N
-enters : (now : World) → IsEntry (n_of now) (unread_of now) now.kept
+pub enters : (now : World) → IsEntry (n_of now) (unread_of now) now.kept
 enters now = record {
   held = omega arith;
   texts = λ r. omega (arith, one_of now.kept.registers.pairs r);
@@ -81,7 +77,6 @@ pub record Laws : Type 0 where
   pub verified : RunsAreVerified
   pub sure : RunsAreSure
   pub leave : RunsLeaveOpen
-  pub framed : RunsAreFramed
 
 -- where a verified macro is called
 pub record IsCalled (call : Call) (kept : Kept) (held : Held) : Type 0 where
@@ -94,7 +89,7 @@ pub record IsCalled (call : Call) (kept : Kept) (held : Held) : Type 0 where
   pub taken : TakesArgument call
 
 -- a register's name is a byte
-name_small : (r : ℕ) → r < REGISTERS → register_name r < 256
+pub name_small : (r : ℕ) → r < REGISTERS → register_name r < 256
 name_small r small = grind (arith, nat_tests)
 
 module _ (laws : Laws) (call : Call) (kept : Kept) (held : Held) (is : IsCalled call kept held) (files : HostFiles)
@@ -130,22 +125,6 @@ module _ (laws : Laws) (call : Call) (kept : Kept) (held : Held) (is : IsCalled 
       laws.verified call.found.library fields.entry fields.rules fields.argument given certified.nodes certified.table
       fields.commands fields.size (n_of now) now linked_there certified.printed asked entered opened_there
 
-  frames : (given : Option ℕ) → IsAsked call.found.fields.argument given → (steps : ℕ) (s : State)
-      → Reaches steps (start (call_given call.found.fields.entry given) now) s
-      → IsFramed is.certified.nodes now.kept s.world.kept
-  frames given asked =
-      let certified = is.certified in
-      let fields = call.found.fields in
-      laws.framed call.found.library fields.entry fields.rules fields.argument given certified.nodes certified.table
-      fields.commands fields.size (n_of now) now linked_there certified.printed asked entered opened_there
-
-  frames_with : (given : Option ℤ) → IsTaken call.found.fields.argument given → (steps : ℕ) (s : State)
-      → Reaches steps (start (call_text call.found.fields.entry given) now) s
-      → IsFramed is.certified.nodes now.kept s.world.kept
-  frames_with None taken = frames None taken
-  frames_with (Some (pos n)) taken = frames (Some n) taken
-  frames_with (Some (negsuc n)) taken = absurd taken
-
   pub ends_with : (given : Option ℤ) → IsTaken call.found.fields.argument given
       → EndsWithin (start (call_text call.found.fields.entry given) (world kept held files))
       (value call.found.fields.commands (n_of (world kept held files)))
@@ -169,22 +148,6 @@ module _ (laws : Laws) (call : Call) (kept : Kept) (held : Held) (is : IsCalled 
       (value call.found.fields.commands (n_of (world kept held files))) MOST answer new
       (ends_with call.given is.taken) ready.counts stops
 
-  one_expansion : {E : Type 0} (nodes other : List Node) (r : Result (List Node) E) → r ≡ Ok nodes → r ≡ Ok other
-      → nodes ≡ other
-  one_expansion nodes other r is too = cc
-
-  pub is_framed : (answer : Stop) (new : World)
-      → Stops (start (call_text call.found.fields.entry call.given) now) MOST answer new
-      → LeavesFramed call.found answer now.kept new.kept
-  is_framed (stop.Ended n) new stops = λ nodes expanded.
-      let ends = stops.1 in
-      subst (λ nodes. IsFramed nodes now.kept new.kept)
-      (one_expansion is.certified.nodes nodes (expansion call.found.library call.found.fields.entry)
-      is.certified.expanded expanded)
-      (subst (λ (w : World). IsFramed is.certified.nodes now.kept w.kept) (end_stays ends.last new ends.end)
-      (frames_with call.given is.taken n ends.last ends.steps))
-  is_framed answer new stops = tt
-
 surely : Laws → (call : Call) (kept : Kept) (held : Held) → IsCalled call kept held → (files : HostFiles)
     → AreOfBytes files → (answer : Stop) (new : World) → IsSameOutput held files
     → Stops (start (call_text call.found.fields.entry call.given) (world kept held files)) MOST answer new
@@ -194,7 +157,6 @@ surely laws call kept held is files bytes answer new same stops = record {
   stops = stops;
   sure = λ ready. is_sure laws call kept held is files bytes same ready answer new stops;
   keeps = λ ready. is_left_open laws call kept held is files bytes same ready answer new stops;
-  framed = λ ready. is_framed laws call kept held is files bytes same ready answer new stops;
 }
 
 pub calls : Laws → (call : Call) (answer : Stop) (a b : Holdings) (f g : Telling) → IsCalled call a.kept a.held

@@ -6,7 +6,7 @@ use Rattle.std.proofs.lemmas.Bool.Decides.{nat_tests}
 use Rattle.std.specs.Prelude.{IfSome}
 use Rattle.teco_apply.proofs.Sure.{IsCalled, Laws, ends_with}
 use Rattle.teco_apply.specs.Sure.{Call, IsReady, call_text, kept_loaded}
-use Rattle.teco_apply.specs.Touched.{IsReadyLoaded, SomeFit, TouchesNone, WasNotReady}
+use Rattle.teco_apply.specs.Touched.{IsReadyLoaded, TouchesNone, WasNotReady}
 use Rattle.teco_base.specs.declared.code.Code as base
 use Rattle.teco_filing.specs.Worlds.{world}
 use Rattle.teco_filing.specs.declared.halt.Halt.{Halt}
@@ -22,7 +22,7 @@ use Rattle.teco_pages.specs.Events.{Event, opened_input, gave, ended, opened_out
 use Rattle.teco_pages.specs.Held.{IsSameOutput}
 use Rattle.teco_pages.specs.HostFiles.{AreOfBytes, HostFiles, Telling, Tells, Notes}
 use Rattle.teco_pages.specs.Noting.{Touches, openings}
-use Rattle.teco_pages.specs.Possible.{GivesMeasured, IsUnopened, NotesFit, OpensAnew}
+use Rattle.teco_pages.specs.Possible.{GivesMeasured, IsUnopened, NotesFit, OpensAnew, SomeFit}
 use Rattle.teco_run.proofs.Quiet.{quiet-end}
 use Rattle.teco_run.proofs.Runs.{run-on}
 use Rattle.teco_run.specs.Holdings.{Holdings}
@@ -125,7 +125,7 @@ some-fit fit output end end' (Notes a) (Tells g) t = absurd t
 some-fit fit output end end' (Notes a) (Notes b) t = record {
   meanwhile = t.meanwhile;
   noted = t.noted;
-  fitted = fit output end end' t.meanwhile t.bytes t.order (measures_none t.meanwhile t.openings)
+  fitted = λ any. fit output end end' t.meanwhile t.bytes t.order (measures_none t.meanwhile t.openings)
       (opens_none t.meanwhile t.openings) (unopened_output output t.meanwhile t.openings);
 }
 

@@ -9,10 +9,7 @@ use Rattle.teco_model.specs.Registers.{with_texts}
 use Rattle.teco_model.specs.Run.{Stops, IsSure}
 use Rattle.teco_model.specs.State.{Kept, World, start, held_length}
 use Rattle.teco_model.specs.declared.stop.Stop.TheVariants as stop
-use Rattle.teco_verifier.specs.expansion.Expansion.{expansion}
-use Rattle.teco_verifier.specs.expansion.Node.{Node}
 use Rattle.teco_model.specs.declared.stop.Stop.{Stop}
-use Rattle.teco_law_tables.specs.Framing.{IsFramed}
 use Rattle.teco_law_tables.specs.Keeping.{LeavesOpen}
 use Rattle.teco_pages.specs.Held.{Held}
 use Rattle.teco_poly.specs.Polynomial.{value}
@@ -59,22 +56,13 @@ pub record IsReady (fields : Fields) (world : World) : Type 0 where
   pub fits : value fields.size (n_of world) ≤ LIMIT
   pub counts : value fields.commands (n_of world) ≤ MOST
 
--- At its end the registers that no element of the macro names are as they were, and so is the search mode, where none
--- may set it.
-abbrev pub LeavesFramed : Finding → Stop → Kept → Kept → Type 0
-LeavesFramed found (stop.Ended n) old new =
-    (nodes : List Node) → expansion found.library found.fields.entry ≡ Ok nodes → IsFramed nodes old new
-LeavesFramed found answer old new = ⊤
-
 -- The macro is called as the command machine does it, with an argument that it takes. Where it is ready, it is sure to
--- end within the printed number of commands. At its end the files are as open as they were, and no more is unread; and
--- what it does not name is as it was.
+-- end within the printed number of commands, and at its end the files are as open as they were, and no more is unread.
 pub record Calls (call : Call) (answer : Stop) (old new : World) : Type 0 where
   pub taken : TakesArgument call
   pub stops : Stops (start (call_text call.found.fields.entry call.given) old) MOST answer new
   pub sure : IsReady call.found.fields old → IsSure (value call.found.fields.commands (n_of old)) answer
   pub keeps : IsReady call.found.fields old → LeavesOpen answer old.files new.files
-  pub framed : IsReady call.found.fields old → LeavesFramed call.found answer old.kept new.kept
 
 -- the macro is called where the library is loaded first
 abbrev pub Runs : Call → Stop → World → World → Type 0

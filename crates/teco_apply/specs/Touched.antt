@@ -1,30 +1,18 @@
 -- Which files the run of a verified macro touches, which are none, and an edit by it.
-use Rattle.std.specs.Prelude.{ℕ, ◌≡◌, ◌++◌, ⊤, ◌⊎◌, List, [], Option, IfSome, Result, Ok, Err}
+use Rattle.std.specs.Prelude.{ℕ, ◌≡◌, ◌⊎◌, List, [], Option, Result, Ok, Err}
 use Rattle.teco_apply.specs.Apply.{closing, dropping, opening}
 use Rattle.teco_apply.specs.ByPages.{gathering, to_start, turning}
 use Rattle.teco_apply.specs.Sure.{Call, IsReady, MOST, loaded}
 use Rattle.teco_model.specs.State.{World}
 use Rattle.teco_pages.specs.Events.{Event}
-use Rattle.teco_pages.specs.HostFiles.{Telling, Tells, Notes}
+use Rattle.teco_pages.specs.HostFiles.{Telling}
 use Rattle.teco_pages.specs.Noting.{noted_left}
-use Rattle.teco_pages.specs.Possible.{AreFitted, GivesMeasured, IsUnopened, OpensAnew}
+use Rattle.teco_pages.specs.Possible.{AreOpenedAnew, FitWhere, GivesMeasured, SomeFit}
 use Rattle.teco_run.specs.Holdings.{Holdings, Joined}
 use Rattle.teco_run.specs.Touched.{TouchesBetween}
 use Rattle.teco_session.specs.Touched.{TouchesByRun, TouchesByString}
 use Rattle.teco_session.specs.declared.fault.SessionFault.{SessionFault}
 use Rattle.teco_session.specs.declared.fault.SessionFault.TheVariants as fault
-
--- Some files of bytes fit what was noted meanwhile, with an output of this name open before, or none.
-pub record AreNoted (output : Option (List ℕ)) (old new : List Event) : Type 0 where
-  pub meanwhile : List Event
-  pub noted : new ≡ old ++ meanwhile
-  pub fitted : AreFitted output meanwhile
-
-abbrev pub SomeFit : Option (List ℕ) → Telling → Telling → Type 0
-SomeFit output (Tells files) (Tells left) = ⊤
-SomeFit output (Tells files) (Notes new) = ⊥
-SomeFit output (Notes old) (Tells left) = ⊥
-SomeFit output (Notes old) (Notes new) = AreNoted output old new
 
 -- Before the first file that was touched some files fitted what was noted, and the macro is ready for none that did.
 pub record WasNotReady (ready : World → Type 0) (old new : Holdings) (before after : Telling) : Type 0 where
@@ -73,20 +61,10 @@ pub data TouchesByParts (call : Call) : Holdings → Holdings → Telling → Te
   in_turn : (old mid new : Holdings) (before until after : Telling) → TouchesByParts call old mid before until
       → TouchesByParts call mid new until after → TouchesByParts call old new before after
 
--- Some files of bytes fit what was noted meanwhile, with an output of this name open before, or none, if no input was
--- opened that was opened before, and no more was given of one than was measured.
-pub record AreMeasuredAnew (output : Option (List ℕ)) (old new : List Event) : Type 0 where
-  pub meanwhile : List Event
-  pub noted : new ≡ old ++ meanwhile
-  pub fitted :
-      OpensAnew meanwhile → IfSome output (λ name. IsUnopened name meanwhile) → GivesMeasured meanwhile
-      → AreFitted output meanwhile
-
-abbrev pub FitMeasured : Option (List ℕ) → Telling → Telling → Type 0
-FitMeasured output (Tells files) (Tells left) = ⊤
-FitMeasured output (Tells files) (Notes new) = ⊥
-FitMeasured output (Notes old) (Tells left) = ⊥
-FitMeasured output (Notes old) (Notes new) = AreMeasuredAnew output old new
+-- no input is opened that was opened before, and no more is given of one than was measured
+pub record AreMeasuredAnew (output : Option (List ℕ)) (events : List Event) : Type 0 where
+  pub opened : AreOpenedAnew output events
+  pub gives : GivesMeasured events
 
 -- a command string that opens the files is run once, before all else
 pub record TouchesOpening (call : Call) (string : List ℕ) (old new : Holdings) (before after : Telling) : Type 0 where
@@ -101,7 +79,7 @@ pub record TouchesInEdit (call : Call) (source target : List ℕ) (old new : Hol
   pub opened : TouchesOpening call (opening source target) old new before after
   pub touched : List Event
   pub notes : TouchesBetween touched old new before after
-  pub possible : FitMeasured old.held.output before after
+  pub possible : FitWhere (AreMeasuredAnew old.held.output) old.held.output before after
 
 -- With an argument that is not taken, or without memory for the first command string, no call is made.
 abbrev pub EditTouches : {X : Type 0} → Call → List ℕ → List ℕ → Result X SessionFault → Holdings → Holdings → Telling

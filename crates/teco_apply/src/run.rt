@@ -12,7 +12,7 @@ use arrayvec::ArrayVec;
 use std::marker::Model;
 use teco_base::{Reg, decimal};
 use teco_law_expansion::laws::{expansions_are_linked, loading_loads};
-use teco_law_tables::laws::{runs_are_framed, runs_are_sure, runs_are_verified, runs_leave_open};
+use teco_law_tables::laws::{runs_are_sure, runs_are_verified, runs_leave_open};
 use teco_model::Stop;
 use teco_pages::Host;
 use teco_pages::laws::notes_fit;
@@ -85,7 +85,6 @@ pub fn call_verified<T: TextStore, H: Host>(
     runs_are_verified();
     runs_are_sure();
     runs_leave_open();
-    runs_are_framed();
     notes_fit();
     let entry = call.verified.entry();
     entry.index();

@@ -201,6 +201,42 @@ are_of : (rules : Rules) (cs : List Chosen) → AllByRecursion IsChosen cs → A
 are_of rules [] are of = tt
 are_of rules (c ∷ cs) are of = (record { is = are.0; distances = of.0 }, are_of rules cs are.1 of.1)
 
+-- the lines from one on
+abbrev loop_lines : Fields → List ℕ
+loop_lines fields = flat_map (loop_line fields.rules) fields.loops ++ line (codes "end")
+
+abbrev size_lines : Fields → List ℕ
+size_lines fields = line (codes "size " ++ text fields.size) ++ loop_lines fields
+
+abbrev command_lines : Fields → List ℕ
+command_lines fields = line (codes "commands " ++ text fields.commands) ++ size_lines fields
+
+abbrev need_lines : Fields → List ℕ
+need_lines fields = line (codes "needs " ++ needs_text fields.needs) ++ command_lines fields
+
+abbrev rule_lines : Fields → List ℕ
+rule_lines fields = rules_line fields.rules ++ need_lines fields
+
+abbrev argument_lines : Fields → List ℕ
+argument_lines fields = argument_line fields.argument ++ rule_lines fields
+
+abbrev entry_lines : Fields → List ℕ
+entry_lines fields = line (codes "entry " ++ register_name fields.entry ∷ []) ++ argument_lines fields
+
+-- the register stands behind the first line
+entry_told : (f g : Fields) → certificate_text f ≡ certificate_text g
+    → register_name f.entry ∷ LF ∷ argument_lines f ≡ register_name g.entry ∷ LF ∷ argument_lines g
+entry_told f g e =
+    append_cancel_left (codes "entry ") (register_name f.entry ∷ LF ∷ argument_lines f)
+    (register_name g.entry ∷ LF ∷ argument_lines g)
+    (one_version f.argument g.argument (entry_lines f) (entry_lines g)
+    (append_cancel_left (codes "TECO-CERT ") ((version_text f.argument ++ LF ∷ []) ++ entry_lines f)
+    ((version_text g.argument ++ LF ∷ []) ++ entry_lines g) e))
+
+pub one_entry : (f g : Fields) → f.entry < REGISTERS → g.entry < REGISTERS → certificate_text f ≡ certificate_text g
+    → f.entry ≡ g.entry
+one_entry f g small other e = one_register f.entry g.entry small other (first_byte (entry_told f g e))
+
 module _ (one_text : OneText) where
   one_polynomial : (p q : Polynomial) (x y : List ℕ) → IsPoly p → IsPoly q → EndsPolynomial x → EndsPolynomial y
       → text p ++ x ≡ text q ++ y → (p ≡ q) × (x ≡ y)
@@ -308,37 +344,28 @@ module _ (one_text : OneText) where
   one_certificate f g formed made e =
       let is = formed.parts in
       let other = made.parts in
-      let loops = λ (fields : Fields). flat_map (loop_line fields.rules) fields.loops ++ line (codes "end") in
-      let sizes = λ (fields : Fields). line (codes "size " ++ text fields.size) ++ loops fields in
-      let commands = λ (fields : Fields). line (codes "commands " ++ text fields.commands) ++ sizes fields in
-      let needs = λ (fields : Fields). line (codes "needs " ++ needs_text fields.needs) ++ commands fields in
-      let rules = λ (fields : Fields). rules_line fields.rules ++ needs fields in
-      let arguments = λ (fields : Fields). argument_line fields.argument ++ rules fields in
-      let entries = λ (fields : Fields). line (codes "entry " ++ register_name fields.entry ∷ []) ++ arguments fields in
-      let behind_needs = λ (fields : Fields). (needs_text fields.needs ++ LF ∷ []) ++ commands fields in
-      let at_version = append_cancel_left (codes "TECO-CERT ") ((version_text f.argument ++ LF ∷ []) ++ entries f)
-      ((version_text g.argument ++ LF ∷ []) ++ entries g) e in
-      let at_entry = append_cancel_left (codes "entry ") (register_name f.entry ∷ LF ∷ arguments f)
-      (register_name g.entry ∷ LF ∷ arguments g)
-      (one_version f.argument g.argument (entries f) (entries g) at_version) in
-      let argument = one_argument f.argument g.argument (rules f) (rules g) (begins_other f.rules (behind_needs f))
+      let behind_needs = λ (fields : Fields). (needs_text fields.needs ++ LF ∷ []) ++ command_lines fields in
+      let at_entry = entry_told f g e in
+      let argument = one_argument f.argument g.argument (rule_lines f) (rule_lines g)
+      (begins_other f.rules (behind_needs f))
       (begins_other g.rules (behind_needs g)) is.argument other.argument (other_bytes (other_bytes at_entry)) in
       let edition = one_rules f.rules g.rules (behind_needs f) (behind_needs g) argument.1 in
-      let need = one_needs f.needs g.needs (commands f) (commands g)
-      (sym (append_assoc (needs_text f.needs) (LF ∷ []) (commands f)) ∙ edition.1
-      ∙ append_assoc (needs_text g.needs) (LF ∷ []) (commands g)) in
-      let at_commands = append_cancel_left (codes "commands ") ((text f.commands ++ LF ∷ []) ++ sizes f)
-      ((text g.commands ++ LF ∷ []) ++ sizes g) need.1 in
-      let most = one_polynomial f.commands g.commands (LF ∷ sizes f) (LF ∷ sizes g) is.commands other.commands refl refl
-      (sym (append_assoc (text f.commands) (LF ∷ []) (sizes f)) ∙ at_commands
-      ∙ append_assoc (text g.commands) (LF ∷ []) (sizes g)) in
-      let at_size = append_cancel_left (LF ∷ codes "size ") ((text f.size ++ LF ∷ []) ++ loops f)
-      ((text g.size ++ LF ∷ []) ++ loops g) most.1 in
-      let size = one_polynomial f.size g.size (LF ∷ loops f) (LF ∷ loops g) is.size other.size refl refl
-      (sym (append_assoc (text f.size) (LF ∷ []) (loops f)) ∙ at_size ∙ append_assoc (text g.size) (LF ∷ [])
-      (loops g)) in
+      let need = one_needs f.needs g.needs (command_lines f) (command_lines g)
+      (sym (append_assoc (needs_text f.needs) (LF ∷ []) (command_lines f)) ∙ edition.1
+      ∙ append_assoc (needs_text g.needs) (LF ∷ []) (command_lines g)) in
+      let at_commands = append_cancel_left (codes "commands ") ((text f.commands ++ LF ∷ []) ++ size_lines f)
+      ((text g.commands ++ LF ∷ []) ++ size_lines g) need.1 in
+      let most = one_polynomial f.commands g.commands (LF ∷ size_lines f) (LF ∷ size_lines g) is.commands other.commands
+      refl refl
+      (sym (append_assoc (text f.commands) (LF ∷ []) (size_lines f)) ∙ at_commands
+      ∙ append_assoc (text g.commands) (LF ∷ []) (size_lines g)) in
+      let at_size = append_cancel_left (LF ∷ codes "size ") ((text f.size ++ LF ∷ []) ++ loop_lines f)
+      ((text g.size ++ LF ∷ []) ++ loop_lines g) most.1 in
+      let size = one_polynomial f.size g.size (LF ∷ loop_lines f) (LF ∷ loop_lines g) is.size other.size refl refl
+      (sym (append_assoc (text f.size) (LF ∷ []) (loop_lines f)) ∙ at_size ∙ append_assoc (text g.size) (LF ∷ [])
+      (loop_lines g)) in
       let lines = one_edition f.rules g.rules f.loops g.loops edition.0
       (are_of f.rules f.loops is.loops formed.distances) (are_of g.rules g.loops other.loops made.distances)
       (other_bytes size.1) in
-      same_fields g (one_register f.entry g.entry is.entry other.entry (first_byte at_entry)) argument.0 edition.0
+      same_fields g (one_entry f g is.entry other.entry e) argument.0 edition.0
       need.0 most.0 size.0 lines

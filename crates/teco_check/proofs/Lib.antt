@@ -7,3 +7,4 @@ pub mod Writing
 pub mod Arriving
 pub mod Lines
 pub mod Outside
+mod Keeping

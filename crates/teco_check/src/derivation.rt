@@ -2,7 +2,7 @@
 //! given.
 ghost use Rattle.std.specs.Prelude.{◌≡◌, ◌-◌, ◌<◌, ◌≤◌, length, replicate, option_map, option_copied, slice_index_or};
 ghost use Rattle.std.specs.Prelude.{IfOk, OnOk, None, Some, Ok, false};
-ghost use Rattle.std.specs.List.{list_any};
+ghost use Rattle.std.specs.List.{AllByRecursion, list_any};
 ghost use Rattle.teco_model.specs.Element as elements;
 ghost use Rattle.teco_verifier.specs.table.Deriving as rules;
 ghost use Rattle.teco_verifier.specs.table.Written as writing;
@@ -10,6 +10,7 @@ ghost use Rattle.teco_verifier.specs.facts.Argument as given;
 ghost use Rattle.teco_check.specs.Derived.{arrived_all, arrived_at, known_of, Derives, DerivesFrom, DerivesRow};
 ghost use Rattle.teco_check.specs.Derived.{DerivesUpTo, IsLargeBy, IsNotLarge};
 ghost use Rattle.teco_check.specs.Here.{node_at};
+ghost use Rattle.teco_check.specs.Kept.{RowIsKept};
 ghost use Rattle.teco_verifier.specs.table.Loops.{begins};
 
 use crate::arrived::Arrived;
@@ -163,6 +164,7 @@ fn row_reached(
     ensures value { DerivesRow number (rules.derived_at nodes.now lines.now number
         (node_at nodes.now number) (Some facts)) arrived.old arrived.new result }
     ensures large { IsLargeBy (Some facts) result }
+    ensures kept { IfOk result RowIsKept }
 {
     if !are_kept(&facts) {
         return Err(NotDerived::Large { node: number });
@@ -193,6 +195,7 @@ fn row_of(
     ensures value { DerivesRow number (rules.derived_at nodes.now chosen.now number
         (node_at nodes.now number) known) arrived.old arrived.new result }
     ensures large { IsLargeBy known result }
+    ensures kept { IfOk result RowIsKept }
 {
     match known {
         None => Ok(Row::of(None, None)),
@@ -216,6 +219,7 @@ fn row_at(
     ensures value { DerivesFrom nodes.now chosen.now number arrived.old arrived.new result }
     ensures large { IsLargeBy (known_of (slice_index_or arrived.old (number - 1) (Ok None)))
         result }
+    ensures kept { IfOk result RowIsKept }
 {
     match arrived.take(number) {
         Ok(known) => row_of(nodes, chosen, number, known, arrived),
@@ -245,6 +249,7 @@ pub fn derive(
     ensures value { Derives (rules.derive entry.now nodes.now chosen.now) result }
     ensures told { DerivesUpTo entry.now nodes.now chosen.now result }
     ensures small { list_any begins nodes.now ≡ false → IsNotLarge result }
+    ensures kept { IfOk result (AllByRecursion RowIsKept) }
 {
     let Ok(mut arrived) = begun(alloc, entry, nodes.len()) else {
         return Err(NotDerived::Memory);

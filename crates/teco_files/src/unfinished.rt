@@ -36,7 +36,7 @@ pub enum Closing {
     Replaces,
     /// The output replaces its target, unless that has the same bytes already.
     ReplacesOther,
-    /// The output is compared with its target, and dropped.
+    /// The output is compared with its target, which stays as it is.
     Compares,
 }
 

@@ -1,11 +1,11 @@
 -- All runs of a strict edit together take no more commands than their bounds together.
-use Rattle.std.proofs.Common.{◌≡◌, ◌≤◌, ◌+◌, ◌⊎◌, inl, inr, ℕ, min, List, Bool, true, false, Option, Result, Ok, Err}
-use Rattle.std.proofs.Common.{refl, sym, ap, ◌∙◌, subst, arith}
+use Rattle.std.proofs.Common.{◌≤◌, ◌+◌, ℕ, min, List, Bool, Option, Result, Ok, Err}
+use Rattle.std.proofs.Common.{sym, subst, arith}
 use Rattle.std.specs.Bool.{⊤}
 use Rattle.teco_apply.specs.Apply.{AnswersText, Course, opening}
-use Rattle.teco_apply.specs.ByPages.{Behind, BehindMacro, BehindPage, Closing, EachPage, EditCourse, EditsFile}
+use Rattle.teco_apply.specs.ByPages.{Behind, BehindMacro, BehindPage, Closing, EachPage, EditCourse}
 use Rattle.teco_apply.specs.ByPages.{EditsPages, EndsInMacro, EndsWith, FromStart, Gathers, Once, Order, PagesTurned}
-use Rattle.teco_apply.specs.ByPages.{RunsOn, edited_with, nothing_done, steps_of, tally_after, to_start}
+use Rattle.teco_apply.specs.ByPages.{nothing_done, tally_after, to_start}
 use Rattle.teco_apply.specs.Sure.{MOST}
 use Rattle.teco_apply.specs.declared.by_pages.Edited.{Edited}
 use Rattle.teco_apply.specs.declared.by_pages.Pages.{Pages}
@@ -14,7 +14,7 @@ use Rattle.teco_apply.specs.declared.stages.Ran.{Ran}
 use Rattle.teco_apply.specs.declared.stages.Ran.TheVariants as ran
 use Rattle.teco_apply.specs.declared.stages.Tally.{Tally}
 use Rattle.teco_law_edits.proofs.Running.{macro_steps}
-use Rattle.teco_law_edits.specs.Bounds.{IsBounded, behind_bound, bound_at, each_bound, edit_bound, macro_bound}
+use Rattle.teco_law_edits.specs.Bounds.{IsBounded, behind_bound, each_bound, macro_bound}
 use Rattle.teco_law_edits.specs.Bounds.{once_bound, pages_bound, turned_bound}
 use Rattle.teco_law_edits.specs.Strict.{IsStrict}
 use Rattle.teco_model.specs.State.{World}

@@ -4,3 +4,4 @@ mod Running
 mod Pages
 mod Strict
 mod Bounds
+mod Frames

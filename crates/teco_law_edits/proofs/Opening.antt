@@ -1,6 +1,6 @@
 -- The end of the command string that opens the files and reads the first page.
-use Rattle.std.proofs.Common.{◌≡◌, ◌≢◌, ◌≤◌, ◌+◌, ℕ, zero, suc, List, [], ◌∷◌, length, Bool, true, false, bytes_eq}
-use Rattle.std.proofs.Common.{Option, Some, None, Result, Ok, Err, option_map, refl, sym, ap, ◌∙◌, subst, arith}
+use Rattle.std.proofs.Common.{◌≡◌, ◌≤◌, ℕ, List, [], ◌∷◌, length, false, bytes_eq}
+use Rattle.std.proofs.Common.{Some, None, refl, ap, ◌∙◌}
 use Rattle.std.proofs.lemmas.Bool.{le-leb}
 use Rattle.teco_apply.proofs.Opening.{end_at, first_read, named, second_place, second_read, third_place, third_read}
 use Rattle.teco_apply.specs.Apply.{has_esc, opening}

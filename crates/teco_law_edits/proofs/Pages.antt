@@ -1,14 +1,14 @@
 -- What is unread where an edit turns pages.
-use Rattle.std.proofs.Common.{◌≡◌, ◌≢◌, ◌≤◌, ◌<◌, ◌+◌, ℕ, zero, suc, List, [], ◌∷◌, ◌++◌, length, take, drop, Bool}
-use Rattle.std.proofs.Common.{true, false, ◌==◌, if◌then◌else◌, is_some, Option, Some, None, IsSome, option_map, refl}
-use Rattle.std.proofs.Common.{sym, ap, ◌∙◌, subst, arith, length-append}
+use Rattle.std.proofs.Common.{◌≡◌, ◌≢◌, ◌≤◌, ◌+◌, ℕ, suc, List, [], ◌∷◌, ◌++◌, length, Bool}
+use Rattle.std.proofs.Common.{true, false, ◌==◌, if◌then◌else◌, Option, Some, None, IsSome, option_map, refl}
+use Rattle.std.proofs.Common.{ap, ◌∙◌, arith, length-append}
 use Rattle.std.proofs.Math.Seq.{drop-length, take-length}
 use Rattle.std.proofs.lemmas.List.{append-nil}
 use Rattle.std.specs.Option.{option_map_or}
 use Rattle.teco_base.specs.declared.bytes.TheConstants.{FF}
 use Rattle.teco_law_edits.specs.Texts.{gathered, more_text, next_page}
 use Rattle.teco_model.specs.Files.{Files, Input, Output, with_written}
-use Rattle.teco_model.specs.Pages.{before_form_feed, behind_first_page, first_page, has_form_feed, written_page}
+use Rattle.teco_model.specs.Pages.{before_form_feed, behind_first_page, first_page, written_page}
 use Rattle.teco_model.specs.Paging.{files_behind_page, page_of_buffer, unread}
 use Rattle.teco_model.specs.State.{World}
 use Rattle.teco_law_edits.proofs.Running.{IsOpen}

@@ -1,29 +1,24 @@
 -- What runs of command strings and of the macro come to in an edit.
-use Rattle.std.proofs.Common.{◌≡◌, ◌≢◌, ◌≤◌, ◌<◌, ◌+◌, ◌⊎◌, inl, inr, ℕ, zero, suc, List, [], ◌∷◌, ◌++◌, length, Bool}
-use Rattle.std.proofs.Common.{true, false, is_some, Option, Some, None, IsSome, Result, Ok, Err, option_map, refl}
-use Rattle.std.proofs.Common.{sym, ap, ◌∙◌, subst, arith, length-append}
-use Rattle.std.specs.Bool.{⊤}
-use Rattle.std.specs.Option.{option_map_or}
-use Rattle.teco_apply.specs.Apply.{AnswersText, IsNotRun, Lacks, RunWrites, TextStops, stop_of}
+use Rattle.std.proofs.Common.{◌≡◌, ◌≤◌, inl, inr, ℕ, List, length, Bool}
+use Rattle.std.proofs.Common.{true, false, Option, Some, None, IsSome, Ok, refl}
+use Rattle.std.proofs.Common.{sym, ap, ◌∙◌, subst, arith}
+use Rattle.teco_apply.specs.Apply.{AnswersText, IsNotRun, Lacks, TextStops, stop_of}
 use Rattle.teco_apply.specs.ByPages.{AdmittedStops, AnswersAdmitted, Order, steps_of}
-use Rattle.teco_apply.specs.Sure.{Call, MOST, Runs}
+use Rattle.teco_apply.specs.Sure.{Call, MOST}
 use Rattle.teco_apply.specs.declared.ready.NotReady.{NotReady}
 use Rattle.teco_apply.specs.declared.ready.NotReady.TheVariants as not_ready
-use Rattle.teco_base.specs.declared.TheConstants.{LIMIT}
 use Rattle.teco_law_edits.specs.Bounds.{bound_at}
 use Rattle.teco_law_edits.specs.Strict.{EndsBeyond, IsBeyond, IsStrict}
 use Rattle.teco_law_tables.specs.Keeping.{LeavesOpen}
 use Rattle.teco_law_tables.specs.Staying.{AreAsOpen}
 use Rattle.teco_law_tables.specs.Sure.{ComesTo, RunsEndOnce}
 use Rattle.teco_model.specs.Files.{Files}
-use Rattle.teco_model.specs.Paging.{unread, unread_of}
-use Rattle.teco_model.specs.Run.{Ends, IsSure, Stops}
-use Rattle.teco_model.specs.Session.{code_of, is_code, lines_of, without_typed}
+use Rattle.teco_model.specs.Paging.{unread}
+use Rattle.teco_model.specs.Run.{Ends, IsSure}
+use Rattle.teco_model.specs.Session.{code_of, is_code, without_typed}
 use Rattle.teco_model.specs.State.{World, start}
-use Rattle.teco_model.specs.declared.stop.HostFault.TheVariants as host_fault
 use Rattle.teco_model.specs.declared.stop.Stop.{Stop}
 use Rattle.teco_model.specs.declared.stop.Stop.TheVariants as stop
-use Rattle.teco_session.specs.declared.fault.SessionFault.{SessionFault}
 
 -- both files are open, and no more than so much is unread
 pub record IsOpen (most : ℕ) (files : Files) : Type 0 where

@@ -1,20 +1,18 @@
 -- A strict edit writes no code but for want of memory or a fault of the host.
-use Rattle.std.proofs.Common.{◌≡◌, ◌≢◌, ◌≤◌, ◌<◌, ◌+◌, ◌⊎◌, inl, inr, ℕ, zero, suc, List, [], ◌∷◌, ◌++◌, length, Bool}
-use Rattle.std.proofs.Common.{true, false, not, ◌&&◌, bytes_eq, Option, Some, None, IsSome, Result, Ok, Err, refl}
+use Rattle.std.proofs.Common.{◌≡◌, ◌≢◌, ◌≤◌, ◌+◌, ◌⊎◌, inl, inr, ℕ, List, [], ◌∷◌, length, Bool}
+use Rattle.std.proofs.Common.{true, false, not, ◌&&◌, bytes_eq, Option, IsSome, Result, Ok, Err, refl}
 use Rattle.std.proofs.Common.{sym, ap, ◌∙◌, subst, arith, length-append}
 use Rattle.std.proofs.lemmas.Slice.Eq.{bytes_eq-Decides}
 use Rattle.std.specs.Bool.{⊤}
-use Rattle.std.specs.Option.{option_map_or}
-use Rattle.teco_apply.specs.Apply.{AnswersText, are_plain, closing, has_esc, opening}
+use Rattle.teco_apply.specs.Apply.{AnswersText, closing, has_esc, opening}
 use Rattle.teco_apply.specs.ByPages.{AllPages, Behind, BehindMacro, BehindPage, Closing, EachPage, EditCourse}
-use Rattle.teco_apply.specs.ByPages.{EditsFile, EditsPages, EditsText, EndsWith, FromStart, Gathers, Once, Order}
-use Rattle.teco_apply.specs.ByPages.{PagesGathered, PagesTurned, RunsAdmitted, EndsInMacro, TooMany, Turning}
-use Rattle.teco_apply.specs.ByPages.{edited_with, gathering, nothing_done, tally_after, to_start, turning}
+use Rattle.teco_apply.specs.ByPages.{EditsPages, EditsText, EndsWith, FromStart, Gathers, Once, Order}
+use Rattle.teco_apply.specs.ByPages.{PagesGathered, PagesTurned, Turning}
+use Rattle.teco_apply.specs.ByPages.{gathering, nothing_done, tally_after, to_start, turning}
 use Rattle.teco_apply.specs.declared.by_pages.Edited.{Edited}
 use Rattle.teco_apply.specs.declared.by_pages.Pages.{Pages}
 use Rattle.teco_apply.specs.declared.by_pages.Pages.TheVariants as pages
 use Rattle.teco_apply.specs.declared.by_pages.TheConstants.{PAGES}
-use Rattle.teco_apply.specs.declared.stages.Ran.{Ran}
 use Rattle.teco_apply.specs.declared.stages.Ran.TheVariants as ran
 use Rattle.teco_apply.specs.declared.stages.Tally.{Tally}
 use Rattle.teco_base.specs.declared.TheConstants.{LIMIT}

@@ -1,29 +1,28 @@
 -- The ends of command strings, step by step.
-use Rattle.std.proofs.Common.{◌≡◌, ◌≤◌, ◌+◌, ℕ, zero, suc, ℤ, pos, List, [], ◌∷◌, ◌++◌, codes, length, Bool, true}
-use Rattle.std.proofs.Common.{false, nat_le, Option, Some, None, Result, Ok, Err, refl, sym, ap, ◌∙◌, subst, arith}
+use Rattle.std.proofs.Common.{◌≡◌, ◌≤◌, ◌+◌, ℕ, suc, ℤ, pos, List, [], ◌∷◌, ◌++◌, codes, length}
+use Rattle.std.proofs.Common.{false, Option, Some, None, Result, Ok, refl, ap, ◌∙◌, subst, arith}
 use Rattle.std.proofs.Common.{length-append}
-use Rattle.std.proofs.lemmas.Bool.{le-leb, lt-leb}
-use Rattle.std.specs.Prelude.{if◌then◌else◌}
+use Rattle.std.proofs.lemmas.Bool.{le-leb}
 use Rattle.std.specs.Int.{int_wrap}
 use Rattle.std.specs.Option.{ok_or, option_map_or}
 use Rattle.teco_base.specs.declared.TheConstants.{LIMIT}
-use Rattle.teco_base.specs.declared.bytes.TheConstants.{ESC, FF}
+use Rattle.teco_base.specs.declared.bytes.TheConstants.{ESC}
 use Rattle.teco_base.specs.declared.code.Code.{Code}
 use Rattle.teco_base.specs.declared.code.Code.TheVariants as code
 use Rattle.teco_law_edits.specs.Texts.{CopyingEnds, GatheringEnds, GoingEnds, TurningEnds, at_start, gathered}
 use Rattle.teco_law_edits.specs.Texts.{more_text, next_page}
-use Rattle.teco_model.specs.Arguments.{Arguments, no_arguments}
+use Rattle.teco_model.specs.Arguments.{no_arguments}
 use Rattle.teco_model.specs.Checked.{◌>>=◌}
-use Rattle.teco_model.specs.Element.{Element, element_at, element_from, blank_end, blank_len}
+use Rattle.teco_model.specs.Element.{Element, element_at, element_from, blank_len}
 use Rattle.teco_model.specs.Files.{Input, Output}
-use Rattle.teco_model.specs.Filing.{copy_all, world_copied}
+use Rattle.teco_model.specs.Filing.{world_copied}
 use Rattle.teco_model.specs.Going.{frames_at, settle}
 use Rattle.teco_model.specs.Letters.{letters}
-use Rattle.teco_model.specs.Outside.{going_on, in_pages}
+use Rattle.teco_model.specs.Outside.{going_on}
 use Rattle.teco_model.specs.Pages.{first_page}
-use Rattle.teco_model.specs.Paging.{page_turned, unread}
+use Rattle.teco_model.specs.Paging.{unread}
 use Rattle.teco_model.specs.Run.{Ends, Reaches, go_on, run}
-use Rattle.teco_model.specs.State.{Frames, Outcome, Next, End, State, World, frames_of, start}
+use Rattle.teco_model.specs.State.{Next, End, State, World, frames_of, start}
 use Rattle.teco_model.specs.Step.{outcome_at, reply_of, step}
 use Rattle.teco_model.specs.declared.kind.Argument.TheVariants as argument
 use Rattle.teco_model.specs.declared.kind.Command.TheVariants as command

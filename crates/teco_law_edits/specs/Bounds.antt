@@ -1,7 +1,7 @@
 -- The bound of an edit: the sum of the printed numbers of commands of its runs.
 use Rattle.std.specs.Prelude.{◌≤◌, ◌+◌, ℕ, List, Option, Result, Ok}
 use Rattle.teco_apply.specs.Apply.{AnswersText, Course, opening}
-use Rattle.teco_apply.specs.ByPages.{AllPages, Behind, BehindMacro, BehindPage, Closing, EachPage, EditCourse}
+use Rattle.teco_apply.specs.ByPages.{Behind, BehindMacro, BehindPage, Closing, EachPage, EditCourse}
 use Rattle.teco_apply.specs.ByPages.{EditsFile, EditsPages, EditsText, FromStart, Gathers, Once, Order, PagesTurned}
 use Rattle.teco_apply.specs.ByPages.{nothing_done, to_start}
 use Rattle.teco_apply.specs.Sure.{Call, loaded, n_of}

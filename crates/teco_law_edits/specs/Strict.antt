@@ -1,5 +1,5 @@
 -- What it means that an edit cannot fail: it writes no code, but for want of memory or a fault of the host.
-use Rattle.std.specs.Prelude.{◌≡◌, ◌≢◌, ◌≤◌, ◌⊎◌, ⊤, ℕ, List, [], length, Bool, true, false, Option, Some, None, Ok}
+use Rattle.std.specs.Prelude.{◌≡◌, ◌≢◌, ◌≤◌, ◌⊎◌, ⊤, ℕ, List, [], length, true, false, Option, Some, None, Ok}
 use Rattle.std.specs.Io.KnownBytes.{Appends}
 use Rattle.teco_apply.specs.Apply.{are_plain}
 use Rattle.teco_apply.specs.ByPages.{EditsFile, IsAnswered, Order}

@@ -1,5 +1,5 @@
 -- The ends of the command strings with which an edit turns pages and closes its output.
-use Rattle.std.specs.Prelude.{◌≡◌, ◌≢◌, ◌≤◌, ◌+◌, ℕ, List, [], ◌∷◌, ◌++◌, codes, length, Option, Some}
+use Rattle.std.specs.Prelude.{◌≡◌, ◌≤◌, ◌+◌, ℕ, List, [], ◌∷◌, ◌++◌, codes, length, Some}
 use Rattle.teco_base.specs.declared.TheConstants.{LIMIT}
 use Rattle.teco_base.specs.Text.{text_after_insertion}
 use Rattle.teco_base.specs.declared.bytes.TheConstants.{ESC, FF}

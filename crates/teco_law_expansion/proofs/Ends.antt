@@ -17,7 +17,7 @@ use Rattle.teco_verifier.specs.expansion.Node.{Stand, Node, beginning, over, sta
 use Rattle.teco_verifier.specs.expansion.Order.{stand_behind_kind, stand_behind}
 use Rattle.teco_verifier.specs.expansion.Position.{Spot}
 use Rattle.teco_law_expansion.proofs.Iterations.{earlier, first_is, node_stands, iterations_are_open}
-use Rattle.teco_law_expansion.proofs.Linking.{slice_get-drop}
+use Rattle.teco_law_expansion.proofs.Visiting.{slice_get-drop}
 use Rattle.teco_law_expansion.proofs.Runs.{AtNode, is_node, node_or_end}
 use Rattle.teco_law_expansion.proofs.Runs as runs
 

@@ -1,6 +1,7 @@
 mod Turns
 mod FlowWays
 mod StepWays
+mod Visiting
 mod Linking
 mod Texts
 mod Keeping

@@ -401,7 +401,7 @@ module _ (laws : ending.Laws) (sound : NodesAreSound) (bounded : TurnsAreBounded
         few_here number turns at (go number turns at.total s at.reached at.here at.files)
     few_where (described.Within number turns begun at g k l came) =
         few_there number turns begun at g (suc k) s t l came enters
-    few_where (described.Behind o) = let z : End s.world ≡ Next t = sym (laws.over entry s o) ∙ enters.goes in
+    few_where (described.Behind o above) = let z : End s.world ≡ Next t = sym (laws.over entry s o) ∙ enters.goes in
         absurd (cc)
 
     pub few : (steps number : ℕ) (turns : List OpenTurn) (from : State) → At number turns from → Reaches steps from s

@@ -2,7 +2,8 @@
 use Rattle.std.proofs.Common.{◌≡◌, ◌⊎◌, inl, inr, ℕ, zero, suc, ◌+◌, ◌-◌, ◌≤◌, ◌<◌, sym, ap, ◌∙◌, subst, arith, List}
 use Rattle.std.proofs.Common.{[], Option, Some, None}
 use Rattle.std.proofs.lemmas.Bool.{cases_order}
-use Rattle.teco_law_tables.specs.Following.{OpenTurn}
+use Rattle.teco_law_tables.specs.Following.{OpenTurn, run_at}
+use Rattle.teco_law_tables.specs.Framing.{LiesBelow}
 use Rattle.teco_verifier.specs.facts.Facts.{entry_of}
 use Rattle.teco_verifier.specs.declared.rules.Rules.{Rules}
 use Rattle.teco_model.specs.Run.{Reaches, run, go_on}
@@ -25,7 +26,9 @@ use Rattle.teco_law_tables.proofs.Ending as ending
 use Rattle.teco_law_tables.proofs.Ending.{Course, Call, course}
 use Rattle.teco_law_tables.proofs.Verifying as verifying
 use Rattle.teco_law_tables.proofs.Underway.{Goes, ElementsGo, elements_pass}
+use Rattle.teco_law_tables.proofs.Stacking.{below_along, lies_below}
 use Rattle.teco_law_tables.proofs.Walking.{run_on}
+use Rattle.teco_verifier.specs.table.Behind.{left_by}
 
 -- ---- no state comes behind the end
 ended : (s : State) (world : World) (k : ℕ) → step s ≡ End world → run (suc k) s ≡ End world
@@ -63,7 +66,7 @@ module _ (laws : ending.Laws) (c : Course) (go : ElementsGo c.library c.entry c.
         (number : ℕ) (turns : List OpenTurn) (begun : State) (at : At number turns begun)
         (g : Goes library entry nodes table n below number turns begun at.here) (k : ℕ)
         → suc k ≤ g.passes.before → Reaches (suc k) begun s → Comes s
-    Behind : (over entry).position ≡ position_of s → Comes s
+    Behind : (over entry).position ≡ position_of s → LiesBelow below s.world.kept.registers.stack → Comes s
 
   -- where the element ends
   pub goes_on : (number : ℕ) (turns : List OpenTurn) (s : State) (at : At number turns s)
@@ -89,9 +92,18 @@ module _ (laws : ending.Laws) (c : Course) (go : ElementsGo c.library c.entry c.
         (let e : suc k ≡ suc g.passes.before + (k - g.passes.before) = omega (arith, more) in
         subst (λ k. Reaches k s u) e came)
 
+    next_above : LiesBelow below g.passes.next.world.kept.registers.stack
+    next_above =
+        subst (λ below. LiesBelow below g.passes.next.world.kept.registers.stack)
+        (below_along at.here.node.element g.passes.goes.way (left_by nodes at.here.node) s.world
+        (run_at library n below turns))
+        (lies_below _ _ _ _ g.passes.comes.described.state.pushed)
+
     behind : (m : ℕ) → (over entry).position ≡ position_of g.passes.next → Reaches m g.passes.next u → Comes u
     behind zero o came =
-        Behind (subst (λ (s : State). (over entry).position ≡ position_of s) (reaches_none g.passes.next u came) o)
+        let same = reaches_none g.passes.next u came in
+        Behind (subst (λ (s : State). (over entry).position ≡ position_of s) same o)
+        (subst (λ (s : State). LiesBelow below s.world.kept.registers.stack) same next_above)
     behind (suc m) o came =
         absurd (not_ended g.passes.next u g.passes.next.world m (laws.over entry g.passes.next o) came)
 
@@ -135,7 +147,7 @@ module _ (laws : ending.Laws) (c : Course) (go : ElementsGo c.library c.entry c.
   known_by s none (Within number turns begun at g k l came) =
       let amid = g.amid (suc k) s (omega arith) l came in
       let z : Some amid.n ≡ None = sym amid.left ∙ none in absurd (cc)
-  known_by s none (Behind o) = BehindCall o
+  known_by s none (Behind o above) = BehindCall o
 
   pub known : (k number : ℕ) (turns : List OpenTurn) (s u : State) → At number turns s → Reaches k s u → u.left ≡ None
       → IsKnown library entry nodes table n below u

@@ -101,7 +101,7 @@ module _ (laws : ending.Laws) (c : Course)
   reads_in u (described.Here number turns at) = read_here number turns u u at refl
   reads_in u (described.Within number turns begun at g k l came) =
       read_here number turns begun u at (g.amid (suc k) u (omega arith) l came).frames
-  reads_in u (described.Behind o) = OfNone (ap read_at (sym o) ∙ over_reads entry)
+  reads_in u (described.Behind o above) = OfNone (ap read_at (sym o) ∙ over_reads entry)
 
 module _ (laws : ending.Laws) (keep : StepsKeep) (call : Call)
     (go : ElementsGo call.library call.entry call.nodes call.table call.n call.world.kept.registers.stack

@@ -26,9 +26,11 @@ mod Inside
 mod Staying
 mod Completing
 mod Verifying
+mod Stacking
 mod Described
 mod Bounding
 mod Sure
 pub mod Keeping
 mod Framing
+mod Below
 pub mod straight_text

@@ -1,6 +1,6 @@
--- What a run of a macro with a closed table leaves: registers that no element of the macro names, and the search mode,
--- where none may set it.
-use Rattle.std.specs.Prelude.{◌≡◌, ◌≢◌, ℕ, List, Bool, false, Option, Some, None}
+-- What a run of a macro with a closed table leaves: registers that no element of the macro names, the search mode, where
+-- none may set it, and the push-down list of its entry.
+use Rattle.std.specs.Prelude.{◌≡◌, ◌≢◌, ℕ, List, ◌++◌, Bool, false, Option, Some, None}
 use Rattle.teco_law_expansion.specs.Given.{call_given}
 use Rattle.teco_law_expansion.specs.Linked.{AreLinked}
 use Rattle.teco_law_expansion.specs.Loaded.{sets_mode}
@@ -8,8 +8,8 @@ use Rattle.teco_law_facts.specs.SoundSteps.{AreOpen}
 use Rattle.teco_law_tables.specs.Verified.{IsReady}
 use Rattle.teco_model.specs.Element.{Element}
 use Rattle.teco_model.specs.Macros.{Library, ArgumentRange, IsAsked}
-use Rattle.teco_model.specs.Registers.{pair_of}
-use Rattle.teco_model.specs.Run.{Reaches}
+use Rattle.teco_model.specs.Registers.{Pair, pair_of}
+use Rattle.teco_model.specs.Run.{Ends, Reaches}
 use Rattle.teco_model.specs.State.{Kept, State, World, start}
 use Rattle.teco_poly.specs.Polynomial.{Polynomial}
 use Rattle.teco_verifier.specs.declared.rules.Rules.{Rules}
@@ -42,7 +42,7 @@ pub record IsFramed (nodes : List Node) (old new : Kept) : Type 0 where
   pub pairs : (r : ℕ) → NoneNames nodes r → pair_of r new.registers ≡ pair_of r old.registers
   pub mode : NoneSetsMode nodes → new.mode ≡ old.mode
 
--- So it is wherever a run comes to.
+-- Wherever a run comes to, what its macro does not name is as it was.
 abbrev pub RunsAreFramed : Type 0
 RunsAreFramed =
     (library : Library) (entry : ℕ) (rules : Rules) (argument : Option ArgumentRange) (given : Option ℕ)
@@ -51,3 +51,18 @@ RunsAreFramed =
     → IsAsked argument given → IsReady library entry most n world → AreOpen (needs_in nodes table) world.files
     → (steps : ℕ) (s : State) → Reaches steps (start (call_given entry given) world) s
     → IsFramed nodes world.kept s.world.kept
+
+-- A push-down list has pairs above another.
+pub record LiesBelow (below stack : List Pair) : Type 0 where
+  pub above : List Pair
+  pub is : stack ≡ above ++ below
+
+-- At its end a run has the push-down list of its entry, and above it what it pushed and did not pop.
+abbrev pub RunsLeaveBelow : Type 0
+RunsLeaveBelow =
+    (library : Library) (entry : ℕ) (rules : Rules) (argument : Option ArgumentRange) (given : Option ℕ)
+    (nodes : List Node) (table : Table) (commands most : Polynomial) (n : ℕ) (world : World)
+    → AreLinked library entry nodes → IsPrinted (entry_of rules library argument) nodes table commands most
+    → IsAsked argument given → IsReady library entry most n world → AreOpen (needs_in nodes table) world.files
+    → (steps : ℕ) (new : World) → Ends (start (call_given entry given) world) steps new
+    → LiesBelow world.kept.registers.stack new.kept.registers.stack

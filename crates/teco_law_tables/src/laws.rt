@@ -1,7 +1,7 @@
 //! Laws of closed tables.
 ghost use Rattle.teco_law_tables.specs.Bounded.{IterationsAreBounded, RunsAreDescribed};
 ghost use Rattle.teco_law_tables.specs.Ending.{RunsEndInTime};
-ghost use Rattle.teco_law_tables.specs.Framing.{RunsAreFramed};
+ghost use Rattle.teco_law_tables.specs.Framing.{RunsAreFramed, RunsLeaveBelow};
 ghost use Rattle.teco_law_tables.specs.Keeping.{RunsLeaveOpen};
 ghost use Rattle.teco_law_tables.specs.Laws.{CommandsAreSteps, TablesAreClosed};
 ghost use Rattle.teco_law_tables.specs.Moving.{StepsMove};
@@ -121,6 +121,31 @@ pub fn runs_are_framed()
     teco_law_expansion::laws::iterations_end();
     teco_law_expansion::laws::runs_end();
     teco_law_expansion::laws::steps_keep();
+    teco_law_expansion::laws::steps_are_alike();
+    teco_law_expansion::laws::runs_are_alike();
+    teco_law_expansion::laws::readings_are_alike();
+    teco_law_expansion::laws::numbers_are_pending();
+    teco_law_turns::laws::runs_are_bounded();
+    teco_law_turns::laws::runs_are_covered();
+    files_stay_open();
+    tables_are_closed();
+    steps_move();
+}
+
+/// At the end of such a run the push-down list of its entry lies below what it pushed and did not
+/// pop.
+pub fn runs_leave_below()
+    ensures { RunsLeaveBelow }
+{
+    teco_law_facts::sound::steps_are_sound();
+    teco_law_facts::sound::later_steps_are_sound();
+    teco_law_facts::sound::elements_are_named();
+    teco_law_facts::laws::whole_is_kept();
+    teco_law_expansion::laws::steps_go_along_nodes();
+    teco_law_expansion::laws::stays_loaded();
+    teco_law_expansion::laws::nodes_are_sound();
+    teco_law_expansion::laws::iterations_end();
+    teco_law_expansion::laws::runs_end();
     teco_law_expansion::laws::steps_are_alike();
     teco_law_expansion::laws::runs_are_alike();
     teco_law_expansion::laws::readings_are_alike();

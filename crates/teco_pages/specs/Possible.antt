@@ -3,7 +3,7 @@ use Rattle.std.specs.Prelude.{ℕ, ◌≡◌, ◌≢◌, ◌≤◌, ⊤, List, [
 use Rattle.std.specs.List.{AllByRecursion}
 use Rattle.teco_pages.specs.Events.{Event, Happened, IsOfBytes, opened_input, gave, ended, opened_output, wrote}
 use Rattle.teco_pages.specs.Events.{closed, dropped, measured}
-use Rattle.teco_pages.specs.HostFiles.{HostFiles, AreOfBytes}
+use Rattle.teco_pages.specs.HostFiles.{HostFiles, AreOfBytes, Telling, Tells, Notes}
 use Rattle.teco_pages.specs.Noting.{EndsAtEnd}
 
 -- no input of this name is opened in these
@@ -70,3 +70,26 @@ NotesFit =
     → EndsAtEnd end events end' → GivesMeasured events → OpensAnew events
     → IfSome output (λ name. IsUnopened name events)
     → AreFitted output events
+
+-- Where this holds of what was noted meanwhile, some files of bytes fit it, with an output of this name open before, or
+-- none.
+pub record AreNotedWhere (Holds : List Event → Type 0) (output : Option (List ℕ)) (old new : List Event) : Type 0 where
+  pub meanwhile : List Event
+  pub noted : new ≡ old ++ meanwhile
+  pub fitted : Holds meanwhile → AreFitted output meanwhile
+
+-- of hosts that note
+abbrev pub FitWhere : (List Event → Type 0) → Option (List ℕ) → Telling → Telling → Type 0
+FitWhere Holds output (Tells files) (Tells left) = ⊤
+FitWhere Holds output (Tells files) (Notes new) = ⊥
+FitWhere Holds output (Notes old) (Tells left) = ⊥
+FitWhere Holds output (Notes old) (Notes new) = AreNotedWhere Holds output old new
+
+-- some files fit it in any case
+abbrev pub SomeFit : Option (List ℕ) → Telling → Telling → Type 0
+SomeFit = FitWhere (λ events. ⊤)
+
+-- no input is opened that was opened before, nor the output that is open
+pub record AreOpenedAnew (output : Option (List ℕ)) (events : List Event) : Type 0 where
+  pub inputs : OpensAnew events
+  pub own : IfSome output (λ name. IsUnopened name events)

@@ -10,13 +10,13 @@ use Rattle.teco_pages.proofs.Touching.{touches-none, touches-on}
 use Rattle.teco_pages.specs.Events.{Event, opened_input, gave, ended, opened_output, wrote, closed, dropped, measured}
 use Rattle.teco_pages.specs.HostFiles.{Telling, Tells, Notes}
 use Rattle.teco_pages.specs.Noting.{Touches, openings}
-use Rattle.teco_pages.specs.Possible.{GivesMeasured, NotesFit}
+use Rattle.teco_pages.specs.Possible.{AreOpenedAnew, FitWhere, GivesMeasured, NotesFit}
 use Rattle.teco_run.proofs.Due.{unmeasured-on}
 use Rattle.teco_run.specs.Holdings.{Holdings}
 use Rattle.teco_run.specs.Touched.{IsUnmeasured, TouchesBetween}
 use Rattle.teco_session.proofs.Known.{Consumes-ahead}
 use Rattle.teco_session.specs.Strings.{IsPiece}
-use Rattle.teco_session.specs.Touched.{FitAnew, TouchesByPiece, TouchesByString, TouchesByStrings, TouchesInSession}
+use Rattle.teco_session.specs.Touched.{TouchesByPiece, TouchesByString, TouchesByStrings, TouchesInSession}
 use Rattle.teco_session.specs.Touched.{nothing, one_more}
 use Rattle.teco_session.specs.declared.strings.Piece.{Piece}
 use Rattle.teco_session.specs.declared.strings.Piece.TheVariants.{Command, Rest}
@@ -34,15 +34,17 @@ gives-measured (dropped ∷ events) h = gives-measured events h.1
 gives-measured (measured most ∷ events) h = absurd (h.0)
 
 fit-anew : NotesFit → (output : Option (List ℕ)) (touched : List Event) (end end' : Bool) (x y : Telling)
-    → AllByRecursion IsUnmeasured touched → Touches touched end end' x y → FitAnew output x y
+    → AllByRecursion IsUnmeasured touched → Touches touched end end' x y
+    → FitWhere (AreOpenedAnew output) output x y
 fit-anew fit output touched end end' (Tells f) (Tells g) none t = tt
 fit-anew fit output touched end end' (Tells f) (Notes b) none t = absurd t
 fit-anew fit output touched end end' (Notes a) (Tells g) none t = absurd t
 fit-anew fit output touched end end' (Notes a) (Notes b) none t = record {
   meanwhile = t.meanwhile;
   noted = t.noted;
-  fitted = λ anew unopened. fit output end end' t.meanwhile t.bytes t.order
-      (gives-measured t.meanwhile (subst (AllByRecursion IsUnmeasured) (sym t.openings) none)) anew unopened;
+  fitted = λ anew. fit output end end' t.meanwhile t.bytes t.order
+      (gives-measured t.meanwhile (subst (AllByRecursion IsUnmeasured) (sym t.openings) none)) anew.inputs
+      anew.own;
 }
 
 -- ---- as far as the input was read

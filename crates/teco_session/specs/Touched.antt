@@ -1,13 +1,13 @@
 -- Which files the command strings of a session touch, where its host notes its calls.
-use Rattle.std.specs.Prelude.{ℕ, ◌≡◌, ⊤, List, [], ◌++◌, Option, IfSome}
+use Rattle.std.specs.Prelude.{ℕ, ◌≡◌, List, [], ◌++◌, Option}
 use Rattle.std.specs.Io.KnownBytes.{Consumes}
 use Rattle.teco_model.specs.Run.{Stops}
 use Rattle.teco_model.specs.Session.{IsCommandString}
 use Rattle.teco_model.specs.State.{start}
 use Rattle.teco_model.specs.declared.session.Limits.{Limits}
 use Rattle.teco_pages.specs.Events.{Event}
-use Rattle.teco_pages.specs.HostFiles.{Telling, Tells, Notes}
-use Rattle.teco_pages.specs.Possible.{AreFitted, IsUnopened, OpensAnew}
+use Rattle.teco_pages.specs.HostFiles.{Telling}
+use Rattle.teco_pages.specs.Possible.{AreOpenedAnew, FitWhere}
 use Rattle.teco_run.specs.Holdings.{Holdings, Joined}
 use Rattle.teco_run.specs.Touched.{TouchesBetween, TouchesBySteps, touched_in_run}
 use Rattle.teco_run.specs.declared.site.Stopped.{Stopped}
@@ -41,20 +41,6 @@ abbrev pub TouchesByPiece : Limits → Piece → List ℕ → Holdings → Holdi
 TouchesByPiece limits Command bytes old new before after = TouchesByString limits.steps bytes old new before after
 TouchesByPiece limits Rest bytes old new before after = (new ≡ old) × (after ≡ before)
 
--- Some files of bytes fit what was noted meanwhile, with an output of this name open before, or none, if no input was
--- opened that was opened before.
-pub record AreNotedAnew (output : Option (List ℕ)) (old new : List Event) : Type 0 where
-  pub meanwhile : List Event
-  pub noted : new ≡ old ++ meanwhile
-  pub fitted :
-      OpensAnew meanwhile → IfSome output (λ name. IsUnopened name meanwhile) → AreFitted output meanwhile
-
-abbrev pub FitAnew : Option (List ℕ) → Telling → Telling → Type 0
-FitAnew output (Tells files) (Tells left) = ⊤
-FitAnew output (Tells files) (Notes new) = ⊥
-FitAnew output (Notes old) (Tells left) = ⊥
-FitAnew output (Notes old) (Notes new) = AreNotedAnew output old new
-
 -- The front of what was read are the command strings that were run. They touched no other files than by the definition,
 -- and some files fit what was noted, if no input was opened that was opened before.
 pub record TouchesInSession (limits : Limits) (unread left : Option (List ℕ)) (old new : Holdings)
@@ -65,4 +51,4 @@ pub record TouchesInSession (limits : Limits) (unread left : Option (List ℕ)) 
   pub strings : TouchesByStrings limits input old new before after
   pub touched : List Event
   pub notes : TouchesBetween touched old new before after
-  pub possible : FitAnew old.held.output before after
+  pub possible : FitWhere (AreOpenedAnew old.held.output) old.held.output before after

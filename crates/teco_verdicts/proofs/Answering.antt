@@ -1,12 +1,13 @@
 -- Answers, by what was written.
 use Rattle.std.proofs.Common.{◌≡◌, ◌≢◌, ℕ, ◌⊎◌, inl, inr, List, Option, Some, None, Result, Ok, Err, IfOk, IsErr}
-use Rattle.std.proofs.Common.{refl, sym, ap, subst, codes}
+use Rattle.std.proofs.Common.{refl, sym, ap, subst, ◌∙◌, codes}
 use Rattle.std.specs.Io.KnownBytes.{Appends, Keeps}
 use Rattle.teco_library.specs.Library.{LibraryFile}
 use Rattle.teco_library.specs.Reads.{Reads}
 use Rattle.teco_certificate.specs.Text.{certificate_text}
 use Rattle.teco_verifier.specs.certificate.Fields.{Fields, Finding}
 use Rattle.teco_verifier.specs.declared.rules.Rules.{Rules}
+use Rattle.teco_verify.specs.Again.{AreMadeAgain, PrintedIsAccepted}
 use Rattle.teco_verify.specs.Certified.{IsCertified, TakesDeclared}
 use Rattle.teco_verify.specs.Straight.{StraightIsChecked, StraightIsVerified, straight_fields}
 use Rattle.teco_verify.specs.declared.refusal.Refusal.{Refusal}
@@ -93,35 +94,41 @@ straight_verdict rules library entry (Err refusal) same straight = tt
 -- bytes that are refused as a certificate, since no certificate is read of them
 pub denied_by : (editions : Editions) (rules : Rules) (bytes : List ℕ) (library : LibraryFile) (entry : ℕ)
     (refusal : Refusal) → IsAmong editions rules → StraightIsChecked rules library bytes (Err refusal)
-    → IsDeniedBy editions bytes library entry refusal
-denied_by editions rules bytes library entry (No reason register place) among straight =
+    → PrintedIsAccepted rules library bytes (Err refusal) → IsDeniedBy editions bytes library entry refusal
+denied_by editions rules bytes library entry (No reason register place) among straight again =
     record {
       rules = rules;
       among = among;
       straight = λ text elements none is same.
           straight entry text elements none is same;
+      none = λ fields edition made of_entry same. again fields edition made same;
     }
-denied_by editions rules bytes library entry Memory among straight = tt
+denied_by editions rules bytes library entry Memory among straight again = tt
 
 -- or since it is one of another entry
 pub denied_other : (editions : Editions) (rules : Rules) (bytes : List ℕ) (library : LibraryFile) (entry : ℕ)
     (found : Finding) → IsAmong editions rules → StraightIsChecked rules library bytes (Ok found)
-    → found.fields.entry ≢ entry → IsDenied editions bytes library entry
-denied_other editions rules bytes library entry found among straight other =
+    → PrintedIsAccepted rules library bytes (Ok found) → found.fields.entry ≢ entry
+    → IsDenied editions bytes library entry
+denied_other editions rules bytes library entry found among straight again other =
     record {
       rules = rules;
       among = among;
       straight = λ text elements none is same.
           other (ap (λ (fields : Fields). fields.entry) (straight entry text elements none is same));
+      none = λ fields edition made of_entry same.
+          other (ap (λ (fields : Fields). fields.entry) (again fields edition made same) ∙ of_entry);
     }
 
 -- the verdicts of `verify`
 pub of_verified : {E : Type 0} (editions : Editions) (library : LibraryFile) (entry : ℕ) (old new : Option (List ℕ))
     (found : Finding) (result : Result Outcome E) → found.library ≡ library.texts
     → IsCertified found.library found.fields → TakesDeclared library found.fields → found.fields.entry ≡ entry
-    → IsAmong editions found.fields.rules → IsStraightVerdict library entry (Ok found) → IfOk result (λ o. o ≡ Done)
+    → IsAmong editions found.fields.rules → IsStraightVerdict library entry (Ok found)
+    → AreMadeAgain library found.fields → IfOk result (λ o. o ≡ Done)
     → Writes old new (certificate_text found.fields) result → Answers (VerdictIn editions library entry) old new result
-of_verified editions library entry old new found result same certified declared of_entry among straight done written =
+of_verified editions library entry old new found result same certified declared of_entry among straight made done
+    written =
     of_written (VerdictIn editions library entry) old new Done (certificate_text found.fields) result (record {
       certificate = record {
         fields = found.fields;
@@ -132,6 +139,7 @@ of_verified editions library entry old new found result same certified declared 
         spelled = refl;
       };
       straight = λ text elements none is. ap certificate_text (straight text elements none is);
+      made = made;
     }) done written
 
 pub of_refused : {E : Type 0} (editions : Editions) (library : LibraryFile) (entry : ℕ) (old new : Option (List ℕ))

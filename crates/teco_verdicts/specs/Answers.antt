@@ -7,9 +7,10 @@ use Rattle.teco_library.specs.Library.{LibraryFile, argument_of}
 use Rattle.teco_library.specs.Reads.{Reads}
 use Rattle.teco_library.specs.declared.fault.LibraryFault.TheVariants.{NotALibrary}
 use Rattle.teco_model.specs.Element.{Element}
-use Rattle.teco_verifier.specs.certificate.Fields.{Finding}
+use Rattle.teco_verifier.specs.certificate.Fields.{Fields, Finding}
 use Rattle.teco_verifier.specs.declared.refusal.Refusal.TheVariants as why
 use Rattle.teco_verifier.specs.declared.rules.Rules.{Rules}
+use Rattle.teco_verify.specs.Again.{AreMadeAgain}
 use Rattle.teco_verify.specs.Refusing.{IsJudged, RefusedIsExpansions, refusal_of_certificate}
 use Rattle.teco_verify.specs.Straight.{StraightIsVerified, straight_fields}
 use Rattle.teco_verify.specs.declared.refusal.Refusal.{Refusal}
@@ -74,12 +75,13 @@ pub record IsRefusalLine (rules : Rules) (library : LibraryFile) (entry : ℕ) (
   pub refused : IsRefusal rules library entry refusal
   pub line : text ≡ refused_line refusal
 
--- a certificate that was found, which of straight text is that of the definition
+-- a certificate that was found, which is made again from its text, and of straight text is that of the definition
 pub record IsFoundCertificate (editions : Editions) (library : LibraryFile) (entry : ℕ) (text : List ℕ)
     : Type 0 where
   pub certificate : IsCertificate editions library entry text
   pub straight : StraightIs library entry (λ elements.
       text ≡ certificate_text (straight_fields certificate.fields.rules entry elements))
+  pub made : AreMadeAgain library certificate.fields
 
 -- what `verify` answers of an entry of a library: a certificate, or the line of the refusal
 abbrev pub VerdictIn : Editions → LibraryFile → ℕ → Answer
@@ -87,12 +89,14 @@ VerdictIn editions library entry Done text = IsFoundCertificate editions library
 VerdictIn editions library entry Coded text = ⊥
 VerdictIn editions library entry Refused text = IsRefusalLine (newest_of editions) library entry text
 
--- bytes that are refused as a certificate: they are not that of straight text
+-- bytes that are refused as a certificate: they are that of nothing that is made again from it, nor of straight text
 pub record IsDenied (editions : Editions) (bytes : List ℕ) (library : LibraryFile) (entry : ℕ) : Type 0 where
   pub rules : Rules
   pub among : IsAmong editions rules
   pub straight : StraightIs library entry (λ elements.
       bytes ≢ certificate_text (straight_fields rules entry elements))
+  pub none : (fields : Fields) → fields.rules ≡ rules → AreMadeAgain library fields → fields.entry ≡ entry
+      → bytes ≢ certificate_text fields
 
 -- so they are, where memory is not what is wanted
 abbrev pub IsDeniedBy : Editions → List ℕ → LibraryFile → ℕ → Refusal → Type 0

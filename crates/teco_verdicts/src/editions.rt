@@ -3,6 +3,7 @@ ghost use Rattle.std.specs.Prelude.{◌≡◌, IfOk, None};
 ghost use Rattle.std.specs.Result.{IfErr};
 ghost use Rattle.teco_verdicts.specs.Answers.{IsRefusal, IsStraightVerdict};
 ghost use Rattle.teco_verdicts.specs.Certificates.{IsAmong, newest_of};
+ghost use Rattle.teco_verify.specs.Again.{AreMadeAgain};
 ghost use Rattle.teco_verify.specs.Certified.{TakesDeclared};
 ghost use Rattle.teco_verifier.specs.declared.rules.Rules.TheVariants.{Second};
 
@@ -84,6 +85,8 @@ fn account_by_best<'l>(
     ensures entry { IfOk result (λ told. IfOk told.verdict
         (λ verified. verified.fields.entry ≡ entry)) }
     ensures straight { IfOk result (λ told. IsStraightVerdict library.now entry told.verdict) }
+    ensures made { IfOk result (λ told. IfOk told.verdict
+        (λ verified. AreMadeAgain library.now verified.fields)) }
     ensures refused { IfOk result (λ told. IfErr told.verdict
         (IsRefusal Second library.now entry)) }
 {
@@ -145,6 +148,8 @@ impl Editions {
         ensures rules { IfOk result (λ told. IfOk told.verdict
             (λ verified. IsAmong self verified.fields.rules)) }
         ensures straight { IfOk result (λ told. IsStraightVerdict library.now entry told.verdict) }
+        ensures made { IfOk result (λ told. IfOk told.verdict
+            (λ verified. AreMadeAgain library.now verified.fields)) }
         ensures refused { IfOk result (λ told. IfErr told.verdict
             (IsRefusal (newest_of self) library.now entry)) }
     {

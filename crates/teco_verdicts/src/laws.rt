@@ -14,8 +14,8 @@ pub fn certified_macros_end()
     runs_are_verified();
 }
 
-/// The certificate that `verify` prints of a macro with straight text is one that `check` does not
-/// refuse.
+/// The certificate that `verify` prints of a macro by an edition of the rules is one that `check`
+/// does not refuse by the same edition.
 pub fn printed_certificates_are_accepted()
     ensures { PrintedIsAccepted }
 {}

@@ -1,16 +1,13 @@
--- Where a library is accepted with nothing chosen, nothing is refused.
+-- A library that is accepted with nothing chosen.
 use Rattle.std.proofs.Common.{◌≡◌, subst, refl, sym, ap, ◌∙◌, ℕ, zero, suc, ◌<◌, ◌≤◌, List, [], ◌∷◌, length, map}
 use Rattle.std.proofs.Common.{false, Option, Some, None, Result, Ok, Err, slice_index_or, Bor, All, arith}
 use Rattle.std.proofs.lemmas.List.Elements.{All-nil}
 use Rattle.std.specs.List.{AllByRecursion, list_any}
 use Rattle.std.specs.Option.{option_copied, ForSome}
 use Rattle.teco_base.specs.declared.TheConstants.{LIMIT, REGISTERS}
-use Rattle.teco_verifier.specs.certificate.Fields.{Fields}
 use Rattle.teco_certificate.specs.WellFormed.{IsWellFormed}
-use Rattle.teco_check.specs.Derived.{AreLarge, Derives}
-use Rattle.teco_check.specs.declared.derivation.NotDerived.{NotDerived}
-use Rattle.teco_check.specs.declared.derivation.NotDerived.TheVariants as fault
-use Rattle.teco_check.specs.Kept.{AreKept}
+use Rattle.teco_check.specs.Kept.{AreKept, RowIsKept}
+use Rattle.std.specs.Prelude.{IfSome}
 use Rattle.teco_verifier.specs.table.Loops.{begins, loops_from, loops_of}
 use Rattle.teco_verifier.specs.expansion.Expansion.{expansion}
 use Rattle.teco_model.specs.Macros.{Library}
@@ -20,14 +17,11 @@ use Rattle.teco_verifier.specs.expansion.Refusal as expanding
 use Rattle.teco_known.specs.Numbers.{AreSmall, IsSmallFalls}
 use Rattle.teco_known.specs.declared.few.TheConstants.{DEPTH}
 use Rattle.teco_poly.specs.Polynomial.{Polynomial}
-use Rattle.teco_verifier.specs.declared.refusal.Refusal.{Refusal}
 use Rattle.teco_verifier.specs.facts.Facts.{Facts, Entry, entry_of}
 use Rattle.teco_law_tables.specs.straight_text.Accepted.{BeginsNoIteration, Prints, RowIsOutside, IsAccepted}
 use Rattle.teco_verifier.specs.table.Closed.{check}
-use Rattle.teco_verifier.specs.table.Choices.{Chosen}
 use Rattle.teco_verifier.specs.table.Deriving.{derive}
-use Rattle.teco_verifier.specs.table.Table.{Table, facts_at}
-use Rattle.teco_verify.specs.Certifying.{AreFieldsOf}
+use Rattle.teco_verifier.specs.table.Table.{Table}
 use Rattle.teco_verify.specs.Straight.{plain_fields}
 
 -- the texts of a library
@@ -47,7 +41,7 @@ none_from : (table : Table) (number : ℕ) (nodes : List Node) → AllByRecursio
 none_from table number [] a = refl
 none_from table number (node ∷ nodes) a = rw a.0 (none_from table (suc number) nodes a.1)
 
-no_lines : (nodes : List Node) (table : Table) → AllByRecursion BeginsNoIteration nodes → loops_of nodes table ≡ []
+pub no_lines : (nodes : List Node) (table : Table) → AllByRecursion BeginsNoIteration nodes → loops_of nodes table ≡ []
 unfolding loops_of
 no_lines nodes table a = none_from table 1 nodes a
 
@@ -65,31 +59,24 @@ kept facts falls iterations = record {
   };
 }
 
-not_large : (known : Option Facts) (table : Table) → RowIsOutside (record { facts = known; choice = None })
-    → AreLarge known → ⊥
-not_large None table o l = l
-not_large (Some facts) table o l = l (kept facts o.0 o.1)
+kept_row : (known : Option Facts) → RowIsOutside (record { facts = known; choice = None }) → IfSome known AreKept
+kept_row None o = tt
+kept_row (Some facts) o = kept facts o.0 o.1
 
-none_large : (table : Table) (node : ℕ) → AllByRecursion RowIsOutside table → AreLarge (facts_at table node) → ⊥
-none_large table zero o l = l
-none_large [] (suc k) o l = l
-none_large (row ∷ table) (suc zero) o l = not_large row.facts table o.0 l
-none_large (row ∷ table) (suc (suc k)) o l = none_large table (suc k) o.1 l
+pub all_kept : (table : Table) → AllByRecursion RowIsOutside table → AllByRecursion RowIsKept table
+all_kept [] o = tt
+all_kept (row ∷ table) o = (kept_row row.facts o.0, all_kept table o.1)
 
 nodes_of : Result (List Node) expanding.Refusal → List Node
 nodes_of (Ok nodes) = nodes
 nodes_of (Err why) = []
 
-table_of : Result Table Refusal → Table
-table_of (Ok table) = table
-table_of (Err why) = []
-
 -- the same of these nodes
-record AcceptsNodes (known : Entry) (nodes : List Node) (table : Table) (steps most : Polynomial) : Type 0 where
-  derived : derive known nodes [] ≡ Ok table
-  closed : check known nodes table ≡ Ok tt
-  prints : Prints known nodes table steps most
-  outside : AllByRecursion RowIsOutside table
+pub record AcceptsNodes (known : Entry) (nodes : List Node) (table : Table) (steps most : Polynomial) : Type 0 where
+  pub derived : derive known nodes [] ≡ Ok table
+  pub closed : check known nodes table ≡ Ok tt
+  pub prints : Prints known nodes table steps most
+  pub outside : AllByRecursion RowIsOutside table
 
 module _ (edition : Rules) (library : Library) (entry : ℕ) (steps most : Polynomial)
     (accepted : IsAccepted edition library entry steps most) where
@@ -107,7 +94,7 @@ module _ (edition : Rules) (library : Library) (entry : ℕ) (steps most : Polyn
   }
 
   module _ (nodes : List Node) (expanded : expansion library entry ≡ Ok nodes) where
-    these : AcceptsNodes (entry_of edition library None) nodes accepted.table steps most
+    pub these : AcceptsNodes (entry_of edition library None) nodes accepted.table steps most
     unfolding nodes_of
     these = subst (λ ns. AcceptsNodes (entry_of edition library None) ns accepted.table steps most)
         (ap nodes_of (sym accepted.expanded ∙ expanded)) (record {
@@ -119,38 +106,3 @@ module _ (edition : Rules) (library : Library) (entry : ℕ) (steps most : Polyn
 
     pub begins_none : list_any begins nodes ≡ false
     begins_none = none_begins nodes these.prints.has_no_lines
-
-    module _ (chosen : List Chosen) (nothing : chosen ≡ []) (known : Entry)
-        (is_plain : known ≡ entry_of edition library None) where
-      derived : derive known nodes chosen ≡ Ok accepted.table
-      derived = subst (λ k. derive k nodes chosen ≡ Ok accepted.table) (sym is_plain)
-          (subst (λ c. derive (entry_of edition library None) nodes c ≡ Ok accepted.table) (sym nothing) these.derived)
-
-      pub is_kept : (node : ℕ) → ((table : Table) → derive known nodes chosen ≡ Ok table
-          → AreLarge (facts_at table node)) → ⊥
-      is_kept node l = none_large accepted.table node these.outside (l accepted.table derived)
-
-      pub only_memory : (why : NotDerived) → Derives (derive known nodes chosen) (Err why) → why ≡ fault.Memory
-      only_memory (fault.Refused refusal node) d =
-          let no : Ok accepted.table ≡ Err refusal = sym derived ∙ d in absurd cc
-      only_memory (fault.Large node) d = absurd (is_kept node d)
-      only_memory fault.Memory d = refl
-
-      module _ (table : Table) (is : derive known nodes chosen ≡ Ok table) where
-        here : AcceptsNodes (entry_of edition library None) nodes table steps most
-        unfolding table_of
-        here = subst (λ t. AcceptsNodes (entry_of edition library None) nodes t steps most)
-            (ap table_of (sym derived ∙ is)) these
-
-        pub is_certified : (fields : Fields) → AreFieldsOf known nodes table entry fields
-            → fields ≡ plain_fields edition entry steps most
-        is_certified fields f =
-            let g : AreFieldsOf (entry_of edition library None) nodes table entry fields =
-            subst (λ k. AreFieldsOf k nodes table entry fields) is_plain f in
-            let first : fields.commands ≡ steps = let e : Ok fields.commands ≡ Ok steps =
-            sym g.commands_are ∙ here.prints.commands_are in cc in
-            let second : fields.size ≡ most = let e : Ok fields.size ≡ Ok most = sym g.size_is ∙ here.prints.size_is in
-            cc in
-            let needs = g.needs_are ∙ here.prints.needs_nothing in
-            let loops = g.loops_are ∙ no_lines nodes table here.prints.has_no_lines in
-            rw (← g.entry_is, ← g.argument_is, ← g.rules_are, ← first, ← second, ← needs, ← loops) refl

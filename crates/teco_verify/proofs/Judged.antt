@@ -1,5 +1,5 @@
 -- Where nothing has to be chosen, what is refused is what the rules, the check and the printed numbers refuse.
-use Rattle.std.proofs.Common.{◌≡◌, refl, ◌⊎◌, inl, inr, sym, ap, ◌∙◌, subst, ℕ, List, [], false, Result, Ok, Err, IsOk}
+use Rattle.std.proofs.Common.{◌≡◌, ◌⊎◌, inl, inr, sym, ap, ◌∙◌, subst, ℕ, List, [], false, Result, Ok, Err, IsOk}
 use Rattle.std.specs.List.{list_any}
 use Rattle.teco_check.specs.declared.derivation.NotDerived.{NotDerived}
 use Rattle.teco_check.specs.declared.derivation.NotDerived.TheVariants as fault
@@ -19,8 +19,9 @@ use Rattle.teco_verifier.specs.table.Choices.{Chosen}
 use Rattle.teco_verifier.specs.table.Deriving.{derive}
 use Rattle.teco_verifier.specs.table.Printed.{commands, size, IsPrinted}
 use Rattle.teco_poly.specs.Polynomial.{Polynomial}
-use Rattle.teco_verifier.specs.certificate.Fields.{Fields, Finding}
+use Rattle.teco_verifier.specs.certificate.Fields.{Finding}
 use Rattle.teco_verifier.specs.table.Table.{Table}
+use Rattle.teco_verify.proofs.Again.{fields_are}
 use Rattle.teco_verify.specs.Straight.{IsFound}
 use Rattle.teco_verify.specs.Certifying.{AreFieldsOf, Certifies, Overflows}
 use Rattle.teco_verify.specs.declared.certifying.Flaw.{Flaw}
@@ -139,11 +140,6 @@ module _ (edition : Rules) (library : LibraryFile) (entry : ℕ) where
           by_here (inl a) = let no : Ok steps ≡ Err number = sym p.commands_are ∙ a in cc
           by_here (inr a) = let no : Ok most ≡ Err number = sym p.size_is ∙ a.1 in cc
 
-      fields_are : (steps most : Polynomial) (fields : Fields) → AreFieldsOf known nodes table entry fields
-          → fields.commands ≡ steps → fields.size ≡ most → fields ≡ fields_of known nodes table entry steps most
-      fields_are steps most fields f c s =
-          rw (← f.entry_is, ← f.argument_is, ← f.rules_are, ← f.needs_are, ← f.loops_are, ← c, ← s) refl
-
       found_here : (found : Finding) (steps most : Polynomial) → AreFieldsOf known nodes table entry found.fields
           → IsPrinted known nodes table steps most → IsFound (fields_of known nodes table entry steps most) (Ok found)
       found_here found steps most f p =
@@ -151,7 +147,7 @@ module _ (edition : Rules) (library : LibraryFile) (entry : ℕ) where
           sym f.commands_are ∙ p.commands_are in cc in
           let second : found.fields.size ≡ most = let e : Ok found.fields.size ≡ Ok most = sym f.size_is ∙ p.size_is in
           cc in
-          fields_are steps most found.fields f first second
+          fields_are known nodes table entry steps most found.fields f first second
 
       flawed_here : (entry : ℕ) (flaw : Flaw) → Certifies known nodes table entry (Err flaw)
           → IsJudgedHere known (Err (refusal_of_unfit nodes (unfit_by flaw)))

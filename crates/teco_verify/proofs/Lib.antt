@@ -6,3 +6,4 @@ mod Trying
 mod Nodes
 mod Judged
 mod Lengths
+mod Again

@@ -8,3 +8,4 @@ pub mod Telling
 pub mod Trying
 pub mod Refusing
 pub mod Unfit
+pub mod Again

@@ -11,6 +11,7 @@ ghost use Rattle.teco_verifier.specs.facts.Facts.{Facts};
 ghost use Rattle.teco_verifier.specs.declared.rules.Rules.TheVariants.{First};
 ghost use Rattle.teco_verifier.specs.table.Table.{facts_at, choice_at};
 ghost use Rattle.teco_expansion.specs.Refused.{refusal_seen};
+ghost use Rattle.teco_verify.specs.Again.{AreMadeAgain};
 ghost use Rattle.teco_verify.specs.Certified.{TakesDeclared};
 ghost use Rattle.teco_verify.specs.Refusing.{refusal_of, register_of, IsJudged, PrintedIsFound, RefusedIsDerived};
 ghost use Rattle.teco_verify.specs.Refusing.{RefusedIsExpansions, RefusedIsOverflow, RefusedIsUnclosed};
@@ -232,6 +233,8 @@ fn accounted<'l>(alloc: Global, asked: &Asked<'l>) -> Result<Account<'l>, AllocE
         RefusedIsExpansions asked.now.library.now asked.now.entry told.verdict) }
     ensures judged { IfOk result (λ told.
         IsJudged asked.now.rules asked.now.library.now asked.now.entry told.verdict) }
+    ensures made { IfOk result (λ told. IfOk told.verdict
+        (λ verified. AreMadeAgain asked.now.library.now verified.fields)) }
 {
     let nodes = match expand(alloc, asked.library, asked.entry) {
         Ok(nodes) => nodes,
@@ -280,6 +283,8 @@ pub fn account_by<'l>(
     ensures overflow { IfOk result (λ told.
         RefusedIsOverflow rules library.now entry told.verdict) }
     ensures printed { IfOk result (λ told. PrintedIsFound rules library.now entry told.verdict) }
+    ensures made { IfOk result (λ told. IfOk told.verdict
+        (λ verified. AreMadeAgain library.now verified.fields)) }
 {
     straight_texts_are_accepted();
     texts_are_within(library);
@@ -319,6 +324,8 @@ pub fn account_of<'l>(
     ensures overflow { IfOk result (λ told.
         RefusedIsOverflow First library.now entry told.verdict) }
     ensures printed { IfOk result (λ told. PrintedIsFound First library.now entry told.verdict) }
+    ensures made { IfOk result (λ told. IfOk told.verdict
+        (λ verified. AreMadeAgain library.now verified.fields)) }
 {
     account_by(alloc, library, entry, Rules::First)
 }

@@ -3,17 +3,21 @@ ghost use Rattle.std.specs.Prelude.{◌≡◌, ◌≤◌, [], length, false, IfO
 ghost use Rattle.std.specs.List.{list_any};
 ghost use Rattle.std.specs.Result.{IfErr};
 ghost use Rattle.teco_base.specs.declared.TheConstants.{LIMIT};
+ghost use Rattle.teco_certificate.specs.Reads.{IsTextOf};
 ghost use Rattle.teco_certificate.specs.Text.{certificate_text};
 ghost use Rattle.teco_verifier.specs.table.Loops.{begins};
 ghost use Rattle.teco_verifier.specs.expansion.Expansion.{expansion};
+ghost use Rattle.teco_verifier.specs.certificate.Fields.{Fields};
 ghost use Rattle.teco_verifier.specs.declared.rules.Rules.TheVariants.{First};
+ghost use Rattle.teco_verify.specs.Again.{AreMadeAgain, AreMadeBy, AreMadePlain, IsFoundAgain};
+ghost use Rattle.teco_verify.specs.Again.{PrintedIsAccepted};
 ghost use Rattle.teco_verify.specs.Accepting.{AcceptedIsChecked, AcceptedIsFound, ChoosesNothing, TextsAreWithin};
 ghost use Rattle.teco_verify.specs.Certified.{TakesDeclared};
 ghost use Rattle.teco_verify.specs.Given.{given_by};
 ghost use Rattle.teco_verify.specs.Refusing.{refusal_of_unfit, IsJudged, IsOfCertificate, PrintedIsFound};
 ghost use Rattle.teco_verify.specs.Refusing.{RefusedIsDerived, RefusedIsExpansions, RefusedIsOverflow};
 ghost use Rattle.teco_verify.specs.Refusing.{RefusedIsUnclosed};
-ghost use Rattle.teco_verify.specs.Straight.{StraightIsChecked, StraightIsVerified};
+ghost use Rattle.teco_verify.specs.Straight.{IsFound, StraightIsChecked, StraightIsVerified};
 ghost use Rattle.teco_verify.specs.Telling.{Tells};
 ghost use Rattle.teco_verify.specs.Unfit.{IsIn};
 ghost use Rattle.teco_verify.specs.declared.refusal.Refusal.TheVariants as refusals;
@@ -26,7 +30,7 @@ use crate::unfit::{Unfit, Unfound};
 use crate::verified::Verified;
 use std::alloc::Global;
 use teco_base::Reg;
-use teco_certificate::laws::one_spelling;
+use teco_certificate::laws::{one_entry, one_spelling};
 use teco_certificate::{Certificate, CertificateFault};
 use teco_check::{Table, derive, has_iterations};
 use teco_expansion::{Nodes, expand};
@@ -78,6 +82,19 @@ impl<'l> Found<'l> {
             given_up: matches!(why, Unfit::GivenUp { .. }),
         }
     }
+
+    // What is found where there is no table.
+    fn refused(alloc: Global, refusal: Refusal) -> Found<'l>
+        ensures { result.verdict ≡ Err refusal }
+    {
+        Found {
+            verdict: Err(refusal),
+            table: None,
+            stop: None,
+            chosen: Vec::new(alloc),
+            given_up: false,
+        }
+    }
 }
 
 /// What is found with these choices.
@@ -97,10 +114,13 @@ pub fn found_with<'l>(
     ensures told { IfOk result.verdict (λ verified. IsSomeAnd result.table
         (Tells (given_by asked.now.rules asked.now.library.now asked.now.entry) nodes.now
         verified.fields)) }
-    ensures accepted { chosen.now ≡ [] → AcceptedIsFound asked.now.rules asked.now.library.now
-        asked.now.entry result.verdict }
     ensures judged { chosen.now ≡ [] → IsJudged asked.now.rules asked.now.library.now
         asked.now.entry result.verdict }
+    ensures made { IfOk result.verdict (λ verified. AreMadeBy (given_by asked.now.rules
+        asked.now.library.now asked.now.entry) nodes.now chosen.now asked.now.entry verified.fields) }
+    ensures again { (fields : Fields) → AreMadeBy (given_by asked.now.rules asked.now.library.now
+        asked.now.entry) nodes.now chosen.now asked.now.entry fields
+        → IsFound fields result.verdict }
 {
     let table = match derive(alloc, &asked.given(), nodes, chosen) {
         Ok(table) => table,
@@ -136,6 +156,104 @@ fn choices(
     }
 }
 
+// What is found of the nodes that a macro comes to, with the choices that the search finds.
+fn found_by_search<'l>(alloc: Global, asked: &Asked<'l>, nodes: &Nodes<'_>) -> Found<'l>
+    requires { expansion asked.now.library.now.texts asked.now.entry ≡ Ok nodes.now }
+    ensures library { IfOk result.verdict (λ verified. verified.library
+        ≡ asked.now.library.now.texts) }
+    ensures argument { IfOk result.verdict (λ verified. TakesDeclared asked.now.library.now
+        verified.fields) }
+    ensures entry { IfOk result.verdict (λ verified. verified.fields.entry ≡ asked.now.entry) }
+    ensures rules { IfOk result.verdict (λ verified. verified.fields.rules ≡ asked.now.rules) }
+    ensures told { IfOk result.verdict (λ verified. IsSomeAnd result.table
+        (Tells (given_by asked.now.rules asked.now.library.now asked.now.entry) nodes.now
+        verified.fields)) }
+    ensures accepted { AcceptedIsFound asked.now.rules asked.now.library.now asked.now.entry
+        result.verdict }
+    ensures judged { IsJudged asked.now.rules asked.now.library.now asked.now.entry result.verdict }
+    ensures made { IfOk result.verdict (λ verified. AreMadePlain asked.now.rules
+        asked.now.library.now asked.now.entry verified.fields) }
+{
+    match choices(alloc, &asked.given(), nodes, asked.most) {
+        Ok(choices) => found_with(alloc, asked, nodes, &choices),
+        Err(unfound) => Found::unfit(unfound.why, nodes, None, unfound.chosen),
+    }
+}
+
+// What is found with the choices of a certificate, if what is found has its text.
+fn found_from<'l>(
+    alloc: Global,
+    asked: &Asked<'l>,
+    nodes: &Nodes<'_>,
+    claimed: &Certificate,
+    bytes: &[u8],
+) -> Found<'l>
+    requires expanded { expansion asked.now.library.now.texts asked.now.entry ≡ Ok nodes.now }
+    requires spelled { IsTextOf claimed.now bytes.now }
+    requires entry { claimed.now.entry ≡ asked.now.entry }
+    ensures library { IfOk result.verdict (λ verified. verified.library
+        ≡ asked.now.library.now.texts) }
+    ensures argument { IfOk result.verdict (λ verified. TakesDeclared asked.now.library.now
+        verified.fields) }
+    ensures entry { IfOk result.verdict (λ verified. verified.fields.entry ≡ asked.now.entry) }
+    ensures rules { IfOk result.verdict (λ verified. verified.fields.rules ≡ asked.now.rules) }
+    ensures told { IfOk result.verdict (λ verified. IsSomeAnd result.table
+        (Tells (given_by asked.now.rules asked.now.library.now asked.now.entry) nodes.now
+        verified.fields)) }
+    ensures text { IfOk result.verdict (λ verified. certificate_text verified.fields ≡ bytes.now) }
+    ensures made { IfOk result.verdict (λ verified. AreMadeAgain asked.now.library.now
+        verified.fields) }
+    ensures again { PrintedIsAccepted asked.now.rules asked.now.library.now bytes.now
+        result.verdict }
+{
+    one_spelling();
+    let found = found_with(alloc, asked, nodes, &claimed.loops);
+    let Ok(verified) = &found.verdict else {
+        return found;
+    };
+    match verified.certificate(alloc) {
+        Err(_) => Found::refused(alloc, Refusal::Memory),
+        Ok(text) if text.as_slice() == bytes => found,
+        Ok(_) => Found::refused(alloc, Refusal::certificate()),
+    }
+}
+
+// What was found is found once more from the text of its certificate: a text that is not read as
+// choices that make it is not printed.
+fn found_again<'l>(
+    alloc: Global,
+    asked: &Asked<'l>,
+    nodes: &Nodes<'_>,
+    first: &Verified<'l>,
+) -> Found<'l>
+    requires expanded { expansion asked.now.library.now.texts asked.now.entry ≡ Ok nodes.now }
+    requires entry { first.now.fields.entry ≡ asked.now.entry }
+    requires rules { first.now.fields.rules ≡ asked.now.rules }
+    ensures library { IfOk result.verdict (λ verified. verified.library
+        ≡ asked.now.library.now.texts) }
+    ensures argument { IfOk result.verdict (λ verified. TakesDeclared asked.now.library.now
+        verified.fields) }
+    ensures entry { IfOk result.verdict (λ verified. verified.fields.entry ≡ asked.now.entry) }
+    ensures rules { IfOk result.verdict (λ verified. verified.fields.rules ≡ asked.now.rules) }
+    ensures told { IfOk result.verdict (λ verified. IsSomeAnd result.table
+        (Tells (given_by asked.now.rules asked.now.library.now asked.now.entry) nodes.now
+        verified.fields)) }
+    ensures made { IfOk result.verdict (λ verified. AreMadeAgain asked.now.library.now
+        verified.fields) }
+    ensures again { IsFoundAgain asked.now.library.now first.now.fields
+        result.verdict }
+{
+    one_entry();
+    let Ok(text) = first.certificate(alloc) else {
+        return Found::refused(alloc, Refusal::Memory);
+    };
+    match Certificate::read(alloc, &text) {
+        Ok(claimed) => found_from(alloc, asked, nodes, &claimed, &text),
+        Err(CertificateFault::NotACertificate) => Found::refused(alloc, Refusal::certificate()),
+        Err(CertificateFault::Memory) => Found::refused(alloc, Refusal::Memory),
+    }
+}
+
 /// What is found of the nodes that a macro comes to, with the choices that are found for them.
 pub fn found_of<'l>(alloc: Global, asked: &Asked<'l>, nodes: &Nodes<'_>) -> Found<'l>
     requires { expansion asked.now.library.now.texts asked.now.entry ≡ Ok nodes.now }
@@ -151,10 +269,13 @@ pub fn found_of<'l>(alloc: Global, asked: &Asked<'l>, nodes: &Nodes<'_>) -> Foun
     ensures accepted { AcceptedIsFound asked.now.rules asked.now.library.now asked.now.entry
         result.verdict }
     ensures judged { IsJudged asked.now.rules asked.now.library.now asked.now.entry result.verdict }
+    ensures made { IfOk result.verdict (λ verified. AreMadeAgain asked.now.library.now
+        verified.fields) }
 {
-    match choices(alloc, &asked.given(), nodes, asked.most) {
-        Ok(choices) => found_with(alloc, asked, nodes, &choices),
-        Err(unfound) => Found::unfit(unfound.why, nodes, None, unfound.chosen),
+    let first = found_by_search(alloc, asked, nodes);
+    match &first.verdict {
+        Ok(verified) => found_again(alloc, asked, nodes, verified),
+        Err(_) => first,
     }
 }
 
@@ -169,6 +290,8 @@ fn verified<'l>(alloc: Global, asked: &Asked<'l>) -> Result<Verified<'l>, Refusa
         result }
     ensures unexpanded { RefusedIsExpansions asked.now.library.now asked.now.entry result }
     ensures judged { IsJudged asked.now.rules asked.now.library.now asked.now.entry result }
+    ensures made { IfOk result (λ verified. AreMadeAgain asked.now.library.now
+        verified.fields) }
 {
     let nodes = expand(alloc, asked.library, asked.entry)?;
     found_of(alloc, asked, &nodes).verdict
@@ -178,8 +301,11 @@ fn verified<'l>(alloc: Global, asked: &Asked<'l>) -> Result<Verified<'l>, Refusa
 /// the library declares for it, or it is refused. Straight text, of which each element is ESC, a
 /// comment or a plain insertion, is not refused where none is declared.
 ///
-/// Takes time by the elements of the texts that are called, and for each iteration up to three
-/// times those in its body, by the second edition four.
+/// What is verified is found once more from the text of its certificate: so that text is accepted
+/// where it is checked.
+///
+/// Takes time by the elements of the texts that are called, and for each iteration up to four
+/// times those in its body, by the second edition five.
 pub fn verify_by<'l>(
     alloc: Global,
     library: &'l Library,
@@ -196,6 +322,7 @@ pub fn verify_by<'l>(
     ensures unclosed { RefusedIsUnclosed rules library.now entry result }
     ensures overflow { RefusedIsOverflow rules library.now entry result }
     ensures printed { PrintedIsFound rules library.now entry result }
+    ensures made { IfOk result (λ verified. AreMadeAgain library.now verified.fields) }
 {
     straight_texts_are_accepted();
     texts_are_within(library);
@@ -220,6 +347,7 @@ pub fn verify<'l>(alloc: Global, library: &'l Library, entry: Reg) -> Result<Ver
     ensures unclosed { RefusedIsUnclosed First library.now entry result }
     ensures overflow { RefusedIsOverflow First library.now entry result }
     ensures printed { PrintedIsFound First library.now entry result }
+    ensures made { IfOk result (λ verified. AreMadeAgain library.now verified.fields) }
 {
     verify_by(alloc, library, entry, Rules::First)
 }
@@ -235,7 +363,7 @@ fn refused(refusal: Refusal) -> Refusal
     }
 }
 
-// What a certificate's choices certify of its entry, if it is one.
+// What a certificate's choices certify of its entry, if it is one and has its text.
 fn certified_by<'l>(
     alloc: Global,
     library: &'l Library,
@@ -245,7 +373,8 @@ fn certified_by<'l>(
     ensures library { IfOk result (λ verified. verified.library ≡ library.now.texts) }
     ensures argument { IfOk result (λ verified. TakesDeclared library.now verified.fields) }
     ensures rules { IfOk result (λ verified. verified.fields.rules ≡ rules) }
-    ensures accepted { AcceptedIsChecked rules library.now bytes.now result }
+    ensures text { IfOk result (λ verified. certificate_text verified.fields ≡ bytes.now) }
+    ensures again { PrintedIsAccepted rules library.now bytes.now result }
 {
     one_spelling();
     let claimed = match Certificate::read(alloc, bytes) {
@@ -260,10 +389,10 @@ fn certified_by<'l>(
         rules,
         most: u64::MAX,
     };
-    found_with(alloc, &asked, &nodes, &claimed.loops).verdict
+    found_from(alloc, &asked, &nodes, &claimed, bytes).verdict
 }
 
-// What is verified, where the certificate's text is that of what is found.
+// What is verified by a certificate; any other refusal is that of the certificate.
 fn checked<'l>(
     alloc: Global,
     library: &'l Library,
@@ -276,17 +405,9 @@ fn checked<'l>(
     ensures text { IfOk result (λ verified. certificate_text verified.fields ≡ bytes.now) }
     ensures accepted { AcceptedIsChecked rules library.now bytes.now result }
     ensures refused { IfErr result IsOfCertificate }
+    ensures again { PrintedIsAccepted rules library.now bytes.now result }
 {
-    let verified = match certified_by(alloc, library, bytes, rules) {
-        Ok(verified) => verified,
-        Err(refusal) => return Err(refused(refusal)),
-    };
-    let text = verified.certificate(alloc)?;
-    if text.as_slice() == bytes {
-        Ok(verified)
-    } else {
-        Err(Refusal::certificate())
-    }
+    certified_by(alloc, library, bytes, rules).map_err(refused)
 }
 
 /// Checks a certificate of an edition of the rules for a library: its choices make a table that is
@@ -305,6 +426,7 @@ pub fn check_certificate_by<'l>(
     ensures text { IfOk result (λ verified. certificate_text verified.fields ≡ bytes.now) }
     ensures straight { StraightIsChecked rules library.now bytes.now result }
     ensures refused { IfErr result IsOfCertificate }
+    ensures again { PrintedIsAccepted rules library.now bytes.now result }
 {
     straight_texts_are_accepted();
     texts_are_within(library);
@@ -324,6 +446,7 @@ pub fn check_certificate<'l>(
     ensures text { IfOk result (λ verified. certificate_text verified.fields ≡ bytes.now) }
     ensures straight { StraightIsChecked First library.now bytes.now result }
     ensures refused { IfErr result IsOfCertificate }
+    ensures again { PrintedIsAccepted First library.now bytes.now result }
 {
     check_certificate_by(alloc, library, bytes, Rules::First)
 }

@@ -1,7 +1,8 @@
 //! Macros that were verified.
-ghost use Rattle.std.specs.Prelude.{◌≡◌, IfOk, slice_index_or, None, option_map};
+ghost use Rattle.std.specs.Prelude.{◌≡◌, IfOk, OnOk, slice_index_or, None, option_map};
 ghost use Rattle.std.specs.Option.{option_copied};
 ghost use Rattle.teco_certificate.specs.Text.{certificate_text};
+ghost use Rattle.teco_certificate.specs.WellFormed.{HasText};
 ghost use Rattle.teco_verify.specs.Certified.{IsCertified, bounds_of};
 
 use std::alloc::{AllocError, Global};
@@ -100,7 +101,8 @@ impl<'l> Verified<'l> {
 
     /// The text of its certificate.
     pub fn certificate(&self, alloc: Global) -> Result<Vec<u8>, AllocError>
-        ensures { IfOk result (λ text. text.items ≡ certificate_text self.now.fields) }
+        ensures text { IfOk result (λ text. text.items ≡ certificate_text self.now.fields) }
+        ensures parts { OnOk result (HasText self.now.fields) }
     {
         self.certificate.print(alloc)
     }

@@ -27,7 +27,6 @@ returns-clause-calls g c =
       verified = c.runs_are_verified.ensures;
       sure = c.runs_are_sure.ensures;
       leave = c.runs_leave_open.ensures;
-      framed = c.runs_are_framed.ensures;
     }) call c.run_to_stop.result.stop old new before behind (record {
       certified = c.is_certified.ensures;
       loaded = subst (λ (k : Call). IsLoaded k.found.library old.kept) (sym same) c.requires.loaded;
@@ -56,7 +55,6 @@ returns-clause-touches g c =
       verified = c.runs_are_verified.ensures;
       sure = c.runs_are_sure.ensures;
       leave = c.runs_leave_open.ensures;
-      framed = c.runs_are_framed.ensures;
     }) call old (record {
       certified = c.is_certified.ensures;
       loaded = subst (λ (k : Call). IsLoaded k.found.library old.kept) (sym same) c.requires.loaded;

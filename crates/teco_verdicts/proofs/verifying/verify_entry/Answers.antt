@@ -19,4 +19,4 @@ returns-in-Ok g c =
     let is = c.in-Ok.ensures in
     of_verified c.args.editions c.args.library.now c.args.entry _ _ c.in-Ok.verified.now c.accept.result
     (rw is at told.library) c.is_certified.ensures (rw is at told.declared) (rw is at told.entry)
-    (rw is at told.rules) (rw is at told.straight) c.accept.ensures.outcome c.accept.ensures.text
+    (rw is at told.rules) (rw is at told.straight) (rw is at told.made) c.accept.ensures.outcome c.accept.ensures.text

@@ -1,0 +1,127 @@
+-- Where a run ends, the push-down list of its entry lies below.
+use Rattle.std.proofs.Common.{◌≡◌, ℕ, zero, suc, ◌+◌, ◌<◌, ◌^◌, [], Option, Some, None, Result, Ok, Err, refl, sym}
+use Rattle.std.proofs.Common.{ap, ◌∙◌, subst, arith}
+use Rattle.teco_base.specs.declared.TheConstants.{REGISTERS}
+use Rattle.teco_base.specs.declared.code.Code.{Code}
+use Rattle.teco_law_expansion.specs.Alike.{AreOutcomesAlike}
+use Rattle.teco_law_expansion.specs.Ends.{IterationsEnd}
+use Rattle.teco_law_expansion.specs.Given.{BeginsPending, call_given, start_pending}
+use Rattle.teco_law_expansion.specs.Linked.{NodesAreSound}
+use Rattle.teco_law_facts.specs.SoundSteps.{AreOpen}
+use Rattle.teco_law_tables.proofs.Described as described
+use Rattle.teco_law_tables.proofs.Described.{at_first, reaches_later, reaches_none, ready_call}
+use Rattle.teco_law_tables.proofs.Ending as ending
+use Rattle.teco_law_tables.proofs.Ending.{Call, Course, course}
+use Rattle.teco_law_tables.proofs.Keeping.{end_stays}
+use Rattle.teco_law_tables.proofs.Pending.{CallLaws, other_next}
+use Rattle.teco_law_tables.proofs.Stacking.{lies_below}
+use Rattle.teco_law_tables.proofs.Sure.{settle_goes}
+use Rattle.teco_law_tables.proofs.Underway.{ElementsGo, element_here}
+use Rattle.teco_law_tables.proofs.Verifying as verifying
+use Rattle.teco_law_tables.specs.Ending.{start_given}
+use Rattle.teco_law_tables.specs.Framing.{LiesBelow, RunsLeaveBelow}
+use Rattle.teco_law_tables.specs.Moving.{IsLong}
+use Rattle.teco_model.specs.Element.{Element, element_at}
+use Rattle.teco_model.specs.Macros.{ArgumentRange, IsAsked}
+use Rattle.teco_model.specs.Run.{Ends, Reaches, run}
+use Rattle.teco_model.specs.State.{Frames, Outcome, End, State, World, start}
+use Rattle.teco_model.specs.Step.{outcome_at, reply_of, step}
+use Rattle.teco_verifier.specs.table.Printed.{needs_in}
+
+-- ---- nothing is read where a run ends
+no_more : (s : State) (r : Result (Option Element) Code) (w : World) → outcome_at s r ≡ End w → r ≡ Ok None
+no_more s (Err c) w e = absurd (cc)
+no_more s (Ok None) w e = refl
+no_more s (Ok (Some x)) w e = absurd (settle_goes x s (reply_of x.kind x s) w e)
+
+end_reads : (s : State) (w : World) → step s ≡ End w
+    → element_at s.frames.running.text s.frames.running.place ≡ Ok None
+unfolding step
+end_reads s w e = no_more s (element_at s.frames.running.text s.frames.running.place) w e
+
+not_long : {E : Type 0} (read : Option Element) (r : Result (Option Element) E) → r ≡ Ok read → r ≡ Ok None
+    → IsLong read → ⊥
+not_long None r is none long = long
+not_long (Some x) r is none long = absurd (cc)
+
+-- ---- from the call on
+module _ (laws : ending.Laws) (sound : NodesAreSound) (c : Course)
+    (go : ElementsGo c.library c.entry c.nodes c.table c.n c.below c.first) where
+  open c use {below}
+
+  end_above : (u : State) (w : World) → step u ≡ End w → described.Comes laws c go u
+      → LiesBelow below u.world.kept.registers.stack
+  end_above u w e (described.Here number turns at) = lies_below _ _ _ _ at.here.described.state.pushed
+  end_above u w e (described.Within number turns begun at g k l came) =
+      let amid = g.amid (suc k) u (omega arith) l came in
+      let reads = element_here sound c.ground
+      (record { number = number; turns = turns; s = begun; here = at.here }) in
+      let here = ap (λ (f : Frames). element_at f.running.text f.running.place) amid.frames ∙ reads in
+      absurd (not_long at.here.node.element _ here (end_reads u w e) amid.long)
+  end_above u w e (described.Behind o above) = above
+
+abbrev LeavesBelow : State → Type 0
+LeavesBelow first =
+    (steps : ℕ) (new : World) → Ends first steps new
+    → LiesBelow first.world.kept.registers.stack new.kept.registers.stack
+
+module _ (laws : ending.Laws) (sound : NodesAreSound) (call : Call)
+    (go : ElementsGo call.library call.entry call.nodes call.table call.n call.world.kept.registers.stack
+    (start_given call.entry call.given call.world)) (files : AreOpen (needs_in call.nodes call.table) call.world.files)
+  where
+    given_below : LeavesBelow (start_given call.entry call.given call.world)
+    given_below steps new ends =
+        subst (λ (w : World). LiesBelow call.world.kept.registers.stack w.kept.registers.stack)
+        (end_stays ends.last new ends.end)
+        (end_above laws sound (course call) go ends.last new ends.end
+        (described.comes laws (course call) go (suc steps) steps 1 [] (course call).first ends.last
+        (at_first laws call go files) (omega arith) ends.steps))
+
+-- ---- with the argument before the call
+end_alike : (one other : Outcome) (new : World) → AreOutcomesAlike one other → one ≡ End new → other ≡ End new
+end_alike (End w) (End v) new a e = ap End (sym a) ∙ e
+end_alike one other new a e = absurd (grind arith)
+
+module _ (calls : CallLaws) (entry n : ℕ) (world : World) (named : entry < REGISTERS) (small : n < 2 ^ 31)
+    (leaves : LeavesBelow (start_pending entry n world)) where
+  digits : BeginsPending entry n world
+  digits = calls.pending entry n world named small
+
+  abbrev first : State
+  first = start (call_given entry (Some n)) world
+
+  one_step : Reaches 1 first digits.behind
+  unfolding run
+  one_step = digits.goes
+
+  digits_below : LeavesBelow first
+  digits_below zero new ends =
+      let same = reaches_none first ends.last ends.steps in
+      absurd (let k = sym digits.goes ∙ ap step same ∙ ends.end in cc)
+  digits_below (suc k) new ends =
+      let later : suc k ≡ 1 + k = omega arith in
+      let came = reaches_later 1 k first digits.behind ends.last one_step
+      (subst (λ k. Reaches k first ends.last) later ends.steps) in
+      let other = other_next _ _ ends.last (calls.runs k digits.behind (start_pending entry n world) digits.alike) came
+      in
+      leaves k new (record {
+        last = other.state;
+        steps = other.is;
+        end = end_alike _ _ new (calls.steps ends.last other.state other.alike) ends.end;
+      })
+
+call_below : (calls : CallLaws) (entry : ℕ) (argument : Option ArgumentRange) (given : Option ℕ) (world : World)
+    → entry < REGISTERS → IsAsked argument given → LeavesBelow (start_given entry given world)
+    → LeavesBelow (start (call_given entry given) world)
+call_below calls entry None None world named asked leaves = leaves
+call_below calls entry (Some range) (Some n) world named asked leaves =
+    digits_below calls entry n world named asked.small leaves
+call_below calls entry argument given world named asked leaves = absurd (grind arith)
+
+pub runs_leave_below : ending.Laws → verifying.Laws → CallLaws → IterationsEnd → NodesAreSound → RunsLeaveBelow
+runs_leave_below laws facts calls ends sound library entry rules argument given nodes table commands most n world are
+    printed asked ready files =
+    call_below calls entry argument given world ready.named asked
+    (given_below laws sound (ready_call library entry rules argument given nodes table commands most n world are printed
+    asked ready) (verifying.elements_go facts ends library entry rules argument given nodes table commands most n world
+    are printed asked ready) files)
