@@ -27,7 +27,8 @@ module _ (linked : ExpansionsAreLinked) (framed : RunsAreFramed) (below : RunsLe
       let fields = call.found.fields in
       framed call.found.library fields.entry fields.rules fields.argument given certified.nodes certified.table
       fields.commands fields.size (n_of old) old
-      (linked call.found.library fields.entry certified.nodes certified.expanded) certified.printed taken is.begins opened
+      (linked call.found.library fields.entry certified.nodes certified.expanded) certified.printed taken is.begins
+      opened
 
   asked_below : (given : Option ℕ) → IsAsked call.found.fields.argument given → (steps : ℕ) (new : World)
       → Ends (start (call_given call.found.fields.entry given) old) steps new
@@ -37,7 +38,8 @@ module _ (linked : ExpansionsAreLinked) (framed : RunsAreFramed) (below : RunsLe
       let fields = call.found.fields in
       below call.found.library fields.entry fields.rules fields.argument given certified.nodes certified.table
       fields.commands fields.size (n_of old) old
-      (linked call.found.library fields.entry certified.nodes certified.expanded) certified.printed taken is.begins opened
+      (linked call.found.library fields.entry certified.nodes certified.expanded) certified.printed taken is.begins
+      opened
 
   given : (given : Option ℤ) → IsTaken call.found.fields.argument given → (steps : ℕ) (s : State)
       → Reaches steps (start (call_text call.found.fields.entry given) old) s
